@@ -1,0 +1,8 @@
+//! The vocabulary of `morph`.
+#![tactic(auto)]
+
+mod list;
+mod memory;
+
+pub use list::List;
+pub use memory::OutOfMemory;

@@ -1,1 +1,13 @@
 pub mod Contents
+pub mod Functions
+pub mod Operations
+pub mod Transactions
+pub mod States
+pub mod Outcomes
+pub mod Flat
+pub mod Numbering
+pub mod Sources
+pub mod Plans
+pub mod Graphs
+pub mod Clean
+pub mod Guesses

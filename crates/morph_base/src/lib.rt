@@ -1,8 +1,20 @@
-//! The vocabulary of `morph`.
+//! The vocabulary of `morph`: values, keys, operations, events, batches, plans, and what they mean.
 #![tactic(auto)]
 
+mod event;
+mod key;
+mod limits;
 mod list;
 mod memory;
+mod operation;
+mod plan;
+mod strategy;
 
+pub use event::{Batch, Event};
+pub use key::{Key, Layout};
+pub use limits::{EVENT_OPS, EVENTS, LATEST, MAX, PARAMS, READS, WORKERS};
 pub use list::List;
 pub use memory::OutOfMemory;
+pub use operation::{Func, Op};
+pub use plan::{Edges, Origin, Plan, PlanEvent, PlanOp, Settled};
+pub use strategy::{Abort, Explore, Strategy, Unit};

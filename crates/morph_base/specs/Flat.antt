@@ -1,0 +1,22 @@
+-- A state kept as one flat list of values, table after table.
+use Rattle.std.specs.Prelude.{◌≡◌, ℕ, ◌+◌, ◌*◌, ◌≤◌, Bool, ◌&&◌, nat_lt, if◌then◌else◌, List, length, All, slice_index}
+use Rattle.morph_base.specs.declared.limits.TheConstants.{MAX}
+use Rattle.morph_base.specs.declared.key.Key.{Key}
+use Rattle.morph_base.specs.declared.key.Layout.{Layout}
+use Rattle.morph_base.specs.States.{State}
+
+-- where the value of a key stands
+abbrev pub place_of : Layout → Key → ℕ
+place_of layout key = key.table * layout.size + key.id
+
+abbrev pub is_in_layout : Layout → Key → Bool
+is_in_layout layout key = nat_lt key.table layout.tables && nat_lt key.id layout.size
+
+-- the state that the values stand for: 0 at every key outside the layout
+unfoldable pub state_in : Layout → List ℕ → State
+state_in layout values key = if is_in_layout layout key then slice_index values (place_of layout key) else 0
+
+-- a value for each key of the layout
+pub record AreValues (layout : Layout) (values : List ℕ) : Type 0 where
+  pub len : length values ≡ layout.tables * layout.size
+  pub small : All (λ v. v ≤ MAX) values

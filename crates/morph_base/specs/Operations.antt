@@ -1,0 +1,51 @@
+-- What an operation reads, and which operations have a valid shape.
+use Rattle.std.specs.Prelude.{◌≡◌, ℕ, ◌≤◌, ◌<◌, Bool, ◌&&◌, ◌==◌, List, ◌∷◌, take, length, slice_index_or}
+use Rattle.morph_base.specs.declared.limits.TheConstants.{MAX, READS}
+use Rattle.morph_base.specs.declared.key.Key.{Key}
+use Rattle.morph_base.specs.declared.key.Layout.{Layout}
+use Rattle.morph_base.specs.declared.operation.Func.{Func}
+use Rattle.morph_base.specs.declared.operation.Func.TheVariants.{Keep, Add, Sub, MoveIn, Sum, Blend, Set, Enter, Charge}
+use Rattle.morph_base.specs.declared.operation.Op.{Op}
+
+-- whether two keys are the same
+abbrev pub same_key : Key → Key → Bool
+same_key a b = (a.table == b.table) && (a.id == b.id)
+
+-- the key that stands in places that are not used
+abbrev pub no_key : Key
+no_key = record { table = 0; id = 0 }
+
+-- the least and the greatest number of parameters of a function
+abbrev pub least_params : Func → ℕ
+least_params Keep = 0
+least_params Add = 0
+least_params Sub = 0
+least_params MoveIn = 1
+least_params Sum = 1
+least_params Blend = 0
+least_params Set = 0
+least_params Enter = 1
+least_params Charge = 2
+
+abbrev pub most_params : Func → ℕ
+most_params Sum = 3
+most_params f = least_params f
+
+-- the keys that an operation reads, place by place: its target, then its parameters
+abbrev pub reads : Op → List Key
+reads op = op.key ∷ take op.n_params op.params
+
+-- an operation has as many parameters as its function takes, a constant within the range of values, and no key in the
+-- places that it does not use
+pub record IsShaped (op : Op) : Type 0 where
+  pub at_least : least_params op.func ≤ op.n_params
+  pub at_most : op.n_params ≤ most_params op.func
+  pub places : op.n_params < READS
+  pub held : op.n_params ≤ length op.params
+  pub constant : op.c ≤ MAX
+  pub blank : (j : ℕ) (d : Key) → op.n_params ≤ j → j < length op.params → slice_index_or op.params j d ≡ no_key
+
+-- the key is one of the layout's
+pub record InLayout (layout : Layout) (key : Key) : Type 0 where
+  pub table : key.table < layout.tables
+  pub id : key.id < layout.size

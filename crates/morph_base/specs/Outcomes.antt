@@ -1,0 +1,18 @@
+-- What becomes of transactions: the verdict on each, and the values of its targets after it.
+use Rattle.std.specs.Prelude.{ℕ, Bool, List, [], ◌∷◌, map}
+use Rattle.morph_base.specs.Transactions.{Transaction, targets}
+use Rattle.morph_base.specs.States.{State, commits, after}
+
+pub record Fate : Type 0 where
+  pub ts : ℕ
+  pub committed : Bool
+  pub values : List ℕ
+
+-- the verdict on a transaction in the state before it, and its targets' values in the state after it
+abbrev pub fate : State → Transaction → Fate
+fate s e = record { ts = e.ts; committed = commits s e; values = map (after s e) (targets e) }
+
+-- those of the transactions of a list, one after another
+unfoldable pub fates : State → List Transaction → List Fate
+fates s [] = []
+fates s (e ∷ es) = fate s e ∷ fates (after s e) es

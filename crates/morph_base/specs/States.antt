@@ -1,0 +1,47 @@
+-- The state, the state after an event, and the fold of a batch in timestamp order.
+use Rattle.std.specs.Prelude.{ℕ, Bool, true, ◌&&◌, if◌then◌else◌, List, [], ◌∷◌, map, Option, is_some, unwrap_or}
+use Rattle.morph_base.specs.declared.key.Key.{Key}
+use Rattle.morph_base.specs.declared.operation.Op.{Op}
+use Rattle.morph_base.specs.declared.event.Batch.{Batch}
+use Rattle.morph_base.specs.Functions.{value_of}
+use Rattle.morph_base.specs.Operations.{reads, same_key}
+use Rattle.morph_base.specs.Transactions.{Transaction, transactions_of, by_time}
+
+-- a value for each key; a stored state has 0 at the keys outside its layout
+abbrev pub State : Type 0
+State = Key → ℕ
+
+-- the state at the start
+abbrev pub opening_state : State
+opening_state key = 0
+
+-- what an operation answers in a state
+abbrev pub answer : State → Op → Option ℕ
+answer s op = value_of op (map s (reads op))
+
+-- whether every operation has an answer in the state
+unfoldable pub all_answer : State → List Op → Bool
+all_answer s [] = true
+all_answer s (op ∷ ops) = is_some (answer s op) && all_answer s ops
+
+-- the state with every target set to its operation's answer at once: all answers are those in the state before
+unfoldable pub with_answers : State → List Op → State
+with_answers s [] key = s key
+with_answers s (op ∷ ops) key = if same_key op.key key then unwrap_or (answer s op) (s key) else with_answers s ops key
+
+-- a transaction commits where none of its operations fails
+abbrev pub commits : State → Transaction → Bool
+commits s e = all_answer s e.ops
+
+-- the state after a transaction: an aborted one changes nothing
+unfoldable pub after : State → Transaction → State
+after s e key = if commits s e then with_answers s e.ops key else s key
+
+-- the state after the transactions of a list, one after another
+unfoldable pub after_all : State → List Transaction → State
+after_all s [] = s
+after_all s (e ∷ es) = after_all (after s e) es
+
+-- the fold of a batch: its events one at a time by rising timestamp
+abbrev pub fold_batch : Batch → State → State
+fold_batch batch s = after_all s (by_time (transactions_of batch))

@@ -1,0 +1,13 @@
+/// A place where a value is kept: an id in a table. Keys are ordered by table, then by id.
+#[derive(Clone, Copy, Debug, PartialEq, Eq, PartialOrd, Ord, Hash)]
+pub struct Key {
+    pub table: u8,
+    pub id: u32,
+}
+
+/// Which keys there are: tables numbered from 0, each with ids from 0 and below `size`.
+#[derive(Clone, Copy, Debug, PartialEq, Eq)]
+pub struct Layout {
+    pub tables: u8,
+    pub size: u32,
+}

@@ -1,0 +1,22 @@
+//! The limits of values, events and batches, each a constant that code and definitions share.
+
+/// The greatest value that a key can hold, and the greatest constant of an operation: 10^12.
+pub const MAX: u64 = 1_000_000_000_000;
+
+/// The most places that an operation reads: its target and its parameters.
+pub const READS: usize = 4;
+
+/// The most parameters of an operation, one less than [`READS`].
+pub const PARAMS: usize = 3;
+
+/// The greatest timestamp of an event: 10^12. The least is 1.
+pub const LATEST: u64 = 1_000_000_000_000;
+
+/// The most operations of an event.
+pub const EVENT_OPS: usize = 4;
+
+/// The most events of a batch.
+pub const EVENTS: usize = 10_240;
+
+/// The most workers, which are numbered from 1.
+pub const WORKERS: u8 = 16;

@@ -1,0 +1,43 @@
+use crate::key::Key;
+use crate::limits::PARAMS;
+
+/// How an operation computes the new value of its target.
+///
+/// It reads x, the target's value, and p1 to p3, the values of its parameters, all before its event; c is its constant.
+#[derive(Clone, Copy, Debug, PartialEq, Eq, Hash)]
+pub enum Func {
+    /// x. It has no parameter and never fails.
+    Keep,
+    /// x + c. It fails above [`MAX`](crate::MAX).
+    Add,
+    /// x - c. It fails where x is below c.
+    Sub,
+    /// x + c, with one parameter. It fails where p1 is below c, or above [`MAX`](crate::MAX).
+    MoveIn,
+    /// The sum of its one to three parameters. It fails above c.
+    Sum,
+    /// c where x is 0, else half of x + c, rounded down. It never fails.
+    Blend,
+    /// c. It never fails.
+    Set,
+    /// x where p1 is c, else x + 1, with one parameter. It fails above [`MAX`](crate::MAX).
+    Enter,
+    /// x and the toll, with two parameters: p1 is the average speed of a segment in hundredths of a mile per hour,
+    /// p2 its count of entries. The toll is 2 * (p2 - 50)^2 where p1 is below 4000 and p2 above 50, else 0, as in
+    /// Linear Road (Arasu and others, VLDB 2004). It fails above c.
+    Charge,
+}
+
+/// One change of one key, by a function of the values before its event.
+///
+/// It has a valid shape where the number of its parameters is its function's, `c` is at most [`MAX`](crate::MAX), and
+/// the places of `params` from `n_params` on hold the key of table 0 and id 0.
+#[derive(Clone, Copy, Debug, PartialEq, Eq)]
+pub struct Op {
+    /// The target, whose value changes.
+    pub key: Key,
+    pub params: [Key; PARAMS],
+    pub n_params: u8,
+    pub func: Func,
+    pub c: u64,
+}

@@ -1,0 +1,68 @@
+use crate::limits::READS;
+use crate::list::List;
+use crate::operation::Op;
+
+/// Where a place of an operation gets its value.
+#[derive(Clone, Copy, Debug, PartialEq, Eq)]
+pub enum Origin {
+    /// The value of the key before the batch.
+    Base(u64),
+    /// The value that the operation of this number leaves.
+    Op(u32),
+}
+
+/// An operation of a plan. Place 0 reads its target, places 1 to 3 its parameters.
+#[derive(Clone, Copy, Debug, PartialEq, Eq)]
+pub struct PlanOp {
+    pub op: Op,
+    /// The number of its event in the plan.
+    pub event: u32,
+    /// The source of each place that it reads; the others hold `Base(0)`.
+    pub origins: [Origin; READS],
+    /// 1 and the greatest level of the operations that it reads from; 1 where there is none.
+    pub level: u32,
+}
+
+/// An event of a plan: its operations are those numbered from `first` on, `count` of them.
+#[derive(Clone, Copy, Debug, PartialEq, Eq)]
+pub struct PlanEvent {
+    pub ts: u64,
+    pub first: u32,
+    pub count: u32,
+    /// 1 and the greatest level of the events that its operations read from; 1 where there is none.
+    pub level: u32,
+}
+
+/// How many dependencies a plan has, by kind.
+#[derive(Clone, Copy, Debug, PartialEq, Eq)]
+pub struct Edges {
+    /// Operations whose target was written by an earlier event.
+    pub temporal: u64,
+    /// Parameters that were written by an earlier event.
+    pub parametric: u64,
+    /// Pairs of operations of one event.
+    pub logical: u64,
+}
+
+/// The task precedence graph of a batch: its events by rising timestamp, their operations, and what each one reads.
+#[derive(Debug, Drop)]
+pub struct Plan {
+    pub events: List<PlanEvent>,
+    pub ops: List<PlanOp>,
+    /// For each operation those that read from it, rising, each once.
+    pub dependents: List<List<u32>>,
+    /// The operations of level 1, of level 2 and so on, each rising.
+    pub op_levels: List<List<u32>>,
+    /// The events of level 1, of level 2 and so on, each rising.
+    pub event_levels: List<List<u32>>,
+    pub edges: Edges,
+}
+
+/// What a plan came to: the value of each operation, the verdict on each event, and the worker that settled each
+/// operation, where 0 stands for none.
+#[derive(Debug, Drop)]
+pub struct Settled {
+    pub values: List<u64>,
+    pub committed: List<bool>,
+    pub by: List<u8>,
+}

@@ -3,6 +3,7 @@
 
 mod event;
 mod key;
+pub mod laws;
 mod limits;
 mod list;
 mod memory;

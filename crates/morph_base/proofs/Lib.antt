@@ -1,0 +1,4 @@
+pub mod KeyLaws
+pub mod StateLaws
+pub mod PlanLaws
+pub mod SourceLaws

@@ -2,3 +2,5 @@ pub mod KeyLaws
 pub mod StateLaws
 pub mod PlanLaws
 pub mod SourceLaws
+pub mod OutcomeLaws
+pub mod CleanLaws

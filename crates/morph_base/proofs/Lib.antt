@@ -4,3 +4,5 @@ pub mod PlanLaws
 pub mod SourceLaws
 pub mod OutcomeLaws
 pub mod CleanLaws
+pub mod EndLaws
+pub mod BaseLaws

@@ -1,10 +1,12 @@
 //! The laws of the vocabulary: what its definitions amount to, as the contracts of functions that do nothing.
 //!
 //! The lemmas behind them stand in `proofs/`, where the crates above import them from.
-ghost use Rattle.std.specs.Prelude.{◌≡◌, ℕ, ◌<◌, Bool, length};
+ghost use Rattle.std.specs.Prelude.{◌≡◌, ℕ, ◌<◌, ◌≤◌, Bool, length};
+ghost use Rattle.morph_base.specs.declared.key.Key.{Key};
+ghost use Rattle.morph_base.specs.declared.event.Batch.{Batch};
 ghost use Rattle.morph_base.specs.declared.plan.Plan.{Plan};
-ghost use Rattle.morph_base.specs.States.{State};
-ghost use Rattle.morph_base.specs.Plans.{IsPlan, HasBases, op_count, event_of, keys_of, key_at, state_at, value_at, commits_at, event_count, final, verdict};
+ghost use Rattle.morph_base.specs.States.{State, fold_batch, overwritten};
+ghost use Rattle.morph_base.specs.Plans.{IsPlan, IsPlanOf, HasBases, IsLastWriterIn, IsUnwrittenIn, op_count, event_of, target, keys_of, key_at, state_at, value_at, commits_at, event_count, final, verdict};
 ghost use Rattle.morph_base.specs.Clean.{source, IsClean};
 
 /// The key that an operation reads at a place has, in the state before its event, the value of the place's source: that
@@ -36,3 +38,35 @@ pub fn bases_decide()
     ensures values { (p : Plan) (s : State) (o : ℕ) → IsPlan p → HasBases p s → o < op_count p → value_at p s o ≡ final p o }
     ensures verdicts { (p : Plan) (s : State) (i : ℕ) → IsPlan p → HasBases p s → i < event_count p → commits_at p s i ≡ verdict p i }
 {}
+
+/// The state after the first i events of a plan: a key that one of their operations changes has the fold's value of the
+/// last that does, each other key what it had before the batch. As one equation of states: the state before the batch,
+/// overwritten by the operations of the first i events in order, where these are the first n.
+///
+/// A version of a key at a time is read by it, from the values of the operations alone.
+pub fn versions()
+    ensures written {
+        (p : Plan) (s : State) (i : ℕ) (key : Key) (o : ℕ) → IsPlan p → HasBases p s → IsLastWriterIn p i key o
+        → state_at p s i key ≡ final p o
+    }
+    ensures unwritten { (p : Plan) (s : State) (i : ℕ) (key : Key) → IsPlan p → IsUnwrittenIn p i key → state_at p s i key ≡ s key }
+    ensures overwritten {
+        (p : Plan) (s : State) (n i : ℕ) → IsPlan p → HasBases p s → n ≤ op_count p
+        → ((o : ℕ) → o < n → event_of p o < i) → ((o : ℕ) → n ≤ o → o < op_count p → i ≤ event_of p o)
+        → overwritten (target p) (final p) s n ≡ state_at p s i
+    }
+{
+}
+
+/// The state after a batch is the state before it, overwritten by all operations of its plan in order, so that each target
+/// has the fold's value of the last operation on it; and it is the fold of the batch.
+///
+/// The state is brought up to date by it once a plan is settled.
+pub fn end_of_batch()
+    ensures overwritten {
+        (p : Plan) (s : State) → IsPlan p → HasBases p s
+        → overwritten (target p) (final p) s (op_count p) ≡ state_at p s (event_count p)
+    }
+    ensures fold { (b : Batch) (p : Plan) (s : State) → IsPlanOf b p → state_at p s (event_count p) ≡ fold_batch b s }
+{
+}

@@ -1,5 +1,5 @@
 -- The bases of a plan: what the opening state has at a key, and that it has the plan's bases where some state has.
-use Rattle.std.proofs.Common.{◌≡◌, ℕ, zero, suc, ◌+◌, ◌<◌, ◌≤◌, List, [], ◌∷◌, length, get_or, Option, Some, None, unwrap_or, not-suc-le-zero, zero-lt-suc, le_of_suc-le-suc, suc-le-suc, lt_of_lt_of_le, zero-le, refl, sym, ap, ◌∙◌, subst, inl, inr}
+use Rattle.std.proofs.Common.{◌≡◌, ℕ, zero, suc, ◌<◌, ◌≤◌, List, [], ◌∷◌, length, get_or, Option, Some, None, unwrap_or, not-suc-le-zero, zero-lt-suc, le_of_suc-le-suc, suc-le-suc, lt_of_lt_of_le, refl, sym, ◌∙◌, subst, inl, inr}
 use Rattle.std.proofs.lemmas.Option.{same_Some, none-some}
 use Rattle.std.proofs.lemmas.Bool.{cases_Bool, cond-true, cond-false}
 use Rattle.morph_base.specs.declared.key.Key.{Key}
@@ -26,11 +26,11 @@ module _ (P : Key → ℕ → Type 0) where
   base_in-found (k ∷ ks) [] key v each found = absurd (none-some v found)
   base_in-found (k ∷ ks) (Base b ∷ origins) key v each found =
       elim (cases_Bool (same_key k key)) [
-        inl same ↦
-          let is : b ≡ v = same_Some b v (sym (cond-true (same_key k key) (Some b) (base_in ks origins key) same) ∙ found) in
-          subst (λ x. P x v) (same_key-true k key same) (subst (P k) is (each 0 b (zero-lt-suc (length ks)) (zero-lt-suc (length origins)) refl))
-      | inr other ↦
-          base_in-found ks origins key v (λ j x lt below. each (suc j) x (suc-le-suc lt) (suc-le-suc below))
+        | inl same ↦
+            let is : b ≡ v = same_Some b v (sym (cond-true (same_key k key) (Some b) (base_in ks origins key) same) ∙ found) in
+            subst (λ x. P x v) (same_key-true k key same) (subst (P k) is (each 0 b (zero-lt-suc (length ks)) (zero-lt-suc (length origins)) refl))
+        | inr other ↦
+            base_in-found ks origins key v (λ j x lt below. each (suc j) x (suc-le-suc lt) (suc-le-suc below))
             (sym (cond-false (same_key k key) (Some b) (base_in ks origins key) other) ∙ found)
       ]
   base_in-found (k ∷ ks) (Written t ∷ origins) key v each found =
@@ -46,10 +46,10 @@ base_in-some (k ∷ ks) (Base b ∷ origins) key zero v lt below is same =
     (b, cond-true (same_key k key) (Some b) (base_in ks origins key) (same_key-from k key same))
 base_in-some (k ∷ ks) (Base b ∷ origins) key (suc j) v lt below is same =
     elim (cases_Bool (same_key k key)) [
-      inl its ↦ (b, cond-true (same_key k key) (Some b) (base_in ks origins key) its)
-    | inr other ↦
-        let found = base_in-some ks origins key j v (le_of_suc-le-suc lt) (le_of_suc-le-suc below) is same in
-        (found.0, cond-false (same_key k key) (Some b) (base_in ks origins key) other ∙ found.1)
+      | inl its ↦ (b, cond-true (same_key k key) (Some b) (base_in ks origins key) its)
+      | inr other ↦
+          let found = base_in-some ks origins key j v (le_of_suc-le-suc lt) (le_of_suc-le-suc below) is same in
+          (found.0, cond-false (same_key k key) (Some b) (base_in ks origins key) other ∙ found.1)
     ]
 base_in-some (k ∷ ks) (Written t ∷ origins) key zero v lt below is same = absurd (written≢base t v is)
   where
@@ -85,7 +85,7 @@ opening_of-based P (q ∷ qs) key zero j v each in_range lt below is same =
     subst (λ x. P key (unwrap_or x (opening_of qs key))) (sym found.1) (base_in-found P (reads q.op) q.origins key found.0 (each 0 (zero-lt-suc (length qs))) found.1)
 opening_of-based P (q ∷ qs) key (suc o) j v each in_range lt below is same =
     either (base_in (reads q.op) q.origins key) refl
-      (opening_of-based P qs key o j v (λ n small. each (suc n) (suc-le-suc small)) (le_of_suc-le-suc in_range) lt below is same)
+    (opening_of-based P qs key o j v (λ n small. each (suc n) (suc-le-suc small)) (le_of_suc-le-suc in_range) lt below is same)
   where
     either : (found : Option ℕ) → base_in (reads q.op) q.origins key ≡ found → P key (opening_of qs key) → P key (unwrap_or found (opening_of qs key))
     either None is rest = rest

@@ -1,15 +1,14 @@
 -- The state after the first events of a plan, from the values of its operations.
-use Rattle.std.proofs.Common.{◌≡◌, ℕ, zero, suc, ◌+◌, ◌<◌, ◌≤◌, ◌⊎◌, length, take, not-suc-le-zero, le_refl, le_of_eq, refl, sym, ap, ◌∙◌, inl, inr, arith, take_all}
+use Rattle.std.proofs.Common.{◌≡◌, ℕ, zero, suc, ◌<◌, ◌≤◌, ◌⊎◌, not-suc-le-zero, le_refl, le_of_eq, refl, sym, ap, ◌∙◌, inl, inr, arith, take_all}
 use Rattle.std.proofs.Math.Path.{fun_ext}
 use Rattle.std.proofs.lemmas.Bool.{cases_eq, cases_lt, cond-true, cond-false}
 use Rattle.morph_base.specs.declared.key.Key.{Key}
 use Rattle.morph_base.specs.declared.event.Batch.{Batch}
 use Rattle.morph_base.specs.declared.plan.Plan.{Plan}
 use Rattle.morph_base.specs.Operations.{same_key}
-use Rattle.morph_base.specs.Transactions.{transactions_of, by_time}
 use Rattle.morph_base.specs.States.{State, after_all, fold_batch, overwritten}
-use Rattle.morph_base.specs.Sources.{Writes, IsLastWriter, IsUnwritten}
-use Rattle.morph_base.specs.Plans.{IsPlan, IsPlanOf, event_count, op_count, event_of, target, HasBases, IsLastWriterIn, IsUnwrittenIn, transactions, state_at, value_at, final}
+use Rattle.morph_base.specs.Sources.{Writes}
+use Rattle.morph_base.specs.Plans.{IsPlan, IsPlanOf, event_count, op_count, event_of, target, HasBases, IsLastWriterIn, IsUnwrittenIn, transactions, state_at, final}
 use Rattle.morph_base.proofs.KeyLaws.{cases_key, same_key-from, same_key-different}
 use Rattle.morph_base.proofs.PlanLaws.{length-transactions}
 use Rattle.morph_base.proofs.SourceLaws.{state_at-written, state_at-unwritten}
@@ -30,8 +29,8 @@ pub last_below : (target : ℕ → Key) (n : ℕ) (key : Key) → ((o : ℕ) × 
 last_below target zero key = inr (λ t none same. not-suc-le-zero none)
 last_below target (suc n) key =
     elim (cases_key (target n) key) [
-      inl same ↦ inl (n, record { in_range = le_refl (suc n); target_is = same; last = λ t lt its. omega arith })
-    | inr other ↦ elim (last_below target n key) [ inl found ↦ inl (found.0, kept other found.1) | inr none ↦ inr (none_more other none) ]
+      | inl same ↦ inl (n, record { in_range = le_refl (suc n); target_is = same; last = λ t lt its. omega arith })
+      | inr other ↦ elim (last_below target n key) [ inl found ↦ inl (found.0, kept other found.1) | inr none ↦ inr (none_more other none) ]
     ]
   where
     kept : (target n ≡ key → ⊥) → {o : ℕ} → IsLastBelow target n key o → IsLastBelow target (suc n) key o
@@ -40,7 +39,7 @@ last_below target (suc n) key =
         record {
           in_range = omega arith;
           target_is = is.target_is;
-          last = λ t lt same. elim (cases_eq t n) [ inl its ↦ absurd (other (ap target (sym its) ∙ same)) | inr less ↦ is.last t (omega arith) same ]
+          last = λ t lt same. elim (cases_eq t n) [ inl its ↦ absurd (other (ap target (sym its) ∙ same)) | inr less ↦ is.last t (omega arith) same ];
         }
 
     none_more : (target n ≡ key → ⊥) → NoneBelow target n key → NoneBelow target (suc n) key
@@ -59,11 +58,11 @@ module _ (target : ℕ → Key) (value : ℕ → ℕ) (s : State) where
   overwritten-last zero key o is = absurd (not-suc-le-zero is.in_range)
   overwritten-last (suc n) key o is =
       elim (cases_eq o n) [
-        inl its ↦ cond-true (same_key (target n) key) _ _ (same_key-from (target n) key (ap target (sym its) ∙ is.target_is)) ∙ ap value (sym its)
-      | inr other ↦
-          let below : o < n = (let lt = is.in_range in omega arith) in
-          cond-false (same_key (target n) key) _ _ (same_key-different (target n) key (λ same. (let less : n ≤ o = is.last n (le_refl (suc n)) same in absurd (omega arith))))
-          ∙ overwritten-last n key o (record { in_range = below; target_is = is.target_is; last = λ t lt. is.last t (omega arith) })
+        | inl its ↦ cond-true (same_key (target n) key) _ _ (same_key-from (target n) key (ap target (sym its) ∙ is.target_is)) ∙ ap value (sym its)
+        | inr other ↦
+            let below : o < n = (let lt = is.in_range in omega arith) in
+            cond-false (same_key (target n) key) _ _ (same_key-different (target n) key (λ same. (let less : n ≤ o = is.last n (le_refl (suc n)) same in absurd (omega arith))))
+            ∙ overwritten-last n key o (record { in_range = below; target_is = is.target_is; last = λ t lt. is.last t (omega arith) })
       ]
 
 -- ---- the state after the first i events
@@ -101,7 +100,7 @@ overwritten-state_at p s n i valid based front = fun_ext (λ key. at_key key (la
 pub overwritten-end : (p : Plan) (s : State) → IsPlan p → HasBases p s → overwritten (target p) (final p) s (op_count p) ≡ state_at p s (event_count p)
 overwritten-end p s valid based =
     overwritten-state_at p s (op_count p) (event_count p) valid based
-      (le_refl (op_count p), λ o lt. (valid.numbering.placed o lt).0, λ o past lt. absurd (omega arith))
+    (le_refl (op_count p), λ o lt. (valid.numbering.placed o lt).0, λ o past lt. absurd (omega arith))
 
 -- ---- the batch
 

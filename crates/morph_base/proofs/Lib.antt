@@ -6,3 +6,5 @@ pub mod OutcomeLaws
 pub mod CleanLaws
 pub mod EndLaws
 pub mod BaseLaws
+pub mod FillLaws
+pub mod GraphFillLaws

@@ -3,11 +3,14 @@
 //! The lemmas behind them stand in `proofs/`, where the crates above import them from.
 ghost use Rattle.std.specs.Prelude.{◌≡◌, ℕ, ◌<◌, ◌≤◌, Bool, length};
 ghost use Rattle.morph_base.specs.declared.key.Key.{Key};
+ghost use Rattle.morph_base.specs.declared.key.Layout.{Layout};
 ghost use Rattle.morph_base.specs.declared.event.Batch.{Batch};
 ghost use Rattle.morph_base.specs.declared.plan.Plan.{Plan};
 ghost use Rattle.morph_base.specs.States.{State, fold_batch, overwritten};
-ghost use Rattle.morph_base.specs.Plans.{IsPlan, IsPlanOf, HasBases, IsLastWriterIn, IsUnwrittenIn, op_count, event_of, target, keys_of, key_at, state_at, value_at, commits_at, event_count, final, verdict};
+ghost use Rattle.morph_base.specs.Plans.{IsPlan, IsPlanOf, HasBases, IsLastWriterIn, IsUnwrittenIn, op_count, event_of, target, keys_of, key_at, state_at, value_at, commits_at, event_count, final, verdict, filled_plan, transactions, PlanKeysIn};
+ghost use Rattle.morph_base.specs.Graphs.{IsGraph};
 ghost use Rattle.morph_base.specs.Clean.{source, IsClean};
+ghost use Rattle.morph_base.specs.declared.limits.TheConstants.{MAX};
 
 /// The key that an operation reads at a place has, in the state before its event, the value of the place's source: that
 /// of the last operation before the event that changes the key, or the base value where there is none.
@@ -45,28 +48,32 @@ pub fn bases_decide()
 ///
 /// A version of a key at a time is read by it, from the values of the operations alone.
 pub fn versions()
-    ensures written {
-        (p : Plan) (s : State) (i : ℕ) (key : Key) (o : ℕ) → IsPlan p → HasBases p s → IsLastWriterIn p i key o
-        → state_at p s i key ≡ final p o
-    }
+    ensures written { (p : Plan) (s : State) (i : ℕ) (key : Key) (o : ℕ) → IsPlan p → HasBases p s → IsLastWriterIn p i key o
+        → state_at p s i key ≡ final p o }
     ensures unwritten { (p : Plan) (s : State) (i : ℕ) (key : Key) → IsPlan p → IsUnwrittenIn p i key → state_at p s i key ≡ s key }
-    ensures overwritten {
-        (p : Plan) (s : State) (n i : ℕ) → IsPlan p → HasBases p s → n ≤ op_count p
+    ensures overwritten { (p : Plan) (s : State) (n i : ℕ) → IsPlan p → HasBases p s → n ≤ op_count p
         → ((o : ℕ) → o < n → event_of p o < i) → ((o : ℕ) → n ≤ o → o < op_count p → i ≤ event_of p o)
-        → overwritten (target p) (final p) s n ≡ state_at p s i
-    }
-{
-}
+        → overwritten (target p) (final p) s n ≡ state_at p s i }
+{}
 
 /// The state after a batch is the state before it, overwritten by all operations of its plan in order, so that each target
 /// has the fold's value of the last operation on it; and it is the fold of the batch.
 ///
 /// The state is brought up to date by it once a plan is settled.
 pub fn end_of_batch()
-    ensures overwritten {
-        (p : Plan) (s : State) → IsPlan p → HasBases p s
-        → overwritten (target p) (final p) s (op_count p) ≡ state_at p s (event_count p)
-    }
+    ensures overwritten { (p : Plan) (s : State) → IsPlan p → HasBases p s
+        → overwritten (target p) (final p) s (op_count p) ≡ state_at p s (event_count p) }
     ensures fold { (b : Batch) (p : Plan) (s : State) → IsPlanOf b p → state_at p s (event_count p) ≡ fold_batch b s }
-{
-}
+{}
+
+/// A valid plan whose bases are filled in from a state of values is a valid plan with the bases of that state. It keeps its
+/// transactions, its keys and its graph.
+///
+/// So a plan can be built before the state that it will start from is known.
+pub fn filling()
+    ensures plan { (p : Plan) (s : State) → IsPlan p → ((key : Key) → s key ≤ MAX) → IsPlan (filled_plan s p) }
+    ensures bases { (p : Plan) (s : State) → IsPlan p → ((key : Key) → s key ≤ MAX) → HasBases (filled_plan s p) s }
+    ensures graph { (p : Plan) (s : State) → IsGraph p → IsGraph (filled_plan s p) }
+    ensures events { (p : Plan) (s : State) → transactions (filled_plan s p) ≡ transactions p }
+    ensures keys { (p : Plan) (s : State) (layout : Layout) → PlanKeysIn p layout → PlanKeysIn (filled_plan s p) layout }
+{}

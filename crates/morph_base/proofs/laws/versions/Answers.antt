@@ -5,5 +5,5 @@ pub returns : goal.returns
 returns c = record {
   written = end_written;
   unwritten = end_unwritten;
-  overwritten = λ p s n i valid based few before rest. overwritten-state_at p s n i valid based (few, before, rest)
+  overwritten = λ p s n i valid based few before rest. overwritten-state_at p s n i valid based (few, before, rest);
 }

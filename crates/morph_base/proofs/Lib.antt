@@ -8,3 +8,5 @@ pub mod EndLaws
 pub mod BaseLaws
 pub mod FillLaws
 pub mod GraphFillLaws
+pub mod NumberLaws
+pub mod BoundLaws

@@ -1,6 +1,6 @@
 use Rattle.morph_base.proofs.FillLaws.{filled_is_plan, has_bases-filled, transactions-filled, keys_in-filled}
 use Rattle.morph_base.proofs.GraphFillLaws.{graph-filled}
-use Rattle.morph_base.proofs.laws.filling.Goals as goal
+use Rattle.morph_base.proofs.laws.plans.filling.Goals as goal
 
 pub returns : goal.returns
 returns c = record {

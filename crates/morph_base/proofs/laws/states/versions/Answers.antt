@@ -1,5 +1,5 @@
 use Rattle.morph_base.proofs.EndLaws.{end_written, end_unwritten, overwritten-state_at}
-use Rattle.morph_base.proofs.laws.versions.Goals as goal
+use Rattle.morph_base.proofs.laws.states.versions.Goals as goal
 
 pub returns : goal.returns
 returns c = record {

@@ -10,3 +10,4 @@ pub mod FillLaws
 pub mod GraphFillLaws
 pub mod NumberLaws
 pub mod BoundLaws
+pub mod FateLaws

@@ -1,8 +1,10 @@
 //! The values of operations and the verdicts on events: what the fold makes of a plan, told without a state.
-ghost use Rattle.std.specs.Prelude.{◌≡◌, ℕ, ◌<◌, Bool, length};
+ghost use Rattle.std.specs.Prelude.{◌≡◌, ℕ, ◌<◌, Bool, map, length, slice_index_or};
 ghost use Rattle.morph_base.specs.declared.plan.Plan.{Plan};
 ghost use Rattle.morph_base.specs.States.{State};
-ghost use Rattle.morph_base.specs.Plans.{IsPlan, HasBases, op_count, event_of, keys_of, key_at, state_at, value_at, commits_at, event_count, final, verdict};
+ghost use Rattle.morph_base.specs.Outcomes.{Fate, fates};
+ghost use Rattle.morph_base.specs.Graphs.{ops_in, below};
+ghost use Rattle.morph_base.specs.Plans.{IsPlan, HasBases, op_count, event_of, keys_of, key_at, state_at, value_at, commits_at, event_at, event_count, transactions, final, verdict};
 ghost use Rattle.morph_base.specs.Clean.{source, IsClean};
 
 /// The key that an operation reads at a place has, in the state before its event, the value of the place's source: that
@@ -34,3 +36,21 @@ pub fn bases_decide()
     ensures values { (p : Plan) (s : State) (o : ℕ) → IsPlan p → HasBases p s → o < op_count p → value_at p s o ≡ final p o }
     ensures verdicts { (p : Plan) (s : State) (i : ℕ) → IsPlan p → HasBases p s → i < event_count p → commits_at p s i ≡ verdict p i }
 {}
+
+/// The fates of a plan's events, told by the values of its operations and its verdicts: at each place, from any state; and
+/// all at once, from a state that has the plan's bases.
+///
+/// What is written of a settled batch is read off by it.
+pub fn event_fates()
+    ensures each {
+        (p : Plan) (s : State) (i : ℕ) (d : Fate) → IsPlan p → i < event_count p
+        → slice_index_or (fates s (transactions p)) i d
+            ≡ record { ts = (event_at p i).ts; committed = commits_at p s i; values = map (value_at p s) (ops_in p i) }
+    }
+    ensures all {
+        (p : Plan) (s : State) → IsPlan p → HasBases p s
+        → fates s (transactions p)
+            ≡ map (λ i. record { ts = (event_at p i).ts; committed = verdict p i; values = map (final p) (ops_in p i) }) (below (event_count p))
+    }
+{
+}

@@ -1,17 +1,14 @@
 -- The fate of each event of a plan, from the values of its operations and its verdict.
-use Rattle.std.proofs.Common.{◌≡◌, ℕ, zero, suc, Bool, ◌+◌, ◌<◌, ◌≤◌, List, [], ◌∷◌, map, length, take, get_or, not-suc-le-zero, le_of_suc-le-suc, refl, sym, ap, ◌∙◌, arith, zero-add, add-one}
-use Rattle.std.specs.List.{range_with_len}
+use Rattle.std.proofs.Common.{◌≡◌, ℕ, zero, suc, Bool, ◌+◌, ◌<◌, List, [], ◌∷◌, map, length, take, get_or, not-suc-le-zero, le_of_suc-le-suc, refl, sym, ap, ◌∙◌, arith, zero-add, add-one}
 use Rattle.std.proofs.Math.Path.{ap₂}
-use Rattle.std.proofs.lemmas.List.{length-map, get_or-map, get_or_default, ext_get_or, same_lists}
+use Rattle.std.proofs.lemmas.List.{length-map, get_or-map, ext_get_or, same_lists}
 use Rattle.std.proofs.lemmas.List.FromFn.{length-range_with_len, get_or-range_with_len, length-map-range_with_len, get_or-map-range_with_len}
-use Rattle.morph_base.specs.declared.key.Key.{Key}
-use Rattle.morph_base.specs.declared.operation.Op.{Op}
 use Rattle.morph_base.specs.declared.plan.Plan.{Plan}
 use Rattle.morph_base.specs.Operations.{no_key}
 use Rattle.morph_base.specs.Transactions.{Transaction, targets}
-use Rattle.morph_base.specs.States.{State, commits, after, after_all}
+use Rattle.morph_base.specs.States.{State, after, after_all}
 use Rattle.morph_base.specs.Outcomes.{Fate, fate, fates}
-use Rattle.morph_base.specs.Plans.{IsPlan, event_count, op_count, event_at, op_at, event_of, target, HasBases, no_op, no_event, transaction_in, transactions, transaction_at, state_at, commits_at, value_at, final, verdict}
+use Rattle.morph_base.specs.Plans.{IsPlan, event_count, op_count, event_at, event_of, target, HasBases, no_op, no_event, transaction_in, transactions, transaction_at, state_at, commits_at, value_at, final, verdict}
 use Rattle.morph_base.specs.Graphs.{ops_in, below}
 use Rattle.morph_base.proofs.OutcomeLaws.{map-agree}
 use Rattle.morph_base.proofs.CleanLaws.{value_at-final, commits_at-verdict}
@@ -40,21 +37,21 @@ values-after p s i valid lt =
     let e : Transaction = transaction_at p i in
     let after_it : State = after (state_at p s i) e in
     let len : length (map after_it (targets e)) ≡ (event_at p i).count =
-      length-map (targets e) after_it ∙ length-map e.ops (λ op. op.key) ∙ length-transaction p valid i lt in
+    length-map (targets e) after_it ∙ length-map e.ops (λ op. op.key) ∙ length-transaction p valid i lt in
     ext_get_or 0 (map after_it (targets e)) (map (value_at p s) (ops_in p i))
-      (len ∙ sym (length-map-range_with_len (value_at p s) (event_at p i).first (event_at p i).count))
-      (λ j below.
-        let small : j < (event_at p i).count = omega arith in
-        let o : ℕ = (event_at p i).first + j in
-        let inside : j < length e.ops = (let all = length-transaction p valid i lt in omega arith) in
-        let its_key : get_or (targets e) j no_key ≡ target p o = get_or-map (λ op. op.key) e.ops j no_op no_key inside ∙ ap (λ op. op.key) (transaction_op p valid i j no_op lt small) in
-        let in_targets : j < length (targets e) = (let all = length-map e.ops (λ op. op.key) in omega arith) in
-        let its_event : event_of p o ≡ i = (valid.numbering.owned i o lt (place_within p valid i j small)).1 in
-        get_or-map after_it (targets e) j no_key 0 in_targets
-        ∙ ap after_it its_key
-        ∙ ap (λ st. st (target p o)) (sym (state_at-suc p s i lt))
-        ∙ ap (λ n. state_at p s n (target p o)) (sym (add-one (event_of p o) ∙ ap suc its_event))
-        ∙ sym (get_or-map-range_with_len (value_at p s) (event_at p i).first (event_at p i).count j o 0 small refl))
+    (len ∙ sym (length-map-range_with_len (value_at p s) (event_at p i).first (event_at p i).count))
+    (λ j below.
+    let small : j < (event_at p i).count = omega arith in
+    let o : ℕ = (event_at p i).first + j in
+    let inside : j < length e.ops = (let all = length-transaction p valid i lt in omega arith) in
+    let its_key : get_or (targets e) j no_key ≡ target p o = get_or-map (λ op. op.key) e.ops j no_op no_key inside ∙ ap (λ op. op.key) (transaction_op p valid i j no_op lt small) in
+    let in_targets : j < length (targets e) = (let all = length-map e.ops (λ op. op.key) in omega arith) in
+    let its_event : event_of p o ≡ i = (valid.numbering.owned i o lt (place_within p valid i j small)).1 in
+    get_or-map after_it (targets e) j no_key 0 in_targets
+    ∙ ap after_it its_key
+    ∙ ap (λ st. st (target p o)) (sym (state_at-suc p s i lt))
+    ∙ ap (λ n. state_at p s n (target p o)) (sym (add-one (event_of p o) ∙ ap suc its_event))
+    ∙ sym (get_or-map-range_with_len (value_at p s) (event_at p i).first (event_at p i).count j o 0 small refl))
 
 pub plan_fate-is : (p : Plan) (s : State) (i : ℕ) → IsPlan p → i < event_count p → fate (state_at p s i) (transaction_at p i) ≡ plan_fate p s i
 unfolding commits_at
@@ -76,10 +73,10 @@ pub fates_all : (p : Plan) (s : State) → IsPlan p → fates s (transactions p)
 fates_all p s valid =
     let len : length (fates s (transactions p)) ≡ event_count p = length-fates s (transactions p) ∙ length-transactions p in
     same_lists (fates s (transactions p)) (map (plan_fate p s) (below (event_count p)))
-      (len ∙ sym (length-map-range_with_len (plan_fate p s) 0 (event_count p)))
-      (λ i d inside.
-        let lt : i < event_count p = omega arith in
-        fate_at p s i d valid lt ∙ sym (get_or-map-range_with_len (plan_fate p s) 0 (event_count p) i i d lt (zero-add i)))
+    (len ∙ sym (length-map-range_with_len (plan_fate p s) 0 (event_count p)))
+    (λ i d inside.
+    let lt : i < event_count p = omega arith in
+    fate_at p s i d valid lt ∙ sym (get_or-map-range_with_len (plan_fate p s) 0 (event_count p) i i d lt (zero-add i)))
 
 -- ---- from a state with the plan's bases: by the plan's own values and verdicts
 
@@ -91,11 +88,11 @@ final_values p s i valid based lt =
     let first : ℕ = (event_at p i).first in
     let count : ℕ = (event_at p i).count in
     map-agree (value_at p s) (final p) (ops_in p i) 0
-      (λ j inside.
-        let small : j < count = (let all = length-range_with_len first count in omega arith) in
-        let found : get_or (ops_in p i) j 0 ≡ first + j = get_or-range_with_len first count j 0 small in
-        let in_range : first + j < op_count p = (valid.numbering.owned i (first + j) lt (place_within p valid i j small)).0 in
-        ap (value_at p s) found ∙ value_at-final p s (first + j) valid based in_range ∙ ap (final p) (sym found))
+    (λ j inside.
+    let small : j < count = (let all = length-range_with_len first count in omega arith) in
+    let found : get_or (ops_in p i) j 0 ≡ first + j = get_or-range_with_len first count j 0 small in
+    let in_range : first + j < op_count p = (valid.numbering.owned i (first + j) lt (place_within p valid i j small)).0 in
+    ap (value_at p s) found ∙ value_at-final p s (first + j) valid based in_range ∙ ap (final p) (sym found))
 
 pub final_fate-is : (p : Plan) (s : State) (i : ℕ) → IsPlan p → HasBases p s → i < event_count p → plan_fate p s i ≡ final_fate p i
 final_fate-is p s i valid based lt =
@@ -106,7 +103,7 @@ pub final_fates : (p : Plan) (s : State) → IsPlan p → HasBases p s → fates
 final_fates p s valid based =
     fates_all p s valid
     ∙ map-agree (plan_fate p s) (final_fate p) (below (event_count p)) 0
-      (λ i inside.
-        let lt : i < event_count p = (let all = length-range_with_len 0 (event_count p) in omega arith) in
-        let found : get_or (below (event_count p)) i 0 ≡ i = get_or-range_with_len 0 (event_count p) i 0 lt ∙ zero-add i in
-        ap (plan_fate p s) found ∙ final_fate-is p s i valid based lt ∙ ap (final_fate p) (sym found))
+    (λ i inside.
+    let lt : i < event_count p = (let all = length-range_with_len 0 (event_count p) in omega arith) in
+    let found : get_or (below (event_count p)) i 0 ≡ i = get_or-range_with_len 0 (event_count p) i 0 lt ∙ zero-add i in
+    ap (plan_fate p s) found ∙ final_fate-is p s i valid based lt ∙ ap (final_fate p) (sym found))

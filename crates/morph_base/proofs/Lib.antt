@@ -11,3 +11,4 @@ pub mod GraphFillLaws
 pub mod NumberLaws
 pub mod BoundLaws
 pub mod FateLaws
+pub mod GuessLaws

@@ -12,3 +12,4 @@ pub mod NumberLaws
 pub mod BoundLaws
 pub mod FateLaws
 pub mod GuessLaws
+pub mod KnownLaws

@@ -2,5 +2,6 @@
 //!
 //! A crate above cites the lemmas behind them, which stand in `proofs/`; the contracts show what they come to.
 pub mod plans;
+pub mod settling;
 pub mod states;
 pub mod values;

@@ -5,6 +5,7 @@ pub mod SourceLaws
 pub mod OutcomeLaws
 pub mod CleanLaws
 pub mod EndLaws
+pub mod VersionLaws
 pub mod BaseLaws
 pub mod FillLaws
 pub mod GraphFillLaws

@@ -1,6 +1,7 @@
 //! The vocabulary of `morph`: values, keys, operations, events, batches, plans, and what they mean.
 #![tactic(auto)]
 
+mod evaluation;
 mod event;
 mod key;
 mod limits;
@@ -10,6 +11,7 @@ mod operation;
 mod plan;
 mod strategy;
 
+pub use evaluation::eval;
 pub use event::{Batch, Event};
 pub use key::{Key, Layout};
 pub use limits::{EVENT_OPS, EVENTS, LATEST, MAX, PARAMS, READS, WORKERS};

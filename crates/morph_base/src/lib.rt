@@ -4,6 +4,7 @@
 mod evaluation;
 mod event;
 mod key;
+pub mod laws;
 mod limits;
 mod list;
 mod memory;

@@ -11,6 +11,7 @@ mod memory;
 mod operation;
 mod plan;
 mod strategy;
+mod values;
 
 pub use evaluation::eval;
 pub use event::{Batch, Event};
@@ -21,3 +22,4 @@ pub use memory::OutOfMemory;
 pub use operation::{Func, Op};
 pub use plan::{Edges, Origin, Plan, PlanEvent, PlanOp, Settled};
 pub use strategy::{Abort, Explore, Strategy, Unit};
+pub use values::Values;

@@ -2,6 +2,7 @@ pub mod KeyLaws
 pub mod Rising
 pub mod TimeLaws
 pub mod FlatLaws
+pub mod PlainLaws
 pub mod StateLaws
 pub mod PlanLaws
 pub mod SourceLaws

@@ -45,3 +45,9 @@ after_all s (e ∷ es) = after_all (after s e) es
 -- the fold of a batch: its events one at a time by rising timestamp
 abbrev pub fold_batch : Batch → State → State
 fold_batch batch s = after_all s (by_time (transactions_of batch))
+
+-- a state with the values put at the keys, one by one: where a key comes twice the first value stands
+unfoldable pub put_all : State → List Key → List ℕ → State
+put_all s [] vs k = s k
+put_all s (key ∷ keys) [] k = s k
+put_all s (key ∷ keys) (v ∷ vs) k = if same_key key k then v else put_all s keys vs k

@@ -8,3 +8,11 @@ pub mod PlanLaws
 pub mod SourceLaws
 pub mod OutcomeLaws
 pub mod CleanLaws
+pub mod EndLaws
+pub mod BaseLaws
+pub mod FillLaws
+pub mod GraphFillLaws
+pub mod NumberLaws
+pub mod BoundLaws
+pub mod FateLaws
+pub mod GuessLaws

@@ -9,9 +9,9 @@ use Rattle.morph_base.specs.declared.key.Layout.{Layout}
 use Rattle.morph_base.specs.declared.operation.Op.{Op}
 use Rattle.morph_base.specs.Operations.{IsShaped, InLayout, reads, same_key, no_key}
 use Rattle.morph_base.specs.Transactions.{Transaction}
-use Rattle.morph_base.specs.States.{State, answer, all_answer, with_answers, commits, after, after_all, put_all}
+use Rattle.morph_base.specs.States.{State, answer, all_answer, with_answers, commits, after, after_all}
 use Rattle.morph_base.specs.Outcomes.{fate, fates}
-use Rattle.morph_base.specs.Flat.{with_value}
+use Rattle.morph_base.specs.Flat.{with_value, put_all}
 use Rattle.morph_base.proofs.KeyLaws.{same_key-true}
 use Rattle.morph_base.proofs.StateLaws.{all_answer-each, after-committed, after-aborted}
 

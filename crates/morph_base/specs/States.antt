@@ -1,5 +1,5 @@
 -- The state, the state after an event, and the fold of a batch in timestamp order.
-use Rattle.std.specs.Prelude.{ℕ, Bool, true, ◌&&◌, if◌then◌else◌, List, [], ◌∷◌, map, Option, is_some, unwrap_or}
+use Rattle.std.specs.Prelude.{ℕ, zero, suc, Bool, true, ◌&&◌, if◌then◌else◌, List, [], ◌∷◌, map, Option, is_some, unwrap_or}
 use Rattle.morph_base.specs.declared.key.Key.{Key}
 use Rattle.morph_base.specs.declared.operation.Op.{Op}
 use Rattle.morph_base.specs.declared.event.Batch.{Batch}
@@ -46,8 +46,7 @@ after_all s (e ∷ es) = after_all (after s e) es
 abbrev pub fold_batch : Batch → State → State
 fold_batch batch s = after_all s (by_time (transactions_of batch))
 
--- a state with the values put at the keys, one by one: where a key comes twice the first value stands
-unfoldable pub put_all : State → List Key → List ℕ → State
-put_all s [] vs k = s k
-put_all s (key ∷ keys) [] k = s k
-put_all s (key ∷ keys) (v ∷ vs) k = if same_key key k then v else put_all s keys vs k
+-- the state overwritten one place after another: for each number below n, in order, the value at its target
+unfoldable pub overwritten : (target : ℕ → Key) (value : ℕ → ℕ) → State → ℕ → State
+overwritten target value s zero key = s key
+overwritten target value s (suc n) key = if same_key (target n) key then value n else overwritten target value s n key

@@ -4,9 +4,9 @@
 ghost use Rattle.std.specs.Prelude.{◌≡◌, ℕ, ◌+◌, ◌<◌, ◌≤◌, Bool, true, false, List, [], ◌∷◌, length, map, unwrap_or, All, IfOk, IfSome, OnOk, OnErr, MatchOption};
 ghost use Rattle.morph_base.specs.Operations.{IsShaped, InLayout, reads};
 ghost use Rattle.morph_base.specs.Transactions.{IsBatch, IsTransaction, BatchKeysIn, HasKeysIn, transaction_of, transactions_of, targets, by_time};
-ghost use Rattle.morph_base.specs.States.{answer as answer_in, all_answer, commits, after, put_all, fold_batch};
+ghost use Rattle.morph_base.specs.States.{answer as answer_in, all_answer, commits, after, fold_batch};
 ghost use Rattle.morph_base.specs.Outcomes.{fate, fate_of, fates};
-ghost use Rattle.morph_base.specs.Flat.{contents};
+ghost use Rattle.morph_base.specs.Flat.{contents, put_all};
 
 use crate::evaluation::eval;
 use crate::event::{Batch, Event};

@@ -1,8 +1,8 @@
 use Rattle.std.proofs.Common.{◌≡◌, sym, ap, subst, ◌∙◌, map, ℕ, List, true, unwrap_or}
 use Rattle.morph_base.specs.declared.operation.Op.{Op}
 use Rattle.morph_base.specs.Transactions.{Transaction, transaction_of}
-use Rattle.morph_base.specs.States.{State, answer, all_answer, after, put_all}
-use Rattle.morph_base.specs.Flat.{contents}
+use Rattle.morph_base.specs.States.{State, answer, all_answer, after}
+use Rattle.morph_base.specs.Flat.{contents, put_all}
 use Rattle.morph_base.proofs.PlainLaws.{after-put, after-nothing}
 use Rattle.morph_base.proofs.plain.transact.Goals as goal
 

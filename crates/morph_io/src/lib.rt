@@ -1,0 +1,12 @@
+//! Bytes in and bytes out.
+//!
+//! [`Source`] and [`Sink`] are what the layers above read from and write to. Their contracts speak of the bytes
+//! that are left or written, where the object tells them, and of a count of faults: an error comes only where
+//! that count rose.
+#![tactic(auto)]
+
+mod sink;
+mod source;
+
+pub use sink::{Sink, WriteFailed};
+pub use source::{ReadFailed, Source};

@@ -3,7 +3,7 @@
 -- A source tells the bytes that it has left, and a sink the bytes that were written to it, as `Some` of a list. One that
 -- stands for a stream of the system tells nothing, and is `None`. Each read or write is one equation between what is
 -- told before and after, which holds in both cases.
-use Rattle.std.specs.Prelude.{◌≡◌, ℕ, ◌<◌, List, [], ◌++◌, Option, Some, None, refl}
+use Rattle.std.specs.Prelude.{◌≡◌, ℕ, ◌<◌, nat_lt, if◌then◌else◌, List, [], ◌++◌, length, drop, Option, Some, None, refl}
 use Rattle.std.proofs.Common.{ap, append_assoc, append-nil}
 
 -- what is told of `bytes` followed by the bytes told
@@ -24,6 +24,24 @@ IsAtEnd (Some told) = told ≡ []
 -- a count of faults has risen; one that stands at the last u64 counts as risen in every call
 abbrev pub HasRisen : ℕ → ℕ → Type 0
 HasRisen old new = old < 18446744073709551615 → old < new
+
+-- bytes were put into a buffer in front of a sink: what the sink has grown by, with what the buffer keeps, is what the
+-- buffer kept before, with the bytes
+pub record Puts (old : Option (List ℕ)) (kept bytes : List ℕ) (new : Option (List ℕ)) (kept' : List ℕ) : Type 0 where
+  pub done : List ℕ
+  pub written : new ≡ behind old done
+  pub parts : done ++ kept' ≡ kept ++ bytes
+
+-- what a buffer that is written when it holds `size` bytes keeps of `bytes`
+unfoldable pub kept_of : ℕ → List ℕ → List ℕ
+kept_of size bytes = if nat_lt (length bytes) size then bytes else drop size bytes
+
+-- a sink has grown by a prefix of `bytes`
+pub record AppendsPrefix (old : Option (List ℕ)) (bytes : List ℕ) (new : Option (List ℕ)) : Type 0 where
+  pub done : List ℕ
+  pub rest : List ℕ
+  pub parts : bytes ≡ done ++ rest
+  pub appended : new ≡ behind old done
 
 pub ahead_nil : (told : Option (List ℕ)) → ahead [] told ≡ told
 unfolding ahead

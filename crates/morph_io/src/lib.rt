@@ -5,8 +5,13 @@
 //! that count rose.
 #![tactic(auto)]
 
+mod copying;
+mod line_buf;
+mod output;
 mod sink;
 mod source;
 
+pub use line_buf::{LINE_BYTES, LineBuf};
+pub use output::{OUT_BYTES, Out};
 pub use sink::{Sink, WriteFailed};
 pub use source::{ReadFailed, Source};

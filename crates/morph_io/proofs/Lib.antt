@@ -1,2 +1,3 @@
 pub mod Pieces
 pub mod Putting
+pub mod Repeating

@@ -5,13 +5,20 @@
 //! that count rose.
 #![tactic(auto)]
 
+mod calls;
 mod copying;
 mod line_buf;
+mod mem_sink;
+mod mem_source;
 mod output;
+mod repeat_source;
 mod sink;
 mod source;
 
 pub use line_buf::{LINE_BYTES, LineBuf};
+pub use mem_sink::MemSink;
+pub use mem_source::MemSource;
 pub use output::{OUT_BYTES, Out};
+pub use repeat_source::RepeatSource;
 pub use sink::{Sink, WriteFailed};
 pub use source::{ReadFailed, Source};

@@ -5,6 +5,8 @@
 //! that count rose.
 #![tactic(auto)]
 
+#[cfg(test)]
+mod adapter_tests;
 mod calls;
 mod copying;
 mod line_buf;
@@ -17,6 +19,8 @@ mod sink;
 mod source;
 mod std_sink;
 mod std_source;
+#[cfg(test)]
+mod tests;
 
 pub use line_buf::{LINE_BYTES, LineBuf};
 pub use mem_sink::MemSink;

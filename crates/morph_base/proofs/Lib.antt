@@ -1,4 +1,8 @@
 pub mod KeyLaws
+pub mod Rising
+pub mod TimeLaws
+pub mod FlatLaws
+pub mod PlainLaws
 pub mod StateLaws
 pub mod PlanLaws
 pub mod SourceLaws

@@ -1,7 +1,7 @@
 -- The events up to a time are the first ones of a plan.
-use Rattle.std.proofs.Common.{◌≡◌, ℕ, zero, suc, ◌+◌, ◌<◌, ◌≤◌, ◌↔◌, Bool, true, false, cond, nat_le, List, [], ◌∷◌, length, get_or, count_by, not-suc-le-zero, zero-lt-suc, suc-le-suc, le_of_suc-le-suc, refl, sym, ap, ◌∙◌, inl, inr, arith, le-leb, leb-true}
+use Rattle.std.proofs.Common.{◌≡◌, ℕ, zero, suc, ◌+◌, ◌<◌, ◌≤◌, ◌↔◌, Bool, true, false, cond, nat_le, List, [], ◌∷◌, length, get_or, count_by, not-suc-le-zero, zero-lt-suc, suc-le-suc, le_of_suc-le-suc, ap, ◌∙◌, inl, inr, arith, le-leb, leb-true}
 use Rattle.std.proofs.lemmas.List.Sums.{sum_by-cons, count_by-le-length}
-use Rattle.std.proofs.lemmas.Bool.{cases_Bool, cases_eq, both_ways}
+use Rattle.std.proofs.lemmas.Bool.{cases_Bool, both_ways}
 use Rattle.morph_base.specs.declared.plan.PlanEvent.{PlanEvent}
 use Rattle.morph_base.specs.declared.plan.Plan.{Plan}
 use Rattle.morph_base.specs.Plans.{IsPlan, event_count, event_at, no_event}
@@ -26,8 +26,8 @@ module _ {X : Type 0} (test : X → Bool) (d : X) where
   count_by-front [] front i lt = absurd (not-suc-le-zero lt)
   count_by-front (x ∷ xs) front i lt =
       elim (cases_Bool (test x)) [
-        inl passes ↦ first_passes passes i lt (λ k. count_by-front xs (front-tail x xs front) k)
-      | inr fails ↦ first_fails fails i lt (λ k. count_by-front xs (front-tail x xs front) k)
+        | inl passes ↦ first_passes passes i lt (λ k. count_by-front xs (front-tail x xs front) k)
+        | inr fails ↦ first_fails fails i lt (λ k. count_by-front xs (front-tail x xs front) k)
       ]
     where
       first_passes : test x ≡ true → (i : ℕ) → i < length (x ∷ xs) → ((k : ℕ) → k < length xs → (k < count_by test xs) ↔ (test (get_or xs k d) ≡ true))
@@ -48,19 +48,21 @@ module _ {X : Type 0} (test : X → Bool) (d : X) where
           → (i < count_by test (x ∷ xs)) ↔ (test (get_or (x ∷ xs) i d) ≡ true)
       first_fails fails i lt rest =
           let count : count_by test (x ∷ xs) ≡ 0 + count_by test xs = count-more x xs false fails in
-          let few : count_by test xs ≤ length xs = count_by-le-length test xs in
-          (λ below.
-            (let some : 0 < count_by test xs = omega arith in
-            let inside : 0 < length xs = omega arith in
-            absurd (none_pass x xs front fails 0 inside ((rest 0 inside).0 some))), passing fails i lt)
+          let few : count_by test xs ≤ length xs = count_by-le-length test xs in (
+            λ below.
+                (let some : 0 < count_by test xs = omega arith in
+                let inside : 0 < length xs = omega arith in
+                absurd (none_pass x xs front fails 0 inside ((rest 0 inside).0 some))),
+            passing fails i lt,
+          )
 
 -- event i is among the first, as many as have a time up to t, exactly where its own time is up to t
 pub events_until : (p : Plan) (t i : ℕ) → IsPlan p → i < event_count p → (i < count_by (λ e. nat_le e.ts t) p.events.items) ↔ ((event_at p i).ts ≤ t)
 events_until p t i valid lt =
     let test : PlanEvent → Bool = λ e. nat_le e.ts t in
     let front : PassInFront test no_event p.events.items = λ k j less inside is.
-      (let rising : (event_at p k).ts < (event_at p j).ts = valid.numbering.rising k j less inside in
-      let until : (event_at p j).ts ≤ t = leb-true (event_at p j).ts t is in
-      le-leb (event_at p k).ts t (omega arith)) in
+    (let rising : (event_at p k).ts < (event_at p j).ts = valid.numbering.rising k j less inside in
+    let until : (event_at p j).ts ≤ t = leb-true (event_at p j).ts t is in
+    le-leb (event_at p k).ts t (omega arith)) in
     let both = count_by-front test no_event p.events.items front i lt in
     (λ below. leb-true (event_at p i).ts t (both.0 below), λ until. both.1 (le-leb (event_at p i).ts t until))

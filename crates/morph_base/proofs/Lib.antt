@@ -14,6 +14,7 @@ pub mod BaseLaws
 pub mod FillLaws
 pub mod GraphFillLaws
 pub mod NumberLaws
+pub mod LevelLaws
 pub mod BoundLaws
 pub mod FateLaws
 pub mod GuessLaws

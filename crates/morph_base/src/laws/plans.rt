@@ -12,7 +12,7 @@ ghost use Rattle.morph_base.specs.Functions.{value_of};
 ghost use Rattle.morph_base.specs.Operations.{IsShaped};
 ghost use Rattle.morph_base.specs.Transactions.{Transaction, IsTransaction, IsBatch};
 ghost use Rattle.morph_base.specs.Plans.{IsPlan, HasBases, PlanKeysIn, event_count, op_count, event_at, event_of, op_at, keys_of, origin_at, transactions, filled_plan, opening, state_at, final};
-ghost use Rattle.morph_base.specs.Graphs.{IsGraph};
+ghost use Rattle.morph_base.specs.Graphs.{IsGraph, IsValidPlan, op_depth, event_depth};
 
 /// The state that a plan's bases tell has those bases as soon as some state has them: the same value for the same key.
 ///
@@ -46,10 +46,22 @@ pub fn numbers()
 
 /// A source is an operation of an earlier event, with a smaller number.
 ///
-/// So whoever goes up the numbers, the events or the levels finds all sources settled.
+/// So whoever goes up the numbers or the events finds all sources settled.
 pub fn sources_come_first()
     ensures { (p : Plan) (o j t : ℕ) → IsPlan p → o < op_count p → j < length (keys_of p o) → origin_at p o j ≡ Written t
         → (t < o) × (event_of p t < event_of p o) }
+{}
+
+/// Levels rise from a source to what reads from it, among operations and among their events. They go from 1 to the depth.
+///
+/// So all of one level can be settled at once, when those of the levels before it are.
+pub fn levels_rise()
+    ensures op { (p : Plan) (o j t : ℕ) → IsValidPlan p → o < op_count p → j < length (keys_of p o) → origin_at p o j ≡ Written t
+        → (op_at p t).level < (op_at p o).level }
+    ensures event { (p : Plan) (o j t : ℕ) → IsValidPlan p → o < op_count p → j < length (keys_of p o) → origin_at p o j ≡ Written t
+        → (event_at p (event_of p t)).level < (event_at p (event_of p o)).level }
+    ensures op_range { (p : Plan) (o : ℕ) → IsValidPlan p → o < op_count p → (0 < (op_at p o).level) × ((op_at p o).level ≤ op_depth p) }
+    ensures event_range { (p : Plan) (i : ℕ) → IsValidPlan p → i < event_count p → (0 < (event_at p i).level) × ((event_at p i).level ≤ event_depth p) }
 {}
 
 /// Values stay at most [`MAX`](crate::MAX): the answer of an operation of valid shape on values, each key of a state after

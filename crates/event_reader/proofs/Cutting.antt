@@ -1,14 +1,14 @@
 -- Bytes cut at each byte of one kind, and lines.
-use Rattle.std.proofs.Common.{◌≡◌, ℕ, ◌+◌, ◌-◌, ◌<◌, ◌≤◌, Bool, true, false, if◌then◌else◌, nat_le, List, [], ◌∷◌, ◌++◌, length, take, drop, get_or, map, refl, sym, ◌∙◌, ap, subst, arith, append_assoc, append-nil, length-append}
+use Rattle.std.proofs.Common.{◌≡◌, ℕ, ◌+◌, ◌-◌, ◌<◌, ◌≤◌, Bool, true, false, if◌then◌else◌, List, [], ◌∷◌, ◌++◌, length, take, drop, map, refl, sym, ◌∙◌, ap, arith, append_assoc, append-nil, length-append}
 use Rattle.std.specs.List.{slice_split, onto_first, All}
-use Rattle.std.specs.Prelude.{slice_index, ◌==◌, IsTrue}
+use Rattle.std.specs.Prelude.{slice_index, ◌==◌}
 use Rattle.std.proofs.lemmas.Bool.{false_from_ne_true}
 use Rattle.std.proofs.lemmas.List.{take-append-drop, drop_more, length-take-le, get_or-take, length-take}
-use Rattle.std.proofs.lemmas.List.Elements.{All-head, All-tail, All-from_get_or, All-get_or}
+use Rattle.std.proofs.lemmas.List.Elements.{All-head, All-tail, All-from_get_or}
 use Rattle.std.proofs.lemmas.List.Splits.{slice_split_at, slice_split_none, slice_split-cons_no}
 use Rattle.memchr.specs.Find.{NoneBefore, Nowhere, Passes}
-use Rattle.event_reader.specs.declared.limits.TheConstants.{LONGEST_LINE, DECIDING_BYTES}
-use Rattle.event_reader.specs.Lines.{is_line_feed, pieces, last_if, without_cr, lines_of, decided_lines, IsLongFirst}
+use Rattle.event_reader.specs.declared.limits.TheConstants.{DECIDING_BYTES}
+use Rattle.event_reader.specs.Lines.{is_line_feed, pieces, last_if, without_cr, IsLongFirst}
 
 -- where no byte passes a test, none does
 pub none_pass : (test : ℕ → Bool) (bytes : List ℕ) → Nowhere (Passes test bytes) 0 (length bytes) → All (λ b. test b ≡ false) bytes

@@ -1,16 +1,16 @@
 -- What the bytes kept decide.
-use Rattle.std.proofs.Common.{◌≡◌, ℕ, ◌+◌, ◌-◌, ◌<◌, ◌≤◌, Bool, true, false, if◌then◌else◌, nat_le, List, [], ◌∷◌, ◌++◌, length, take, drop, map, refl, sym, ◌∙◌, ap, subst, arith, append-nil}
+use Rattle.std.proofs.Common.{◌≡◌, ℕ, ◌+◌, ◌<◌, ◌≤◌, Bool, true, false, nat_le, List, [], ◌∷◌, ◌++◌, length, take, drop, refl, sym, ◌∙◌, ap, subst, arith, append-nil}
 use Rattle.std.specs.List.{All}
-use Rattle.std.specs.Prelude.{slice_index, ◌==◌, IsTrue}
+use Rattle.std.specs.Prelude.{slice_index}
 use Rattle.std.proofs.lemmas.Bool.{true≢false}
 use Rattle.std.proofs.lemmas.Bool.Decides.{nat_tests}
 use Rattle.std.proofs.lemmas.List.{take-take, length-take, drop_all}
 use Rattle.memchr.specs.Find.{NoneBefore, Passes}
-use Rattle.event_reader.specs.declared.limits.TheConstants.{LONGEST_LINE, DECIDING_BYTES}
+use Rattle.event_reader.specs.declared.limits.TheConstants.{DECIDING_BYTES}
 use Rattle.event_reader.specs.declared.decision.Decision.{Decision}
 use Rattle.event_reader.specs.declared.decision.Decision.TheVariants.{Line, Long, End, Open}
 use Rattle.event_reader.specs.Lines.{is_line_feed, without_cr, last_if, lines_of, decided_lines, IsLongFirst}
-use Rattle.event_reader.specs.Decisions.{MayFollow, DecidesLine, DecidesLong, DecidesNone, Decides, DecidesPiece}
+use Rattle.event_reader.specs.Decisions.{DecidesLine, DecidesLong, DecidesNone, Decides, DecidesPiece}
 use Rattle.event_reader.proofs.Cutting.{none_pass_before, split_at_place, lines_by, line_at, lines_open, long_open}
 
 abbrev has_bytes : List ℕ → Bool

@@ -1,17 +1,17 @@
 -- How a reader of lines goes on, from call to call of its source.
-use Rattle.std.proofs.Common.{◌≡◌, ℕ, ◌+◌, ◌-◌, ◌<◌, ◌≤◌, Bool, true, false, nat_le, if◌then◌else◌, List, [], ◌∷◌, ◌++◌, length, take, drop, refl, sym, ◌∙◌, ap, subst, arith, append_assoc, append-nil, length-append, Option, Some, None, Result, Ok, Err, ◌⊎◌, inl, inr}
+use Rattle.std.proofs.Common.{◌≡◌, ℕ, ◌+◌, ◌-◌, ◌<◌, ◌≤◌, Bool, true, false, nat_le, List, [], ◌∷◌, ◌++◌, length, take, drop, refl, sym, ◌∙◌, ap, arith, append_assoc, append-nil, length-append, Option, Some, None, Err, ◌⊎◌, inl, inr}
 use Rattle.std.specs.Prelude.{IsTrue, IfSome, option_map}
 use Rattle.std.proofs.Math.Seq.{take-append-add}
 use Rattle.std.proofs.lemmas.Bool.{cases_lt}
 use Rattle.std.proofs.lemmas.Bool.Decides.{nat_tests}
 use Rattle.morph_io.specs.Told.{ahead, ahead_nil, ahead_ahead, IsAtEnd}
 use Rattle.std.proofs.lemmas.List.{length-take}
-use Rattle.event_reader.specs.Lines.{Reading, lines_of, decided_lines, last_if, whole, front, within, with_line, IsLongFirst}
+use Rattle.event_reader.specs.Lines.{decided_lines, last_if, whole, front, within, with_line, IsLongFirst}
 use Rattle.event_reader.specs.Decisions.{MayFollow, DecidesLine, DecidesLong, DecidesNone}
 use Rattle.event_reader.specs.declared.limits.TheConstants.{LONGEST_LINE}
 use Rattle.event_reader.specs.declared.fault.ReaderFault.{ReaderFault}
 use Rattle.event_reader.specs.declared.fault.ReaderFault.TheVariants.{ReadFault, TooLong, OutOfMemory}
-use Rattle.event_reader.specs.Filling.{KeepsMore, KeepsAll, GivesMore, Fills}
+use Rattle.event_reader.specs.Filling.{KeepsMore, KeepsAll, Fills}
 use Rattle.event_reader.specs.Reader.{LinesView, room, reading_of, Takes, AnswersLine, ShowsLine}
 
 -- a reader that has gone on from `before`: it has taken `got` and decided nothing
@@ -219,8 +219,8 @@ answers_long before left now left' h bound d =
 
 pub answers_end : (before : LinesView) (left : Option (List ℕ)) (now : LinesView) (left' : Option (List ℕ))
     → GoesOn before left now left' → now.taken ≤ now.limit → now.kept ≡ [] → IsTrue now.ended
-    → IfSome (reading_of before left) (λ reading. reading ≡ record { lines = []; cut = false })
+    → (reading_of before left ≡ reading_of now left') × IfSome (reading_of before left) (λ reading. reading ≡ record { lines = []; cut = false })
 answers_end before left now left' h bound none done =
     let same : reading_of before left ≡ option_map (within (room now)) (ahead [] left')
     = same_reading before left now left' h bound ∙ ap (λ kept. option_map (within (room now)) (ahead kept left')) none in
-    rw same (end_told left' (room now) (h.at_end done))
+    (same_reading before left now left' h bound, rw same (end_told left' (room now) (h.at_end done)))

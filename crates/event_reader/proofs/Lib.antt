@@ -4,3 +4,7 @@ pub mod Moving
 pub mod Parts
 pub mod Ranges
 pub mod Goings
+pub mod Digits
+pub mod TimeSets
+pub mod Batching
+pub mod Stepping

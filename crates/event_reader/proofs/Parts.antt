@@ -1,8 +1,8 @@
 -- The parts of a line, taken one by one.
 use Rattle.std.proofs.Common.{◌≡◌, ℕ, ◌+◌, ◌<◌, ◌≤◌, Bool, true, false, nat_le, ◌&&◌, if◌then◌else◌, List, [], ◌∷◌, ◌++◌, length, take, map, set, refl, sym, ◌∙◌, ap, arith, append_assoc, length-append, Some, None}
-use Rattle.std.specs.List.{list_all, slice_split}
+use Rattle.std.specs.List.{list_all}
 use Rattle.std.proofs.lemmas.Bool.Decides.{nat_tests}
-use Rattle.std.proofs.lemmas.List.{map-set, take_more_set, length-map, length-take-le}
+use Rattle.std.proofs.lemmas.List.{map-set, take_more_set, length-map}
 use Rattle.std.proofs.lemmas.List.Folds.{list_all-append}
 use Rattle.event_reader.specs.Words.{parts_of, is_space, is_word, words_of}
 use Rattle.event_reader.proofs.Cutting.{some_piece}

@@ -1,6 +1,6 @@
 -- What the buffer of a reader of lines keeps true.
-use Rattle.std.specs.Prelude.{◌≡◌, ℕ, ◌+◌, ◌-◌, ◌≤◌, IsTrue, length}
-use Rattle.event_reader.specs.declared.limits.TheConstants.{BUFFER_BYTES, LONGEST_LINE, INPUT_BYTES}
+use Rattle.std.specs.Prelude.{◌≡◌, ◌+◌, ◌-◌, ◌≤◌, IsTrue, length}
+use Rattle.event_reader.specs.declared.limits.TheConstants.{BUFFER_BYTES, INPUT_BYTES}
 use Rattle.event_reader.specs.declared.lines.Lines.TheInside.{Inside}
 
 pub record IsBuffer (lines : Inside) : Type 0 where

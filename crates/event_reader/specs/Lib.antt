@@ -8,4 +8,7 @@ pub mod Decisions
 pub mod Reading
 pub mod Buffers
 pub mod Filling
+pub mod Times
+pub mod RisingTimes
+pub mod Pending
 pub mod Draws

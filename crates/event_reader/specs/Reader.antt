@@ -1,7 +1,6 @@
 -- What contracts see of a reader, and what its answers say.
-use Rattle.std.specs.Prelude.{◌≡◌, ℕ, ◌+◌, ◌-◌, ◌<◌, ◌≤◌, Bool, true, false, List, [], ◌∷◌, ◌++◌, length, Option, option_map, IfSome, Result, Ok, Err}
+use Rattle.std.specs.Prelude.{◌≡◌, ℕ, ◌+◌, ◌-◌, ◌<◌, ◌≤◌, Bool, true, false, List, [], ◌++◌, length, Option, option_map, IfSome, Result, Ok, Err}
 use Rattle.morph_base.specs.declared.key.Layout.{Layout}
-use Rattle.morph_base.specs.declared.event.Batch.{Batch as TheBatch}
 use Rattle.morph_base.specs.Transactions.{Transaction, IsTransaction, HasKeysIn, IsBatch, BatchKeysIn, transactions_of, transaction_of}
 use Rattle.morph_base.specs.declared.event.Event.{Event}
 use Rattle.morph_io.specs.Told.{ahead}
@@ -72,7 +71,7 @@ pub record Takes (old new : Option (List ℕ)) (Shows : List ℕ → Type 0) : T
 abbrev pub AnswersLine : Option Reading → Result LineNext ReaderFault → List ℕ → Option Reading → Type 0
 AnswersLine before (Ok Line) line after = (before ≡ option_map (with_line line) after) × (length line ≤ LONGEST_LINE)
 AnswersLine before (Ok Long) line after = IfSome before (λ reading. IsLongFirst reading.lines)
-AnswersLine before (Ok NoLine) line after = IfSome before (λ reading. reading ≡ record { lines = []; cut = false })
+AnswersLine before (Ok NoLine) line after = (before ≡ after) × IfSome before (λ reading. reading ≡ record { lines = []; cut = false })
 AnswersLine before (Err TooLong) line after = IfSome before (λ reading. reading ≡ record { lines = []; cut = true })
 AnswersLine before (Err ReadFault) line after = before ≡ after
 AnswersLine before (Err OutOfMemory) line after = ⊥
@@ -109,13 +108,21 @@ pub record ReaderView (App : Type 0) : Type 0 where
 abbrev pub new_reader : {App : Type 0} → App → (size limit : ℕ) → ReaderView App
 new_reader app size limit = record { app = app; size = size; closed = 0; lines = new_lines limit; live = true }
 
--- the batches of a reading that comes after what a reader of batches has given
-abbrev pub accepted_after : {App : Type 0} → (App → ℕ → Meaning) → ReaderView App → Reading → Accepted
-accepted_after event_of v reading = accepted_from (event_of v.app v.size) v.lines.number v.closed [] reading
+-- the batches of a reading that comes after what a reader of lines has given, where `closed` is the greatest timestamp of
+-- the batches closed before and no event is pending
+abbrev pub accepted_next : Meaning → (closed : ℕ) → LinesView → Reading → Accepted
+accepted_next meaning closed v reading = accepted_from meaning v.number closed [] reading
 
--- the batches that it has still to give, where the source tells its bytes
+-- the batches that are still to be given, where the source tells its bytes
+abbrev pub accepted_at : Meaning → (closed : ℕ) → LinesView → Option (List ℕ) → Option Accepted
+accepted_at meaning closed v left = option_map (accepted_next meaning closed v) (reading_of v left)
+
+-- the same of a reader of batches
+abbrev pub accepted_after : {App : Type 0} → (App → ℕ → Meaning) → ReaderView App → Reading → Accepted
+accepted_after event_of v reading = accepted_next (event_of v.app v.size) v.closed v.lines reading
+
 abbrev pub accepted_by : {App : Type 0} → (App → ℕ → Meaning) → ReaderView App → Option (List ℕ) → Option Accepted
-accepted_by event_of v left = option_map (accepted_after event_of v) (reading_of v.lines left)
+accepted_by event_of v left = accepted_at (event_of v.app v.size) v.closed v.lines left
 
 -- an answer of a reader of batches, by what it had to give before and what it has to give after
 abbrev pub AnswersNext : Option Accepted → Result Next ReaderFault → Option Accepted → Type 0
@@ -128,14 +135,19 @@ AnswersNext before (Err _) after = Unit {0}
 -- what the bytes taken show, whatever follows them: where a batch was given they have the punctuation that closes it,
 -- if the source did not come to its end; where the source failed they have no punctuation that closes a batch, and no
 -- refused line
+abbrev pub ShowsBatch : Meaning → (closed : ℕ) → LinesView → Result Next ReaderFault → (closed' : ℕ) → LinesView → List ℕ → Type 0
+ShowsBatch meaning closed before (Ok (Batch batch)) closed' after got =
+    after.ended ≡ false → (more : List ℕ)
+    → accepted_next meaning closed before (front (before.kept ++ got ++ more))
+    ≡ with_batch (transactions_of batch) (accepted_next meaning closed' after (front (after.kept ++ more)))
+ShowsBatch meaning closed before (Err ReadFault) closed' after got =
+    accepted_next meaning closed before (front (before.kept ++ got)) ≡ record { batches = []; ending = CutOff }
+ShowsBatch meaning closed before _ closed' after got = Unit {0}
+
+-- the same of a reader of batches
 abbrev pub ShowsNext : {App : Type 0} → (App → ℕ → Meaning) → ReaderView App → Result Next ReaderFault → ReaderView App → List ℕ → Type 0
-ShowsNext event_of before (Ok (Batch batch)) after got =
-    after.lines.ended ≡ false → (more : List ℕ)
-    → accepted_after event_of before (front (before.lines.kept ++ got ++ more))
-    ≡ with_batch (transactions_of batch) (accepted_after event_of after (front (after.lines.kept ++ more)))
-ShowsNext event_of before (Err ReadFault) after got =
-    accepted_after event_of before (front (before.lines.kept ++ got)) ≡ record { batches = []; ending = CutOff }
-ShowsNext event_of before _ after got = Unit {0}
+ShowsNext event_of before answer after got =
+    ShowsBatch (event_of before.app before.size) before.closed before.lines answer after.closed after.lines got
 
 -- a batch that is given has an event and is valid, with its keys in the layout
 abbrev pub IsValidNext : Layout → Next → Type 0

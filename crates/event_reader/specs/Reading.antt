@@ -1,5 +1,5 @@
 -- What a reader of batches keeps true.
-use Rattle.std.specs.Prelude.{◌≡◌, ℕ, ◌+◌, ◌≤◌, false, IsTrue, []}
+use Rattle.std.specs.Prelude.{◌≡◌, ◌+◌, ◌≤◌, false, IsTrue, []}
 use Rattle.event_reader.specs.declared.batches.BatchReader.TheInside.{Inside}
 
 -- its reader of lines may be asked again, or came to the end of the input

@@ -11,6 +11,8 @@ mod fault;
 mod limits;
 mod lines;
 mod number;
+mod pending;
+mod times;
 mod words;
 
 pub use answers::{LineNext, Next};
@@ -23,5 +25,5 @@ pub use limits::{
     BUFFER_BYTES, DECIDING_BYTES, GREATEST_NUMBER, INPUT_BYTES, LINE_WORDS, LONGEST_LINE,
 };
 pub use lines::Lines;
-pub use number::Number;
+pub use number::{Number, read_number};
 pub use words::Words;

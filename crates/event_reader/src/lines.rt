@@ -197,13 +197,14 @@ impl Lines {
         ensures answers { AnswersLine (reading_of self.old (S.left source.old)) result self.new.line (reading_of self.new (S.left source.new)) }
         ensures shows { Takes (S.left source.old) (S.left source.new) (ShowsLine self.old result self.new) }
         ensures at_end { IsTrue self.new.ended → IsAtEnd (S.left source.new) }
+        ensures unended { self.new.ended ≡ false → self.old.ended ≡ false }
         ensures done { result ≡ Ok LineNext.End → (self.new.kept ≡ []) × IsTrue self.new.ended }
         ensures goes_on { self.new.live ≡ is_line result }
         ensures counts { self.new.number ≡ self.old.number + lines_given result }
         ensures bound { self.new.number ≤ self.new.limit + 1 }
         ensures limit { self.new.limit ≡ self.old.limit }
         ensures full { IsErrOf result ReaderFault.TooLong → self.new.taken ≡ self.new.limit }
-        ensures asked { OnErr result (self.old.ended ≡ false) }
+        ensures asked { OnErr result (self.new.ended ≡ false) }
         ensures never_falls { S.faults source.old ≤ S.faults source.new }
         ensures cause { IsErrOf result ReaderFault.ReadFault → HasRisen (S.faults source.old) (S.faults source.new) }
     {

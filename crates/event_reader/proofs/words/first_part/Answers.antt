@@ -1,4 +1,4 @@
-use Rattle.std.proofs.Common.{ap, arith, ◌∙◌, sym, ◌∷◌, take, drop, ◌+◌}
+use Rattle.std.proofs.Common.{ap, ◌∙◌, sym, ◌∷◌, take, ◌+◌}
 use Rattle.std.proofs.lemmas.List.{take_rest}
 use Rattle.std.proofs.lemmas.List.Splits.{slice_split_none}
 use Rattle.event_reader.specs.Words.{is_space, parts_of}

@@ -1,4 +1,4 @@
-use Rattle.std.proofs.Common.{◌+◌, ◌-◌, ◌≤◌, length, slice_range, arith}
+use Rattle.std.proofs.Common.{◌+◌, ◌≤◌, arith}
 use Rattle.std.proofs.lemmas.List.Edits.{length-between}
 use Rattle.event_reader.proofs.Ranges.{range_rest, range_first, view_of}
 use Rattle.event_reader.proofs.lines.Lines.give.Goals as goal

@@ -1,7 +1,7 @@
-use Rattle.std.proofs.Common.{◌≡◌, ℕ, ◌+◌, ◌-◌, ◌≤◌, length, take, drop, arith, refl, ap, ◌∙◌, sym, Err}
-use Rattle.std.proofs.lemmas.List.{length-take-le}
+use Rattle.std.proofs.Common.{arith, ap, ◌∙◌, sym}
 use Rattle.std.proofs.lemmas.Result.{err_from_is_err_and}
-use Rattle.event_reader.proofs.Goings.{goes_nowhere, goes_further, same_reading, answers_fault, shows_fault, answers_line, answers_long, answers_end}
+use Rattle.event_reader.specs.Reader.{reading_of}
+use Rattle.event_reader.proofs.Goings.{goes_nowhere, goes_further, answers_fault, shows_fault, answers_line, answers_long, answers_end}
 use Rattle.event_reader.proofs.lines.Lines.next_line.Goals as goal
 
 pub reads-init : goal.reads-init
@@ -45,4 +45,6 @@ returns-in-Long-clause-answers g c =
 pub returns-in-End-clause-answers : goal.returns-in-End-clause-answers
 returns-in-End-clause-answers g c =
     let done = rw (c.kept.ensures.bytes, ap (λ v. v.ended) c.self.view_is) at c.in-End.ensures in
-    answers_end _ _ c.reads.self (g.S.Source.left c.reads.source) c.reads.invariant.goes_on c.kept.ensures.bound done.0 done.1
+    let left = g.S.Source.left c.reads.source in
+    let answer = answers_end _ _ c.reads.self left c.reads.invariant.goes_on c.kept.ensures.bound done.0 done.1 in
+    (answer.0 ∙ ap (λ v. reading_of v left) (sym c.self.view_is), answer.1)

@@ -1,4 +1,4 @@
-use Rattle.std.proofs.Common.{ℕ, ◌+◌, ◌-◌, ◌*◌, ◌≤◌, if◌then◌else◌}
+use Rattle.std.proofs.Common.{◌+◌, ◌-◌, ◌*◌, ◌≤◌, if◌then◌else◌}
 use Rattle.event_reader.proofs.Goings.{GoesOn}
 use Rattle.event_reader.proofs.lines.Lines.next_line.Given as goal
 

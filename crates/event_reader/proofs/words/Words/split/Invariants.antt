@@ -1,5 +1,4 @@
-use Rattle.std.proofs.Common.{◌≡◌, Bool, true, List, ◌++◌, length, map, take}
-use Rattle.std.specs.Borrow.{Bor}
+use Rattle.std.proofs.Common.{◌≡◌, true, ◌++◌, length, map, take}
 use Rattle.std.specs.List.{list_all}
 use Rattle.event_reader.specs.Words.{parts_of, is_word}
 use Rattle.event_reader.proofs.words.Words.split.Given as goal

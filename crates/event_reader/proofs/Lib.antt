@@ -8,3 +8,4 @@ pub mod Digits
 pub mod TimeSets
 pub mod Batching
 pub mod Stepping
+pub mod Fronts

@@ -49,8 +49,8 @@ abbrev pub accepted : Meaning → List ℕ → Accepted
 accepted meaning input = accepted_from meaning 0 0 [] (whole input)
 
 -- the batches that are closed by a punctuation whose line stands, with its LF, within a front of an input
-abbrev pub closed : Meaning → List ℕ → List (List Transaction)
-closed meaning bytes = (accepted_from meaning 0 0 [] (front bytes)).batches
+abbrev pub closed_batches : Meaning → List ℕ → List (List Transaction)
+closed_batches meaning bytes = (accepted_from meaning 0 0 [] (front bytes)).batches
 
 -- the batches of an input of which at most `limit` bytes are read. It ends in `CutOff` exactly where the input has more
 -- bytes than that, and none of the lines that are decided by the first `limit` of them is refused

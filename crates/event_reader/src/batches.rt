@@ -1,4 +1,4 @@
-ghost use Rattle.std.specs.Prelude.{◌≡◌, ℕ, ◌+◌, ◌≤◌, [], IsTrue, IfOk, IfErr, IsErrOf, false};
+ghost use Rattle.std.specs.Prelude.{◌≡◌, ℕ, ◌+◌, ◌≤◌, [], IsTrue, IfOk, IsErrOf, false};
 ghost use Rattle.morph_io.specs.Told.{IsAtEnd, HasRisen};
 ghost use Rattle.event_reader.specs.Reader.{accepted_at, AnswersNext, ShowsBatch, Takes, IsValidNext, event_count, goes_on};
 
@@ -36,7 +36,7 @@ fn read_batch<A: EventApp, S: Source>(
     ensures unended { lines.new.ended ≡ false → lines.old.ended ≡ false }
     ensures done { IsTrue (goes_on result) → lines.new.live ≡ false → (lines.new.kept ≡ []) × IsTrue lines.new.ended }
     ensures full { IsErrOf result ReaderFault.TooLong → lines.new.taken ≡ lines.new.limit }
-    ensures asked { IfErr result (λ fault. (fault ≡ ReaderFault.OutOfMemory → ⊥) → lines.new.ended ≡ false) }
+    ensures asked { IsErrOf result ReaderFault.ReadFault → lines.old.ended ≡ false }
     ensures never_falls { S.faults source.old ≤ S.faults source.new }
     ensures cause { IsErrOf result ReaderFault.ReadFault → HasRisen (S.faults source.old) (S.faults source.new) }
 {
@@ -158,7 +158,7 @@ impl<A: EventApp> BatchReader<A> {
         ensures unended { self.new.lines.ended ≡ false → self.old.lines.ended ≡ false }
         ensures goes_on { self.new.live ≡ goes_on result }
         ensures full { IsErrOf result ReaderFault.TooLong → self.new.lines.taken ≡ self.new.lines.limit }
-        ensures asked { IfErr result (λ fault. (fault ≡ ReaderFault.OutOfMemory → ⊥) → self.new.lines.ended ≡ false) }
+        ensures asked { IsErrOf result ReaderFault.ReadFault → self.old.lines.ended ≡ false }
         ensures never_falls { S.faults source.old ≤ S.faults source.new }
         ensures cause { IsErrOf result ReaderFault.ReadFault → HasRisen (S.faults source.old) (S.faults source.new) }
     {

@@ -1,6 +1,6 @@
 -- What a front of an input decides holds of the whole input: its batches are the first, and its refused line is the first.
-use Rattle.std.proofs.Common.{◌≡◌, ℕ, ◌+◌, ◌-◌, ◌<◌, ◌≤◌, Bool, true, false, nat_le, if◌then◌else◌, List, [], ◌∷◌, ◌++◌, length, take, drop, map, refl, sym, ◌∙◌, ap, subst, arith, length-append, length-take, append-nil, Option, Some, inl, inr}
-use Rattle.std.specs.Prelude.{nat_lt, option_map}
+use Rattle.std.proofs.Common.{◌≡◌, ℕ, ◌+◌, ◌-◌, ◌<◌, ◌≤◌, Bool, true, false, nat_le, if◌then◌else◌, List, [], ◌∷◌, ◌++◌, length, take, drop, map, refl, sym, ◌∙◌, ap, subst, arith, length-append, append-nil, Some, inl, inr}
+use Rattle.std.specs.Prelude.{nat_lt}
 use Rattle.std.specs.List.{onto_first}
 use Rattle.std.proofs.lemmas.Bool.{cases_lt}
 use Rattle.std.proofs.lemmas.Bool.Decides.{nat_tests}
@@ -10,7 +10,7 @@ use Rattle.morph_io.specs.Told.{ahead}
 use Rattle.event_reader.specs.declared.limits.TheConstants.{LONGEST_LINE, DECIDING_BYTES}
 use Rattle.event_reader.specs.declared.cause.Cause.{Cause}
 use Rattle.event_reader.specs.declared.cause.Cause.TheVariants.{Long}
-use Rattle.event_reader.specs.Lines.{is_line_feed, pieces, last_if, without_cr, lines_of, decided_lines, whole, front, within}
+use Rattle.event_reader.specs.Lines.{is_line_feed, pieces, last_if, without_cr, lines_of, decided_lines, within}
 use Rattle.event_reader.specs.Steps.{Meaning, Step, Ignored, Closes, Adds, Refuses, latest_with, step_of}
 use Rattle.event_reader.specs.Accepted.{Accepted, Ending, Ended, RefusedAt, CutOff, with_batch, led_by, accepted_lines, accepted_from, accepted, accepted_within, closed_batches}
 use Rattle.event_reader.specs.Reader.{new_reader, accepted_by}
@@ -58,7 +58,7 @@ extends_from _ _ (last piece more next) = by_test (nat_le DECIDING_BYTES (length
         let first = first_if (λ piece. nat_le 1 (length piece)) (piece ++ more) next some in
         rw first.1
         (long (without_cr piece) (without_cr (piece ++ more)) first.0 (omega (arith, length-without_cr piece))
-         (omega (arith, length-without_cr (piece ++ more), length-append piece more)))
+        (omega (arith, length-without_cr (piece ++ more), length-append piece more)))
 
 -- the batches are the first of all, and a refused line ends all
 pub record IsFrontOf (some all : Accepted) : Type 0 where
@@ -142,24 +142,24 @@ pub data ReadsWithin (m : Meaning) (limit : ℕ) (input : List ℕ) : Type 0 whe
 pub reads_within : (m : Meaning) (limit : ℕ) (input : List ℕ) → ReadsWithin m limit input
 unfolding within
 reads_within m limit input = elim (cases_lt limit (length input)) [
-  inl many ↦ let fails : nat_le (length input) limit ≡ false = grind (arith, nat_tests) in front_of_it many (rw fails refl)
+  | inl many ↦ let fails : nat_le (length input) limit ≡ false = grind (arith, nat_tests) in front_of_it many (rw fails refl)
   | inr few ↦ let passes : nat_le (length input) limit ≡ true = grind (arith, nat_tests) in all_of_it few (rw passes refl)
 ]
 
 -- its batches are the first of the whole input, and a line that it refuses is the first that is refused
 pub within_is_first : (m : Meaning) (limit : ℕ) (input : List ℕ) → IsFrontOf (accepted_within m limit input) (accepted m input)
 within_is_first m limit input = elim (reads_within m limit input) [
-  all_of_it few is ↦ rw is (same_front (accepted m input))
+  | all_of_it few is ↦ rw is (same_front (accepted m input))
   | front_of_it many is ↦ rw is
-    (subst (λ bytes. IsFrontOf (accepted_lines m 0 0 [] (decided_lines (take limit input)) true) (accepted m bytes)) (take-append-drop limit input)
-     (front_is_first m (take limit input) (drop limit input)))
+      (subst (λ bytes. IsFrontOf (accepted_lines m 0 0 [] (decided_lines (take limit input)) true) (accepted m bytes)) (take-append-drop limit input)
+      (front_is_first m (take limit input) (drop limit input)))
 ]
 
 -- where it comes to the end of the input, the input is no longer than the limit, and all of it was read
 pub within_ended : (m : Meaning) (limit : ℕ) (input : List ℕ) → (accepted_within m limit input).ending ≡ Ended
     → (length input ≤ limit) × (accepted m input ≡ accepted_within m limit input)
 within_ended m limit input ended = elim (reads_within m limit input) [
-  all_of_it few is ↦ (few, sym is)
+  | all_of_it few is ↦ (few, sym is)
   | front_of_it many is ↦ absurd (cut_ending m 0 0 [] (decided_lines (take limit input)) (ap (λ a. a.ending) (sym is) ∙ ended))
 ]
 
@@ -172,7 +172,7 @@ within_refused m limit input line cause is = (within_is_first m limit input).ref
 pub within_cut : (m : Meaning) (limit : ℕ) (input : List ℕ) → (accepted_within m limit input).ending ≡ CutOff
     → (limit < length input) × ((accepted_within m limit input).batches ≡ closed_batches m (take limit input))
 within_cut m limit input cut = elim (reads_within m limit input) [
-  all_of_it few is ↦ absurd (whole_ending m 0 0 [] (lines_of input) (ap (λ a. a.ending) (sym is) ∙ cut))
+  | all_of_it few is ↦ absurd (whole_ending m 0 0 [] (lines_of input) (ap (λ a. a.ending) (sym is) ∙ cut))
   | front_of_it many is ↦ (many, ap (λ a. a.batches) is)
 ]
 

@@ -12,6 +12,7 @@ mod limits;
 mod lines;
 mod number;
 mod pending;
+mod ranges;
 mod times;
 mod words;
 
@@ -26,4 +27,5 @@ pub use limits::{
 };
 pub use lines::Lines;
 pub use number::{Number, read_number};
+pub use ranges::Range;
 pub use words::Words;

@@ -2,7 +2,7 @@ use Rattle.std.proofs.Common.{◌≡◌, ◌+◌, ◌-◌, ◌≤◌, length, ta
 use Rattle.std.proofs.lemmas.Bool.Decides.{nat_tests}
 use Rattle.std.proofs.lemmas.List.{with_items_is}
 use Rattle.morph_io.specs.Told.{ahead}
-use Rattle.event_reader.proofs.Ranges.{range_filled, range_kept, length-range, twice_written, first_item, within_limit}
+use Rattle.event_reader.proofs.BufferParts.{range_filled, range_kept, length-range, twice_written, first_item, within_limit}
 use Rattle.event_reader.proofs.lines.Lines.fill.Goals as goal
 
 pub returns-then-left-eq0-clause-fills : goal.returns-then-left-eq0-clause-fills

@@ -1,6 +1,6 @@
 use Rattle.std.proofs.Common.{◌+◌, ◌≤◌, arith}
 use Rattle.std.proofs.lemmas.List.Edits.{length-between}
-use Rattle.event_reader.proofs.Ranges.{range_rest, range_first, view_of}
+use Rattle.event_reader.proofs.BufferParts.{range_rest, range_first, view_of}
 use Rattle.event_reader.proofs.lines.Lines.give.Goals as goal
 
 pub returns-clause-gives : goal.returns-clause-gives

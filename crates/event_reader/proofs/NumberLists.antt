@@ -1,15 +1,21 @@
 -- The numbers that words say, and their ranges.
-use Rattle.std.proofs.Common.{◌≡◌, ℕ, ◌+◌, ◌<◌, ◌≤◌, Bool, true, false, ◌&&◌, nat_le, min, List, [], ◌∷◌, ◌++◌, length, take, drop, get_or, set, map, refl, sym, ◌∙◌, ap, arith, Some, None, Ok, Err, inl, inr}
+use Rattle.std.proofs.Common.{◌≡◌, ℕ, zero, suc, ◌+◌, ◌<◌, ◌≤◌, Bool, true, false, ◌&&◌, nat_le, min, List, [], ◌∷◌, ◌++◌, length, take, drop, get_or, set, map, refl, sym, ◌∙◌, ap, arith, Some, None, Result, Ok, Err, inl, inr, subst}
+use Rattle.std.specs.Prelude.{if◌then◌else◌}
+use Rattle.event_reader.specs.declared.cause.Cause.{Cause}
+use Rattle.event_reader.specs.declared.cause.Cause.TheVariants.{Form}
 use Rattle.std.specs.List.{All, list_all}
 use Rattle.std.proofs.lemmas.Bool.{cases_lt}
 use Rattle.std.proofs.lemmas.Bool.Decides.{nat_tests}
-use Rattle.std.proofs.lemmas.List.{drop_more, get_or-drop, take_more_set, map_more, drop_all}
+use Rattle.std.proofs.lemmas.List.{drop_more, get_or-drop, take_more_set, map_more, drop_all, length-map}
 use Rattle.std.proofs.lemmas.List.Elements.{All-head, All-tail}
 use Rattle.std.proofs.lemmas.List.Folds.{list_all_at, list_all_more}
 use Rattle.event_reader.specs.declared.limits.TheConstants.{GREATEST_NUMBER}
 use Rattle.event_reader.specs.declared.ranges.Range.{Range}
 use Rattle.event_reader.specs.declared.cause.Cause.TheVariants.{Range as OutOfRange}
-use Rattle.event_reader.specs.Numbers.{is_number, value_of, cut_value, cut_number, is_in, are_in, numbers_in, AreCutNumbers}
+use Rattle.event_reader.specs.Numbers.{is_number, value_of, cut_value, cut_number, is_in, are_in, numbers_in, has_form, AreCutNumbers}
+use Rattle.std.specs.Prelude.{◌==◌}
+use Rattle.std.specs.Str.{bytes_eq}
+use Rattle.event_reader.specs.Reader.{IsOfWords}
 
 -- the numbers from a place on are in their ranges
 pub are_in_at : (ranges : List Range) (numbers : List ℕ) (i : ℕ) (d : Range) → i < length ranges → i < length numbers
@@ -112,3 +118,57 @@ pub numbers_out : (ranges : List Range) (words : List (List ℕ)) (numbers : Lis
 numbers_out ranges words numbers small cut out =
     let values : are_in ranges (map value_of words) ≡ false = sym (all_cut_in ranges words small) ∙ ap (are_in ranges) (sym cut.values) ∙ out in
     rw (cut.all, values) refl
+
+-- each number is in the range of its place
+and_true : (a b : Bool) → (a && b) ≡ true → (a ≡ true) × (b ≡ true)
+and_true true b is = (refl, is)
+and_true false b is = absurd (cc)
+
+pub in_at : (ranges : List Range) (numbers : List ℕ) (i : ℕ) (d : Range) → are_in ranges numbers ≡ true → i < length ranges → i < length numbers
+    → is_in (get_or ranges i d) (get_or numbers i 0) ≡ true
+unfolding are_in
+in_at [] numbers i d fits inside inside' = absurd (omega arith)
+in_at (range ∷ ranges) [] i d fits inside inside' = absurd (omega arith)
+in_at (range ∷ ranges) (n ∷ numbers) zero d fits inside inside' = (and_true (is_in range n) (are_in ranges numbers) fits).0
+in_at (range ∷ ranges) (n ∷ numbers) (suc i) d fits inside inside' =
+    in_at ranges numbers i d (and_true (is_in range n) (are_in ranges numbers) fits).1 (omega arith) (omega arith)
+
+-- a number is in the range of its place
+pub in_place : (ranges : List Range) (numbers : List ℕ) (i : ℕ) (range : Range) → are_in ranges numbers ≡ true → i < length ranges → i < length numbers
+    → get_or ranges i range ≡ range → (range.least ≤ get_or numbers i 0) × (get_or numbers i 0 ≤ range.greatest)
+in_place ranges numbers i range fits inside inside' is =
+    let here : is_in range (get_or numbers i 0) ≡ true = ap (λ r. is_in r (get_or numbers i 0)) (sym is) ∙ in_at ranges numbers i range fits inside inside' in
+    let parts = and_true (nat_le range.least (get_or numbers i 0)) (nat_le (get_or numbers i 0) range.greatest) here in
+    (grind (arith, nat_tests, parts.0), grind (arith, nat_tests, parts.1))
+
+abbrev read : List ℕ → Result (List ℕ) Cause
+read numbers = Ok numbers
+
+-- the numbers that are read are as many as their words, and in range
+pub numbers_are_in : (ranges : List Range) (words : List (List ℕ)) (numbers : List ℕ) → numbers_in ranges words ≡ Ok numbers
+    → (length numbers ≡ length words) × (are_in ranges numbers ≡ true)
+numbers_are_in ranges words numbers is = by_tests (list_all is_number words) (are_in ranges (map value_of words)) refl is
+  where
+    by_tests : (all fits : Bool) → are_in ranges (map value_of words) ≡ fits
+        → (if all then (if fits then read (map value_of words) else Err OutOfRange) else Err Form) ≡ read numbers
+        → (length numbers ≡ length words) × (are_in ranges numbers ≡ true)
+    by_tests false fits e is = absurd (cc)
+    by_tests true false e is = absurd (cc)
+    by_tests true true e is =
+        let same : map value_of words ≡ numbers = cc in
+        (rw (← same) (length-map words value_of), rw (← same) e)
+
+-- words that are not read are refused as form or range
+pub numbers_causes : (ranges : List Range) (words : List (List ℕ)) (cause : Cause) → numbers_in ranges words ≡ Err cause → IsOfWords cause
+numbers_causes ranges words cause is = by_tests (list_all is_number words) (are_in ranges (map value_of words)) is
+  where
+    by_tests : (all fits : Bool) → (if all then (if fits then read (map value_of words) else Err OutOfRange) else Err Form) ≡ Err cause → IsOfWords cause
+    by_tests false fits is = let same : Form ≡ cause = cc in subst IsOfWords same tt
+    by_tests true false is = let same : OutOfRange ≡ cause = cc in subst IsOfWords same tt
+    by_tests true true is = absurd (cc)
+
+-- words of a form are one more than its numbers
+pub form_length : (letter count : ℕ) (words : List (List ℕ)) → has_form letter count words ≡ true → length words ≡ count + 1
+form_length letter count words is =
+    let parts = and_true (length words == count + 1) (bytes_eq (get_or words 0 []) (letter ∷ [])) is in
+    grind (arith, nat_tests, parts.0)

@@ -1,3 +1,5 @@
+use morph_base::OutOfMemory;
+
 /// Why a line is refused. The causes are tried in this order, and the first one that applies is the line's.
 #[derive(Clone, Copy, Debug, PartialEq, Eq, Hash)]
 pub enum Cause {
@@ -24,4 +26,26 @@ pub enum LineFault {
     Refused(Cause),
     /// Memory for the event was refused.
     OutOfMemory,
+}
+
+impl From<Cause> for LineFault {
+    ghost use Rattle.std.specs.Prelude.{◌≡◌};
+    ghost use Rattle.event_reader.specs.declared.cause.LineFault.TheVariants.{Refused};
+
+    ghost from_gives = { λ cause fault. fault ≡ Refused cause };
+
+    fn from(cause: Cause) -> Self {
+        LineFault::Refused(cause)
+    }
+}
+
+impl From<OutOfMemory> for LineFault {
+    ghost use Rattle.std.specs.Prelude.{◌≡◌};
+    ghost use Rattle.event_reader.specs.declared.cause.LineFault.TheVariants.{OutOfMemory as MemoryRefused};
+
+    ghost from_gives = { λ _ fault. fault ≡ MemoryRefused };
+
+    fn from(_error: OutOfMemory) -> Self {
+        LineFault::OutOfMemory
+    }
 }

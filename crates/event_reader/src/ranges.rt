@@ -1,4 +1,4 @@
-ghost use Rattle.std.specs.Prelude.{◌≡◌, ℕ, ◌+◌, ◌<◌, ◌≤◌, All, length, drop, IfOk, IfErr, MatchOption, false};
+ghost use Rattle.std.specs.Prelude.{◌≡◌, ℕ, ◌+◌, ◌<◌, ◌≤◌, All, length, drop, IfOk, IfErr, MatchOption, IsTrue, false};
 ghost use Rattle.std.specs.List.{list_all};
 ghost use Rattle.event_reader.specs.declared.limits.TheConstants.{GREATEST_NUMBER, LINE_WORDS};
 ghost use Rattle.event_reader.specs.Numbers.{is_number, is_in, are_in, numbers_in, has_form, cut_number, AreCutNumbers};
@@ -77,6 +77,7 @@ impl Words<'_> {
         requires count { length self.now ≡ N + 1 }
         requires small { All (λ range. range.greatest ≤ GREATEST_NUMBER) ranges.now }
         ensures ok { IfOk result (λ numbers. numbers_in ranges.now (drop 1 self.now) ≡ Ok numbers) }
+        ensures fits { IfOk result (λ numbers. IsTrue (are_in ranges.now numbers)) }
         ensures err { IfErr result (λ cause. numbers_in ranges.now (drop 1 self.now) ≡ Err cause) }
     {
         let Some(numbers) = self.cut_numbers() else {

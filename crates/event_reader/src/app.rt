@@ -1,5 +1,6 @@
-ghost use Rattle.std.specs.Prelude.{◌≡◌, ℕ, ◌<◌, ◌≤◌, List, Result};
+ghost use Rattle.std.specs.Prelude.{◌≡◌, ℕ, ◌<◌, ◌≤◌, List, Result, length};
 ghost use Rattle.morph_base.specs.Transactions.{Transaction};
+ghost use Rattle.event_reader.specs.declared.limits.TheConstants.{NAME_BYTES};
 ghost use Rattle.event_reader.specs.declared.cause.Cause.{Cause};
 ghost use Rattle.event_reader.specs.Reader.{GivesEvent, GivesValid, IsOfWords};
 
@@ -24,10 +25,11 @@ pub trait EventApp {
     fn tables(&self) -> u8
         ensures { result ≡ table_count self.now };
 
-    /// The printed name of a table.
+    /// The printed name of a table, of at most [`NAME_BYTES`](crate::NAME_BYTES) bytes.
     fn table_name(&self, table: u8) -> &'static str
         requires { table < table_count self.now }
-        ensures { result.now ≡ name_of self.now table };
+        ensures name { result.now ≡ name_of self.now table }
+        ensures short { length result.now ≤ NAME_BYTES };
 
     /// Reads the words of an event line, where each table has `size` ids.
     fn read_event(&self, alloc: Global, words: &Words<'_>, size: u32) -> Result<Event, LineFault>

@@ -10,6 +10,9 @@ pub const DECIDING_BYTES: usize = 1_002;
 /// The most words of an event line.
 pub const LINE_WORDS: usize = 8;
 
+/// The most bytes of the printed name of a table.
+pub const NAME_BYTES: usize = 16;
+
 /// The greatest number that a word of a line can say: 10^12.
 pub const GREATEST_NUMBER: u64 = 1_000_000_000_000;
 

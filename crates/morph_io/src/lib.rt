@@ -41,7 +41,7 @@ mod tests;
 pub use line_buf::{LINE_BYTES, LineBuf};
 pub use mem_sink::MemSink;
 pub use mem_source::MemSource;
-pub use output::{OUT_BYTES, Out};
+pub use output::{OUT_BYTES, Out, write_all};
 pub use repeat_source::RepeatSource;
 pub use retries::MAX_RETRIES;
 pub use sink::{Sink, WriteFailed};

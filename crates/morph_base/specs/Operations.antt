@@ -1,6 +1,6 @@
 -- What an operation reads, and which operations have a valid shape.
 use Rattle.std.specs.Prelude.{◌≡◌, ℕ, ◌≤◌, ◌<◌, Bool, ◌&&◌, ◌==◌, List, ◌∷◌, take, length, slice_index_or}
-use Rattle.morph_base.specs.declared.limits.TheConstants.{MAX, READS}
+use Rattle.morph_base.specs.declared.limits.TheConstants.{MAX, PARAMS, READS}
 use Rattle.morph_base.specs.declared.key.Key.{Key}
 use Rattle.morph_base.specs.declared.key.Layout.{Layout}
 use Rattle.morph_base.specs.declared.operation.Func.{Func}
@@ -28,7 +28,7 @@ least_params Enter = 1
 least_params Charge = 2
 
 abbrev pub most_params : Func → ℕ
-most_params Sum = 3
+most_params Sum = PARAMS
 most_params f = least_params f
 
 -- the keys that an operation reads, place by place: its target, then its parameters

@@ -3,7 +3,8 @@ use crate::limits::PARAMS;
 
 /// How an operation computes the new value of its target.
 ///
-/// It reads x, the target's value, and p1 to p3, the values of its parameters, all before its event; c is its constant.
+/// It reads x, the target's value, and p1, p2 and so on, the values of its parameters, all before its event; c is its
+/// constant.
 #[derive(Clone, Copy, Debug, PartialEq, Eq, Hash)]
 pub enum Func {
     /// x. It has no parameter and never fails.
@@ -14,7 +15,7 @@ pub enum Func {
     Sub,
     /// x + c, with one parameter. It fails where p1 is below c, or above [`MAX`](crate::MAX).
     MoveIn,
-    /// The sum of its one to three parameters. It fails above c.
+    /// The sum of its parameters, which are one to [`PARAMS`](crate::PARAMS). It fails above c.
     Sum,
     /// c where x is 0, else half of x + c, rounded down. It never fails.
     Blend,

@@ -11,7 +11,7 @@ pub enum Origin {
     Op(u32),
 }
 
-/// An operation of a plan. Place 0 reads its target, places 1 to 3 its parameters.
+/// An operation of a plan. Place 0 reads its target, the places from 1 on its parameters.
 #[derive(Clone, Copy, Debug, PartialEq, Eq)]
 pub struct PlanOp {
     pub op: Op,

@@ -1,5 +1,8 @@
+ghost use Rattle.std.specs.Prelude.{◌≡◌, ◌≤◌, ◌∷◌, length};
+ghost use Rattle.morph_base.specs.Operations.{IsShaped, reads, op_of, least_params, most_params};
+
 use crate::key::Key;
-use crate::limits::PARAMS;
+use crate::limits::{MAX, PARAMS};
 
 /// How an operation computes the new value of its target.
 ///
@@ -41,4 +44,26 @@ pub struct Op {
     pub n_params: u8,
     pub func: Func,
     pub c: u64,
+}
+
+impl Op {
+    /// An operation with these parameters, in the first places.
+    ///
+    /// It has a valid shape where its function takes as many parameters and `c` is at most [`MAX`](crate::MAX).
+    pub fn new(func: Func, key: Key, params: &[Key], c: u64) -> Self
+        requires few { length params.now ≤ PARAMS }
+        ensures parts { result ≡ op_of func key params.now c }
+        ensures reads { reads result ≡ key ∷ params.now }
+        ensures shaped { least_params func ≤ length params.now → length params.now ≤ most_params func → c ≤ MAX → IsShaped result }
+    {
+        let mut places = [Key { table: 0, id: 0 }; PARAMS];
+        places[..params.len()].copy_from_slice(params);
+        Op {
+            key,
+            params: places,
+            n_params: params.len() as u8,
+            func,
+            c,
+        }
+    }
 }

@@ -1,3 +1,6 @@
+ghost use Rattle.std.specs.Prelude.{◌↔◌, IsTrue};
+ghost use Rattle.morph_base.specs.Operations.{InLayout};
+
 /// A place where a value is kept: an id in a table. Keys are ordered by table, then by id.
 #[derive(Clone, Copy, Debug, PartialEq, Eq, PartialOrd, Ord, Hash)]
 pub struct Key {
@@ -10,4 +13,13 @@ pub struct Key {
 pub struct Layout {
     pub tables: u8,
     pub size: u32,
+}
+
+impl Layout {
+    /// Whether it has the key.
+    pub fn contains(self, key: Key) -> bool
+        ensures { IsTrue result ↔ InLayout self key }
+    {
+        key.table < self.tables && key.id < self.size
+    }
 }

@@ -1,4 +1,4 @@
-ghost use Rattle.std.specs.Prelude.{◌≡◌, ◌≤◌, ◌∷◌, length};
+ghost use Rattle.std.specs.Prelude.{◌≡◌, ◌≤◌, ◌↔◌, ◌∷◌, length, IsTrue};
 ghost use Rattle.morph_base.specs.Operations.{IsShaped, reads, op_of, least_params, most_params};
 
 use crate::key::Key;
@@ -30,6 +30,20 @@ pub enum Func {
     /// p2 its count of entries. The toll is 2 * (p2 - 50)^2 where p1 is below 4000 and p2 above 50, else 0, as in
     /// Linear Road (Arasu and others, VLDB 2004). It fails above c.
     Charge,
+}
+
+impl Func {
+    /// Whether it takes so many parameters.
+    pub fn takes(self, params: usize) -> bool
+        ensures { IsTrue result ↔ ((least_params self ≤ params) × (params ≤ most_params self)) }
+    {
+        match self {
+            Func::Keep | Func::Add | Func::Sub | Func::Blend | Func::Set => params == 0,
+            Func::MoveIn | Func::Enter => params == 1,
+            Func::Charge => params == 2,
+            Func::Sum => params >= 1 && params <= PARAMS,
+        }
+    }
 }
 
 /// One change of one key, by a function of the values before its event.

@@ -18,6 +18,9 @@ use crate::outcome::Outcome;
 use crate::values::Values;
 use std::alloc::Global;
 
+#[cfg(test)]
+mod tests;
+
 /// Folds a batch into the values, and tells what became of each event, by rising timestamp.
 ///
 /// Where memory is refused the values are those after some first events.

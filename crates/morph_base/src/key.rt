@@ -8,7 +8,7 @@ pub struct Key {
     pub id: u32,
 }
 
-/// Which keys there are: tables numbered from 0, each with ids from 0 and below `size`.
+/// Which keys there are: tables numbered from 0 and below `tables`, each with ids from 0 and below `size`.
 #[derive(Clone, Copy, Debug, PartialEq, Eq)]
 pub struct Layout {
     pub tables: u8,
@@ -16,7 +16,7 @@ pub struct Layout {
 }
 
 impl Layout {
-    /// Whether it has the key.
+    /// Whether the layout has the key.
     pub fn contains(self, key: Key) -> bool
         ensures { IsTrue result ↔ InLayout self key }
     {

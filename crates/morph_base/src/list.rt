@@ -61,7 +61,7 @@ impl<T> List<T> {
         Ok(())
     }
 
-    /// Appends an item where there is spare room.
+    /// Appends an item where there is spare room, and takes no memory.
     pub fn add(&mut self, item: T)
         requires { 0 < self.old.room }
         ensures items { self.new.items ≡ self.old.items ++ item ∷ [] }
@@ -84,7 +84,7 @@ impl<T> List<T> {
         self.vec.is_empty()
     }
 
-    /// The item at place `i`.
+    /// The item at place `i`, counted from 0.
     pub fn get(&self, i: usize) -> &T
         requires { i < length self.now.items }
         ensures item { slice_get self.now.items i ≡ Some result.now }

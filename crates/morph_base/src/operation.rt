@@ -33,7 +33,7 @@ pub enum Func {
 }
 
 impl Func {
-    /// Whether it takes so many parameters.
+    /// Whether the function takes so many parameters.
     pub fn takes(self, params: usize) -> bool
         ensures { IsTrue result ↔ ((least_params self ≤ params) × (params ≤ most_params self)) }
     {
@@ -54,9 +54,11 @@ impl Func {
 pub struct Op {
     /// The target, whose value changes.
     pub key: Key,
+    /// The keys of its parameters, in the first `n_params` places.
     pub params: [Key; PARAMS],
     pub n_params: u8,
     pub func: Func,
+    /// The constant of its function.
     pub c: u64,
 }
 

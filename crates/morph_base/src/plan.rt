@@ -47,7 +47,9 @@ pub struct Edges {
 /// The task precedence graph of a batch: its events by rising timestamp, their operations, and what each one reads.
 #[derive(Debug, Drop)]
 pub struct Plan {
+    /// By rising timestamp.
     pub events: List<PlanEvent>,
+    /// By event, and then in operation order; the place of each is its number.
     pub ops: List<PlanOp>,
     /// For each operation those that read from it, rising, each once.
     pub dependents: List<List<u32>>,

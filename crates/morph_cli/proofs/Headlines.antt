@@ -1,0 +1,139 @@
+-- The headline of a run, from how the run ends.
+use Rattle.std.proofs.Common.{◌≡◌, ℕ, inl, inr, List, [], ◌++◌, Option, Result, Ok, Err, refl, ap, sym, ◌∙◌, arith, append-nil, append_assoc}
+use Rattle.std.specs.Prelude.{IsErrOf}
+use Rattle.morph_base.specs.declared.key.Layout.{Layout}
+use Rattle.morph_io.specs.Told.{behind}
+use Rattle.morph_io.proofs.Putting.{prefix_more}
+use Rattle.event_reader.specs.Steps.{Meaning}
+use Rattle.event_reader.specs.Accepted.{Accepted, Ending, Ended, RefusedAt, CutOff, accepted, accepted_within}
+use Rattle.event_reader.proofs.Fronts.{within_is_first, within_ended, within_refused, within_cut}
+use Rattle.morph_cli.specs.declared.fault.Fault.{Fault}
+use Rattle.morph_cli.specs.declared.fault.Fault.TheVariants.{Read, Write, OutOfMemory, TooLong}
+use Rattle.morph_cli.specs.declared.run.Finish.{Finish}
+use Rattle.morph_cli.specs.declared.run.Finish.TheVariants.{Complete, Refused}
+use Rattle.morph_cli.specs.Text.{event_lines, end_text, whole_text}
+use Rattle.morph_cli.specs.Runs.{EndsSo}
+use Rattle.morph_cli.specs.Status.{status_of}
+use Rattle.morph_cli.specs.Headline.{Headline, Completes}
+use Rattle.morph_cli.proofs.Running.{event_lines-front}
+
+module _ (meaning : Meaning) (layout : Layout) (name : ℕ → List ℕ) (limit : ℕ) (input : List ℕ) where
+  abbrev some : Accepted
+  some = accepted_within meaning limit input
+
+  abbrev all : Accepted
+  all = accepted meaning input
+
+  -- the text of what is read within the limit is a front of the whole text
+  front_of_text : (rest : List ℕ) × (whole_text layout name all ≡ whole_text layout name some ++ rest)
+  front_of_text = by_ending some.ending refl
+    where
+      by_ending : (ending : Ending) → some.ending ≡ ending → (rest : List ℕ) × (whole_text layout name all ≡ whole_text layout name some ++ rest)
+      by_ending Ended is =
+          ([], ap (whole_text layout name) (within_ended meaning limit input is).1 ∙ sym (append-nil (whole_text layout name some)))
+      by_ending (RefusedAt line cause) is =
+          ([], ap (whole_text layout name) (within_refused meaning limit input line cause is) ∙ sym (append-nil (whole_text layout name some)))
+      by_ending CutOff is =
+          let more = (within_is_first meaning limit input).more in
+          let lines = event_lines-front some.batches more in
+          let nothing : whole_text layout name some ≡ event_lines some.batches =
+          ap (λ e. event_lines some.batches ++ end_text layout name some.batches e) is ∙ append-nil (event_lines some.batches) in (
+            lines.0 ++ end_text layout name all.batches all.ending,
+            ap (λ l. l ++ end_text layout name all.batches all.ending) (ap event_lines (within_is_first meaning limit input).batches ∙ lines.1)
+                ∙ append_assoc (event_lines some.batches) lines.0 (end_text layout name all.batches all.ending)
+                ∙ ap (λ l. l ++ (lines.0 ++ end_text layout name all.batches all.ending)) (sym nothing),
+          )
+
+  abbrev Holds : (left old new : Option (List ℕ)) → Result Finish Fault → Type 0
+  Holds left old new r = Headline meaning layout name limit input left old new (status_of r)
+
+  pub headline : (left old new : Option (List ℕ)) (r : Result Finish Fault) → EndsSo meaning layout name limit input left old r new → Holds left old new r
+  headline left old new (Ok Complete) ends =
+      let fits = within_ended meaning limit input ends.0 in
+      record {
+        done = λ is. (fits.0, ap (λ a. a.ending) fits.1 ∙ ends.0, ends.1 ∙ ap (λ a. behind old (whole_text layout name a)) (sym fits.1));
+        refused = λ is. absurd (omega (arith, is));
+        read = λ is. absurd (omega (arith, is));
+        write = λ is. absurd (omega (arith, is));
+        memory = λ is. absurd (omega (arith, is));
+        long = λ is. absurd (omega (arith, is));
+      }
+  headline left old new (Ok Refused) (line, cause, at, appended) =
+      let same = within_refused meaning limit input line cause at in
+      record {
+        done = λ is. absurd (omega (arith, is));
+        refused = λ is. (line, cause, ap (λ a. a.ending) same ∙ at, appended ∙ ap (λ a. behind old (whole_text layout name a)) (sym same));
+        read = λ is. absurd (omega (arith, is));
+        write = λ is. absurd (omega (arith, is));
+        memory = λ is. absurd (omega (arith, is));
+        long = λ is. absurd (omega (arith, is));
+      }
+  headline left old new (Err Read) ends = record {
+    done = λ is. absurd (omega (arith, is));
+    refused = λ is. absurd (omega (arith, is));
+    read = λ is. ends;
+    write = λ is. absurd (omega (arith, is));
+    memory = λ is. absurd (omega (arith, is));
+    long = λ is. absurd (omega (arith, is));
+  }
+  headline left old new (Err Write) ends = record {
+    done = λ is. absurd (omega (arith, is));
+    refused = λ is. absurd (omega (arith, is));
+    read = λ is. absurd (omega (arith, is));
+    write = λ is. prefix_more old new (whole_text layout name some) front_of_text.0 (whole_text layout name all) front_of_text.1 ends;
+    memory = λ is. absurd (omega (arith, is));
+    long = λ is. absurd (omega (arith, is));
+  }
+  headline left old new (Err OutOfMemory) ends = record {
+    done = λ is. absurd (omega (arith, is));
+    refused = λ is. absurd (omega (arith, is));
+    read = λ is. absurd (omega (arith, is));
+    write = λ is. absurd (omega (arith, is));
+    memory = λ is. record {
+      done = ends.done;
+      rest = ends.rest ++ (within_is_first meaning limit input).more;
+      parts = (within_is_first meaning limit input).batches ∙ ap (λ l. l ++ (within_is_first meaning limit input).more) ends.parts
+          ∙ append_assoc ends.done ends.rest (within_is_first meaning limit input).more;
+      appended = ends.appended;
+    };
+    long = λ is. absurd (omega (arith, is));
+  }
+  headline left old new (Err TooLong) ends =
+      let cut = within_cut meaning limit input ends.0 in
+      record {
+        done = λ is. absurd (omega (arith, is));
+        refused = λ is. absurd (omega (arith, is));
+        read = λ is. absurd (omega (arith, is));
+        write = λ is. absurd (omega (arith, is));
+        memory = λ is. absurd (omega (arith, is));
+        long = λ is. (cut.0, ends.0, ends.1 ∙ ap (λ l. behind old (event_lines l)) cut.1);
+      }
+
+  abbrev Comes : Result Finish Fault → Type 0
+  Comes r = Completes meaning limit input (status_of r)
+
+  -- without a fault of the source and the sink, the status is the one that the input asks for, or want of memory
+  pub completes : (left old new : Option (List ℕ)) (r : Result Finish Fault) → EndsSo meaning layout name limit input left old r new
+      → (IsErrOf r Read → ⊥) → (IsErrOf r Write → ⊥) → Comes r
+  completes left old new (Ok Complete) ends reads writes = record {
+    done = λ fits is. inl refl;
+    refused = λ line cause is. absurd (cc);
+    long = λ is. absurd (cc);
+  }
+  completes left old new (Ok Refused) (line, cause, at, appended) reads writes = record {
+    done = λ fits is. let same = within_refused meaning limit input line cause at in absurd (cc);
+    refused = λ line' cause' is. inl refl;
+    long = λ is. absurd (cc);
+  }
+  completes left old new (Err Read) ends reads writes = absurd (reads refl)
+  completes left old new (Err Write) ends reads writes = absurd (writes refl)
+  completes left old new (Err OutOfMemory) ends reads writes = record {
+    done = λ fits is. inr refl;
+    refused = λ line cause is. inr refl;
+    long = λ is. inr refl;
+  }
+  completes left old new (Err TooLong) ends reads writes = record {
+    done = λ fits is. let cut = within_cut meaning limit input ends.0 in absurd (omega (arith, cut.0));
+    refused = λ line cause is. absurd (cc);
+    long = λ is. inl refl;
+  }

@@ -1,0 +1,29 @@
+-- The statuses, and the last line of the notes.
+use Rattle.std.specs.Prelude.{◌≡◌, ℕ, ◌≤◌, ◌==◌, if◌then◌else◌, List, [], codes, Result, Ok, Err}
+use Rattle.morph_cli.specs.declared.fault.Fault.{Fault}
+use Rattle.morph_cli.specs.declared.fault.Fault.TheVariants.{Read, Write, OutOfMemory, TooLong}
+use Rattle.morph_cli.specs.declared.run.Finish.{Finish}
+use Rattle.morph_cli.specs.declared.run.Finish.TheVariants.{Complete, Refused}
+use Rattle.morph_cli.specs.Text.{line}
+
+-- the status of a run
+abbrev pub status_of : Result Finish Fault → ℕ
+status_of (Ok Complete) = 0
+status_of (Ok Refused) = 3
+status_of (Err Read) = 4
+status_of (Err Write) = 5
+status_of (Err OutOfMemory) = 6
+status_of (Err TooLong) = 7
+
+-- the last line of the notes by the status: at 0 and 3 there is none
+abbrev pub note_at : (status : ℕ) → List ℕ
+note_at status =
+    if status == 2 then line (codes "usage: morph app=ledger")
+    else (if status == 4 then line (codes "morph: read failed")
+    else (if status == 5 then line (codes "morph: write failed")
+    else (if status == 6 then line (codes "morph: out of memory")
+    else (if status == 7 then line (codes "morph: input too long") else []))))
+
+-- the statuses: 0, and 2 to 7
+abbrev pub IsStatus : ℕ → Type 0
+IsStatus status = (status ≤ 7) × (status ≡ 1 → ⊥)

@@ -1,0 +1,4 @@
+pub mod ListLemmas
+pub mod LinkLemmas
+pub mod GreatestLemmas
+pub mod ReadLemmas

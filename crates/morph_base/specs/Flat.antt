@@ -3,6 +3,7 @@ use Rattle.std.specs.Prelude.{◌≡◌, ℕ, ◌+◌, ◌*◌, ◌≤◌, Bool,
 use Rattle.morph_base.specs.declared.limits.TheConstants.{MAX}
 use Rattle.morph_base.specs.declared.key.Key.{Key}
 use Rattle.morph_base.specs.declared.key.Layout.{Layout}
+use Rattle.morph_base.specs.Operations.{same_key}
 use Rattle.morph_base.specs.States.{State}
 
 -- where the value of a key stands
@@ -20,3 +21,19 @@ state_in layout values key = if is_in_layout layout key then slice_index values 
 pub record AreValues (layout : Layout) (values : List ℕ) : Type 0 where
   pub len : length values ≡ layout.tables * layout.size
   pub small : All (λ v. v ≤ MAX) values
+
+-- what contracts see of `Values`
+pub record Kept : Type 0 where
+  pub layout : Layout
+  pub values : List ℕ
+
+abbrev pub AreKept : Kept → Type 0
+AreKept k = AreValues k.layout k.values
+
+-- the state that they stand for
+abbrev pub contents : Kept → State
+contents k = state_in k.layout k.values
+
+-- the state with one value changed
+abbrev pub with_value : State → Key → ℕ → State
+with_value s key v k = if same_key key k then v else s k

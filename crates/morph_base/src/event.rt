@@ -1,5 +1,10 @@
+ghost use Rattle.std.specs.Prelude.{◌≡◌, map, IfOk};
+ghost use Rattle.morph_base.specs.Transactions.{transaction_of, transactions_of, by_time, IsBatch};
+
 use crate::list::List;
+use crate::memory::OutOfMemory;
 use crate::operation::Op;
+use std::alloc::Global;
 
 /// What came at one time: operations that are done together or not at all.
 ///
@@ -17,4 +22,16 @@ pub struct Event {
 #[derive(Debug, Drop)]
 pub struct Batch {
     pub events: List<Event>,
+}
+
+impl Batch {
+    /// The events by rising timestamp.
+    pub fn by_time(&self, alloc: Global) -> Result<Vec<&Event>, OutOfMemory>
+        requires { IsBatch self.now }
+        ensures { IfOk result (λ events. map (λ e. transaction_of e.now) events.items ≡ by_time (transactions_of self.now)) }
+    {
+        let mut events: Vec<&Event> = self.events.as_slice().iter().collect(alloc)?;
+        events.sort_by_key(|e| e.ts)?;
+        Ok(events)
+    }
 }

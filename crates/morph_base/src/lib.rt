@@ -1,15 +1,19 @@
 //! The vocabulary of `morph`: values, keys, operations, events, batches, plans, and what they mean.
 #![tactic(auto)]
 
+mod evaluation;
 mod event;
 mod key;
+pub mod laws;
 mod limits;
 mod list;
 mod memory;
 mod operation;
 mod plan;
 mod strategy;
+mod values;
 
+pub use evaluation::eval;
 pub use event::{Batch, Event};
 pub use key::{Key, Layout};
 pub use limits::{EVENT_OPS, EVENTS, LATEST, MAX, PARAMS, READS, WORKERS};
@@ -18,3 +22,4 @@ pub use memory::OutOfMemory;
 pub use operation::{Func, Op};
 pub use plan::{Edges, Origin, Plan, PlanEvent, PlanOp, Settled};
 pub use strategy::{Abort, Explore, Strategy, Unit};
+pub use values::Values;

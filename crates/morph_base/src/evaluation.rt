@@ -1,0 +1,68 @@
+ghost use Rattle.std.specs.Prelude.{◌≡◌, ℕ, ◌+◌, ◌-◌, ◌^◌, ◌<◌, ◌≤◌, length, min, sum, All, IfSome};
+ghost use Rattle.morph_base.specs.Functions.{at_most as at_most_of, toll as toll_of, value_of};
+ghost use Rattle.morph_base.specs.Operations.{IsShaped};
+
+use crate::limits::MAX;
+use crate::operation::{Func, Op};
+
+/// The new value of an operation's target, or `None` where the operation fails, as [`Func`] says for each function.
+///
+/// `xs` has the value of the target and then those of the parameters, each at most [`MAX`], and the operation has a
+/// valid shape.
+#[tactic(auto, unfolding(crate::specs::Functions::value_of))]
+pub fn eval(op: &Op, xs: &[u64]) -> Option<u64>
+    requires shaped { IsShaped op.now }
+    requires reads { length xs.now ≡ op.now.n_params + 1 }
+    requires values { All (λ x. x ≤ MAX) xs.now }
+    ensures value { result ≡ value_of op.now xs.now }
+    ensures small { IfSome result (λ v. v ≤ MAX) }
+{
+    let x = xs[0];
+    let c = op.c;
+    match op.func {
+        Func::Keep => Some(x),
+        Func::Add => at_most(MAX, x + c),
+        Func::Sub => x.checked_sub(c),
+        Func::MoveIn => { if xs[1] < c { None } else { at_most(MAX, x + c) } }
+        Func::Sum => at_most(c, total(&xs[1..])),
+        Func::Blend => Some(if x == 0 { c } else { (x + c) / 2 }),
+        Func::Set => Some(c),
+        Func::Enter => {
+            if xs[1] == c {
+                Some(x)
+            } else {
+                at_most(MAX, x + 1)
+            }
+        }
+        Func::Charge => at_most(c, x.saturating_add(toll(xs[1], xs[2]))),
+    }
+}
+
+/// The value, unless it is above the limit.
+fn at_most(limit: u64, value: u64) -> Option<u64>
+    ensures { result ≡ at_most_of limit value }
+{
+    if value <= limit { Some(value) } else { None }
+}
+
+/// The sum of some values.
+fn total(values: &[u64]) -> u64
+    requires { sum values.now < 2 ^ 64 }
+    ensures { result ≡ sum values.now }
+{
+    values.iter().sum()
+}
+
+/// Linear Road's toll for a segment with this average speed, in hundredths of a mile per hour, and count of entries.
+///
+/// A toll that does not fit is the greatest u64, which is above every limit.
+fn toll(speed: u64, count: u64) -> u64
+    ensures { result ≡ min (toll_of speed count) (2 ^ 64 - 1) }
+{
+    if speed < 4000 && count > 50 {
+        let above = count - 50;
+        above.saturating_mul(above).saturating_mul(2)
+    } else {
+        0
+    }
+}

@@ -8,3 +8,7 @@ mod links;
 mod level_lists;
 mod sources;
 mod dependents;
+mod levels;
+mod operations;
+mod transactions;
+mod events;

@@ -1,5 +1,5 @@
 -- A flat list of values as a state: the value at a key, the opening values, and one value changed.
-use Rattle.std.proofs.Common.{◌≡◌, ◌≢◌, ℕ, zero, suc, subst, ◌+◌, ◌*◌, ◌≤◌, ◌<◌, Bool, true, false, ◌&&◌, cond, nat_lt, List, length, get_or, set, replicate, refl, sym, ◌∙◌, ap, arith, inl, inr, All}
+use Rattle.std.proofs.Common.{◌≡◌, ◌≢◌, ℕ, zero, suc, subst, ◌*◌, ◌≤◌, ◌<◌, true, false, nat_lt, List, length, get_or, set, replicate, refl, sym, ◌∙◌, ap, arith, inl, inr}
 use Rattle.std.proofs.Math.Nat.{mul-le-mul_right}
 use Rattle.std.proofs.Math.Path.{fun_ext}
 use Rattle.std.proofs.lemmas.List.{get_or-set_same, get_or-set_other}
@@ -9,7 +9,7 @@ use Rattle.morph_base.specs.declared.limits.TheConstants.{MAX}
 use Rattle.morph_base.specs.declared.key.Key.{Key}
 use Rattle.morph_base.specs.declared.key.Layout.{Layout}
 use Rattle.morph_base.specs.Operations.{InLayout, same_key}
-use Rattle.morph_base.specs.States.{State, opening_state}
+use Rattle.morph_base.specs.States.{opening_state}
 use Rattle.morph_base.specs.Flat.{place_of, is_in_layout, state_in, AreValues, with_value}
 use Rattle.morph_base.proofs.KeyLaws.{same_key-true, same_key-self, same_key-false}
 
@@ -49,11 +49,11 @@ place-inside l key h =
 pub state_in-small : (l : Layout) (values : List ℕ) → AreValues l values → (key : Key) → state_in l values key ≤ MAX
 state_in-small l values h key =
     elim (cases_Bool (is_in_layout l key)) [
-      inl e ↦
-        let inside : InLayout l key = in_layout-from l key e in
-        let lt : place_of l key < length values = let p = place-inside l key inside in omega (arith, h.len) in
-        rw (state_in-at l values key inside) (h.small (place_of l key) 0 lt)
-    | inr e ↦ rw (state_in-outside l values key e) (omega arith)
+      | inl e ↦
+          let inside : InLayout l key = in_layout-from l key e in
+          let lt : place_of l key < length values = let p = place-inside l key inside in omega (arith, h.len) in
+          rw (state_in-at l values key inside) (h.small (place_of l key) 0 lt)
+      | inr e ↦ rw (state_in-outside l values key e) (omega arith)
     ]
 
 zeros-at : (n i : ℕ) → let zero_value : ℕ = 0 in get_or (replicate n zero_value) i zero_value ≡ zero_value
@@ -74,26 +74,26 @@ put-at : (l : Layout) (values : List ℕ) (key : Key) (v : ℕ) → InLayout l k
     (k : Key) → state_in l (set values (place_of l key) v) k ≡ with_value (state_in l values) key v k
 put-at l values key v h lt k =
     elim (cases_Bool (same_key key k)) [
-      inl e ↦
-        let same : key ≡ k = same_key-true key k e in
-        subst (λ q. state_in l (set values (place_of l key) v) q ≡ with_value (state_in l values) key v q) same
-        (state_in-at l (set values (place_of l key) v) key h
+      | inl e ↦
+          let same : key ≡ k = same_key-true key k e in
+          subst (λ q. state_in l (set values (place_of l key) v) q ≡ with_value (state_in l values) key v q) same
+          (state_in-at l (set values (place_of l key) v) key h
           ∙ get_or-set_same values (place_of l key) v 0 lt
           ∙ sym (cond-true (same_key key key) v (state_in l values key) (same_key-self key)))
-    | inr e ↦
-        elim (cases_Bool (is_in_layout l k)) [
-          inl i ↦
-            let inside : InLayout l k = in_layout-from l k i in
-            let apart : place_of l k ≢ place_of l key = λ p. same_key-false key k e (sym (place-once l k key inside h p)) in
-            state_in-at l (set values (place_of l key) v) k inside
-            ∙ get_or-set_other values (place_of l key) (place_of l k) v 0 apart
-            ∙ sym (state_in-at l values k inside)
-            ∙ sym (cond-false (same_key key k) v (state_in l values k) e)
-        | inr i ↦
-            state_in-outside l (set values (place_of l key) v) k i
-            ∙ sym (state_in-outside l values k i)
-            ∙ sym (cond-false (same_key key k) v (state_in l values k) e)
-        ]
+      | inr e ↦
+          elim (cases_Bool (is_in_layout l k)) [
+            | inl i ↦
+                let inside : InLayout l k = in_layout-from l k i in
+                let apart : place_of l k ≢ place_of l key = λ p. same_key-false key k e (sym (place-once l k key inside h p)) in
+                state_in-at l (set values (place_of l key) v) k inside
+                ∙ get_or-set_other values (place_of l key) (place_of l k) v 0 apart
+                ∙ sym (state_in-at l values k inside)
+                ∙ sym (cond-false (same_key key k) v (state_in l values k) e)
+            | inr i ↦
+                state_in-outside l (set values (place_of l key) v) k i
+                ∙ sym (state_in-outside l values k i)
+                ∙ sym (cond-false (same_key key k) v (state_in l values k) e)
+          ]
     ]
 
 -- a value put at a key's place

@@ -2,8 +2,17 @@ pub mod KeyLaws
 pub mod Rising
 pub mod TimeLaws
 pub mod FlatLaws
+pub mod PlainLaws
 pub mod StateLaws
 pub mod PlanLaws
 pub mod SourceLaws
 pub mod OutcomeLaws
 pub mod CleanLaws
+pub mod EndLaws
+pub mod BaseLaws
+pub mod FillLaws
+pub mod GraphFillLaws
+pub mod NumberLaws
+pub mod BoundLaws
+pub mod FateLaws
+pub mod GuessLaws

@@ -17,7 +17,7 @@ use Rattle.morph_base.proofs.SourceLaws.{source_law}
 
 -- ---- lists
 
-map-agree : {X Y : Type 0} (f g : X → Y) (xs : List X) (d : X) → ((j : ℕ) → j < length xs → f (get_or xs j d) ≡ g (get_or xs j d)) → map f xs ≡ map g xs
+pub map-agree : {X Y : Type 0} (f g : X → Y) (xs : List X) (d : X) → ((j : ℕ) → j < length xs → f (get_or xs j d) ≡ g (get_or xs j d)) → map f xs ≡ map g xs
 map-agree f g [] d each = refl
 map-agree {Y = Y} f g (x ∷ xs) d each =
     ap (λ y. y ∷ map f xs) (each 0 (zero-lt-suc (length xs)))

@@ -1,5 +1,5 @@
 -- A state kept as one flat list of values, table after table.
-use Rattle.std.specs.Prelude.{◌≡◌, ℕ, ◌+◌, ◌*◌, ◌≤◌, Bool, ◌&&◌, nat_lt, if◌then◌else◌, List, length, All, slice_index}
+use Rattle.std.specs.Prelude.{◌≡◌, ℕ, ◌+◌, ◌*◌, ◌≤◌, Bool, ◌&&◌, nat_lt, if◌then◌else◌, List, [], ◌∷◌, length, All, slice_index}
 use Rattle.morph_base.specs.declared.limits.TheConstants.{MAX}
 use Rattle.morph_base.specs.declared.key.Key.{Key}
 use Rattle.morph_base.specs.declared.key.Layout.{Layout}
@@ -37,3 +37,9 @@ contents k = state_in k.layout k.values
 -- the state with one value changed
 abbrev pub with_value : State → Key → ℕ → State
 with_value s key v k = if same_key key k then v else s k
+
+-- the state with the values put at the keys: where a key comes twice the first value stands
+unfoldable pub put_all : State → List Key → List ℕ → State
+put_all s [] vs k = s k
+put_all s (key ∷ keys) [] k = s k
+put_all s (key ∷ keys) (v ∷ vs) k = if same_key key k then v else put_all s keys vs k

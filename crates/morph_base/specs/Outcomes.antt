@@ -1,5 +1,6 @@
 -- What becomes of transactions: the verdict on each, and the values of its targets after it.
 use Rattle.std.specs.Prelude.{ℕ, Bool, List, [], ◌∷◌, map}
+use Rattle.morph_base.specs.declared.outcome.Outcome.{Outcome}
 use Rattle.morph_base.specs.Transactions.{Transaction, targets}
 use Rattle.morph_base.specs.States.{State, commits, after}
 
@@ -7,6 +8,9 @@ pub record Fate : Type 0 where
   pub ts : ℕ
   pub committed : Bool
   pub values : List ℕ
+
+abbrev pub fate_of : Outcome → Fate
+fate_of o = record { ts = o.ts; committed = o.committed; values = o.values.items }
 
 -- the verdict on a transaction in the state before it, and its targets' values in the state after it
 abbrev pub fate : State → Transaction → Fate

@@ -1,5 +1,5 @@
 -- The state, the state after an event, and the fold of a batch in timestamp order.
-use Rattle.std.specs.Prelude.{ℕ, Bool, true, ◌&&◌, if◌then◌else◌, List, [], ◌∷◌, map, Option, is_some, unwrap_or}
+use Rattle.std.specs.Prelude.{ℕ, zero, suc, Bool, true, ◌&&◌, if◌then◌else◌, List, [], ◌∷◌, map, Option, is_some, unwrap_or}
 use Rattle.morph_base.specs.declared.key.Key.{Key}
 use Rattle.morph_base.specs.declared.operation.Op.{Op}
 use Rattle.morph_base.specs.declared.event.Batch.{Batch}
@@ -45,3 +45,8 @@ after_all s (e ∷ es) = after_all (after s e) es
 -- the fold of a batch: its events one at a time by rising timestamp
 abbrev pub fold_batch : Batch → State → State
 fold_batch batch s = after_all s (by_time (transactions_of batch))
+
+-- the state overwritten one place after another: for each number below n, in order, the value at its target
+unfoldable pub overwritten : (target : ℕ → Key) (value : ℕ → ℕ) → State → ℕ → State
+overwritten target value s zero key = s key
+overwritten target value s (suc n) key = if same_key (target n) key then value n else overwritten target value s n key

@@ -1,6 +1,5 @@
-use Rattle.std.proofs.Common.{◌≡◌, ℕ, ◌<◌, ◌∙◌, sym, ap, arith, length, get_or}
+use Rattle.std.proofs.Common.{◌<◌, ◌∙◌, sym, ap, arith, length, get_or}
 use Rattle.std.proofs.lemmas.List.{get_or_default}
-use Rattle.morph_base.specs.declared.key.Layout.{Layout}
 use Rattle.morph_base.specs.Operations.{InLayout}
 use Rattle.morph_base.proofs.FlatLaws.{state_in-at}
 use Rattle.morph_base.proofs.values.Values.get.Goals as goal
@@ -12,4 +11,4 @@ returns-clause-value c =
     let at = c.index.ensures ∙ get_or_default c.self.inside.values.items c.place.result c.index.result.now 0 lt in
     rw (← c.self.view_is)
     (at ∙ ap (λ i. get_or c.self.inside.values.items i 0) c.place.ensures.place
-      ∙ sym (state_in-at c.self.inside.layout c.self.inside.values.items c.args.key h))
+    ∙ sym (state_in-at c.self.inside.layout c.self.inside.values.items c.args.key h))

@@ -1,4 +1,3 @@
-use Rattle.std.proofs.Common.{◌≤◌}
 use Rattle.morph_base.proofs.FlatLaws.{state_in-small}
 use Rattle.morph_base.proofs.values.Values.layout.Goals as goal
 

@@ -1,5 +1,3 @@
-use Rattle.std.proofs.Common.{◌∙◌, ap}
-use Rattle.morph_base.specs.Flat.{state_in}
 use Rattle.morph_base.proofs.FlatLaws.{state_in-zeros}
 use Rattle.morph_base.proofs.values.Values.new.Goals as goal
 

@@ -1,0 +1,77 @@
+use Rattle.std.proofs.Common.{◌≡◌, ◌∙◌, refl, sym, ap, subst, map, take, ℕ, ◌+◌, ◌<◌, List, [], ◌∷◌, ◌++◌, Bor, All, length, get_or, arith}
+use Rattle.std.proofs.Math.ListN.{get_or-map, length-map}
+use Rattle.std.proofs.lemmas.List.{map_more, map-append}
+use Rattle.std.proofs.lemmas.List.Sorted.{All-permutation}
+use Rattle.morph_base.specs.declared.event.Event.{Event}
+use Rattle.morph_base.specs.declared.outcome.Outcome.{Outcome}
+use Rattle.morph_base.specs.Transactions.{Transaction, transaction_of, transactions_of, by_time, IsTransaction, HasKeysIn}
+use Rattle.morph_base.specs.States.{State, after, after_all}
+use Rattle.morph_base.specs.Outcomes.{fate, fates, fate_of}
+use Rattle.morph_base.specs.Flat.{contents}
+use Rattle.morph_base.proofs.TimeLaws.{by_time-permutes}
+use Rattle.morph_base.proofs.StateLaws.{after_all-nil, after_all-push}
+use Rattle.morph_base.proofs.PlainLaws.{fates-nil, fates-push}
+use Rattle.morph_base.proofs.plain.fold.Goals as goal
+
+abbrev seen : Bor Event → Transaction
+seen e = transaction_of e.now
+
+-- what holds of each transaction of the batch holds of each in order
+holds_at : (P : Transaction → Type 0) (es : List Transaction) (items : List (Bor Event)) (i : ℕ) (x : Bor Event) → map seen items ≡ by_time es →
+    All P es → i < length items → x ≡ get_or items i x → P (seen x)
+holds_at P es items i x same all lt is =
+    let sorted : All P (map seen items) = subst (All P) (sym same) (All-permutation P es (by_time es) (by_time-permutes es) all) in
+    let here = sorted i (seen x) (simp length-map lt) in
+    subst P (get_or-map seen items i x ∙ ap seen (sym is)) here
+
+front-more : (items : List (Bor Event)) (i : ℕ) (x : Bor Event) → i < length items → x ≡ get_or items i x →
+    map seen (take (i + 1) items) ≡ map seen (take i items) ++ seen x ∷ []
+front-more items i x lt is = map_more seen items i x lt ∙ ap (λ y. map seen (take i items) ++ seen y ∷ []) (sym is)
+
+state-more : (s t u : State) (items : List (Bor Event)) (i : ℕ) (x : Bor Event) → i < length items → x ≡ get_or items i x →
+    t ≡ after_all s (map seen (take i items)) → u ≡ after t (seen x) → u ≡ after_all s (map seen (take (i + 1) items))
+state-more s t u items i x lt is so_far one =
+    one ∙ ap (λ r. after r (seen x)) so_far ∙ sym (after_all-push s (map seen (take i items)) (seen x)) ∙ ap (after_all s) (sym (front-more items i x lt is))
+
+told-more : (s t : State) (items : List (Bor Event)) (i : ℕ) (x : Bor Event) (os ps : List Outcome) (o : Outcome) → i < length items →
+    x ≡ get_or items i x → t ≡ after_all s (map seen (take i items)) → map fate_of os ≡ fates s (map seen (take i items)) → fate_of o ≡ fate t (seen x) →
+    ps ≡ os ++ o ∷ [] → map fate_of ps ≡ fates s (map seen (take (i + 1) items))
+told-more s t items i x os ps o lt is state so_far one more =
+    ap (map fate_of) more ∙ map-append fate_of os (o ∷ [])
+    ∙ ap (λ l. l ++ fate_of o ∷ []) so_far
+    ∙ ap (λ f. fates s (map seen (take i items)) ++ f ∷ []) (one ∙ ap (λ r. fate r (seen x)) state)
+    ∙ sym (fates-push s (map seen (take i items)) (seen x))
+    ∙ ap (fates s) (sym (front-more items i x lt is))
+
+pub loop-event-init : goal.loop-event-init
+loop-event-init c =
+    let s = contents c.args.values.now in
+    record {
+      layout = refl;
+      state = sym (after_all-nil s);
+      told = ap (map fate_of) c.in_ok-outcomes.ensures.items ∙ sym (fates-nil s);
+      room = omega (arith, c.in_ok-outcomes.ensures.room, c.len.ensures, c.deref-event-items.ensures.len);
+    }
+
+pub apply-requires-clause-event : goal.apply-requires-clause-event
+apply-requires-clause-event c =
+    holds_at IsTransaction (transactions_of c.args.batch.now) c.deref-event-items.result.now c.loop-event.event-index c.event-item.result
+    (ap (map seen) c.deref-event-items.ensures.value ∙ c.in_ok-events.ensures) c.requires.batch.valid c.loop-event-test.true c.event-item.is
+
+pub apply-requires-clause-keys : goal.apply-requires-clause-keys
+apply-requires-clause-keys c =
+    rw c.loop-event.invariant.layout
+    (holds_at (HasKeysIn c.args.values.now.layout) (transactions_of c.args.batch.now) c.deref-event-items.result.now c.loop-event.event-index
+    c.event-item.result (ap (map seen) c.deref-event-items.ensures.value ∙ c.in_ok-events.ensures) c.requires.keys c.loop-event-test.true c.event-item.is)
+
+pub loop-event-preserved : goal.loop-event-preserved
+loop-event-preserved c =
+    let s = contents c.args.values.now in
+    record {
+      layout = c.in_ok-apply.ensures.layout ∙ c.loop-event.invariant.layout;
+      state = state-more s _ _ c.deref-event-items.result.now c.loop-event.event-index c.event-item.result c.loop-event-test.true c.event-item.is
+          c.loop-event.invariant.state c.in_ok-apply.ensures.state;
+      told = told-more s _ c.deref-event-items.result.now c.loop-event.event-index c.event-item.result c.loop-event.outcomes.items _ c.in_ok-apply.field-0
+          c.loop-event-test.true c.event-item.is c.loop-event.invariant.state c.loop-event.invariant.told c.in_ok-apply.ensures.fate c.add.ensures.items;
+      room = omega arith;
+    }

@@ -1,0 +1,14 @@
+//! The order of transactions by time.
+ghost use Rattle.std.specs.Prelude.{◌≡◌, List, map, nat_eq};
+ghost use Rattle.std.specs.List.{IsDistinct};
+ghost use Rattle.std.specs.List.Sorted.{IsPermutation, IsNonDecreasingBy};
+ghost use Rattle.morph_base.specs.Transactions.{Transaction, time, by_time};
+
+/// `by_time` has the same transactions, by rising time; where their times differ it is the one order that has.
+///
+/// So whoever orders the events of a batch by any sort has its order.
+pub fn by_rising_time()
+    ensures same { (es : List Transaction) → IsPermutation es (by_time es) }
+    ensures rises { (es : List Transaction) → IsNonDecreasingBy time (by_time es) }
+    ensures once { (es fs : List Transaction) → IsDistinct nat_eq (map time es) → IsPermutation es fs → IsNonDecreasingBy time fs → fs ≡ by_time es }
+{}

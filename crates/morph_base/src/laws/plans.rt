@@ -1,0 +1,54 @@
+//! Valid plans: their bases, their numbers and the bounds of their values.
+ghost use Rattle.std.specs.Prelude.{◌≡◌, ℕ, ◌+◌, ◌*◌, ◌<◌, ◌≤◌, List, length, take, All, Some, sum_by};
+ghost use Rattle.morph_base.specs.declared.limits.TheConstants.{MAX, EVENT_OPS, EVENTS};
+ghost use Rattle.morph_base.specs.declared.key.Key.{Key};
+ghost use Rattle.morph_base.specs.declared.key.Layout.{Layout};
+ghost use Rattle.morph_base.specs.declared.operation.Op.{Op};
+ghost use Rattle.morph_base.specs.declared.plan.Origin.TheVariants.{Op as Written};
+ghost use Rattle.morph_base.specs.declared.plan.Plan.{Plan};
+ghost use Rattle.morph_base.specs.States.{State, after_all};
+ghost use Rattle.morph_base.specs.Functions.{value_of};
+ghost use Rattle.morph_base.specs.Operations.{IsShaped};
+ghost use Rattle.morph_base.specs.Transactions.{Transaction, IsTransaction};
+ghost use Rattle.morph_base.specs.Plans.{IsPlan, HasBases, PlanKeysIn, event_count, op_count, event_at, event_of, keys_of, origin_at, transactions, filled_plan, opening, state_at, final};
+ghost use Rattle.morph_base.specs.Graphs.{IsGraph};
+
+/// A valid plan whose bases are filled in from a state of values is a valid plan with the bases of that state. It keeps its
+/// transactions, its keys and its graph.
+///
+/// So a plan can be built before the state that it will start from is known.
+pub fn filling()
+    ensures plan { (p : Plan) (s : State) → IsPlan p → ((key : Key) → s key ≤ MAX) → IsPlan (filled_plan s p) }
+    ensures bases { (p : Plan) (s : State) → IsPlan p → ((key : Key) → s key ≤ MAX) → HasBases (filled_plan s p) s }
+    ensures graph { (p : Plan) (s : State) → IsGraph p → IsGraph (filled_plan s p) }
+    ensures events { (p : Plan) (s : State) → transactions (filled_plan s p) ≡ transactions p }
+    ensures keys { (p : Plan) (s : State) (layout : Layout) → PlanKeysIn p layout → PlanKeysIn (filled_plan s p) layout }
+{}
+
+/// The operations of a valid plan are numbered without a gap: an event's first follows all those of the events before it.
+/// So there are at most [`EVENT_OPS`](crate::EVENT_OPS) times [`EVENTS`](crate::EVENTS).
+///
+/// What is kept for each operation has its size from it.
+pub fn numbers()
+    ensures first { (p : Plan) (i : ℕ) → IsPlan p → i < event_count p → (event_at p i).first ≡ sum_by (λ e. e.count) (take i p.events.items) }
+    ensures all { (p : Plan) → IsPlan p → op_count p ≡ sum_by (λ e. e.count) p.events.items }
+    ensures few { (p : Plan) → IsPlan p → op_count p ≤ EVENT_OPS * EVENTS }
+{}
+
+/// A source is an operation of an earlier event, with a smaller number.
+///
+/// So whoever goes up the numbers, the events or the levels finds all sources settled.
+pub fn sources_come_first()
+    ensures { (p : Plan) (o j t : ℕ) → IsPlan p → o < op_count p → j < length (keys_of p o) → origin_at p o j ≡ Written t
+        → (t < o) × (event_of p t < event_of p o) }
+{}
+
+/// Values stay at most [`MAX`](crate::MAX): the answer of an operation of valid shape on values, each key of a state after
+/// transactions, the state that a plan's bases tell, and the value of each operation.
+pub fn values_stay_small()
+    ensures answers { (op : Op) (xs : List ℕ) (v : ℕ) → value_of op xs ≡ Some v → IsShaped op → All (λ x. x ≤ MAX) xs → v ≤ MAX }
+    ensures folds { (s : State) (es : List Transaction) (key : Key) → All IsTransaction es → ((k : Key) → s k ≤ MAX) → after_all s es key ≤ MAX }
+    ensures states { (p : Plan) (s : State) (i : ℕ) (key : Key) → IsPlan p → ((k : Key) → s k ≤ MAX) → state_at p s i key ≤ MAX }
+    ensures opening { (p : Plan) (key : Key) → IsPlan p → opening p key ≤ MAX }
+    ensures values { (p : Plan) (o : ℕ) → IsPlan p → final p o ≤ MAX }
+{}

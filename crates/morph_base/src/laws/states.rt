@@ -1,0 +1,31 @@
+//! The state after the events of a plan, told by the values of its operations.
+ghost use Rattle.std.specs.Prelude.{◌≡◌, ℕ, ◌<◌, ◌≤◌};
+ghost use Rattle.morph_base.specs.declared.key.Key.{Key};
+ghost use Rattle.morph_base.specs.declared.event.Batch.{Batch};
+ghost use Rattle.morph_base.specs.declared.plan.Plan.{Plan};
+ghost use Rattle.morph_base.specs.States.{State, fold_batch, overwritten};
+ghost use Rattle.morph_base.specs.Plans.{IsPlan, IsPlanOf, HasBases, IsLastWriterIn, IsUnwrittenIn, op_count, event_of, target, state_at, event_count, final};
+
+/// The state after the first i events of a plan: a key that one of their operations changes has the fold's value of the
+/// last that does, each other key what it had before the batch. As one equation of states: the state before the batch,
+/// overwritten by the operations of the first i events in order, where these are the first n.
+///
+/// A version of a key at a time is read by it, from the values of the operations alone.
+pub fn versions()
+    ensures written { (p : Plan) (s : State) (i : ℕ) (key : Key) (o : ℕ) → IsPlan p → HasBases p s → IsLastWriterIn p i key o
+        → state_at p s i key ≡ final p o }
+    ensures unwritten { (p : Plan) (s : State) (i : ℕ) (key : Key) → IsPlan p → IsUnwrittenIn p i key → state_at p s i key ≡ s key }
+    ensures overwritten { (p : Plan) (s : State) (n i : ℕ) → IsPlan p → HasBases p s → n ≤ op_count p
+        → ((o : ℕ) → o < n → event_of p o < i) → ((o : ℕ) → n ≤ o → o < op_count p → i ≤ event_of p o)
+        → overwritten (target p) (final p) s n ≡ state_at p s i }
+{}
+
+/// The state after a batch is the state before it, overwritten by all operations of its plan in order, so that each target
+/// has the fold's value of the last operation on it; and it is the fold of the batch.
+///
+/// The state is brought up to date by it once a plan is settled.
+pub fn end_of_batch()
+    ensures overwritten { (p : Plan) (s : State) → IsPlan p → HasBases p s
+        → overwritten (target p) (final p) s (op_count p) ≡ state_at p s (event_count p) }
+    ensures fold { (b : Batch) (p : Plan) (s : State) → IsPlanOf b p → state_at p s (event_count p) ≡ fold_batch b s }
+{}

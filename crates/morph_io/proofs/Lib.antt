@@ -1,0 +1,4 @@
+pub mod Moved
+pub mod Pieces
+pub mod Putting
+pub mod Repeating

@@ -1,0 +1,97 @@
+ghost use Rattle.std.specs.Prelude.{◌≡◌, ℕ, ◌+◌, ◌≤◌, ◌↔◌, List, [], ◌++◌, length, take, decimal, IsTrue};
+ghost use Rattle.morph_io.specs.declared.line_buf.TheConstants.{LINE_BYTES};
+
+use crate::copying::copy_to;
+use itoa::write_digits;
+use std::marker::Model;
+
+/// How many bytes a [`LineBuf`] has room for.
+pub const LINE_BYTES: usize = 400;
+
+/// The most decimal digits that a `u64` has.
+const MAX_DIGITS: usize = 20;
+
+/// A line that is being written, in memory of its own, which contracts see as the list of its bytes.
+#[derive(Debug, Drop)]
+pub struct LineBuf {
+    bytes: [u8; LINE_BYTES],
+    len: usize,
+}
+
+impl Model for LineBuf {
+    ghost Value = { List ℕ };
+
+    ghost view = { λ line. take line.len line.bytes };
+
+    ghost invariant = { λ line. line.len ≤ LINE_BYTES };
+}
+
+impl LineBuf {
+    /// An empty line.
+    pub fn new() -> Self
+        ensures { result ≡ [] }
+    {
+        LineBuf {
+            bytes: [0; LINE_BYTES],
+            len: 0,
+        }
+    }
+
+    /// The number of bytes, at most [`LINE_BYTES`].
+    pub fn len(&self) -> usize
+        ensures len { result ≡ length self.now }
+        ensures bound { result ≤ LINE_BYTES }
+    {
+        self.len
+    }
+
+    /// Whether the line has no byte.
+    pub fn is_empty(&self) -> bool
+        ensures { IsTrue result ↔ (self.now ≡ []) }
+    {
+        self.len == 0
+    }
+
+    /// Empties the line.
+    pub fn clear(&mut self)
+        ensures { self.new ≡ [] }
+    {
+        self.len = 0;
+    }
+
+    /// Appends `word`.
+    pub fn word(&mut self, word: &[u8])
+        requires { length self.old + length word.now ≤ LINE_BYTES }
+        ensures { self.new ≡ self.old ++ word.now }
+    {
+        copy_to(&mut self.bytes, self.len, word);
+        self.len += word.len();
+    }
+
+    /// Appends the decimal digits of `n`, with no zeros in front: at most 20 bytes.
+    pub fn number(&mut self, n: u64)
+        requires { length self.old + 20 ≤ LINE_BYTES }
+        ensures digits { self.new ≡ self.old ++ decimal n }
+        ensures bound { length self.new ≤ length self.old + 20 }
+    {
+        let mut digits = [0; MAX_DIGITS];
+        let start = write_digits(n, &mut digits, MAX_DIGITS);
+        self.word(&digits[start..]);
+    }
+
+    /// The bytes of the line.
+    pub fn bytes(&self) -> &[u8]
+        ensures bytes { result.now ≡ self.now }
+        ensures bound { length result.now ≤ LINE_BYTES }
+    {
+        &self.bytes[..self.len]
+    }
+}
+
+impl Default for LineBuf {
+    ghost is_default = { λ line. line ≡ [] };
+
+    fn default() -> Self {
+        LineBuf::new()
+    }
+}

@@ -1,0 +1,41 @@
+ghost use Rattle.std.specs.Prelude.{◌≡◌, ℕ, ◌<◌, ◌≤◌, List, Option, length, take, IfOk, OnErr};
+ghost use Rattle.morph_io.specs.Told.{behind, HasRisen};
+
+use std::error::Error;
+use std::fmt;
+
+/// A write that failed: nothing was appended, and the sink's count of faults rose.
+#[derive(Clone, Copy, Debug, PartialEq, Eq, Hash)]
+pub struct WriteFailed;
+
+impl fmt::Display for WriteFailed {
+    fn fmt<W: fmt::Write>(&self, f: &mut fmt::Formatter<W>) -> fmt::Result {
+        f.write_str("write failed")
+    }
+}
+
+impl Error for WriteFailed {}
+
+/// Where bytes go.
+///
+/// Its meanings are the bytes written, where it tells them, and a count of faults that never falls. The count is a
+/// `u64`: where it stands at its last value it counts as risen in every call.
+pub trait Sink {
+    /// The bytes that were written so far, or `None` where the sink tells nothing of them.
+    ghost written: { Self → Option (List ℕ) };
+
+    /// How many writes have failed so far.
+    ghost faults: { Self → ℕ };
+
+    /// Appends the first bytes of `piece`, and answers how many: at least one, and at most all.
+    ///
+    /// `Err` comes only where the count of faults rose in this call, and nothing was appended then.
+    fn write(&mut self, piece: &[u8]) -> Result<usize, WriteFailed>
+        requires { 0 < length piece.now }
+        ensures some { IfOk result (λ n. 0 < n) }
+        ensures bound { IfOk result (λ n. n ≤ length piece.now) }
+        ensures bytes { IfOk result (λ n. written self.new ≡ behind (written self.old) (take n piece.now)) }
+        ensures kept { OnErr result (written self.new ≡ written self.old) }
+        ensures never_falls { faults self.old ≤ faults self.new }
+        ensures cause { OnErr result (HasRisen (faults self.old) (faults self.new)) };
+}

@@ -1,0 +1,42 @@
+ghost use Rattle.std.specs.Prelude.{◌≡◌, ℕ, ◌<◌, ◌≤◌, List, Option, length, take, IfOk, OnErr};
+ghost use Rattle.morph_io.specs.Told.{ahead, IsAtEnd, HasRisen};
+
+use std::error::Error;
+use std::fmt;
+
+/// A read that failed: nothing was taken, and the source's count of faults rose.
+#[derive(Clone, Copy, Debug, PartialEq, Eq, Hash)]
+pub struct ReadFailed;
+
+impl fmt::Display for ReadFailed {
+    fn fmt<W: fmt::Write>(&self, f: &mut fmt::Formatter<W>) -> fmt::Result {
+        f.write_str("read failed")
+    }
+}
+
+impl Error for ReadFailed {}
+
+/// Where bytes come from.
+///
+/// Its meanings are the bytes left, where it tells them, and a count of faults that never falls. The count is a
+/// `u64`: where it stands at its last value it counts as risen in every call.
+pub trait Source {
+    /// The bytes that are still to be read, or `None` where the source tells nothing of them.
+    ghost left: { Self → Option (List ℕ) };
+
+    /// How many reads have failed so far.
+    ghost faults: { Self → ℕ };
+
+    /// Moves the first bytes that are left into the front of `buf`, and answers how many: at least one, or 0 at the
+    /// end of the input.
+    ///
+    /// `Err` comes only where the count of faults rose in this call, and the bytes left are then as before.
+    fn read(&mut self, buf: &mut [u8]) -> Result<usize, ReadFailed>
+        requires { 0 < length buf.old }
+        ensures bound { IfOk result (λ n. n ≤ length buf.new) }
+        ensures bytes { IfOk result (λ n. left self.old ≡ ahead (take n buf.new) (left self.new)) }
+        ensures end { IfOk result (λ n. n ≡ 0 → IsAtEnd (left self.new)) }
+        ensures kept { OnErr result (left self.new ≡ left self.old) }
+        ensures never_falls { faults self.old ≤ faults self.new }
+        ensures cause { OnErr result (HasRisen (faults self.old) (faults self.new)) };
+}

@@ -3,16 +3,17 @@ use Rattle.std.proofs.Common.{◌≡◌, ℕ, ◌+◌, ◌<◌, ◌≤◌, List,
 use Rattle.std.specs.Prelude.{All}
 use Rattle.std.specs.List.{flat_map}
 use Rattle.std.proofs.lemmas.Bool.{cases_lt}
-use Rattle.std.proofs.lemmas.List.{take_more, length-map, length-take, map_push, get_or_append_left, get_or_push}
+use Rattle.std.proofs.lemmas.List.{take_more, length-map, length-take, map_push, get_or_append_left, get_or_push, get_or-map, get_or_default, take_all}
 use Rattle.std.proofs.lemmas.List.Elements.{All-nil, All-head, All-tail, All-append, All-push, All-weaker}
-use Rattle.morph_base.specs.declared.plan.Origin.{Origin}
+use Rattle.morph_base.specs.declared.limits.TheConstants.{EVENT_OPS, EVENTS}
 use Rattle.morph_base.specs.declared.plan.PlanOp.{PlanOp}
 use Rattle.morph_base.specs.declared.plan.PlanEvent.{PlanEvent}
 use Rattle.morph_base.specs.Numbering.{IsWithin}
 use Rattle.morph_base.specs.Plans.{no_event}
 use Rattle.morph_base.specs.Graphs.{greatest, level_of}
+use Rattle.txn_splitter.specs.declared.txns.TxnEvent.{TxnEvent}
 use Rattle.txn_splitter.specs.declared.txns.Txns.{Txns}
-use Rattle.txn_splitter.specs.Txns.{IsTxns, no_txn, txn_count, txn_op_count, txn_at, txn_of}
+use Rattle.txn_splitter.specs.Txns.{IsTxns, no_txn, txn_count, txn_op_count, txn_at}
 use Rattle.txn_splitter.proofs.TxnLemmas.{txn_end}
 use Rattle.precedence_graph.specs.Planned.{IsOfEarlier, IsReady, sources_of, planned, event_level_in, event_sources_of, members_of, txn_event, ArePlanned, AreEventsPlanned}
 use Rattle.precedence_graph.proofs.PlannedLemmas.{levels_low, levels_agree}
@@ -37,8 +38,8 @@ module _ (x : Txns) (is : IsTxns x) (ops : List PlanOp) (done : ArePlanned x (tx
       let many : length ops ≡ txn_op_count x = done.many in
       All-part (λ q. All (IsOfEarlier ops i) (sources_of q)) ops _ _ (omega arith)
       (λ o from below. let within : IsWithin (txn_at x i).first (txn_at x i).count o = record { from = from; below = below } in
-        let owned = is.numbering.owned i o lt within in
-        subst (λ e. All (IsOfEarlier ops e) (sources_of (planned ops o))) owned.1 (planned_earlier x is ops done o owned.0))
+      let owned = is.numbering.owned i o lt within in
+      subst (λ e. All (IsOfEarlier ops e) (sources_of (planned ops o))) owned.1 (planned_earlier x is ops done o owned.0))
 
   event_earlier : (i : ℕ) → i < txn_count x → All (IsOfEarlier ops i) (event_sources_of (members_of x ops i))
   event_earlier i lt = All-flat_map (IsOfEarlier ops i) sources_of (members_of x ops i) (members_earlier i lt)
@@ -62,10 +63,30 @@ module _ (x : Txns) (is : IsTxns x) (ops : List PlanOp) (done : ArePlanned x (tx
       record {
         events_are = map_push txn_event events e ∙ ap (λ xs. xs ++ txn_event e ∷ []) so_far.events_are ∙ ap (λ t. take n x.events.items ++ t ∷ []) event_is ∙ sym (take_more x.events.items n no_txn lt);
         level_is = λ i below. elim (cases_lt i n) [
-            inl less ↦ ap (λ q. q.level) (get_or_append_left events (e ∷ []) no_event i (omega arith)) ∙ so_far.level_is i less ∙ ap (λ ls. 1 + greatest ls) (sym (levels_stay i n events (e ∷ []) (omega arith) (omega arith) many))
+          | inl less ↦ ap (λ q. q.level) (get_or_append_left events (e ∷ []) no_event i (omega arith)) ∙ so_far.level_is i less ∙ ap (λ ls. 1 + greatest ls) (sym (levels_stay i n events (e ∷ []) (omega arith) (omega arith) many))
           | inr more ↦ let last : n ≡ i = omega arith in
-            subst (λ k. (get_or (events ++ e ∷ []) k no_event).level ≡ 1 + greatest (map (level_of (event_level_in ops (events ++ e ∷ []))) (event_sources_of (members_of x ops k)))) last
-            (ap (λ q. q.level) (get_or_push events e no_event n many) ∙ level_is ∙ ap (λ ls. 1 + greatest ls) (sym (levels_stay n n events (e ∷ []) (omega arith) lt many)))
-          ];
+              subst (λ k. (get_or (events ++ e ∷ []) k no_event).level ≡ 1 + greatest (map (level_of (event_level_in ops (events ++ e ∷ []))) (event_sources_of (members_of x ops k)))) last
+              (ap (λ q. q.level) (get_or_push events e no_event n many) ∙ level_is ∙ ap (λ ls. 1 + greatest ls) (sym (levels_stay n n events (e ∷ []) (omega arith) lt many)))
+        ];
         low = All-push (λ q. q.level ≤ n + 1) events e (All-weaker (λ q. q.level ≤ n) (λ q. q.level ≤ n + 1) (λ q h. omega arith) events so_far.low) low;
       }
+
+-- ---- all events
+
+module _ (x : Txns) (is : IsTxns x) (ops : List PlanOp) (events : List PlanEvent) (done : AreEventsPlanned x ops (txn_count x) events) where
+  all_events_many : length events ≡ txn_count x
+  all_events_many = omega (arith, length-map events txn_event, ap length done.events_are, length-take (txn_count x) x.events.items)
+
+  pub event_levels_positive : All (λ e. 0 < e.level) events
+  event_levels_positive k d lt =
+      let positive : 0 < (get_or events k no_event).level = omega (arith, done.level_is k (omega (arith, all_events_many))) in
+      subst (λ e. 0 < e.level) (get_or_default events k no_event d lt) positive
+
+  pub event_counts : All (λ e. (0 < e.count) × (e.count ≤ EVENT_OPS)) events
+  event_counts k d lt =
+      let inside : k < txn_count x = omega (arith, all_events_many) in
+      let same : txn_at x k ≡ txn_event (get_or events k d) = ap (λ es. get_or es k no_txn) (sym (done.events_are ∙ take_all (txn_count x) x.events.items (omega arith))) ∙ get_or-map txn_event events k d no_txn lt in
+      subst (λ (e : TxnEvent). (0 < e.count) × (e.count ≤ EVENT_OPS)) same (is.numbering.counts k inside)
+
+  pub events_few : length events ≤ EVENTS
+  events_few = omega (arith, all_events_many, is.numbering.few)

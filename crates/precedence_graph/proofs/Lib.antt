@@ -6,3 +6,7 @@ pub mod WriterLemmas
 pub mod PlannedLemmas
 pub mod ReadyLemmas
 pub mod EventLemmas
+pub mod BuiltLemmas
+pub mod BlankLemmas
+pub mod GraphLemmas
+pub mod LevelLemmas

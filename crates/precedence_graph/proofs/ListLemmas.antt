@@ -1,7 +1,8 @@
 -- Lists that are made from a function of the place, and a write to one element of a list that was lent.
-use Rattle.std.proofs.Common.{◌≡◌, ◌≢◌, ℕ, ◌+◌, ◌<◌, Bool, cond, List, [], ◌∷◌, ◌++◌, length, get_or, set, take, drop, map, filter, replicate, refl, sym, ap, ◌∙◌, inl, inr, arith}
+use Rattle.std.proofs.Common.{◌≡◌, ◌≢◌, ℕ, zero, suc, ◌+◌, ◌<◌, ◌≤◌, sum_by, List, [], ◌∷◌, ◌++◌, length, get_or, set, take, drop, map, replicate, refl, sym, ap, ◌∙◌, inl, inr, arith}
 use Rattle.std.specs.List.{range_with_len}
-use Rattle.std.proofs.lemmas.List.{length-set, length-map, length-replicate, get_or-replicate, take_at, map-set, get_or-map, get_or-set_same, get_or-set_other, get_or_default, same_lists, append-nil}
+use Rattle.std.proofs.lemmas.List.{length-set, length-replicate, get_or-replicate, take_at, map-set, get_or-map, get_or-set_same, get_or-set_other, get_or_default, same_lists, length-take, length-drop, get_or-take, get_or-drop}
+use Rattle.std.proofs.lemmas.List.Folds.{fold-map}
 use Rattle.std.proofs.lemmas.List.FromFn.{length-map-range_with_len, get_or-map-range_with_len}
 use Rattle.std.proofs.lemmas.Bool.{cases_eq}
 use Rattle.morph_base.specs.Graphs.{below}
@@ -34,7 +35,7 @@ module _ {Y : Type 0} where
   set-map-below f g n i y inside here others =
       map-below_is g n (set (map f (below n)) i y) (length-set (map f (below n)) i y ∙ length-map-below f n)
       (λ k d h. elim (cases_eq k i) [
-        inl e ↦ let long : i < length (map f (below n)) = omega (arith, length-map-below f n) in ap (λ j. get_or (set (map f (below n)) i y) j d) e ∙ get_or-set_same (map f (below n)) i y d long ∙ sym here ∙ ap g (sym e)
+        | inl e ↦ let long : i < length (map f (below n)) = omega (arith, length-map-below f n) in ap (λ j. get_or (set (map f (below n)) i y) j d) e ∙ get_or-set_same (map f (below n)) i y d long ∙ sym here ∙ ap g (sym e)
         | inr ne ↦ get_or-set_other (map f (below n)) i k y d ne ∙ get_or-map-below f n k d h ∙ sym (others k ne)
       ])
 
@@ -47,3 +48,22 @@ module _ {Y : Type 0} where
   pub replicate_is : (f : ℕ → Y) (n : ℕ) (y : Y) → ((k : ℕ) → f k ≡ y) → replicate n y ≡ map f (below n)
   replicate_is f n y same =
       map-below_is f n (replicate n y) (length-replicate n y) (λ k d h. get_or-replicate n k y d h ∙ sym (same k))
+
+module _ {X : Type 0} where
+  -- a read of a mapped list, past its end too
+  pub get_or-map_all : {Y : Type 0} (f : X → Y) (xs : List X) (i : ℕ) (d : X) → get_or (map f xs) i (f d) ≡ f (get_or xs i d)
+  get_or-map_all f [] i d = refl
+  get_or-map_all f (x ∷ xs) zero d = refl
+  get_or-map_all f (x ∷ xs) (suc i) d = get_or-map_all f xs i d
+
+  -- a sum over a list is one over its places
+  pub sum_by-below : (f : X → ℕ) (xs : List X) (d : X) → sum_by f xs ≡ sum_by (λ n. f (get_or xs n d)) (below (length xs))
+  sum_by-below f xs d =
+      ap (sum_by f) (map-below_is (λ n. get_or xs n d) (length xs) xs refl (λ k e lt. get_or_default xs k e d lt)) ∙ fold-map (λ a x. a + f x) (λ n. get_or xs n d) 0 (below (length xs))
+
+  -- the elements at these places are the part of the list
+  pub map-range_is : (xs : List X) (first count : ℕ) (d : X) → first + count ≤ length xs → map (λ n. get_or xs n d) (range_with_len first count) ≡ take count (drop first xs)
+  map-range_is xs first count d fits =
+      same_lists (map (λ n. get_or xs n d) (range_with_len first count)) (take count (drop first xs)) (length-map-range_with_len (λ n. get_or xs n d) first count ∙ omega (arith, length-take count (drop first xs), length-drop first xs))
+      (λ k e h. let inside : k < count = omega (arith, length-map-range_with_len (λ n. get_or xs n d) first count) in
+      get_or-map-range_with_len (λ n. get_or xs n d) first count k (first + k) e inside refl ∙ get_or_default xs (first + k) d e (omega arith) ∙ sym (get_or-take count (drop first xs) k e inside ∙ get_or-drop first xs k e))

@@ -1,5 +1,5 @@
 -- The first operations are planned: one operation more.
-use Rattle.std.proofs.Common.{◌≡◌, ℕ, ◌+◌, ◌-◌, ◌<◌, ◌≤◌, List, [], ◌∷◌, ◌++◌, length, get_or, take, map, refl, sym, ap, subst, ◌∙◌, inl, inr, arith}
+use Rattle.std.proofs.Common.{◌≡◌, ℕ, ◌+◌, ◌<◌, ◌≤◌, List, [], ◌∷◌, ◌++◌, length, get_or, take, map, refl, sym, ap, subst, ◌∙◌, inl, inr, arith}
 use Rattle.std.specs.Prelude.{All}
 use Rattle.std.proofs.lemmas.Bool.{cases_lt}
 use Rattle.std.proofs.lemmas.List.{take_at, length-map, length_push, get_or_append_left, get_or_push}
@@ -87,9 +87,9 @@ module _ (x : Txns) where
       record {
         many = length_push ops q ∙ ap (λ k. k + 1) is.many;
         each = λ o lt. elim (cases_lt o n) [
-            inl less ↦ let many : length ops ≡ n = is.many in planned_stays ops (q ∷ []) o (omega arith) (is.each o less)
+          | inl less ↦ let many : length ops ≡ n = is.many in planned_stays ops (q ∷ []) o (omega arith) (is.each o less)
           | inr more ↦ let last : n ≡ o = omega arith in subst (IsPlannedOp x (ops ++ q ∷ [])) last new
-          ];
+        ];
         low = All-push (λ q. q.level ≤ n + 1) ops q (All-weaker (λ q. q.level ≤ n) (λ q. q.level ≤ n + 1) (λ q h. omega arith) ops is.low) low;
       }
 

@@ -1,9 +1,9 @@
 -- What stands of an operation once all are planned: its shape, its places, and that it reads from earlier events.
-use Rattle.std.proofs.Common.{◌≡◌, ℕ, ◌+◌, ◌-◌, ◌<◌, ◌≤◌, List, ◌++◌, length, get_or, take, drop, map, replicate, min, sym, ap, subst, ◌∙◌, arith}
+use Rattle.std.proofs.Common.{◌≡◌, ℕ, ◌+◌, ◌-◌, ◌*◌, ◌<◌, ◌≤◌, List, length, get_or, take, drop, map, replicate, sym, ap, subst, ◌∙◌, arith}
 use Rattle.std.specs.Prelude.{All}
-use Rattle.std.proofs.lemmas.List.{length-append, length-map, length-replicate, length-take, length-drop, get_or-take, get_or-drop, get_or_default}
+use Rattle.std.proofs.lemmas.List.{length-append, length-map, length-replicate, length-take, get_or-take, get_or-drop, get_or_default}
 use Rattle.std.proofs.lemmas.List.Elements.{All-map, All-same, All-weaker}
-use Rattle.morph_base.specs.declared.limits.TheConstants.{READS}
+use Rattle.morph_base.specs.declared.limits.TheConstants.{READS, EVENT_OPS, EVENTS}
 use Rattle.morph_base.specs.declared.key.Key.{Key}
 use Rattle.morph_base.specs.declared.operation.Op.{Op}
 use Rattle.morph_base.specs.declared.plan.Origin.{Origin}
@@ -13,8 +13,9 @@ use Rattle.morph_base.specs.Operations.{reads, IsShaped}
 use Rattle.morph_base.specs.Sources.{IsSource}
 use Rattle.morph_base.specs.Plans.{no_plan_op}
 use Rattle.txn_splitter.specs.declared.txns.Txns.{Txns}
-use Rattle.txn_splitter.specs.Txns.{IsTxns, txn_op_count, txn_op_at, txn_of, txn_target}
-use Rattle.precedence_graph.specs.Planned.{IsAmong, IsOfEarlier, IsReady, padded, sources_of, planned, IsPlannedOp, ArePlanned}
+use Rattle.txn_splitter.specs.Txns.{IsTxns, txn_op_count, txn_of, txn_target}
+use Rattle.txn_splitter.proofs.TxnLemmas.{txn_ops_few}
+use Rattle.precedence_graph.specs.Planned.{IsAmong, IsOfEarlier, IsReady, padded, sources_of, planned, ArePlanned}
 use Rattle.precedence_graph.proofs.PlannedLemmas.{take-padded, IsAmong-more}
 
 pub length-reads : (op : Op) → IsShaped op → length (reads op) ≡ op.n_params + 1
@@ -68,3 +69,18 @@ All-part P ops first count fits each k d lt =
     let inside : k < count = omega (arith, length-take count (drop first ops)) in
     let at : get_or (take count (drop first ops)) k d ≡ planned ops (first + k) = get_or-take count (drop first ops) k d inside ∙ get_or-drop first ops k d ∙ get_or_default ops (first + k) d no_plan_op (omega arith) in
     subst P (sym at) (each (first + k) (omega arith) (omega arith))
+
+-- a fact of each operation is one of the whole list
+all_planned : (P : PlanOp → Type 0) (n : ℕ) (ops : List PlanOp) → length ops ≡ n → ((o : ℕ) → o < n → P (planned ops o)) → All P ops
+all_planned P n ops many each k d lt = subst P (get_or_default ops k no_plan_op d lt) (each k (omega arith))
+
+module _ (x : Txns) (is : IsTxns x) (ops : List PlanOp) (done : ArePlanned x (txn_op_count x) ops) where
+  pub all_ready : All (IsReady (length ops)) ops
+  all_ready =
+      subst (λ n. All (IsReady n) ops) (sym done.many) (all_planned (IsReady (txn_op_count x)) (txn_op_count x) ops done.many (planned_ready x is ops done))
+
+  pub levels_positive : All (λ q. 0 < q.level) ops
+  levels_positive = all_planned (λ q. 0 < q.level) (txn_op_count x) ops done.many (λ o lt. omega (arith, (done.each o lt).level_is))
+
+  pub ops_few : length ops ≤ EVENT_OPS * EVENTS
+  ops_few = omega (arith, done.many, txn_ops_few x is)

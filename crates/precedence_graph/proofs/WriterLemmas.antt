@@ -1,5 +1,5 @@
 -- The last writers among the first operations, and the sources that they are.
-use Rattle.std.proofs.Common.{◌≡◌, ℕ, ◌+◌, ◌<◌, ◌≤◌, Bool, true, false, cond, refl, sym, ap, subst, ◌∙◌, inl, inr, arith}
+use Rattle.std.proofs.Common.{◌≡◌, ℕ, ◌<◌, ◌≤◌, inl, inr, arith}
 use Rattle.std.proofs.Common.{Option, None, Some}
 use Rattle.std.specs.BTreeMap.{get}
 use denote.Param.{read}
@@ -9,9 +9,7 @@ use Rattle.std.proofs.lemmas.Bool.{cases_lt, cases_eq}
 use Rattle.morph_base.specs.declared.key.Key.{Key}
 use Rattle.morph_base.specs.declared.plan.Origin.{Origin}
 use Rattle.morph_base.specs.declared.plan.Origin.TheVariants.{Base, Op as Written}
-use Rattle.morph_base.specs.Operations.{same_key}
-use Rattle.morph_base.specs.Sources.{Writes, IsLastWriter, IsUnwritten, IsSource}
-use Rattle.morph_base.specs.Numbering.{IsWithin}
+use Rattle.morph_base.specs.Sources.{Writes, IsSource}
 use Rattle.morph_base.proofs.NumberLaws.{first_owned, within_event}
 use Rattle.txn_splitter.specs.declared.txns.Txns.{Txns}
 use Rattle.txn_splitter.specs.Txns.{IsTxns, txn_count, txn_op_count, txn_at, txn_of, txn_target}
@@ -34,12 +32,12 @@ module _ (x : Txns) (is : IsTxns x) (i : ℕ) (lt : i < txn_count x) where
   before_from_event : (t : ℕ) → t < txn_op_count x → txn_of x t < i → t < first_of
   before_from_event t in_range earlier =
       elim (cases_lt t first_of) [
-        inl less ↦ less
+        | inl less ↦ less
         | inr more ↦
-          let mine = first_owned _ _ _ _ _ _ _ is.numbering i lt in
-          let order : txn_of x first_of ≤ txn_of x t = is.numbering.in_order first_of t more in_range in
-          let its : txn_of x first_of ≡ i = mine.1 in
-          absurd (omega arith)
+            let mine = first_owned _ _ _ _ _ _ _ is.numbering i lt in
+            let order : txn_of x first_of ≤ txn_of x t = is.numbering.in_order first_of t more in_range in
+            let its : txn_of x first_of ≡ i = mine.1 in
+            absurd (omega arith)
       ]
 
   event_from_before : (t : ℕ) → t < first_of → (t < txn_op_count x) × (txn_of x t < i)
@@ -50,7 +48,7 @@ module _ (x : Txns) (is : IsTxns x) (i : ℕ) (lt : i < txn_count x) where
       let in_range : t < txn_op_count x = omega arith in
       let order : txn_of x t ≤ txn_of x first_of = is.numbering.in_order t first_of (omega arith) start in
       elim (cases_eq (txn_of x t) i) [
-        inl same ↦ let from : first_of ≤ t = (within_event _ _ _ _ _ _ _ is.numbering t i in_range same).0 in absurd (omega arith)
+        | inl same ↦ let from : first_of ≤ t = (within_event _ _ _ _ _ _ _ is.numbering t i in_range same).0 in absurd (omega arith)
         | inr other ↦ (in_range, omega arith)
       ]
 

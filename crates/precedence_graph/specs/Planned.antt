@@ -1,14 +1,13 @@
 -- What stands of a plan while it is made: operations and events over lists, and over the first of them.
 use Rattle.std.specs.Prelude.{◌≡◌, ℕ, ◌+◌, ◌-◌, ◌≤◌, ◌<◌, List, ◌++◌, length, take, drop, map, replicate, All, slice_index_or}
 use Rattle.std.specs.List.{flat_map}
-use Rattle.morph_base.specs.declared.limits.TheConstants.{READS, EVENTS, EVENT_OPS}
+use Rattle.morph_base.specs.declared.limits.TheConstants.{READS}
 use Rattle.morph_base.specs.declared.key.Key.{Key}
-use Rattle.morph_base.specs.declared.operation.Op.{Op}
 use Rattle.morph_base.specs.declared.plan.Origin.{Origin}
 use Rattle.morph_base.specs.declared.plan.Origin.TheVariants.{Base, Op as Written}
 use Rattle.morph_base.specs.declared.plan.PlanOp.{PlanOp}
 use Rattle.morph_base.specs.declared.plan.PlanEvent.{PlanEvent}
-use Rattle.morph_base.specs.Operations.{reads, no_key, IsShaped}
+use Rattle.morph_base.specs.Operations.{reads, IsShaped}
 use Rattle.morph_base.specs.Sources.{IsSource}
 use Rattle.morph_base.specs.Plans.{no_plan_op, no_event}
 use Rattle.morph_base.specs.Graphs.{greatest, level_of}

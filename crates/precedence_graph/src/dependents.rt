@@ -15,7 +15,7 @@ pub fn dependents(alloc: Global, ops: &[PlanOp]) -> Result<List<List<u32>>, OutO
     requires few { length ops.now < 2 ^ 32 }
     ensures { IfOk result (λ lists. map (λ list. list.items) lists.items
         ≡ map (λ o. filter (λ t. list_any (is_written_by o) (sources_of (planned ops.now t))) (below (length ops.now)))
-            (below (length ops.now))) }
+        (below (length ops.now))) }
 {
     let links = read_links(alloc, ops)?;
     grouped(alloc, ops.len(), links.as_slice())

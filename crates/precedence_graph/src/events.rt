@@ -11,7 +11,11 @@ use std::alloc::Global;
 use txn_splitter::Txns;
 
 /// The events in order, each with its level.
-pub fn plan_events(alloc: Global, txns: &Txns, ops: &[PlanOp]) -> Result<List<PlanEvent>, OutOfMemory>
+pub fn plan_events(
+    alloc: Global,
+    txns: &Txns,
+    ops: &[PlanOp],
+) -> Result<List<PlanEvent>, OutOfMemory>
     requires txns { IsTxns txns.now }
     requires ops { ArePlanned txns.now (txn_op_count txns.now) ops.now }
     ensures { IfOk result (λ events. AreEventsPlanned txns.now ops.now (txn_count txns.now) events.items) }
@@ -34,7 +38,7 @@ fn plan_event(txns: &Txns, i: usize, ops: &[PlanOp], events: &[PlanEvent]) -> Pl
     ensures event { txn_event result ≡ txn_at txns.now i }
     ensures level { result.level
         ≡ 1 + greatest (map (level_of (event_level_in ops.now events.now))
-            (event_sources_of (members_of txns.now ops.now i))) }
+        (event_sources_of (members_of txns.now ops.now i))) }
     ensures low { result.level ≤ i + 1 }
 {
     let event = event_at(txns, i);

@@ -3,12 +3,16 @@
 //! Below it stand the vocabulary of `morph_base` and the numbered transactions of `txn_splitter`.
 #![tactic(auto)]
 
-mod writers;
-mod links;
-mod level_lists;
-mod sources;
+mod building;
 mod dependents;
-mod levels;
-mod operations;
-mod transactions;
+mod edges;
 mod events;
+mod level_lists;
+mod levels;
+mod links;
+mod operations;
+mod sources;
+mod transactions;
+mod writers;
+
+pub use building::build;

@@ -5,7 +5,6 @@ use Rattle.std.proofs.lemmas.List.Elements.{All-same}
 use Rattle.morph_base.specs.declared.plan.Origin.{Origin}
 use Rattle.morph_base.specs.Plans.{no_plan_op}
 use Rattle.morph_base.specs.Graphs.{below, is_written_by}
-use Rattle.precedence_graph.specs.Links.{items_of}
 use Rattle.precedence_graph.specs.Planned.{IsAmong, planned, sources_of}
 use Rattle.precedence_graph.proofs.GreatestLemmas.{filter-below_more}
 use Rattle.precedence_graph.proofs.dependents.read_links.Goals as goal

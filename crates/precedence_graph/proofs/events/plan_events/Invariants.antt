@@ -1,4 +1,4 @@
-use Rattle.std.proofs.Common.{◌≡◌, ◌+◌, length}
+use Rattle.std.proofs.Common.{◌≡◌, ◌+◌}
 use Rattle.txn_splitter.specs.Txns.{txn_count}
 use Rattle.precedence_graph.specs.Planned.{AreEventsPlanned}
 use Rattle.precedence_graph.proofs.events.plan_events.Given as goal

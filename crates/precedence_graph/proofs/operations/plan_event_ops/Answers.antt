@@ -1,4 +1,4 @@
-use Rattle.std.proofs.Common.{◌≡◌, ℕ, ◌+◌, ◌<◌, ◌≤◌, length, sym, ap, subst, ◌∙◌, arith, map}
+use Rattle.std.proofs.Common.{◌≡◌, ℕ, ◌+◌, ◌≤◌, length, sym, ap, subst, ◌∙◌, arith, map}
 use Rattle.std.proofs.lemmas.List.{length_push}
 use Rattle.morph_base.specs.declared.key.Key.{Key}
 use Rattle.morph_base.specs.declared.operation.Op.{Op}
@@ -9,7 +9,7 @@ use Rattle.morph_base.specs.Sources.{IsSource}
 use Rattle.morph_base.specs.Plans.{no_op}
 use Rattle.morph_base.specs.Graphs.{greatest, level_of}
 use Rattle.txn_splitter.specs.declared.txns.TxnEvent.{TxnEvent}
-use Rattle.txn_splitter.specs.Txns.{txn_count, txn_op_count, txn_at, txn_op_at, txn_of, txn_target}
+use Rattle.txn_splitter.specs.Txns.{txn_op_count, txn_at, txn_of, txn_target}
 use Rattle.precedence_graph.specs.Writers.{source_in}
 use Rattle.precedence_graph.specs.Planned.{IsAmong, op_level_in, ArePlanned}
 use Rattle.precedence_graph.proofs.WriterLemmas.{among_first, source_at_event, base_zero}

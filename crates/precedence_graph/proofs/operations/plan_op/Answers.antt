@@ -1,13 +1,11 @@
-use Rattle.std.proofs.Common.{◌≡◌, ℕ, ◌+◌, ◌<◌, ◌≤◌, List, length, take, map, get_or, ap, ◌∙◌, arith}
+use Rattle.std.proofs.Common.{◌≡◌, ℕ, ◌<◌, List, length, take, map, get_or, ap, ◌∙◌, arith}
 use Rattle.std.specs.Prelude.{All}
 use Rattle.std.proofs.lemmas.List.Elements.{All-map, All-same}
 use Rattle.morph_base.specs.declared.key.Key.{Key}
 use Rattle.morph_base.specs.declared.operation.Op.{Op}
 use Rattle.morph_base.specs.declared.plan.Origin.{Origin}
-use Rattle.morph_base.specs.declared.plan.PlanOp.{PlanOp}
 use Rattle.morph_base.specs.Operations.{reads}
 use Rattle.morph_base.specs.Plans.{no_plan_op}
-use Rattle.morph_base.specs.Graphs.{greatest, level_of}
 use Rattle.precedence_graph.specs.Planned.{IsAmong, padded, op_level_in}
 use Rattle.precedence_graph.proofs.PlannedLemmas.{take-padded, levels_low}
 use Rattle.precedence_graph.proofs.operations.plan_op.Goals as goal

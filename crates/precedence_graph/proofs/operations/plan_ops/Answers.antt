@@ -1,9 +1,8 @@
-use Rattle.std.proofs.Common.{◌≡◌, ℕ, ◌+◌, ◌<◌, ◌≤◌, List, [], length, refl, sym, ap, subst, ◌∙◌, arith}
+use Rattle.std.proofs.Common.{◌≡◌, ℕ, ◌+◌, ◌≤◌, List, [], length, refl, sym, ap, subst, ◌∙◌, arith}
 use Rattle.std.proofs.lemmas.List.Elements.{All-same, All-nil}
-use Rattle.morph_base.specs.declared.plan.Origin.{Origin}
 use Rattle.morph_base.specs.declared.plan.PlanOp.{PlanOp}
 use Rattle.morph_base.specs.Sources.{IsSource}
-use Rattle.txn_splitter.specs.Txns.{txn_count, txn_op_count, txn_at, txn_target}
+use Rattle.txn_splitter.specs.Txns.{txn_at, txn_target}
 use Rattle.txn_splitter.proofs.TxnLemmas.{txn_start, txn_next, txn_last, txn_none}
 use Rattle.precedence_graph.specs.Planned.{HasWriters, ArePlanned}
 use Rattle.precedence_graph.proofs.WriterLemmas.{source_among_none}

@@ -1,4 +1,4 @@
-use Rattle.std.proofs.Common.{◌+◌, ◌≤◌, ap, subst, sym}
+use Rattle.std.proofs.Common.{◌+◌, ◌≤◌, subst, sym}
 use Rattle.txn_splitter.specs.declared.txns.TxnEvent.{TxnEvent}
 use Rattle.txn_splitter.specs.Txns.{no_txn, txn_op_count}
 use Rattle.txn_splitter.proofs.TxnLemmas.{txn_end, txn_ops_few}

@@ -1,1 +1,3 @@
 pub mod TxnLemmas
+pub mod SplitLemmas
+pub mod OrderLemmas

@@ -46,7 +46,11 @@ pub record IsTxns (x : Txns) : Type 0 where
   pub numbering : IsNumbering (txn_count x) (txn_op_count x) (λ i. (txn_at x i).ts) (λ i. (txn_at x i).first) (λ i. (txn_at x i).count) (txn_of x) (txn_op_at x)
   pub events_of : length x.event_of.items ≡ txn_op_count x
 
--- they are the transactions of the batch by rising time and nothing else: each operation is one of an event's
-pub record IsTxnsOf (batch : Batch) (x : Txns) : Type 0 where
+-- they are these transactions, in this order, and nothing else: each operation is one of an event's
+pub record IsSplitOf (es : List Transaction) (x : Txns) : Type 0 where
   pub txns : IsTxns x
-  pub transactions : txn_transactions x ≡ by_time (transactions_of batch)
+  pub transactions : txn_transactions x ≡ es
+
+-- they are the transactions of the batch by rising time
+abbrev pub IsTxnsOf : Batch → Txns → Type 0
+IsTxnsOf batch = IsSplitOf (by_time (transactions_of batch))

@@ -4,6 +4,8 @@
 //! events and operations have numbers; `precedence_graph` makes a plan of them.
 #![tactic(auto)]
 
+mod splitting;
 mod txns;
 
+pub use splitting::split;
 pub use txns::{TxnEvent, Txns};

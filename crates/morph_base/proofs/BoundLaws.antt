@@ -9,16 +9,19 @@ use Rattle.morph_base.specs.declared.key.Key.{Key}
 use Rattle.morph_base.specs.declared.operation.Func.{Func}
 use Rattle.morph_base.specs.declared.operation.Func.TheVariants.{Keep, Add, Sub, MoveIn, Sum, Blend, Set, Enter, Charge}
 use Rattle.morph_base.specs.declared.operation.Op.{Op}
+use Rattle.morph_base.specs.declared.event.Batch.{Batch}
 use Rattle.morph_base.specs.declared.plan.Origin.{Origin}
 use Rattle.morph_base.specs.declared.plan.Origin.TheVariants.{Base, Op as Written}
 use Rattle.morph_base.specs.declared.plan.Plan.{Plan}
 use Rattle.morph_base.specs.Functions.{at_most, toll, result_of, value_of}
 use Rattle.morph_base.specs.Operations.{IsShaped, reads, same_key}
-use Rattle.morph_base.specs.Transactions.{Transaction, IsTransaction}
-use Rattle.morph_base.specs.States.{State, answer, with_answers, commits, after, after_all}
+use Rattle.morph_base.specs.Transactions.{Transaction, IsTransaction, IsBatch, transactions_of, by_time}
+use Rattle.morph_base.specs.States.{State, answer, with_answers, commits, after, after_all, fold_batch}
 use Rattle.morph_base.specs.Plans.{IsPlan, event_count, op_count, event_at, op_at, event_of, target, keys_of, origin_at, opening, no_event, transaction_in, transactions, transaction_at, state_at, value_at, final}
 use Rattle.morph_base.specs.Clean.{from, source, outcome}
 use Rattle.morph_base.proofs.OutcomeLaws.{Precedes, source_precedes}
+use Rattle.std.proofs.lemmas.List.Sorted.{All-permutation}
+use Rattle.morph_base.proofs.TimeLaws.{by_time-permutes}
 use Rattle.morph_base.proofs.BaseLaws.{opening_of-each}
 use Rattle.morph_base.proofs.PlanLaws.{length-transaction, length-transactions, transaction_op, place_within}
 
@@ -152,3 +155,10 @@ outcome-small p v o x valid lt small is =
     let below : j < n = (let short = rw (length-take n origins) at inside in omega arith) in
     rw (get_or-take n origins j (Base 0) below) (source-small p v o j valid lt below small)) in
     value_of-small (op_at p o).op (map (from v) (take n origins)) x is (valid.numbering.shaped o lt) (All-map (λ y. y ≤ MAX) (from v) (take n origins) each)
+
+-- ---- batches
+
+pub fold_batch-small : (b : Batch) (s : State) (key : Key) → IsBatch b → IsSmall s → fold_batch b s key ≤ MAX
+fold_batch-small b s key valid small =
+    fold-small s (by_time (transactions_of b)) key
+    (All-permutation IsTransaction (transactions_of b) (by_time (transactions_of b)) (by_time-permutes (transactions_of b)) valid.valid) small

@@ -9,10 +9,13 @@ pub mod SourceLaws
 pub mod OutcomeLaws
 pub mod CleanLaws
 pub mod EndLaws
+pub mod VersionLaws
 pub mod BaseLaws
 pub mod FillLaws
 pub mod GraphFillLaws
 pub mod NumberLaws
+pub mod LevelLaws
 pub mod BoundLaws
 pub mod FateLaws
 pub mod GuessLaws
+pub mod KnownLaws

@@ -11,3 +11,4 @@ pub mod Plans
 pub mod Graphs
 pub mod Clean
 pub mod Guesses
+pub mod Known

@@ -1,6 +1,6 @@
 -- What an operation reads, and which operations have a valid shape.
-use Rattle.std.specs.Prelude.{◌≡◌, ℕ, ◌≤◌, ◌<◌, Bool, ◌&&◌, ◌==◌, List, ◌∷◌, take, length, slice_index_or}
-use Rattle.morph_base.specs.declared.limits.TheConstants.{MAX, READS}
+use Rattle.std.specs.Prelude.{◌≡◌, ℕ, ◌-◌, ◌≤◌, ◌<◌, Bool, ◌&&◌, ◌==◌, List, ◌∷◌, ◌++◌, take, replicate, length, slice_index_or}
+use Rattle.morph_base.specs.declared.limits.TheConstants.{MAX, PARAMS, READS}
 use Rattle.morph_base.specs.declared.key.Key.{Key}
 use Rattle.morph_base.specs.declared.key.Layout.{Layout}
 use Rattle.morph_base.specs.declared.operation.Func.{Func}
@@ -28,8 +28,13 @@ least_params Enter = 1
 least_params Charge = 2
 
 abbrev pub most_params : Func → ℕ
-most_params Sum = 3
+most_params Sum = PARAMS
 most_params f = least_params f
+
+-- the operation of these parts, with no key in the places that it does not use
+abbrev pub op_of : Func → Key → List Key → (c : ℕ) → Op
+op_of func key params c =
+    record { key = key; params = params ++ replicate (PARAMS - length params) no_key; n_params = length params; func = func; c = c }
 
 -- the keys that an operation reads, place by place: its target, then its parameters
 abbrev pub reads : Op → List Key

@@ -1,5 +1,5 @@
 -- The state, the state after an event, and the fold of a batch in timestamp order.
-use Rattle.std.specs.Prelude.{ℕ, zero, suc, Bool, true, ◌&&◌, if◌then◌else◌, List, [], ◌∷◌, map, Option, is_some, unwrap_or}
+use Rattle.std.specs.Prelude.{◌≡◌, ℕ, zero, suc, Bool, true, ◌&&◌, if◌then◌else◌, List, [], ◌∷◌, map, take, Option, is_some, unwrap_or}
 use Rattle.morph_base.specs.declared.key.Key.{Key}
 use Rattle.morph_base.specs.declared.operation.Op.{Op}
 use Rattle.morph_base.specs.declared.event.Batch.{Batch}
@@ -41,6 +41,11 @@ after s e key = if commits s e then with_answers s e.ops key else s key
 unfoldable pub after_all : State → List Transaction → State
 after_all s [] = s
 after_all s (e ∷ es) = after_all (after s e) es
+
+-- the state after some first ones of the transactions
+pub record IsAfterSome (s : State) (es : List Transaction) (t : State) : Type 0 where
+  pub count : ℕ
+  pub reached : t ≡ after_all s (take count es)
 
 -- the fold of a batch: its events one at a time by rising timestamp
 abbrev pub fold_batch : Batch → State → State

@@ -5,6 +5,9 @@ ghost use Rattle.morph_base.specs.Operations.{IsShaped};
 use crate::limits::MAX;
 use crate::operation::{Func, Op};
 
+#[cfg(test)]
+mod tests;
+
 /// The new value of an operation's target, or `None` where the operation fails, as [`Func`] says for each function.
 ///
 /// `xs` has the value of the target and then those of the parameters, each at most [`MAX`], and the operation has a

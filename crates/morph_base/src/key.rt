@@ -1,3 +1,6 @@
+ghost use Rattle.std.specs.Prelude.{◌↔◌, IsTrue};
+ghost use Rattle.morph_base.specs.Operations.{InLayout};
+
 /// A place where a value is kept: an id in a table. Keys are ordered by table, then by id.
 #[derive(Clone, Copy, Debug, PartialEq, Eq, PartialOrd, Ord, Hash)]
 pub struct Key {
@@ -5,9 +8,18 @@ pub struct Key {
     pub id: u32,
 }
 
-/// Which keys there are: tables numbered from 0, each with ids from 0 and below `size`.
+/// Which keys there are: tables numbered from 0 and below `tables`, each with ids from 0 and below `size`.
 #[derive(Clone, Copy, Debug, PartialEq, Eq)]
 pub struct Layout {
     pub tables: u8,
     pub size: u32,
+}
+
+impl Layout {
+    /// Whether the layout has the key.
+    pub fn contains(self, key: Key) -> bool
+        ensures { IsTrue result ↔ InLayout self key }
+    {
+        key.table < self.tables && key.id < self.size
+    }
 }

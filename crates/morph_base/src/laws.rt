@@ -3,5 +3,6 @@
 //! A crate above cites the lemmas behind them, which stand in `proofs/`; the contracts show what they come to.
 pub mod order;
 pub mod plans;
+pub mod settling;
 pub mod states;
 pub mod values;

@@ -61,7 +61,7 @@ impl<T> List<T> {
         Ok(())
     }
 
-    /// Appends an item where there is spare room.
+    /// Appends an item where there is spare room, and takes no memory.
     pub fn add(&mut self, item: T)
         requires { 0 < self.old.room }
         ensures items { self.new.items ≡ self.old.items ++ item ∷ [] }
@@ -84,7 +84,7 @@ impl<T> List<T> {
         self.vec.is_empty()
     }
 
-    /// The item at place `i`.
+    /// The item at place `i`, counted from 0.
     pub fn get(&self, i: usize) -> &T
         requires { i < length self.now.items }
         ensures item { slice_get self.now.items i ≡ Some result.now }
@@ -127,5 +127,44 @@ impl<T> List<T> {
         ensures items { result.now ≡ self.old.items }
     {
         self.vec.as_mut_slice()
+    }
+}
+
+impl<T: Copy> List<T> {
+    /// A list of the given items.
+    pub fn from_slice(alloc: Global, items: &[T]) -> Result<Self, OutOfMemory>
+        ensures { IfOk result (λ list. list.items ≡ items.now) }
+    {
+        Ok(List {
+            vec: Vec::from_slice(alloc, items)?,
+        })
+    }
+}
+
+#[cfg(test)]
+mod tests {
+    use super::*;
+    use std::test::Fail;
+
+    #[test]
+    fn keeps_items_in_order(rt: HostRuntime) -> Result<(), Fail> {
+        let mut list = List::with_room(rt.alloc(), 2)?;
+        assert!(rt; list.is_empty());
+        list.push(7)?;
+        assert_eq!(rt; list.len(), 1);
+        list.add(8);
+        list.push(9)?;
+        assert_eq!(rt; list.as_slice(), [7, 8, 9].as_slice());
+        assert_eq!(rt; *list.get(1), 8);
+        list.set(1, 6);
+        list.as_mut_slice().reverse();
+        let same = List::from_slice(rt.alloc(), &[9, 6, 7])?;
+        assert_eq!(rt; list.as_slice(), same.as_slice());
+        for item in [Some(7), Some(6), Some(9), None] {
+            assert_eq!(rt; list.pop(), item);
+        }
+        let empty: List<u64> = List::new(rt.alloc());
+        assert_eq!(rt; list.as_slice(), empty.as_slice());
+        Ok(())
     }
 }

@@ -1,9 +1,13 @@
+ghost use Rattle.std.specs.Prelude.{◌≡◌, ◌≤◌, ◌↔◌, ◌∷◌, length, IsTrue};
+ghost use Rattle.morph_base.specs.Operations.{IsShaped, reads, op_of, least_params, most_params};
+
 use crate::key::Key;
-use crate::limits::PARAMS;
+use crate::limits::{MAX, PARAMS};
 
 /// How an operation computes the new value of its target.
 ///
-/// It reads x, the target's value, and p1 to p3, the values of its parameters, all before its event; c is its constant.
+/// It reads x, the target's value, and p1, p2 and so on, the values of its parameters, all before its event; c is its
+/// constant.
 #[derive(Clone, Copy, Debug, PartialEq, Eq, Hash)]
 pub enum Func {
     /// x. It has no parameter and never fails.
@@ -14,7 +18,7 @@ pub enum Func {
     Sub,
     /// x + c, with one parameter. It fails where p1 is below c, or above [`MAX`](crate::MAX).
     MoveIn,
-    /// The sum of its one to three parameters. It fails above c.
+    /// The sum of its parameters, which are one to [`PARAMS`](crate::PARAMS). It fails above c.
     Sum,
     /// c where x is 0, else half of x + c, rounded down. It never fails.
     Blend,
@@ -28,6 +32,20 @@ pub enum Func {
     Charge,
 }
 
+impl Func {
+    /// Whether the function takes so many parameters.
+    pub fn takes(self, params: usize) -> bool
+        ensures { IsTrue result ↔ ((least_params self ≤ params) × (params ≤ most_params self)) }
+    {
+        match self {
+            Func::Keep | Func::Add | Func::Sub | Func::Blend | Func::Set => params == 0,
+            Func::MoveIn | Func::Enter => params == 1,
+            Func::Charge => params == 2,
+            Func::Sum => params >= 1 && params <= PARAMS,
+        }
+    }
+}
+
 /// One change of one key, by a function of the values before its event.
 ///
 /// It has a valid shape where the number of its parameters is its function's, `c` is at most [`MAX`](crate::MAX), and
@@ -36,8 +54,32 @@ pub enum Func {
 pub struct Op {
     /// The target, whose value changes.
     pub key: Key,
+    /// The keys of its parameters, in the first `n_params` places.
     pub params: [Key; PARAMS],
     pub n_params: u8,
     pub func: Func,
+    /// The constant of its function.
     pub c: u64,
+}
+
+impl Op {
+    /// An operation with these parameters, in the first places.
+    ///
+    /// It has a valid shape where its function takes as many parameters and `c` is at most [`MAX`](crate::MAX).
+    pub fn new(func: Func, key: Key, params: &[Key], c: u64) -> Self
+        requires few { length params.now ≤ PARAMS }
+        ensures parts { result ≡ op_of func key params.now c }
+        ensures reads { reads result ≡ key ∷ params.now }
+        ensures shaped { least_params func ≤ length params.now → length params.now ≤ most_params func → c ≤ MAX → IsShaped result }
+    {
+        let mut places = [Key { table: 0, id: 0 }; PARAMS];
+        places[..params.len()].copy_from_slice(params);
+        Op {
+            key,
+            params: places,
+            n_params: params.len() as u8,
+            func,
+            c,
+        }
+    }
 }

@@ -4,7 +4,7 @@
 ghost use Rattle.std.specs.Prelude.{◌≡◌, ℕ, ◌+◌, ◌<◌, ◌≤◌, Bool, true, false, List, [], ◌∷◌, length, map, unwrap_or, All, IfOk, IfSome, OnOk, OnErr, MatchOption};
 ghost use Rattle.morph_base.specs.Operations.{IsShaped, InLayout, reads};
 ghost use Rattle.morph_base.specs.Transactions.{IsBatch, IsTransaction, BatchKeysIn, HasKeysIn, transaction_of, transactions_of, targets, by_time};
-ghost use Rattle.morph_base.specs.States.{answer as answer_in, all_answer, commits, after, fold_batch};
+ghost use Rattle.morph_base.specs.States.{answer as answer_in, all_answer, commits, after, fold_batch, IsAfterSome};
 ghost use Rattle.morph_base.specs.Outcomes.{fate, fate_of, fates};
 ghost use Rattle.morph_base.specs.Flat.{contents, put_all};
 
@@ -18,14 +18,19 @@ use crate::outcome::Outcome;
 use crate::values::Values;
 use std::alloc::Global;
 
+#[cfg(test)]
+mod tests;
+
 /// Folds a batch into the values, and tells what became of each event, by rising timestamp.
 ///
-/// Where memory is refused the values are those after some first events.
+/// The batch is valid, and its keys are in the layout of the values. Where memory is refused, the values are those after some
+/// first events by rising timestamp.
 pub fn fold(alloc: Global, values: &mut Values, batch: &Batch) -> Result<List<Outcome>, OutOfMemory>
     requires batch { IsBatch batch.now }
     requires keys { BatchKeysIn values.old.layout batch.now }
     ensures layout { values.new.layout ≡ values.old.layout }
     ensures state { OnOk result (contents values.new ≡ fold_batch batch.now (contents values.old)) }
+    ensures refused { OnErr result (IsAfterSome (contents values.old) (by_time (transactions_of batch.now)) (contents values.new)) }
     ensures fates { IfOk result (λ outcomes. map fate_of outcomes.items ≡ fates (contents values.old) (by_time (transactions_of batch.now))) }
 {
     let events = batch.by_time(alloc)?;

@@ -11,7 +11,7 @@ pub enum Origin {
     Op(u32),
 }
 
-/// An operation of a plan. Place 0 reads its target, places 1 to 3 its parameters.
+/// An operation of a plan. Place 0 reads its target, the places from 1 on its parameters.
 #[derive(Clone, Copy, Debug, PartialEq, Eq)]
 pub struct PlanOp {
     pub op: Op,
@@ -47,7 +47,9 @@ pub struct Edges {
 /// The task precedence graph of a batch: its events by rising timestamp, their operations, and what each one reads.
 #[derive(Debug, Drop)]
 pub struct Plan {
+    /// By rising timestamp.
     pub events: List<PlanEvent>,
+    /// By event, and then in operation order; the place of each is its number.
     pub ops: List<PlanOp>,
     /// For each operation those that read from it, rising, each once.
     pub dependents: List<List<u32>>,

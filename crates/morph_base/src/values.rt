@@ -27,7 +27,7 @@ impl Model for Values {
 }
 
 impl Values {
-    /// All values 0. All memory that the values ever need is taken here.
+    /// The values of the opening state, all 0. All memory that they ever need is taken here.
     pub fn new(alloc: Global, layout: Layout) -> Result<Self, OutOfMemory>
         ensures layout { IfOk result (λ values. values.layout ≡ layout) }
         ensures opening { IfOk result (λ values. contents values ≡ opening_state) }

@@ -1,8 +1,24 @@
 //! Bytes in and bytes out.
 //!
-//! [`Source`] and [`Sink`] are what the layers above read from and write to. Their contracts speak of the bytes
-//! that are left or written, where the object tells them, and of a count of faults: an error comes only where
-//! that count rose.
+//! [`Source`] and [`Sink`] are what the layers above read from and write to. Their contracts speak of the bytes that are
+//! left or written, where the object tells them, and of a count of faults: an error comes only where that count rose.
+//!
+//! [`MemSource`], [`RepeatSource`] and [`MemSink`] hold their bytes in memory and tell everything; [`StdSource`] and
+//! [`StdSink`] stand over the readers and writers of std, and tell nothing. A caller builds a line in a [`LineBuf`],
+//! puts it into an [`Out`], and flushes that at the end:
+//!
+//! ```text
+//! let mut sink = StdSink::new(rt.stdout());
+//! let mut out = Out::new(rt.alloc())?;
+//! let mut line = LineBuf::new();
+//! line.word(b"committed ");
+//! line.number(committed);
+//! line.word(b"\n");
+//! out.put(&mut sink, &line)?;
+//! out.flush(&mut sink)?;
+//! ```
+//!
+//! Below stands `morph_base`, of which only `List` and `OutOfMemory` are used.
 #![tactic(auto)]
 
 #[cfg(test)]
@@ -25,7 +41,7 @@ mod tests;
 pub use line_buf::{LINE_BYTES, LineBuf};
 pub use mem_sink::MemSink;
 pub use mem_source::MemSource;
-pub use output::{OUT_BYTES, Out};
+pub use output::{OUT_BYTES, Out, write_all};
 pub use repeat_source::RepeatSource;
 pub use retries::MAX_RETRIES;
 pub use sink::{Sink, WriteFailed};

@@ -33,7 +33,7 @@ impl Model for Out {
 }
 
 /// Writes all of `bytes` to the sink, however few it takes at a time.
-pub(crate) fn write_all<K: Sink>(sink: &mut K, bytes: &[u8]) -> Result<(), WriteFailed>
+pub fn write_all<K: Sink>(sink: &mut K, bytes: &[u8]) -> Result<(), WriteFailed>
     ensures all { OnOk result (K.written sink.new ≡ behind (K.written sink.old) bytes.now) }
     ensures prefix { OnErr result (AppendsPrefix (K.written sink.old) bytes.now (K.written sink.new)) }
     ensures never_falls { K.faults sink.old ≤ K.faults sink.new }

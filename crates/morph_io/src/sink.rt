@@ -1,4 +1,4 @@
-ghost use Rattle.std.specs.Prelude.{◌≡◌, ℕ, ◌<◌, ◌≤◌, List, Option, length, take, IfOk, OnErr};
+ghost use Rattle.std.specs.Prelude.{◌≡◌, ℕ, ◌<◌, ◌≤◌, List, Option, Some, length, take, codes, IfOk, OnErr};
 ghost use Rattle.morph_io.specs.Told.{behind, HasRisen};
 
 use std::error::Error;
@@ -9,6 +9,8 @@ use std::fmt;
 pub struct WriteFailed;
 
 impl fmt::Display for WriteFailed {
+    ghost output = { λ _. Some (codes "write failed") };
+
     fn fmt<W: fmt::Write>(&self, f: &mut fmt::Formatter<W>) -> fmt::Result {
         f.write_str("write failed")
     }

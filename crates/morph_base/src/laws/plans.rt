@@ -3,15 +3,24 @@ ghost use Rattle.std.specs.Prelude.{◌≡◌, ℕ, ◌+◌, ◌*◌, ◌<◌, �
 ghost use Rattle.morph_base.specs.declared.limits.TheConstants.{MAX, EVENT_OPS, EVENTS};
 ghost use Rattle.morph_base.specs.declared.key.Key.{Key};
 ghost use Rattle.morph_base.specs.declared.key.Layout.{Layout};
+ghost use Rattle.morph_base.specs.declared.event.Batch.{Batch};
 ghost use Rattle.morph_base.specs.declared.operation.Op.{Op};
 ghost use Rattle.morph_base.specs.declared.plan.Origin.TheVariants.{Op as Written};
 ghost use Rattle.morph_base.specs.declared.plan.Plan.{Plan};
-ghost use Rattle.morph_base.specs.States.{State, after_all};
+ghost use Rattle.morph_base.specs.States.{State, after_all, fold_batch};
 ghost use Rattle.morph_base.specs.Functions.{value_of};
 ghost use Rattle.morph_base.specs.Operations.{IsShaped};
-ghost use Rattle.morph_base.specs.Transactions.{Transaction, IsTransaction};
-ghost use Rattle.morph_base.specs.Plans.{IsPlan, HasBases, PlanKeysIn, event_count, op_count, event_at, event_of, keys_of, origin_at, transactions, filled_plan, opening, state_at, final};
-ghost use Rattle.morph_base.specs.Graphs.{IsGraph};
+ghost use Rattle.morph_base.specs.Transactions.{Transaction, IsTransaction, IsBatch};
+ghost use Rattle.morph_base.specs.Plans.{IsPlan, HasBases, PlanKeysIn, event_count, op_count, event_at, event_of, op_at, keys_of, origin_at, transactions, filled_plan, opening, state_at, final};
+ghost use Rattle.morph_base.specs.Graphs.{IsGraph, IsValidPlan, op_depth, event_depth};
+
+/// The state that a plan's bases tell has those bases as soon as some state has them: the same value for the same key.
+///
+/// Who builds a plan shows its bases by any state at hand, as by that of zeros where all of them are 0.
+pub fn bases_tell_a_state()
+    ensures { (p : Plan) (s : State) → ((o : ℕ) → o < op_count p → length (keys_of p o) ≤ length (op_at p o).origins) → HasBases p s
+        → HasBases p (opening p) }
+{}
 
 /// A valid plan whose bases are filled in from a state of values is a valid plan with the bases of that state. It keeps its
 /// transactions, its keys and its graph.
@@ -37,17 +46,30 @@ pub fn numbers()
 
 /// A source is an operation of an earlier event, with a smaller number.
 ///
-/// So whoever goes up the numbers, the events or the levels finds all sources settled.
+/// So whoever goes up the numbers or the events finds all sources settled.
 pub fn sources_come_first()
     ensures { (p : Plan) (o j t : ℕ) → IsPlan p → o < op_count p → j < length (keys_of p o) → origin_at p o j ≡ Written t
         → (t < o) × (event_of p t < event_of p o) }
 {}
 
+/// Levels rise from a source to what reads from it, among operations and among their events. They go from 1 to the depth.
+///
+/// So all of one level can be settled at once, when those of the levels before it are.
+pub fn levels_rise()
+    ensures op { (p : Plan) (o j t : ℕ) → IsValidPlan p → o < op_count p → j < length (keys_of p o) → origin_at p o j ≡ Written t
+        → (op_at p t).level < (op_at p o).level }
+    ensures event { (p : Plan) (o j t : ℕ) → IsValidPlan p → o < op_count p → j < length (keys_of p o) → origin_at p o j ≡ Written t
+        → (event_at p (event_of p t)).level < (event_at p (event_of p o)).level }
+    ensures op_range { (p : Plan) (o : ℕ) → IsValidPlan p → o < op_count p → (0 < (op_at p o).level) × ((op_at p o).level ≤ op_depth p) }
+    ensures event_range { (p : Plan) (i : ℕ) → IsValidPlan p → i < event_count p → (0 < (event_at p i).level) × ((event_at p i).level ≤ event_depth p) }
+{}
+
 /// Values stay at most [`MAX`](crate::MAX): the answer of an operation of valid shape on values, each key of a state after
-/// transactions, the state that a plan's bases tell, and the value of each operation.
+/// transactions or a batch, the state that a plan's bases tell, and the value of each operation.
 pub fn values_stay_small()
     ensures answers { (op : Op) (xs : List ℕ) (v : ℕ) → value_of op xs ≡ Some v → IsShaped op → All (λ x. x ≤ MAX) xs → v ≤ MAX }
     ensures folds { (s : State) (es : List Transaction) (key : Key) → All IsTransaction es → ((k : Key) → s k ≤ MAX) → after_all s es key ≤ MAX }
+    ensures batches { (b : Batch) (s : State) (key : Key) → IsBatch b → ((k : Key) → s k ≤ MAX) → fold_batch b s key ≤ MAX }
     ensures states { (p : Plan) (s : State) (i : ℕ) (key : Key) → IsPlan p → ((k : Key) → s k ≤ MAX) → state_at p s i key ≤ MAX }
     ensures opening { (p : Plan) (key : Key) → IsPlan p → opening p key ≤ MAX }
     ensures values { (p : Plan) (o : ℕ) → IsPlan p → final p o ≤ MAX }

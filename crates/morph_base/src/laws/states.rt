@@ -1,14 +1,15 @@
 //! The state after the events of a plan, told by the values of its operations.
-ghost use Rattle.std.specs.Prelude.{◌≡◌, ℕ, ◌<◌, ◌≤◌};
+ghost use Rattle.std.specs.Prelude.{◌≡◌, ℕ, ◌<◌, ◌≤◌, ◌↔◌, nat_le, count_by};
 ghost use Rattle.morph_base.specs.declared.key.Key.{Key};
 ghost use Rattle.morph_base.specs.declared.event.Batch.{Batch};
 ghost use Rattle.morph_base.specs.declared.plan.Plan.{Plan};
 ghost use Rattle.morph_base.specs.States.{State, fold_batch, overwritten};
-ghost use Rattle.morph_base.specs.Plans.{IsPlan, IsPlanOf, HasBases, IsLastWriterIn, IsUnwrittenIn, op_count, event_of, target, state_at, event_count, final};
+ghost use Rattle.morph_base.specs.Plans.{IsPlan, IsPlanOf, HasBases, IsLastWriterIn, IsUnwrittenIn, op_count, event_at, event_of, target, state_at, event_count, final};
 
 /// The state after the first i events of a plan: a key that one of their operations changes has the fold's value of the
 /// last that does, each other key what it had before the batch. As one equation of states: the state before the batch,
-/// overwritten by the operations of the first i events in order, where these are the first n.
+/// overwritten by the operations of the first i events in order, where these are the first n. The events up to a time are
+/// the first of the plan, as many as there are.
 ///
 /// A version of a key at a time is read by it, from the values of the operations alone.
 pub fn versions()
@@ -18,6 +19,8 @@ pub fn versions()
     ensures overwritten { (p : Plan) (s : State) (n i : ℕ) → IsPlan p → HasBases p s → n ≤ op_count p
         → ((o : ℕ) → o < n → event_of p o < i) → ((o : ℕ) → n ≤ o → o < op_count p → i ≤ event_of p o)
         → overwritten (target p) (final p) s n ≡ state_at p s i }
+    ensures until { (p : Plan) (t i : ℕ) → IsPlan p → i < event_count p
+        → (i < count_by (λ e. nat_le e.ts t) p.events.items) ↔ ((event_at p i).ts ≤ t) }
 {}
 
 /// The state after a batch is the state before it, overwritten by all operations of its plan in order, so that each target

@@ -1,11 +1,11 @@
-use Rattle.std.proofs.Common.{◌≡◌, ◌∙◌, refl, sym, ap, subst, map, take, ℕ, ◌+◌, ◌<◌, List, [], ◌∷◌, ◌++◌, Bor, All, length, get_or, arith}
+use Rattle.std.proofs.Common.{◌≡◌, ◌∙◌, refl, sym, ap, subst, map, take, ℕ, ◌+◌, ◌<◌, List, [], ◌∷◌, ◌++◌, Bor, All, length, get_or, arith, Result, Ok, Err, OnErr}
 use Rattle.std.proofs.Math.ListN.{get_or-map, length-map}
-use Rattle.std.proofs.lemmas.List.{map_more, map-append}
+use Rattle.std.proofs.lemmas.List.{map_more, map-append, take-map}
 use Rattle.std.proofs.lemmas.List.Sorted.{All-permutation}
 use Rattle.morph_base.specs.declared.event.Event.{Event}
 use Rattle.morph_base.specs.declared.outcome.Outcome.{Outcome}
 use Rattle.morph_base.specs.Transactions.{Transaction, transaction_of, transactions_of, by_time, IsTransaction, HasKeysIn}
-use Rattle.morph_base.specs.States.{State, after, after_all}
+use Rattle.morph_base.specs.States.{State, after, after_all, IsAfterSome}
 use Rattle.morph_base.specs.Outcomes.{fate, fates, fate_of}
 use Rattle.morph_base.specs.Flat.{contents}
 use Rattle.morph_base.proofs.TimeLaws.{by_time-permutes}
@@ -42,6 +42,33 @@ told-more s t items i x os ps o lt is state so_far one more =
     ∙ ap (λ f. fates s (map seen (take i items)) ++ f ∷ []) (one ∙ ap (λ r. fate r (seen x)) state)
     ∙ sym (fates-push s (map seen (take i items)) (seen x))
     ∙ ap (fates s) (sym (front-more items i x lt is))
+
+-- what holds in any case holds where there is an error
+on_err : {T E P : Type 0} (r : Result T E) → P → OnErr r P
+on_err (Ok v) p = tt
+on_err (Err e) p = p
+
+-- what was reached after the first i events in order
+reached : (s t : State) (es : List Transaction) (items : List (Bor Event)) (i : ℕ) → map seen items ≡ by_time es →
+    t ≡ after_all s (map seen (take i items)) → IsAfterSome s (by_time es) t
+reached s t es items i same so_far =
+    record { count = i; reached = so_far ∙ ap (after_all s) (sym (take-map seen i items) ∙ ap (take i) same) }
+
+nothing_yet : (s : State) (es : List Transaction) → IsAfterSome s es s
+nothing_yet s es = record { count = 0; reached = sym (after_all-nil s) }
+
+pub returns-in_err-events-clause-refused : goal.returns-in_err-events-clause-refused
+returns-in_err-events-clause-refused c = on_err _ (nothing_yet _ _)
+
+pub returns-in_err-outcomes-clause-refused : goal.returns-in_err-outcomes-clause-refused
+returns-in_err-outcomes-clause-refused c = on_err _ (nothing_yet _ _)
+
+pub returns-in_err-apply-clause-refused : goal.returns-in_err-apply-clause-refused
+returns-in_err-apply-clause-refused c =
+    on_err _
+    (reached (contents c.args.values.now) (contents c.apply.new.values) (transactions_of c.args.batch.now) c.deref-event-items.result.now
+    c.loop-event.event-index (ap (map seen) c.deref-event-items.ensures.value ∙ c.in_ok-events.ensures)
+    (ap contents c.in_err-apply.ensures.refused ∙ c.loop-event.invariant.state))
 
 pub loop-event-init : goal.loop-event-init
 loop-event-init c =

@@ -1,0 +1,259 @@
+-- How a batch is read line by line.
+use Rattle.std.proofs.Common.{◌≡◌, ℕ, ◌+◌, true, false, List, [], ◌++◌, length, refl, sym, ◌∙◌, ap, arith, append_assoc, append-nil, Option, Some, None, Ok, Err}
+use Rattle.std.specs.Prelude.{IfSome, option_map, nat_lt}
+use Rattle.std.specs.List.{IsDistinct}
+use Rattle.std.proofs.lemmas.Bool.Decides.{nat_tests}
+use Rattle.std.proofs.lemmas.List.Elements.{All-nil}
+use Rattle.morph_base.specs.declared.key.Layout.{Layout}
+use Rattle.morph_base.specs.Transactions.{Transaction, IsTransaction, HasKeysIn}
+use Rattle.morph_io.specs.Told.{ahead, ahead_nil, ahead_ahead, IsAtEnd}
+use Rattle.event_reader.specs.declared.limits.TheConstants.{LONGEST_LINE}
+use Rattle.event_reader.specs.declared.cause.Cause.{Cause}
+use Rattle.event_reader.specs.declared.cause.Cause.TheVariants.{Long}
+use Rattle.event_reader.specs.declared.answers.LineNext.TheVariants.{Line}
+use Rattle.event_reader.specs.declared.fault.ReaderFault.{ReaderFault}
+use Rattle.event_reader.specs.declared.fault.ReaderFault.TheVariants.{ReadFault, TooLong, OutOfMemory}
+use Rattle.event_reader.specs.Lines.{Reading, front, within, with_line, IsLongFirst}
+use Rattle.event_reader.specs.Steps.{Meaning, Step, step_of}
+use Rattle.event_reader.specs.Accepted.{Accepted, Ended, RefusedAt, CutOff, with_batch, led_by, accepted_lines, accepted_from}
+use Rattle.event_reader.specs.Pending.{IsSound}
+use Rattle.event_reader.proofs.Goings.{end_told}
+use Rattle.event_reader.specs.Reader.{LinesView, room, reading_of, Takes, AnswersLine, ShowsLine, accepted_next, accepted_at, AnswersNext, ShowsBatch}
+
+-- what is still to be given is `F` of the lines that come after `now`
+pub record HasReadTo (meaning : Meaning) (closed : ℕ) (before : LinesView) (left : Option (List ℕ)) (F : Reading → Accepted) (now : LinesView) (left' : Option (List ℕ)) : Type 0 where
+  pub told : accepted_at meaning closed before left ≡ option_map F (reading_of now left')
+  pub got : List ℕ
+  pub taken : left ≡ ahead got left'
+  pub shows : now.ended ≡ false → (more : List ℕ) → accepted_next meaning closed before (front (before.kept ++ got ++ more)) ≡ F (front (now.kept ++ more))
+  pub unended : now.ended ≡ false → before.ended ≡ false
+
+-- at the start
+pub reads_nothing : (meaning : Meaning) (closed : ℕ) (v : LinesView) (left : Option (List ℕ)) → HasReadTo meaning closed v left (accepted_from meaning v.number closed []) v left
+reads_nothing meaning closed v left = record {
+  told = refl;
+  got = [];
+  taken = sym (ahead_nil left);
+  shows = λ unended more. ap (λ kept. accepted_next meaning closed v (front (kept ++ more))) (append-nil v.kept);
+  unended = λ e. e;
+}
+
+-- functions of what is told
+map_map : (F G : Reading → Accepted) (g : Reading → Reading) (o : Option Reading) → ((r : Reading) → F (g r) ≡ G r) → option_map F (option_map g o) ≡ option_map G o
+map_map F G g None same = refl
+map_map F G g (Some r) same = ap Some (same r)
+
+map_same : (F G : Reading → Accepted) (o : Option Reading) → ((r : Reading) → F r ≡ G r) → option_map F o ≡ option_map G o
+map_same F G None same = refl
+map_same F G (Some r) same = ap Some (same r)
+
+split_map : (F : Reading → Accepted) (h : Accepted → Accepted) (G : Reading → Accepted) (o : Option Reading) → ((r : Reading) → F r ≡ h (G r))
+    → option_map F o ≡ option_map h (option_map G o)
+split_map F h G None same = refl
+split_map F h G (Some r) same = ap Some (same r)
+
+if_told : (F : Reading → Accepted) (P : Reading → Type 0) (all : Accepted) (o : Option Reading) → IfSome o P → ((r : Reading) → P r → F r ≡ all)
+    → IfSome (option_map F o) (λ a. a ≡ all)
+if_told F P all None h same = tt
+if_told F P all (Some r) h same = same r h
+
+-- the same with another function that agrees
+pub reads_as : (meaning : Meaning) (closed : ℕ) (before : LinesView) (left : Option (List ℕ)) (F G : Reading → Accepted) (now : LinesView) (left' : Option (List ℕ))
+    → HasReadTo meaning closed before left F now left' → ((r : Reading) → F r ≡ G r) → HasReadTo meaning closed before left G now left'
+reads_as meaning closed before left F G now left' h same = record {
+  told = h.told ∙ map_same F G (reading_of now left') same;
+  got = h.got;
+  taken = h.taken;
+  shows = λ unended more. h.shows unended more ∙ same (front (now.kept ++ more));
+  unended = h.unended;
+}
+
+-- a line more
+pub reads_line : (meaning : Meaning) (closed : ℕ) (before : LinesView) (left : Option (List ℕ)) (F : Reading → Accepted) (now : LinesView) (left' : Option (List ℕ)) (next : LinesView) (left'' : Option (List ℕ))
+    → HasReadTo meaning closed before left F now left' → reading_of now left' ≡ option_map (with_line next.line) (reading_of next left'')
+    → Takes left' left'' (ShowsLine now (Ok Line) next) → (next.ended ≡ false → now.ended ≡ false)
+    → HasReadTo meaning closed before left (λ r. F (with_line next.line r)) next left''
+reads_line meaning closed before left F now left' next left'' h told takes unended = record {
+  told = h.told ∙ ap (option_map F) told ∙ map_map F (λ r. F (with_line next.line r)) (with_line next.line) (reading_of next left'') (λ r. refl);
+  got = h.got ++ takes.got;
+  taken = h.taken ∙ ap (ahead h.got) takes.taken ∙ ahead_ahead h.got takes.got left'';
+  shows = λ open' more.
+      ap (λ bytes. accepted_next meaning closed before (front bytes)) (regroup before.kept h.got takes.got more)
+      ∙ h.shows (unended open') (takes.got ++ more)
+      ∙ ap (λ bytes. F (front bytes)) (sym (append_assoc now.kept takes.got more))
+      ∙ ap F (takes.shows open' more);
+  unended = λ open'. h.unended (unended open');
+}
+  where
+    regroup : (a b c d : List ℕ) → a ++ (b ++ c) ++ d ≡ a ++ b ++ (c ++ d)
+    regroup a b c d = simp append_assoc
+
+-- where a line leads
+pub leads : (m : Meaning) (n closed : ℕ) (batch : List Transaction) (line : List ℕ) (step : Step) → step_of m closed batch line ≡ step → (r : Reading)
+    → accepted_from m n closed batch (with_line line r) ≡ led_by step n closed batch (λ closed' batch'. accepted_from m (n + 1) closed' batch' r)
+unfolding accepted_lines
+leads m n closed batch line step is r = ap (λ s. led_by s n closed batch (λ closed' batch'. accepted_from m (n + 1) closed' batch' r)) is
+
+-- a line that is too long is refused
+long_refused : (m : Meaning) (n closed : ℕ) (batch : List Transaction) (r : Reading) → IsLongFirst r.lines
+    → accepted_from m n closed batch r ≡ record { batches = []; ending = RefusedAt (n + 1) Long }
+unfolding step_of accepted_lines
+long_refused m n closed batch r (line, more, is, long) =
+    let too_long : nat_lt LONGEST_LINE (length line) ≡ true = grind (arith, nat_tests) in
+    rw is (rw too_long refl)
+
+module _ (m : Meaning) (closed : ℕ) (before : LinesView) (left : Option (List ℕ)) (batch : List Transaction) (now : LinesView) (left' : Option (List ℕ)) where
+  abbrev pub Reads : Type 0
+  Reads = HasReadTo m closed before left (accepted_from m now.number closed batch) now left'
+
+  -- the answer for a line that is too long
+  pub answers_too_long : Reads → IfSome (reading_of now left') (λ r. IsLongFirst r.lines)
+      → IfSome (accepted_at m closed before left) (λ all. all ≡ record { batches = []; ending = RefusedAt (now.number + 1) Long })
+  answers_too_long h long =
+      rw h.told
+      (if_told (accepted_from m now.number closed batch) (λ r. IsLongFirst r.lines) (record { batches = []; ending = RefusedAt (now.number + 1) Long })
+      (reading_of now left') long (long_refused m now.number closed batch))
+
+  -- the answer where the lines are cut off
+  pub answers_cut : Reads → IfSome (reading_of now left') (λ r. r ≡ record { lines = []; cut = true })
+      → IfSome (accepted_at m closed before left) (λ all. all ≡ record { batches = []; ending = CutOff })
+  unfolding accepted_lines
+  answers_cut h cut =
+      rw h.told
+      (if_told (accepted_from m now.number closed batch) (λ r. r ≡ record { lines = []; cut = true }) (record { batches = []; ending = CutOff })
+      (reading_of now left') cut (λ r is. ap (accepted_from m now.number closed batch) is))
+
+  -- the answer at the end of the input with no event pending
+  pub answers_ended : Reads → batch ≡ [] → IfSome (reading_of now left') (λ r. r ≡ record { lines = []; cut = false })
+      → IfSome (accepted_at m closed before left) (λ all. all ≡ record { batches = []; ending = Ended })
+  unfolding accepted_lines
+  answers_ended h none ended =
+      rw h.told
+      (if_told (accepted_from m now.number closed batch) (λ r. r ≡ record { lines = []; cut = false }) (record { batches = []; ending = Ended })
+      (reading_of now left') ended
+      (λ r is. ap (λ b. accepted_from m now.number closed b r) none ∙ ap (accepted_from m now.number closed []) is))
+
+  -- the answer at the end of the input with a batch pending
+  pub answers_last : (closed' : ℕ) (next : LinesView) (left'' : Option (List ℕ)) → Reads → reading_of now left' ≡ reading_of next left''
+      → IfSome (reading_of now left') (λ r. r ≡ record { lines = []; cut = false })
+      → accepted_at m closed before left ≡ option_map (with_batch batch) (accepted_at m closed' next left'')
+  unfolding accepted_lines
+  answers_last closed' next left'' h same ended = h.told ∙ by_told (reading_of now left') ended ∙ ap (λ o. option_map (with_batch batch) (option_map (accepted_next m closed' next) o)) same
+    where
+      by_told : (o : Option Reading) → IfSome o (λ r. r ≡ record { lines = []; cut = false })
+          → option_map (accepted_from m now.number closed batch) o ≡ option_map (with_batch batch) (option_map (accepted_next m closed' next) o)
+      by_told None ended = refl
+      by_told (Some r) ended = ap Some (rw ended refl)
+
+  -- the source failed: the bytes that it gave close no batch and have no refused line
+  pub shows_failed : (got : List ℕ) → (h : Reads) → now.ended ≡ false → front (now.kept ++ got) ≡ record { lines = []; cut = true }
+      → accepted_next m closed before (front (before.kept ++ (h.got ++ got))) ≡ record { batches = []; ending = CutOff }
+  unfolding accepted_lines
+  shows_failed got h unended none =
+      ap (λ bytes. accepted_next m closed before (front bytes)) (sym (append_assoc before.kept h.got got))
+      ∙ h.shows unended got
+      ∙ ap (accepted_from m now.number closed batch) none
+
+-- where no line was added to what was read, it has read more bytes
+pub takes_more : (m : Meaning) (closed : ℕ) (before : LinesView) (left : Option (List ℕ)) (F : Reading → Accepted) (now : LinesView) (left' left'' : Option (List ℕ)) (Shows Shows' : List ℕ → Type 0)
+    → (h : HasReadTo m closed before left F now left') → Takes left' left'' Shows → ((got : List ℕ) → Shows got → Shows' (h.got ++ got)) → Takes left left'' Shows'
+takes_more m closed before left F now left' left'' Shows Shows' h takes shows = record {
+  got = h.got ++ takes.got;
+  taken = h.taken ∙ ap (ahead h.got) takes.taken ∙ ahead_ahead h.got takes.got left'';
+  shows = shows takes.got takes.shows;
+}
+
+module _ (m : Meaning) (closed : ℕ) (before : LinesView) (left : Option (List ℕ)) (batch : List Transaction) (now : LinesView) (left' : Option (List ℕ)) (next : LinesView) (left'' : Option (List ℕ)) where
+  -- the answer where no line could be read
+  pub answers_fault_next : (fault : ReaderFault) (line : List ℕ) (after : Option Reading) (later : Option Accepted) → Reads m closed before left batch now left'
+      → AnswersLine (reading_of now left') (Err fault) line after → AnswersNext (accepted_at m closed before left) (Err fault) later
+  answers_fault_next ReadFault line after later h answer = tt
+  answers_fault_next TooLong line after later h answer = answers_cut m closed before left batch now left' h answer
+  answers_fault_next OutOfMemory line after later h answer = tt
+
+  pub shows_fault_next : (fault : ReaderFault) (closed' : ℕ) → Reads m closed before left batch now left' → now.ended ≡ false
+      → Takes left' left'' (ShowsLine now (Err fault) next) → Takes left left'' (ShowsBatch m closed before (Err fault) closed' next)
+  shows_fault_next ReadFault closed' h unended takes =
+      takes_more m closed before left (accepted_from m now.number closed batch) now left' left'' _ _ h takes
+      (λ got none. shows_failed m closed before left batch now left' got h unended none)
+  shows_fault_next TooLong closed' h unended takes = takes_more m closed before left (accepted_from m now.number closed batch) now left' left'' _ _ h takes (λ got none. tt)
+  shows_fault_next OutOfMemory closed' h unended takes = takes_more m closed before left (accepted_from m now.number closed batch) now left' left'' _ _ h takes (λ got none. tt)
+
+  -- after a line that leads on
+  pub reads_more : (batch' : List Transaction) → Reads m closed before left batch now left' → reading_of now left' ≡ option_map (with_line next.line) (reading_of next left'')
+      → Takes left' left'' (ShowsLine now (Ok Line) next) → (next.ended ≡ false → now.ended ≡ false) → next.number ≡ now.number + 1
+      → ((n : ℕ) (r : Reading) → accepted_from m n closed batch (with_line next.line r) ≡ accepted_from m (n + 1) closed batch' r)
+      → Reads m closed before left batch' next left''
+  reads_more batch' h told takes unended counts leads =
+      reads_as m closed before left _ _ next left''
+      (reads_line m closed before left (accepted_from m now.number closed batch) now left' next left'' h told takes unended)
+      (λ r. leads now.number r ∙ ap (λ n. accepted_from m n closed batch' r) (sym counts))
+
+  -- after a line that closes the batch
+  pub answers_batch : (closed' : ℕ) → Reads m closed before left batch now left' → reading_of now left' ≡ option_map (with_line next.line) (reading_of next left'')
+      → next.number ≡ now.number + 1
+      → ((n : ℕ) (r : Reading) → accepted_from m n closed batch (with_line next.line r) ≡ with_batch batch (accepted_from m (n + 1) closed' [] r))
+      → accepted_at m closed before left ≡ option_map (with_batch batch) (accepted_at m closed' next left'')
+  answers_batch closed' h told counts leads =
+      h.told ∙ ap (option_map (accepted_from m now.number closed batch)) told
+      ∙ map_map (accepted_from m now.number closed batch) (λ r. with_batch batch (accepted_next m closed' next r)) (with_line next.line) (reading_of next left'')
+      (λ r. leads now.number r ∙ ap (λ n. with_batch batch (accepted_from m n closed' [] r)) (sym counts))
+      ∙ split_map (λ r. with_batch batch (accepted_next m closed' next r)) (with_batch batch) (accepted_next m closed' next) (reading_of next left'') (λ r. refl)
+
+  pub shows_batch : (closed' : ℕ) → Reads m closed before left batch now left' → reading_of now left' ≡ option_map (with_line next.line) (reading_of next left'')
+      → Takes left' left'' (ShowsLine now (Ok Line) next) → (next.ended ≡ false → now.ended ≡ false) → next.number ≡ now.number + 1
+      → ((n : ℕ) (r : Reading) → accepted_from m n closed batch (with_line next.line r) ≡ with_batch batch (accepted_from m (n + 1) closed' [] r))
+      → Takes left left''
+      (λ got. next.ended ≡ false → (more : List ℕ) → accepted_next m closed before (front (before.kept ++ got ++ more))
+      ≡ with_batch batch (accepted_next m closed' next (front (next.kept ++ more))))
+  shows_batch closed' h told takes unended counts leads =
+      let reads = reads_line m closed before left (accepted_from m now.number closed batch) now left' next left'' h told takes unended in
+      record {
+        got = reads.got;
+        taken = reads.taken;
+        shows = λ open' more. reads.shows open' more ∙ leads now.number (front (next.kept ++ more))
+            ∙ ap (λ n. with_batch batch (accepted_from m n closed' [] (front (next.kept ++ more)))) (sym counts);
+      }
+
+  -- after a line that is refused
+  pub answers_refused : (cause : Cause) → Reads m closed before left batch now left' → reading_of now left' ≡ option_map (with_line next.line) (reading_of next left'')
+      → next.number ≡ now.number + 1
+      → ((n : ℕ) (r : Reading) → accepted_from m n closed batch (with_line next.line r) ≡ record { batches = []; ending = RefusedAt (n + 1) cause })
+      → IfSome (accepted_at m closed before left) (λ all. all ≡ record { batches = []; ending = RefusedAt next.number cause })
+  answers_refused cause h told counts leads =
+      rw (h.told, told, counts) (by_told (reading_of next left''))
+    where
+      by_told : (o : Option Reading)
+          → IfSome (option_map (accepted_from m now.number closed batch) (option_map (with_line next.line) o))
+          (λ all. all ≡ record { batches = []; ending = RefusedAt (now.number + 1) cause })
+      by_told None = tt
+      by_told (Some r) = leads now.number r
+
+-- at the start, with no event pending
+pub reads_from : (m : Meaning) (closed : ℕ) (v : LinesView) (left : Option (List ℕ)) (batch : List Transaction) → batch ≡ [] → Reads m closed v left batch v left
+reads_from m closed v left batch none = rw none (reads_nothing m closed v left)
+
+pub nothing_sound : (layout : Layout) (batch : List Transaction) → batch ≡ [] → IsSound layout batch
+unfolding IsDistinct
+nothing_sound layout batch none = rw none record {
+  valid = record { few = omega arith; valid = All-nil IsTransaction; times = tt };
+  keys = All-nil (HasKeysIn layout);
+}
+
+-- it has read some bytes
+pub reads_some : (m : Meaning) (closed : ℕ) (before : LinesView) (left : Option (List ℕ)) (batch : List Transaction) (now : LinesView) (left' left'' : Option (List ℕ)) (Shows Shows' : List ℕ → Type 0)
+    → Reads m closed before left batch now left' → Takes left' left'' Shows → ((got : List ℕ) → Shows' got) → Takes left left'' Shows'
+reads_some m closed before left batch now left' left'' Shows Shows' h takes shows =
+    takes_more m closed before left (accepted_from m now.number closed batch) now left' left'' Shows Shows' h takes (λ got _. shows (h.got ++ got))
+
+-- at the end of the input, with nothing kept
+pub ended_told : (m : Meaning) (closed : ℕ) (v : LinesView) (left : Option (List ℕ)) → v.kept ≡ [] → IsAtEnd left
+    → IfSome (accepted_at m closed v left) (λ all. all ≡ record { batches = []; ending = Ended })
+unfolding accepted_lines
+ended_told m closed v left none at_end =
+    let same : reading_of v left ≡ option_map (within (room v)) (ahead [] left)
+    = ap (λ kept. option_map (within (room v)) (ahead kept left)) none in
+    let ended : IfSome (reading_of v left) (λ r. r ≡ record { lines = []; cut = false })
+    = rw same (end_told left (room v) at_end) in
+    if_told (accepted_next m closed v) (λ r. r ≡ record { lines = []; cut = false }) (record { batches = []; ending = Ended })
+    (reading_of v left) ended (λ r is. ap (accepted_next m closed v) is)

@@ -1,0 +1,12 @@
+pub mod Cutting
+pub mod Deciding
+pub mod Moving
+pub mod Parts
+pub mod BufferParts
+pub mod Goings
+pub mod Digits
+pub mod TimeSets
+pub mod Batching
+pub mod Stepping
+pub mod Fronts
+pub mod NumberLists

@@ -1,0 +1,58 @@
+-- The batches that an input has, up to its first refused line.
+use Rattle.std.specs.Prelude.{ℕ, ◌+◌, Bool, true, false, List, [], ◌∷◌, ◌++◌}
+use Rattle.morph_base.specs.Transactions.{Transaction}
+use Rattle.event_reader.specs.declared.cause.Cause.{Cause}
+use Rattle.event_reader.specs.Lines.{Reading, whole, front, within}
+use Rattle.event_reader.specs.Steps.{Meaning, Step, Ignored, Closes, Adds, Refuses, latest_with, step_of}
+
+-- how the batches end: the input ends, a line is refused, or the lines are cut off with none refused
+pub data Ending : Type 0 where
+  Ended : Ending
+  RefusedAt : (line : ℕ) → Cause → Ending
+  CutOff : Ending
+
+pub record Accepted : Type 0 where
+  pub batches : List (List Transaction)
+  pub ending : Ending
+
+-- a batch more, in front of the others; one without events is left out
+abbrev pub with_batch : List Transaction → Accepted → Accepted
+with_batch [] all = all
+with_batch (e ∷ es) all = record { batches = (e ∷ es) ∷ all.batches; ending = all.ending }
+
+-- after the last line: the end of the input closes the batch, and where the lines are cut off it stays open
+abbrev pub at_last : (cut : Bool) → List Transaction → Accepted
+at_last true batch = record { batches = []; ending = CutOff }
+at_last false batch = with_batch batch (record { batches = []; ending = Ended })
+
+-- where a line leads, with what comes of the lines after it
+abbrev pub led_by : Step → (number closed : ℕ) → List Transaction → (ℕ → List Transaction → Accepted) → Accepted
+led_by Ignored number closed batch after = after closed batch
+led_by Closes number closed batch after = with_batch batch (after (latest_with batch closed) [])
+led_by (Adds e) number closed batch after = after closed (batch ++ e ∷ [])
+led_by (Refuses cause) number closed batch after = record { batches = []; ending = RefusedAt (number + 1) cause }
+
+-- the batches of lines, where `number` lines stand before them, `closed` is the greatest timestamp of the batches
+-- closed before, and `batch` has the events of the unfinished batch
+unfoldable pub accepted_lines : Meaning → (number closed : ℕ) → List Transaction → List (List ℕ) → (cut : Bool) → Accepted
+accepted_lines meaning number closed batch [] cut = at_last cut batch
+accepted_lines meaning number closed batch (line ∷ lines) cut =
+    led_by (step_of meaning closed batch line) number closed batch
+    (λ closed' batch'. accepted_lines meaning (number + 1) closed' batch' lines cut)
+
+abbrev pub accepted_from : Meaning → (number closed : ℕ) → List Transaction → Reading → Accepted
+accepted_from meaning number closed batch reading = accepted_lines meaning number closed batch reading.lines reading.cut
+
+-- the batches that are closed before the first refused line of an input, in order, with that line's number and cause if
+-- there is one. Where there is none the end of the input closes the last batch
+abbrev pub accepted : Meaning → List ℕ → Accepted
+accepted meaning input = accepted_from meaning 0 0 [] (whole input)
+
+-- the batches that are closed by a punctuation whose line stands, with its LF, within a front of an input
+abbrev pub closed_batches : Meaning → List ℕ → List (List Transaction)
+closed_batches meaning bytes = (accepted_from meaning 0 0 [] (front bytes)).batches
+
+-- the batches of an input of which at most `limit` bytes are read. It ends in `CutOff` exactly where the input has more
+-- bytes than that, and none of the lines that are decided by the first `limit` of them is refused
+abbrev pub accepted_within : Meaning → (limit : ℕ) → List ℕ → Accepted
+accepted_within meaning limit input = accepted_from meaning 0 0 [] (within limit input)

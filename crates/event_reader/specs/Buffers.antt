@@ -1,0 +1,16 @@
+-- What the buffer of a reader of lines keeps true.
+use Rattle.std.specs.Prelude.{◌≡◌, ◌+◌, ◌-◌, ◌≤◌, IsTrue, length}
+use Rattle.event_reader.specs.declared.limits.TheConstants.{BUFFER_BYTES, INPUT_BYTES}
+use Rattle.event_reader.specs.declared.lines.Lines.TheInside.{Inside}
+
+pub record IsBuffer (lines : Inside) : Type 0 where
+  pub whole : length lines.buffer.items ≡ BUFFER_BYTES
+  pub kept_order : lines.start ≤ lines.end
+  pub kept_inside : lines.end ≤ BUFFER_BYTES
+  pub line_order : lines.line_start ≤ lines.line_end
+  pub line_inside : lines.line_end ≤ BUFFER_BYTES
+  pub taken_bound : lines.taken ≤ lines.limit
+  pub limit_bound : lines.limit ≤ INPUT_BYTES
+  pub kept_bound : lines.end - lines.start ≤ lines.taken
+  pub number_bound : lines.number ≤ lines.limit + 1
+  pub number_live : IsTrue lines.live → lines.number + (lines.end - lines.start) ≤ lines.taken

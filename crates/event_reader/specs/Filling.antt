@@ -1,0 +1,42 @@
+-- What a reader of lines has after it asked its source for more bytes.
+use Rattle.std.specs.Prelude.{◌≡◌, ℕ, ◌+◌, ◌<◌, ◌≤◌, false, IsTrue, List, [], ◌∷◌, ◌++◌, length, Option, Result, Ok, Err}
+use Rattle.morph_io.specs.Told.{ahead, IsAtEnd}
+use Rattle.event_reader.specs.declared.fault.ReaderFault.{ReaderFault}
+use Rattle.event_reader.specs.declared.fault.ReaderFault.TheVariants.{ReadFault, TooLong, OutOfMemory}
+use Rattle.event_reader.specs.Reader.{LinesView}
+
+-- it keeps `got` more bytes, or the source came to its end
+pub record KeepsMore (before : LinesView) (left : Option (List ℕ)) (after : LinesView) (left' : Option (List ℕ)) : Type 0 where
+  pub got : List ℕ
+  pub told : left ≡ ahead got left'
+  pub kept : after.kept ≡ before.kept ++ got
+  pub taken : after.taken ≡ before.taken + length got
+  pub bound : after.taken ≤ after.limit
+  pub number : after.number ≡ before.number
+  pub limit : after.limit ≡ before.limit
+  pub live : after.live ≡ before.live
+  pub more : after.ended ≡ false → 0 < length got
+  pub at_end : IsTrue after.ended → IsAtEnd left'
+  pub short : after.line ≡ []
+
+-- it was refused bytes, and keeps what it kept
+pub record KeepsAll (before after : LinesView) : Type 0 where
+  pub kept : after.kept ≡ before.kept
+  pub taken : after.taken ≡ before.taken
+  pub number : after.number ≡ before.number
+  pub limit : after.limit ≡ before.limit
+  pub stops : after.live ≡ false
+  pub ended : after.ended ≡ false
+  pub short : after.line ≡ []
+
+-- the source gave bytes beyond the limit
+pub record GivesMore (left left' : Option (List ℕ)) : Type 0 where
+  pub byte : ℕ
+  pub more : List ℕ
+  pub told : left ≡ ahead (byte ∷ more) left'
+
+abbrev pub Fills : LinesView → Option (List ℕ) → Result (Unit {0}) ReaderFault → LinesView → Option (List ℕ) → Type 0
+Fills before left (Ok _) after left' = KeepsMore before left after left'
+Fills before left (Err ReadFault) after left' = KeepsAll before after × (left ≡ left')
+Fills before left (Err TooLong) after left' = KeepsAll before after × GivesMore left left' × (after.taken ≡ after.limit)
+Fills before left (Err OutOfMemory) after left' = ⊥

@@ -1,0 +1,14 @@
+pub mod Numbers
+pub mod Words
+pub mod Lines
+pub mod Steps
+pub mod Accepted
+pub mod Reader
+pub mod Decisions
+pub mod Reading
+pub mod Buffers
+pub mod Filling
+pub mod Times
+pub mod RisingTimes
+pub mod Pending
+pub mod Draws

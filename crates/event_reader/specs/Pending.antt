@@ -1,0 +1,58 @@
+-- The unfinished batch of a reader.
+use Rattle.std.specs.Prelude.{◌≡◌, ℕ, ◌+◌, ◌<◌, ◌≤◌, List, [], ◌∷◌, ◌++◌, length, map, Option, Some, None}
+use Rattle.std.specs.List.{All}
+use Rattle.morph_base.specs.declared.key.Layout.{Layout}
+use Rattle.morph_base.specs.Transactions.{Transaction, IsBatchOf, HasKeysIn, transaction_of}
+use Rattle.event_reader.specs.declared.cause.Cause.{Cause}
+use Rattle.event_reader.specs.declared.pending.Pending.{Pending}
+use Rattle.event_reader.specs.declared.pending.LineEffect.{LineEffect}
+use Rattle.event_reader.specs.declared.pending.LineEffect.TheVariants.{GoesOn, Closes as ClosesBatch, Refuses as RefusesLine}
+use Rattle.event_reader.specs.Times.{is_among}
+use Rattle.event_reader.specs.Lines.{Reading, with_line}
+use Rattle.event_reader.specs.Steps.{Meaning, Adds, Refuses, latest_with, has_time, joining}
+use Rattle.event_reader.specs.Accepted.{RefusedAt, accepted_from, with_batch}
+
+-- its events
+abbrev pub batch_of : Pending → List Transaction
+batch_of pending = map transaction_of pending.events.items
+
+-- what it notes beside its events: their timestamps, and the greatest timestamp of all batches when it is closed too
+pub record Notes (closed : ℕ) (pending : Pending) : Type 0 where
+  pub times : (t : ℕ) → is_among pending.times t ≡ has_time (batch_of pending) t
+  pub latest : pending.latest ≡ latest_with (batch_of pending) closed
+
+-- events that are a valid batch, with their keys in the layout
+pub record IsSound (layout : Layout) (batch : List Transaction) : Type 0 where
+  pub valid : IsBatchOf batch
+  pub keys : All (HasKeysIn layout) batch
+
+-- one event more
+pub record HasMore (closed : ℕ) (old : Pending) (e : Transaction) (new : Pending) : Type 0 where
+  pub joins : joining closed (batch_of old) e ≡ Adds e
+  pub events : batch_of new ≡ batch_of old ++ e ∷ []
+  pub notes : Notes closed new
+
+-- an event joins the batch, or is refused
+abbrev pub Joins : (closed : ℕ) → (old : Pending) → Transaction → (new : Pending) → Option Cause → Type 0
+Joins closed old e new None = HasMore closed old e new
+Joins closed old e new (Some cause) = joining closed (batch_of old) e ≡ Refuses cause
+
+-- after the line the batch goes on, with at most one event more
+pub record GoesOnAfter (meaning : Meaning) (layout : Layout) (closed : ℕ) (old : Pending) (line : List ℕ) (new : Pending) : Type 0 where
+  pub leads : (n : ℕ) (r : Reading) → accepted_from meaning n closed (batch_of old) (with_line line r) ≡ accepted_from meaning (n + 1) closed (batch_of new) r
+  pub notes : Notes closed new
+  pub sound : IsSound layout (batch_of new)
+  pub more : length (batch_of new) ≤ length (batch_of old) + 1
+
+-- the line closes the batch, which has an event
+pub record ClosedBy (meaning : Meaning) (closed : ℕ) (old : Pending) (line : List ℕ) (new : Pending) : Type 0 where
+  pub leads : (n : ℕ) (r : Reading) → accepted_from meaning n closed (batch_of old) (with_line line r) ≡ with_batch (batch_of old) (accepted_from meaning (n + 1) old.latest [] r)
+  pub same : new ≡ old
+  pub some : 0 < length old.events.items
+
+-- what a line does
+abbrev pub TakesLine : Meaning → Layout → (closed : ℕ) → (old : Pending) → (line : List ℕ) → (new : Pending) → LineEffect → Type 0
+TakesLine meaning layout closed old line new GoesOn = GoesOnAfter meaning layout closed old line new
+TakesLine meaning layout closed old line new ClosesBatch = ClosedBy meaning closed old line new
+TakesLine meaning layout closed old line new (RefusesLine cause) =
+    (n : ℕ) (r : Reading) → accepted_from meaning n closed (batch_of old) (with_line line r) ≡ record { batches = []; ending = RefusedAt (n + 1) cause }

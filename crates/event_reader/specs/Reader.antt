@@ -1,0 +1,165 @@
+-- What contracts see of a reader, and what its answers say.
+use Rattle.std.specs.Prelude.{◌≡◌, ℕ, ◌+◌, ◌-◌, ◌<◌, ◌≤◌, Bool, true, false, List, [], ◌++◌, length, Option, option_map, IfSome, Result, Ok, Err}
+use Rattle.morph_base.specs.declared.key.Layout.{Layout}
+use Rattle.morph_base.specs.Transactions.{Transaction, IsTransaction, HasKeysIn, IsBatch, BatchKeysIn, transactions_of, transaction_of}
+use Rattle.morph_base.specs.declared.event.Event.{Event}
+use Rattle.morph_io.specs.Told.{ahead}
+use Rattle.event_reader.specs.declared.limits.TheConstants.{LONGEST_LINE}
+use Rattle.event_reader.specs.declared.cause.Cause.{Cause}
+use Rattle.event_reader.specs.declared.cause.Cause.TheVariants.{Form, Range, Same}
+use Rattle.event_reader.specs.declared.cause.LineFault.{LineFault}
+use Rattle.event_reader.specs.declared.cause.LineFault.TheVariants.{Refused as LineRefused, OutOfMemory as NoMemory}
+use Rattle.event_reader.specs.declared.fault.ReaderFault.{ReaderFault}
+use Rattle.event_reader.specs.declared.fault.ReaderFault.TheVariants.{ReadFault, TooLong, OutOfMemory}
+use Rattle.event_reader.specs.declared.answers.LineNext.{LineNext}
+use Rattle.event_reader.specs.declared.answers.LineNext.TheVariants.{Line, Long, End as NoLine}
+use Rattle.event_reader.specs.declared.answers.Next.{Next}
+use Rattle.event_reader.specs.declared.answers.Next.TheVariants.{Batch, End, Refused}
+use Rattle.event_reader.specs.Lines.{Reading, front, within, with_line, IsLongFirst}
+use Rattle.event_reader.specs.Steps.{Meaning}
+use Rattle.event_reader.specs.Accepted.{Accepted, Ended, RefusedAt, CutOff, accepted_from, with_batch}
+
+-- an application's answer for the words of a line is what they say; want of memory alone is free
+abbrev pub GivesEvent : Result Transaction Cause → Result Event LineFault → Type 0
+GivesEvent said (Ok e) = said ≡ Ok (transaction_of e)
+GivesEvent said (Err (LineRefused cause)) = said ≡ Err cause
+GivesEvent said (Err NoMemory) = Unit {0}
+
+-- the causes that the words of a line can have
+abbrev pub IsOfWords : Cause → Type 0
+IsOfWords Form = Unit {0}
+IsOfWords Range = Unit {0}
+IsOfWords Same = Unit {0}
+IsOfWords _ = ⊥
+
+-- every event that an application's words say is valid, and has its keys in the application's tables
+abbrev pub GivesValid : {App : Type 0} → (table_count : App → ℕ) → (App → ℕ → Meaning) → Type 0
+GivesValid {App} table_count event_of =
+    (app : App) (size : ℕ) (words : List (List ℕ)) (e : Transaction) → 0 < size → event_of app size words ≡ Ok e
+    → IsTransaction e × HasKeysIn (record { tables = table_count app; size = size }) e
+
+-- a reader of lines: the bytes that it took and gave no line of yet, the line that it gave last, how many lines it gave,
+-- how many bytes it took, the limit of these, whether the source came to its end, and whether it may be asked again
+pub record LinesView : Type 0 where
+  pub kept : List ℕ
+  pub line : List ℕ
+  pub number : ℕ
+  pub taken : ℕ
+  pub limit : ℕ
+  pub ended : Bool
+  pub live : Bool
+
+-- a new reader of lines
+abbrev pub new_lines : (limit : ℕ) → LinesView
+new_lines limit = record { kept = []; line = []; number = 0; taken = 0; limit = limit; ended = false; live = true }
+
+-- how many bytes it may still give lines of: those that it keeps, and those that it may still take
+abbrev pub room : LinesView → ℕ
+room v = length v.kept + (v.limit - v.taken)
+
+-- the lines that it has still to give, where the source tells its bytes
+abbrev pub reading_of : LinesView → Option (List ℕ) → Option Reading
+reading_of v left = option_map (within (room v)) (ahead v.kept left)
+
+-- bytes were taken from a source, and they show something
+pub record Takes (old new : Option (List ℕ)) (Shows : List ℕ → Type 0) : Type 0 where
+  pub got : List ℕ
+  pub taken : old ≡ ahead got new
+  pub shows : Shows got
+
+-- an answer of a reader of lines, by what it had to give before and what it has to give after
+abbrev pub AnswersLine : Option Reading → Result LineNext ReaderFault → List ℕ → Option Reading → Type 0
+AnswersLine before (Ok Line) line after = (before ≡ option_map (with_line line) after) × (length line ≤ LONGEST_LINE)
+AnswersLine before (Ok Long) line after = IfSome before (λ reading. IsLongFirst reading.lines)
+AnswersLine before (Ok NoLine) line after = (before ≡ after) × IfSome before (λ reading. reading ≡ record { lines = []; cut = false })
+AnswersLine before (Err TooLong) line after = IfSome before (λ reading. reading ≡ record { lines = []; cut = true })
+AnswersLine before (Err ReadFault) line after = before ≡ after
+AnswersLine before (Err OutOfMemory) line after = ⊥
+
+-- what the bytes taken show, whatever follows them: where a line was given they have it, and it may have been cut from
+-- them before the source came to its end; where the source failed they have no line
+abbrev pub ShowsLine : LinesView → Result LineNext ReaderFault → LinesView → List ℕ → Type 0
+ShowsLine before (Ok Line) after got =
+    after.ended ≡ false → (more : List ℕ) → front (before.kept ++ got ++ more) ≡ with_line after.line (front (after.kept ++ more))
+ShowsLine before (Err ReadFault) after got = front (before.kept ++ got) ≡ record { lines = []; cut = true }
+ShowsLine before _ after got = Unit {0}
+
+-- whether an answer gives a line, so that the reader may be asked again
+abbrev pub is_line : Result LineNext ReaderFault → Bool
+is_line (Ok Line) = true
+is_line _ = false
+
+-- the number of lines that an answer gives, where a line that is too long counts
+abbrev pub lines_given : Result LineNext ReaderFault → ℕ
+lines_given (Ok Line) = 1
+lines_given (Ok Long) = 1
+lines_given _ = 0
+
+-- a reader of batches: the application, the number of ids in each of its tables, the greatest timestamp of the batches
+-- closed so far, the reader of lines, and whether it may be asked again
+pub record ReaderView (App : Type 0) : Type 0 where
+  pub app : App
+  pub size : ℕ
+  pub closed : ℕ
+  pub lines : LinesView
+  pub live : Bool
+
+-- a new reader of batches
+abbrev pub new_reader : {App : Type 0} → App → (size limit : ℕ) → ReaderView App
+new_reader app size limit = record { app = app; size = size; closed = 0; lines = new_lines limit; live = true }
+
+-- the batches of a reading that comes after what a reader of lines has given, where `closed` is the greatest timestamp of
+-- the batches closed before and no event is pending
+abbrev pub accepted_next : Meaning → (closed : ℕ) → LinesView → Reading → Accepted
+accepted_next meaning closed v reading = accepted_from meaning v.number closed [] reading
+
+-- the batches that are still to be given, where the source tells its bytes
+abbrev pub accepted_at : Meaning → (closed : ℕ) → LinesView → Option (List ℕ) → Option Accepted
+accepted_at meaning closed v left = option_map (accepted_next meaning closed v) (reading_of v left)
+
+-- the same of a reader of batches
+abbrev pub accepted_after : {App : Type 0} → (App → ℕ → Meaning) → ReaderView App → Reading → Accepted
+accepted_after event_of v reading = accepted_next (event_of v.app v.size) v.closed v.lines reading
+
+abbrev pub accepted_by : {App : Type 0} → (App → ℕ → Meaning) → ReaderView App → Option (List ℕ) → Option Accepted
+accepted_by event_of v left = accepted_at (event_of v.app v.size) v.closed v.lines left
+
+-- an answer of a reader of batches, by what it had to give before and what it has to give after
+abbrev pub AnswersNext : Option Accepted → Result Next ReaderFault → Option Accepted → Type 0
+AnswersNext before (Ok (Batch batch)) after = before ≡ option_map (with_batch (transactions_of batch)) after
+AnswersNext before (Ok End) after = IfSome before (λ all. all ≡ record { batches = []; ending = Ended })
+AnswersNext before (Ok (Refused line cause)) after = IfSome before (λ all. all ≡ record { batches = []; ending = RefusedAt line cause })
+AnswersNext before (Err TooLong) after = IfSome before (λ all. all ≡ record { batches = []; ending = CutOff })
+AnswersNext before (Err _) after = Unit {0}
+
+-- what the bytes taken show, whatever follows them: where a batch was given they have the punctuation that closes it,
+-- if the source did not come to its end; where the source failed they have no punctuation that closes a batch, and no
+-- refused line
+abbrev pub ShowsBatch : Meaning → (closed : ℕ) → LinesView → Result Next ReaderFault → (closed' : ℕ) → LinesView → List ℕ → Type 0
+ShowsBatch meaning closed before (Ok (Batch batch)) closed' after got =
+    after.ended ≡ false → (more : List ℕ)
+    → accepted_next meaning closed before (front (before.kept ++ got ++ more))
+    ≡ with_batch (transactions_of batch) (accepted_next meaning closed' after (front (after.kept ++ more)))
+ShowsBatch meaning closed before (Err ReadFault) closed' after got =
+    accepted_next meaning closed before (front (before.kept ++ got)) ≡ record { batches = []; ending = CutOff }
+ShowsBatch meaning closed before _ closed' after got = Unit {0}
+
+-- the same of a reader of batches
+abbrev pub ShowsNext : {App : Type 0} → (App → ℕ → Meaning) → ReaderView App → Result Next ReaderFault → ReaderView App → List ℕ → Type 0
+ShowsNext event_of before answer after got =
+    ShowsBatch (event_of before.app before.size) before.closed before.lines answer after.closed after.lines got
+
+-- a batch that is given has an event and is valid, with its keys in the layout
+abbrev pub IsValidNext : Layout → Next → Type 0
+IsValidNext layout (Batch batch) = (0 < length batch.events.items) × IsBatch batch × BatchKeysIn layout batch
+IsValidNext layout _ = Unit {0}
+
+-- the number of events that an answer gives
+abbrev pub event_count : Next → ℕ
+event_count (Batch batch) = length batch.events.items
+event_count _ = 0
+
+-- whether an answer gives a batch, so that the reader may be asked again
+abbrev pub goes_on : Result Next ReaderFault → Bool
+goes_on (Ok (Batch batch)) = true
+goes_on _ = false

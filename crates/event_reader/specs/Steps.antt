@@ -1,0 +1,59 @@
+-- What a line is, after the accepted lines before it.
+use Rattle.std.specs.Prelude.{ℕ, Bool, ◌||◌, ◌==◌, nat_le, nat_lt, max, fold, if◌then◌else◌, List, [], ◌∷◌, length, slice_index, Option, Some, None, Result, Ok, Err}
+use Rattle.std.specs.List.{list_any}
+use Rattle.std.specs.Str.{bytes_eq}
+use Rattle.morph_base.specs.declared.limits.TheConstants.{EVENTS}
+use Rattle.morph_base.specs.Transactions.{Transaction}
+use Rattle.event_reader.specs.declared.limits.TheConstants.{LONGEST_LINE}
+use Rattle.event_reader.specs.declared.cause.Cause.{Cause}
+use Rattle.event_reader.specs.declared.cause.Cause.TheVariants.{Long, Form, Late, Twice, Full}
+use Rattle.event_reader.specs.Words.{words_of}
+
+-- what an application makes of the words of a line: its event, or the first of the causes form, range and same
+abbrev pub Meaning : Type 0
+Meaning = List (List ℕ) → Result Transaction Cause
+
+-- what a line does: nothing, close the batch, add an event to it, or end the reading
+pub data Step : Type 0 where
+  Ignored : Step
+  Closes : Step
+  Adds : Transaction → Step
+  Refuses : Cause → Step
+
+-- the greatest timestamp of the closed batches when this batch is closed too, from what it was before; 0 without any
+abbrev pub latest_with : List Transaction → ℕ → ℕ
+latest_with batch closed = fold (λ latest e. max latest e.ts) closed batch
+
+-- whether an event of the batch has this timestamp
+abbrev pub has_time : List Transaction → ℕ → Bool
+has_time batch ts = list_any (λ e. e.ts == ts) batch
+
+-- what an event does: it is late, there twice, or one too many, or it joins the batch
+abbrev pub joining : (closed : ℕ) → List Transaction → Transaction → Step
+joining closed batch e =
+    if nat_le e.ts closed then Refuses Late else (if has_time batch e.ts then Refuses Twice
+    else (if nat_le EVENTS (length batch) then Refuses Full else Adds e))
+
+-- what an event line does: its words are no form, the application refuses them, or they are an event
+abbrev pub event_step : (closed : ℕ) → List Transaction → Result Transaction Cause → Step
+event_step closed batch (Ok e) = joining closed batch e
+event_step closed batch (Err cause) = Refuses cause
+
+abbrev pub said_by : Meaning → Option (List (List ℕ)) → Result Transaction Cause
+said_by meaning (Some words) = meaning words
+said_by meaning None = Err Form
+
+-- an empty line, or a comment: its first byte is `#`
+abbrev pub is_ignored : List ℕ → Bool
+is_ignored line = length line == 0 || slice_index line 0 == 35
+
+-- a punctuation: exactly `P`
+abbrev pub is_punctuation : List ℕ → Bool
+is_punctuation line = bytes_eq line (80 ∷ [])
+
+-- what a line does, where `closed` is the greatest timestamp of the batches closed before it, and `batch` has the events
+-- of the unfinished batch, in order of arrival
+unfoldable pub step_of : Meaning → (closed : ℕ) → List Transaction → List ℕ → Step
+step_of meaning closed batch line =
+    if nat_lt LONGEST_LINE (length line) then Refuses Long else (if is_ignored line then Ignored
+    else (if is_punctuation line then Closes else event_step closed batch (said_by meaning (words_of line))))

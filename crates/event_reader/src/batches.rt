@@ -1,0 +1,180 @@
+ghost use Rattle.std.specs.Prelude.{◌≡◌, ℕ, ◌+◌, ◌≤◌, [], IsTrue, IfOk, IsErrOf, false};
+ghost use Rattle.morph_io.specs.Told.{IsAtEnd, HasRisen};
+ghost use Rattle.event_reader.specs.Reader.{accepted_at, AnswersNext, ShowsBatch, Takes, IsValidNext, event_count, goes_on};
+
+use crate::answers::{LineNext, Next};
+use crate::app::EventApp;
+use crate::cause::Cause;
+use crate::fault::ReaderFault;
+use crate::lines::Lines;
+use crate::pending::{LineEffect, Pending};
+use morph_base::{Batch, OutOfMemory};
+use morph_io::Source;
+use std::alloc::Global;
+use std::marker::Model;
+
+/// Reads the next batch of an application whose tables have `size` ids each, after batches whose greatest timestamp is
+/// `closed`, which becomes that of the batch too where one is given.
+fn read_batch<A: EventApp, S: Source>(
+    alloc: Global,
+    app: &A,
+    size: u32,
+    closed: &mut u64,
+    lines: &mut Lines,
+    source: &mut S,
+) -> Result<Next, ReaderFault>
+    requires size { 1 ≤ size }
+    requires live { IsTrue lines.old.live }
+    requires end { IsTrue lines.old.ended → IsAtEnd (S.left source.old) }
+    ensures answers { AnswersNext (accepted_at (A.event_of app.now size) closed.old lines.old (S.left source.old)) result (accepted_at (A.event_of app.now size) closed.new lines.new (S.left source.new)) }
+    ensures shows { Takes (S.left source.old) (S.left source.new) (ShowsBatch (A.event_of app.now size) closed.old lines.old result closed.new lines.new) }
+    ensures valid { IfOk result (IsValidNext (record { tables = A.table_count app.now; size = size })) }
+    ensures counted { IfOk result (λ next. lines.old.number + event_count next ≤ lines.new.number) }
+    ensures bound { lines.new.number ≤ lines.new.limit + 1 }
+    ensures limit { lines.new.limit ≡ lines.old.limit }
+    ensures at_end { IsTrue lines.new.ended → IsAtEnd (S.left source.new) }
+    ensures unended { lines.new.ended ≡ false → lines.old.ended ≡ false }
+    ensures done { IsTrue (goes_on result) → lines.new.live ≡ false → (lines.new.kept ≡ []) × IsTrue lines.new.ended }
+    ensures full { IsErrOf result ReaderFault.TooLong → lines.new.taken ≡ lines.new.limit }
+    ensures asked { IsErrOf result ReaderFault.ReadFault → lines.old.ended ≡ false }
+    ensures never_falls { S.faults source.old ≤ S.faults source.new }
+    ensures cause { IsErrOf result ReaderFault.ReadFault → HasRisen (S.faults source.old) (S.faults source.new) }
+{
+    let mut pending = Pending::new(alloc, *closed);
+    'lines: loop {
+        match lines.next_line(source)? {
+            LineNext::Long => {
+                return Ok(Next::Refused {
+                    line: lines.number(),
+                    cause: Cause::Long,
+                });
+            }
+            LineNext::End if pending.events.is_empty() => return Ok(Next::End),
+            LineNext::End => {
+                *closed = pending.latest;
+                return Ok(Next::Batch(Batch {
+                    events: pending.events,
+                }));
+            }
+            LineNext::Line => {}
+        }
+        match pending.take_line(alloc, app, size, *closed, lines.line())? {
+            LineEffect::GoesOn => {}
+            LineEffect::Closes => {
+                *closed = pending.latest;
+                return Ok(Next::Batch(Batch {
+                    events: pending.events,
+                }));
+            }
+            LineEffect::Refuses(cause) => {
+                return Ok(Next::Refused {
+                    line: lines.number(),
+                    cause,
+                });
+            }
+        }
+    }
+}
+
+/// A reader of the batches of an application.
+#[derive(Drop)]
+pub struct BatchReader<A> {
+    app: A,
+    size: u32,
+    lines: Lines,
+    /// The greatest timestamp of the closed batches.
+    closed: u64,
+    live: bool,
+}
+
+impl<A> Model for BatchReader<A> {
+    ghost use Rattle.event_reader.specs.Reader.{ReaderView};
+
+    ghost Value = { ReaderView A };
+
+    ghost use Rattle.event_reader.specs.Reading.{IsReader};
+
+    ghost view = { λ reader. record {
+      app = reader.app;
+      size = reader.size;
+      closed = reader.closed;
+      lines = reader.lines;
+      live = reader.live;
+    } };
+
+    ghost invariant = { IsReader };
+}
+
+impl<A: EventApp> BatchReader<A> {
+    ghost use Rattle.event_reader.specs.declared.limits.TheConstants.{INPUT_BYTES};
+    ghost use Rattle.event_reader.specs.Reader.{ReaderView, new_reader, accepted_by, ShowsNext};
+
+    /// A reader for an application whose tables have `size` ids each, of an input of at most `limit` bytes.
+    pub fn new(alloc: Global, app: A, size: u32, limit: u64) -> Result<Self, OutOfMemory>
+    where
+        A: Drop,
+        requires size { 1 ≤ size }
+        requires some { 1 ≤ limit }
+        requires bound { limit ≤ INPUT_BYTES }
+        ensures { IfOk result (λ reader. reader ≡ new_reader app size limit) }
+    {
+        Ok(BatchReader {
+            lines: Lines::new(alloc, limit)?,
+            app,
+            size,
+            closed: 0,
+            live: true,
+        })
+    }
+
+    /// Whether it may be asked for a batch: every answer so far was a [`Next::Batch`].
+    pub fn live(&self) -> bool
+        ensures { result ≡ self.now.live }
+    {
+        self.live
+    }
+
+    /// Reads the next batch.
+    ///
+    /// A [`Next::Batch`] has an event at least and is valid. The answer is [`Next::End`] exactly at the end of the
+    /// input with no event pending, and [`Next::Refused`] exactly at the first refused line.
+    /// [`ReaderFault::ReadFault`] comes only where the source's count of faults rose in this call, and
+    /// [`ReaderFault::TooLong`] exactly where as many bytes as the limit were taken, none of their lines is refused, and
+    /// the source gave one more. After every other answer than a batch it may not be asked again.
+    pub fn next_batch<S: Source>(
+        &mut self,
+        alloc: Global,
+        source: &mut S,
+    ) -> Result<Next, ReaderFault>
+        requires live { IsTrue self.old.live }
+        requires end { IsTrue self.old.lines.ended → IsAtEnd (S.left source.old) }
+        ensures answers { AnswersNext (accepted_by A.event_of self.old (S.left source.old)) result (accepted_by A.event_of self.new (S.left source.new)) }
+        ensures shows { Takes (S.left source.old) (S.left source.new) (ShowsNext A.event_of self.old result self.new) }
+        ensures valid { IfOk result (IsValidNext (record { tables = A.table_count self.old.app; size = self.old.size })) }
+        ensures counted { IfOk result (λ next. self.old.lines.number + event_count next ≤ self.new.lines.number) }
+        ensures bound { self.new.lines.number ≤ self.new.lines.limit + 1 }
+        ensures same { (self.new.app ≡ self.old.app) × (self.new.size ≡ self.old.size) × (self.new.lines.limit ≡ self.old.lines.limit) }
+        ensures at_end { IsTrue self.new.lines.ended → IsAtEnd (S.left source.new) }
+        ensures unended { self.new.lines.ended ≡ false → self.old.lines.ended ≡ false }
+        ensures goes_on { self.new.live ≡ goes_on result }
+        ensures full { IsErrOf result ReaderFault.TooLong → self.new.lines.taken ≡ self.new.lines.limit }
+        ensures asked { IsErrOf result ReaderFault.ReadFault → self.old.lines.ended ≡ false }
+        ensures never_falls { S.faults source.old ≤ S.faults source.new }
+        ensures cause { IsErrOf result ReaderFault.ReadFault → HasRisen (S.faults source.old) (S.faults source.new) }
+    {
+        self.live = false;
+        if !self.lines.live() {
+            return Ok(Next::End);
+        }
+        let next = read_batch(
+            alloc,
+            &self.app,
+            self.size,
+            &mut self.closed,
+            &mut self.lines,
+            source,
+        )?;
+        self.live = matches!(next, Next::Batch(_));
+        Ok(next)
+    }
+}

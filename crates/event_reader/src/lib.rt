@@ -1,0 +1,31 @@
+//! Lines, events and batches: from the bytes of a source to the batches of an application.
+#![tactic(auto)]
+
+mod answers;
+mod app;
+mod batches;
+mod cause;
+mod decision;
+mod draws;
+mod fault;
+mod limits;
+mod lines;
+mod number;
+mod pending;
+mod ranges;
+mod times;
+mod words;
+
+pub use answers::{LineNext, Next};
+pub use app::EventApp;
+pub use batches::BatchReader;
+pub use cause::{Cause, LineFault};
+pub use draws::Draws;
+pub use fault::ReaderFault;
+pub use limits::{
+    BUFFER_BYTES, DECIDING_BYTES, GREATEST_NUMBER, INPUT_BYTES, LINE_WORDS, LONGEST_LINE, NAME_BYTES,
+};
+pub use lines::Lines;
+pub use number::{Number, read_number};
+pub use ranges::Range;
+pub use words::Words;

@@ -1,0 +1,23 @@
+//! The limits of an input, each a constant that code and definitions share.
+
+/// The most bytes of a line, its LF and one CR at its end not counted.
+pub const LONGEST_LINE: usize = 1_000;
+
+/// How many bytes without an LF show that their line is too long, with or without a CR at its end: two more than
+/// [`LONGEST_LINE`].
+pub const DECIDING_BYTES: usize = 1_002;
+
+/// The most words of an event line.
+pub const LINE_WORDS: usize = 8;
+
+/// The most bytes of the printed name of a table.
+pub const NAME_BYTES: usize = 16;
+
+/// The greatest number that a word of a line can say: 10^12.
+pub const GREATEST_NUMBER: u64 = 1_000_000_000_000;
+
+/// The most bytes of an input: 2^30.
+pub const INPUT_BYTES: u64 = 1_073_741_824;
+
+/// How many bytes a reader keeps at most between the source and its lines.
+pub const BUFFER_BYTES: usize = 4_096;

@@ -1,0 +1,118 @@
+ghost use Rattle.std.specs.Prelude.{◌≡◌, ◌≤◌, [], length, IfOk};
+ghost use Rattle.morph_base.specs.Transactions.{transaction_of};
+ghost use Rattle.event_reader.specs.Steps.{is_ignored, is_punctuation};
+ghost use Rattle.event_reader.specs.declared.limits.TheConstants.{LONGEST_LINE};
+
+use crate::app::EventApp;
+use crate::cause::{Cause, LineFault};
+use crate::times::Times;
+use crate::words::Words;
+use morph_base::{EVENTS, Event, List, OutOfMemory};
+use std::alloc::Global;
+
+/// The unfinished batch of a reader.
+#[derive(Drop)]
+pub(crate) struct Pending {
+    pub(crate) events: List<Event>,
+    pub(crate) times: Times,
+    /// The greatest timestamp of the closed batches and of this one.
+    pub(crate) latest: u64,
+}
+
+/// What a line does to the unfinished batch.
+#[derive(Clone, Copy)]
+pub(crate) enum LineEffect {
+    /// It goes on, with the line's event if there is one.
+    GoesOn,
+    /// It is closed, and has an event.
+    Closes,
+    /// The line is refused.
+    Refuses(Cause),
+}
+
+/// Whether a line is empty or a comment.
+fn is_ignored_line(line: &[u8]) -> bool
+    ensures { result ≡ is_ignored line.now }
+{
+    line.is_empty() || line[0] == b'#'
+}
+
+/// Whether a line is a punctuation.
+fn is_punctuation_line(line: &[u8]) -> bool
+    ensures { result ≡ is_punctuation line.now }
+{
+    line == b"P".as_slice()
+}
+
+impl Pending {
+    ghost use Rattle.event_reader.specs.Pending.{batch_of, Notes, IsSound, Joins, TakesLine};
+
+    /// No events, after batches whose greatest timestamp is `closed`.
+    pub(crate) fn new(alloc: Global, closed: u64) -> Self
+        ensures events { batch_of result ≡ [] }
+        ensures notes { Notes closed result }
+    {
+        Pending {
+            events: List::new(alloc),
+            times: Times::new(alloc),
+            latest: closed,
+        }
+    }
+
+    /// Adds an event, or answers the first of the causes late, twice and full that applies.
+    fn join(&mut self, closed: u64, event: Event) -> Result<Option<Cause>, OutOfMemory>
+        requires { Notes closed self.old }
+        ensures { IfOk result (Joins closed self.old (transaction_of event) self.new) }
+    {
+        if event.ts <= closed {
+            return Ok(Some(Cause::Late));
+        }
+        if !self.times.add(event.ts)? {
+            return Ok(Some(Cause::Twice));
+        }
+        if self.events.len() >= EVENTS {
+            return Ok(Some(Cause::Full));
+        }
+        self.latest = self.latest.max(event.ts);
+        self.events.push(event)?;
+        Ok(None)
+    }
+
+    /// Takes a line that is not too long, after batches whose greatest timestamp is `closed`.
+    pub(crate) fn take_line<A: EventApp>(
+        &mut self,
+        alloc: Global,
+        app: &A,
+        size: u32,
+        closed: u64,
+        line: &[u8],
+    ) -> Result<LineEffect, OutOfMemory>
+        requires size { 1 ≤ size }
+        requires short { length line.now ≤ LONGEST_LINE }
+        requires notes { Notes closed self.old }
+        requires sound { IsSound (record { tables = A.table_count app.now; size = size }) (batch_of self.old) }
+        ensures { IfOk result (TakesLine (A.event_of app.now size) (record { tables = A.table_count app.now; size = size }) closed self.old line.now self.new) }
+    {
+        if is_ignored_line(line) {
+            return Ok(LineEffect::GoesOn);
+        }
+        if is_punctuation_line(line) {
+            if self.events.is_empty() {
+                return Ok(LineEffect::GoesOn);
+            }
+            return Ok(LineEffect::Closes);
+        }
+        let Some(words) = Words::split(line) else {
+            return Ok(LineEffect::Refuses(Cause::Form));
+        };
+        let event = match app.read_event(alloc, &words, size) {
+            Ok(event) => event,
+            Err(LineFault::Refused(cause)) => return Ok(LineEffect::Refuses(cause)),
+            Err(LineFault::OutOfMemory) => return Err(OutOfMemory),
+        };
+        match self.join(closed, event)? {
+            None => Ok(LineEffect::GoesOn),
+            Some(cause) => Ok(LineEffect::Refuses(cause)),
+        }
+    }
+}

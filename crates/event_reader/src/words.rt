@@ -1,0 +1,75 @@
+ghost use Rattle.std.specs.Prelude.{◌≡◌, ℕ, ◌<◌, ◌≤◌, List, [], ◌∷◌, length, map, take, slice_index_or, MatchOption};
+ghost use Rattle.event_reader.specs.Words.{parts_of, words_of};
+ghost use Rattle.event_reader.specs.declared.limits.TheConstants.{LINE_WORDS};
+
+use crate::limits::LINE_WORDS;
+use memchr::memchr;
+use std::marker::Model;
+
+/// The words of a line, which contracts see as a list of lists of bytes: at most [`LINE_WORDS`] words, none empty.
+#[derive(Drop)]
+pub struct Words<'a> {
+    words: [&'a [u8]; LINE_WORDS],
+    count: usize,
+}
+
+impl<'a> Model for Words<'a> {
+    ghost Value = { List (List ℕ) };
+
+    ghost view = { λ w. take w.count (map (λ word. word.now) w.words) };
+
+    ghost invariant = { λ w. w.count ≤ LINE_WORDS };
+}
+
+/// The part of a line in front of its first space, and what follows that space; the whole line where there is none.
+fn first_part(line: &[u8]) -> (&[u8], Option<&[u8]>)
+    ensures { MatchOption result.1 (parts_of line.now ≡ result.0.now ∷ []) (λ rest. parts_of line.now ≡ result.0.now ∷ parts_of rest.now) }
+{
+    match memchr(b' ', line) {
+        Some(at) => (&line[..at], Some(&line[at + 1..])),
+        None => (line, None),
+    }
+}
+
+impl<'a> Words<'a> {
+    /// Cuts a line at its spaces. `None` exactly where one space does not stand between each two words: where a word
+    /// would be empty, at either end too, or where there are more than [`LINE_WORDS`].
+    pub fn split(line: &'a [u8]) -> Option<Words<'a>>
+        ensures { result ≡ words_of line.now }
+    {
+        let mut words = [&line[..0]; LINE_WORDS];
+        let mut rest = line;
+        'parts: for i in 0..LINE_WORDS {
+            let (part, after) = first_part(rest);
+            if part.is_empty() {
+                return None;
+            }
+            words[i] = part;
+            match after {
+                Some(more) => rest = more,
+                None => {
+                    return Some(Words {
+                        words,
+                        count: i + 1,
+                    });
+                }
+            }
+        }
+        None
+    }
+
+    /// The number of words.
+    pub fn count(&self) -> usize
+        ensures { result ≡ length self.now }
+    {
+        self.count
+    }
+
+    /// The word at place `i`.
+    pub fn word(&self, i: usize) -> &[u8]
+        requires { i < length self.now }
+        ensures { result.now ≡ slice_index_or self.now i [] }
+    {
+        &self.words[..self.count][i]
+    }
+}

@@ -1,0 +1,206 @@
+-- Every event of the ledger is valid, and its refusals are form, range and same.
+use Rattle.std.proofs.Common.{◌≡◌, ℕ, ◌<◌, ◌≤◌, Bool, true, false, ◌||◌, if◌then◌else◌, List, [], ◌∷◌, length, drop, get_or, suc, zero, refl, ◌∙◌, ap, subst, arith, Result, Ok, Err}
+use Rattle.std.specs.Prelude.{◌==◌, slice_index}
+use Rattle.std.specs.List.{All, IsDistinct}
+use Rattle.std.proofs.lemmas.List.{length-drop, get_or-replicate}
+use Rattle.std.proofs.lemmas.List.Elements.{All-nil, All-cons}
+use Rattle.morph_base.specs.declared.limits.TheConstants.{MAX, LATEST}
+use Rattle.morph_base.specs.declared.key.Key.{Key}
+use Rattle.morph_base.specs.declared.key.Layout.{Layout}
+use Rattle.morph_base.specs.declared.operation.Func.TheVariants.{Add, Sub}
+use Rattle.morph_base.specs.declared.operation.Op.{Op}
+use Rattle.morph_base.specs.Operations.{IsShaped, InLayout, reads, no_key}
+use Rattle.morph_base.specs.Transactions.{Transaction, IsTransaction, HasKeysIn}
+use Rattle.event_reader.specs.declared.cause.Cause.{Cause}
+use Rattle.event_reader.specs.declared.cause.Cause.TheVariants.{Form, Same}
+use Rattle.event_reader.specs.Numbers.{numbers_in, has_form, are_in}
+use Rattle.event_reader.specs.Reader.{IsOfWords}
+use Rattle.event_reader.proofs.NumberLists.{in_place, numbers_are_in, numbers_causes, form_length}
+use Rattle.ledger_app.specs.Ledger.{account, asset, times, ids, amounts, change, move_in, deposit_ranges, deposit, moving, transfer_ranges, deposit_of, transfer_of, ledger_event}
+
+-- the operations have a valid shape
+shaped_add : (key : Key) (c : ℕ) → c ≤ MAX → IsShaped (change Add key c)
+shaped_add key c small = record {
+  at_least = omega arith;
+  at_most = omega arith;
+  places = omega arith;
+  held = omega arith;
+  constant = small;
+  blank = λ j d from inside. get_or-replicate 3 j no_key d inside;
+}
+
+shaped_sub : (key : Key) (c : ℕ) → c ≤ MAX → IsShaped (change Sub key c)
+shaped_sub key c small = record {
+  at_least = omega arith;
+  at_most = omega arith;
+  places = omega arith;
+  held = omega arith;
+  constant = small;
+  blank = λ j d from inside. get_or-replicate 3 j no_key d inside;
+}
+
+shaped_move : (key from : Key) (c : ℕ) → c ≤ MAX → IsShaped (move_in key from c)
+shaped_move key from c small = record {
+  at_least = omega arith;
+  at_most = omega arith;
+  places = omega arith;
+  held = omega arith;
+  constant = small;
+  blank = rest;
+}
+  where
+    rest : (j : ℕ) (d : Key) → 1 ≤ j → j < 3 → get_or (from ∷ no_key ∷ no_key ∷ []) j d ≡ no_key
+    rest zero d low high = absurd (omega arith)
+    rest (suc j) d low high = get_or-replicate 2 j no_key d (omega arith)
+
+-- the layout of the ledger
+abbrev ledger_layout : (size : ℕ) → Layout
+ledger_layout size = record { tables = 2; size = size }
+
+account_in : (size id : ℕ) → id < size → InLayout (ledger_layout size) (account id)
+account_in size id inside = record { table = omega arith; id = inside }
+
+asset_in : (size id : ℕ) → id < size → InLayout (ledger_layout size) (asset id)
+asset_in size id inside = record { table = omega arith; id = inside }
+
+-- the keys that an operation reads are in the layout
+abbrev ReadsIn : (size : ℕ) → Op → Type 0
+ReadsIn size op = All (InLayout (ledger_layout size)) (reads op)
+
+one_in : (size : ℕ) (key : Key) → InLayout (ledger_layout size) key → All (InLayout (ledger_layout size)) (key ∷ [])
+one_in size key inside = All-cons (InLayout (ledger_layout size)) key [] inside (All-nil (InLayout (ledger_layout size)))
+
+two_in : (size : ℕ) (key from : Key) → InLayout (ledger_layout size) key → InLayout (ledger_layout size) from → All (InLayout (ledger_layout size)) (key ∷ from ∷ [])
+two_in size key from inside inside' = All-cons (InLayout (ledger_layout size)) key (from ∷ []) inside (one_in size from inside')
+
+-- something that holds of each of two or four items
+all_two : (P : Op → Type 0) (a b : Op) → P a → P b → All P (a ∷ b ∷ [])
+all_two P a b h h' = All-cons P a (b ∷ []) h (All-cons P b [] h' (All-nil P))
+
+all_four : (P : Op → Type 0) (a b c d : Op) → P a → P b → P c → P d → All P (a ∷ b ∷ c ∷ d ∷ [])
+all_four P a b c d h h' h'' h3 = All-cons P a (b ∷ c ∷ d ∷ []) h (All-cons P b (c ∷ d ∷ []) h' (all_two P c d h'' h3))
+
+-- a deposit is valid where its numbers are in range
+deposit_is_valid : (size ts acct ast a b : ℕ) → 0 < ts → ts ≤ LATEST → acct < size → ast < size → a ≤ MAX → b ≤ MAX
+    → IsTransaction (deposit ts acct ast a b) × HasKeysIn (ledger_layout size) (deposit ts acct ast a b)
+unfolding IsDistinct
+deposit_is_valid size ts acct ast a b start end inside inside' small small' = (
+  record {
+    after_start = start;
+    latest = end;
+    some = omega arith;
+    few = omega arith;
+    shaped = all_two IsShaped _ _ (shaped_add (account acct) a small) (shaped_add (asset ast) b small');
+    distinct = ((refl, tt), (tt, tt));
+  },
+  all_two (ReadsIn size) (change Add (account acct) a) (change Add (asset ast) b)
+      (one_in size (account acct) (account_in size acct inside)) (one_in size (asset ast) (asset_in size ast inside')),
+)
+
+-- so is a transfer whose accounts and assets differ
+transfer_is_valid : (size ts src dst asrc adst a b : ℕ) → 0 < ts → ts ≤ LATEST → src < size → dst < size → asrc < size → adst < size → a ≤ MAX → b ≤ MAX
+    → (src == dst) ≡ false → (asrc == adst) ≡ false
+    → IsTransaction (moving ts src dst asrc adst a b) × HasKeysIn (ledger_layout size) (moving ts src dst asrc adst a b)
+unfolding IsDistinct
+transfer_is_valid size ts src dst asrc adst a b start end i1 i2 i3 i4 small small' differ differ' = (
+  record {
+    after_start = start;
+    latest = end;
+    some = omega arith;
+    few = omega arith;
+    shaped = all_four IsShaped _ _ _ _ (shaped_sub (account src) a small) (shaped_sub (asset asrc) b small')
+        (shaped_move (account dst) (account src) a small) (shaped_move (asset adst) (asset asrc) b small');
+    distinct = ((refl, (differ, (refl, tt))), ((refl, (differ', tt)), ((refl, tt), (tt, tt))));
+  },
+  all_four (ReadsIn size) (change Sub (account src) a) (change Sub (asset asrc) b) (move_in (account dst) (account src) a) (move_in (asset adst) (asset asrc) b)
+      (one_in size (account src) (account_in size src i1)) (one_in size (asset asrc) (asset_in size asrc i3))
+      (two_in size (account dst) (account src) (account_in size dst i2) (account_in size src i1))
+      (two_in size (asset adst) (asset asrc) (asset_in size adst i4) (asset_in size asrc i3)),
+)
+
+-- numbers in the places of a deposit
+deposit_numbers : (size : ℕ) (ns : List ℕ) → 0 < size → length ns ≡ 5 → are_in (deposit_ranges size) ns ≡ true → (e : Transaction) → deposit_of (Ok ns) ≡ Ok e
+    → IsTransaction e × HasKeysIn (ledger_layout size) e
+deposit_numbers size ns some five fits e is =
+    let ts = in_place (deposit_ranges size) ns 0 times fits (omega arith) (omega arith) refl in
+    let acct = in_place (deposit_ranges size) ns 1 (ids size) fits (omega arith) (omega arith) refl in
+    let ast = in_place (deposit_ranges size) ns 2 (ids size) fits (omega arith) (omega arith) refl in
+    let a = in_place (deposit_ranges size) ns 3 amounts fits (omega arith) (omega arith) refl in
+    let b = in_place (deposit_ranges size) ns 4 amounts fits (omega arith) (omega arith) refl in
+    let same : deposit (slice_index ns 0) (slice_index ns 1) (slice_index ns 2) (slice_index ns 3) (slice_index ns 4) ≡ e = cc in
+    subst (λ t. IsTransaction t × HasKeysIn (ledger_layout size) t) same
+    (deposit_is_valid size _ _ _ _ _ (omega (arith, ts.0)) ts.1 (omega (arith, acct.1)) (omega (arith, ast.1)) a.1 b.1)
+
+deposit_valid : (size : ℕ) (words : List (List ℕ)) (e : Transaction) (r : Result (List ℕ) Cause) → 0 < size → length words ≡ 6
+    → numbers_in (deposit_ranges size) (drop 1 words) ≡ r → deposit_of r ≡ Ok e → IsTransaction e × HasKeysIn (ledger_layout size) e
+deposit_valid size words e (Ok ns) some six read is =
+    let parts = numbers_are_in (deposit_ranges size) (drop 1 words) ns read in
+    deposit_numbers size ns some (omega (arith, parts.0, length-drop 1 words)) parts.1 e is
+deposit_valid size words e (Err cause) some six read is = absurd (cc)
+
+-- numbers in the places of a transfer
+transfer_numbers : (size : ℕ) (ns : List ℕ) → 0 < size → length ns ≡ 7 → are_in (transfer_ranges size) ns ≡ true → (e : Transaction) → transfer_of (Ok ns) ≡ Ok e
+    → IsTransaction e × HasKeysIn (ledger_layout size) e
+transfer_numbers size ns some seven fits e is = by_tests (slice_index ns 1 == slice_index ns 2) (slice_index ns 3 == slice_index ns 4) refl refl is
+  where
+    by_tests : (same same' : Bool) → (slice_index ns 1 == slice_index ns 2) ≡ same → (slice_index ns 3 == slice_index ns 4) ≡ same'
+        → (if same || same' then Err Same else Ok (moving (slice_index ns 0) (slice_index ns 1) (slice_index ns 2) (slice_index ns 3) (slice_index ns 4) (slice_index ns 5) (slice_index ns 6))) ≡ Ok e
+        → IsTransaction e × HasKeysIn (ledger_layout size) e
+    by_tests true same' d d' is = absurd (cc)
+    by_tests false true d d' is = absurd (cc)
+    by_tests false false d d' is =
+        let ts = in_place (transfer_ranges size) ns 0 times fits (omega arith) (omega arith) refl in
+        let src = in_place (transfer_ranges size) ns 1 (ids size) fits (omega arith) (omega arith) refl in
+        let dst = in_place (transfer_ranges size) ns 2 (ids size) fits (omega arith) (omega arith) refl in
+        let asrc = in_place (transfer_ranges size) ns 3 (ids size) fits (omega arith) (omega arith) refl in
+        let adst = in_place (transfer_ranges size) ns 4 (ids size) fits (omega arith) (omega arith) refl in
+        let a = in_place (transfer_ranges size) ns 5 amounts fits (omega arith) (omega arith) refl in
+        let b = in_place (transfer_ranges size) ns 6 amounts fits (omega arith) (omega arith) refl in
+        let same : moving (slice_index ns 0) (slice_index ns 1) (slice_index ns 2) (slice_index ns 3) (slice_index ns 4) (slice_index ns 5) (slice_index ns 6) ≡ e = cc in
+        subst (λ t. IsTransaction t × HasKeysIn (ledger_layout size) t) same
+        (transfer_is_valid size _ _ _ _ _ _ _ (omega (arith, ts.0)) ts.1 (omega (arith, src.1)) (omega (arith, dst.1)) (omega (arith, asrc.1)) (omega (arith, adst.1)) a.1 b.1 d d')
+
+transfer_valid : (size : ℕ) (words : List (List ℕ)) (e : Transaction) (r : Result (List ℕ) Cause) → 0 < size → length words ≡ 8
+    → numbers_in (transfer_ranges size) (drop 1 words) ≡ r → transfer_of r ≡ Ok e → IsTransaction e × HasKeysIn (ledger_layout size) e
+transfer_valid size words e (Ok ns) some eight read is =
+    let parts = numbers_are_in (transfer_ranges size) (drop 1 words) ns read in
+    transfer_numbers size ns some (omega (arith, parts.0, length-drop 1 words)) parts.1 e is
+transfer_valid size words e (Err cause) some eight read is = absurd (cc)
+
+pub ledger_is_valid : (size : ℕ) (words : List (List ℕ)) (e : Transaction) → 0 < size → ledger_event size words ≡ Ok e
+    → IsTransaction e × HasKeysIn (record { tables = 2; size = size }) e
+ledger_is_valid size words e some is = by_form (has_form 68 5 words) (has_form 88 7 words) refl refl is
+  where
+    by_form : (d x : Bool) → has_form 68 5 words ≡ d → has_form 88 7 words ≡ x
+        → (if d then deposit_of (numbers_in (deposit_ranges size) (drop 1 words))
+        else (if x then transfer_of (numbers_in (transfer_ranges size) (drop 1 words)) else Err Form)) ≡ Ok e
+        → IsTransaction e × HasKeysIn (ledger_layout size) e
+    by_form true x d x' is = deposit_valid size words e (numbers_in (deposit_ranges size) (drop 1 words)) some (form_length 68 5 words d) refl is
+    by_form false true d x' is = transfer_valid size words e (numbers_in (transfer_ranges size) (drop 1 words)) some (form_length 88 7 words x') refl is
+    by_form false false d x' is = absurd (cc)
+
+-- refusals
+deposit_causes : (size : ℕ) (words : List (List ℕ)) (cause : Cause) (r : Result (List ℕ) Cause) → numbers_in (deposit_ranges size) (drop 1 words) ≡ r → deposit_of r ≡ Err cause → IsOfWords cause
+deposit_causes size words cause (Ok ns) read is = absurd (cc)
+deposit_causes size words cause (Err c) read is = numbers_causes (deposit_ranges size) (drop 1 words) cause (read ∙ (let same : c ≡ cause = cc in ap Err same))
+
+transfer_causes : (size : ℕ) (words : List (List ℕ)) (cause : Cause) (r : Result (List ℕ) Cause) → numbers_in (transfer_ranges size) (drop 1 words) ≡ r → transfer_of r ≡ Err cause → IsOfWords cause
+transfer_causes size words cause (Ok ns) read is = by_test (slice_index ns 1 == slice_index ns 2 || slice_index ns 3 == slice_index ns 4) is
+  where
+    by_test : (same : Bool)
+        → (if same then Err Same else Ok (moving (slice_index ns 0) (slice_index ns 1) (slice_index ns 2) (slice_index ns 3) (slice_index ns 4) (slice_index ns 5) (slice_index ns 6))) ≡ Err cause
+        → IsOfWords cause
+    by_test true is = let same : Same ≡ cause = cc in subst IsOfWords same tt
+    by_test false is = absurd (cc)
+transfer_causes size words cause (Err c) read is = numbers_causes (transfer_ranges size) (drop 1 words) cause (read ∙ (let same : c ≡ cause = cc in ap Err same))
+
+pub ledger_causes : (size : ℕ) (words : List (List ℕ)) (cause : Cause) → ledger_event size words ≡ Err cause → IsOfWords cause
+ledger_causes size words cause is = by_form (has_form 68 5 words) (has_form 88 7 words) is
+  where
+    by_form : (d x : Bool)
+        → (if d then deposit_of (numbers_in (deposit_ranges size) (drop 1 words))
+        else (if x then transfer_of (numbers_in (transfer_ranges size) (drop 1 words)) else Err Form)) ≡ Err cause
+        → IsOfWords cause
+    by_form true x is = deposit_causes size words cause (numbers_in (deposit_ranges size) (drop 1 words)) refl is
+    by_form false true is = transfer_causes size words cause (numbers_in (transfer_ranges size) (drop 1 words)) refl is
+    by_form false false is = let same : Form ≡ cause = cc in subst IsOfWords same tt

@@ -1,0 +1,160 @@
+ghost use Rattle.std.specs.Prelude.{◌≡◌, ℕ, ◌^◌, ◌<◌, ◌≤◌, length, drop, codes, if◌then◌else◌, ◌==◌, IfOk, IfErr};
+ghost use Rattle.morph_base.specs.Transactions.{transaction_of};
+ghost use Rattle.event_reader.specs.Reader.{GivesEvent};
+ghost use Rattle.event_reader.specs.Numbers.{numbers_in};
+ghost use Rattle.ledger_app.specs.Ledger.{times, ids, amounts, account, asset, change, move_in, deposit_of, deposit_ranges, transfer_of, transfer_ranges, ledger_event};
+
+use event_reader::{Cause, EventApp, LineFault, Range, Words};
+use morph_base::{Event, Func, Key, LATEST, List, MAX, Op, OutOfMemory};
+use std::alloc::Global;
+
+/// The number of the table of accounts.
+pub const ACCOUNTS: u8 = 0;
+
+/// The number of the table of assets.
+pub const ASSETS: u8 = 1;
+
+/// The key that stands in places of an operation that are not used.
+const NO_KEY: Key = Key { table: 0, id: 0 };
+
+/// The range of a timestamp.
+const TIMES: Range = Range {
+    least: 1,
+    greatest: LATEST,
+};
+
+/// The range of an amount.
+const AMOUNTS: Range = Range {
+    least: 0,
+    greatest: MAX,
+};
+
+/// The application Streaming Ledger.
+#[derive(Clone, Copy, Debug, PartialEq, Eq)]
+pub struct Ledger;
+
+/// The range of an id where a table has `size` of them.
+fn ids(size: u32) -> Range
+    requires { 1 ≤ size }
+    ensures { result ≡ ids size }
+{
+    Range {
+        least: 0,
+        greatest: u64::from(size) - 1,
+    }
+}
+
+/// An operation that reads its target alone.
+fn change(func: Func, key: Key, c: u64) -> Op
+    ensures { result ≡ change func key c }
+{
+    Op {
+        key,
+        params: [NO_KEY, NO_KEY, NO_KEY],
+        n_params: 0,
+        func,
+        c,
+    }
+}
+
+/// The operation that takes what another key gives.
+fn move_in(key: Key, from: Key, c: u64) -> Op
+    ensures { result ≡ move_in key from c }
+{
+    Op {
+        key,
+        params: [from, NO_KEY, NO_KEY],
+        n_params: 1,
+        func: Func::MoveIn,
+        c,
+    }
+}
+
+/// The key of an account.
+fn account(id: u64) -> Key
+    requires { id < 2 ^ 32 }
+    ensures { result ≡ account id }
+{
+    Key {
+        table: ACCOUNTS,
+        id: id as u32,
+    }
+}
+
+/// The key of an asset.
+fn asset(id: u64) -> Key
+    requires { id < 2 ^ 32 }
+    ensures { result ≡ asset id }
+{
+    Key {
+        table: ASSETS,
+        id: id as u32,
+    }
+}
+
+/// Reads the words of a deposit.
+fn deposit(alloc: Global, words: &Words<'_>, size: u32) -> Result<Event, LineFault>
+    requires size { 1 ≤ size }
+    requires count { length words.now ≡ 6 }
+    ensures { GivesEvent (deposit_of (numbers_in (deposit_ranges size) (drop 1 words.now))) result }
+{
+    let ids = ids(size);
+    let [ts, acct, ast, a, b] = words.numbers(&[TIMES, ids, ids, AMOUNTS, AMOUNTS])?;
+    let mut ops = List::with_room(alloc, 2)?;
+    ops.add(change(Func::Add, account(acct), a));
+    ops.add(change(Func::Add, asset(ast), b));
+    Ok(Event { ts, ops })
+}
+
+/// Reads the words of a transfer.
+fn transfer(alloc: Global, words: &Words<'_>, size: u32) -> Result<Event, LineFault>
+    requires size { 1 ≤ size }
+    requires count { length words.now ≡ 8 }
+    ensures { GivesEvent (transfer_of (numbers_in (transfer_ranges size) (drop 1 words.now))) result }
+{
+    let ids = ids(size);
+    let [ts, src, dst, asrc, adst, a, b] = words.numbers(&[
+        TIMES, ids, ids, ids, ids, AMOUNTS, AMOUNTS,
+    ])?;
+    if src == dst || asrc == adst {
+        return Err(LineFault::Refused(Cause::Same));
+    }
+    let mut ops = List::with_room(alloc, 4)?;
+    ops.add(change(Func::Sub, account(src), a));
+    ops.add(change(Func::Sub, asset(asrc), b));
+    ops.add(move_in(account(dst), account(src), a));
+    ops.add(move_in(asset(adst), asset(asrc), b));
+    Ok(Event { ts, ops })
+}
+
+impl EventApp for Ledger {
+    ghost use Rattle.ledger_app.specs.LedgerLaws.{ledger_is_valid, ledger_causes};
+
+    ghost table_count = { λ _. 2 };
+
+    ghost name_of = { λ _ table. if table == 0 then codes "acct" else codes "asset" };
+
+    ghost event_of = { λ _ size words. ledger_event size words };
+
+    ghost gives_valid = { λ _ size words e. ledger_is_valid size words e };
+
+    ghost causes = { λ _ size words cause. ledger_causes size words cause };
+
+    fn tables(&self) -> u8 {
+        2
+    }
+
+    fn table_name(&self, table: u8) -> &'static str {
+        if table == ACCOUNTS { "acct" } else { "asset" }
+    }
+
+    fn read_event(&self, alloc: Global, words: &Words<'_>, size: u32) -> Result<Event, LineFault> {
+        if words.has_form(b'D', 5) {
+            deposit(alloc, words, size)
+        } else if words.has_form(b'X', 7) {
+            transfer(alloc, words, size)
+        } else {
+            Err(LineFault::Refused(Cause::Form))
+        }
+    }
+}

@@ -1,0 +1,11 @@
+//! The application Streaming Ledger: deposits and transfers between accounts and assets.
+//!
+//! [`Ledger`] is an [`EventApp`](event_reader::EventApp) of two tables. A line `D ts acct asset a b` deposits a on the
+//! account and b on the asset. A line `X ts src dst asrc adst a b` moves a from account src to account dst, and b from
+//! asset asrc to asset adst. It stands on `event_reader`, which reads the words and their numbers, and on `morph_base`,
+//! whose operations an event has.
+#![tactic(auto)]
+
+mod ledger;
+
+pub use ledger::{ACCOUNTS, ASSETS, Ledger};

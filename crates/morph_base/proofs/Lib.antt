@@ -19,3 +19,4 @@ pub mod BoundLaws
 pub mod FateLaws
 pub mod GuessLaws
 pub mod KnownLaws
+pub mod WordLaws

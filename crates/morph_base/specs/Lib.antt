@@ -12,3 +12,4 @@ pub mod Graphs
 pub mod Clean
 pub mod Guesses
 pub mod Known
+pub mod Words

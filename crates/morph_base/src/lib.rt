@@ -36,6 +36,7 @@ pub mod plain;
 mod plan;
 mod strategy;
 mod values;
+mod word;
 
 pub use evaluation::eval;
 pub use event::{Batch, Event};
@@ -48,3 +49,4 @@ pub use outcome::Outcome;
 pub use plan::{Edges, Origin, Plan, PlanEvent, PlanOp, Settled};
 pub use strategy::{Abort, Explore, Strategy, Unit};
 pub use values::Values;
+pub use word::{ATTEMPTS, OpState, OpWord};

@@ -1,0 +1,12 @@
+pub mod Basics
+pub mod Frames
+pub mod Parts
+pub mod Claiming
+pub mod Sources
+pub mod Fetching
+pub mod Finishing
+pub mod Retrying
+pub mod Deciding
+pub mod Settlement
+pub mod Counting
+pub mod Machine

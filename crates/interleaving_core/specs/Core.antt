@@ -1,0 +1,169 @@
+-- The state of the machine: the words, records and decisions that all workers share, what each worker holds, and all that
+-- was ever shown and settled.
+use Rattle.std.specs.Prelude.{◌≡◌, ℕ, Bool, true, false, ◌&&◌, ◌==◌, ◌⊎◌, if◌then◌else◌, List, [], length, Contains, Option, Some, None, count_by, slice_index}
+use Rattle.morph_base.specs.declared.operation.Op.{Op}
+use Rattle.morph_base.specs.declared.plan.Origin.{Origin}
+use Rattle.morph_base.specs.declared.plan.Origin.TheVariants.{Base, Op as Written}
+use Rattle.morph_base.specs.declared.plan.Plan.{Plan}
+use Rattle.morph_base.specs.declared.word.OpState.{OpState}
+use Rattle.morph_base.specs.declared.word.OpState.TheVariants.{Blocked, Ready, Claimed, Executed, Failed, Spread, Settled, SettledAborted}
+use Rattle.morph_base.specs.declared.word.OpWord.{OpWord}
+use Rattle.morph_base.specs.Functions.{value_of}
+use Rattle.morph_base.specs.Plans.{keys_of}
+use Rattle.morph_base.specs.Clean.{from}
+use Rattle.morph_base.specs.Known.{IsKnown}
+use Rattle.morph_base.specs.Words.{is_settled}
+use Rattle.interleaving_core.specs.declared.entry.Record.{Record}
+use Rattle.interleaving_core.specs.declared.entry.Held.{Held}
+use Rattle.interleaving_core.specs.declared.entry.Entry.{Entry}
+use Rattle.interleaving_core.specs.declared.entry.Settling.{Settling}
+
+pub record Core : Type 0 where
+  -- the word of each operation, and its record at each place, if there is one
+  pub word : ℕ → OpWord
+  pub recorded : ℕ → ℕ → Option Record
+  -- what each worker holds
+  pub claim : ℕ → Option Held
+  -- what is decided on each event: whether it commits
+  pub decision : ℕ → Option Bool
+  -- all values that were ever shown, and all settlings
+  pub published : List Entry
+  pub settlings : List Settling
+
+-- a function with another value at one number
+unfoldable pub put : {A : Type 0} → (ℕ → A) → ℕ → A → ℕ → A
+put f i a j = if j == i then a else f j
+
+-- ---- words
+
+abbrev pub blocked : ℕ → OpWord
+blocked a = record { value = 0; attempt = a; state = Blocked; by = 0 }
+
+abbrev pub ready : ℕ → OpWord
+ready a = record { value = 0; attempt = a; state = Ready; by = 0 }
+
+abbrev pub claimed : ℕ → ℕ → OpWord
+claimed a t = record { value = 0; attempt = a; state = Claimed; by = t }
+
+abbrev pub executed : ℕ → ℕ → OpWord
+executed a v = record { value = v; attempt = a; state = Executed; by = 0 }
+
+abbrev pub failed : ℕ → ℕ → OpWord
+failed a v = record { value = v; attempt = a; state = Failed; by = 0 }
+
+abbrev pub spread : ℕ → ℕ → OpWord
+spread a v = record { value = v; attempt = a; state = Spread; by = 0 }
+
+abbrev pub settled : ℕ → ℕ → ℕ → OpWord
+settled a v t = record { value = v; attempt = a; state = Settled; by = t }
+
+abbrev pub settled_aborted : ℕ → ℕ → ℕ → OpWord
+settled_aborted a v t = record { value = v; attempt = a; state = SettledAborted; by = t }
+
+-- what an operation comes to at an attempt that read the values xs: executed with its answer, or failed with the value of
+-- its target
+abbrev pub ended : ℕ → List ℕ → Option ℕ → OpWord
+ended a xs (Some v) = executed a v
+ended a xs None = failed a (slice_index xs 0)
+
+abbrev pub finished : Op → ℕ → List ℕ → OpWord
+finished op a xs = ended a xs (value_of op xs)
+
+-- executed or failed: its function was run on its records
+abbrev pub has_run : OpState → Bool
+has_run Blocked = false
+has_run Ready = false
+has_run Claimed = false
+has_run Executed = true
+has_run Failed = true
+has_run Spread = false
+has_run Settled = false
+has_run SettledAborted = false
+
+-- its value at this attempt was shown
+abbrev pub is_shown : OpState → Bool
+is_shown Blocked = false
+is_shown Ready = false
+is_shown Claimed = false
+is_shown Executed = true
+is_shown Failed = true
+is_shown Spread = true
+is_shown Settled = true
+is_shown SettledAborted = false
+
+abbrev pub is_failed : OpState → Bool
+is_failed Blocked = false
+is_failed Ready = false
+is_failed Claimed = false
+is_failed Executed = false
+is_failed Failed = true
+is_failed Spread = false
+is_failed Settled = false
+is_failed SettledAborted = false
+
+-- nobody holds it, and it is not settled
+abbrev pub is_open : OpState → Bool
+is_open Blocked = true
+is_open Ready = true
+is_open Claimed = false
+is_open Executed = true
+is_open Failed = true
+is_open Spread = true
+is_open Settled = false
+is_open SettledAborted = false
+
+-- ---- entries
+
+-- the entry that shows a word
+abbrev pub entry_of : ℕ → OpWord → Entry
+entry_of o w = record { op = o; attempt = w.attempt; value = w.value; failed = is_failed w.state }
+
+-- how often an operation was shown at an attempt, and how often it was settled
+abbrev pub entries_at : ℕ → ℕ → List Entry → ℕ
+entries_at o a es = count_by (λ e. (e.op == o) && (e.attempt == a)) es
+
+abbrev pub settlings_at : ℕ → List Settling → ℕ
+settlings_at o xs = count_by (λ x. x.op == o) xs
+
+-- the value was shown for operation o
+pub record HasShown (es : List Entry) (o x : ℕ) : Type 0 where
+  pub entry : Entry
+  pub inside : Contains es entry
+  pub op_is : entry.op ≡ o
+  pub value_is : entry.value ≡ x
+
+-- what a worker fetched so far for the operation that it holds
+abbrev pub fetched : Option Held → List ℕ
+fetched None = []
+fetched (Some h) = h.values
+
+-- the value of a record, if there is one
+abbrev pub record_value : Option Record → ℕ
+record_value None = 0
+record_value (Some r) = r.value
+
+-- ---- sources
+
+-- how many places an operation reads
+abbrev pub places : Plan → ℕ → ℕ
+places p o = length (keys_of p o)
+
+-- the operation is settled, and the value that it has now
+abbrev pub IsSettledIn : Core → ℕ → Type 0
+IsSettledIn c o = is_settled (c.word o).state ≡ true
+
+abbrev pub value_in : Core → ℕ → ℕ
+value_in c o = (c.word o).value
+
+-- the source is settled with this value; a base counts as settled with its own
+abbrev pub IsSettledAs : Core → Origin → ℕ → Type 0
+IsSettledAs c origin x = IsKnown (IsSettledIn c) origin × (from (value_in c) origin ≡ x)
+
+-- a version of the source: its settled value, or one that was shown for it
+abbrev pub IsVersion : Core → Origin → ℕ → Type 0
+IsVersion c (Base v) x = v ≡ x
+IsVersion c (Written s) x = IsSettledAs c (Written s) x ⊎ HasShown c.published s x
+
+-- the state at the start
+abbrev pub start : Core
+start = record { word = λ o. blocked 1; recorded = λ o j. None; claim = λ t. None; decision = λ i. None; published = []; settlings = [] }

@@ -1,0 +1,5 @@
+pub mod Core
+pub mod Steps
+pub mod Soundness
+pub mod Growth
+pub mod Schedules

@@ -1,0 +1,59 @@
+//! The laws of the machine: what its definitions come to, as the contracts of functions that do nothing.
+//!
+//! They hold for every valid plan and every cap below [`ATTEMPTS`](morph_base::ATTEMPTS), whatever the order of steps and
+//! however many workers make them. A crate above cites the lemmas behind them, which stand in `proofs/`.
+ghost use Rattle.std.specs.Prelude.{◌≡◌, ℕ, ◌<◌, ◌≤◌, Bool, List, Some, count_by};
+ghost use Rattle.morph_base.specs.declared.plan.Plan.{Plan};
+ghost use Rattle.morph_base.specs.declared.word.TheConstants.{ATTEMPTS};
+ghost use Rattle.morph_base.specs.Plans.{IsPlan, op_count};
+ghost use Rattle.morph_base.specs.Words.{IsWord};
+ghost use Rattle.interleaving_core.specs.declared.event.CoreEvent.{CoreEvent};
+ghost use Rattle.interleaving_core.specs.declared.entry.Held.{Held};
+ghost use Rattle.interleaving_core.specs.Core.{Core, start, IsSettledIn, value_in};
+ghost use Rattle.interleaving_core.specs.Steps.{May, after, Run};
+ghost use Rattle.interleaving_core.specs.Soundness.{IsSound};
+ghost use Rattle.interleaving_core.specs.Growth.{Grows};
+ghost use Rattle.interleaving_core.specs.Schedules.{RestsOnAborted, IsFold, IsSettledOnce, HasFewAttempts, TellsSteps, settles};
+
+/// The start is sound; a step that may be made keeps a sound state sound, and loses nothing that was seen before it.
+///
+/// Whoever shares the words between threads uses it one step at a time.
+pub fn one_step()
+    ensures start { (p : Plan) (cap : ℕ) → cap < ATTEMPTS → IsSound p cap start }
+    ensures sound { (p : Plan) (cap : ℕ) (c : Core) (e : CoreEvent) → IsPlan p → cap < ATTEMPTS → IsSound p cap c → May p cap c e → IsSound p cap (after p c e) }
+    ensures grows { (p : Plan) (cap : ℕ) (c : Core) (e : CoreEvent) → IsPlan p → cap < ATTEMPTS → IsSound p cap c → May p cap c e → Grows p c (after p c e) }
+{}
+
+/// After every list of steps that can be made one after another the state is sound. Therefore no settled value rests on
+/// an aborted version; settled values and decisions are the fold's; each operation is settled at most once, by one worker;
+/// each attempt is shown at most once, there are at most cap + 1 of them, and the last rests on settled values alone.
+pub fn every_schedule()
+    ensures sound { (p : Plan) (cap : ℕ) (es : List CoreEvent) (c : Core) → IsPlan p → cap < ATTEMPTS → Run p cap es c → IsSound p cap c }
+    ensures none_rests { (p : Plan) (cap : ℕ) (es : List CoreEvent) (c : Core) (o : ℕ) → IsPlan p → cap < ATTEMPTS → Run p cap es c → o < op_count p
+        → RestsOnAborted p c o → ⊥ }
+    ensures fold { (p : Plan) (cap : ℕ) (es : List CoreEvent) (c : Core) → IsPlan p → cap < ATTEMPTS → Run p cap es c → IsFold p c }
+    ensures once { (p : Plan) (cap : ℕ) (es : List CoreEvent) (c : Core) (o : ℕ) → IsPlan p → cap < ATTEMPTS → Run p cap es c
+        → (count_by (settles o) es ≤ 1) × IsSettledOnce p c }
+    ensures attempts { (p : Plan) (cap : ℕ) (es : List CoreEvent) (c : Core) → IsPlan p → cap < ATTEMPTS → Run p cap es c → HasFewAttempts p cap c }
+    ensures steps { (p : Plan) (cap : ℕ) (es : List CoreEvent) (c : Core) → Run p cap es c → TellsSteps es c }
+{}
+
+/// Two schedules that settle the same operation settle it with the same value, and two that decide on the same event
+/// decide the same.
+pub fn schedules_agree()
+    ensures values { (p : Plan) (cap m : ℕ) (es fs : List CoreEvent) (c d : Core) (o : ℕ) → IsPlan p → cap < ATTEMPTS → m < ATTEMPTS
+        → Run p cap es c → Run p m fs d → o < op_count p → IsSettledIn c o → IsSettledIn d o → value_in c o ≡ value_in d o }
+    ensures verdicts { (p : Plan) (cap m : ℕ) (es fs : List CoreEvent) (c d : Core) (i : ℕ) (a b : Bool) → IsPlan p → cap < ATTEMPTS → m < ATTEMPTS
+        → Run p cap es c → Run p m fs d → c.decision i ≡ Some a → d.decision i ≡ Some b → a ≡ b }
+{}
+
+/// What a sound state comes to: the same, told of one state. Besides, each word is in range, so that it can be packed, and
+/// an operation is in at most one claim.
+pub fn sound_states()
+    ensures none_rests { (p : Plan) (cap : ℕ) (c : Core) (o : ℕ) → IsPlan p → IsSound p cap c → o < op_count p → RestsOnAborted p c o → ⊥ }
+    ensures fold { (p : Plan) (cap : ℕ) (c : Core) → IsPlan p → IsSound p cap c → IsFold p c }
+    ensures once { (p : Plan) (cap : ℕ) (c : Core) → IsPlan p → IsSound p cap c → IsSettledOnce p c }
+    ensures attempts { (p : Plan) (cap : ℕ) (c : Core) → IsPlan p → IsSound p cap c → HasFewAttempts p cap c }
+    ensures words { (p : Plan) (cap : ℕ) (c : Core) (o : ℕ) → IsSound p cap c → o < op_count p → IsWord (c.word o) }
+    ensures one_claim { (p : Plan) (cap s t : ℕ) (c : Core) (g h : Held) → IsSound p cap c → c.claim s ≡ Some g → c.claim t ≡ Some h → g.op ≡ h.op → s ≡ t }
+{}

@@ -1,0 +1,212 @@
+ghost use Rattle.std.specs.Prelude.{◌≡◌, ◌<◌, ◌↔◌, IsTrue, IsSome, IfSome, Some};
+ghost use Rattle.morph_base.specs.declared.word.OpWord.{OpWord};
+ghost use Rattle.morph_base.specs.declared.word.OpState.{OpState};
+ghost use Rattle.morph_base.specs.Words.{IsWord, packed, code_of, is_idle as is_idle_in, is_evaluated as is_evaluated_in, is_settled as is_settled_in, has_worker as has_worker_in};
+
+use crate::limits::{MAX, WORKERS};
+
+/// The most attempts at an operation, which are numbered from 1.
+pub const ATTEMPTS: u8 = 8;
+
+/// The number of values that a packed word has room for: 2^40, which is above [`MAX`].
+const VALUES: u64 = 1_099_511_627_776;
+
+/// Where an operation stands.
+#[derive(Clone, Copy, Debug, PartialEq, Eq)]
+pub enum OpState {
+    /// A source may have no value yet.
+    Blocked,
+    /// It may be claimed.
+    Ready,
+    /// A worker is reading its sources.
+    Claimed,
+    /// It has its function's value on what was read.
+    Executed,
+    /// Its function failed on what was read; it has its target's value before the event.
+    Failed,
+    /// Another operation of its event failed; it has its target's value before the event.
+    Spread,
+    /// It has its value for good, and its event committed.
+    Settled,
+    /// It has its value for good, and its event aborted.
+    SettledAborted,
+}
+
+/// What is told of an operation at once: its value, at which attempt, its state, and the worker that it belongs to.
+///
+/// In range are attempts from 1 to [`ATTEMPTS`] and values of at most [`MAX`], 0 in the states blocked, ready and claimed.
+/// A worker, from 1 to [`WORKERS`], stands in the states claimed, settled and settled-aborted, and 0 in all others.
+#[derive(Clone, Copy, Debug, PartialEq, Eq)]
+pub struct OpWord {
+    pub value: u64,
+    pub attempt: u8,
+    pub state: OpState,
+    pub by: u8,
+}
+
+impl OpState {
+    /// Whether there is no value at this attempt yet: blocked, ready or claimed.
+    pub fn is_idle(self) -> bool
+        ensures { result ≡ is_idle_in self }
+    {
+        matches!(self, OpState::Blocked | OpState::Ready | OpState::Claimed)
+    }
+
+    /// Whether there is a value that may still be taken back: executed, failed or spread.
+    pub fn is_evaluated(self) -> bool
+        ensures { result ≡ is_evaluated_in self }
+    {
+        matches!(self, OpState::Executed | OpState::Failed | OpState::Spread)
+    }
+
+    /// Whether the value stands for good: settled or settled-aborted.
+    pub fn is_settled(self) -> bool
+        ensures { result ≡ is_settled_in self }
+    {
+        matches!(self, OpState::Settled | OpState::SettledAborted)
+    }
+
+    /// Whether a word in this state names a worker: claimed, settled or settled-aborted.
+    pub fn has_worker(self) -> bool
+        ensures { result ≡ has_worker_in self }
+    {
+        matches!(
+            self,
+            OpState::Claimed | OpState::Settled | OpState::SettledAborted
+        )
+    }
+
+    /// The number of the state in a packed word.
+    fn code(self) -> u64
+        ensures code { result ≡ code_of self }
+        ensures small { result < 8 }
+    {
+        match self {
+            OpState::Blocked => 0,
+            OpState::Ready => 1,
+            OpState::Claimed => 2,
+            OpState::Executed => 3,
+            OpState::Failed => 4,
+            OpState::Spread => 5,
+            OpState::Settled => 6,
+            OpState::SettledAborted => 7,
+        }
+    }
+
+    /// The state of this number.
+    fn of_code(code: u64) -> Option<OpState>
+        ensures state { IfSome result (λ state. code_of state ≡ code) }
+        ensures every { (state : OpState) → code_of state ≡ code → result ≡ Some state }
+    {
+        match code {
+            0 => Some(OpState::Blocked),
+            1 => Some(OpState::Ready),
+            2 => Some(OpState::Claimed),
+            3 => Some(OpState::Executed),
+            4 => Some(OpState::Failed),
+            5 => Some(OpState::Spread),
+            6 => Some(OpState::Settled),
+            7 => Some(OpState::SettledAborted),
+            _ => None,
+        }
+    }
+}
+
+impl OpWord {
+    /// Whether the word is in range.
+    pub fn is_in_range(self) -> bool
+        ensures { IsTrue result ↔ IsWord self }
+    {
+        let attempt = 1 <= self.attempt && self.attempt <= ATTEMPTS;
+        let value = self.value <= if self.state.is_idle() { 0 } else { MAX };
+        let by = if self.state.has_worker() {
+            1 <= self.by && self.by <= WORKERS
+        } else {
+            self.by == 0
+        };
+        attempt && value && by
+    }
+
+    /// The word as one number: the value in bits 0 to 39, the attempt in 40 to 43, the state in 44 to 47, blocked 0 to
+    /// settled-aborted 7 in the order of [`OpState`], and the worker in 48 to 52.
+    ///
+    /// ```text
+    /// blocked at attempt 1           0x0000_0100_0000_0000
+    /// executed at attempt 1 with 40  0x0000_3100_0000_0028
+    /// ```
+    pub fn pack(self) -> u64
+        requires { IsWord self }
+        ensures { result ≡ packed self }
+    {
+        let state = self.state.code() + 16 * u64::from(self.by);
+        self.value + VALUES * (u64::from(self.attempt) + 16 * state)
+    }
+
+    /// The word in range that packs to this number; `None` exactly where there is none.
+    pub fn unpack(n: u64) -> Option<OpWord>
+        ensures word { IfSome result (λ w. IsWord w × (packed w ≡ n)) }
+        ensures every { (w : OpWord) → IsWord w → packed w ≡ n → result ≡ Some w }
+    {
+        let above = n / VALUES;
+        let word = OpWord {
+            value: n % VALUES,
+            attempt: (above % 16) as u8,
+            state: OpState::of_code(above / 16 % 16)?,
+            by: u8::try_from(above / 256).ok()?,
+        };
+        if word.is_in_range() { Some(word) } else { None }
+    }
+}
+
+#[cfg(test)]
+mod tests {
+    use super::*;
+
+    #[test]
+    fn packs_as_laid_out(rt: HostRuntime) {
+        let blocked = OpWord {
+            value: 0,
+            attempt: 1,
+            state: OpState::Blocked,
+            by: 0,
+        };
+        let executed = OpWord {
+            value: 40,
+            attempt: 1,
+            state: OpState::Executed,
+            by: 0,
+        };
+        let aborted = OpWord {
+            value: 100,
+            attempt: 1,
+            state: OpState::SettledAborted,
+            by: 1,
+        };
+        assert_eq!(rt; blocked.pack(), 1_099_511_627_776);
+        assert_eq!(rt; executed.pack(), 53_876_069_761_064);
+        assert_eq!(rt; aborted.pack(), 405_719_790_649_444);
+        assert_eq!(rt; OpWord::unpack(0x0000_0100_0000_0000), Some(blocked));
+        assert_eq!(rt; OpWord::unpack(0x0000_3100_0000_0028), Some(executed));
+        assert_eq!(rt; OpWord::unpack(0x0001_7100_0000_0064), Some(aborted));
+    }
+
+    /// No attempt; an attempt of 9; a value at blocked; a value above the greatest; a state of 8; nobody, and a worker of 17,
+    /// at claimed; a worker at executed; a bit above the worker.
+    #[test]
+    fn knows_what_no_word_packs_to(rt: HostRuntime) {
+        for n in [
+            0x0000_0000_0000_0000,
+            0x0000_0900_0000_0000,
+            0x0000_0100_0000_0001,
+            0x0000_31e8_d4a5_1001,
+            0x0000_8100_0000_0000,
+            0x0000_2100_0000_0000,
+            0x0011_2100_0000_0000,
+            0x0001_3100_0000_0028,
+            0x0020_3100_0000_0028,
+        ] {
+            assert_eq!(rt; OpWord::unpack(n), None, "at {n}");
+        }
+        assert!(rt; OpWord::unpack(0x0000_31e8_d4a5_1000).is_some());
+    }
+}

@@ -19,19 +19,22 @@ abbrev pub is_written_by : ℕ → Origin → Bool
 is_written_by o (Base v) = false
 is_written_by o (Written s) = s == o
 
+-- the level of a source, where operation s has level `level s`; a base has none
+abbrev pub level_of : (ℕ → ℕ) → Origin → ℕ
+level_of level (Base v) = 0
+level_of level (Written s) = level s
+
 -- the numbers below n, rising
 abbrev pub below : ℕ → List ℕ
 below n = range_with_len 0 n
 
 module _ (p : Plan) where
-  -- the level of a source, and that of its event; a base has none
+  -- the level of a source, and that of its event
   abbrev pub op_level : Origin → ℕ
-  op_level (Base v) = 0
-  op_level (Written s) = (op_at p s).level
+  op_level = level_of (λ s. (op_at p s).level)
 
   abbrev pub event_level : Origin → ℕ
-  event_level (Base v) = 0
-  event_level (Written s) = (event_at p (event_of p s)).level
+  event_level = level_of (λ s. (event_at p (event_of p s)).level)
 
   -- the operations of event i, and all sources of theirs
   abbrev pub ops_in : ℕ → List ℕ

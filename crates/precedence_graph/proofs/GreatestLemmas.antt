@@ -1,0 +1,46 @@
+-- The greatest of some numbers, and the numbers below n.
+use Rattle.std.proofs.Common.{◌≡◌, ℕ, ◌+◌, ◌<◌, ◌≤◌, zero, suc, Bool, cond, List, [], ◌∷◌, ◌++◌, length, get_or, take, map, filter, refl, sym, ap, ◌∙◌, arith}
+use Rattle.std.specs.Prelude.{max, All}
+use Rattle.std.specs.List.{flat_map}
+use Rattle.std.proofs.lemmas.List.{take_more, map-id, map-append, append-nil}
+use Rattle.std.proofs.lemmas.Grind.{flat_map-append}
+use Rattle.std.proofs.lemmas.List.Elements.{filter-append, All-head, All-tail}
+use Rattle.std.proofs.lemmas.List.FromFn.{map-range_with_len_more}
+use Rattle.morph_base.specs.Graphs.{greatest, below}
+
+pub greatest-append : (xs ys : List ℕ) → greatest (xs ++ ys) ≡ max (greatest xs) (greatest ys)
+greatest-append [] ys = omega arith
+greatest-append (x ∷ xs) ys = ap (max x) (greatest-append xs ys) ∙ omega arith
+
+pub greatest_push : (xs : List ℕ) (y : ℕ) → greatest (xs ++ y ∷ []) ≡ max (greatest xs) y
+greatest_push xs y = greatest-append xs (y ∷ []) ∙ omega arith
+
+pub greatest_more : (xs : List ℕ) (i d : ℕ) → i < length xs → greatest (take (i + 1) xs) ≡ max (greatest (take i xs)) (get_or xs i d)
+greatest_more xs i d inside = ap greatest (take_more xs i d inside) ∙ greatest_push (take i xs) (get_or xs i d)
+
+pub get_or-le-greatest : (xs : List ℕ) (i d : ℕ) → i < length xs → get_or xs i d ≤ greatest xs
+get_or-le-greatest [] i d inside = omega arith
+get_or-le-greatest (x ∷ xs) zero d inside = omega arith
+get_or-le-greatest (x ∷ xs) (suc i) d inside = omega (arith, get_or-le-greatest xs i d (omega arith))
+
+pub greatest-le : (m : ℕ) (xs : List ℕ) → All (λ x. x ≤ m) xs → greatest xs ≤ m
+greatest-le m [] h = omega arith
+greatest-le m (x ∷ xs) h =
+    omega (arith, All-head (λ y. y ≤ m) x xs h, greatest-le m xs (All-tail (λ y. y ≤ m) x xs h))
+
+pub below_more : (n : ℕ) → below (n + 1) ≡ below n ++ n ∷ []
+below_more n =
+    sym (map-id (below (n + 1))) ∙ map-range_with_len_more (λ (x : ℕ). x) 0 n n (omega arith) ∙ ap (λ xs. xs ++ n ∷ []) (map-id (below n))
+
+one_number : (p : ℕ → Bool) (n : ℕ) → filter p (n ∷ []) ≡ cond (p n) (n ∷ []) []
+one_number p n = refl
+
+pub filter-below_more : (p : ℕ → Bool) (n : ℕ) → filter p (below (n + 1)) ≡ filter p (below n) ++ cond (p n) (n ∷ []) []
+filter-below_more p n = ap (filter p) (below_more n) ∙ filter-append p (below n) (n ∷ [])
+
+-- the greatest over lists that are joined, one list more
+pub greatest-flat_map_more : {X Y : Type 0} (f : Y → ℕ) (h : X → List Y) (xs : List X) (i : ℕ) (d : X) → i < length xs → greatest (map f (flat_map h (take (i + 1) xs))) ≡ max (greatest (map f (flat_map h (take i xs)))) (greatest (map f (h (get_or xs i d))))
+greatest-flat_map_more f h xs i d inside =
+    let before = flat_map h (take i xs) in
+    let new = h (get_or xs i d) in
+    ap (λ ys. greatest (map f (flat_map h ys))) (take_more xs i d inside) ∙ ap (λ ys. greatest (map f ys)) (flat_map-append h (take i xs) (get_or xs i d ∷ []) ∙ ap (λ ys. before ++ ys) (append-nil new)) ∙ ap greatest (map-append f before new) ∙ greatest-append (map f before) (map f new)

@@ -1,0 +1,12 @@
+pub mod ListLemmas
+pub mod LinkLemmas
+pub mod GreatestLemmas
+pub mod ReadLemmas
+pub mod WriterLemmas
+pub mod PlannedLemmas
+pub mod ReadyLemmas
+pub mod EventLemmas
+pub mod BuiltLemmas
+pub mod BlankLemmas
+pub mod GraphLemmas
+pub mod LevelLemmas

@@ -1,0 +1,86 @@
+-- What stands of an operation once all are planned: its shape, its places, and that it reads from earlier events.
+use Rattle.std.proofs.Common.{◌≡◌, ℕ, ◌+◌, ◌-◌, ◌*◌, ◌<◌, ◌≤◌, List, length, get_or, take, drop, map, replicate, sym, ap, subst, ◌∙◌, arith}
+use Rattle.std.specs.Prelude.{All}
+use Rattle.std.proofs.lemmas.List.{length-append, length-map, length-replicate, length-take, get_or-take, get_or-drop, get_or_default}
+use Rattle.std.proofs.lemmas.List.Elements.{All-map, All-same, All-weaker}
+use Rattle.morph_base.specs.declared.limits.TheConstants.{READS, EVENT_OPS, EVENTS}
+use Rattle.morph_base.specs.declared.key.Key.{Key}
+use Rattle.morph_base.specs.declared.operation.Op.{Op}
+use Rattle.morph_base.specs.declared.plan.Origin.{Origin}
+use Rattle.morph_base.specs.declared.plan.Origin.TheVariants.{Base, Op as Written}
+use Rattle.morph_base.specs.declared.plan.PlanOp.{PlanOp}
+use Rattle.morph_base.specs.Operations.{reads, IsShaped}
+use Rattle.morph_base.specs.Sources.{IsSource}
+use Rattle.morph_base.specs.Plans.{no_plan_op}
+use Rattle.txn_splitter.specs.declared.txns.Txns.{Txns}
+use Rattle.txn_splitter.specs.Txns.{IsTxns, txn_op_count, txn_of, txn_target}
+use Rattle.txn_splitter.proofs.TxnLemmas.{txn_ops_few}
+use Rattle.precedence_graph.specs.Planned.{IsAmong, IsOfEarlier, IsReady, padded, sources_of, planned, ArePlanned}
+use Rattle.precedence_graph.proofs.PlannedLemmas.{take-padded, IsAmong-more}
+
+pub length-reads : (op : Op) → IsShaped op → length (reads op) ≡ op.n_params + 1
+length-reads op shaped =
+    let held : op.n_params ≤ length op.params = shaped.held in
+    omega (arith, length-take op.n_params op.params)
+
+-- padded sources of a shaped operation have a place each
+pub length-padded : (op : Op) (xs : List Origin) → IsShaped op → length xs ≡ length (reads op) → length (padded xs) ≡ READS
+length-padded op xs shaped many =
+    let places : op.n_params < READS = shaped.places in
+    let keys = length-reads op shaped in
+    length-append xs (replicate (READS - length xs) (Base 0)) ∙ omega (arith, length-replicate (READS - length xs) (Base 0))
+
+module _ (x : Txns) (is : IsTxns x) (ops : List PlanOp) (done : ArePlanned x (txn_op_count x) ops) where
+  pub planned_ready : (o : ℕ) → o < txn_op_count x → IsReady (txn_op_count x) (planned ops o)
+  planned_ready o lt =
+      let q = done.each o lt in
+      let shaped : IsShaped (planned ops o).op = subst IsShaped (sym q.op_is) (is.numbering.shaped o lt) in
+      record {
+        shaped = shaped;
+        places = ap length q.origins_are ∙ length-padded (planned ops o).op (map q.source (reads (planned ops o).op)) shaped (length-map (reads (planned ops o).op) q.source);
+        among = All-weaker (IsAmong o) (IsAmong (txn_op_count x)) (λ origin. IsAmong-more o (txn_op_count x) origin (omega arith)) (sources_of (planned ops o)) q.among;
+      }
+
+  -- the sources of its used places are those of its keys
+  pub sources_are : (o : ℕ) (lt : o < txn_op_count x) → sources_of (planned ops o) ≡ map (done.each o lt).source (reads (planned ops o).op)
+  sources_are o lt =
+      let q = done.each o lt in
+      ap (take (length (reads (planned ops o).op))) q.origins_are ∙ take-padded q.source (reads (planned ops o).op)
+
+  source_earlier : (o : ℕ) (key : Key) (origin : Origin) → IsSource (txn_op_count x) (txn_target x) (txn_of x) (txn_of x o) key origin → IsOfEarlier ops (txn_of x o) origin
+  source_earlier o key (Base v) source = tt
+  source_earlier o key (Written s) source =
+      let many : length ops ≡ txn_op_count x = done.many in
+      let lt : s < txn_op_count x = source.itself.in_range in
+      let event_is = (done.each s lt).event_is in
+      let earlier : txn_of x s < txn_of x o = source.itself.earlier in
+      (omega arith, omega arith)
+
+  pub planned_earlier : (o : ℕ) → o < txn_op_count x → All (IsOfEarlier ops (txn_of x o)) (sources_of (planned ops o))
+  planned_earlier o lt =
+      let q = done.each o lt in
+      let keys = reads (planned ops o).op in
+      All-same (IsOfEarlier ops (txn_of x o)) (sources_of (planned ops o)) (map q.source keys) (sources_are o lt)
+      (All-map (IsOfEarlier ops (txn_of x o)) q.source keys (λ k d _. source_earlier o (get_or keys k d) (q.source (get_or keys k d)) (q.source_is (get_or keys k d))))
+
+-- a fact of the operations with these numbers is one of the part of the list
+pub All-part : (P : PlanOp → Type 0) (ops : List PlanOp) (first count : ℕ) → first + count ≤ length ops → ((o : ℕ) → first ≤ o → o < first + count → P (planned ops o)) → All P (take count (drop first ops))
+All-part P ops first count fits each k d lt =
+    let inside : k < count = omega (arith, length-take count (drop first ops)) in
+    let at : get_or (take count (drop first ops)) k d ≡ planned ops (first + k) = get_or-take count (drop first ops) k d inside ∙ get_or-drop first ops k d ∙ get_or_default ops (first + k) d no_plan_op (omega arith) in
+    subst P (sym at) (each (first + k) (omega arith) (omega arith))
+
+-- a fact of each operation is one of the whole list
+all_planned : (P : PlanOp → Type 0) (n : ℕ) (ops : List PlanOp) → length ops ≡ n → ((o : ℕ) → o < n → P (planned ops o)) → All P ops
+all_planned P n ops many each k d lt = subst P (get_or_default ops k no_plan_op d lt) (each k (omega arith))
+
+module _ (x : Txns) (is : IsTxns x) (ops : List PlanOp) (done : ArePlanned x (txn_op_count x) ops) where
+  pub all_ready : All (IsReady (length ops)) ops
+  all_ready =
+      subst (λ n. All (IsReady n) ops) (sym done.many) (all_planned (IsReady (txn_op_count x)) (txn_op_count x) ops done.many (planned_ready x is ops done))
+
+  pub levels_positive : All (λ q. 0 < q.level) ops
+  levels_positive = all_planned (λ q. 0 < q.level) (txn_op_count x) ops done.many (λ o lt. omega (arith, (done.each o lt).level_is))
+
+  pub ops_few : length ops ≤ EVENT_OPS * EVENTS
+  ops_few = omega (arith, done.many, txn_ops_few x is)

@@ -1,0 +1,3 @@
+pub mod Writers
+pub mod Planned
+pub mod Links

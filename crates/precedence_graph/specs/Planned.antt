@@ -1,0 +1,94 @@
+-- What stands of a plan while it is made: operations and events over lists, and over the first of them.
+use Rattle.std.specs.Prelude.{◌≡◌, ℕ, ◌+◌, ◌-◌, ◌≤◌, ◌<◌, List, ◌++◌, length, take, drop, map, replicate, All, slice_index_or}
+use Rattle.std.specs.List.{flat_map}
+use Rattle.morph_base.specs.declared.limits.TheConstants.{READS}
+use Rattle.morph_base.specs.declared.key.Key.{Key}
+use Rattle.morph_base.specs.declared.plan.Origin.{Origin}
+use Rattle.morph_base.specs.declared.plan.Origin.TheVariants.{Base, Op as Written}
+use Rattle.morph_base.specs.declared.plan.PlanOp.{PlanOp}
+use Rattle.morph_base.specs.declared.plan.PlanEvent.{PlanEvent}
+use Rattle.morph_base.specs.Operations.{reads, IsShaped}
+use Rattle.morph_base.specs.Sources.{IsSource}
+use Rattle.morph_base.specs.Plans.{no_plan_op, no_event}
+use Rattle.morph_base.specs.Graphs.{greatest, level_of}
+use Rattle.txn_splitter.specs.declared.txns.TxnEvent.{TxnEvent}
+use Rattle.txn_splitter.specs.declared.txns.Txns.{Txns}
+use Rattle.txn_splitter.specs.Txns.{txn_op_count, txn_at, txn_op_at, txn_of, txn_target}
+use Rattle.precedence_graph.specs.declared.writers.Writers.{Writers}
+use Rattle.precedence_graph.specs.Writers.{source_in}
+
+-- the fact holds of the operation that a source names; a base has it
+abbrev pub OfWritten : (ℕ → Type 0) → Origin → Type 0
+OfWritten P (Base v) = Unit {0}
+OfWritten P (Written s) = P s
+
+-- the source is a base or one of the first n operations
+abbrev pub IsAmong : ℕ → Origin → Type 0
+IsAmong n = OfWritten (λ s. s < n)
+
+-- sources with a base of 0 at each place that is not used
+abbrev pub padded : List Origin → List Origin
+padded sources = sources ++ replicate (READS - length sources) (Base 0)
+
+-- the sources of an operation's places, its target's first
+abbrev pub sources_of : PlanOp → List Origin
+sources_of q = take (length (reads q.op)) q.origins
+
+-- the operation of a number, the level of one, and that of its event
+abbrev pub planned : List PlanOp → ℕ → PlanOp
+planned ops o = slice_index_or ops o no_plan_op
+
+abbrev pub op_level_in : List PlanOp → ℕ → ℕ
+op_level_in ops o = (planned ops o).level
+
+abbrev pub event_level_in : List PlanOp → List PlanEvent → ℕ → ℕ
+event_level_in ops events o = (slice_index_or events (planned ops o).event no_event).level
+
+-- an operation has a valid shape, a source at each place, and reads from the first n operations alone
+pub record IsReady (n : ℕ) (q : PlanOp) : Type 0 where
+  pub shaped : IsShaped q.op
+  pub places : length q.origins ≡ READS
+  pub among : All (IsAmong n) (sources_of q)
+
+-- the source is a base or an operation of an event before event i
+abbrev pub IsOfEarlier : List PlanOp → ℕ → Origin → Type 0
+IsOfEarlier ops i = OfWritten (λ s. (s < length ops) × ((planned ops s).event < i))
+
+-- the table has the last writers among the first n operations
+abbrev pub HasWriters : Txns → ℕ → Writers → Type 0
+HasWriters x n writers = (key : Key) → IsSource n (txn_target x) (λ _. 0) 1 key (source_in writers key)
+
+-- operation o of the transactions is planned, where `ops` has the operations before it: some function gives the source of
+-- each key for its event, 0 at a base, and it reads from operations before it
+pub record IsPlannedOp (x : Txns) (ops : List PlanOp) (o : ℕ) : Type 0 where
+  pub op_is : (planned ops o).op ≡ txn_op_at x o
+  pub event_is : (planned ops o).event ≡ txn_of x o
+  pub source : Key → Origin
+  pub source_is : (key : Key) → IsSource (txn_op_count x) (txn_target x) (txn_of x) (txn_of x o) key (source key)
+  pub base_is : (key : Key) (v : ℕ) → source key ≡ Base v → v ≡ 0
+  pub origins_are : (planned ops o).origins ≡ padded (map source (reads (planned ops o).op))
+  pub among : All (IsAmong o) (sources_of (planned ops o))
+  pub level_is : (planned ops o).level ≡ 1 + greatest (map (level_of (op_level_in ops)) (sources_of (planned ops o)))
+
+-- the first n operations are planned, with levels of at most n
+pub record ArePlanned (x : Txns) (n : ℕ) (ops : List PlanOp) : Type 0 where
+  pub many : length ops ≡ n
+  pub each : (o : ℕ) → o < n → IsPlannedOp x ops o
+  pub low : All (λ q. q.level ≤ n) ops
+
+-- the operations of event i, and all sources of theirs
+abbrev pub members_of : Txns → List PlanOp → ℕ → List PlanOp
+members_of x ops i = take (txn_at x i).count (drop (txn_at x i).first ops)
+
+abbrev pub event_sources_of : List PlanOp → List Origin
+event_sources_of members = flat_map sources_of members
+
+-- an event of a plan as one of the transactions
+abbrev pub txn_event : PlanEvent → TxnEvent
+txn_event e = record { ts = e.ts; first = e.first; count = e.count }
+
+-- the first n events are planned, with levels of at most n
+pub record AreEventsPlanned (x : Txns) (ops : List PlanOp) (n : ℕ) (events : List PlanEvent) : Type 0 where
+  pub events_are : map txn_event events ≡ take n x.events.items
+  pub level_is : (i : ℕ) → i < n → (slice_index_or events i no_event).level ≡ 1 + greatest (map (level_of (event_level_in ops events)) (event_sources_of (members_of x ops i)))
+  pub low : All (λ e. e.level ≤ n) events

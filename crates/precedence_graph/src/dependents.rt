@@ -1,0 +1,71 @@
+ghost use Rattle.std.specs.Prelude.{◌≡◌, ℕ, ◌+◌, ◌^◌, ◌<◌, ◌≤◌, ◌++◌, [], ◌∷◌, length, map, filter, All, IfOk, OnOk, if◌then◌else◌};
+ghost use Rattle.std.specs.List.{list_any};
+ghost use Rattle.morph_base.specs.Graphs.{below, is_written_by};
+ghost use Rattle.precedence_graph.specs.Links.{items_of};
+ghost use Rattle.precedence_graph.specs.Planned.{IsAmong, IsReady, planned, sources_of};
+
+use crate::links::{Link, grouped};
+use crate::sources::used;
+use morph_base::{List, Origin, OutOfMemory, PlanOp};
+use std::alloc::Global;
+
+/// For each operation those that read from it, rising, each once.
+pub fn dependents(alloc: Global, ops: &[PlanOp]) -> Result<List<List<u32>>, OutOfMemory>
+    requires ready { All (IsReady (length ops.now)) ops.now }
+    requires few { length ops.now < 2 ^ 32 }
+    ensures { IfOk result (λ lists. map (λ list. list.items) lists.items
+        ≡ map (λ o. filter (λ t. list_any (is_written_by o) (sources_of (planned ops.now t))) (below (length ops.now)))
+        (below (length ops.now))) }
+{
+    let links = read_links(alloc, ops)?;
+    grouped(alloc, ops.len(), links.as_slice())
+}
+
+/// Each operation as an item of the groups of the operations that it reads from.
+fn read_links(alloc: Global, ops: &[PlanOp]) -> Result<List<Link>, OutOfMemory>
+    requires ready { All (IsReady (length ops.now)) ops.now }
+    requires few { length ops.now < 2 ^ 32 }
+    ensures items { IfOk result (λ links. (o : ℕ) → items_of links.items o
+        ≡ filter (λ t. list_any (is_written_by o) (sources_of (planned ops.now t))) (below (length ops.now))) }
+    ensures groups { IfOk result (λ links. All (λ link. link.group < length ops.now) links.items) }
+{
+    let mut links = List::with_room(alloc, ops.len())?;
+    for (t, op) in ops.iter().enumerate() {
+        link_sources(&mut links, used(op), t as u32)?;
+    }
+    Ok(links)
+}
+
+/// Links an item to each operation among its sources, once.
+fn link_sources(links: &mut List<Link>, sources: &[Origin], item: u32) -> Result<(), OutOfMemory>
+    ensures items { OnOk result ((o : ℕ) → items_of links.new.items o
+        ≡ items_of links.old.items o ++ (if list_any (is_written_by o) sources.now then item ∷ [] else [])) }
+    ensures groups { OnOk result ((n : ℕ) → All (IsAmong n) sources.now
+        → All (λ link. link.group < n) links.old.items → All (λ link. link.group < n) links.new.items) }
+{
+    for (j, origin) in sources.iter().enumerate() {
+        if let Origin::Op(s) = origin {
+            if !has_source(&sources[..j], *s) {
+                links.push(Link { group: *s, item })?;
+            }
+        }
+    }
+    Ok(())
+}
+
+/// Whether operation `s` is one of the sources.
+fn has_source(sources: &[Origin], s: u32) -> bool
+    ensures { result ≡ list_any (is_written_by s) sources.now }
+{
+    sources.iter().any(|origin| is_written_by(s, *origin))
+}
+
+/// Whether the source is operation `s`.
+fn is_written_by(s: u32, origin: Origin) -> bool
+    ensures { result ≡ is_written_by s origin }
+{
+    match origin {
+        Origin::Base(_) => false,
+        Origin::Op(t) => t == s,
+    }
+}

@@ -1,0 +1,26 @@
+ghost use Rattle.std.specs.Prelude.{◌≡◌, ◌+◌, ◌*◌, ◌<◌, ◌≤◌, length, take, drop};
+ghost use Rattle.morph_base.specs.declared.limits.TheConstants.{EVENT_OPS, EVENTS};
+ghost use Rattle.txn_splitter.specs.Txns.{IsTxns, txn_count, txn_op_count, txn_at};
+
+use morph_base::PlanOp;
+use txn_splitter::{TxnEvent, Txns};
+
+/// Event `i`, whose operations are in range.
+pub fn event_at(txns: &Txns, i: usize) -> TxnEvent
+    requires txns { IsTxns txns.now }
+    requires event { i < txn_count txns.now }
+    ensures event { result ≡ txn_at txns.now i }
+    ensures end { result.first + result.count ≤ txn_op_count txns.now }
+    ensures few { txn_op_count txns.now ≤ EVENT_OPS * EVENTS }
+{
+    *txns.events.get(i)
+}
+
+/// The operations of an event.
+pub fn members(event: TxnEvent, ops: &[PlanOp]) -> &[PlanOp]
+    requires end { event.first + event.count ≤ length ops.now }
+    requires few { length ops.now ≤ EVENT_OPS * EVENTS }
+    ensures { result.now ≡ take event.count (drop event.first ops.now) }
+{
+    &ops[event.first as usize..(event.first + event.count) as usize]
+}

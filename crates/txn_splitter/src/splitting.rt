@@ -1,0 +1,53 @@
+ghost use Rattle.std.specs.Prelude.{◌≡◌, ◌++◌, length, replicate, IfOk, OnOk};
+ghost use Rattle.morph_base.specs.Transactions.{IsBatch};
+ghost use Rattle.txn_splitter.specs.Txns.{IsTxns, IsTxnsOf};
+
+use crate::txns::{TxnEvent, Txns};
+use morph_base::{Batch, Event, List, Op, OutOfMemory};
+use std::alloc::Global;
+
+/// Cuts a batch into its transactions, by rising timestamp.
+pub fn split(alloc: Global, batch: &Batch) -> Result<Txns, OutOfMemory>
+    requires { IsBatch batch.now }
+
+    // They are the batch's transactions, numbered, with nothing added and nothing dropped.
+    ensures of { IfOk result (IsTxnsOf batch.now) }
+    ensures valid { IfOk result IsTxns }
+{
+    let order = batch.by_time(alloc)?;
+    let mut events = List::with_room(alloc, order.len())?;
+    let mut ops = List::new(alloc);
+    let mut event_of = List::new(alloc);
+    for event in &order {
+        let first = ops.len() as u32;
+        append_ops(&mut ops, &mut event_of, event, events.len() as u32)?;
+        events.add(TxnEvent {
+            ts: event.ts,
+            first,
+            count: event.ops.len() as u32,
+        });
+    }
+    Ok(Txns {
+        events,
+        ops,
+        event_of,
+    })
+}
+
+/// Appends the operations of event `number`, and for each of them that number.
+fn append_ops(
+    ops: &mut List<Op>,
+    event_of: &mut List<u32>,
+    event: &Event,
+    number: u32,
+) -> Result<(), OutOfMemory>
+    ensures ops { OnOk result (ops.new.items ≡ ops.old.items ++ event.now.ops.items) }
+    ensures events { OnOk result (event_of.new.items
+        ≡ event_of.old.items ++ replicate (length event.now.ops.items) number) }
+{
+    for op in event.ops.as_slice() {
+        ops.push(*op)?;
+        event_of.push(number)?;
+    }
+    Ok(())
+}

@@ -1,0 +1,20 @@
+use morph_base::{List, Op};
+
+/// An event of a split batch: its operations are those numbered from `first` on, `count` of them.
+#[derive(Clone, Copy, Debug, PartialEq, Eq)]
+pub struct TxnEvent {
+    pub ts: u64,
+    pub first: u32,
+    pub count: u32,
+}
+
+/// A batch cut into transactions: its events by rising timestamp, and all their operations in one list.
+///
+/// Events and operations are numbered from 0; operations by event and then by operation order.
+#[derive(Debug, Drop)]
+pub struct Txns {
+    pub events: List<TxnEvent>,
+    pub ops: List<Op>,
+    /// For each operation the number of its event.
+    pub event_of: List<u32>,
+}

@@ -1,0 +1,137 @@
+ghost use Rattle.std.specs.Prelude.{◌≡◌, ◌<◌, ◌≤◌, ◌↔◌, length, drop, map, All, IsTrue, nat_eq};
+ghost use Rattle.std.specs.List.{IsDistinct, list_any};
+ghost use Rattle.morph_base.specs.Operations.{IsShaped, least_params, most_params, no_key, same_key};
+ghost use Rattle.morph_base.specs.Transactions.{IsTransaction, IsBatch, transaction_of};
+
+use morph_base::{Batch, EVENT_OPS, EVENTS, Event, Func, Key, LATEST, MAX, Op, PARAMS, READS};
+
+/// Whether a batch is valid, as [`split`](crate::split) asks.
+///
+/// It compares each time with all others, so it is meant for the small batches that are put together by hand.
+pub fn is_valid(batch: &Batch) -> bool
+    ensures { IsTrue result ↔ IsBatch batch.now }
+{
+    let events = batch.events.as_slice();
+    if events.len() > EVENTS {
+        return false;
+    }
+    are_transactions(events) && times_differ(events)
+}
+
+/// Whether all events are valid.
+fn are_transactions(events: &[Event]) -> bool
+    ensures { IsTrue result ↔ All (λ e. IsTransaction (transaction_of e)) events.now }
+{
+    events.iter().all(|event| is_transaction(event))
+}
+
+/// Whether an event is valid.
+fn is_transaction(event: &Event) -> bool
+    ensures { IsTrue result ↔ IsTransaction (transaction_of event.now) }
+{
+    let ops = event.ops.as_slice();
+    0 < event.ts
+        && event.ts <= LATEST
+        && !ops.is_empty()
+        && ops.len() <= EVENT_OPS
+        && ops.iter().all(|op| is_shaped(op))
+        && targets_differ(ops)
+}
+
+/// Whether an operation has a valid shape.
+fn is_shaped(op: &Op) -> bool
+    ensures { IsTrue result ↔ IsShaped op.now }
+{
+    if op.c > MAX {
+        return false;
+    }
+    has_its_params(op) && is_blank_after_params(op)
+}
+
+/// Whether an operation has as many parameters as its function takes.
+fn has_its_params(op: &Op) -> bool
+    ensures within { IsTrue result → op.now.n_params < READS }
+    ensures taken { IsTrue result
+        ↔ (least_params op.now.func ≤ op.now.n_params) × (op.now.n_params ≤ most_params op.now.func) }
+{
+    least_params(op.func) <= op.n_params && op.n_params <= most_params(op.func)
+}
+
+/// Whether the places after the parameters of an operation hold no key.
+fn is_blank_after_params(op: &Op) -> bool
+    requires { op.now.n_params < READS }
+    ensures held { op.now.n_params ≤ length op.now.params }
+    ensures blank { IsTrue result ↔ All (λ key. key ≡ no_key) (drop op.now.n_params op.now.params) }
+{
+    op.params[op.n_params as usize..]
+        .iter()
+        .all(|key| is_no_key(key))
+}
+
+/// The least number of parameters of a function.
+fn least_params(func: Func) -> u8
+    ensures value { result ≡ least_params func }
+    ensures few { result < READS }
+{
+    match func {
+        Func::Keep | Func::Add | Func::Sub | Func::Blend | Func::Set => 0,
+        Func::MoveIn | Func::Sum | Func::Enter => 1,
+        Func::Charge => 2,
+    }
+}
+
+/// The greatest number of parameters of a function.
+fn most_params(func: Func) -> u8
+    ensures value { result ≡ most_params func }
+    ensures few { result ≤ PARAMS }
+{
+    match func {
+        Func::Sum => 3,
+        _ => least_params(func),
+    }
+}
+
+/// Whether the key is that of the places that are not used.
+fn is_no_key(key: &Key) -> bool
+    ensures { IsTrue result ↔ (key.now ≡ no_key) }
+{
+    *key == Key { table: 0, id: 0 }
+}
+
+/// Whether the targets of some operations differ.
+fn targets_differ(ops: &[Op]) -> bool
+    ensures { IsTrue result ↔ IsDistinct same_key (map (λ op. op.key) ops.now) }
+{
+    for (i, op) in ops.iter().enumerate() {
+        if has_target(&ops[..i], op.key) {
+            return false;
+        }
+    }
+    true
+}
+
+/// Whether one of the operations changes the key.
+fn has_target(ops: &[Op], key: Key) -> bool
+    ensures { result ≡ list_any (same_key key) (map (λ op. op.key) ops.now) }
+{
+    ops.iter().map(|op| op.key).any(|target| key == target)
+}
+
+/// Whether the times of some events differ.
+fn times_differ(events: &[Event]) -> bool
+    ensures { IsTrue result ↔ IsDistinct nat_eq (map (λ e. e.ts) events.now) }
+{
+    for (i, event) in events.iter().enumerate() {
+        if has_time(&events[..i], event.ts) {
+            return false;
+        }
+    }
+    true
+}
+
+/// Whether one of the events has the time.
+fn has_time(events: &[Event], ts: u64) -> bool
+    ensures { result ≡ list_any (nat_eq ts) (map (λ e. e.ts) events.now) }
+{
+    events.iter().map(|event| event.ts).any(|time| ts == time)
+}

@@ -1,0 +1,122 @@
+ghost use Rattle.std.specs.Prelude.{◌≡◌, ◌<◌, ◌≤◌, ◌↔◌, nat_le, count_by, IfOk, IsTrue};
+ghost use Rattle.morph_base.specs.declared.limits.TheConstants.{MAX};
+ghost use Rattle.morph_base.specs.Operations.{InLayout};
+ghost use Rattle.morph_base.specs.States.{opening_state};
+ghost use Rattle.morph_base.specs.Flat.{contents};
+ghost use Rattle.morph_base.specs.Plans.{IsPlan, HasBases, PlanKeysIn, IsSettledOf, event_count, event_at, state_at, filled_plan};
+
+use crate::filling::fill;
+use morph_base::{Key, Layout, OutOfMemory, Plan, PlanOp, Settled, Values};
+use std::alloc::Global;
+use std::marker::Model;
+
+/// A value for each key of a layout, between two batches.
+///
+/// Contracts see the layout and the values, as of [`Values`], and read them as a function of all keys, which is 0 outside the
+/// layout (`contents`). No value is above [`MAX`](morph_base::MAX).
+#[derive(Debug, Drop)]
+pub struct State {
+    values: Values,
+}
+
+impl Model for State {
+    ghost use Rattle.std.specs.Prelude.{◌≤◌};
+    ghost use Rattle.morph_base.specs.declared.limits.TheConstants.{MAX};
+    ghost use Rattle.morph_base.specs.declared.key.Key.{Key};
+    ghost use Rattle.morph_base.specs.Flat.{Kept, contents};
+
+    ghost Value = { Kept };
+
+    ghost view = { λ state. state.values };
+
+    ghost invariant = { λ state. (key : Key) → contents state.values key ≤ MAX };
+}
+
+impl State {
+    /// The state at the start: all values 0. All memory that the state ever needs is taken here.
+    pub fn new(alloc: Global, layout: Layout) -> Result<Self, OutOfMemory>
+        ensures layout { IfOk result (λ state. state.layout ≡ layout) }
+        ensures opening { IfOk result (λ state. contents state ≡ opening_state) }
+    {
+        Ok(State {
+            values: Values::new(alloc, layout)?,
+        })
+    }
+
+    /// Which keys there are.
+    pub fn layout(&self) -> Layout
+        ensures layout { result ≡ self.now.layout }
+        ensures small { (key : Key) → contents self.now key ≤ MAX }
+    {
+        self.values.layout()
+    }
+
+    /// The value of a key of the layout.
+    pub fn get(&self, key: Key) -> u64
+        requires { InLayout self.now.layout key }
+        ensures value { result ≡ contents self.now key }
+        ensures small { result ≤ MAX }
+    {
+        self.values.get(key)
+    }
+
+    /// Fills in the bases of a plan: each `Base` of a place that an operation reads becomes the value of its key.
+    ///
+    /// The plan is then one of this state, until a batch is applied; everything else of it stays.
+    pub fn bases(&self, plan: &mut Plan)
+        requires plan { IsPlan plan.old }
+        requires keys { PlanKeysIn plan.old self.now.layout }
+        ensures filled { plan.new ≡ filled_plan (contents self.now) plan.old }
+        ensures plan { IsPlan plan.new }
+        ensures bases { HasBases plan.new (contents self.now) }
+    {
+        for op in plan.ops.as_mut_slice() {
+            fill(&self.values, op);
+        }
+    }
+
+    /// The value of a key after the plan's events with timestamps up to `ts`, as it was settled.
+    ///
+    /// The state is still the one before the batch: what [`State::apply`] has brought up to date has its latest values alone.
+    pub fn version(&self, plan: &Plan, settled: &Settled, key: Key, ts: u64) -> u64
+        requires plan { IsPlan plan.now }
+        requires bases { HasBases plan.now (contents self.now) }
+        requires settled { IsSettledOf plan.now settled.now }
+        requires key { InLayout self.now.layout key }
+        ensures { let events = count_by (λ e. nat_le e.ts ts) plan.now.events.items in
+            result ≡ state_at plan.now (contents self.now) events key }
+    {
+        let mut value = self.get(key);
+        for o in 0..plan.ops.len() {
+            if changes(plan, plan.ops.get(o), key, ts) {
+                value = *settled.values.get(o);
+            }
+        }
+        value
+    }
+
+    /// Brings the state up to date with a settled batch: the state becomes the fold of the plan's events.
+    ///
+    /// Each key that an operation changes gets the value of the last one that does, and all others stay.
+    pub fn apply(&mut self, plan: &Plan, settled: &Settled)
+        requires plan { IsPlan plan.now }
+        requires keys { PlanKeysIn plan.now self.old.layout }
+        requires bases { HasBases plan.now (contents self.old) }
+        requires settled { IsSettledOf plan.now settled.now }
+        ensures state { contents self.new ≡ state_at plan.now (contents self.old) (event_count plan.now) }
+        ensures layout { self.new.layout ≡ self.old.layout }
+    {
+        for o in 0..settled.values.len() {
+            let key = plan.ops.get(o).op.key;
+            self.values.put(key, *settled.values.get(o));
+        }
+    }
+}
+
+/// Whether an operation of the plan changes the key at a time up to `ts`.
+fn changes(plan: &Plan, op: &PlanOp, key: Key, ts: u64) -> bool
+    requires { op.now.event < event_count plan.now }
+    ensures { IsTrue result ↔ ((op.now.op.key ≡ key) × ((event_at plan.now op.now.event).ts ≤ ts)) }
+{
+    op.op.key == key && plan.events.get(op.event as usize).ts <= ts
+}

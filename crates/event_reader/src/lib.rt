@@ -13,6 +13,8 @@ mod lines;
 mod number;
 mod pending;
 mod ranges;
+#[cfg(test)]
+mod tests;
 mod times;
 mod words;
 

@@ -7,5 +7,7 @@
 #![tactic(auto)]
 
 mod ledger;
+#[cfg(test)]
+mod tests;
 
 pub use ledger::{ACCOUNTS, ASSETS, Ledger};

@@ -1,0 +1,351 @@
+ghost use Rattle.std.specs.Prelude.{◌≡◌, ◌<◌, ◌≤◌, IfOk};
+ghost use Rattle.event_reader.specs.declared.limits.TheConstants.{INPUT_BYTES};
+
+use crate::{ACCOUNTS, ASSETS, Ledger};
+use event_reader::{BatchReader, Cause, EventApp, INPUT_BYTES, Next, ReaderFault, Words};
+use morph_base::{Func, Key, List, Op, OutOfMemory};
+use morph_io::MemSource;
+use std::alloc::{AllocError, Global};
+use std::test::Fail;
+
+/// How a reading ended.
+#[derive(Clone, Copy, Debug, PartialEq, Eq)]
+enum End {
+    Ended,
+    Refused(u64, Cause),
+    Fault(ReaderFault),
+    Unfinished,
+}
+
+/// The number of events of each batch that was given, and how the reading ended.
+#[derive(Debug, Drop)]
+struct Outcome {
+    sizes: Vec<usize>,
+    end: End,
+}
+
+/// A list of the given items.
+fn list_of<T: Copy>(alloc: Global, items: &[T]) -> Result<List<T>, OutOfMemory> {
+    let mut list = List::new(alloc);
+    for item in items {
+        list.push(*item)?;
+    }
+    Ok(list)
+}
+
+/// Reads all batches of a text, from a source that gives it in pieces and fails at the given calls.
+fn read_all(
+    alloc: Global,
+    text: &[u8],
+    piece: usize,
+    fail: &[u64],
+    limit: u64,
+) -> Result<Outcome, OutOfMemory>
+    requires piece { 0 < piece }
+    requires some { 1 ≤ limit }
+    requires limit { limit ≤ INPUT_BYTES }
+{
+    let mut source = MemSource::new(list_of(alloc, text)?, piece, list_of(alloc, fail)?);
+    let mut reader = BatchReader::new(alloc, Ledger, 10_000, limit)?;
+    let mut sizes = Vec::new(alloc);
+    'batches: for _ in 0..100 {
+        let end = match reader.next_batch(alloc, &mut source) {
+            Ok(Next::Batch(batch)) => {
+                sizes.push(batch.events.len())?;
+                continue;
+            }
+            Ok(Next::End) => End::Ended,
+            Ok(Next::Refused { line, cause }) => End::Refused(line, cause),
+            Err(fault) => End::Fault(fault),
+        };
+        return Ok(Outcome { sizes, end });
+    }
+    Ok(Outcome {
+        sizes,
+        end: End::Unfinished,
+    })
+}
+
+#[test]
+fn causes_come_in_their_order(rt: HostRuntime) -> Result<(), Fail> {
+    let rows: [(&[u8], &[usize], End); 18] = [
+        (
+            b"D 1 0 0 1000000000001 0\n",
+            &[],
+            End::Refused(1, Cause::Range),
+        ),
+        (b"D 0 0 0 1 1\n", &[], End::Refused(1, Cause::Range)),
+        (b"D 1 10000 0 1 1\n", &[], End::Refused(1, Cause::Range)),
+        (b"D 1 9999 9999 1 1\n", &[1], End::Ended),
+        (b"D 007 0 0 1 1\n", &[], End::Refused(1, Cause::Form)),
+        (b"D 1  0 0 1 1\n", &[], End::Refused(1, Cause::Form)),
+        (b"D 1 0 0 1 1 \n", &[], End::Refused(1, Cause::Form)),
+        (b"T 1 0 0 10\n", &[], End::Refused(1, Cause::Form)),
+        (b"D 0 0 0 x 1\n", &[], End::Refused(1, Cause::Form)),
+        (b"X 1 3 3 0 1 1 1\n", &[], End::Refused(1, Cause::Same)),
+        (b"X 1 3 4 2 2 1 1\n", &[], End::Refused(1, Cause::Same)),
+        (b"X 0 3 3 0 1 1 1\n", &[], End::Refused(1, Cause::Range)),
+        (
+            b"D 5 0 0 1 1\nP\nX 5 3 3 0 1 1 1\n",
+            &[1],
+            End::Refused(3, Cause::Same),
+        ),
+        (
+            b"D 5 0 0 1 1\nP\nD 5 0 0 1 1\n",
+            &[1],
+            End::Refused(3, Cause::Late),
+        ),
+        (
+            b"D 9 0 0 1 1\nD 5 0 0 1 1\nP\nD 7 0 0 1 1\n",
+            &[2],
+            End::Refused(4, Cause::Late),
+        ),
+        (
+            b"D 7 0 0 1 1\nD 7 1 1 1 1\n",
+            &[],
+            End::Refused(2, Cause::Twice),
+        ),
+        (
+            b"D 9 0 0 1 1\nD 7 0 0 1 1\nD 8 0 0 1 1\nD 7 0 0 1 1\n",
+            &[],
+            End::Refused(4, Cause::Twice),
+        ),
+        (b"D 1 0 0 1 1\nP\nD 9 0", &[1], End::Refused(3, Cause::Form)),
+    ];
+    for (text, sizes, end) in rows {
+        let outcome = read_all(rt.alloc(), text, 4_096, &[], INPUT_BYTES)?;
+        assert_eq!(rt; outcome.sizes.as_slice(), sizes, "at {text:?}");
+        assert_eq!(rt; outcome.end, end, "at {text:?}");
+    }
+    Ok(())
+}
+
+/// A line of `len` bytes that begins with `first`, and an ending.
+fn long_line(alloc: Global, first: u8, len: usize, ending: &[u8]) -> Result<Vec<u8>, AllocError> {
+    let mut text = Vec::new(alloc);
+    text.push(first)?;
+    'bytes: for _ in 1..len {
+        text.push(b'x')?;
+    }
+    text.extend_from_slice(ending)?;
+    Ok(text)
+}
+
+#[test]
+fn one_cr_is_dropped_and_the_last_line_needs_no_lf(rt: HostRuntime) -> Result<(), Fail> {
+    let rows: [(&[u8], &[usize], End); 9] = [
+        (b"", &[], End::Ended),
+        (b"P\nP\nP\n", &[], End::Ended),
+        (b"#x\r\n\r\nD 1 0 0 1 1", &[1], End::Ended),
+        (b"#x\r\n\r\nD 1 0 0 1", &[], End::Refused(3, Cause::Form)),
+        (b"D 1 0 0 1 1\r\nP\r\nD 2 0 0 1 1\r", &[1, 1], End::Ended),
+        (b"D 1 0 0 1 1\r\r\n", &[], End::Refused(1, Cause::Form)),
+        (b"D 1 0 0 1 1\nP\r\r\n", &[], End::Refused(2, Cause::Form)),
+        (b"\r\n\n\r", &[], End::Ended),
+        (b"D 1 0 0 1 1\n\n#\nP \n", &[], End::Refused(4, Cause::Form)),
+    ];
+    for (text, sizes, end) in rows {
+        let outcome = read_all(rt.alloc(), text, 4_096, &[], INPUT_BYTES)?;
+        assert_eq!(rt; outcome.sizes.as_slice(), sizes, "at {text:?}");
+        assert_eq!(rt; outcome.end, end, "at {text:?}");
+    }
+    Ok(())
+}
+
+#[test]
+fn a_line_of_more_than_1000_bytes_is_long(rt: HostRuntime) -> Result<(), Fail> {
+    let rows: [(u8, usize, &[u8], &[usize], End); 9] = [
+        (b'#', 1_000, b"\r\nD 2 0 0 100 5\n", &[1], End::Ended),
+        (b'#', 1_000, b"\nD 2 0 0 100 5\n", &[1], End::Ended),
+        (b'#', 1_000, b"\r", &[], End::Ended),
+        (b'#', 1_001, b"\n", &[], End::Refused(1, Cause::Long)),
+        (b'#', 1_001, b"\r\n", &[], End::Refused(1, Cause::Long)),
+        (b'#', 1_001, b"", &[], End::Refused(1, Cause::Long)),
+        (b'#', 1_000, b"\r\r\n", &[], End::Refused(1, Cause::Long)),
+        (b'D', 1_000, b"\n", &[], End::Refused(1, Cause::Form)),
+        (b'D', 1_001, b"\n", &[], End::Refused(1, Cause::Long)),
+    ];
+    for (first, len, ending, sizes, end) in rows {
+        let text = long_line(rt.alloc(), first, len, ending)?;
+        for piece in [1, 1_001, 4_096] {
+            assert!(rt; piece > 0);
+            let outcome = read_all(rt.alloc(), &text, piece, &[], INPUT_BYTES)?;
+            assert_eq!(rt;
+                outcome.sizes.as_slice(),
+                sizes,
+                "{len} bytes and {ending:?}"
+            );
+            assert_eq!(rt; outcome.end, end, "{len} bytes and {ending:?}");
+        }
+    }
+    Ok(())
+}
+
+/// Deposits at the timestamps from 1 to `count`, rising or falling.
+fn deposits(alloc: Global, count: u64, falling: bool) -> Result<String, AllocError> {
+    let mut text = String::new(alloc);
+    'lines: for i in 0..count {
+        let ts = if falling { count - i } else { i + 1 };
+        text.push_str(format!(in alloc; "D {ts} 0 0 1 0\n")?.as_str())?;
+    }
+    Ok(text)
+}
+
+#[test]
+fn a_batch_has_at_most_10240_events(rt: HostRuntime) -> Result<(), Fail> {
+    for falling in [false, true] {
+        let text = deposits(rt.alloc(), 10_240, falling)?;
+        let outcome = read_all(rt.alloc(), text.as_bytes(), 4_096, &[], INPUT_BYTES)?;
+        assert_eq!(rt; outcome.sizes.as_slice(), [10_240].as_slice());
+        assert_eq!(rt; outcome.end, End::Ended);
+        let text = deposits(rt.alloc(), 10_241, falling)?;
+        let outcome = read_all(rt.alloc(), text.as_bytes(), 4_096, &[], INPUT_BYTES)?;
+        assert_eq!(rt; outcome.sizes.len(), 0);
+        assert_eq!(rt; outcome.end, End::Refused(10_241, Cause::Full));
+    }
+    Ok(())
+}
+
+/// Two batches of one deposit each, of 26 bytes.
+const TWO_BATCHES: &[u8] = b"D 1 0 0 1 1\nP\nD 2 0 0 1 1\n";
+
+/// One batch of four events, of 65 bytes.
+const FOUR_EVENTS: &[u8] = b"D 1 0 0 100 5\nX 2 0 1 0 1 60 6\nX 3 0 1 0 1 60 5\nX 4 1 2 1 2 60 5\n";
+
+#[test]
+fn faults_come_in_their_places(rt: HostRuntime) -> Result<(), Fail> {
+    let rows: [(usize, &[u64], u64, &[usize], End); 9] = [
+        (4_096, &[], 14, &[1], End::Fault(ReaderFault::TooLong)),
+        (4_096, &[], 26, &[1, 1], End::Ended),
+        (4_096, &[], 25, &[1], End::Fault(ReaderFault::TooLong)),
+        (4_096, &[], 13, &[], End::Fault(ReaderFault::TooLong)),
+        (4_096, &[], 1, &[], End::Fault(ReaderFault::TooLong)),
+        (
+            14,
+            &[2],
+            INPUT_BYTES,
+            &[1],
+            End::Fault(ReaderFault::ReadFault),
+        ),
+        (
+            14,
+            &[3],
+            INPUT_BYTES,
+            &[1],
+            End::Fault(ReaderFault::ReadFault),
+        ),
+        (14, &[4], INPUT_BYTES, &[1, 1], End::Ended),
+        (
+            4_096,
+            &[1],
+            INPUT_BYTES,
+            &[],
+            End::Fault(ReaderFault::ReadFault),
+        ),
+    ];
+    for (piece, fail, limit, sizes, end) in rows {
+        assert!(rt; piece > 0 && limit >= 1 && limit <= INPUT_BYTES);
+        let outcome = read_all(rt.alloc(), TWO_BATCHES, piece, fail, limit)?;
+        assert_eq!(rt;
+            outcome.sizes.as_slice(),
+            sizes,
+            "piece {piece}, limit {limit}"
+        );
+        assert_eq!(rt; outcome.end, end, "piece {piece}, limit {limit}");
+    }
+    for call in 1..=67 {
+        let outcome = read_all(rt.alloc(), FOUR_EVENTS, 1, &[call], INPUT_BYTES)?;
+        if call <= 66 {
+            assert_eq!(rt; outcome.sizes.len(), 0, "at call {call}");
+            assert_eq!(rt;
+                outcome.end,
+                End::Fault(ReaderFault::ReadFault),
+                "at call {call}"
+            );
+        } else {
+            assert_eq!(rt; outcome.sizes.as_slice(), [4].as_slice());
+            assert_eq!(rt; outcome.end, End::Ended);
+        }
+    }
+    Ok(())
+}
+
+/// A timestamp that comes again after its batch, in 26 bytes.
+const LATE: &[u8] = b"D 5 0 0 1 1\nP\nD 5 0 0 1 1\n";
+
+#[test]
+fn pieces_change_nothing_and_a_front_is_an_input(rt: HostRuntime) -> Result<(), Fail> {
+    for piece in 1..=26 {
+        let outcome = read_all(rt.alloc(), LATE, piece, &[], INPUT_BYTES)?;
+        assert_eq!(rt;
+            outcome.sizes.as_slice(),
+            [1].as_slice(),
+            "in pieces of {piece}"
+        );
+        assert_eq!(rt;
+            outcome.end,
+            End::Refused(3, Cause::Late),
+            "in pieces of {piece}"
+        );
+    }
+    for front in 0..=LATE.len() {
+        let (count, end) = match front {
+            0 => (0, End::Ended),
+            1..=10 => (0, End::Refused(1, Cause::Form)),
+            11..=14 => (1, End::Ended),
+            15..=24 => (1, End::Refused(3, Cause::Form)),
+            _ => (1, End::Refused(3, Cause::Late)),
+        };
+        let outcome = read_all(rt.alloc(), &LATE[..front], 4_096, &[], INPUT_BYTES)?;
+        assert_eq!(rt; outcome.sizes.len(), count, "at a front of {front} bytes");
+        assert_eq!(rt; outcome.end, end, "at a front of {front} bytes");
+    }
+    Ok(())
+}
+
+#[test]
+fn words_give_the_operations_of_their_line(rt: HostRuntime) -> Result<(), Fail> {
+    let no_key = Key { table: 0, id: 0 };
+    let account = |id| Key {
+        table: ACCOUNTS,
+        id,
+    };
+    let asset = |id| Key { table: ASSETS, id };
+    let op = |key, func, c| Op {
+        key,
+        params: [no_key; 3],
+        n_params: 0,
+        func,
+        c,
+    };
+    let from = |key, other, c| Op {
+        key,
+        params: [other, no_key, no_key],
+        n_params: 1,
+        func: Func::MoveIn,
+        c,
+    };
+    let words = Words::split(b"D 1 0 7 100 5").ok_or("no words")?;
+    let Ok(event) = Ledger.read_event(rt.alloc(), &words, 10_000) else {
+        return Err("refused".into());
+    };
+    let ops = [op(account(0), Func::Add, 100), op(asset(7), Func::Add, 5)];
+    assert_eq!(rt; event.ts, 1);
+    assert_eq!(rt; event.ops.as_slice(), ops.as_slice());
+    let words = Words::split(b"X 4 1 2 3 4 60 5").ok_or("no words")?;
+    let Ok(event) = Ledger.read_event(rt.alloc(), &words, 10_000) else {
+        return Err("refused".into());
+    };
+    let ops = [
+        op(account(1), Func::Sub, 60),
+        op(asset(3), Func::Sub, 5),
+        from(account(2), account(1), 60),
+        from(asset(4), asset(3), 5),
+    ];
+    assert_eq!(rt; event.ts, 4);
+    assert_eq!(rt; event.ops.as_slice(), ops.as_slice());
+    assert_eq!(rt; Ledger.tables(), 2);
+    assert_eq!(rt; Ledger.table_name(ACCOUNTS), "acct");
+    assert_eq!(rt; Ledger.table_name(ASSETS), "asset");
+    Ok(())
+}

@@ -1,5 +1,5 @@
 -- The greatest of some numbers, and the numbers below n.
-use Rattle.std.proofs.Common.{◌≡◌, ℕ, ◌+◌, ◌<◌, ◌≤◌, zero, suc, Bool, cond, List, [], ◌∷◌, ◌++◌, length, get_or, take, map, filter, refl, sym, ap, ◌∙◌, arith}
+use Rattle.std.proofs.Common.{◌≡◌, ℕ, ◌+◌, ◌<◌, ◌≤◌, Bool, cond, List, [], ◌∷◌, ◌++◌, length, get_or, take, map, filter, refl, sym, ap, subst, ◌∙◌, arith}
 use Rattle.std.specs.Prelude.{max, All}
 use Rattle.std.specs.List.{flat_map}
 use Rattle.std.proofs.lemmas.List.{take_more, map-id, map-append, append-nil}
@@ -7,10 +7,7 @@ use Rattle.std.proofs.lemmas.Grind.{flat_map-append}
 use Rattle.std.proofs.lemmas.List.Elements.{filter-append, All-head, All-tail}
 use Rattle.std.proofs.lemmas.List.FromFn.{map-range_with_len_more}
 use Rattle.morph_base.specs.Graphs.{greatest, below}
-
-pub greatest-append : (xs ys : List ℕ) → greatest (xs ++ ys) ≡ max (greatest xs) (greatest ys)
-greatest-append [] ys = omega arith
-greatest-append (x ∷ xs) ys = ap (max x) (greatest-append xs ys) ∙ omega arith
+use Rattle.morph_base.proofs.LevelLaws.{greatest-append, le-greatest}
 
 pub greatest_push : (xs : List ℕ) (y : ℕ) → greatest (xs ++ y ∷ []) ≡ max (greatest xs) y
 greatest_push xs y = greatest-append xs (y ∷ []) ∙ omega arith
@@ -19,9 +16,8 @@ pub greatest_more : (xs : List ℕ) (i d : ℕ) → i < length xs → greatest (
 greatest_more xs i d inside = ap greatest (take_more xs i d inside) ∙ greatest_push (take i xs) (get_or xs i d)
 
 pub get_or-le-greatest : (xs : List ℕ) (i d : ℕ) → i < length xs → get_or xs i d ≤ greatest xs
-get_or-le-greatest [] i d inside = omega arith
-get_or-le-greatest (x ∷ xs) zero d inside = omega arith
-get_or-le-greatest (x ∷ xs) (suc i) d inside = omega (arith, get_or-le-greatest xs i d (omega arith))
+get_or-le-greatest xs i d inside =
+    subst (λ ys. get_or xs i d ≤ greatest ys) (map-id xs) (le-greatest (λ (x : ℕ). x) xs i d inside)
 
 pub greatest-le : (m : ℕ) (xs : List ℕ) → All (λ x. x ≤ m) xs → greatest xs ≤ m
 greatest-le m [] h = omega arith

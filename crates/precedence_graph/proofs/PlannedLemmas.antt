@@ -12,10 +12,11 @@ use Rattle.morph_base.specs.declared.plan.PlanOp.{PlanOp}
 use Rattle.morph_base.specs.Operations.{reads}
 use Rattle.morph_base.specs.Sources.{IsSource}
 use Rattle.morph_base.specs.Plans.{no_plan_op}
+use Rattle.morph_base.specs.Known.{IsKnown}
 use Rattle.morph_base.specs.Graphs.{greatest, level_of}
 use Rattle.txn_splitter.specs.declared.txns.Txns.{Txns}
 use Rattle.txn_splitter.specs.Txns.{txn_op_count, txn_op_at, txn_of, txn_target}
-use Rattle.precedence_graph.specs.Planned.{OfWritten, IsAmong, padded, sources_of, planned, op_level_in, IsPlannedOp, ArePlanned}
+use Rattle.precedence_graph.specs.Planned.{IsAmong, padded, sources_of, planned, op_level_in, IsPlannedOp, ArePlanned}
 use Rattle.precedence_graph.proofs.GreatestLemmas.{greatest-le}
 
 -- the used places of padded sources
@@ -27,20 +28,20 @@ IsAmong-more n m (Base v) le is = tt
 IsAmong-more n m (Written s) le is = omega arith
 
 -- where an operation's level is at most n, no source has a greater one
-pub levels_low : (n : ℕ) (f : ℕ → ℕ) (P : ℕ → Type 0) (xs : List Origin) → ((s : ℕ) → P s → f s ≤ n) → All (OfWritten P) xs → greatest (map (level_of f) xs) ≤ n
+pub levels_low : (n : ℕ) (f : ℕ → ℕ) (P : ℕ → Type 0) (xs : List Origin) → ((s : ℕ) → P s → f s ≤ n) → All (IsKnown P) xs → greatest (map (level_of f) xs) ≤ n
 levels_low n f P xs low all =
-    greatest-le n (map (level_of f) xs) (All-map (λ l. l ≤ n) (level_of f) xs (All-weaker (OfWritten P) (λ origin. level_of f origin ≤ n) each xs all))
+    greatest-le n (map (level_of f) xs) (All-map (λ l. l ≤ n) (level_of f) xs (All-weaker (IsKnown P) (λ origin. level_of f origin ≤ n) each xs all))
   where
-    each : (origin : Origin) → OfWritten P origin → level_of f origin ≤ n
+    each : (origin : Origin) → IsKnown P origin → level_of f origin ≤ n
     each (Base v) is = omega arith
     each (Written s) is = low s is
 
 -- levels that agree at the operations among the sources
-pub levels_agree : (f g : ℕ → ℕ) (P : ℕ → Type 0) (xs : List Origin) → ((s : ℕ) → P s → f s ≡ g s) → All (OfWritten P) xs → map (level_of f) xs ≡ map (level_of g) xs
+pub levels_agree : (f g : ℕ → ℕ) (P : ℕ → Type 0) (xs : List Origin) → ((s : ℕ) → P s → f s ≡ g s) → All (IsKnown P) xs → map (level_of f) xs ≡ map (level_of g) xs
 levels_agree f g P [] same all = refl
-levels_agree f g P (Base v ∷ xs) same all = ap (λ ls. 0 ∷ ls) (levels_agree f g P xs same (All-tail (OfWritten P) (Base v) xs all))
+levels_agree f g P (Base v ∷ xs) same all = ap (λ ls. 0 ∷ ls) (levels_agree f g P xs same (All-tail (IsKnown P) (Base v) xs all))
 levels_agree f g P (Written s ∷ xs) same all =
-    ap (λ l. l ∷ map (level_of f) xs) (same s (All-head (OfWritten P) (Written s) xs all)) ∙ ap (λ ls. g s ∷ ls) (levels_agree f g P xs same (All-tail (OfWritten P) (Written s) xs all))
+    ap (λ l. l ∷ map (level_of f) xs) (same s (All-head (IsKnown P) (Written s) xs all)) ∙ ap (λ ls. g s ∷ ls) (levels_agree f g P xs same (All-tail (IsKnown P) (Written s) xs all))
 
 -- the levels of the first operations stay
 levels_stay : (ops more : List PlanOp) (n : ℕ) (xs : List Origin) → n ≤ length ops → All (IsAmong n) xs → map (level_of (op_level_in (ops ++ more))) xs ≡ map (level_of (op_level_in ops)) xs

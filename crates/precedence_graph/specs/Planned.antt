@@ -4,12 +4,13 @@ use Rattle.std.specs.List.{flat_map}
 use Rattle.morph_base.specs.declared.limits.TheConstants.{READS}
 use Rattle.morph_base.specs.declared.key.Key.{Key}
 use Rattle.morph_base.specs.declared.plan.Origin.{Origin}
-use Rattle.morph_base.specs.declared.plan.Origin.TheVariants.{Base, Op as Written}
+use Rattle.morph_base.specs.declared.plan.Origin.TheVariants.{Base}
 use Rattle.morph_base.specs.declared.plan.PlanOp.{PlanOp}
 use Rattle.morph_base.specs.declared.plan.PlanEvent.{PlanEvent}
 use Rattle.morph_base.specs.Operations.{reads, IsShaped}
 use Rattle.morph_base.specs.Sources.{IsSource}
 use Rattle.morph_base.specs.Plans.{no_plan_op, no_event}
+use Rattle.morph_base.specs.Known.{IsKnown}
 use Rattle.morph_base.specs.Graphs.{greatest, level_of}
 use Rattle.txn_splitter.specs.declared.txns.TxnEvent.{TxnEvent}
 use Rattle.txn_splitter.specs.declared.txns.Txns.{Txns}
@@ -17,14 +18,9 @@ use Rattle.txn_splitter.specs.Txns.{txn_op_count, txn_at, txn_op_at, txn_of, txn
 use Rattle.precedence_graph.specs.declared.writers.Writers.{Writers}
 use Rattle.precedence_graph.specs.Writers.{source_in}
 
--- the fact holds of the operation that a source names; a base has it
-abbrev pub OfWritten : (ℕ → Type 0) → Origin → Type 0
-OfWritten P (Base v) = Unit {0}
-OfWritten P (Written s) = P s
-
 -- the source is a base or one of the first n operations
 abbrev pub IsAmong : ℕ → Origin → Type 0
-IsAmong n = OfWritten (λ s. s < n)
+IsAmong n = IsKnown (λ s. s < n)
 
 -- sources with a base of 0 at each place that is not used
 abbrev pub padded : List Origin → List Origin
@@ -52,14 +48,14 @@ pub record IsReady (n : ℕ) (q : PlanOp) : Type 0 where
 
 -- the source is a base or an operation of an event before event i
 abbrev pub IsOfEarlier : List PlanOp → ℕ → Origin → Type 0
-IsOfEarlier ops i = OfWritten (λ s. (s < length ops) × ((planned ops s).event < i))
+IsOfEarlier ops i = IsKnown (λ s. (s < length ops) × ((planned ops s).event < i))
 
 -- the table has the last writers among the first n operations
 abbrev pub HasWriters : Txns → ℕ → Writers → Type 0
 HasWriters x n writers = (key : Key) → IsSource n (txn_target x) (λ _. 0) 1 key (source_in writers key)
 
--- operation o of the transactions is planned, where `ops` has the operations before it: some function gives the source of
--- each key for its event, 0 at a base, and it reads from operations before it
+-- operation o of the transactions is planned in `ops`: some function gives the source of each key for its event, 0 at a base,
+-- and it reads from operations before it
 pub record IsPlannedOp (x : Txns) (ops : List PlanOp) (o : ℕ) : Type 0 where
   pub op_is : (planned ops o).op ≡ txn_op_at x o
   pub event_is : (planned ops o).event ≡ txn_of x o

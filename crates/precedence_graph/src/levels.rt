@@ -1,4 +1,4 @@
-ghost use Rattle.std.specs.Prelude.{◌≡◌, ◌<◌, length, map, All};
+ghost use Rattle.std.specs.Prelude.{◌≡◌, length, map, All};
 ghost use Rattle.morph_base.specs.Graphs.{greatest, level_of};
 ghost use Rattle.precedence_graph.specs.Planned.{IsAmong, IsOfEarlier, op_level_in, event_level_in};
 

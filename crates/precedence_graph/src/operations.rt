@@ -1,4 +1,4 @@
-ghost use Rattle.std.specs.Prelude.{◌≡◌, ℕ, ◌+◌, ◌^◌, ◌<◌, ◌≤◌, length, map, All, IfOk, OnOk};
+ghost use Rattle.std.specs.Prelude.{◌≡◌, ◌+◌, ◌^◌, ◌<◌, ◌≤◌, length, map, All, IfOk, OnOk};
 ghost use Rattle.morph_base.specs.declared.key.Key.{Key};
 ghost use Rattle.morph_base.specs.Operations.{reads, IsShaped};
 ghost use Rattle.morph_base.specs.Graphs.{greatest, level_of};

@@ -3,8 +3,10 @@ use morph_base::{List, Op};
 /// An event of a split batch: its operations are those numbered from `first` on, `count` of them.
 #[derive(Clone, Copy, Debug, PartialEq, Eq)]
 pub struct TxnEvent {
+    /// From 1 to [`LATEST`](morph_base::LATEST), rising from event to event.
     pub ts: u64,
     pub first: u32,
+    /// From 1 to [`EVENT_OPS`](morph_base::EVENT_OPS).
     pub count: u32,
 }
 

@@ -1,9 +1,9 @@
 ghost use Rattle.std.specs.Prelude.{◌≡◌, ◌<◌, ◌≤◌, ◌↔◌, length, drop, map, All, IsTrue, nat_eq};
 ghost use Rattle.std.specs.List.{IsDistinct, list_any};
-ghost use Rattle.morph_base.specs.Operations.{IsShaped, least_params, most_params, no_key, same_key};
+ghost use Rattle.morph_base.specs.Operations.{IsShaped, no_key, same_key};
 ghost use Rattle.morph_base.specs.Transactions.{IsTransaction, IsBatch, transaction_of};
 
-use morph_base::{Batch, EVENT_OPS, EVENTS, Event, Func, Key, LATEST, MAX, Op, PARAMS, READS};
+use morph_base::{Batch, EVENT_OPS, EVENTS, Event, Key, LATEST, MAX, Op, READS};
 
 /// Whether a batch is valid, as [`split`](crate::split) asks.
 ///
@@ -42,19 +42,10 @@ fn is_transaction(event: &Event) -> bool
 fn is_shaped(op: &Op) -> bool
     ensures { IsTrue result ↔ IsShaped op.now }
 {
-    if op.c > MAX {
+    if op.c > MAX || op.n_params as usize >= READS {
         return false;
     }
-    has_its_params(op) && is_blank_after_params(op)
-}
-
-/// Whether an operation has as many parameters as its function takes.
-fn has_its_params(op: &Op) -> bool
-    ensures within { IsTrue result → op.now.n_params < READS }
-    ensures taken { IsTrue result
-        ↔ (least_params op.now.func ≤ op.now.n_params) × (op.now.n_params ≤ most_params op.now.func) }
-{
-    least_params(op.func) <= op.n_params && op.n_params <= most_params(op.func)
+    op.func.takes(op.n_params as usize) && is_blank_after_params(op)
 }
 
 /// Whether the places after the parameters of an operation hold no key.
@@ -66,29 +57,6 @@ fn is_blank_after_params(op: &Op) -> bool
     op.params[op.n_params as usize..]
         .iter()
         .all(|key| is_no_key(key))
-}
-
-/// The least number of parameters of a function.
-fn least_params(func: Func) -> u8
-    ensures value { result ≡ least_params func }
-    ensures few { result < READS }
-{
-    match func {
-        Func::Keep | Func::Add | Func::Sub | Func::Blend | Func::Set => 0,
-        Func::MoveIn | Func::Sum | Func::Enter => 1,
-        Func::Charge => 2,
-    }
-}
-
-/// The greatest number of parameters of a function.
-fn most_params(func: Func) -> u8
-    ensures value { result ≡ most_params func }
-    ensures few { result ≤ PARAMS }
-{
-    match func {
-        Func::Sum => 3,
-        _ => least_params(func),
-    }
 }
 
 /// Whether the key is that of the places that are not used.

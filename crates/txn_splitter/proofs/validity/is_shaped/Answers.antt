@@ -2,14 +2,14 @@ use Rattle.std.proofs.Common.{arith}
 use Rattle.txn_splitter.proofs.ValidLemmas.{blank_at, blank_from}
 use Rattle.txn_splitter.proofs.validity.is_shaped.Goals as goal
 
-pub returns-then-has_its_params : goal.returns-then-has_its_params
-returns-then-has_its_params c =
+pub returns-then-takes : goal.returns-then-takes
+returns-then-takes c =
     let op = c.args.op.now in
-    let taken = c.has_its_params.ensures.taken.0 c.if-has_its_params.true in (
+    let taken = c.takes.ensures.0 c.if-takes.true in (
       (λ yes. record {
         at_least = taken.0;
         at_most = taken.1;
-        places = c.has_its_params.ensures.within c.if-has_its_params.true;
+        places = omega arith;
         held = c.is_blank_after_params.ensures.held;
         constant = omega arith;
         blank = blank_at op.params op.n_params (c.is_blank_after_params.ensures.blank.0 yes);

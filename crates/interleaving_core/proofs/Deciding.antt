@@ -17,9 +17,10 @@ module _ (p : Plan) (cap : ℕ) (valid : IsPlan p) (small_cap : cap < ATTEMPTS) 
   -- what is decided on grounds is the fold's verdict
   pub grounds_right : (i : ℕ) (committed : Bool) → i < event_count p → HasGrounds p c i committed → verdict p i ≡ committed
   grounds_right i true lt grounds =
-      may_commit p (IsSettledIn c) (value_in c) valid (settled_right p cap valid c sound) i lt grounds.sources grounds.answers
+      may_commit p (IsSettledIn c) (value_in c) valid (settled_right p cap valid c sound) i lt (λ o within. (grounds.each o within).sources)
+      (λ o within. (grounds.each o within).answers)
   grounds_right i false lt grounds =
-      may_abort p (IsSettledIn c) (value_in c) valid (settled_right p cap valid c sound) i grounds.culprit lt grounds.inside grounds.sources grounds.fails
+      may_abort p (IsSettledIn c) (value_in c) valid (settled_right p cap valid c sound) i grounds.culprit lt grounds.inside grounds.fails.sources grounds.fails.fails
 
   module _ (i : ℕ) (committed : Bool) (may : MayDecide p c i committed) where
     abbrev d : Core

@@ -10,3 +10,6 @@ pub mod Deciding
 pub mod Settlement
 pub mod Counting
 pub mod Machine
+pub mod Storing
+pub mod Shown
+pub mod Places

@@ -3,3 +3,4 @@ pub mod Steps
 pub mod Soundness
 pub mod Growth
 pub mod Schedules
+pub mod Stored

@@ -56,17 +56,23 @@ module _ (p : Plan) (c : Core) where
     pub goes_from : IsClaimedBy o t
     pub all_fetched : length (fetched (c.claim t)) ≡ places p o
 
-  -- all operations of the event answer on settled sources
-  pub record AllAnswer (i : ℕ) : Type 0 where
-    pub sources : (o : ℕ) → InEvent p i o → AreKnown p (IsSettledIn c) o
-    pub answers : (o : ℕ) → InEvent p i o → IsSome (outcome p (value_in c) o)
+  -- the operation answers, or fails, on settled sources
+  pub record AnswersOnSettled (o : ℕ) : Type 0 where
+    pub sources : AreKnown p (IsSettledIn c) o
+    pub answers : IsSome (outcome p (value_in c) o)
 
-  -- one of them fails on settled sources
+  pub record FailsOnSettled (o : ℕ) : Type 0 where
+    pub sources : AreKnown p (IsSettledIn c) o
+    pub fails : outcome p (value_in c) o ≡ None
+
+  -- all operations of the event do the one, or some operation the other
+  pub record AllAnswer (i : ℕ) : Type 0 where
+    pub each : (o : ℕ) → InEvent p i o → AnswersOnSettled o
+
   pub record OneFails (i : ℕ) : Type 0 where
     pub culprit : ℕ
     pub inside : InEvent p i culprit
-    pub sources : AreKnown p (IsSettledIn c) culprit
-    pub fails : outcome p (value_in c) culprit ≡ None
+    pub fails : FailsOnSettled culprit
 
   abbrev pub HasGrounds : ℕ → Bool → Type 0
   HasGrounds i true = AllAnswer i
@@ -77,9 +83,12 @@ module _ (p : Plan) (c : Core) where
     pub goes_from : c.decision i ≡ None
     pub grounds : HasGrounds i committed
 
-  -- each record has the value of its source
+  -- there is a record at the place, with the value of its source
+  abbrev pub Agrees : ℕ → ℕ → Type 0
+  Agrees o j = (r : Record) × (c.recorded o j ≡ Some r) × (r.value ≡ source p (value_in c) o j)
+
   abbrev pub RecordsAgree : ℕ → Type 0
-  RecordsAgree o = (j : ℕ) → j < places p o → (r : Record) × (c.recorded o j ≡ Some r) × (r.value ≡ source p (value_in c) o j)
+  RecordsAgree o = (j : ℕ) → j < places p o → Agrees o j
 
   pub record MaySettleCommitted (o : ℕ) : Type 0 where
     pub decided : c.decision (event_of p o) ≡ Some true

@@ -5,9 +5,12 @@
 //! of steps. A layer that shares the words between threads shows each of its atomic steps to be a step of this machine.
 #![tactic(auto)]
 
+mod claim;
 mod entry;
 mod event;
 pub mod laws;
+mod state;
 
 pub use entry::{Entry, Held, Record, Settling};
 pub use event::{CoreEvent, Step};
+pub use state::CoreState;

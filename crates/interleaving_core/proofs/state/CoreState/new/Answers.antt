@@ -1,0 +1,38 @@
+use Rattle.std.proofs.Common.{◌+◌, ◌*◌, ap, ◌∙◌, replicate, Option, None, Bool}
+use Rattle.morph_base.specs.declared.limits.TheConstants.{READS, WORKERS}
+use Rattle.interleaving_core.specs.declared.state.CoreState.{CoreState}
+use Rattle.interleaving_core.specs.declared.entry.Record.{Record}
+use Rattle.interleaving_core.specs.Core.{blocked}
+use Rattle.interleaving_core.proofs.Storing.{start_core, start_state}
+use Rattle.interleaving_core.proofs.state.CoreState.new.Goals as goal
+
+-- the state that is returned
+made : goal.In_ok-with_room-2 → CoreState
+made c =
+    record {
+      cap = c.args.cap;
+      words = c.in_ok-filled.field-0;
+      records = c.in_ok-filled-2.field-0;
+      claims = c.in_ok-filled-3.field-0;
+      decisions = c.in_ok-filled-4.field-0;
+      published = c.in_ok-with_room.field-0;
+      settlings = c.in_ok-with_room-2.field-0;
+    }
+
+pub returns-clause-state : goal.returns-clause-state
+unfolding made
+returns-clause-state c =
+    start_state c.args.plan.now (made c) c.requires.cap
+    (c.in_ok-filled.ensures ∙ ap (λ n. replicate n (blocked 1)) c.len-ops.ensures)
+    (c.in_ok-filled-2.ensures ∙ ap (λ n. replicate {A = Option Record} (n * READS) None) c.len-ops.ensures)
+    c.in_ok-filled-3.ensures
+    (c.in_ok-filled-4.ensures ∙ ap (λ n. replicate {A = Option Bool} n None) c.len.ensures)
+    c.in_ok-with_room.ensures.items c.in_ok-with_room-2.ensures.items
+    (c.in_ok-with_room.ensures.room ∙ ap (λ n. n * (c.args.cap + 1)) c.len-ops.ensures)
+    (c.in_ok-with_room-2.ensures.room ∙ c.len-ops.ensures)
+
+pub returns-clause-start : goal.returns-clause-start
+unfolding made
+returns-clause-start c =
+    start_core (made c) c.len-ops.result (c.len-ops.result * READS) (WORKERS + 1) c.len.result c.in_ok-filled.ensures c.in_ok-filled-2.ensures c.in_ok-filled-3.ensures c.in_ok-filled-4.ensures
+    c.in_ok-with_room.ensures.items c.in_ok-with_room-2.ensures.items

@@ -1,0 +1,118 @@
+ghost use Rattle.std.specs.Prelude.{◌≡◌, ℕ, ◌<◌, ◌↔◌, List, length, replicate, IsTrue, IfOk, Some};
+ghost use Rattle.morph_base.specs.declared.word.TheConstants.{ATTEMPTS};
+ghost use Rattle.morph_base.specs.Plans.{IsPlan, op_count, event_count};
+ghost use Rattle.interleaving_core.specs.declared.event.Step.TheVariants.{Taken, Refused};
+ghost use Rattle.interleaving_core.specs.Core.{start};
+ghost use Rattle.interleaving_core.specs.Steps.{May, after};
+ghost use Rattle.interleaving_core.specs.Stored.{core_of, cap_of, word_count, decision_count, IsStateOf};
+
+use crate::claim::Claim;
+use crate::entry::{Entry, Record, Settling};
+use crate::event::{CoreEvent, Step};
+use morph_base::{List, OpState, OpWord, OutOfMemory, Plan, READS, WORKERS};
+use std::alloc::Global;
+
+mod effects;
+mod guards;
+mod reads;
+mod steps;
+
+/// The state of the machine on plain data, for one plan.
+///
+/// ```text
+/// let mut state = CoreState::new(alloc, &plan, 7)?;
+/// state.step(&plan, &CoreEvent::Ready { op: 0 });      // Taken
+/// state.step(&plan, &CoreEvent::Finish { op: 0, by: 1 });  // Refused: nobody has claimed it
+/// ```
+#[derive(Debug, Drop)]
+pub struct CoreState {
+    /// The last attempt at which values that are not settled may be read.
+    cap: u8,
+    words: List<OpWord>,
+    /// The places of operation 0, then those of operation 1 and so on, [`READS`] of each.
+    records: List<Option<Record>>,
+    /// By worker, from 1 on.
+    claims: List<Option<Claim>>,
+    decisions: List<Option<bool>>,
+    published: List<Entry>,
+    settlings: List<Settling>,
+}
+
+impl CoreState {
+    /// The state at the start, where every operation is blocked at attempt 1. Operations have at most `cap` + 1 attempts.
+    ///
+    /// All memory that steps ever need is taken here.
+    pub fn new(alloc: Global, plan: &Plan, cap: u8) -> Result<CoreState, OutOfMemory>
+        requires plan { IsPlan plan.now }
+        requires cap { cap < ATTEMPTS }
+        ensures state { IfOk result (λ state. IsStateOf plan.now state) }
+        ensures cap { IfOk result (λ state. cap_of state ≡ cap) }
+        ensures start { IfOk result (λ state. core_of state ≡ start) }
+    {
+        let ops = plan.ops.len();
+        let blocked = OpWord {
+            value: 0,
+            attempt: 1,
+            state: OpState::Blocked,
+            by: 0,
+        };
+        Ok(CoreState {
+            cap,
+            words: filled(alloc, ops, blocked)?,
+            records: filled(alloc, ops * READS, None)?,
+            claims: filled(alloc, WORKERS as usize + 1, None)?,
+            decisions: filled(alloc, plan.events.len(), None)?,
+            published: List::with_room(alloc, ops * (cap as usize + 1))?,
+            settlings: List::with_room(alloc, ops)?,
+        })
+    }
+
+    /// Makes a step, where it may be made: its numbers are in range, the state that it goes from is there, and its guard
+    /// holds. Else it is refused, and nothing changes. Numbers are in range where operation and event are the plan's, the
+    /// place is one that the operation reads, the worker is from 1 to [`WORKERS`], and the sibling is another operation of
+    /// the same event.
+    ///
+    /// It takes no memory.
+    pub fn step(&mut self, plan: &Plan, event: &CoreEvent) -> Step
+        requires plan { IsPlan plan.now }
+        requires state { IsStateOf plan.now self.old }
+        ensures taken { (result ≡ Taken) ↔ May plan.now (cap_of self.old) (core_of self.old) event.now }
+        ensures next { result ≡ Taken → core_of self.new ≡ after plan.now (core_of self.old) event.now }
+        ensures refused { result ≡ Refused → self.new ≡ self.old }
+        ensures state { IsStateOf plan.now self.new }
+        ensures cap { cap_of self.new ≡ cap_of self.old }
+    {
+        if !self.may(plan, event) {
+            return Step::Refused;
+        }
+        self.make(plan, event);
+        Step::Taken
+    }
+
+    /// The word of an operation of the plan.
+    pub fn word(&self, op: u32) -> OpWord
+        requires { op < word_count self.now }
+        ensures { result ≡ (core_of self.now).word op }
+    {
+        *self.words.get(op as usize)
+    }
+
+    /// Whether an event of the plan commits, `None` exactly where it is not decided.
+    pub fn decision(&self, event: u32) -> Option<bool>
+        requires { event < decision_count self.now }
+        ensures { result ≡ (core_of self.now).decision event }
+    {
+        *self.decisions.get(event as usize)
+    }
+}
+
+/// A list of `n` times the same item.
+fn filled<T: Copy>(alloc: Global, n: usize, item: T) -> Result<List<T>, OutOfMemory>
+    ensures { IfOk result (λ list. list.items ≡ replicate n item) }
+{
+    let mut list = List::with_room(alloc, n)?;
+    for _ in 0..n {
+        list.add(item);
+    }
+    Ok(list)
+}

@@ -1,0 +1,4 @@
+pub mod Reading
+pub mod InOrder
+pub mod Told
+pub mod InKeys

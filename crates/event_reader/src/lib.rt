@@ -25,7 +25,8 @@ pub use cause::{Cause, LineFault};
 pub use draws::Draws;
 pub use fault::ReaderFault;
 pub use limits::{
-    BUFFER_BYTES, DECIDING_BYTES, GREATEST_NUMBER, INPUT_BYTES, LINE_WORDS, LONGEST_LINE, NAME_BYTES,
+    BUFFER_BYTES, DECIDING_BYTES, GREATEST_NUMBER, INPUT_BYTES, LINE_WORDS, LONGEST_LINE,
+    NAME_BYTES,
 };
 pub use lines::Lines;
 pub use number::{Number, read_number};

@@ -13,6 +13,8 @@ mod morph;
 mod note;
 mod run;
 mod settings;
+#[cfg(test)]
+mod tests;
 mod text;
 mod words;
 mod writing;

@@ -1,0 +1,91 @@
+//! Runs of the program over memory: what stands in the sink and in the notes, and the status.
+mod faults;
+mod inputs;
+
+use crate::morph::morph;
+use morph_base::{List, OutOfMemory};
+use morph_io::{MemSink, MemSource, Sink, Source};
+use std::alloc::Global;
+
+/// The words that ask for the ledger.
+const LEDGER: &[&[u8]] = &[b"app=ledger"];
+
+/// What a run left.
+#[derive(Drop)]
+struct Ran {
+    status: u8,
+    sink: MemSink,
+    notes: MemSink,
+}
+
+/// A list of lists.
+fn words_of(alloc: Global, words: &[&[u8]]) -> Result<List<List<u8>>, OutOfMemory> {
+    let mut list = List::new(alloc);
+    for word in words {
+        list.push(List::from_slice(alloc, word)?)?;
+    }
+    Ok(list)
+}
+
+/// A source of these bytes in pieces of at most `piece`, at least 1, whose calls of the given numbers fail.
+fn source_of(
+    alloc: Global,
+    input: &[u8],
+    piece: usize,
+    fail: &[u64],
+) -> Result<MemSource, OutOfMemory> {
+    let input = List::from_slice(alloc, input)?;
+    let fail = List::from_slice(alloc, fail)?;
+    Ok(MemSource::new(input, piece.max(1), fail))
+}
+
+/// A sink that takes at most `piece` bytes a call, at least 1, and whose calls of the given numbers fail or stall.
+fn sink_of(
+    alloc: Global,
+    piece: usize,
+    fail: &[u64],
+    stall: &[u64],
+) -> Result<MemSink, OutOfMemory> {
+    let fail = List::from_slice(alloc, fail)?;
+    let stall = List::from_slice(alloc, stall)?;
+    MemSink::new(alloc, 1_000_000, piece.max(1), fail, stall)
+}
+
+/// Runs the program, and answers its status alone.
+fn status_of_run<S: Source, K: Sink, N: Sink>(
+    alloc: Global,
+    words: &[List<u8>],
+    source: &mut S,
+    sink: &mut K,
+    notes: &mut N,
+) -> u8 {
+    morph(alloc, words, source, sink, notes).status
+}
+
+/// Runs the program with these words, and tells what it left.
+fn run_with(
+    alloc: Global,
+    words: &[&[u8]],
+    source: &mut MemSource,
+    mut sink: MemSink,
+) -> Result<Ran, OutOfMemory> {
+    let words = words_of(alloc, words)?;
+    let mut notes = sink_of(alloc, 1000, &[], &[])?;
+    let status = status_of_run(alloc, words.as_slice(), source, &mut sink, &mut notes);
+    Ok(Ran {
+        status,
+        sink,
+        notes,
+    })
+}
+
+/// Runs the ledger on an input that comes in pieces of a thousand bytes.
+fn run_over(alloc: Global, input: &[u8]) -> Result<Ran, OutOfMemory> {
+    let mut source = source_of(alloc, input, 1000, &[])?;
+    run_with(
+        alloc,
+        LEDGER,
+        &mut source,
+        sink_of(alloc, 100_000, &[], &[])?,
+    )
+}

@@ -13,3 +13,4 @@ pub mod Machine
 pub mod Storing
 pub mod Shown
 pub mod Places
+pub mod Deposit

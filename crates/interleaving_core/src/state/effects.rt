@@ -11,7 +11,7 @@ use crate::entry::{Entry, Record, Settling};
 use morph_base::{OpWord, READS};
 
 impl CoreState {
-    pub fn put_word(&mut self, op: u32, word: OpWord)
+    pub(super) fn put_word(&mut self, op: u32, word: OpWord)
         requires { op < word_count self.old }
         ensures core { core_of self.new ≡ record (core_of self.old) { word = put (core_of self.old).word op word } }
         ensures shape { IsSameShape self.old self.new }
@@ -19,7 +19,7 @@ impl CoreState {
         self.words.set(op as usize, word);
     }
 
-    pub fn put_record(&mut self, op: u32, j: u8, kept: Record)
+    pub(super) fn put_record(&mut self, op: u32, j: u8, kept: Record)
         requires place { j < READS }
         requires in_range { op * READS + j < length self.old.records.items }
         ensures core { core_of self.new ≡ record (core_of self.old) { recorded = put (core_of self.old).recorded op (put ((core_of self.old).recorded op) j (Some kept)) } }
@@ -29,7 +29,7 @@ impl CoreState {
             .set(op as usize * READS + j as usize, Some(kept));
     }
 
-    pub fn put_claim(&mut self, by: u8, claim: Option<Claim>)
+    pub(super) fn put_claim(&mut self, by: u8, claim: Option<Claim>)
         requires worker { by < length self.old.claims.items }
         requires fits { (k : Claim) → claim ≡ Some k → Fits k }
         ensures core { core_of self.new ≡ record (core_of self.old) { claim = put (core_of self.old).claim by (held_of claim) } }
@@ -38,7 +38,7 @@ impl CoreState {
         self.claims.set(by as usize, claim);
     }
 
-    pub fn put_decision(&mut self, event: u32, committed: bool)
+    pub(super) fn put_decision(&mut self, event: u32, committed: bool)
         requires { event < decision_count self.old }
         ensures core { core_of self.new ≡ record (core_of self.old) { decision = put (core_of self.old).decision event (Some committed) } }
         ensures shape { IsSameShape self.old self.new }
@@ -46,7 +46,7 @@ impl CoreState {
         self.decisions.set(event as usize, Some(committed));
     }
 
-    pub fn publish(&mut self, entry: Entry)
+    pub(super) fn publish(&mut self, entry: Entry)
         requires { 0 < self.old.published.room }
         ensures core { core_of self.new ≡ record (core_of self.old) { published = (core_of self.old).published ++ entry ∷ [] } }
         ensures shape { IsSameShape self.old self.new }
@@ -54,7 +54,7 @@ impl CoreState {
         self.published.add(entry);
     }
 
-    pub fn book(&mut self, settling: Settling)
+    pub(super) fn book(&mut self, settling: Settling)
         requires { 0 < self.old.settlings.room }
         ensures core { core_of self.new ≡ record (core_of self.old) { settlings = (core_of self.old).settlings ++ settling ∷ [] } }
         ensures shape { IsSameShape self.old self.new }

@@ -12,7 +12,7 @@ use morph_base::{OpState, Plan};
 
 impl CoreState {
     /// Whether the step may be made: its numbers are in range, the state that it goes from is there, and its guard holds.
-    pub fn may(&self, plan: &Plan, event: &CoreEvent) -> bool
+    pub(super) fn may(&self, plan: &Plan, event: &CoreEvent) -> bool
         requires plan { IsPlan plan.now }
         requires state { IsStateOf plan.now self.now }
         ensures { IsTrue result ↔ May plan.now (cap_of self.now) (core_of self.now) event.now }

@@ -17,7 +17,7 @@ use crate::entry::{Entry, Record};
 use morph_base::{OpState, Origin, Plan, READS, WORKERS, eval};
 
 /// How many places an operation reads.
-pub fn places_of(plan: &Plan, op: u32) -> usize
+pub(super) fn places_of(plan: &Plan, op: u32) -> usize
     requires plan { IsPlan plan.now }
     requires op { op < op_count plan.now }
     ensures places { result ≡ places plan.now op }
@@ -28,7 +28,7 @@ pub fn places_of(plan: &Plan, op: u32) -> usize
 }
 
 /// Where a place gets its value.
-pub fn origin_of(plan: &Plan, op: u32, j: usize) -> Origin
+pub(super) fn origin_of(plan: &Plan, op: u32, j: usize) -> Origin
     requires plan { IsPlan plan.now }
     requires op { op < op_count plan.now }
     requires place { j < places plan.now op }
@@ -39,7 +39,7 @@ pub fn origin_of(plan: &Plan, op: u32, j: usize) -> Origin
 }
 
 /// Whether this is the number of a worker.
-pub fn is_worker(by: u8) -> bool
+pub(super) fn is_worker(by: u8) -> bool
     ensures { IsTrue result ↔ IsWorker by }
 {
     1 <= by && by <= WORKERS
@@ -60,7 +60,7 @@ fn has_shown_another(entries: &[Entry], op: u32, value: u64) -> bool
 }
 
 /// Whether a failure of the operation was shown.
-pub fn has_failed(entries: &[Entry], op: u32) -> bool
+pub(super) fn has_failed(entries: &[Entry], op: u32) -> bool
     ensures { IsTrue result ↔ HasFailed entries.now op }
 {
     entries.iter().any(|e| e.op == op && e.failed)
@@ -68,7 +68,7 @@ pub fn has_failed(entries: &[Entry], op: u32) -> bool
 
 impl CoreState {
     /// The value of a settled source, `None` where it is not settled.
-    pub fn settled_value(&self, origin: Origin) -> Option<u64>
+    pub(super) fn settled_value(&self, origin: Origin) -> Option<u64>
         requires { IsInside (word_count self.now) origin }
         ensures known { IsSome result ↔ IsKnown (IsSettledIn (core_of self.now)) origin }
         ensures value { IfSome result (λ x. x ≡ from (value_in (core_of self.now)) origin) }
@@ -87,7 +87,7 @@ impl CoreState {
     }
 
     /// The record of an operation at a place.
-    pub fn record(&self, op: u32, j: usize) -> Option<Record>
+    pub(super) fn record(&self, op: u32, j: usize) -> Option<Record>
         requires place { j < READS }
         requires in_range { op * READS + j < length self.now.records.items }
         ensures { result ≡ (core_of self.now).recorded op j }
@@ -96,7 +96,7 @@ impl CoreState {
     }
 
     /// What a worker holds; an empty claim where it holds nothing.
-    pub fn held(&self, by: u8) -> Claim
+    pub(super) fn held(&self, by: u8) -> Claim
         requires worker { by < length self.now.claims.items }
         requires fits { AllFit self.now }
         ensures values { take result.count result.values ≡ fetched ((core_of self.now).claim by) }
@@ -114,7 +114,7 @@ impl CoreState {
     }
 
     /// Whether the source is settled with this value.
-    pub fn is_settled_as(&self, origin: Origin, value: u64) -> bool
+    pub(super) fn is_settled_as(&self, origin: Origin, value: u64) -> bool
         requires { IsInside (word_count self.now) origin }
         ensures { IsTrue result ↔ IsSettledAs (core_of self.now) origin value }
     {
@@ -125,7 +125,7 @@ impl CoreState {
     }
 
     /// Whether the value is a version of the source.
-    pub fn is_version(&self, origin: Origin, value: u64) -> bool
+    pub(super) fn is_version(&self, origin: Origin, value: u64) -> bool
         requires { IsInside (word_count self.now) origin }
         ensures { IsTrue result ↔ IsVersion (core_of self.now) origin value }
     {
@@ -150,7 +150,7 @@ impl CoreState {
     }
 
     /// Whether the source has a version that differs from the value.
-    pub fn has_version_besides(&self, origin: Origin, value: u64) -> bool
+    pub(super) fn has_version_besides(&self, origin: Origin, value: u64) -> bool
         requires { IsInside (word_count self.now) origin }
         ensures { IsTrue result ↔ HasVersionBesides (core_of self.now) origin value }
     {
@@ -164,7 +164,7 @@ impl CoreState {
     }
 
     /// Whether the worker holds nothing.
-    pub fn is_free(&self, by: u8) -> bool
+    pub(super) fn is_free(&self, by: u8) -> bool
         requires { by < length self.now.claims.items }
         ensures { IsTrue result ↔ ((core_of self.now).claim by ≡ None) }
     {
@@ -172,7 +172,7 @@ impl CoreState {
     }
 
     /// Whether the operation is one of the plan's and in this state.
-    pub fn is_at(&self, plan: &Plan, op: u32, state: OpState) -> bool
+    pub(super) fn is_at(&self, plan: &Plan, op: u32, state: OpState) -> bool
         requires { IsStateOf plan.now self.now }
         ensures { IsTrue result ↔ ((op < op_count plan.now) × (((core_of self.now).word op).state ≡ state)) }
     {
@@ -180,7 +180,7 @@ impl CoreState {
     }
 
     /// Whether the worker holds the operation.
-    pub fn is_claimed_by(&self, plan: &Plan, op: u32, by: u8) -> bool
+    pub(super) fn is_claimed_by(&self, plan: &Plan, op: u32, by: u8) -> bool
         requires { IsStateOf plan.now self.now }
         ensures { IsTrue result ↔ IsClaimedBy plan.now (core_of self.now) op by }
     {
@@ -188,7 +188,7 @@ impl CoreState {
     }
 
     /// Whether all sources of the operation are settled.
-    pub fn are_settled(&self, plan: &Plan, op: u32) -> bool
+    pub(super) fn are_settled(&self, plan: &Plan, op: u32) -> bool
         requires plan { IsPlan plan.now }
         requires state { IsStateOf plan.now self.now }
         requires op { op < op_count plan.now }
@@ -203,7 +203,7 @@ impl CoreState {
     }
 
     /// The value that the source at a place has now.
-    pub fn source_value(&self, plan: &Plan, op: u32, j: usize) -> u64
+    pub(super) fn source_value(&self, plan: &Plan, op: u32, j: usize) -> u64
         requires plan { IsPlan plan.now }
         requires state { IsStateOf plan.now self.now }
         requires op { op < op_count plan.now }
@@ -217,7 +217,7 @@ impl CoreState {
     }
 
     /// Whether there is a record at the place with another value than this one.
-    pub fn is_recorded_otherwise(&self, plan: &Plan, op: u32, j: usize, value: u64) -> bool
+    pub(super) fn is_recorded_otherwise(&self, plan: &Plan, op: u32, j: usize, value: u64) -> bool
         requires state { IsStateOf plan.now self.now }
         requires op { op < op_count plan.now }
         requires place { j < READS }
@@ -230,7 +230,7 @@ impl CoreState {
     }
 
     /// Whether each record of the operation has the value of its source.
-    pub fn records_agree(&self, plan: &Plan, op: u32) -> bool
+    pub(super) fn records_agree(&self, plan: &Plan, op: u32) -> bool
         requires plan { IsPlan plan.now }
         requires state { IsStateOf plan.now self.now }
         requires op { op < op_count plan.now }
@@ -259,7 +259,7 @@ impl CoreState {
     }
 
     /// What the operation answers on the values of its sources, which are settled.
-    pub fn answer(&self, plan: &Plan, op: u32) -> Option<u64>
+    pub(super) fn answer(&self, plan: &Plan, op: u32) -> Option<u64>
         requires plan { IsPlan plan.now }
         requires state { IsStateOf plan.now self.now }
         requires op { op < op_count plan.now }
@@ -295,7 +295,7 @@ impl CoreState {
     }
 
     /// Whether all operations of the event answer on settled sources.
-    pub fn all_answer(&self, plan: &Plan, event: u32) -> bool
+    pub(super) fn all_answer(&self, plan: &Plan, event: u32) -> bool
         requires plan { IsPlan plan.now }
         requires state { IsStateOf plan.now self.now }
         requires event { event < event_count plan.now }
@@ -311,7 +311,7 @@ impl CoreState {
     }
 
     /// Whether an operation of the event fails on settled sources.
-    pub fn one_fails(&self, plan: &Plan, event: u32) -> bool
+    pub(super) fn one_fails(&self, plan: &Plan, event: u32) -> bool
         requires plan { IsPlan plan.now }
         requires state { IsStateOf plan.now self.now }
         requires event { event < event_count plan.now }

@@ -13,7 +13,7 @@ use morph_base::{OpState, OpWord, Plan, READS, eval};
 
 impl CoreState {
     /// Makes a step that may be made.
-    pub fn make(&mut self, plan: &Plan, event: &CoreEvent)
+    pub(super) fn make(&mut self, plan: &Plan, event: &CoreEvent)
         requires plan { IsPlan plan.now }
         requires state { IsStateOf plan.now self.old }
         requires may { May plan.now (cap_of self.old) (core_of self.old) event.now }

@@ -3,9 +3,10 @@
 //!
 //! [`morph::morph`] does all that the program does, over a source, a sink and notes of any kind; `main` gives it the
 //! standard streams. It stands on the applications, as `ledger_app`, on `event_reader`, which cuts the input into
-//! batches, on `morph_base`, which applies them, and on `morph_io`, which reads and writes.
+//! batches, on `morph_engine`, which runs them, and on `morph_io`, which reads and writes.
 #![tactic(auto)]
 
+mod batch;
 mod counts;
 mod ended;
 mod fault;

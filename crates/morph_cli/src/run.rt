@@ -3,11 +3,13 @@ ghost use Rattle.event_reader.specs.declared.limits.TheConstants.{INPUT_BYTES};
 ghost use Rattle.morph_io.specs.Told.{HasRisen};
 ghost use Rattle.morph_cli.specs.Runs.{EndsSo};
 
+use crate::batch::run_batch;
 use crate::counts::Counts;
 use crate::fault::Fault;
 use crate::writing::{write_closing, write_events, write_refused};
 use event_reader::{BatchReader, EventApp, INPUT_BYTES, Next};
-use morph_base::{Layout, Values, plain};
+use morph_base::Layout;
+use morph_engine::Engine;
 use morph_io::{Out, Sink, Source};
 use std::alloc::Global;
 
@@ -40,7 +42,7 @@ pub fn run<A: EventApp + Copy, S: Source, K: Sink>(
         tables: app.tables(),
         size,
     };
-    let mut values = Values::new(alloc, layout)?;
+    let mut engine = Engine::new(alloc, layout)?;
     let mut reader = BatchReader::new(alloc, app, size, INPUT_BYTES)?;
     let mut out = Out::new(alloc)?;
     let mut counts = Counts {
@@ -50,12 +52,12 @@ pub fn run<A: EventApp + Copy, S: Source, K: Sink>(
     'batches: loop {
         match reader.next_batch(alloc, source)? {
             Next::Batch(batch) => {
-                let outcomes = plain::fold(alloc, &mut values, &batch)?;
+                let outcomes = run_batch(alloc, &mut engine, &batch)?;
                 write_events(&mut out, sink, outcomes.as_slice())?;
                 counts.add(outcomes.as_slice());
             }
             Next::End => {
-                write_closing(&mut out, sink, &app, &values, counts)?;
+                write_closing(&mut out, sink, &app, engine.state(), counts)?;
                 return Ok(Finish::Complete);
             }
             Next::Refused { line, cause } => {

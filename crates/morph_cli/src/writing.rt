@@ -8,8 +8,9 @@ ghost use Rattle.morph_cli.specs.Text.{outcome_lines, value_line, table_lines, v
 use crate::counts::Counts;
 use crate::text::event_line;
 use event_reader::{Cause, EventApp};
-use morph_base::{Key, Outcome, Values};
+use morph_base::{Key, Outcome};
 use morph_io::{LineBuf, Out, Sink, WriteFailed};
+use version_table::State;
 
 /// Writes the lines of events, whole.
 pub fn write_events<K: Sink>(
@@ -34,7 +35,7 @@ pub fn write_closing<A: EventApp, K: Sink>(
     out: &mut Out,
     sink: &mut K,
     app: &A,
-    values: &Values,
+    values: &State,
     counts: Counts,
 ) -> Result<(), WriteFailed>
     requires empty { out.old ≡ [] }
@@ -134,7 +135,7 @@ fn put_table<K: Sink>(
     out: &mut Out,
     sink: &mut K,
     name: &str,
-    values: &Values,
+    values: &State,
     table: u8,
 ) -> Result<(), WriteFailed>
     requires table { table < values.now.layout.tables }
@@ -156,7 +157,7 @@ fn put_values<A: EventApp, K: Sink>(
     out: &mut Out,
     sink: &mut K,
     app: &A,
-    values: &Values,
+    values: &State,
 ) -> Result<(), WriteFailed>
     requires tables { values.now.layout.tables ≡ A.table_count app.now }
     ensures puts { OnOk result (Puts (K.written sink.old) out.old (value_lines values.now.layout (A.name_of app.now) (contents values.now)) (K.written sink.new) out.new) }

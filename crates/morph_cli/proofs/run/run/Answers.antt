@@ -1,7 +1,7 @@
 use Rattle.std.proofs.Common.{ℕ, ◌+◌, ◌++◌, List, map, subst, Err, refl, ap, ◌∙◌, arith, length}
 use Rattle.event_reader.specs.declared.limits.TheConstants.{INPUT_BYTES}
 use Rattle.morph_base.specs.declared.key.Layout.{Layout}
-use Rattle.morph_base.specs.Flat.{contents}
+use Rattle.morph_base.specs.Flat.{Kept, contents}
 use Rattle.morph_base.specs.Transactions.{transactions_of}
 use Rattle.morph_cli.specs.declared.fault.Fault.TheVariants.{Write, OutOfMemory}
 use Rattle.morph_base.specs.declared.outcome.Outcome.{Outcome}
@@ -16,8 +16,8 @@ use Rattle.morph_cli.proofs.run.run.Goals as goal
 abbrev layout_of : (tables size : ℕ) → Layout
 layout_of tables size = record { tables = tables; size = size }
 
-pub returns-in_err-values-clause-ends : goal.returns-in_err-values-clause-ends
-returns-in_err-values-clause-ends g c =
+pub returns-in_err-engine-clause-ends : goal.returns-in_err-engine-clause-ends
+returns-in_err-engine-clause-ends g c =
     as_answered g.A.EventApp.event_of (g.A.EventApp.table_count c.args.app) c.args.app c.args.size INPUT_BYTES (layout_of (g.A.EventApp.table_count c.args.app) c.args.size) (g.A.EventApp.name_of c.args.app) (g.S.Source.left c.args.source.now) (g.S.Source.left c.args.source.now)
     (g.K.Sink.written c.args.sink.now) (g.K.Sink.written c.args.sink.now) c.from_residual.result (Err OutOfMemory)
     (error_is c.from_residual.result OutOfMemory c.from_residual.ensures.1)
@@ -40,9 +40,9 @@ returns-in_err-out-clause-ends g c =
 pub batches-init : goal.batches-init
 batches-init g c = record {
   between = between_start g.A.EventApp.event_of (g.A.EventApp.table_count c.args.app) c.args.app c.args.size INPUT_BYTES (g.S.Source.left c.args.source.now)
-      (g.K.Sink.written c.args.sink.now) c.in_ok-reader.reader c.in_ok-values.values (record { committed = 0; aborted = 0 })
-      c.in_ok-out.out (layout_of c.tables.result c.args.size) c.in_ok-reader.ensures c.in_ok-values.ensures.layout
-      (ap (λ t. layout_of t c.args.size) c.tables.ensures) c.in_ok-values.ensures.opening c.in_ok-out.ensures refl refl;
+      (g.K.Sink.written c.args.sink.now) c.in_ok-reader.reader c.in_ok-engine.engine (record { committed = 0; aborted = 0 })
+      c.in_ok-out.out (layout_of c.tables.result c.args.size) c.in_ok-reader.ensures c.in_ok-engine.ensures.layout
+      (ap (λ t. layout_of t c.args.size) c.tables.ensures) c.in_ok-engine.ensures.opening c.in_ok-out.ensures refl refl;
   source_faults = omega arith;
   sink_faults = omega arith;
 }
@@ -52,7 +52,7 @@ returns-in_err-batch-clause-ends g c =
     as_answered g.A.EventApp.event_of (g.A.EventApp.table_count c.args.app) c.args.app c.args.size INPUT_BYTES (layout_of (g.A.EventApp.table_count c.args.app) c.args.size) (g.A.EventApp.name_of c.args.app) (g.S.Source.left c.args.source.now) (g.S.Source.left c.next_batch.new.source)
     (g.K.Sink.written c.args.sink.now) (g.K.Sink.written c.batches.sink) c.from_residual-in_err-batch.result (Err (fault_of c.in_err-batch.field-0.0))
     (error_is c.from_residual-in_err-batch.result (fault_of c.in_err-batch.field-0.0) c.from_residual-in_err-batch.ensures.1)
-    (ends_fault g.A.EventApp.event_of (g.A.EventApp.table_count c.args.app) c.args.app c.args.size INPUT_BYTES (layout_of (g.A.EventApp.table_count c.args.app) c.args.size) (g.A.EventApp.name_of c.args.app) (g.S.Source.left c.args.source.now) (g.S.Source.left c.batches.source) (g.S.Source.left c.next_batch.new.source) (g.K.Sink.written c.args.sink.now) (g.K.Sink.written c.batches.sink) c.batches.reader c.next_batch.new.self c.batches.values c.batches.counts c.batches.out
+    (ends_fault g.A.EventApp.event_of (g.A.EventApp.table_count c.args.app) c.args.app c.args.size INPUT_BYTES (layout_of (g.A.EventApp.table_count c.args.app) c.args.size) (g.A.EventApp.name_of c.args.app) (g.S.Source.left c.args.source.now) (g.S.Source.left c.batches.source) (g.S.Source.left c.next_batch.new.source) (g.K.Sink.written c.args.sink.now) (g.K.Sink.written c.batches.sink) c.batches.reader c.next_batch.new.self c.batches.engine c.batches.counts c.batches.out
     c.in_err-batch.field-0.0 c.batches.invariant.between c.in_err-batch.ensures.answers c.in_err-batch.ensures.shows c.in_err-batch.ensures.asked)
 
 pub returns-in_err-outcomes-in-Batch-clause-ends : goal.returns-in_err-outcomes-in-Batch-clause-ends
@@ -60,12 +60,12 @@ returns-in_err-outcomes-in-Batch-clause-ends g c =
     as_answered g.A.EventApp.event_of (g.A.EventApp.table_count c.args.app) c.args.app c.args.size INPUT_BYTES (layout_of (g.A.EventApp.table_count c.args.app) c.args.size) (g.A.EventApp.name_of c.args.app) (g.S.Source.left c.args.source.now) (g.S.Source.left c.next_batch.new.source)
     (g.K.Sink.written c.args.sink.now) (g.K.Sink.written c.batches.sink) c.from_residual-in_err-outcomes-in-Batch.result (Err OutOfMemory)
     (error_is c.from_residual-in_err-outcomes-in-Batch.result OutOfMemory c.from_residual-in_err-outcomes-in-Batch.ensures.1)
-    (ends_memory g.A.EventApp.event_of c.args.app c.args.size INPUT_BYTES (layout_of (g.A.EventApp.table_count c.args.app) c.args.size) (g.A.EventApp.name_of c.args.app) (g.S.Source.left c.args.source.now) (g.S.Source.left c.batches.source) (g.S.Source.left c.next_batch.new.source) (g.K.Sink.written c.args.sink.now) (g.K.Sink.written c.batches.sink) c.batches.reader (contents c.batches.values) c.batches.counts c.batches.invariant.between.goes)
+    (ends_memory g.A.EventApp.event_of c.args.app c.args.size INPUT_BYTES (layout_of (g.A.EventApp.table_count c.args.app) c.args.size) (g.A.EventApp.name_of c.args.app) (g.S.Source.left c.args.source.now) (g.S.Source.left c.batches.source) (g.S.Source.left c.next_batch.new.source) (g.K.Sink.written c.args.sink.now) (g.K.Sink.written c.batches.sink) c.batches.reader (contents c.batches.engine) c.batches.counts c.batches.invariant.between.goes)
 
 pub write_events-requires-clause-few : goal.write_events-requires-clause-few
 write_events-requires-clause-few g c =
     let valid = rw c.in-Batch.is at c.in_ok-batch.ensures.valid in
-    rw c.as_slice.ensures (outcomes-few (contents c.batches.values) (transactions_of c.in-Batch.batch) c.in_ok-outcomes-in-Batch.outcomes.items
+    rw c.as_slice.ensures (outcomes-few (contents c.batches.engine) (transactions_of c.in-Batch.batch) c.in_ok-outcomes-in-Batch.outcomes.items
     c.in_ok-outcomes-in-Batch.ensures.fates valid.1.valid)
 
 pub returns-in_err-write_events-in-Batch-clause-ends : goal.returns-in_err-write_events-in-Batch-clause-ends
@@ -75,7 +75,7 @@ returns-in_err-write_events-in-Batch-clause-ends g c =
     as_answered g.A.EventApp.event_of (g.A.EventApp.table_count c.args.app) c.args.app c.args.size INPUT_BYTES (layout_of (g.A.EventApp.table_count c.args.app) c.args.size) (g.A.EventApp.name_of c.args.app) (g.S.Source.left c.args.source.now) (g.S.Source.left c.next_batch.new.source)
     (g.K.Sink.written c.args.sink.now) (g.K.Sink.written c.write_events.new.sink) c.from_residual-in_err-write_events-in-Batch.result (Err Write)
     (error_is c.from_residual-in_err-write_events-in-Batch.result Write c.from_residual-in_err-write_events-in-Batch.ensures.1)
-    (ends_in_batch g.A.EventApp.event_of (g.A.EventApp.table_count c.args.app) c.args.app c.args.size INPUT_BYTES (layout_of (g.A.EventApp.table_count c.args.app) c.args.size) (g.A.EventApp.name_of c.args.app) (g.S.Source.left c.args.source.now) (g.S.Source.left c.batches.source) (g.S.Source.left c.next_batch.new.source) (g.K.Sink.written c.args.sink.now) (g.K.Sink.written c.batches.sink) (g.K.Sink.written c.write_events.new.sink) c.batches.reader c.next_batch.new.self c.batches.values c.batches.counts c.batches.out
+    (ends_in_batch g.A.EventApp.event_of (g.A.EventApp.table_count c.args.app) c.args.app c.args.size INPUT_BYTES (layout_of (g.A.EventApp.table_count c.args.app) c.args.size) (g.A.EventApp.name_of c.args.app) (g.S.Source.left c.args.source.now) (g.S.Source.left c.batches.source) (g.S.Source.left c.next_batch.new.source) (g.K.Sink.written c.args.sink.now) (g.K.Sink.written c.batches.sink) (g.K.Sink.written c.write_events.new.sink) c.batches.reader c.next_batch.new.self c.batches.engine c.batches.counts c.batches.out
     c.in-Batch.batch c.as_slice.result.now c.batches.invariant.between answers valid.0 (ap (map fate_of) c.as_slice.ensures ∙ c.in_ok-outcomes-in-Batch.ensures.fates)
     c.in_err-write_events-in-Batch.ensures.prefix)
 
@@ -89,7 +89,7 @@ batches-preserved g c =
     let outcomes = c.in_ok-outcomes-in-Batch.outcomes.items in
     record {
       between = between_batch g.A.EventApp.event_of (g.A.EventApp.table_count c.args.app) c.args.app c.args.size INPUT_BYTES (g.S.Source.left c.args.source.now) (g.S.Source.left c.batches.source) (g.S.Source.left c.next_batch.new.source) (g.K.Sink.written c.args.sink.now) (g.K.Sink.written c.batches.sink)
-          (g.K.Sink.written c.write_events.new.sink) c.batches.reader c.next_batch.new.self c.batches.values c.fold.new.values c.batches.counts c.add.new.self
+          (g.K.Sink.written c.write_events.new.sink) c.batches.reader c.next_batch.new.self c.batches.engine c.run_batch.new.engine c.batches.counts c.add.new.self
           c.batches.out c.write_events.new.out c.in-Batch.batch outcomes c.batches.invariant.between answers shows valid.0 counted c.in_ok-batch.ensures.bound
           c.in_ok-batch.ensures.same c.in_ok-batch.ensures.at_end c.in_ok-batch.ensures.unended live c.in_ok-outcomes-in-Batch.ensures.layout
           c.in_ok-outcomes-in-Batch.ensures.state c.in_ok-outcomes-in-Batch.ensures.fates
@@ -108,17 +108,20 @@ returns-in_err-write_closing-in-End-clause-ends g c =
     as_answered g.A.EventApp.event_of (g.A.EventApp.table_count c.args.app) c.args.app c.args.size INPUT_BYTES (layout_of (g.A.EventApp.table_count c.args.app) c.args.size) (g.A.EventApp.name_of c.args.app) (g.S.Source.left c.args.source.now) (g.S.Source.left c.next_batch.new.source)
     (g.K.Sink.written c.args.sink.now) (g.K.Sink.written c.write_closing.new.sink) c.from_residual-in_err-write_closing-in-End.result (Err Write)
     (error_is c.from_residual-in_err-write_closing-in-End.result Write c.from_residual-in_err-write_closing-in-End.ensures.1)
-    (ends_closing_cut g.A.EventApp.event_of c.args.app c.args.size INPUT_BYTES (layout_of (g.A.EventApp.table_count c.args.app) c.args.size) (g.A.EventApp.name_of c.args.app) (g.S.Source.left c.args.source.now) (g.S.Source.left c.batches.source) (g.S.Source.left c.next_batch.new.source) (g.K.Sink.written c.args.sink.now) (g.K.Sink.written c.batches.sink) (g.K.Sink.written c.write_closing.new.sink) c.batches.reader (contents c.batches.values) c.batches.counts c.batches.invariant.between.goes answers
-    (subst (λ l. AppendsPrefix (g.K.Sink.written c.batches.sink) (value_lines l (g.A.EventApp.name_of c.args.app) (contents c.batches.values) ++ counts_line c.batches.counts.committed c.batches.counts.aborted) (g.K.Sink.written c.write_closing.new.sink))
-    c.batches.invariant.between.layout c.in_err-write_closing-in-End.ensures.prefix))
+    (ends_closing_cut g.A.EventApp.event_of c.args.app c.args.size INPUT_BYTES (layout_of (g.A.EventApp.table_count c.args.app) c.args.size) (g.A.EventApp.name_of c.args.app) (g.S.Source.left c.args.source.now) (g.S.Source.left c.batches.source) (g.S.Source.left c.next_batch.new.source) (g.K.Sink.written c.args.sink.now) (g.K.Sink.written c.batches.sink) (g.K.Sink.written c.write_closing.new.sink) c.batches.reader (contents c.batches.engine) c.batches.counts c.batches.invariant.between.goes answers
+    (subst (λ l. AppendsPrefix (g.K.Sink.written c.batches.sink) (value_lines l (g.A.EventApp.name_of c.args.app) (contents c.batches.engine) ++ counts_line c.batches.counts.committed c.batches.counts.aborted) (g.K.Sink.written c.write_closing.new.sink))
+    c.batches.invariant.between.layout
+    (subst (λ (v : Kept). AppendsPrefix (g.K.Sink.written c.batches.sink) (value_lines v.layout (g.A.EventApp.name_of c.args.app) (contents v) ++ counts_line c.batches.counts.committed c.batches.counts.aborted) (g.K.Sink.written c.write_closing.new.sink))
+    c.state.ensures c.in_err-write_closing-in-End.ensures.prefix)))
 
 pub returns-in-End-clause-ends : goal.returns-in-End-clause-ends
 returns-in-End-clause-ends g c =
     let answers = rw c.in-End.is at c.in_ok-batch.ensures.answers in
-    ends_complete g.A.EventApp.event_of c.args.app c.args.size INPUT_BYTES (layout_of (g.A.EventApp.table_count c.args.app) c.args.size) (g.A.EventApp.name_of c.args.app) (g.S.Source.left c.args.source.now) (g.S.Source.left c.batches.source) (g.S.Source.left c.next_batch.new.source) (g.K.Sink.written c.args.sink.now) (g.K.Sink.written c.batches.sink) (g.K.Sink.written c.write_closing.new.sink) c.batches.reader (contents c.batches.values)
+    ends_complete g.A.EventApp.event_of c.args.app c.args.size INPUT_BYTES (layout_of (g.A.EventApp.table_count c.args.app) c.args.size) (g.A.EventApp.name_of c.args.app) (g.S.Source.left c.args.source.now) (g.S.Source.left c.batches.source) (g.S.Source.left c.next_batch.new.source) (g.K.Sink.written c.args.sink.now) (g.K.Sink.written c.batches.sink) (g.K.Sink.written c.write_closing.new.sink) c.batches.reader (contents c.batches.engine)
     c.batches.counts c.batches.invariant.between.goes answers
     (c.in_ok-write_closing-in-End.ensures.written
-    ∙ ap (λ l. behind (g.K.Sink.written c.batches.sink) (value_lines l (g.A.EventApp.name_of c.args.app) (contents c.batches.values) ++ counts_line c.batches.counts.committed c.batches.counts.aborted)) c.batches.invariant.between.layout)
+    ∙ ap (λ (v : Kept). behind (g.K.Sink.written c.batches.sink) (value_lines v.layout (g.A.EventApp.name_of c.args.app) (contents v) ++ counts_line c.batches.counts.committed c.batches.counts.aborted)) c.state.ensures
+    ∙ ap (λ l. behind (g.K.Sink.written c.batches.sink) (value_lines l (g.A.EventApp.name_of c.args.app) (contents c.batches.engine) ++ counts_line c.batches.counts.committed c.batches.counts.aborted)) c.batches.invariant.between.layout)
 
 pub returns-in_err-write_refused-in-Refused-clause-ends : goal.returns-in_err-write_refused-in-Refused-clause-ends
 returns-in_err-write_refused-in-Refused-clause-ends g c =
@@ -126,11 +129,11 @@ returns-in_err-write_refused-in-Refused-clause-ends g c =
     as_answered g.A.EventApp.event_of (g.A.EventApp.table_count c.args.app) c.args.app c.args.size INPUT_BYTES (layout_of (g.A.EventApp.table_count c.args.app) c.args.size) (g.A.EventApp.name_of c.args.app) (g.S.Source.left c.args.source.now) (g.S.Source.left c.next_batch.new.source)
     (g.K.Sink.written c.args.sink.now) (g.K.Sink.written c.write_refused.new.sink) c.from_residual-in_err-write_refused-in-Refused.result (Err Write)
     (error_is c.from_residual-in_err-write_refused-in-Refused.result Write c.from_residual-in_err-write_refused-in-Refused.ensures.1)
-    (ends_refused_cut g.A.EventApp.event_of c.args.app c.args.size INPUT_BYTES (layout_of (g.A.EventApp.table_count c.args.app) c.args.size) (g.A.EventApp.name_of c.args.app) (g.S.Source.left c.args.source.now) (g.S.Source.left c.batches.source) (g.S.Source.left c.next_batch.new.source) (g.K.Sink.written c.args.sink.now) (g.K.Sink.written c.batches.sink) (g.K.Sink.written c.write_refused.new.sink) c.batches.reader (contents c.batches.values) c.batches.counts c.in-Refused.line
+    (ends_refused_cut g.A.EventApp.event_of c.args.app c.args.size INPUT_BYTES (layout_of (g.A.EventApp.table_count c.args.app) c.args.size) (g.A.EventApp.name_of c.args.app) (g.S.Source.left c.args.source.now) (g.S.Source.left c.batches.source) (g.S.Source.left c.next_batch.new.source) (g.K.Sink.written c.args.sink.now) (g.K.Sink.written c.batches.sink) (g.K.Sink.written c.write_refused.new.sink) c.batches.reader (contents c.batches.engine) c.batches.counts c.in-Refused.line
     c.in-Refused.cause c.batches.invariant.between.goes answers c.in_err-write_refused-in-Refused.ensures.prefix)
 
 pub returns-in-Refused-clause-ends : goal.returns-in-Refused-clause-ends
 returns-in-Refused-clause-ends g c =
     let answers = rw c.in-Refused.is at c.in_ok-batch.ensures.answers in
-    ends_refused g.A.EventApp.event_of c.args.app c.args.size INPUT_BYTES (layout_of (g.A.EventApp.table_count c.args.app) c.args.size) (g.A.EventApp.name_of c.args.app) (g.S.Source.left c.args.source.now) (g.S.Source.left c.batches.source) (g.S.Source.left c.next_batch.new.source) (g.K.Sink.written c.args.sink.now) (g.K.Sink.written c.batches.sink) (g.K.Sink.written c.write_refused.new.sink) c.batches.reader (contents c.batches.values)
+    ends_refused g.A.EventApp.event_of c.args.app c.args.size INPUT_BYTES (layout_of (g.A.EventApp.table_count c.args.app) c.args.size) (g.A.EventApp.name_of c.args.app) (g.S.Source.left c.args.source.now) (g.S.Source.left c.batches.source) (g.S.Source.left c.next_batch.new.source) (g.K.Sink.written c.args.sink.now) (g.K.Sink.written c.batches.sink) (g.K.Sink.written c.write_refused.new.sink) c.batches.reader (contents c.batches.engine)
     c.batches.counts c.in-Refused.line c.in-Refused.cause c.batches.invariant.between.goes answers c.in_ok-write_refused-in-Refused.ensures.written

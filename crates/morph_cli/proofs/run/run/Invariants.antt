@@ -6,7 +6,7 @@ use Rattle.morph_cli.proofs.run.run.Given as goal
 abbrev pub invariant-batches : goal.invariant-batches
 invariant-batches g l = record {
   between : Between g.A.EventApp.event_of (g.A.EventApp.table_count l.app) l.app l.size INPUT_BYTES (g.S.Source.left l.initial.source)
-      (g.S.Source.left l.source) (g.K.Sink.written l.initial.sink) (g.K.Sink.written l.sink) l.reader l.values l.counts l.out;
+      (g.S.Source.left l.source) (g.K.Sink.written l.initial.sink) (g.K.Sink.written l.sink) l.reader l.engine l.counts l.out;
   source_faults : g.S.Source.faults l.initial.source ≤ g.S.Source.faults l.source;
   sink_faults : g.K.Sink.faults l.initial.sink ≤ g.K.Sink.faults l.sink;
 }

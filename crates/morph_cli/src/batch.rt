@@ -1,0 +1,61 @@
+ghost use Rattle.std.specs.Prelude.{◌≡◌, ℕ, ◌+◌, ◌<◌, ◌≤◌, length, map, IfOk, OnOk};
+ghost use Rattle.morph_base.specs.Flat.{contents};
+ghost use Rattle.morph_base.specs.Transactions.{IsBatch, BatchKeysIn, transactions_of, by_time};
+ghost use Rattle.morph_base.specs.States.{fold_batch};
+ghost use Rattle.morph_base.specs.Outcomes.{fate_of, fates};
+ghost use Rattle.morph_base.specs.Plans.{IsPlan, IsSettledOf, event_count};
+ghost use Rattle.morph_engine.specs.Fates.{settled_fate, settled_fates};
+
+use morph_base::{Batch, List, OutOfMemory, Outcome};
+use morph_engine::{BatchEnd, Engine};
+use std::alloc::Global;
+
+/// Makes the plan of a batch, runs it on the engine, and tells what became of each event, by rising timestamp.
+///
+/// Where memory is refused, the engine may stand after the batch.
+pub fn run_batch(
+    alloc: Global,
+    engine: &mut Engine,
+    batch: &Batch,
+) -> Result<List<Outcome>, OutOfMemory>
+    requires batch { IsBatch batch.now }
+    requires keys { BatchKeysIn engine.old.layout batch.now }
+    ensures layout { engine.new.layout ≡ engine.old.layout }
+    ensures state { OnOk result (contents engine.new ≡ fold_batch batch.now (contents engine.old)) }
+    ensures fates { IfOk result (λ outcomes. map fate_of outcomes.items ≡ fates (contents engine.old) (by_time (transactions_of batch.now))) }
+{
+    let plan = engine.plan(alloc, batch)?;
+    let end = engine.run_batch(alloc, plan)?;
+    outcomes(alloc, &end)
+}
+
+/// What became of each event of a batch that was run, by rising timestamp.
+fn outcomes(alloc: Global, end: &BatchEnd) -> Result<List<Outcome>, OutOfMemory>
+    requires plan { IsPlan end.now.plan }
+    requires settled { IsSettledOf end.now.plan end.now.settled }
+    ensures { IfOk result (λ outcomes. map fate_of outcomes.items ≡ settled_fates end.now.plan end.now.settled) }
+{
+    let count = end.plan.events.len();
+    let mut outcomes = List::with_room(alloc, count)?;
+    for i in 0..count {
+        outcomes.add(outcome(alloc, end, i)?);
+    }
+    Ok(outcomes)
+}
+
+/// What became of one event.
+fn outcome(alloc: Global, end: &BatchEnd, i: usize) -> Result<Outcome, OutOfMemory>
+    requires plan { IsPlan end.now.plan }
+    requires settled { IsSettledOf end.now.plan end.now.settled }
+    requires event { i < event_count end.now.plan }
+    ensures { IfOk result (λ outcome. fate_of outcome ≡ settled_fate end.now.plan end.now.settled i) }
+{
+    let event = end.plan.events.get(i);
+    let first = event.first as usize;
+    let values = &end.settled.values.as_slice()[first..first + event.count as usize];
+    Ok(Outcome {
+        ts: event.ts,
+        committed: *end.settled.committed.get(i),
+        values: List::from_slice(alloc, values)?,
+    })
+}

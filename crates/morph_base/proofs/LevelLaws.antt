@@ -1,13 +1,19 @@
 -- Levels rise from a source to what reads from it.
 use Rattle.std.proofs.Common.{◌≡◌, ℕ, zero, suc, ◌+◌, ◌-◌, ◌<◌, ◌≤◌, max, List, [], ◌∷◌, ◌++◌, map, flat_map, length, get_or, not-suc-le-zero, le_of_suc-le-suc, sym, ap, ◌∙◌, subst, arith, add-sub_of_le}
-use Rattle.std.proofs.lemmas.List.{map-append, length-take-le, get_or-take}
-use Rattle.std.proofs.lemmas.List.FromFn.{length-range_with_len, get_or-range_with_len}
+use Rattle.std.proofs.lemmas.List.{map-append, map-id, length-take-le, get_or-take}
+use Rattle.std.proofs.lemmas.List.FromFn.{length-range_with_len, get_or-range_with_len, map-range_with_len_more}
 use Rattle.morph_base.specs.declared.plan.Origin.{Origin}
 use Rattle.morph_base.specs.declared.plan.Origin.TheVariants.{Base, Op as Written}
 use Rattle.morph_base.specs.declared.plan.Plan.{Plan}
 use Rattle.morph_base.specs.Plans.{IsPlan, event_count, op_count, event_at, op_at, event_of, keys_of, origin_at, origins_of, no_event, no_plan_op}
-use Rattle.morph_base.specs.Graphs.{greatest, op_level, event_level, ops_in, event_origins, op_depth, event_depth, IsGraph}
+use Rattle.morph_base.specs.Graphs.{below, greatest, op_level, event_level, ops_in, event_origins, op_depth, event_depth, IsGraph}
 use Rattle.morph_base.proofs.OutcomeLaws.{keys_fit}
+
+-- ---- the numbers below n, one more
+
+pub below_more : (n : ℕ) → below (n + 1) ≡ below n ++ n ∷ []
+below_more n =
+    sym (map-id (below (n + 1))) ∙ map-range_with_len_more (λ (x : ℕ). x) 0 n n (omega arith) ∙ ap (λ xs. xs ++ n ∷ []) (map-id (below n))
 
 -- ---- the greatest of some numbers
 

@@ -1,5 +1,5 @@
 -- The steps of the plain fold: reading keys, answering operation by operation, putting answers, and one event more.
-use Rattle.std.proofs.Common.{◌≡◌, ℕ, zero, suc, ◌+◌, ◌-◌, ◌<◌, true, false, List, [], ◌∷◌, ◌++◌, length, map, take, drop, get_or, All, Some, None, is_some, unwrap_or, refl, sym, ◌∙◌, ap, subst, arith, inl, inr}
+use Rattle.std.proofs.Common.{◌≡◌, ℕ, zero, suc, ◌+◌, ◌-◌, ◌<◌, ◌≤◌, true, false, List, [], ◌∷◌, ◌++◌, length, map, take, drop, get_or, All, Some, None, is_some, unwrap_or, refl, sym, ◌∙◌, ap, subst, arith, inl, inr}
 use Rattle.std.proofs.Math.Path.{fun_ext}
 use Rattle.std.proofs.lemmas.Bool.{cond-true, cond-false, cases_Bool, false_from_ne_true, false≢true, and_from, and_parts}
 use Rattle.std.proofs.lemmas.List.{take_more, map_more, take_all, length-take, length-drop}
@@ -14,6 +14,12 @@ use Rattle.morph_base.specs.Outcomes.{fate, fates}
 use Rattle.morph_base.specs.Flat.{with_value, put_all}
 use Rattle.morph_base.proofs.KeyLaws.{same_key-true}
 use Rattle.morph_base.proofs.StateLaws.{all_answer-each, after-committed, after-aborted}
+
+-- how many keys an operation reads
+pub length-reads : (op : Op) → IsShaped op → length (reads op) ≡ op.n_params + 1
+length-reads op shaped =
+    let held : op.n_params ≤ length op.params = shaped.held in
+    omega (arith, length-take op.n_params op.params)
 
 -- the keys of an operation are in the layout: its parameters'
 pub param_in : (l : Layout) (op : Op) (j : ℕ) (d : Key) → IsShaped op → All (InLayout l) (reads op) → j < op.n_params → InLayout l (get_or op.params j d)

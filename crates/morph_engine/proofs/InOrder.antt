@@ -1,8 +1,7 @@
 -- Events settled in order: one operation more, one event more.
-use Rattle.std.proofs.Common.{◌≡◌, ◌≢◌, ◌⊎◌, ℕ, ◌+◌, ◌<◌, ◌≤◌, List, [], ◌∷◌, ◌++◌, Bool, true, false, length, map, take, get_or, set, sum_by, Some, None, IsSome, refl, sym, ap, ◌∙◌, inl, inr, arith, subst, slice_index, length-append, length-set, add-one, zero-lt-suc}
+use Rattle.std.proofs.Common.{◌≡◌, ◌≢◌, ℕ, ◌+◌, ◌<◌, ◌≤◌, List, [], ◌∷◌, ◌++◌, Bool, true, false, length, map, take, set, sum_by, Some, None, IsSome, refl, sym, ap, ◌∙◌, inl, inr, arith, subst, slice_index, length-append, length-set, add-one, zero-lt-suc}
 use Rattle.std.proofs.Math.Seq.{take-suc, take-length}
-use Rattle.std.proofs.lemmas.List.{get_or_append_left, get_or_push, map-append, ext_get_or, get_or-set_same, get_or-set_other}
-use Rattle.std.proofs.lemmas.List.FromFn.{length-range_with_len, get_or-range_with_len}
+use Rattle.std.proofs.lemmas.List.{get_or_append_left, get_or_push, map-append, get_or-set_same, get_or-set_other}
 use Rattle.std.proofs.lemmas.List.Sums.{sum_by_push}
 use Rattle.std.proofs.lemmas.Bool.{cases_eq, cases_lt, true≢false}
 use Rattle.std.proofs.lemmas.Option.{same_Some}
@@ -11,6 +10,7 @@ use Rattle.morph_base.specs.declared.plan.PlanEvent.{PlanEvent}
 use Rattle.morph_base.specs.Plans.{IsPlan, InEvent, op_count, event_count, event_at, event_of, origin_at, no_event, final, verdict}
 use Rattle.morph_base.specs.Graphs.{below}
 use Rattle.morph_base.specs.Clean.{from, source, outcome}
+use Rattle.morph_base.proofs.LevelLaws.{below_more}
 use Rattle.morph_base.proofs.NumberLaws.{first_owned, within_event, end_fits, first-sum, count-sum, op_count-small}
 use Rattle.morph_base.proofs.KnownLaws.{commits_from, aborts_from, final_committed, final_aborted}
 use Rattle.morph_engine.specs.Settling.{AreSettled}
@@ -219,23 +219,6 @@ ops_before-more p i valid lt =
 pub ops_before-all : (p : Plan) → IsPlan p → ops_before p (event_count p) ≡ op_count p
 ops_before-all p valid = ap (sum_by (λ e. e.count)) (take-length p.events.items) ∙ sym (count-sum p valid)
 
--- ---- lists
-
-pub below-more : (i : ℕ) → below (i + 1) ≡ below i ++ i ∷ []
-below-more i =
-    let one : length (below i ++ i ∷ []) ≡ i + 1 = length-append (below i) (i ∷ []) ∙ ap (λ k. k + 1) (length-range_with_len 0 i) in
-    ext_get_or 0 (below (i + 1)) (below i ++ i ∷ []) (length-range_with_len 0 (i + 1) ∙ sym one)
-    (λ j inside.
-    let lt : j < i + 1 = (let all = length-range_with_len 0 (i + 1) in omega arith) in
-    get_or-range_with_len 0 (i + 1) j 0 lt ∙ sym (there j (cases_eq j i) lt))
-  where
-    there : (j : ℕ) → (j ≡ i) ⊎ (j ≢ i) → j < i + 1 → get_or (below i ++ i ∷ []) j 0 ≡ 0 + j
-    there j (inl its) lt = get_or_push (below i) i 0 j (length-range_with_len 0 i ∙ sym its) ∙ omega arith
-    there j (inr other) lt =
-        let less : j < length (below i) = (let all = length-range_with_len 0 i in omega arith) in
-        let small : j < i = omega arith in
-        get_or_append_left (below i) (i ∷ []) 0 j less ∙ get_or-range_with_len 0 i j 0 small
-
 -- one verdict more
 pub verdicts-more : (p : Plan) (i : ℕ) (before now : List Bool) (c : Bool) → before ≡ map (verdict p) (below i) → now ≡ before ++ c ∷ [] → c ≡ verdict p i →
     now ≡ map (verdict p) (below (i + 1))
@@ -244,4 +227,4 @@ verdicts-more p i before now c so_far one its =
     ∙ ap (λ (l : List Bool). l ++ c ∷ []) so_far
     ∙ ap (λ (b : Bool). map (verdict p) (below i) ++ b ∷ []) its
     ∙ sym (map-append (verdict p) (below i) (i ∷ []))
-    ∙ ap (map (verdict p)) (sym (below-more i))
+    ∙ ap (map (verdict p)) (sym (below_more i))

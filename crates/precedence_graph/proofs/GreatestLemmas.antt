@@ -1,13 +1,12 @@
 -- The greatest of some numbers, and the numbers below n.
-use Rattle.std.proofs.Common.{◌≡◌, ℕ, ◌+◌, ◌<◌, ◌≤◌, Bool, cond, List, [], ◌∷◌, ◌++◌, length, get_or, take, map, filter, refl, sym, ap, subst, ◌∙◌, arith}
+use Rattle.std.proofs.Common.{◌≡◌, ℕ, ◌+◌, ◌<◌, ◌≤◌, Bool, cond, List, [], ◌∷◌, ◌++◌, length, get_or, take, map, filter, refl, ap, subst, ◌∙◌, arith}
 use Rattle.std.specs.Prelude.{max, All}
 use Rattle.std.specs.List.{flat_map}
 use Rattle.std.proofs.lemmas.List.{take_more, map-id, map-append, append-nil}
 use Rattle.std.proofs.lemmas.Grind.{flat_map-append}
 use Rattle.std.proofs.lemmas.List.Elements.{filter-append, All-head, All-tail}
-use Rattle.std.proofs.lemmas.List.FromFn.{map-range_with_len_more}
 use Rattle.morph_base.specs.Graphs.{greatest, below}
-use Rattle.morph_base.proofs.LevelLaws.{greatest-append, le-greatest}
+use Rattle.morph_base.proofs.LevelLaws.{below_more, greatest-append, le-greatest}
 
 pub greatest_push : (xs : List ℕ) (y : ℕ) → greatest (xs ++ y ∷ []) ≡ max (greatest xs) y
 greatest_push xs y = greatest-append xs (y ∷ []) ∙ omega arith
@@ -23,10 +22,6 @@ pub greatest-le : (m : ℕ) (xs : List ℕ) → All (λ x. x ≤ m) xs → great
 greatest-le m [] h = omega arith
 greatest-le m (x ∷ xs) h =
     omega (arith, All-head (λ y. y ≤ m) x xs h, greatest-le m xs (All-tail (λ y. y ≤ m) x xs h))
-
-pub below_more : (n : ℕ) → below (n + 1) ≡ below n ++ n ∷ []
-below_more n =
-    sym (map-id (below (n + 1))) ∙ map-range_with_len_more (λ (x : ℕ). x) 0 n n (omega arith) ∙ ap (λ xs. xs ++ n ∷ []) (map-id (below n))
 
 one_number : (p : ℕ → Bool) (n : ℕ) → filter p (n ∷ []) ≡ cond (p n) (n ∷ []) []
 one_number p n = refl

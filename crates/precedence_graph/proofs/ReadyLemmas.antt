@@ -12,16 +12,12 @@ use Rattle.morph_base.specs.declared.plan.PlanOp.{PlanOp}
 use Rattle.morph_base.specs.Operations.{reads, IsShaped}
 use Rattle.morph_base.specs.Sources.{IsSource}
 use Rattle.morph_base.specs.Plans.{no_plan_op}
+use Rattle.morph_base.proofs.PlainLaws.{length-reads}
 use Rattle.txn_splitter.specs.declared.txns.Txns.{Txns}
 use Rattle.txn_splitter.specs.Txns.{IsTxns, txn_op_count, txn_of, txn_target}
 use Rattle.txn_splitter.proofs.TxnLemmas.{txn_ops_few}
 use Rattle.precedence_graph.specs.Planned.{IsAmong, IsOfEarlier, IsReady, padded, sources_of, planned, ArePlanned}
 use Rattle.precedence_graph.proofs.PlannedLemmas.{take-padded, IsAmong-more}
-
-pub length-reads : (op : Op) → IsShaped op → length (reads op) ≡ op.n_params + 1
-length-reads op shaped =
-    let held : op.n_params ≤ length op.params = shaped.held in
-    omega (arith, length-take op.n_params op.params)
 
 -- padded sources of a shaped operation have a place each
 pub length-padded : (op : Op) (xs : List Origin) → IsShaped op → length xs ≡ length (reads op) → length (padded xs) ≡ READS

@@ -4,10 +4,9 @@ use Rattle.std.proofs.lemmas.List.{length-map, length-take, take_all, get_or-app
 use Rattle.std.proofs.lemmas.List.Edits.{map_over_more}
 use Rattle.morph_base.specs.declared.key.Key.{Key}
 use Rattle.morph_base.specs.declared.plan.Origin.{Origin}
-use Rattle.morph_base.specs.declared.operation.Op.{Op}
 use Rattle.morph_base.specs.declared.plan.Origin.TheVariants.{Base, Op as Written}
 use Rattle.morph_base.specs.declared.plan.PlanOp.{PlanOp}
-use Rattle.morph_base.specs.Operations.{IsShaped, reads, no_key}
+use Rattle.morph_base.specs.Operations.{reads, no_key}
 use Rattle.morph_base.specs.States.{State}
 use Rattle.morph_base.specs.Plans.{filled, filled_in}
 use Rattle.version_table.specs.Filling.{filled_origin}
@@ -36,13 +35,6 @@ more s (k ∷ ks) (o ∷ os) (suc j) d e lt lt' =
 pub filled_in-more : (s : State) (ks : List Key) (os : List Origin) (j : ℕ) (d : Key) (e : Origin) → j < length ks → j < length os →
     set (filled_in s (take j ks) os) j (filled_origin s (get_or ks j d) (get_or (filled_in s (take j ks) os) j e)) ≡ filled_in s (take (j + 1) ks) os
 filled_in-more s ks os j d e lt lt' = more s ks os j d e lt lt' ∙ ap (λ n. filled_in s (take n ks) os) {x = suc j} {y = j + 1} (omega arith)
-
--- how many keys an operation reads
-pub length-reads : (op : Op) → IsShaped op → length (reads op) ≡ op.n_params + 1
-length-reads op shaped =
-    let held = shaped.held in
-    let taken : length (take op.n_params op.params) ≡ op.n_params = simp length-take (omega arith) in
-    omega arith
 
 abbrev pub with_origins : PlanOp → List Origin → PlanOp
 with_origins q origins = record q { origins = origins }

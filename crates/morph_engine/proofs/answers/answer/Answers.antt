@@ -3,7 +3,7 @@ use Rattle.morph_base.specs.declared.plan.PlanOp.{PlanOp}
 use Rattle.morph_base.specs.Functions.{value_of}
 use Rattle.morph_base.specs.Clean.{from}
 use Rattle.morph_base.specs.Plans.{op_at, keys_of, origins_of, no_plan_op, final}
-use Rattle.version_table.proofs.Filled.{length-reads}
+use Rattle.morph_base.proofs.PlainLaws.{length-reads}
 use Rattle.morph_engine.proofs.Reading.{sources_small, sources_read}
 use Rattle.morph_engine.proofs.answers.answer.Goals as goal
 

@@ -2,7 +2,8 @@ use Rattle.std.proofs.Common.{◌<◌, ap, sym, arith, length, length-set}
 use Rattle.morph_base.specs.declared.plan.Origin.{Origin}
 use Rattle.morph_base.specs.Operations.{reads}
 use Rattle.morph_base.specs.Flat.{contents}
-use Rattle.version_table.proofs.Filled.{filled_in-none, fill_one, length-reads, with_origins}
+use Rattle.morph_base.proofs.PlainLaws.{length-reads}
+use Rattle.version_table.proofs.Filled.{filled_in-none, fill_one, with_origins}
 use Rattle.version_table.proofs.filling.fill.Goals as goal
 
 pub loop-j-init : goal.loop-j-init

@@ -6,7 +6,7 @@ use Rattle.morph_cli.specs.declared.fault.Fault.{Fault}
 use Rattle.morph_cli.specs.declared.fault.Fault.TheVariants.{Read, Write}
 use Rattle.morph_cli.specs.declared.run.Finish.{Finish}
 use Rattle.morph_cli.specs.declared.settings.Settings.{Settings}
-use Rattle.morph_cli.specs.Apps.{meaning_of, layout_of, name_of}
+use Rattle.morph_cli.specs.Apps.{meaning_of, telling_of}
 use Rattle.morph_cli.specs.Runs.{EndsSo}
 use Rattle.morph_cli.specs.Status.{status_of}
 use Rattle.morph_cli.specs.Headline.{Headline, Completes}
@@ -17,20 +17,20 @@ asked_so : (P : Settings → Type 0) (asked : Option Settings) (s : Settings) �
 asked_so P asked s is holds = subst (λ o. IfSome o P) (sym is) holds
 
 abbrev Ends : Settings → (told left old : Option (List ℕ)) → Result Finish Fault → (new : Option (List ℕ)) → Type 0
-Ends s told left old r new = IfSome told (λ input. EndsSo (meaning_of s) (layout_of s) (name_of s) INPUT_BYTES input left old r new)
+Ends s told left old r new = IfSome told (λ input. EndsSo (meaning_of s) (telling_of s) INPUT_BYTES input left old r new)
 
 pub headline_asked : (asked : Option Settings) (s : Settings) (told left old new : Option (List ℕ)) (r : Result Finish Fault) (status : ℕ) →
     asked ≡ Some s → status ≡ status_of r → Ends s told left old r new →
-    IfSome asked (λ s. IfSome told (λ input. Headline (meaning_of s) (layout_of s) (name_of s) INPUT_BYTES input left old new status))
+    IfSome asked (λ s. IfSome told (λ input. Headline (meaning_of s) (telling_of s) INPUT_BYTES input left old new status))
 headline_asked asked s told left old new r status is status_is ends =
-    asked_so (λ s. IfSome told (λ input. Headline (meaning_of s) (layout_of s) (name_of s) INPUT_BYTES input left old new status)) asked s is (by_told told ends)
+    asked_so (λ s. IfSome told (λ input. Headline (meaning_of s) (telling_of s) INPUT_BYTES input left old new status)) asked s is (by_told told ends)
   where
     by_told : (told : Option (List ℕ)) → Ends s told left old r new
-        → IfSome told (λ input. Headline (meaning_of s) (layout_of s) (name_of s) INPUT_BYTES input left old new status)
+        → IfSome told (λ input. Headline (meaning_of s) (telling_of s) INPUT_BYTES input left old new status)
     by_told None ends = tt
     by_told (Some input) ends =
-        subst (λ n. Headline (meaning_of s) (layout_of s) (name_of s) INPUT_BYTES input left old new n) (sym status_is)
-        (headline (meaning_of s) (layout_of s) (name_of s) INPUT_BYTES input left old new r ends)
+        subst (λ n. Headline (meaning_of s) (telling_of s) INPUT_BYTES input left old new n) (sym status_is)
+        (headline (meaning_of s) (telling_of s) INPUT_BYTES input left old new r ends)
 
 pub completes_asked : (asked : Option Settings) (s : Settings) (told left old new : Option (List ℕ)) (r : Result Finish Fault) (status : ℕ) →
     asked ≡ Some s → status ≡ status_of r → Ends s told left old r new → (IsErrOf r Read → ⊥) → (IsErrOf r Write → ⊥) →
@@ -42,4 +42,4 @@ completes_asked asked s told left old new r status is status_is ends reads write
     by_told None ends = tt
     by_told (Some input) ends =
         subst (λ n. Completes (meaning_of s) INPUT_BYTES input n) (sym status_is)
-        (completes (meaning_of s) (layout_of s) (name_of s) INPUT_BYTES input left old new r ends reads writes)
+        (completes (meaning_of s) (telling_of s) INPUT_BYTES input left old new r ends reads writes)

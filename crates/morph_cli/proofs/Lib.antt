@@ -5,3 +5,5 @@ pub mod Ending
 pub mod Between
 pub mod Headlines
 pub mod Answering
+pub mod Asked
+pub mod Summing

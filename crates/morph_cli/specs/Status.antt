@@ -18,7 +18,7 @@ status_of (Err TooLong) = 7
 -- the last line of the notes by the status: at 0 and 3 there is none
 abbrev pub note_at : (status : ℕ) → List ℕ
 note_at status =
-    if status == 2 then line (codes "usage: morph app=ledger")
+    if status == 2 then line (codes "usage: morph app=ledger|grep|toll [name=value ...]")
     else (if status == 4 then line (codes "morph: read failed")
     else (if status == 5 then line (codes "morph: write failed")
     else (if status == 6 then line (codes "morph: out of memory")

@@ -1,10 +1,10 @@
 ghost use Rattle.std.specs.Prelude.{◌≡◌, ◌≤◌, None, map, IfSome, IsErrOf};
 ghost use Rattle.morph_io.specs.Told.{behind, HasRisen, AppendsPrefix};
 ghost use Rattle.event_reader.specs.declared.limits.TheConstants.{INPUT_BYTES};
-ghost use Rattle.morph_cli.specs.Apps.{meaning_of, layout_of, name_of};
+ghost use Rattle.morph_cli.specs.Apps.{meaning_of, telling_of};
 ghost use Rattle.morph_cli.specs.Headline.{Headline, Completes};
 ghost use Rattle.morph_cli.specs.Runs.{EndsSo};
-ghost use Rattle.morph_cli.specs.Settings.{settings_of};
+ghost use Rattle.morph_cli.specs.Settings.{AreInRange, settings_of};
 ghost use Rattle.morph_cli.specs.Status.{note_at, IsStatus};
 
 use crate::ended::{Ended, USAGE, USAGE_STATUS, note_of, status};
@@ -25,14 +25,13 @@ fn run_app<S: Source, K: Sink>(
     source: &mut S,
     sink: &mut K,
 ) -> Result<Finish, Fault>
-    requires { 1 ≤ settings.size }
-    ensures ends { IfSome (S.left source.old) (λ input. EndsSo (meaning_of settings) (layout_of settings) (name_of settings)
-        INPUT_BYTES input (S.left source.new) (K.written sink.old) result (K.written sink.new)) }
+    requires { AreInRange settings }
+    ensures ends { IfSome (S.left source.old) (λ input. EndsSo (meaning_of settings) (telling_of settings) INPUT_BYTES input (S.left source.new) (K.written sink.old) result (K.written sink.new)) }
     ensures read { IsErrOf result Fault.Read → HasRisen (S.faults source.old) (S.faults source.new) }
     ensures write { IsErrOf result Fault.Write → HasRisen (K.faults sink.old) (K.faults sink.new) }
 {
     match settings.app {
-        App::Ledger => run(alloc, Ledger, settings.size, source, sink),
+        _ => run(alloc, Ledger, settings, source, sink),
     }
 }
 
@@ -52,7 +51,7 @@ pub fn morph<S: Source, K: Sink, N: Sink>(
     ensures usage { (result.status ≡ 2 → settings_of (map (λ word. word.items) words.now) ≡ None) × (settings_of (map (λ word. word.items) words.now) ≡ None → result.status ≡ 2) }
     ensures untouched { result.status ≡ 2 → (source.new ≡ source.old) × (sink.new ≡ sink.old) }
     ensures headline { IfSome (settings_of (map (λ word. word.items) words.now)) (λ s. IfSome (S.left source.old) (λ input.
-        Headline (meaning_of s) (layout_of s) (name_of s) INPUT_BYTES input (S.left source.new) (K.written sink.old) (K.written sink.new) result.status)) }
+        Headline (meaning_of s) (telling_of s) INPUT_BYTES input (S.left source.new) (K.written sink.old) (K.written sink.new) result.status)) }
     ensures completes { (HasRisen (S.faults source.old) (S.faults source.new) → ⊥) → (HasRisen (K.faults sink.old) (K.faults sink.new) → ⊥)
         → IfSome (settings_of (map (λ word. word.items) words.now)) (λ s. IfSome (S.left source.old) (λ input.
         Completes (meaning_of s) INPUT_BYTES input result.status)) }

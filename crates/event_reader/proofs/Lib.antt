@@ -10,3 +10,6 @@ pub mod Batching
 pub mod Stepping
 pub mod Fronts
 pub mod NumberLists
+pub mod PlainLines
+pub mod Ids
+pub mod Drawing

@@ -12,6 +12,7 @@ mod limits;
 mod lines;
 mod number;
 mod pending;
+mod plain;
 mod ranges;
 #[cfg(test)]
 mod tests;
@@ -25,10 +26,11 @@ pub use cause::{Cause, LineFault};
 pub use draws::Draws;
 pub use fault::ReaderFault;
 pub use limits::{
-    BUFFER_BYTES, DECIDING_BYTES, GREATEST_NUMBER, INPUT_BYTES, LINE_WORDS, LONGEST_LINE,
-    NAME_BYTES,
+    BUFFER_BYTES, DECIDING_BYTES, GENERATED_BYTES, GENERATED_EVENTS, GENERATED_IDS,
+    GREATEST_NUMBER, INPUT_BYTES, LINE_WORDS, LONGEST_LINE, NAME_BYTES,
 };
 pub use lines::Lines;
 pub use number::{Number, read_number};
-pub use ranges::Range;
+pub use plain::write_line;
+pub use ranges::{AMOUNTS, Range, TIMES};
 pub use words::Words;

@@ -2,9 +2,9 @@ ghost use Rattle.std.specs.Prelude.{◌≡◌, ◌<◌, ◌≤◌, IfOk};
 ghost use Rattle.event_reader.specs.declared.limits.TheConstants.{INPUT_BYTES};
 
 use crate::{ACCOUNTS, ASSETS, Ledger};
-use event_reader::{BatchReader, Cause, EventApp, INPUT_BYTES, Next, ReaderFault, Words};
+use event_reader::{BatchReader, Cause, Draws, EventApp, INPUT_BYTES, Next, ReaderFault, Words};
 use morph_base::{Func, Key, List, Op, OutOfMemory};
-use morph_io::MemSource;
+use morph_io::{LineBuf, MemSource};
 use std::alloc::{AllocError, Global};
 use std::test::Fail;
 
@@ -348,4 +348,20 @@ fn words_give_the_operations_of_their_line(rt: HostRuntime) -> Result<(), Fail> 
     assert_eq!(rt; Ledger.table_name(ACCOUNTS), "acct");
     assert_eq!(rt; Ledger.table_name(ASSETS), "asset");
     Ok(())
+}
+
+#[test]
+fn lines_are_generated_by_draws_in_order(rt: HostRuntime) {
+    let rows: [(u64, u32, &[u8]); 4] = [
+        (0, 10_000, b"X 1 6424 1937 5236 125 891 184"),
+        (0, 2, b"X 1 0 1 0 1 891 184"),
+        (0, 1, b"D 1 0 0 236 125"),
+        (7, 2, b"X 1 1 0 1 0 219 864"),
+    ];
+    for (seed, size, text) in rows {
+        let mut line = LineBuf::new();
+        assert!(rt; size >= 1 && size <= 1_000_000);
+        Ledger.generate(&mut Draws::new(seed), 1, size, &mut line);
+        assert_eq!(rt; line.bytes(), text, "seed {seed} and size {size}");
+    }
 }

@@ -1,4 +1,3 @@
-use Rattle.std.proofs.Common.{◌≡◌}
 use Rattle.std.specs.Prelude.{IsTrue, Some}
 use Rattle.morph_io.specs.Told.{IsAtEnd}
 use Rattle.ledger_app.proofs.tests.read_all.Given as goal

@@ -1,0 +1,2 @@
+pub mod Distinctness
+pub mod Ids

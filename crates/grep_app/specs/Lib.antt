@@ -1,0 +1,2 @@
+pub mod Grep
+pub mod GrepLaws

@@ -1,0 +1,2 @@
+pub mod Toll
+pub mod TollLaws

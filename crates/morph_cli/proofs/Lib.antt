@@ -7,3 +7,4 @@ pub mod Headlines
 pub mod Answering
 pub mod Asked
 pub mod Summing
+pub mod Making

@@ -40,3 +40,12 @@ module _ (meaning : Meaning) (telling : Telling) (limit : ℕ) (input : List ℕ
   EndsSo left old (Err TooLong) new = (all.ending ≡ CutOff) × (new ≡ behind old (event_lines telling.report all.batches))
   EndsSo left old (Err OutOfMemory) new = AppendsBatches telling.report all.batches old new
   EndsSo left old (Err Write) new = AppendsPrefix old (whole_text telling all) new
+
+-- a run over an input that the program makes: it is read to its end, or a write fails, or memory is refused
+abbrev pub EndsMade : Result Finish Fault → Type 0
+EndsMade (Ok Complete) = Unit {0}
+EndsMade (Ok Refused) = ⊥
+EndsMade (Err Read) = ⊥
+EndsMade (Err TooLong) = ⊥
+EndsMade (Err OutOfMemory) = Unit {0}
+EndsMade (Err Write) = Unit {0}

@@ -1,7 +1,7 @@
 ghost use Rattle.std.specs.Prelude.{◌≡◌, ℕ, ◌≤◌, IfSome, IsErrOf};
 ghost use Rattle.event_reader.specs.declared.limits.TheConstants.{INPUT_BYTES};
 ghost use Rattle.morph_io.specs.Told.{HasRisen};
-ghost use Rattle.morph_cli.specs.Apps.{report_of};
+ghost use Rattle.morph_cli.specs.Apps.{telling_by};
 ghost use Rattle.morph_cli.specs.Runs.{EndsSo};
 ghost use Rattle.morph_cli.specs.Settings.{AreInRange};
 
@@ -35,7 +35,7 @@ pub fn run<A: EventApp + Copy, S: Source, K: Sink>(
 ) -> Result<Finish, Fault>
     requires { AreInRange settings }
     ensures ends { IfSome (S.left source.old) (λ input. EndsSo (A.event_of app settings.size)
-        (record { report = report_of settings; layout = record { tables = A.table_count app; size = settings.size }; name = A.name_of app }) INPUT_BYTES input (S.left source.new) (K.written sink.old) result (K.written sink.new)) }
+        (telling_by settings.generated (A.table_count app) settings.size (A.name_of app)) INPUT_BYTES input (S.left source.new) (K.written sink.old) result (K.written sink.new)) }
     ensures source_faults { S.faults source.old ≤ S.faults source.new }
     ensures sink_faults { K.faults sink.old ≤ K.faults sink.new }
     ensures read { IsErrOf result Fault.Read → HasRisen (S.faults source.old) (S.faults source.new) }

@@ -13,3 +13,5 @@ pub mod NumberLists
 pub mod PlainLines
 pub mod Ids
 pub mod Drawing
+pub mod GeneratedLaws
+pub mod GivingText

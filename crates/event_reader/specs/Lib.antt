@@ -15,3 +15,5 @@ pub mod Draws
 pub mod PlainLines
 pub mod Generated
 pub mod Ranges
+pub mod GeneratedText
+pub mod Generating

@@ -8,6 +8,8 @@ mod cause;
 mod decision;
 mod draws;
 mod fault;
+mod gen_source;
+pub mod laws;
 mod limits;
 mod lines;
 mod number;
@@ -25,9 +27,10 @@ pub use batches::BatchReader;
 pub use cause::{Cause, LineFault};
 pub use draws::Draws;
 pub use fault::ReaderFault;
+pub use gen_source::GenSource;
 pub use limits::{
-    BUFFER_BYTES, DECIDING_BYTES, GENERATED_BYTES, GENERATED_EVENTS, GENERATED_IDS,
-    GREATEST_NUMBER, INPUT_BYTES, LINE_WORDS, LONGEST_LINE, NAME_BYTES,
+    BUFFER_BYTES, DECIDING_BYTES, GENERATED_BATCH, GENERATED_BYTES, GENERATED_EVENTS,
+    GENERATED_IDS, GREATEST_NUMBER, INPUT_BYTES, LINE_WORDS, LONGEST_LINE, NAME_BYTES,
 };
 pub use lines::Lines;
 pub use number::{Number, read_number};

@@ -1,0 +1,20 @@
+//! Laws of definitions that callers of this crate cite.
+ghost use Rattle.std.specs.Prelude.{◌≡◌, ℕ, ◌<◌, ◌≤◌, length};
+ghost use Rattle.event_reader.specs.declared.limits.TheConstants.{GENERATED_EVENTS, GENERATED_IDS, INPUT_BYTES};
+ghost use Rattle.event_reader.specs.Accepted.{Ended, accepted, accepted_within};
+ghost use Rattle.event_reader.specs.GeneratedText.{generated_text};
+
+use crate::app::EventApp;
+
+/// No line of a generated text is refused, whatever the seed, and the text never meets the greatest length of an input.
+///
+/// So a run on a generated text reads all of it.
+pub fn generated_text_is_accepted<A: EventApp>()
+    ensures ended { (app : A) (size seed events : ℕ) → 0 < size → size ≤ GENERATED_IDS → events ≤ GENERATED_EVENTS
+        → (accepted (A.event_of app size) (generated_text (A.generated app size) seed events)).ending ≡ Ended }
+    ensures short { (app : A) (size seed events : ℕ) → 0 < size → size ≤ GENERATED_IDS → events ≤ GENERATED_EVENTS
+        → length (generated_text (A.generated app size) seed events) < INPUT_BYTES }
+    ensures within { (app : A) (size seed events : ℕ) → 0 < size → size ≤ GENERATED_IDS → events ≤ GENERATED_EVENTS
+        → let text = generated_text (A.generated app size) seed events in
+        accepted_within (A.event_of app size) INPUT_BYTES text ≡ accepted (A.event_of app size) text }
+{}

@@ -18,6 +18,7 @@ use Rattle.event_reader.specs.Ranges.{times, ids, amounts}
 use Rattle.event_reader.proofs.Drawing.{draw_below}
 use Rattle.event_reader.proofs.NumberLists.{in_range}
 use Rattle.event_reader.proofs.PlainLines.{IsSmall, numbers_plain, plain_event}
+use Rattle.ledger_app.specs.declared.generating.TheConstants.{DRAWN_AMOUNTS}
 use Rattle.ledger_app.specs.Ledger.{deposit, moving, deposit_ranges, transfer_ranges, deposit_of, transfer_of, ledger_event}
 use Rattle.ledger_app.specs.LedgerDraws.{apart, drawn_deposit, drawn_transfer, ledger_drawn}
 
@@ -31,7 +32,7 @@ all_small_five a b c d e h1 h2 h3 h4 h5 =
     (All-cons IsSmall d (e ∷ []) h4 (All-cons IsSmall e [] h5 (All-nil IsSmall)))))
 
 -- numbers in their ranges
-deposit_in : (size i acct ast a b : ℕ) → 0 < i → i ≤ GENERATED_EVENTS → acct < size → ast < size → a < 1000 → b < 1000
+deposit_in : (size i acct ast a b : ℕ) → 0 < i → i ≤ GENERATED_EVENTS → acct < size → ast < size → a < DRAWN_AMOUNTS → b < DRAWN_AMOUNTS
     → are_in (deposit_ranges size) (i ∷ acct ∷ ast ∷ a ∷ b ∷ []) ≡ true
 unfolding are_in
 deposit_in size i acct ast a b start last in1 in2 small small' = rw (
@@ -42,7 +43,7 @@ deposit_in size i acct ast a b start last in1 in2 small small' = rw (
   in_range amounts b (omega arith) (omega arith),
 ) refl
 
-transfer_in : (size i src dst asrc adst a b : ℕ) → 0 < i → i ≤ GENERATED_EVENTS → src < size → dst < size → asrc < size → adst < size → a < 1000 → b < 1000
+transfer_in : (size i src dst asrc adst a b : ℕ) → 0 < i → i ≤ GENERATED_EVENTS → src < size → dst < size → asrc < size → adst < size → a < DRAWN_AMOUNTS → b < DRAWN_AMOUNTS
     → are_in (transfer_ranges size) (i ∷ src ∷ dst ∷ asrc ∷ adst ∷ a ∷ b ∷ []) ≡ true
 unfolding are_in
 transfer_in size i src dst asrc adst a b start last in1 in2 in3 in4 small small' = rw (
@@ -56,7 +57,7 @@ transfer_in size i src dst asrc adst a b start last in1 in2 in3 in4 small small'
 ) refl
 
 -- the line of a deposit
-deposit_line : (size i acct ast a b : ℕ) → size ≤ GENERATED_IDS → 0 < i → i ≤ GENERATED_EVENTS → acct < size → ast < size → a < 1000 → b < 1000
+deposit_line : (size i acct ast a b : ℕ) → size ≤ GENERATED_IDS → 0 < i → i ≤ GENERATED_EVENTS → acct < size → ast < size → a < DRAWN_AMOUNTS → b < DRAWN_AMOUNTS
     → IsEventLine (ledger_event size) i (plain_line 68 (i ∷ acct ∷ ast ∷ a ∷ b ∷ []))
 deposit_line size i acct ast a b few start last in1 in2 small small' =
     let ns : List ℕ = i ∷ acct ∷ ast ∷ a ∷ b ∷ [] in
@@ -85,7 +86,7 @@ apart_differs size first second two inside = by_test (first == second) refl
     by_test false differ = differ
 
 -- the line of a transfer
-transfer_line : (size i src dst asrc adst a b : ℕ) → size ≤ GENERATED_IDS → 0 < i → i ≤ GENERATED_EVENTS → src < size → dst < size → asrc < size → adst < size → a < 1000 → b < 1000
+transfer_line : (size i src dst asrc adst a b : ℕ) → size ≤ GENERATED_IDS → 0 < i → i ≤ GENERATED_EVENTS → src < size → dst < size → asrc < size → adst < size → a < DRAWN_AMOUNTS → b < DRAWN_AMOUNTS
     → (src == dst) ≡ false → (asrc == adst) ≡ false → IsEventLine (ledger_event size) i (plain_line 88 (i ∷ src ∷ dst ∷ asrc ∷ adst ∷ a ∷ b ∷ []))
 transfer_line size i src dst asrc adst a b few start last in1 in2 in3 in4 small small' differ differ' =
     let ns : List ℕ = i ∷ src ∷ dst ∷ asrc ∷ adst ∷ a ∷ b ∷ [] in
@@ -104,7 +105,7 @@ ledger_generates size i state some few start last = by_choice (nat_lt (draw_at s
 
     deposit_at : IsEventLine (ledger_event size) i (plain_line 68 (drawn_deposit size i after))
     deposit_at = deposit_line size i _ _ _ _ few start last (draw_below after 1 size some) (draw_below after 2 size some)
-        (draw_below after 3 1000 (omega arith)) (draw_below after 4 1000 (omega arith))
+        (draw_below after 3 DRAWN_AMOUNTS (omega arith)) (draw_below after 4 DRAWN_AMOUNTS (omega arith))
 
     transfer_at : 1 < size → IsEventLine (ledger_event size) i (plain_line 88 (drawn_transfer size i after))
     transfer_at two =
@@ -113,7 +114,7 @@ ledger_generates size i state some few start last = by_choice (nat_lt (draw_at s
         let asrc = draw_below after 3 size some in
         let adst = draw_below after 4 size some in
         transfer_line size i _ _ _ _ _ _ few start last src (apart_below size _ _ src dst) asrc (apart_below size _ _ asrc adst)
-        (draw_below after 5 1000 (omega arith)) (draw_below after 6 1000 (omega arith))
+        (draw_below after 5 DRAWN_AMOUNTS (omega arith)) (draw_below after 6 DRAWN_AMOUNTS (omega arith))
         (apart_differs size (draw_at after 1 size) (draw_at after 2 size) two src) (apart_differs size (draw_at after 3 size) (draw_at after 4 size) two asrc)
 
     chosen : (one : Bool) → Drawn

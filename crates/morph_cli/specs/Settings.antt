@@ -115,7 +115,7 @@ abbrev pub settings_of : List (List ℕ) → Option Settings
 settings_of words =
     if list_all is_known words && are_once words
     then settings_by (input_of words) (number_under (codes "workers=") (from_to 1 WORKERS) DEFAULT_WORKERS words)
-        (number_under (codes "size=") (from_to 1 GREATEST_SIZE) DEFAULT_SIZE words)
+    (number_under (codes "size=") (from_to 1 GREATEST_SIZE) DEFAULT_SIZE words)
     else None
 
 -- the numbers of an input that the program makes are in their ranges

@@ -4,8 +4,8 @@ ghost use Rattle.event_reader.specs.declared.limits.TheConstants.{GREATEST_NUMBE
 ghost use Rattle.morph_cli.specs.Settings.{has_name, is_known, is_once, are_once, value_under, app_in, app_under, number_in, number_under, input_of, read_input, made_input, AreFew, AreInRange, settings_of};
 
 use crate::settings::{
-    App, DEFAULT_EVENTS, DEFAULT_SEED, DEFAULT_SIZE, DEFAULT_WORKERS,
-    GREATEST_EVENTS, GREATEST_SEED, GREATEST_SIZE, Generated, Settings,
+    App, DEFAULT_EVENTS, DEFAULT_SEED, DEFAULT_SIZE, DEFAULT_WORKERS, GREATEST_EVENTS,
+    GREATEST_SEED, GREATEST_SIZE, Generated, Settings,
 };
 use event_reader::{Number, Range, read_number};
 use morph_base::{List, WORKERS};

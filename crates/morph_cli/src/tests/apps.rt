@@ -11,11 +11,7 @@ fn cells_and_their_sums(rt: HostRuntime) -> Result<(), Fail> {
         &rt,
         &[b"app=grep"],
         &[
-            (
-                b"G 1 0 10 1 2\n",
-                0,
-                b"1 C 0 0 0\ncommitted 1 aborted 0\n",
-            ),
+            (b"G 1 0 10 1 2\n", 0, b"1 C 0 0 0\ncommitted 1 aborted 0\n"),
             (
                 b"W 1 1 6\nW 2 2 4\nG 3 0 10 1 2\nG 4 0 9 1 2\n",
                 0,
@@ -58,7 +54,9 @@ fn reports(alloc: Global, count: u64) -> Result<List<u8>, OutOfMemory> {
 
 /// Whether some bytes stand in others.
 fn has(bytes: &[u8], wanted: &[u8]) -> bool {
-    bytes.windows(wanted.len().max(1)).any(|part| part == wanted)
+    bytes
+        .windows(wanted.len().max(1))
+        .any(|part| part == wanted)
 }
 
 #[test]
@@ -101,4 +99,41 @@ fn a_made_input_is_told_by_sums(rt: HostRuntime) -> Result<(), Fail> {
             b"acct total 0\nasset total 0\ncommitted 0 aborted 0\n",
         )],
     )
+}
+
+/// The sum of the two counts in the last line of a text, which are behind `committed ` and ` aborted `.
+fn counted(text: &[u8]) -> u64 {
+    let mut sum: u64 = 0;
+    let mut number: u64 = 0;
+    let line = text
+        .split(|byte| *byte == b'\n')
+        .rev()
+        .nth(1)
+        .unwrap_or(b"");
+    for byte in line {
+        if byte.is_ascii_digit() {
+            number = number
+                .wrapping_mul(10)
+                .wrapping_add(u64::from(*byte - b'0'));
+        } else {
+            sum = sum.wrapping_add(number);
+            number = 0;
+        }
+    }
+    sum.wrapping_add(number)
+}
+
+#[test]
+fn workers_do_not_change_the_answer(rt: HostRuntime) -> Result<(), Fail> {
+    let made: [&[u8]; 3] = [b"self=ledger", b"seed=7", b"events=20000"];
+    let one = run_words(rt.alloc(), &made, b"")?;
+    let four = run_words(
+        rt.alloc(),
+        &[b"self=ledger", b"seed=7", b"events=20000", b"workers=4"],
+        b"",
+    )?;
+    assert_eq!(rt; (one.status, four.status), (0, 0));
+    assert_eq!(rt; one.sink.bytes(), four.sink.bytes());
+    assert_eq!(rt; counted(one.sink.bytes()), 20_000);
+    Ok(())
 }

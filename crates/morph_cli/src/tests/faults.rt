@@ -12,7 +12,10 @@ fn expect_usage(rt: &(impl Abort + Alloc<A = Global>), words: &[&[u8]]) -> Resul
     let ran = run_with(alloc, words, &mut source, sink_of(alloc, 50, &[], &[])?)?;
     assert_eq!(rt; ran.status, 2);
     assert_eq!(rt; ran.sink.bytes(), b"".as_slice());
-    assert_eq!(rt; ran.notes.bytes(), b"usage: morph app=ledger|grep|toll [name=value ...]\n".as_slice());
+    assert_eq!(rt;
+        ran.notes.bytes(),
+        b"usage: morph app=ledger|grep|toll [name=value ...]\n".as_slice()
+    );
     let mut rest = [0; 4];
     assert_eq!(rt; source.read(&mut rest), Ok(1));
     Ok(())

@@ -1,4 +1,5 @@
 ghost use Rattle.std.specs.Prelude.{◌≡◌, ℕ, ◌+◌, ◌<◌, ◌≤◌, length, map, IfOk, OnOk};
+ghost use Rattle.morph_base.specs.declared.limits.TheConstants.{WORKERS};
 ghost use Rattle.morph_base.specs.Flat.{contents};
 ghost use Rattle.morph_base.specs.Transactions.{IsBatch, BatchKeysIn, transactions_of, by_time};
 ghost use Rattle.morph_base.specs.States.{fold_batch};
@@ -6,18 +7,32 @@ ghost use Rattle.morph_base.specs.Outcomes.{fate_of, fates};
 ghost use Rattle.morph_base.specs.Plans.{IsPlan, IsSettledOf, event_count};
 ghost use Rattle.morph_engine.specs.Fates.{settled_fate, settled_fates};
 
-use morph_base::{Batch, List, OutOfMemory, Outcome};
+use morph_base::{Abort, Batch, Explore, List, OutOfMemory, Outcome, Strategy, Unit};
 use morph_engine::{BatchEnd, Engine};
 use std::alloc::Global;
+use std::thread::Threads;
+use worker_gate::Gate;
 
-/// Makes the plan of a batch, runs it on the engine, and tells what became of each event, by rising timestamp.
+/// How each batch is scheduled: level by level, one operation at a time, with what failed dealt with at the end.
+const STRATEGY: Strategy = Strategy {
+    unit: Unit::Op,
+    explore: Explore::Strata,
+    abort: Abort::Lazy,
+};
+
+/// Makes the plan of a batch, runs it on the engine with so many workers, and tells what became of each event, by rising timestamp.
 ///
 /// Where memory is refused, the engine may stand after the batch.
-pub fn run_batch(
+pub fn run_batch<R: Threads + Sync, G: Gate>(
+    rt: &R,
     alloc: Global,
     engine: &mut Engine,
     batch: &Batch,
+    workers: u32,
+    gate: &G,
 ) -> Result<List<Outcome>, OutOfMemory>
+    requires some_workers { 1 ≤ workers }
+    requires few_workers { workers ≤ WORKERS }
     requires batch { IsBatch batch.now }
     requires keys { BatchKeysIn engine.old.layout batch.now }
     ensures layout { engine.new.layout ≡ engine.old.layout }
@@ -25,7 +40,7 @@ pub fn run_batch(
     ensures fates { IfOk result (λ outcomes. map fate_of outcomes.items ≡ fates (contents engine.old) (by_time (transactions_of batch.now))) }
 {
     let plan = engine.plan(alloc, batch)?;
-    let end = engine.run_batch(alloc, plan)?;
+    let end = engine.run_batch(rt, alloc, plan, &STRATEGY, workers, gate)?;
     outcomes(alloc, &end)
 }
 

@@ -32,6 +32,7 @@ use std::alloc::Global;
 use std::process::ExitCode;
 use std::rt::Env;
 use std::{env, io};
+use worker_gate::FreeGate;
 
 /// The words after the program's name, as bytes. Words that are not UTF-8 are no settings, and are left out.
 fn words_of(rt: &(impl Env + Alloc<A = Global>)) -> Result<List<List<u8>>, OutOfMemory> {
@@ -58,11 +59,13 @@ fn main(rt: HostRuntime) -> ExitCode {
             let mut source = StdSource::new(rt.stdin());
             let mut sink = StdSink::new(rt.stdout());
             morph(
+                &rt,
                 rt.alloc(),
                 words.as_slice(),
                 &mut source,
                 &mut sink,
                 &mut notes,
+                &FreeGate,
             )
             .status
         }

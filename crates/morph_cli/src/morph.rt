@@ -20,15 +20,19 @@ use ledger_app::Ledger;
 use morph_base::List;
 use morph_io::{Sink, Source};
 use std::alloc::Global;
+use std::thread::Threads;
 use toll_app::Toll;
+use worker_gate::Gate;
 
 /// Runs an application over the input that the settings ask for: the source's, or one that the program makes.
-fn run_over<A: EventApp + Copy, S: Source, K: Sink>(
+fn run_over<R: Threads + Sync, A: EventApp + Copy, S: Source, K: Sink, G: Gate>(
+    rt: &R,
     alloc: Global,
     app: A,
     settings: Settings,
     source: &mut S,
     sink: &mut K,
+    gate: &G,
 ) -> Result<Finish, Fault>
     requires { AreInRange settings }
     ensures ends { IfSome (input_by settings.generated (generated_text (A.generated app settings.size)) (S.left source.old)) (λ input.
@@ -39,18 +43,20 @@ fn run_over<A: EventApp + Copy, S: Source, K: Sink>(
     ensures write { IsErrOf result Fault.Write → HasRisen (K.faults sink.old) (K.faults sink.new) }
 {
     match settings.generated {
-        None => run(alloc, app, settings, source, sink),
-        Some(generated) => run_made(alloc, app, settings, generated, sink),
+        None => run(rt, alloc, app, settings, source, sink, gate),
+        Some(generated) => run_made(rt, alloc, app, settings, generated, sink, gate),
     }
 }
 
 /// Runs an application over an input that the program makes.
-fn run_made<A: EventApp + Copy, K: Sink>(
+fn run_made<R: Threads + Sync, A: EventApp + Copy, K: Sink, G: Gate>(
+    rt: &R,
     alloc: Global,
     app: A,
     settings: Settings,
     generated: Generated,
     sink: &mut K,
+    gate: &G,
 ) -> Result<Finish, Fault>
     requires settings { AreInRange settings }
     requires generated { settings.generated ≡ Some generated }
@@ -60,15 +66,17 @@ fn run_made<A: EventApp + Copy, K: Sink>(
     ensures write { IsErrOf result Fault.Write → HasRisen (K.faults sink.old) (K.faults sink.new) }
 {
     let mut source = GenSource::new(app, generated.seed, generated.events, settings.size);
-    run(alloc, app, settings, &mut source, sink)
+    run(rt, alloc, app, settings, &mut source, sink, gate)
 }
 
 /// Runs the application that the settings name.
-fn run_app<S: Source, K: Sink>(
+fn run_app<R: Threads + Sync, S: Source, K: Sink, G: Gate>(
+    rt: &R,
     alloc: Global,
     settings: Settings,
     source: &mut S,
     sink: &mut K,
+    gate: &G,
 ) -> Result<Finish, Fault>
     requires { AreInRange settings }
     ensures ends { IfSome (input_of settings (S.left source.old)) (λ input. EndsSo (meaning_of settings) (telling_of settings)
@@ -78,9 +86,9 @@ fn run_app<S: Source, K: Sink>(
     ensures write { IsErrOf result Fault.Write → HasRisen (K.faults sink.old) (K.faults sink.new) }
 {
     match settings.app {
-        App::Ledger => run_over(alloc, Ledger, settings, source, sink),
-        App::Grep => run_over(alloc, Grep, settings, source, sink),
-        App::Toll => run_over(alloc, Toll, settings, source, sink),
+        App::Ledger => run_over(rt, alloc, Ledger, settings, source, sink, gate),
+        App::Grep => run_over(rt, alloc, Grep, settings, source, sink, gate),
+        App::Toll => run_over(rt, alloc, Toll, settings, source, sink, gate),
     }
 }
 
@@ -88,14 +96,16 @@ fn run_app<S: Source, K: Sink>(
 /// that it makes itself, writes the text to the sink, and the last line to the notes where there is one.
 ///
 /// The text is that of applying the events one transaction at a time, in the order of time within each batch, to a map
-/// that is zero everywhere. The statuses are those of [`Ended`]. A fault of writing the last line of the notes changes
+/// that is zero everywhere, for every number of workers and whatever the gate holds. The statuses are those of [`Ended`]. A fault of writing the last line of the notes changes
 /// nothing.
-pub fn morph<S: Source, K: Sink, N: Sink>(
+pub fn morph<R: Threads + Sync, S: Source, K: Sink, N: Sink, G: Gate>(
+    rt: &R,
     alloc: Global,
     words: &[List<u8>],
     source: &mut S,
     sink: &mut K,
     notes: &mut N,
+    gate: &G,
 ) -> Ended
     ensures usage { (result.status ≡ 2 → settings_of (map (λ word. word.items) words.now) ≡ None) × (settings_of (map (λ word. word.items) words.now) ≡ None → result.status ≡ 2) }
     ensures untouched { result.status ≡ 2 → (source.new ≡ source.old) × (sink.new ≡ sink.old) }
@@ -119,7 +129,7 @@ pub fn morph<S: Source, K: Sink, N: Sink>(
             status: USAGE_STATUS,
         };
     };
-    let end = run_app(alloc, settings, source, sink);
+    let end = run_app(rt, alloc, settings, source, sink, gate);
     write_note(notes, note_of(&end));
     Ended {
         status: status(&end),

@@ -15,6 +15,8 @@ use morph_base::Layout;
 use morph_engine::Engine;
 use morph_io::{Out, Sink, Source};
 use std::alloc::Global;
+use std::thread::Threads;
+use worker_gate::Gate;
 
 /// How a run came to an end.
 #[derive(Clone, Copy, Debug, PartialEq, Eq)]
@@ -26,12 +28,14 @@ pub enum Finish {
 }
 
 /// Runs an application over an input: batch by batch, each written whole before the next is read.
-pub fn run<A: EventApp + Copy, S: Source, K: Sink>(
+pub fn run<R: Threads + Sync, A: EventApp + Copy, S: Source, K: Sink, G: Gate>(
+    rt: &R,
     alloc: Global,
     app: A,
     settings: Settings,
     source: &mut S,
     sink: &mut K,
+    gate: &G,
 ) -> Result<Finish, Fault>
     requires { AreInRange settings }
     ensures ends { IfSome (S.left source.old) (λ input. EndsSo (A.event_of app settings.size)
@@ -55,7 +59,7 @@ pub fn run<A: EventApp + Copy, S: Source, K: Sink>(
     'batches: loop {
         match reader.next_batch(alloc, source)? {
             Next::Batch(batch) => {
-                let outcomes = run_batch(alloc, &mut engine, &batch)?;
+                let outcomes = run_batch(rt, alloc, &mut engine, &batch, settings.workers, gate)?;
                 write_events(&mut out, sink, settings.report(), outcomes.as_slice())?;
                 counts.add(outcomes.as_slice());
             }

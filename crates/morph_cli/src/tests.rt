@@ -9,6 +9,8 @@ use morph_io::{MemSink, MemSource, Sink, Source};
 use std::alloc::Global;
 use std::process::Abort;
 use std::test::Fail;
+use std::thread::Threads;
+use worker_gate::FreeGate;
 
 /// The words that ask for the ledger.
 const LEDGER: &[&[u8]] = &[b"app=ledger"];
@@ -55,18 +57,20 @@ fn sink_of(
 }
 
 /// Runs the program, and answers its status alone.
-fn status_of_run<S: Source, K: Sink, N: Sink>(
+fn status_of_run<R: Threads + Sync, S: Source, K: Sink, N: Sink>(
+    rt: &R,
     alloc: Global,
     words: &[List<u8>],
     source: &mut S,
     sink: &mut K,
     notes: &mut N,
 ) -> u8 {
-    morph(alloc, words, source, sink, notes).status
+    morph(rt, alloc, words, source, sink, notes, &FreeGate).status
 }
 
 /// Runs the program with these words, and tells what it left.
-fn run_with(
+fn run_with<R: Threads + Sync>(
+    rt: &R,
     alloc: Global,
     words: &[&[u8]],
     source: &mut MemSource,
@@ -74,7 +78,7 @@ fn run_with(
 ) -> Result<Ran, OutOfMemory> {
     let words = words_of(alloc, words)?;
     let mut notes = sink_of(alloc, 1000, &[], &[])?;
-    let status = status_of_run(alloc, words.as_slice(), source, &mut sink, &mut notes);
+    let status = status_of_run(rt, alloc, words.as_slice(), source, &mut sink, &mut notes);
     Ok(Ran {
         status,
         sink,
@@ -83,9 +87,10 @@ fn run_with(
 }
 
 /// Runs the program with these words on an input that comes in pieces of a thousand bytes.
-fn run_words(alloc: Global, words: &[&[u8]], input: &[u8]) -> Result<Ran, OutOfMemory> {
+fn run_words<R: Threads + Sync>(rt: &R, alloc: Global, words: &[&[u8]], input: &[u8]) -> Result<Ran, OutOfMemory> {
     let mut source = source_of(alloc, input, 1000, &[])?;
     run_with(
+        rt,
         alloc,
         words,
         &mut source,
@@ -95,12 +100,12 @@ fn run_words(alloc: Global, words: &[&[u8]], input: &[u8]) -> Result<Ran, OutOfM
 
 /// Runs the program with these words over each input, and expects this status and text, and no notes.
 fn expect(
-    rt: &(impl Abort + Alloc<A = Global>),
+    rt: &(impl Threads + Sync + Abort + Alloc<A = Global>),
     words: &[&[u8]],
     runs: &[(&[u8], u8, &[u8])],
 ) -> Result<(), Fail> {
     for (input, status, text) in runs {
-        let ran = run_words(rt.alloc(), words, input)?;
+        let ran = run_words(rt, rt.alloc(), words, input)?;
         assert_eq!(rt; ran.status, *status);
         assert_eq!(rt; ran.sink.bytes(), *text);
         assert_eq!(rt; ran.notes.bytes(), b"".as_slice());

@@ -79,7 +79,7 @@ fn a_full_segment_is_tolled_up_to_the_limit(rt: HostRuntime) -> Result<(), Fail>
     ];
     for (count, parts) in runs {
         let input = reports(rt.alloc(), count)?;
-        let ran = run_words(rt.alloc(), &[b"app=toll", b"size=1000"], input.as_slice())?;
+        let ran = run_words(&rt, rt.alloc(), &[b"app=toll", b"size=1000"], input.as_slice())?;
         assert_eq!(rt; ran.status, 0);
         for part in parts {
             assert!(rt; has(ran.sink.bytes(), part));
@@ -126,8 +126,9 @@ fn counted(text: &[u8]) -> u64 {
 #[test]
 fn workers_do_not_change_the_answer(rt: HostRuntime) -> Result<(), Fail> {
     let made: [&[u8]; 3] = [b"self=ledger", b"seed=7", b"events=20000"];
-    let one = run_words(rt.alloc(), &made, b"")?;
+    let one = run_words(&rt, rt.alloc(), &made, b"")?;
     let four = run_words(
+        &rt,
         rt.alloc(),
         &[b"self=ledger", b"seed=7", b"events=20000", b"workers=4"],
         b"",

@@ -4,12 +4,13 @@ use morph_io::Source;
 use std::alloc::Global;
 use std::process::Abort;
 use std::test::Fail;
+use std::thread::Threads;
 
 /// Runs the program with these words, and expects that nothing but the usage is written, and nothing read.
-fn expect_usage(rt: &(impl Abort + Alloc<A = Global>), words: &[&[u8]]) -> Result<(), Fail> {
+fn expect_usage(rt: &(impl Threads + Sync + Abort + Alloc<A = Global>), words: &[&[u8]]) -> Result<(), Fail> {
     let alloc = rt.alloc();
     let mut source = source_of(alloc, b"P", 50, &[])?;
-    let ran = run_with(alloc, words, &mut source, sink_of(alloc, 50, &[], &[])?)?;
+    let ran = run_with(rt, alloc, words, &mut source, sink_of(alloc, 50, &[], &[])?)?;
     assert_eq!(rt; ran.status, 2);
     assert_eq!(rt; ran.sink.bytes(), b"".as_slice());
     assert_eq!(rt;
@@ -51,7 +52,7 @@ fn words_that_are_no_settings(rt: HostRuntime) -> Result<(), Fail> {
 fn a_read_fails(rt: HostRuntime) -> Result<(), Fail> {
     let alloc = rt.alloc();
     let mut source = source_of(alloc, b"D 1 0 0 1 1\nP\nD 2 0 0 1 1\n", 14, &[2])?;
-    let ran = run_with(alloc, LEDGER, &mut source, sink_of(alloc, 50, &[], &[])?)?;
+    let ran = run_with(&rt, alloc, LEDGER, &mut source, sink_of(alloc, 50, &[], &[])?)?;
     assert_eq!(rt; ran.status, 4);
     assert_eq!(rt; ran.sink.bytes(), b"1 C 1 1\n".as_slice());
     assert_eq!(rt; ran.notes.bytes(), b"morph: read failed\n".as_slice());
@@ -60,13 +61,13 @@ fn a_read_fails(rt: HostRuntime) -> Result<(), Fail> {
 
 /// Runs the ledger on one deposit, into a sink whose second call is to fail, and expects its first three bytes.
 fn expect_front(
-    rt: &(impl Abort + Alloc<A = Global>),
+    rt: &(impl Threads + Sync + Abort + Alloc<A = Global>),
     fail: &[u64],
     stall: &[u64],
 ) -> Result<(), Fail> {
     let alloc = rt.alloc();
     let mut source = source_of(alloc, b"D 1 0 0 100 5\n", 50, &[])?;
-    let ran = run_with(alloc, LEDGER, &mut source, sink_of(alloc, 3, fail, stall)?)?;
+    let ran = run_with(rt, alloc, LEDGER, &mut source, sink_of(alloc, 3, fail, stall)?)?;
     assert_eq!(rt; ran.status, 5);
     assert_eq!(rt; ran.sink.bytes(), b"1 C".as_slice());
     assert_eq!(rt; ran.notes.bytes(), b"morph: write failed\n".as_slice());

@@ -139,7 +139,7 @@ fn a_comment_has_at_most_a_thousand_bytes(rt: HostRuntime) -> Result<(), Fail> {
     ];
     for (bytes, status, text) in runs {
         let input = comment_of(rt.alloc(), bytes)?;
-        let ran = run_words(rt.alloc(), LEDGER, input.as_slice())?;
+        let ran = run_words(&rt, rt.alloc(), LEDGER, input.as_slice())?;
         assert_eq!(rt; ran.status, status);
         assert_eq!(rt; ran.sink.bytes(), text);
     }
@@ -165,13 +165,13 @@ fn deposits(alloc: Global, count: u64) -> Result<List<u8>, OutOfMemory> {
 #[test]
 fn a_batch_has_at_most_10240_events(rt: HostRuntime) -> Result<(), Fail> {
     let input = deposits(rt.alloc(), 10_240)?;
-    let ran = run_words(rt.alloc(), LEDGER, input.as_slice())?;
+    let ran = run_words(&rt, rt.alloc(), LEDGER, input.as_slice())?;
     let end = b"10240 C 10240 0\nacct 0 10240\ncommitted 10240 aborted 0\n";
     assert_eq!(rt; ran.status, 0);
     assert!(rt; ran.sink.bytes().ends_with(end));
 
     let input = deposits(rt.alloc(), 10_241)?;
-    let ran = run_words(rt.alloc(), LEDGER, input.as_slice())?;
+    let ran = run_words(&rt, rt.alloc(), LEDGER, input.as_slice())?;
     assert_eq!(rt; ran.status, 3);
     assert_eq!(rt; ran.sink.bytes(), b"refused line 10241: full\n".as_slice());
     Ok(())

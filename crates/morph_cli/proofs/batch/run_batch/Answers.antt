@@ -10,6 +10,6 @@ in_both (Ok x) P holds = holds
 in_both (Err e) P holds = tt
 
 pub returns-clause-state : goal.returns-clause-state
-returns-clause-state c =
+returns-clause-state g c =
     in_both c.outcomes.result _
     (c.in_ok-end.ensures.state ∙ state_at-fold c.args.batch.now c.in_ok-plan.plan (contents c.args.engine.now) c.in_ok-plan.ensures.events)

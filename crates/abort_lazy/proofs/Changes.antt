@@ -1,11 +1,11 @@
 -- Changes of attempts: one operation, one after another, and one pass over those of another.
-use Rattle.std.proofs.Common.{◌≡◌, ◌≢◌, ℕ, ◌+◌, ◌<◌, ◌≤◌, List, [], length, map, get_or, set, refl, sym, ap, ◌∙◌, inl, inr, arith, subst, All, length-set}
+use Rattle.std.proofs.Common.{◌≡◌, ◌≢◌, ℕ, ◌+◌, ◌<◌, ◌≤◌, List, [], length, get_or, set, refl, sym, ap, ◌∙◌, inl, inr, arith, subst, All, length-set}
 use Rattle.std.proofs.lemmas.List.{get_or-set_same, get_or-set_other, set-get_or, length-map}
 use Rattle.std.proofs.lemmas.Bool.{cases_lt}
 use Rattle.morph_base.specs.declared.limits.TheConstants.{MAX}
 use Rattle.morph_base.specs.declared.plan.Plan.{Plan}
 use Rattle.morph_base.specs.declared.word.OpWord.{OpWord}
-use Rattle.morph_base.specs.Plans.{IsPlan, op_count, op_at, keys_of, final}
+use Rattle.morph_base.specs.Plans.{IsPlan, op_at, final}
 use Rattle.abort_lazy.specs.declared.attempts.Attempts.{Attempts}
 use Rattle.abort_lazy.specs.Attempts.{AreMadeFor, IsTried, evaluated, word_at, records_at, records_in, blocked}
 use Rattle.abort_lazy.specs.Settling.{settled_sources, RestsOnSettled, IsKept, AreChanged}

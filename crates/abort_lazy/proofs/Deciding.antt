@@ -1,15 +1,15 @@
 -- The verdict on an event and the values of its operations, once all of them rest on settled values.
-use Rattle.std.proofs.Common.{◌≡◌, ◌≢◌, ℕ, ◌+◌, ◌<◌, ◌≤◌, Bool, true, false, Option, Some, None, IsSome, if◌then◌else◌, List, length, get_or, refl, sym, ap, ◌∙◌, subst, arith}
+use Rattle.std.proofs.Common.{◌≡◌, ◌≢◌, ℕ, ◌<◌, ◌≤◌, Bool, true, false, Option, Some, None, IsSome, if◌then◌else◌, List, get_or, refl, sym, ap, ◌∙◌}
 use Rattle.morph_base.specs.declared.plan.Plan.{Plan}
 use Rattle.morph_base.specs.declared.word.OpState.{OpState}
 use Rattle.morph_base.specs.declared.word.OpState.TheVariants.{Executed, Failed}
 use Rattle.morph_base.specs.declared.word.OpWord.{OpWord}
-use Rattle.morph_base.specs.Clean.{source, outcome}
-use Rattle.morph_base.specs.Plans.{IsPlan, op_count, op_at, event_of, keys_of, final, verdict}
+use Rattle.morph_base.specs.Clean.{outcome}
+use Rattle.morph_base.specs.Plans.{IsPlan, op_count, op_at, event_of, final, verdict}
 use Rattle.morph_base.proofs.KnownLaws.{final_committed, final_aborted}
 use Rattle.abort_lazy.specs.declared.attempts.Attempts.{Attempts}
 use Rattle.abort_lazy.specs.Attempts.{word_of, evaluated, word_at, records_at}
-use Rattle.abort_lazy.specs.Settling.{settled_sources, settled_state, last_attempt, checked, settling, settled_word, RestsOnSettled, IsKept, AreChanged}
+use Rattle.abort_lazy.specs.Settling.{settled_sources, differ, last_attempt, checked, settling, settled_word, RestsOnSettled, IsKept, AreChanged}
 use Rattle.abort_lazy.proofs.Made.{places_some}
 use Rattle.abort_lazy.proofs.Reading.{source_in}
 
@@ -62,6 +62,14 @@ module _ (p : Plan) (a : Attempts) (o : ℕ) (rests : RestsOnSettled p a o) wher
 -- the word that it settles with rests on its attempt alone
 pub settling_kept : (p : Plan) (a b : Attempts) (o : ℕ) → IsKept a b o → settling p b o ≡ settling p a o
 settling_kept p a b o same = same_word (settling p b o) (settling p a o) refl (ap (λ (w : OpWord). w.attempt) same.word) refl refl
+
+-- the word that it is compared to rests on its records alone
+pub checked_kept : (p : Plan) (a b : Attempts) (o : ℕ) → IsKept a b o → checked p b o ≡ checked p a o
+checked_kept p a b o same = ap (λ (xs : List ℕ). evaluated (if differ p o xs then 2 else 1) (op_at p o).op (settled_sources p o)) same.records
+
+pub settled_word_kept : (p : Plan) (a b : Attempts) (o : ℕ) → IsKept a b o → settled_word p b o ≡ settled_word p a o
+settled_word_kept p a b o same =
+    same_word (settled_word p b o) (settled_word p a o) refl (ap (λ (xs : List ℕ). if differ p o xs then 2 else 1) same.records) refl refl
 
 -- ---- one that was compared with settled values
 

@@ -6,3 +6,4 @@ pub mod Reading
 pub mod Changes
 pub mod Deciding
 pub mod Outdated
+pub mod Redoing

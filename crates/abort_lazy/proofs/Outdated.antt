@@ -1,12 +1,10 @@
 -- Whether records are the settled values of the sources, as a test; and what first attempts on the sources' words come to.
-use Rattle.std.proofs.Common.{◌≡◌, ◌≢◌, ℕ, ◌+◌, ◌<◌, ◌≤◌, ◌==◌, ◌||◌, Bool, true, false, not, List, [], ◌∷◌, Option, None, Some, unwrap_or, map, count_by, length, get_or, refl, sym, ap, ◌∙◌, inl, inr, arith, zero-lt-suc, zero-add}
+use Rattle.std.proofs.Common.{◌≡◌, ◌≢◌, ℕ, ◌<◌, ◌==◌, ◌||◌, Bool, true, false, not, List, [], ◌∷◌, Option, None, Some, unwrap_or, map, length, get_or, refl, sym, ap, ◌∙◌, inl, inr, arith, zero-add}
 use Rattle.std.specs.List.{list_any}
-use Rattle.std.proofs.Math.Path.{ap₂}
 use Rattle.std.proofs.lemmas.Bool.{cases_Bool, false≢true, true≢false}
 use Rattle.std.proofs.lemmas.Bool.Decides.{eqb_tells}
 use Rattle.std.proofs.lemmas.List.Folds.{list_any_none, list_any_at}
 use Rattle.std.proofs.lemmas.List.FromFn.{length-range_with_len, get_or-range_with_len}
-use Rattle.morph_base.specs.declared.plan.Origin.{Origin}
 use Rattle.morph_base.specs.declared.plan.Plan.{Plan}
 use Rattle.morph_base.specs.declared.word.OpWord.{OpWord}
 use Rattle.morph_base.specs.Clean.{from, source, outcome}
@@ -25,7 +23,6 @@ use Rattle.abort_lazy.proofs.Counts.{count-same}
 -- ---- records against settled values
 
 module _ (p : Plan) (o : ℕ) (xs : List ℕ) where
-
   pub differ-none : IsPlan p → o < op_count p → xs ≡ settled_sources p o → differ p o xs ≡ false
   unfolding differ
   differ-none valid lt is =

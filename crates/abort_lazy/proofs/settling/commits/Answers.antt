@@ -1,12 +1,12 @@
-use Rattle.std.proofs.Common.{◌≡◌, ◌≢◌, ◌+◌, ◌≤◌, ◌<◌, ◌∙◌, ℕ, true, false, IsSome, length, ap, sym, refl, subst, arith, inl, inr}
+use Rattle.std.proofs.Common.{◌≡◌, ◌≢◌, ◌∙◌, IsSome, ap, sym, subst, arith, inl, inr}
 use Rattle.std.proofs.lemmas.Bool.{cases_eq, false≢true}
 use Rattle.morph_base.specs.declared.word.OpState.TheVariants.{Failed}
 use Rattle.morph_base.specs.declared.word.OpWord.{OpWord}
 use Rattle.morph_base.specs.Clean.{outcome}
-use Rattle.morph_base.specs.Plans.{event_at, event_of, no_event, verdict, final}
+use Rattle.morph_base.specs.Plans.{no_event, final}
 use Rattle.morph_base.proofs.KnownLaws.{commits_from, aborts_from}
 use Rattle.abort_lazy.specs.Attempts.{word_at, blocked}
-use Rattle.abort_lazy.proofs.Numbers.{end_of, read_event, reached, reached_end, own}
+use Rattle.abort_lazy.proofs.Numbers.{read_event, reached, reached_end, own}
 use Rattle.abort_lazy.proofs.Deciding.{failed_none, not_failed_some}
 use Rattle.abort_lazy.proofs.settling.commits.Goals as goal
 

@@ -1,8 +1,8 @@
-use Rattle.std.proofs.Common.{◌≡◌, ◌<◌, ◌+◌, ◌≤◌, ◌∙◌, ℕ, List, length, ap, sym, refl, subst, arith, get_or, replicate, [], ◌∷◌, ◌++◌}
+use Rattle.std.proofs.Common.{◌≡◌, ◌<◌, ◌∙◌, ℕ, List, length, ap, refl, arith, get_or, [], ◌∷◌, ◌++◌}
 use Rattle.std.proofs.lemmas.List.{replicate_more}
 use Rattle.morph_base.specs.declared.word.OpWord.{OpWord}
 use Rattle.morph_base.specs.Plans.{final}
-use Rattle.abort_lazy.specs.Attempts.{blocked, records_at}
+use Rattle.abort_lazy.specs.Attempts.{blocked}
 use Rattle.abort_lazy.specs.Settling.{settled_sources, settled_state, settling}
 use Rattle.abort_lazy.proofs.Made.{pushed, records_read, no_list}
 use Rattle.abort_lazy.proofs.Changes.{word_changed}

@@ -1,9 +1,7 @@
-use Rattle.std.proofs.Common.{◌≡◌, ◌+◌, ◌≤◌, ◌<◌, ◌∙◌, ℕ, ap, sym, refl, subst, arith}
-use Rattle.morph_base.specs.declared.word.OpState.{OpState}
-use Rattle.morph_base.specs.declared.word.OpWord.{OpWord}
-use Rattle.morph_base.specs.Plans.{event_at, event_of, no_event, verdict, final}
+use Rattle.std.proofs.Common.{◌+◌, ◌∙◌, ap, sym, refl, subst, arith}
+use Rattle.morph_base.specs.Plans.{event_at, no_event, verdict}
 use Rattle.abort_lazy.specs.Rooms.{AreSettledSoFar}
-use Rattle.abort_lazy.specs.Settling.{settled_sources, settled_state, settling, AreChanged}
+use Rattle.abort_lazy.specs.Settling.{settled_sources, settling, AreChanged}
 use Rattle.abort_lazy.proofs.Numbers.{read_event, reached, reached_end, own}
 use Rattle.abort_lazy.proofs.Changes.{changed_none, changed_more, made_still, rests_kept}
 use Rattle.abort_lazy.proofs.Deciding.{settling_kept}

@@ -1,9 +1,9 @@
-use Rattle.std.proofs.Common.{◌≡◌, ◌<◌, ◌≤◌, ◌+◌, ◌≢◌, ℕ, ap, ◌∙◌, sym, subst, arith, length, get_or, set, below_more, length-set, get_or-set_same, get_or-set_other}
+use Rattle.std.proofs.Common.{◌≡◌, ◌<◌, ◌≢◌, ap, ◌∙◌, sym, subst, arith, length, get_or, below_more, length-set, get_or-set_same, get_or-set_other}
 use Rattle.morph_base.specs.declared.plan.Origin.TheVariants.{Base}
 use Rattle.morph_base.specs.declared.plan.PlanOp.{PlanOp}
 use Rattle.morph_base.specs.Clean.{from, source}
 use Rattle.morph_base.specs.Known.{IsKnown}
-use Rattle.morph_base.specs.Plans.{op_at, keys_of, origin_at, no_plan_op, final}
+use Rattle.morph_base.specs.Plans.{keys_of, no_plan_op, final}
 use Rattle.abort_lazy.proofs.Made.{places_of, places_some}
 use Rattle.abort_lazy.proofs.Reading.{source_known, source_read, front_read}
 use Rattle.abort_lazy.proofs.sources.read_settled.Goals as goal

@@ -116,7 +116,8 @@ fn redo(plan: &Plan, o: usize, values: &List<u64>, attempts: &mut Attempts) -> b
     if are_same(attempts.records.get(o).as_slice(), sources) {
         return false;
     }
-    attempts.keep(o, sources, evaluate(&op, sources, 2));
+    let word = evaluate(&op, sources, 2);
+    attempts.keep(o, sources, word);
     true
 }
 

@@ -34,8 +34,8 @@ returns-then-are_same-clause-change c =
     c.as_slice.ensures ∙ records_read c.args.attempts.now c.args.o c.get-2.result.now (c.get-2.ensures.at no_list) in_records in
     same_changed c.args.plan.now c.args.attempts.now c.args.o c.requires.plan c.requires.op c.requires.made c.as_slice.result.now sources records_are sources_are c.requires.tried (c.are_same.ensures.0 c.if-are_same.true)
 
-pub evaluate-requires-clause-values : goal.evaluate-requires-clause-values
-evaluate-requires-clause-values c =
+pub evaluate-word-requires-clause-values : goal.evaluate-word-requires-clause-values
+evaluate-word-requires-clause-values c =
     let sources = take (c.from-places.result + 1) c.read_settled-settled.result in
     let sources_are : sources ≡ settled_sources c.args.plan.now c.args.o =
     ap (λ n. take n c.read_settled-settled.result)
@@ -67,5 +67,5 @@ returns-clause-change c =
     let records_are : c.as_slice.result.now ≡ records_at c.args.attempts.now c.args.o =
     c.as_slice.ensures ∙ records_read c.args.attempts.now c.args.o c.get-2.result.now (c.get-2.ensures.at no_list) in_records in
     let other : c.as_slice.result.now ≢ sources = λ same. false≢true (sym c.if-are_same.false ∙ c.are_same.ensures.1 same) in
-    other_changed c.args.plan.now c.args.attempts.now c.args.o c.requires.plan c.requires.op c.requires.made c.as_slice.result.now sources records_are sources_are c.keep.new.self c.evaluate.result other c.keep.ensures.words c.keep.ensures.records
-    (c.evaluate.ensures ∙ ap (λ (q : PlanOp). evaluated 2 q.op sources) (c.get.ensures.at no_plan_op))
+    other_changed c.args.plan.now c.args.attempts.now c.args.o c.requires.plan c.requires.op c.requires.made c.as_slice.result.now sources records_are sources_are c.keep.new.self c.evaluate-word.result other c.keep.ensures.words c.keep.ensures.records
+    (c.evaluate-word.ensures ∙ ap (λ (q : PlanOp). evaluated 2 q.op sources) (c.get.ensures.at no_plan_op))

@@ -7,3 +7,5 @@ pub mod Changes
 pub mod Deciding
 pub mod Outdated
 pub mod Redoing
+pub mod PlanTests
+pub mod FourEvents

@@ -22,6 +22,8 @@ pub mod laws;
 mod room;
 mod settling;
 mod sources;
+#[cfg(test)]
+mod tests;
 
 pub use attempts::Attempts;
 pub use evaluation::evaluate;

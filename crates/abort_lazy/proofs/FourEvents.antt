@@ -10,7 +10,7 @@ use Rattle.morph_base.specs.declared.plan.PlanEvent.{PlanEvent}
 use Rattle.morph_base.specs.declared.plan.PlanOp.{PlanOp}
 use Rattle.morph_base.specs.Operations.{op_of}
 use Rattle.morph_base.specs.Plans.{IsPlan}
-use Rattle.abort_lazy.proofs.PlanTests.{is_plan, plan_holds}
+use Rattle.abort_lazy.proofs.PlanTests.{plan_holds}
 
 abbrev key_of : ℕ → ℕ → Key
 key_of table id = record { table = table; id = id }

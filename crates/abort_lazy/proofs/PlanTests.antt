@@ -1,5 +1,5 @@
 -- Plans that are written out, with bases of 0: a test that computes whether they are valid.
-use Rattle.std.proofs.Common.{◌≡◌, ℕ, zero, suc, ◌+◌, ◌-◌, ◌<◌, ◌≤◌, ◌==◌, ◌&&◌, ◌||◌, Bool, true, false, not, nat_lt, nat_le, length, get_or, not-suc-le-zero, le_refl, refl, sym, ap, ◌∙◌, inl, inr, arith, subst, add-sub_of_le}
+use Rattle.std.proofs.Common.{◌≡◌, ℕ, zero, suc, ◌+◌, ◌-◌, ◌<◌, ◌≤◌, ◌==◌, ◌&&◌, ◌||◌, Bool, true, false, not, nat_lt, nat_le, length, get_or, not-suc-le-zero, le_refl, sym, ap, ◌∙◌, inl, inr, arith, subst, add-sub_of_le}
 use Rattle.std.proofs.lemmas.Bool.{and_parts, and_from, cases_eq, cases_lt, cases_Bool, eq-eqb, eqb-true, ltb-true, leb-true, lt-ltb, false≢true, true≢false}
 use Rattle.std.proofs.lemmas.List.{get_or_default}
 use Rattle.morph_base.specs.declared.key.Key.{Key}
@@ -10,7 +10,7 @@ use Rattle.morph_base.specs.declared.plan.Origin.TheVariants.{Base, Op as Writte
 use Rattle.morph_base.specs.declared.plan.Plan.{Plan}
 use Rattle.morph_base.specs.Operations.{IsShaped, least_params, most_params, same_key, no_key}
 use Rattle.morph_base.specs.Numbering.{IsNumbering, IsWithin}
-use Rattle.morph_base.specs.Plans.{IsPlan, IsSourceIn, HasBases, event_count, op_count, event_at, op_at, event_of, target, keys_of, key_at, origin_at, opening}
+use Rattle.morph_base.specs.Plans.{IsPlan, IsSourceIn, event_count, op_count, event_at, op_at, event_of, target, keys_of, key_at, origin_at}
 use Rattle.morph_base.specs.Sources.{Writes}
 use Rattle.morph_base.proofs.BaseLaws.{bases-opening}
 use Rattle.morph_base.proofs.KeyLaws.{same_key-true, same_key-from}

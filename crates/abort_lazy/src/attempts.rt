@@ -36,7 +36,8 @@ impl Attempts {
         })
     }
 
-    /// Keeps an attempt at an operation: what its places read, and the word that it left.
+    /// Keeps an attempt at operation `o`, in place of the one before: what its places read, a value for each, and the word
+    /// that it left. It takes no memory.
     pub fn keep(&mut self, o: usize, xs: &[u64], word: OpWord)
         requires word { o < length self.old.words.items }
         requires records { o < length self.old.records.items }

@@ -8,7 +8,7 @@ use morph_base::{MAX, Op, OpState, OpWord, eval};
 ///
 /// It is executed with the operation's answer, or failed with the value of place 0 where there is none. As for
 /// [`eval`], `xs` has the value of the target and then those of the parameters, each at most [`MAX`](morph_base::MAX),
-/// and the operation has a valid shape.
+/// and the operation has a valid shape. Attempts are numbered from 1, up to [`ATTEMPTS`](morph_base::ATTEMPTS).
 pub fn evaluate(op: &Op, xs: &[u64], attempt: u8) -> OpWord
     requires shaped { IsShaped op.now }
     requires reads { length xs.now ≡ op.now.n_params + 1 }

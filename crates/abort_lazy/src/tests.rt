@@ -13,9 +13,10 @@ use morph_base::{
 use std::alloc::Global;
 use std::test::Fail;
 
-/// The table of accounts, and that of assets.
+/// The table of accounts.
 const ACCOUNT: u8 = 0;
 
+/// The table of assets.
 const ASSET: u8 = 1;
 
 /// The plan of four events: 100 and 5 are paid in, to account and asset 0. Then 60 and 6 are to go from 0 to 1, of which

@@ -1,4 +1,4 @@
-use Rattle.std.proofs.Common.{◌≡◌, ◌∙◌, refl}
+use Rattle.std.proofs.Common.{◌∙◌, refl}
 use Rattle.abort_lazy.proofs.FourEvents.{four_events, with_op}
 use Rattle.abort_lazy.proofs.tests.four_events.Goals as goal
 

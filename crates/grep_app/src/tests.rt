@@ -1,0 +1,110 @@
+use crate::{CELLS, Grep};
+use event_reader::{Cause, Draws, EventApp, LineFault, Words};
+use morph_base::{Event, Func, Key, Op};
+use morph_io::LineBuf;
+use std::alloc::Global;
+use std::test::Fail;
+
+fn cell(id: u32) -> Key {
+    Key { table: CELLS, id }
+}
+
+fn keep(id: u32) -> Op {
+    Op::new(Func::Keep, cell(id), &[], 0)
+}
+
+/// What a line says where there are 10 cells.
+fn read(alloc: Global, line: &[u8]) -> Result<Event, LineFault> {
+    match Words::split(line) {
+        Some(words) => Grep.read_event(alloc, &words, 10),
+        None => Err(LineFault::Refused(Cause::Form)),
+    }
+}
+
+#[test]
+fn lines_say_their_operations(rt: HostRuntime) -> Result<(), Fail> {
+    let set = [Op::new(Func::Set, cell(9), &[], 6)];
+    let one = [Op::new(Func::Sum, cell(0), &[cell(1)], 10), keep(1)];
+    let two = [
+        Op::new(Func::Sum, cell(0), &[cell(2), cell(1)], 9),
+        keep(2),
+        keep(1),
+    ];
+    let three = [
+        Op::new(Func::Sum, cell(9), &[cell(1), cell(0), cell(8)], 0),
+        keep(1),
+        keep(0),
+        keep(8),
+    ];
+    let rows: [(&[u8], u64, &[Op]); 4] = [
+        (b"W 1 9 6", 1, &set),
+        (b"G 2 0 10 1", 2, &one),
+        (b"G 3 0 9 2 1", 3, &two),
+        (b"G 1000000000000 9 0 1 0 8", 1_000_000_000_000, &three),
+    ];
+    for (line, ts, ops) in rows {
+        let Ok(event) = read(rt.alloc(), line) else {
+            return Err("refused".into());
+        };
+        assert_eq!(rt; event.ts, ts, "at {line:?}");
+        assert_eq!(rt; event.ops.as_slice(), ops, "at {line:?}");
+    }
+    Ok(())
+}
+
+#[test]
+fn causes_come_in_their_order(rt: HostRuntime) -> Result<(), Fail> {
+    let rows: [(&[u8], Cause); 18] = [
+        (b"W 1 2", Cause::Form),
+        (b"W 1 2 3 4", Cause::Form),
+        (b"G 1 2 3", Cause::Form),
+        (b"G 1 2 3 4 5 6 7", Cause::Form),
+        (b"D 1 0 0 1 1", Cause::Form),
+        (b"W 0 x 3", Cause::Form),
+        (b"G 0 1 10 01", Cause::Form),
+        (b"W 0 1 1", Cause::Range),
+        (b"W 1 10 1", Cause::Range),
+        (b"W 1 1 1000000000001", Cause::Range),
+        (b"G 1 0 1000000000001 0", Cause::Range),
+        (b"G 1 1 10 1 2 10", Cause::Range),
+        (b"G 1 0 10 0", Cause::Same),
+        (b"G 1 0 10 1 0", Cause::Same),
+        (b"G 1 0 10 1 1", Cause::Same),
+        (b"G 1 0 10 1 2 0", Cause::Same),
+        (b"G 1 0 10 1 2 1", Cause::Same),
+        (b"G 1 0 10 1 2 2", Cause::Same),
+    ];
+    for (line, cause) in rows {
+        let Err(fault) = read(rt.alloc(), line) else {
+            return Err("taken".into());
+        };
+        assert_eq!(rt; fault, LineFault::Refused(cause), "at {line:?}");
+    }
+    Ok(())
+}
+
+#[test]
+fn lines_are_generated_by_draws_in_order(rt: HostRuntime) {
+    let rows: [(u64, u32, &[u8], &[u8]); 5] = [
+        (
+            0,
+            10_000,
+            b"G 1 6424 1236 6425 6426",
+            b"G 2 6891 3975 6892 6893 6894",
+        ),
+        (0, 3, b"W 1 0 937", b"W 2 2 891"),
+        (3, 4, b"G 1 3 138 0 1 2", b"W 2 3 375"),
+        (6, 4, b"G 1 2 3039 3", b"W 2 3 566"),
+        (7, 10_000, b"W 1 3231 753", b"G 2 5545 1864 5546 5547 5548"),
+    ];
+    for (seed, size, first, second) in rows {
+        assert!(rt; size >= 1 && size <= 1_000_000);
+        let mut draws = Draws::new(seed);
+        let mut line = LineBuf::new();
+        Grep.generate(&mut draws, 1, size, &mut line);
+        assert_eq!(rt; line.bytes(), first, "seed {seed} and size {size}");
+        let mut line = LineBuf::new();
+        Grep.generate(&mut draws, 2, size, &mut line);
+        assert_eq!(rt; line.bytes(), second, "seed {seed} and size {size}");
+    }
+}

@@ -1,0 +1,152 @@
+ghost use Rattle.std.specs.Prelude.{◌≡◌, ℕ, ◌+◌, ◌*◌, ◌^◌, ◌<◌, ◌≤◌, length, drop, codes, if◌then◌else◌, ◌==◌, IfOk, IfErr};
+ghost use Rattle.morph_base.specs.Transactions.{transaction_of};
+ghost use Rattle.event_reader.specs.Reader.{GivesEvent};
+ghost use Rattle.event_reader.specs.Numbers.{numbers_in};
+ghost use Rattle.toll_app.specs.Toll.{segments, speed_of, place_of, count_of, bill_of, table_name, report_of, report_ranges, toll_event};
+
+use crate::generating::write_report;
+use event_reader::{Cause, Draws, EventApp, LineFault, Range, TIMES, Words};
+use morph_base::{Event, Func, Key, List, Op};
+use morph_io::LineBuf;
+use std::alloc::Global;
+
+/// The number of the table of the segments' average speeds, in hundredths of a mile per hour.
+pub const SPEEDS: u8 = 0;
+
+/// The number of the table of the vehicles' places: one more than the segment that a vehicle is in, 0 where it was never
+/// reported.
+pub const PLACES: u8 = 1;
+
+/// The number of the table of the segments' counts of entries.
+pub const COUNTS: u8 = 2;
+
+/// The number of the table of the vehicles' bills, which are the sums of their tolls.
+pub const BILLS: u8 = 3;
+
+/// The most that a bill can be.
+pub const GREATEST_BILL: u64 = 1_000_000;
+
+/// The range of a speed, in miles per hour.
+const MILES: Range = Range {
+    least: 0,
+    greatest: 100,
+};
+
+/// The application Toll Processing.
+#[derive(Clone, Copy, Debug, PartialEq, Eq)]
+pub struct Toll;
+
+/// The range of a segment. One more than a segment is a value, since a size has 32 bits.
+fn segments(size: u32) -> Range
+    requires { 1 ≤ size }
+    ensures { result ≡ segments size }
+{
+    Range::ids(size)
+}
+
+/// The key of a segment's average speed.
+fn speed_of(segment: u64) -> Key
+    requires { segment < 2 ^ 32 }
+    ensures { result ≡ speed_of segment }
+{
+    Key {
+        table: SPEEDS,
+        id: segment as u32,
+    }
+}
+
+/// The key of a vehicle's place.
+fn place_of(vehicle: u64) -> Key
+    requires { vehicle < 2 ^ 32 }
+    ensures { result ≡ place_of vehicle }
+{
+    Key {
+        table: PLACES,
+        id: vehicle as u32,
+    }
+}
+
+/// The key of a segment's count of entries.
+fn count_of(segment: u64) -> Key
+    requires { segment < 2 ^ 32 }
+    ensures { result ≡ count_of segment }
+{
+    Key {
+        table: COUNTS,
+        id: segment as u32,
+    }
+}
+
+/// The key of a vehicle's bill.
+fn bill_of(vehicle: u64) -> Key
+    requires { vehicle < 2 ^ 32 }
+    ensures { result ≡ bill_of vehicle }
+{
+    Key {
+        table: BILLS,
+        id: vehicle as u32,
+    }
+}
+
+/// Reads the words of a report.
+fn report(alloc: Global, words: &Words<'_>, size: u32) -> Result<Event, LineFault>
+    requires size { 1 ≤ size }
+    requires count { length words.now ≡ 5 }
+    ensures { GivesEvent (report_of (numbers_in (report_ranges size) (drop 1 words.now))) result }
+{
+    let ranges = [TIMES, Range::ids(size), segments(size), MILES];
+    let [ts, vehicle, segment, speed] = words.numbers(&ranges)?;
+    let (average, count) = (speed_of(segment), count_of(segment));
+    let (place, bill) = (place_of(vehicle), bill_of(vehicle));
+    let mut ops = List::with_room(alloc, 4)?;
+    ops.add(Op::new(Func::Blend, average, &[], 100 * speed));
+    ops.add(Op::new(Func::Set, place, &[], segment + 1));
+    ops.add(Op::new(Func::Enter, count, &[place], segment + 1));
+    ops.add(Op::new(Func::Charge, bill, &[average, count], GREATEST_BILL));
+    Ok(Event { ts, ops })
+}
+
+impl EventApp for Toll {
+    ghost use Rattle.toll_app.specs.TollDraws.{toll_drawn};
+    ghost use Rattle.toll_app.specs.TollLaws.{toll_is_valid, toll_causes};
+    ghost use Rattle.toll_app.specs.DrawLaws.{toll_generates};
+
+    ghost table_count = { λ _. 4 };
+
+    ghost name_of = { λ _ table. table_name table };
+
+    ghost event_of = { λ _ size words. toll_event size words };
+
+    ghost generated = { λ _ size i state. toll_drawn size i state };
+
+    ghost gives_valid = { λ _ size words e. toll_is_valid size words e };
+
+    ghost causes = { λ _ size words cause. toll_causes size words cause };
+
+    ghost generates = { λ _ size i state some few start last. toll_generates size i state some few start last };
+
+    fn tables(&self) -> u8 {
+        4
+    }
+
+    fn table_name(&self, table: u8) -> &'static str {
+        match table {
+            SPEEDS => "spd",
+            PLACES => "at",
+            COUNTS => "cnt",
+            _ => "bill",
+        }
+    }
+
+    fn read_event(&self, alloc: Global, words: &Words<'_>, size: u32) -> Result<Event, LineFault> {
+        if words.has_form(b'T', 4) {
+            report(alloc, words, size)
+        } else {
+            Err(LineFault::Refused(Cause::Form))
+        }
+    }
+
+    fn generate(&self, draws: &mut Draws, i: u64, size: u32, line: &mut LineBuf) {
+        write_report(draws, i, u64::from(size), line);
+    }
+}

@@ -9,5 +9,7 @@
 mod answers;
 mod engine;
 mod settling;
+#[cfg(test)]
+mod tests;
 
 pub use engine::{BatchEnd, Engine};

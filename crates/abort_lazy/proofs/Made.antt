@@ -1,9 +1,11 @@
 -- Lists that are made one item after another, and attempts that are made for a plan.
-use Rattle.std.proofs.Common.{◌≡◌, ℕ, ◌+◌, ◌<◌, List, [], ◌∷◌, ◌++◌, length, map, replicate, get_or, sym, ap, ◌∙◌, zero-add, arith}
-use Rattle.std.proofs.lemmas.List.{map-append, length-map, length-replicate}
+use Rattle.std.proofs.Common.{◌≡◌, ℕ, ◌+◌, ◌<◌, ◌≤◌, List, [], ◌∷◌, ◌++◌, length, map, replicate, get_or, sym, ap, ◌∙◌, zero-add, arith}
+use Rattle.std.proofs.lemmas.List.{map-append, length-map, length-replicate, get_or-map}
 use Rattle.std.proofs.lemmas.List.FromFn.{length-map-range_with_len, get_or-map-range_with_len}
+use Rattle.morph_base.specs.declared.limits.TheConstants.{READS}
 use Rattle.morph_base.specs.declared.plan.Plan.{Plan}
 use Rattle.morph_base.specs.declared.plan.PlanOp.{PlanOp}
+use Rattle.morph_base.specs.Contents.{Contents}
 use Rattle.morph_base.specs.Graphs.{below}
 use Rattle.morph_base.specs.Plans.{IsPlan, op_count, op_at, keys_of}
 use Rattle.morph_base.proofs.LevelLaws.{below_more}
@@ -28,6 +30,21 @@ pushed_under f g n before now x so_far one its = pushed g n (map f before) (map 
 -- an operation that was read reads so many places
 pub places_of : (p : Plan) (o : ℕ) (q : PlanOp) → IsPlan p → o < op_count p → q ≡ op_at p o → q.op.n_params + 1 ≡ length (keys_of p o)
 places_of p o q valid lt is = ap (λ (r : PlanOp). r.op.n_params + 1) is ∙ sym (length-reads (op_at p o).op (valid.numbering.shaped o lt))
+
+-- an operation has at least one place, and few
+pub places_some : (p : Plan) (o : ℕ) → IsPlan p → o < op_count p → (0 < length (keys_of p o)) × (length (keys_of p o) ≤ READS)
+places_some p o valid lt =
+    let shaped = valid.numbering.shaped o lt in
+    let few = shaped.places in
+    let len = length-reads (op_at p o).op shaped in
+    (omega arith, omega arith)
+
+-- the records of an operation that were read
+abbrev pub no_list : Contents ℕ
+no_list = record { items = []; room = 0 }
+
+pub records_read : (a : Attempts) (o : ℕ) (list : Contents ℕ) → list ≡ get_or a.records.items o no_list → o < length a.records.items → list.items ≡ records_at a o
+records_read a o list is inside = ap (λ (l : Contents ℕ). l.items) is ∙ sym (get_or-map (λ (l : Contents ℕ). l.items) a.records.items o no_list [] inside)
 
 -- the attempts at the start are made for the plan
 pub made_blank : (p : Plan) (a : Attempts) → a.words.items ≡ replicate (op_count p) blocked

@@ -1,5 +1,5 @@
 -- A write to one element of a list that was lent.
-use Rattle.std.proofs.Common.{◌≡◌, ℕ, ◌<◌, List, ◌++◌, length, set, take, drop, map, ap, ◌∙◌}
+use Rattle.std.proofs.Common.{◌≡◌, ℕ, List, ◌++◌, length, set, take, drop, map, ap, ◌∙◌}
 use Rattle.std.proofs.lemmas.List.{length-set, take_at, map-set}
 
 module _ {X Y : Type 0} (f : X → Y) where

@@ -20,7 +20,7 @@ abbrev pub settled_state : Bool → OpState
 settled_state committed = if committed then Settled else SettledAborted
 
 -- whether one of these records of operation o differs from the settled value of its source
-abbrev pub differ : Plan → ℕ → List ℕ → Bool
+unfoldable pub differ : Plan → ℕ → List ℕ → Bool
 differ p o xs = list_any (λ j. not (slice_index xs j == source p (final p) o j)) (below (length (keys_of p o)))
 
 module _ (p : Plan) (a : Attempts) where

@@ -1,4 +1,5 @@
 ghost use Rattle.std.specs.Prelude.{◌≡◌, ℕ, ◌+◌, ◌<◌, ◌↔◌, if◌then◌else◌, length, map, replicate, count_by, IsTrue};
+ghost use Rattle.morph_base.specs.declared.word.OpState.{OpState};
 ghost use Rattle.morph_base.specs.Graphs.{below, ops_in};
 ghost use Rattle.morph_base.specs.Plans.{IsPlan, IsSettledOf, InEvent, op_count, event_count, event_at, event_of, final, verdict};
 ghost use Rattle.abort_lazy.specs.Attempts.{AreMadeFor, AreTried, IsTried, word_at, records_at};
@@ -115,7 +116,8 @@ fn redo(plan: &Plan, o: usize, values: &List<u64>, attempts: &mut Attempts) -> b
     if are_same(attempts.records.get(o).as_slice(), sources) {
         return false;
     }
-    attempts.keep(o, sources, evaluate(&op, sources, 2));
+    let word = evaluate(&op, sources, 2);
+    attempts.keep(o, sources, word);
     true
 }
 
@@ -136,11 +138,18 @@ fn commits(plan: &Plan, i: usize, attempts: &Attempts) -> bool
 {
     let event = plan.events.get(i);
     for o in event.first..event.first + event.count {
-        if attempts.words.get(o as usize).state == OpState::Failed {
+        if has_failed(attempts.words.get(o as usize)) {
             return false;
         }
     }
     true
+}
+
+/// Whether the last attempt failed.
+fn has_failed(word: &OpWord) -> bool
+    ensures { IsTrue result ↔ (word.now.state ≡ OpState.Failed) }
+{
+    word.state == OpState::Failed
 }
 
 /// Settles the operations of an event whose verdict is known.

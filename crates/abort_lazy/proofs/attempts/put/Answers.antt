@@ -1,4 +1,3 @@
-use Rattle.std.proofs.Common.{◌≡◌}
 use Rattle.abort_lazy.proofs.Written.{written_back}
 use Rattle.abort_lazy.proofs.attempts.put.Goals as goal
 

@@ -1,4 +1,4 @@
-use Rattle.std.proofs.Common.{List, subst, map, All}
+use Rattle.std.proofs.Common.{List, subst, All}
 use Rattle.std.proofs.lemmas.List.Elements.{All-map}
 use Rattle.morph_base.specs.declared.event.Event.{Event}
 use Rattle.morph_base.specs.Transactions.{HasKeysIn, transaction_of}

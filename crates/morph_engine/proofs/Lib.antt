@@ -1,4 +1,7 @@
-pub mod Reading
-pub mod InOrder
+pub mod Sources
+pub mod LevelOps
+pub mod Trying
+pub mod Keeping
+pub mod Cutting
 pub mod Told
 pub mod InKeys

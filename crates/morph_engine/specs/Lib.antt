@@ -1,2 +1,3 @@
-pub mod Settling
+pub mod Parts
+pub mod Tries
 pub mod Fates

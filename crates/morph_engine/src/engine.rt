@@ -1,19 +1,24 @@
-ghost use Rattle.std.specs.Prelude.{◌≡◌, IfOk, OnOk, OnErr};
+ghost use Rattle.std.specs.Prelude.{◌≡◌, ◌+◌, ◌≤◌, IfOk, OnOk, OnErr};
+ghost use Rattle.morph_base.specs.declared.limits.TheConstants.{WORKERS};
 ghost use Rattle.morph_base.specs.Flat.{contents};
 ghost use Rattle.morph_base.specs.States.{opening_state};
 ghost use Rattle.morph_base.specs.Transactions.{IsBatch, BatchKeysIn};
 ghost use Rattle.morph_base.specs.Outcomes.{fates};
-ghost use Rattle.morph_base.specs.Plans.{HasBases, IsPlanOf, IsSettledOf, PlanKeysIn, event_count, state_at, transactions};
+ghost use Rattle.morph_base.specs.Plans.{HasBases, IsPlanOf, IsSettledOf, PlanKeysIn, event_count, op_count, state_at, transactions};
 ghost use Rattle.morph_base.specs.Graphs.{IsValidPlan};
+ghost use Rattle.morph_base.specs.Guesses.{stale_count};
 ghost use Rattle.morph_engine.specs.Fates.{settled_fates};
 
-use crate::settling::settle;
-use morph_base::{Batch, Layout, OutOfMemory, Plan, Settled};
+use crate::levels::try_levels;
+use abort_lazy::{Attempts, Room, settle_plain};
+use morph_base::{Abort, Batch, Explore, Layout, OutOfMemory, Plan, Settled, Strategy};
 use precedence_graph::build;
 use std::alloc::Global;
 use std::marker::Model;
+use std::thread::Threads;
 use txn_splitter::split;
 use version_table::State;
+use worker_gate::Gate;
 
 /// A state, on which batches are run. Contracts see the state.
 #[derive(Debug, Drop)]
@@ -29,6 +34,10 @@ pub struct Engine {
 pub struct BatchEnd {
     pub plan: Plan,
     pub settled: Settled,
+    /// How often an operation was evaluated: each once, and once more each that was rolled back.
+    pub evaluated: u64,
+    /// How many operations were rolled back, since a source came to another value than they had read.
+    pub rolled: u64,
 }
 
 impl Model for Engine {
@@ -74,11 +83,28 @@ impl Engine {
 
     /// Runs a plan that was made from the present state: the state becomes the fold of its events.
     ///
+    /// There are 1 to [`WORKERS`](morph_base::WORKERS) workers, and the strategy explores by strata and aborts lazily. First
+    /// the operations of each level are tried side by side, on what the levels before have come to. Then the events are
+    /// settled in order, and what rested on an aborted event is evaluated once more. Neither the number of workers nor the unit
+    /// or the gate changes what comes out.
+    ///
     /// All memory is taken before the state changes. Where it is refused the state stays, and the plan is dropped.
-    pub fn run_batch(&mut self, alloc: Global, plan: Plan) -> Result<BatchEnd, OutOfMemory>
+    pub fn run_batch<R: Threads + Sync, G: Gate>(
+        &mut self,
+        rt: &R,
+        alloc: Global,
+        plan: Plan,
+        strategy: &Strategy,
+        workers: u32,
+        gate: &G,
+    ) -> Result<BatchEnd, OutOfMemory>
         requires plan { IsValidPlan plan }
         requires bases { HasBases plan (contents self.old) }
         requires keys { PlanKeysIn plan self.old.layout }
+        requires explore { strategy.now.explore ≡ Explore.Strata }
+        requires abort { strategy.now.abort ≡ Abort.Lazy }
+        requires some { 1 ≤ workers }
+        requires few { workers ≤ WORKERS }
         ensures state { OnOk result (contents self.new ≡ state_at plan (contents self.old) (event_count plan)) }
         ensures layout { self.new.layout ≡ self.old.layout }
         ensures plan { IfOk result (λ end. end.plan ≡ plan) }
@@ -86,10 +112,20 @@ impl Engine {
 
         // What was settled tells what becomes of each event.
         ensures fates { IfOk result (λ end. settled_fates plan end.settled ≡ fates (contents self.old) (transactions plan)) }
+        ensures evaluated { IfOk result (λ end. end.evaluated ≡ op_count plan + end.rolled) }
+        ensures rolled { IfOk result (λ end. end.rolled ≡ stale_count plan) }
         ensures refused { OnErr result (self.new ≡ self.old) }
     {
-        let settled = settle(alloc, &plan)?;
+        let room = Room::new(alloc, &plan)?;
+        let mut attempts = Attempts::new(alloc, &plan)?;
+        try_levels(rt, alloc, &plan, workers as usize, &mut attempts)?;
+        let (settled, redone) = settle_plain(&plan, &mut attempts, room);
         self.state.apply(&plan, &settled);
-        Ok(BatchEnd { plan, settled })
+        Ok(BatchEnd {
+            plan,
+            settled,
+            evaluated: redone.evaluated,
+            rolled: redone.rolled,
+        })
     }
 }

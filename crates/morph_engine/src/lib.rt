@@ -6,8 +6,11 @@
 //! [`BatchEnd`], and the values in the end off [`Engine::state`].
 #![tactic(auto)]
 
-mod answers;
 mod engine;
-mod settling;
+mod levels;
+mod parts;
+#[cfg(test)]
+mod tests;
+mod tries;
 
 pub use engine::{BatchEnd, Engine};

@@ -1,0 +1,36 @@
+ghost use Rattle.std.specs.Prelude.{◌≡◌, ◌<◌, length, take, map, slice_index};
+ghost use Rattle.morph_base.specs.Clean.{from};
+ghost use Rattle.morph_base.specs.Graphs.{below};
+ghost use Rattle.morph_base.specs.Known.{IsKnown};
+ghost use Rattle.morph_base.specs.Plans.{IsPlan, op_count, event_at, event_of, keys_of, final};
+ghost use Rattle.abort_lazy.specs.Settling.{settled_sources};
+
+use morph_base::{List, Origin, Plan, READS};
+
+/// The settled values of an operation's sources, place by place; 0 past them. `values` has those of all earlier events.
+pub(crate) fn read_settled(plan: &Plan, o: usize, values: &List<u64>) -> [u64; READS]
+    requires plan { IsPlan plan.now }
+    requires op { o < op_count plan.now }
+    requires values { values.now.items ≡ map (final plan.now) (below (event_at plan.now (event_of plan.now o)).first) }
+    ensures long { length result ≡ READS }
+    ensures values { take (length (keys_of plan.now o)) result ≡ settled_sources plan.now o }
+{
+    let op = plan.ops.get(o);
+    let places = usize::from(op.op.n_params) + 1;
+    let mut xs = [0; READS];
+    for j in 0..places {
+        xs[j] = source_value(op.origins[j], values);
+    }
+    xs
+}
+
+/// The value of a source whose operation, if it is one, has its value in the list.
+fn source_value(origin: Origin, values: &List<u64>) -> u64
+    requires { IsKnown (λ t. t < length values.now.items) origin }
+    ensures { result ≡ from (slice_index values.now.items) origin }
+{
+    match origin {
+        Origin::Base(value) => value,
+        Origin::Op(source) => *values.get(source as usize),
+    }
+}

@@ -1,0 +1,22 @@
+/// Where workers may be held between the turns of their work.
+///
+/// A worker calls [`Gate::pass`] before each turn, and [`Gate::done`] after each evaluation of that turn. Workers count from 1
+/// and turns from 0. Both calls always return, and change nothing that a contract names: a gate decides when a worker goes on,
+/// and never what it does.
+pub trait Gate: Sync {
+    /// Returns when the worker may begin its turn.
+    fn pass(&self, worker: u32, turn: u64);
+
+    /// Is told that the worker has evaluated something in its turn.
+    fn done(&self, worker: u32, turn: u64);
+}
+
+/// The gate that holds nobody.
+#[derive(Clone, Copy, Debug, PartialEq, Eq)]
+pub struct FreeGate;
+
+impl Gate for FreeGate {
+    fn pass(&self, _worker: u32, _turn: u64) {}
+
+    fn done(&self, _worker: u32, _turn: u64) {}
+}

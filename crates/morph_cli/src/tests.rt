@@ -87,7 +87,12 @@ fn run_with<R: Threads + Sync>(
 }
 
 /// Runs the program with these words on an input that comes in pieces of a thousand bytes.
-fn run_words<R: Threads + Sync>(rt: &R, alloc: Global, words: &[&[u8]], input: &[u8]) -> Result<Ran, OutOfMemory> {
+fn run_words<R: Threads + Sync>(
+    rt: &R,
+    alloc: Global,
+    words: &[&[u8]],
+    input: &[u8],
+) -> Result<Ran, OutOfMemory> {
     let mut source = source_of(alloc, input, 1000, &[])?;
     run_with(
         rt,

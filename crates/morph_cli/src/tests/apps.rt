@@ -79,7 +79,12 @@ fn a_full_segment_is_tolled_up_to_the_limit(rt: HostRuntime) -> Result<(), Fail>
     ];
     for (count, parts) in runs {
         let input = reports(rt.alloc(), count)?;
-        let ran = run_words(&rt, rt.alloc(), &[b"app=toll", b"size=1000"], input.as_slice())?;
+        let ran = run_words(
+            &rt,
+            rt.alloc(),
+            &[b"app=toll", b"size=1000"],
+            input.as_slice(),
+        )?;
         assert_eq!(rt; ran.status, 0);
         for part in parts {
             assert!(rt; has(ran.sink.bytes(), part));

@@ -7,7 +7,10 @@ use std::test::Fail;
 use std::thread::Threads;
 
 /// Runs the program with these words, and expects that nothing but the usage is written, and nothing read.
-fn expect_usage(rt: &(impl Threads + Sync + Abort + Alloc<A = Global>), words: &[&[u8]]) -> Result<(), Fail> {
+fn expect_usage(
+    rt: &(impl Threads + Sync + Abort + Alloc<A = Global>),
+    words: &[&[u8]],
+) -> Result<(), Fail> {
     let alloc = rt.alloc();
     let mut source = source_of(alloc, b"P", 50, &[])?;
     let ran = run_with(rt, alloc, words, &mut source, sink_of(alloc, 50, &[], &[])?)?;
@@ -52,7 +55,13 @@ fn words_that_are_no_settings(rt: HostRuntime) -> Result<(), Fail> {
 fn a_read_fails(rt: HostRuntime) -> Result<(), Fail> {
     let alloc = rt.alloc();
     let mut source = source_of(alloc, b"D 1 0 0 1 1\nP\nD 2 0 0 1 1\n", 14, &[2])?;
-    let ran = run_with(&rt, alloc, LEDGER, &mut source, sink_of(alloc, 50, &[], &[])?)?;
+    let ran = run_with(
+        &rt,
+        alloc,
+        LEDGER,
+        &mut source,
+        sink_of(alloc, 50, &[], &[])?,
+    )?;
     assert_eq!(rt; ran.status, 4);
     assert_eq!(rt; ran.sink.bytes(), b"1 C 1 1\n".as_slice());
     assert_eq!(rt; ran.notes.bytes(), b"morph: read failed\n".as_slice());
@@ -67,7 +76,13 @@ fn expect_front(
 ) -> Result<(), Fail> {
     let alloc = rt.alloc();
     let mut source = source_of(alloc, b"D 1 0 0 100 5\n", 50, &[])?;
-    let ran = run_with(rt, alloc, LEDGER, &mut source, sink_of(alloc, 3, fail, stall)?)?;
+    let ran = run_with(
+        rt,
+        alloc,
+        LEDGER,
+        &mut source,
+        sink_of(alloc, 3, fail, stall)?,
+    )?;
     assert_eq!(rt; ran.status, 5);
     assert_eq!(rt; ran.sink.bytes(), b"1 C".as_slice());
     assert_eq!(rt; ran.notes.bytes(), b"morph: write failed\n".as_slice());

@@ -1,4 +1,4 @@
--- Attempts at the operations of a plan: for whom they are made, and what the first one at each operation leaves.
+-- Attempts at the operations of a plan: which are made for it, and what the first one at each operation leaves.
 use Rattle.std.specs.Prelude.{◌≡◌, ℕ, ◌<◌, ◌≤◌, List, [], length, map, replicate, All, Option, Some, None, slice_index, slice_index_or}
 use Rattle.morph_base.specs.declared.limits.TheConstants.{MAX}
 use Rattle.morph_base.specs.declared.operation.Op.{Op}

@@ -47,16 +47,26 @@ fn events_commit_or_abort(rt: HostRuntime) -> Result<(), Fail> {
 }
 
 #[test]
-fn events_out_of_order(rt: HostRuntime) -> Result<(), Fail> {
-    expect(
-        &rt,
-        LEDGER,
-        &[(
-            b"X 4 1 2 1 2 60 5\nX 3 0 1 0 1 60 5\nX 2 0 1 0 1 60 6\nD 1 0 0 100 5\n",
-            0,
-            FOUR,
-        )],
-    )
+fn order_of_arrival_and_workers_do_not_matter(rt: HostRuntime) -> Result<(), Fail> {
+    for workers in [b"workers=1".as_slice(), b"workers=2", b"workers=16"] {
+        expect(
+            &rt,
+            &[b"app=ledger", workers],
+            &[
+                (
+                    b"D 1 0 0 100 5\nX 2 0 1 0 1 60 6\nX 3 0 1 0 1 60 5\nX 4 1 2 1 2 60 5\n",
+                    0,
+                    FOUR,
+                ),
+                (
+                    b"X 4 1 2 1 2 60 5\nX 3 0 1 0 1 60 5\nX 2 0 1 0 1 60 6\nD 1 0 0 100 5\n",
+                    0,
+                    FOUR,
+                ),
+            ],
+        )?;
+    }
+    Ok(())
 }
 
 #[test]

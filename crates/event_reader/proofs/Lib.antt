@@ -10,3 +10,8 @@ pub mod Batching
 pub mod Stepping
 pub mod Fronts
 pub mod NumberLists
+pub mod PlainLines
+pub mod Ids
+pub mod Drawing
+pub mod GeneratedLaws
+pub mod GivingText

@@ -172,3 +172,7 @@ pub form_length : (letter count : ℕ) (words : List (List ℕ)) → has_form le
 form_length letter count words is =
     let parts = and_true (length words == count + 1) (bytes_eq (get_or words 0 []) (letter ∷ [])) is in
     grind (arith, nat_tests, parts.0)
+
+-- a number between the ends of a range is in it
+pub in_range : (range : Range) (n : ℕ) → range.least ≤ n → n ≤ range.greatest → is_in range n ≡ true
+in_range range n low high = grind (arith, nat_tests)

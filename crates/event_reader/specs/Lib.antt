@@ -12,3 +12,8 @@ pub mod Times
 pub mod RisingTimes
 pub mod Pending
 pub mod Draws
+pub mod PlainLines
+pub mod Generated
+pub mod Ranges
+pub mod GeneratedText
+pub mod Generating

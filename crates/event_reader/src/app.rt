@@ -1,12 +1,15 @@
-ghost use Rattle.std.specs.Prelude.{◌≡◌, ℕ, ◌<◌, ◌≤◌, List, Result, length};
+ghost use Rattle.std.specs.Prelude.{◌≡◌, ℕ, ◌<◌, ◌≤◌, List, [], Result, length};
 ghost use Rattle.morph_base.specs.Transactions.{Transaction};
-ghost use Rattle.event_reader.specs.declared.limits.TheConstants.{NAME_BYTES};
+ghost use Rattle.event_reader.specs.declared.limits.TheConstants.{NAME_BYTES, GENERATED_EVENTS, GENERATED_IDS};
 ghost use Rattle.event_reader.specs.declared.cause.Cause.{Cause};
 ghost use Rattle.event_reader.specs.Reader.{GivesEvent, GivesValid, IsOfWords};
+ghost use Rattle.event_reader.specs.Generated.{Drawn, GeneratesEvents};
 
 use crate::cause::LineFault;
+use crate::draws::Draws;
 use crate::words::Words;
 use morph_base::Event;
+use morph_io::LineBuf;
 use std::alloc::Global;
 
 /// An application: its tables, and what the words of its event lines say.
@@ -20,6 +23,10 @@ pub trait EventApp {
     /// What the words of a line say where each table has so many ids: an event, or the first of the causes form,
     /// range and same that applies.
     ghost event_of: { Self → ℕ → List (List ℕ) → Result Transaction Cause };
+
+    /// What the generator writes as the line of event i, where each table has so many ids, from a state of its draws: the
+    /// line without its LF, and the state after it.
+    ghost generated: { Self → (size i state : ℕ) → Drawn };
 
     /// The number of tables, which are numbered from 0.
     fn tables(&self) -> u8
@@ -36,9 +43,23 @@ pub trait EventApp {
         requires { 1 ≤ size }
         ensures { GivesEvent (event_of self.now size words.now) result };
 
+    /// Writes the line of event `i` without its LF into an empty buffer, by draws in their order, where each table has
+    /// `size` ids.
+    fn generate(&self, draws: &mut Draws, i: u64, size: u32, line: &mut LineBuf)
+        requires empty { line.old ≡ [] }
+        requires event { 1 ≤ i }
+        requires last { i ≤ GENERATED_EVENTS }
+        requires size { 1 ≤ size }
+        requires ids { size ≤ GENERATED_IDS }
+        ensures line { line.new ≡ (generated self.now size i draws.old).line }
+        ensures state { draws.new ≡ (generated self.now size i draws.old).state };
+
     /// Each event is valid, and its keys are in the tables.
     ghost gives_valid: { GivesValid table_count event_of };
 
     /// Words have no other causes than form, range and same.
     ghost causes: { (app : Self) (size : ℕ) (words : List (List ℕ)) (cause : Cause) → event_of app size words ≡ Result.Err cause → IsOfWords cause };
+
+    /// Each line that is generated is an event's, at the time of its number.
+    ghost generates: { GeneratesEvents event_of generated };
 }

@@ -31,6 +31,7 @@ impl Draws {
     }
 
     /// Draws a number below `n`, by the upper 31 bits of the next state.
+    #[tactic(auto, unfolding(crate::specs::Draws::next_state, crate::specs::Draws::drawn))]
     pub fn draw(&mut self, n: u64) -> u64
         requires { 0 < n }
         ensures state { self.new ≡ next_state self.old }

@@ -1,4 +1,26 @@
 //! Lines, events and batches: from the bytes of a source to the batches of an application.
+//!
+//! An [`EventApp`] is an application: its tables, and what the words of its event lines say. A [`BatchReader`] cuts the bytes of
+//! a source into [`Lines`] and a line into [`Words`], asks the application what these say, and gives the events between two
+//! punctuations as a batch, or the first line that is refused, with its [`Cause`]. What it gives does not depend on the
+//! pieces in which the source gives its bytes. A caller asks until the answer is no batch:
+//!
+//! ```text
+//! let mut reader = BatchReader::new(alloc, Ledger, 10_000, INPUT_BYTES)?;
+//! let end = loop {
+//!     match reader.next_batch(alloc, &mut source)? {
+//!         Next::Batch(batch) => run(batch)?,
+//!         end => break end,
+//!     }
+//! };
+//! ```
+//!
+//! An application reads its numbers by [`Words::numbers`], each within a [`Range`], and writes lines of its own for tests of
+//! any size: a [`GenSource`] is a source of its generated text, of which [`laws`] say that no line is refused. [`Draws`] are
+//! the random numbers of that, and [`write_line`] puts a line of a letter and numbers into a buffer.
+//!
+//! The definitions stand in `specs/`: `Accepted` has the batches of an input, `Steps` what a line does. Below stand `morph_io`,
+//! whose sources give the bytes, `morph_base`, whose events and batches are made, and the kit's `memchr` and `thiserror`.
 #![tactic(auto)]
 
 mod answers;
@@ -8,10 +30,13 @@ mod cause;
 mod decision;
 mod draws;
 mod fault;
+mod gen_source;
+pub mod laws;
 mod limits;
 mod lines;
 mod number;
 mod pending;
+mod plain;
 mod ranges;
 #[cfg(test)]
 mod tests;
@@ -24,11 +49,13 @@ pub use batches::BatchReader;
 pub use cause::{Cause, LineFault};
 pub use draws::Draws;
 pub use fault::ReaderFault;
+pub use gen_source::GenSource;
 pub use limits::{
-    BUFFER_BYTES, DECIDING_BYTES, GREATEST_NUMBER, INPUT_BYTES, LINE_WORDS, LONGEST_LINE,
-    NAME_BYTES,
+    BUFFER_BYTES, DECIDING_BYTES, GENERATED_BATCH, GENERATED_BYTES, GENERATED_EVENTS,
+    GENERATED_IDS, GREATEST_NUMBER, INPUT_BYTES, LINE_WORDS, LONGEST_LINE, NAME_BYTES,
 };
 pub use lines::Lines;
 pub use number::{Number, read_number};
-pub use ranges::Range;
+pub use plain::write_line;
+pub use ranges::{AMOUNTS, Range, TIMES};
 pub use words::Words;

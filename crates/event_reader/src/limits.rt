@@ -21,3 +21,15 @@ pub const INPUT_BYTES: u64 = 1_073_741_824;
 
 /// How many bytes a reader keeps at most between the source and its lines.
 pub const BUFFER_BYTES: usize = 4_096;
+
+/// The most events of a generated text: 10^6.
+pub const GENERATED_EVENTS: u64 = 1_000_000;
+
+/// The events of a generated text between one punctuation and the next.
+pub const GENERATED_BATCH: u64 = 1_000;
+
+/// The most ids of a table for which a text is generated: 10^6.
+pub const GENERATED_IDS: u32 = 1_000_000;
+
+/// The most bytes of a generated line, its LF not counted.
+pub const GENERATED_BYTES: usize = 200;

@@ -7,6 +7,7 @@ use crate::cause::Cause;
 use crate::limits::{GREATEST_NUMBER, LINE_WORDS};
 use crate::number::{Number, read_number};
 use crate::words::Words;
+use morph_base::{LATEST, MAX};
 
 /// The numbers that may stand in one place of a line: those from `least` to `greatest`.
 #[derive(Clone, Copy, Debug, PartialEq, Eq)]
@@ -15,7 +16,32 @@ pub struct Range {
     pub greatest: u64,
 }
 
+/// The range of a timestamp.
+pub const TIMES: Range = Range {
+    least: 1,
+    greatest: LATEST,
+};
+
+/// The range of an amount.
+pub const AMOUNTS: Range = Range {
+    least: 0,
+    greatest: MAX,
+};
+
 impl Range {
+    ghost use Rattle.event_reader.specs.Ranges.{ids};
+
+    /// The range of an id where a table has `size` of them.
+    pub fn ids(size: u32) -> Range
+        requires { 1 ≤ size }
+        ensures { result ≡ ids size }
+    {
+        Range {
+            least: 0,
+            greatest: u64::from(size) - 1,
+        }
+    }
+
     /// Whether a number is in the range.
     pub fn contains(&self, n: u64) -> bool
         ensures { result ≡ is_in self.now n }

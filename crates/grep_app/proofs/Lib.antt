@@ -1,2 +1,1 @@
 pub mod Distinctness
-pub mod Ids

@@ -1,7 +1,6 @@
 -- What the words of a line of GrepSum say.
-use Rattle.std.specs.Prelude.{ℕ, ◌-◌, Bool, true, not, ◌&&◌, if◌then◌else◌, List, [], ◌∷◌, drop, map, replicate, slice_index, Result, Ok, Err}
+use Rattle.std.specs.Prelude.{ℕ, Bool, true, not, ◌&&◌, if◌then◌else◌, List, [], ◌∷◌, drop, map, replicate, slice_index, Result, Ok, Err}
 use Rattle.std.specs.List.{list_any}
-use Rattle.morph_base.specs.declared.limits.TheConstants.{MAX, LATEST}
 use Rattle.morph_base.specs.declared.key.Key.{Key}
 use Rattle.morph_base.specs.declared.operation.Func.TheVariants.{Keep, Sum, Set}
 use Rattle.morph_base.specs.declared.operation.Op.{Op}
@@ -11,20 +10,11 @@ use Rattle.event_reader.specs.declared.cause.Cause.{Cause}
 use Rattle.event_reader.specs.declared.cause.Cause.TheVariants.{Form, Same}
 use Rattle.event_reader.specs.declared.ranges.Range.{Range}
 use Rattle.event_reader.specs.Numbers.{numbers_in, has_form}
+use Rattle.event_reader.specs.Ranges.{times, ids, amounts}
 
 -- the key of a cell
 abbrev pub cell : ℕ → Key
 cell id = record { table = 0; id = id }
-
--- the ranges of a timestamp, of an id where the table has `size` of them, and of a value or a limit
-abbrev pub times : Range
-times = record { least = 1; greatest = LATEST }
-
-abbrev pub ids : (size : ℕ) → Range
-ids size = record { least = 0; greatest = size - 1 }
-
-abbrev pub amounts : Range
-amounts = record { least = 0; greatest = MAX }
 
 -- whether no two keys are the same
 unfoldable pub are_distinct : List Key → Bool

@@ -16,9 +16,10 @@ use Rattle.morph_base.specs.Transactions.{Transaction, IsTransaction, HasKeysIn}
 use Rattle.event_reader.specs.declared.cause.Cause.{Cause}
 use Rattle.event_reader.specs.declared.cause.Cause.TheVariants.{Form, Same}
 use Rattle.event_reader.specs.Numbers.{numbers_in, has_form, is_in, are_in}
+use Rattle.event_reader.specs.Ranges.{times, ids, amounts}
 use Rattle.event_reader.specs.Reader.{IsOfWords}
 use Rattle.event_reader.proofs.NumberLists.{in_place, numbers_are_in, numbers_causes, form_length}
-use Rattle.grep_app.specs.Grep.{cell, times, ids, amounts, are_distinct, setting_ranges, setting, setting_of, gather_ranges, keep, gathering, gather_of, grep_event}
+use Rattle.grep_app.specs.Grep.{cell, are_distinct, setting_ranges, setting, setting_of, gather_ranges, keep, gathering, gather_of, grep_event}
 
 both : (a b : Bool) → (a && b) ≡ true → (a ≡ true) × (b ≡ true)
 both true b is = (refl, is)

@@ -1,2 +1,4 @@
 pub mod Grep
+pub mod GrepDraws
 pub mod GrepLaws
+pub mod DrawLaws

@@ -5,41 +5,20 @@ ghost use Rattle.morph_base.specs.Operations.{same_key};
 ghost use Rattle.morph_base.specs.Transactions.{transaction_of};
 ghost use Rattle.event_reader.specs.Reader.{GivesEvent};
 ghost use Rattle.event_reader.specs.Numbers.{numbers_in};
-ghost use Rattle.grep_app.specs.Grep.{ids, cell, are_distinct, setting_of, setting_ranges, gather, gather_of, gather_ranges, grep_event};
+ghost use Rattle.grep_app.specs.Grep.{cell, are_distinct, setting_of, setting_ranges, gather, gather_of, gather_ranges, grep_event};
 
-use event_reader::{Cause, EventApp, LineFault, Range, Words};
-use morph_base::{Event, Func, Key, LATEST, List, MAX, Op};
+use crate::generating::{write_setting, write_sum};
+use event_reader::{AMOUNTS, Cause, Draws, EventApp, LineFault, Range, TIMES, Words};
+use morph_base::{Event, Func, Key, List, Op};
+use morph_io::LineBuf;
 use std::alloc::Global;
 
 /// The number of the table of cells.
 pub const CELLS: u8 = 0;
 
-/// The range of a timestamp.
-const TIMES: Range = Range {
-    least: 1,
-    greatest: LATEST,
-};
-
-/// The range of a value or a limit.
-const AMOUNTS: Range = Range {
-    least: 0,
-    greatest: MAX,
-};
-
 /// The application GrepSum.
 #[derive(Clone, Copy, Debug, PartialEq, Eq)]
 pub struct Grep;
-
-/// The range of an id where a table has `size` of them.
-fn ids(size: u32) -> Range
-    requires { 1 ≤ size }
-    ensures { result ≡ ids size }
-{
-    Range {
-        least: 0,
-        greatest: u64::from(size) - 1,
-    }
-}
 
 /// The key of a cell.
 fn cell(id: u64) -> Key
@@ -77,7 +56,7 @@ fn set(alloc: Global, words: &Words<'_>, size: u32) -> Result<Event, LineFault>
     requires count { length words.now ≡ 4 }
     ensures { GivesEvent (setting_of (numbers_in (setting_ranges size) (drop 1 words.now))) result }
 {
-    let [ts, k, v] = words.numbers(&[TIMES, ids(size), AMOUNTS])?;
+    let [ts, k, v] = words.numbers(&[TIMES, Range::ids(size), AMOUNTS])?;
     let mut ops = List::with_room(alloc, 1)?;
     ops.add(Op::new(Func::Set, cell(k), &[], v));
     Ok(Event { ts, ops })
@@ -111,7 +90,7 @@ fn sum_one(alloc: Global, words: &Words<'_>, size: u32) -> Result<Event, LineFau
     requires count { length words.now ≡ 5 }
     ensures { GivesEvent (gather_of (numbers_in (gather_ranges size 1) (drop 1 words.now))) result }
 {
-    let ids = ids(size);
+    let ids = Range::ids(size);
     let [ts, k, limit, k1] = words.numbers(&[TIMES, ids, AMOUNTS, ids])?;
     gather(alloc, ts, limit, cell(k), &[cell(k1)])
 }
@@ -122,7 +101,7 @@ fn sum_two(alloc: Global, words: &Words<'_>, size: u32) -> Result<Event, LineFau
     requires count { length words.now ≡ 6 }
     ensures { GivesEvent (gather_of (numbers_in (gather_ranges size 2) (drop 1 words.now))) result }
 {
-    let ids = ids(size);
+    let ids = Range::ids(size);
     let [ts, k, limit, k1, k2] = words.numbers(&[TIMES, ids, AMOUNTS, ids, ids])?;
     gather(alloc, ts, limit, cell(k), &[cell(k1), cell(k2)])
 }
@@ -133,13 +112,15 @@ fn sum_three(alloc: Global, words: &Words<'_>, size: u32) -> Result<Event, LineF
     requires count { length words.now ≡ 7 }
     ensures { GivesEvent (gather_of (numbers_in (gather_ranges size 3) (drop 1 words.now))) result }
 {
-    let ids = ids(size);
+    let ids = Range::ids(size);
     let [ts, k, limit, k1, k2, k3] = words.numbers(&[TIMES, ids, AMOUNTS, ids, ids, ids])?;
     gather(alloc, ts, limit, cell(k), &[cell(k1), cell(k2), cell(k3)])
 }
 
 impl EventApp for Grep {
+    ghost use Rattle.grep_app.specs.GrepDraws.{grep_drawn};
     ghost use Rattle.grep_app.specs.GrepLaws.{grep_is_valid, grep_causes};
+    ghost use Rattle.grep_app.specs.DrawLaws.{grep_generates};
 
     ghost table_count = { λ _. 1 };
 
@@ -147,9 +128,13 @@ impl EventApp for Grep {
 
     ghost event_of = { λ _ size words. grep_event size words };
 
+    ghost generated = { λ _ size i state. grep_drawn size i state };
+
     ghost gives_valid = { λ _ size words e. grep_is_valid size words e };
 
     ghost causes = { λ _ size words cause. grep_causes size words cause };
+
+    ghost generates = { λ _ size i state some few start last. grep_generates size i state some few start last };
 
     fn tables(&self) -> u8 {
         1
@@ -170,6 +155,15 @@ impl EventApp for Grep {
             sum_three(alloc, words, size)
         } else {
             Err(LineFault::Refused(Cause::Form))
+        }
+    }
+
+    fn generate(&self, draws: &mut Draws, i: u64, size: u32, line: &mut LineBuf) {
+        let choice = draws.draw(2);
+        if choice == 0 || size < 4 {
+            write_setting(draws, i, u64::from(size), line);
+        } else {
+            write_sum(draws, i, u64::from(size), line);
         }
     }
 }

@@ -6,6 +6,7 @@
 //! operations an event has.
 #![tactic(auto)]
 
+mod generating;
 mod grep;
 #[cfg(test)]
 mod tests;

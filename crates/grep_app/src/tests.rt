@@ -1,6 +1,7 @@
 use crate::{CELLS, Grep};
-use event_reader::{Cause, EventApp, LineFault, Words};
+use event_reader::{Cause, Draws, EventApp, LineFault, Words};
 use morph_base::{Event, Func, Key, Op};
+use morph_io::LineBuf;
 use std::alloc::Global;
 use std::test::Fail;
 
@@ -80,4 +81,30 @@ fn causes_come_in_their_order(rt: HostRuntime) -> Result<(), Fail> {
         assert_eq!(rt; fault, LineFault::Refused(cause), "at {line:?}");
     }
     Ok(())
+}
+
+#[test]
+fn lines_are_generated_by_draws_in_order(rt: HostRuntime) {
+    let rows: [(u64, u32, &[u8], &[u8]); 5] = [
+        (
+            0,
+            10_000,
+            b"G 1 6424 1236 6425 6426",
+            b"G 2 6891 3975 6892 6893 6894",
+        ),
+        (0, 3, b"W 1 0 937", b"W 2 2 891"),
+        (3, 4, b"G 1 3 138 0 1 2", b"W 2 3 375"),
+        (6, 4, b"G 1 2 3039 3", b"W 2 3 566"),
+        (7, 10_000, b"W 1 3231 753", b"G 2 5545 1864 5546 5547 5548"),
+    ];
+    for (seed, size, first, second) in rows {
+        assert!(rt; size >= 1 && size <= 1_000_000);
+        let mut draws = Draws::new(seed);
+        let mut line = LineBuf::new();
+        Grep.generate(&mut draws, 1, size, &mut line);
+        assert_eq!(rt; line.bytes(), first, "seed {seed} and size {size}");
+        let mut line = LineBuf::new();
+        Grep.generate(&mut draws, 2, size, &mut line);
+        assert_eq!(rt; line.bytes(), second, "seed {seed} and size {size}");
+    }
 }

@@ -1,16 +1,16 @@
 -- What the words of a ledger's line say.
-use Rattle.std.specs.Prelude.{ℕ, ◌-◌, ◌||◌, ◌==◌, if◌then◌else◌, List, [], ◌∷◌, drop, slice_index, Result, Ok, Err}
-use Rattle.morph_base.specs.declared.limits.TheConstants.{MAX, LATEST}
+use Rattle.std.specs.Prelude.{ℕ, ◌||◌, ◌==◌, if◌then◌else◌, List, [], ◌∷◌, drop, slice_index, Result, Ok, Err}
 use Rattle.morph_base.specs.declared.key.Key.{Key}
 use Rattle.morph_base.specs.declared.operation.Func.{Func}
 use Rattle.morph_base.specs.declared.operation.Func.TheVariants.{Add, Sub, MoveIn}
 use Rattle.morph_base.specs.declared.operation.Op.{Op}
-use Rattle.morph_base.specs.Operations.{no_key}
+use Rattle.morph_base.specs.Operations.{op_of}
 use Rattle.morph_base.specs.Transactions.{Transaction}
 use Rattle.event_reader.specs.declared.cause.Cause.{Cause}
 use Rattle.event_reader.specs.declared.cause.Cause.TheVariants.{Form, Same}
 use Rattle.event_reader.specs.declared.ranges.Range.{Range}
 use Rattle.event_reader.specs.Numbers.{numbers_in, has_form}
+use Rattle.event_reader.specs.Ranges.{times, ids, amounts}
 
 -- the keys of an account and of an asset
 abbrev pub account : ℕ → Key
@@ -19,22 +19,12 @@ account id = record { table = 0; id = id }
 abbrev pub asset : ℕ → Key
 asset id = record { table = 1; id = id }
 
--- the ranges of a timestamp, of an id where each table has `size` of them, and of an amount
-abbrev pub times : Range
-times = record { least = 1; greatest = LATEST }
-
-abbrev pub ids : (size : ℕ) → Range
-ids size = record { least = 0; greatest = size - 1 }
-
-abbrev pub amounts : Range
-amounts = record { least = 0; greatest = MAX }
-
 -- an operation that reads its target alone, and one that takes from another key
 abbrev pub change : Func → Key → (c : ℕ) → Op
-change func key c = record { key = key; params = no_key ∷ no_key ∷ no_key ∷ []; n_params = 0; func = func; c = c }
+change func key c = op_of func key [] c
 
 abbrev pub move_in : (key from : Key) → (c : ℕ) → Op
-move_in key from c = record { key = key; params = from ∷ no_key ∷ no_key ∷ []; n_params = 1; func = MoveIn; c = c }
+move_in key from c = op_of MoveIn key (from ∷ []) c
 
 -- `D ts acct asset a b`: a is added to the account, b to the asset
 abbrev pub deposit_ranges : (size : ℕ) → List Range

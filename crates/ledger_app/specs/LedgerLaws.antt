@@ -14,9 +14,10 @@ use Rattle.morph_base.specs.Transactions.{Transaction, IsTransaction, HasKeysIn}
 use Rattle.event_reader.specs.declared.cause.Cause.{Cause}
 use Rattle.event_reader.specs.declared.cause.Cause.TheVariants.{Form, Same}
 use Rattle.event_reader.specs.Numbers.{numbers_in, has_form, are_in}
+use Rattle.event_reader.specs.Ranges.{times, ids, amounts}
 use Rattle.event_reader.specs.Reader.{IsOfWords}
 use Rattle.event_reader.proofs.NumberLists.{in_place, numbers_are_in, numbers_causes, form_length}
-use Rattle.ledger_app.specs.Ledger.{account, asset, times, ids, amounts, change, move_in, deposit_ranges, deposit, moving, transfer_ranges, deposit_of, transfer_of, ledger_event}
+use Rattle.ledger_app.specs.Ledger.{account, asset, change, move_in, deposit_ranges, deposit, moving, transfer_ranges, deposit_of, transfer_of, ledger_event}
 
 -- the operations have a valid shape
 shaped_add : (key : Key) (c : ℕ) → c ≤ MAX → IsShaped (change Add key c)

@@ -1,2 +1,4 @@
 pub mod Ledger
+pub mod LedgerDraws
 pub mod LedgerLaws
+pub mod DrawLaws

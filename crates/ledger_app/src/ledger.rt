@@ -2,10 +2,12 @@ ghost use Rattle.std.specs.Prelude.{◌≡◌, ℕ, ◌^◌, ◌<◌, ◌≤◌,
 ghost use Rattle.morph_base.specs.Transactions.{transaction_of};
 ghost use Rattle.event_reader.specs.Reader.{GivesEvent};
 ghost use Rattle.event_reader.specs.Numbers.{numbers_in};
-ghost use Rattle.ledger_app.specs.Ledger.{times, ids, amounts, account, asset, change, move_in, deposit_of, deposit_ranges, transfer_of, transfer_ranges, ledger_event};
+ghost use Rattle.ledger_app.specs.Ledger.{account, asset, deposit_of, deposit_ranges, transfer_of, transfer_ranges, ledger_event};
 
-use event_reader::{Cause, EventApp, LineFault, Range, Words};
-use morph_base::{Event, Func, Key, LATEST, List, MAX, Op, OutOfMemory};
+use crate::generating::{write_deposit, write_transfer};
+use event_reader::{AMOUNTS, Cause, Draws, EventApp, LineFault, Range, TIMES, Words};
+use morph_base::{Event, Func, Key, List, Op, OutOfMemory};
+use morph_io::LineBuf;
 use std::alloc::Global;
 
 /// The number of the table of accounts.
@@ -14,61 +16,9 @@ pub const ACCOUNTS: u8 = 0;
 /// The number of the table of assets.
 pub const ASSETS: u8 = 1;
 
-/// The key that stands in places of an operation that are not used.
-const NO_KEY: Key = Key { table: 0, id: 0 };
-
-/// The range of a timestamp.
-const TIMES: Range = Range {
-    least: 1,
-    greatest: LATEST,
-};
-
-/// The range of an amount.
-const AMOUNTS: Range = Range {
-    least: 0,
-    greatest: MAX,
-};
-
 /// The application Streaming Ledger.
 #[derive(Clone, Copy, Debug, PartialEq, Eq)]
 pub struct Ledger;
-
-/// The range of an id where a table has `size` of them.
-fn ids(size: u32) -> Range
-    requires { 1 ≤ size }
-    ensures { result ≡ ids size }
-{
-    Range {
-        least: 0,
-        greatest: u64::from(size) - 1,
-    }
-}
-
-/// An operation that reads its target alone.
-fn change(func: Func, key: Key, c: u64) -> Op
-    ensures { result ≡ change func key c }
-{
-    Op {
-        key,
-        params: [NO_KEY, NO_KEY, NO_KEY],
-        n_params: 0,
-        func,
-        c,
-    }
-}
-
-/// The operation that takes what another key gives.
-fn move_in(key: Key, from: Key, c: u64) -> Op
-    ensures { result ≡ move_in key from c }
-{
-    Op {
-        key,
-        params: [from, NO_KEY, NO_KEY],
-        n_params: 1,
-        func: Func::MoveIn,
-        c,
-    }
-}
 
 /// The key of an account.
 fn account(id: u64) -> Key
@@ -98,11 +48,11 @@ fn deposit(alloc: Global, words: &Words<'_>, size: u32) -> Result<Event, LineFau
     requires count { length words.now ≡ 6 }
     ensures { GivesEvent (deposit_of (numbers_in (deposit_ranges size) (drop 1 words.now))) result }
 {
-    let ids = ids(size);
+    let ids = Range::ids(size);
     let [ts, acct, ast, a, b] = words.numbers(&[TIMES, ids, ids, AMOUNTS, AMOUNTS])?;
     let mut ops = List::with_room(alloc, 2)?;
-    ops.add(change(Func::Add, account(acct), a));
-    ops.add(change(Func::Add, asset(ast), b));
+    ops.add(Op::new(Func::Add, account(acct), &[], a));
+    ops.add(Op::new(Func::Add, asset(ast), &[], b));
     Ok(Event { ts, ops })
 }
 
@@ -112,7 +62,7 @@ fn transfer(alloc: Global, words: &Words<'_>, size: u32) -> Result<Event, LineFa
     requires count { length words.now ≡ 8 }
     ensures { GivesEvent (transfer_of (numbers_in (transfer_ranges size) (drop 1 words.now))) result }
 {
-    let ids = ids(size);
+    let ids = Range::ids(size);
     let [ts, src, dst, asrc, adst, a, b] = words.numbers(&[
         TIMES, ids, ids, ids, ids, AMOUNTS, AMOUNTS,
     ])?;
@@ -120,15 +70,17 @@ fn transfer(alloc: Global, words: &Words<'_>, size: u32) -> Result<Event, LineFa
         return Err(LineFault::Refused(Cause::Same));
     }
     let mut ops = List::with_room(alloc, 4)?;
-    ops.add(change(Func::Sub, account(src), a));
-    ops.add(change(Func::Sub, asset(asrc), b));
-    ops.add(move_in(account(dst), account(src), a));
-    ops.add(move_in(asset(adst), asset(asrc), b));
+    ops.add(Op::new(Func::Sub, account(src), &[], a));
+    ops.add(Op::new(Func::Sub, asset(asrc), &[], b));
+    ops.add(Op::new(Func::MoveIn, account(dst), &[account(src)], a));
+    ops.add(Op::new(Func::MoveIn, asset(adst), &[asset(asrc)], b));
     Ok(Event { ts, ops })
 }
 
 impl EventApp for Ledger {
+    ghost use Rattle.ledger_app.specs.LedgerDraws.{ledger_drawn};
     ghost use Rattle.ledger_app.specs.LedgerLaws.{ledger_is_valid, ledger_causes};
+    ghost use Rattle.ledger_app.specs.DrawLaws.{ledger_generates};
 
     ghost table_count = { λ _. 2 };
 
@@ -136,9 +88,13 @@ impl EventApp for Ledger {
 
     ghost event_of = { λ _ size words. ledger_event size words };
 
+    ghost generated = { λ _ size i state. ledger_drawn size i state };
+
     ghost gives_valid = { λ _ size words e. ledger_is_valid size words e };
 
     ghost causes = { λ _ size words cause. ledger_causes size words cause };
+
+    ghost generates = { λ _ size i state some few start last. ledger_generates size i state some few start last };
 
     fn tables(&self) -> u8 {
         2
@@ -155,6 +111,15 @@ impl EventApp for Ledger {
             transfer(alloc, words, size)
         } else {
             Err(LineFault::Refused(Cause::Form))
+        }
+    }
+
+    fn generate(&self, draws: &mut Draws, i: u64, size: u32, line: &mut LineBuf) {
+        let choice = draws.draw(4);
+        if choice < 2 || size < 2 {
+            write_deposit(draws, i, u64::from(size), line);
+        } else {
+            write_transfer(draws, i, u64::from(size), line);
         }
     }
 }

@@ -6,6 +6,7 @@
 //! whose operations an event has.
 #![tactic(auto)]
 
+mod generating;
 mod ledger;
 #[cfg(test)]
 mod tests;

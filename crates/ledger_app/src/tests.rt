@@ -2,9 +2,11 @@ ghost use Rattle.std.specs.Prelude.{◌≡◌, ◌<◌, ◌≤◌, IfOk};
 ghost use Rattle.event_reader.specs.declared.limits.TheConstants.{INPUT_BYTES};
 
 use crate::{ACCOUNTS, ASSETS, Ledger};
-use event_reader::{BatchReader, Cause, EventApp, INPUT_BYTES, Next, ReaderFault, Words};
+use event_reader::{
+    BatchReader, Cause, Draws, EventApp, GenSource, INPUT_BYTES, Next, ReaderFault, Words,
+};
 use morph_base::{Func, Key, List, Op, OutOfMemory};
-use morph_io::MemSource;
+use morph_io::{LineBuf, MemSource, Source};
 use std::alloc::{AllocError, Global};
 use std::test::Fail;
 
@@ -33,23 +35,19 @@ fn list_of<T: Copy>(alloc: Global, items: &[T]) -> Result<List<T>, OutOfMemory> 
     Ok(list)
 }
 
-/// Reads all batches of a text, from a source that gives it in pieces and fails at the given calls.
-fn read_all(
+/// Reads all batches that a source gives, for tables of 10,000 ids.
+fn read_batches<S: Source>(
     alloc: Global,
-    text: &[u8],
-    piece: usize,
-    fail: &[u64],
+    source: &mut S,
     limit: u64,
 ) -> Result<Outcome, OutOfMemory>
-    requires piece { 0 < piece }
     requires some { 1 ≤ limit }
     requires limit { limit ≤ INPUT_BYTES }
 {
-    let mut source = MemSource::new(list_of(alloc, text)?, piece, list_of(alloc, fail)?);
     let mut reader = BatchReader::new(alloc, Ledger, 10_000, limit)?;
     let mut sizes = Vec::new(alloc);
     'batches: for _ in 0..100 {
-        let end = match reader.next_batch(alloc, &mut source) {
+        let end = match reader.next_batch(alloc, source) {
             Ok(Next::Batch(batch)) => {
                 sizes.push(batch.events.len())?;
                 continue;
@@ -64,6 +62,22 @@ fn read_all(
         sizes,
         end: End::Unfinished,
     })
+}
+
+/// Reads all batches of a text, from a source that gives it in pieces and fails at the given calls.
+fn read_all(
+    alloc: Global,
+    text: &[u8],
+    piece: usize,
+    fail: &[u64],
+    limit: u64,
+) -> Result<Outcome, OutOfMemory>
+    requires piece { 0 < piece }
+    requires some { 1 ≤ limit }
+    requires limit { limit ≤ INPUT_BYTES }
+{
+    let mut source = MemSource::new(list_of(alloc, text)?, piece, list_of(alloc, fail)?);
+    read_batches(alloc, &mut source, limit)
 }
 
 #[test]
@@ -347,5 +361,52 @@ fn words_give_the_operations_of_their_line(rt: HostRuntime) -> Result<(), Fail> 
     assert_eq!(rt; Ledger.tables(), 2);
     assert_eq!(rt; Ledger.table_name(ACCOUNTS), "acct");
     assert_eq!(rt; Ledger.table_name(ASSETS), "asset");
+    Ok(())
+}
+
+#[test]
+fn lines_are_generated_by_draws_in_order(rt: HostRuntime) {
+    let rows: [(u64, u32, &[u8]); 4] = [
+        (0, 10_000, b"X 1 6424 1937 5236 125 891 184"),
+        (0, 2, b"X 1 0 1 0 1 891 184"),
+        (0, 1, b"D 1 0 0 236 125"),
+        (7, 2, b"X 1 1 0 1 0 219 864"),
+    ];
+    for (seed, size, text) in rows {
+        let mut line = LineBuf::new();
+        assert!(rt; size >= 1 && size <= 1_000_000);
+        Ledger.generate(&mut Draws::new(seed), 1, size, &mut line);
+        assert_eq!(rt; line.bytes(), text, "seed {seed} and size {size}");
+    }
+}
+
+/// The bytes of a source that has less than 7,000 of them, taken by at most seven.
+fn bytes_of<S: Source>(alloc: Global, source: &mut S) -> Result<Vec<u8>, Fail> {
+    let mut bytes = Vec::new(alloc);
+    let mut piece = [0; 7];
+    'reads: for _ in 0..1_000 {
+        let count = source.read(&mut piece)?;
+        bytes.extend_from_slice(&piece[..count])?;
+    }
+    Ok(bytes)
+}
+
+#[test]
+fn a_text_is_generated_line_by_line(rt: HostRuntime) -> Result<(), Fail> {
+    let text =
+        b"X 1 6424 1937 5236 125 891 184\nX 2 1264 8139 7503 6482 382 645\nD 3 5022 745 978 931\n";
+    let bytes = bytes_of(rt.alloc(), &mut GenSource::new(Ledger, 0, 3, 10_000))?;
+    assert_eq!(rt; bytes.as_slice(), text.as_slice());
+    let bytes = bytes_of(rt.alloc(), &mut GenSource::new(Ledger, 0, 0, 10_000))?;
+    assert_eq!(rt; bytes.len(), 0);
+    Ok(())
+}
+
+#[test]
+fn a_generated_text_is_read_in_batches_of_1000(rt: HostRuntime) -> Result<(), Fail> {
+    let mut source = GenSource::new(Ledger, 0, 2_500, 10_000);
+    let outcome = read_batches(rt.alloc(), &mut source, INPUT_BYTES)?;
+    assert_eq!(rt; outcome.sizes.as_slice(), [1_000, 1_000, 500].as_slice());
+    assert_eq!(rt; outcome.end, End::Ended);
     Ok(())
 }

@@ -25,9 +25,11 @@ use Rattle.event_reader.specs.Reader.{ReaderView, new_reader, accepted_by, Takes
 use Rattle.morph_cli.specs.declared.counts.Counts.{Counts}
 use Rattle.morph_cli.specs.declared.fault.Fault.{Fault}
 use Rattle.morph_cli.specs.declared.fault.Fault.TheVariants.{Write}
+use Rattle.morph_cli.specs.declared.report.Report.{Report}
+use Rattle.morph_cli.specs.declared.report.Report.TheVariants.{Whole, Summary}
 use Rattle.morph_cli.specs.declared.run.Finish.{Finish}
 use Rattle.morph_cli.specs.Faults.{fault_of}
-use Rattle.morph_cli.specs.Text.{event_line, lines_of, outcome_lines, committed_in, aborted_in}
+use Rattle.morph_cli.specs.Text.{Telling, event_line, told_lines, told_outcomes, committed_in, aborted_in}
 use Rattle.morph_cli.specs.Runs.{EndsSo}
 use Rattle.morph_cli.proofs.Ending.{Goes, goes_start, goes_batch, ends_read, ends_long, ends_memory, ends_batch_cut}
 
@@ -36,9 +38,10 @@ pub error_is : {T E : Type 0} (r : Result T E) (e : E) → IsErrAnd r (λ y. y �
 error_is (Ok x) e h = absurd h
 error_is (Err y) e h = ap Err h
 
--- the lines of outcomes are those of their fates
-pub outcome_lines-fates : (os : List Outcome) → outcome_lines os ≡ lines_of (map fate_of os)
-outcome_lines-fates os = sym (flat_map-map event_line fate_of os)
+-- what is told of outcomes is what is told of their fates
+pub told_outcomes-fates : (report : Report) (os : List Outcome) → told_outcomes report os ≡ told_lines report (map fate_of os)
+told_outcomes-fates Whole os = sym (flat_map-map event_line fate_of os)
+told_outcomes-fates Summary os = refl
 
 fates-length : (s : State) (es : List Transaction) → length (fates s es) ≡ length es
 unfolding fates
@@ -70,9 +73,9 @@ outcomes-length s batch os told =
     let events : length es ≡ length batch.events.items = simp length-map in
     sym outcomes ∙ ap length told ∙ fates-length s (by_time es) ∙ length_permutation es (by_time es) (by_time-permutes es) ∙ events
 
-module _ {App : Type 0} (event_of : App → ℕ → Meaning) (tables : ℕ) (app : App) (size limit : ℕ) where
+module _ {App : Type 0} (event_of : App → ℕ → Meaning) (tables : ℕ) (app : App) (size limit : ℕ) (telling : Telling) where
   pub record Between (told left old new : Option (List ℕ)) (r : ReaderView App) (values : Kept) (counts : Counts) (out : List ℕ) : Type 0 where
-    pub goes : Goes event_of app size limit told left old new r (contents values) counts
+    pub goes : Goes event_of app size limit telling told left old new r (contents values) counts
     pub layout : values.layout ≡ record { tables = tables; size = size }
     pub app_is : r.app ≡ app
     pub size_is : r.size ≡ size
@@ -92,8 +95,8 @@ module _ {App : Type 0} (event_of : App → ℕ → Meaning) (tables : ℕ) (app
   between_start told old r values counts out layout new layout_is tables_are opening empty zero none =
       let facts : NewFacts r = subst NewFacts (sym new) (refl, refl, refl, refl, refl, refl) in
       record {
-        goes = subst (λ v. Goes event_of app size limit told told old old v (contents values) counts) (sym new)
-            (goes_start event_of app size limit (record { tables = tables; size = size }) (λ n. []) told old (contents values) counts opening zero none);
+        goes = subst (λ v. Goes event_of app size limit telling told told old old v (contents values) counts) (sym new)
+            (goes_start event_of app size limit telling told old (contents values) counts opening zero none);
         layout = layout_is ∙ tables_are;
         app_is = facts.0;
         size_is = facts.1;
@@ -116,16 +119,16 @@ module _ {App : Type 0} (event_of : App → ℕ → Meaning) (tables : ℕ) (app
       (r'.app ≡ r.app) × (r'.size ≡ r.size) × (r'.lines.limit ≡ r.lines.limit) → (IsTrue r'.lines.ended → IsAtEnd left') →
       (r'.lines.ended ≡ false → r.lines.ended ≡ false) → r'.live ≡ true → values'.layout ≡ values.layout →
       contents values' ≡ fold_batch batch (contents values) → map fate_of outcomes ≡ fates (contents values) (by_time (transactions_of batch)) →
-      newer ≡ behind new (outcome_lines outcomes) → out' ≡ [] →
+      newer ≡ behind new (told_outcomes telling.report outcomes) → out' ≡ [] →
       counts'.committed ≡ counts.committed + committed_in (map fate_of outcomes) → counts'.aborted ≡ counts.aborted + aborted_in (map fate_of outcomes) →
       counts'.committed + counts'.aborted ≡ counts.committed + counts.aborted + length outcomes →
       Between told left' old newer r' values' counts' out'
   between_batch told left left' old new newer r r' values values' counts counts' out out' batch outcomes b answers shows some counted bound same at_end unended live layout_is
       state fates_are written empty committed aborted all = record {
-        goes = goes_batch event_of app size limit (record { tables = tables; size = size }) (λ n. []) told left left' old new newer r r' (contents values) (contents values') counts counts'
+        goes = goes_batch event_of app size limit telling told left left' old new newer r r' (contents values) (contents values') counts counts'
             batch (map fate_of outcomes) b.goes (simp length-map some) answers unended
             (subst (λ m. Takes left left' (ShowsBatch m r.closed r.lines (Ok (Batch batch)) r'.closed r'.lines)) (meaning_is r b.app_is b.size_is) shows) state fates_are
-            (written ∙ ap (behind new) (outcome_lines-fates outcomes)) committed aborted;
+            (written ∙ ap (behind new) (told_outcomes-fates telling.report outcomes)) committed aborted;
         layout = layout_is ∙ b.layout;
         app_is = same.0 ∙ b.app_is;
         size_is = same.1 ∙ b.size_is;
@@ -138,30 +141,30 @@ module _ {App : Type 0} (event_of : App → ℕ → Meaning) (tables : ℕ) (app
       }
 
   -- the reader failed
-  pub ends_fault : (layout : Layout) (name : ℕ → List ℕ) (told left left' old new : Option (List ℕ)) (r r' : ReaderView App) (values : Kept) (counts : Counts) (out : List ℕ)
+  pub ends_fault : (told left left' old new : Option (List ℕ)) (r r' : ReaderView App) (values : Kept) (counts : Counts) (out : List ℕ)
       (e : ReaderFault) → Between told left old new r values counts out → AnswersNext (accepted_by event_of r left) (Err e) (accepted_by event_of r' left') →
       Takes left left' (ShowsNext event_of r (Err e) r') → (IsErrOf {T = Next} (Err e) ReadFault → r.lines.ended ≡ false) →
-      IfSome told (λ input. EndsSo (event_of app size) layout name limit input left' old (Err (fault_of e)) new)
-  ends_fault layout name told left left' old new r r' values counts out ReadFault b answers shows asked =
-      ends_read event_of app size limit layout name told left left' old new r (contents values) counts b.goes (asked refl)
+      IfSome told (λ input. EndsSo (event_of app size) telling limit input left' old (Err (fault_of e)) new)
+  ends_fault told left left' old new r r' values counts out ReadFault b answers shows asked =
+      ends_read event_of app size limit telling told left left' old new r (contents values) counts b.goes (asked refl)
       (subst (λ m. Takes left left' (ShowsBatch m r.closed r.lines (Err ReadFault) r'.closed r'.lines)) (meaning_is r b.app_is b.size_is) shows)
-  ends_fault layout name told left left' old new r r' values counts out LongInput b answers shows asked =
-      ends_long event_of app size limit layout name told left left' old new r (contents values) counts b.goes answers
-  ends_fault layout name told left left' old new r r' values counts out NoMemory b answers shows asked =
-      ends_memory event_of app size limit layout name told left left' old new r (contents values) counts b.goes
+  ends_fault told left left' old new r r' values counts out LongInput b answers shows asked =
+      ends_long event_of app size limit telling told left left' old new r (contents values) counts b.goes answers
+  ends_fault told left left' old new r r' values counts out NoMemory b answers shows asked =
+      ends_memory event_of app size limit telling told left left' old new r (contents values) counts b.goes
 
   -- writing failed in a batch
-  pub ends_in_batch : (layout : Layout) (name : ℕ → List ℕ) (told left left' old new newer : Option (List ℕ)) (r r' : ReaderView App) (values : Kept) (counts : Counts) (out : List ℕ)
+  pub ends_in_batch : (told left left' old new newer : Option (List ℕ)) (r r' : ReaderView App) (values : Kept) (counts : Counts) (out : List ℕ)
       (batch : TheBatch) (outcomes : List Outcome) → Between told left old new r values counts out →
       AnswersNext (accepted_by event_of r left) (Ok (Batch batch)) (accepted_by event_of r' left') → 0 < length batch.events.items →
-      map fate_of outcomes ≡ fates (contents values) (by_time (transactions_of batch)) → AppendsPrefix new (outcome_lines outcomes) newer →
-      IfSome told (λ input. EndsSo (event_of app size) layout name limit input left' old (Err Write) newer)
-  ends_in_batch layout name told left left' old new newer r r' values counts out batch outcomes b answers some fates_are cut =
-      ends_batch_cut event_of app size limit layout name told left left' left' old new newer r r' (contents values) counts (transactions_of batch) (map fate_of outcomes)
-      b.goes (simp length-map some) answers fates_are (subst (λ l. AppendsPrefix new l newer) (outcome_lines-fates outcomes) cut)
+      map fate_of outcomes ≡ fates (contents values) (by_time (transactions_of batch)) → AppendsPrefix new (told_outcomes telling.report outcomes) newer →
+      IfSome told (λ input. EndsSo (event_of app size) telling limit input left' old (Err Write) newer)
+  ends_in_batch told left left' old new newer r r' values counts out batch outcomes b answers some fates_are cut =
+      ends_batch_cut event_of app size limit telling told left left' left' old new newer r r' (contents values) counts (transactions_of batch) (map fate_of outcomes)
+      b.goes (simp length-map some) answers fates_are (subst (λ l. AppendsPrefix new l newer) (told_outcomes-fates telling.report outcomes) cut)
 
   -- the answer in place of what it is
-  pub as_answered : (layout : Layout) (name : ℕ → List ℕ) (told left old new : Option (List ℕ)) (r s : Result Finish Fault) → r ≡ s →
-      IfSome told (λ input. EndsSo (event_of app size) layout name limit input left old s new) →
-      IfSome told (λ input. EndsSo (event_of app size) layout name limit input left old r new)
-  as_answered layout name told left old new r s e = subst (λ a. IfSome told (λ input. EndsSo (event_of app size) layout name limit input left old a new)) (sym e)
+  pub as_answered : (told left old new : Option (List ℕ)) (r s : Result Finish Fault) → r ≡ s →
+      IfSome told (λ input. EndsSo (event_of app size) telling limit input left old s new) →
+      IfSome told (λ input. EndsSo (event_of app size) telling limit input left old r new)
+  as_answered told left old new r s e = subst (λ a. IfSome told (λ input. EndsSo (event_of app size) telling limit input left old a new)) (sym e)

@@ -1,7 +1,6 @@
 -- The headline of a run, from how the run ends.
 use Rattle.std.proofs.Common.{◌≡◌, ℕ, inl, inr, List, [], ◌++◌, Option, Result, Ok, Err, refl, ap, sym, ◌∙◌, arith, append-nil, append_assoc}
 use Rattle.std.specs.Prelude.{IsErrOf}
-use Rattle.morph_base.specs.declared.key.Layout.{Layout}
 use Rattle.morph_io.specs.Told.{behind}
 use Rattle.morph_io.proofs.Putting.{prefix_more}
 use Rattle.event_reader.specs.Steps.{Meaning}
@@ -11,13 +10,13 @@ use Rattle.morph_cli.specs.declared.fault.Fault.{Fault}
 use Rattle.morph_cli.specs.declared.fault.Fault.TheVariants.{Read, Write, OutOfMemory, TooLong}
 use Rattle.morph_cli.specs.declared.run.Finish.{Finish}
 use Rattle.morph_cli.specs.declared.run.Finish.TheVariants.{Complete, Refused}
-use Rattle.morph_cli.specs.Text.{event_lines, end_text, whole_text}
+use Rattle.morph_cli.specs.Text.{Telling, event_lines, end_text, whole_text}
 use Rattle.morph_cli.specs.Runs.{EndsSo}
 use Rattle.morph_cli.specs.Status.{status_of}
 use Rattle.morph_cli.specs.Headline.{Headline, Completes}
 use Rattle.morph_cli.proofs.Running.{event_lines-front}
 
-module _ (meaning : Meaning) (layout : Layout) (name : ℕ → List ℕ) (limit : ℕ) (input : List ℕ) where
+module _ (meaning : Meaning) (telling : Telling) (limit : ℕ) (input : List ℕ) where
   abbrev some : Accepted
   some = accepted_within meaning limit input
 
@@ -25,33 +24,33 @@ module _ (meaning : Meaning) (layout : Layout) (name : ℕ → List ℕ) (limit 
   all = accepted meaning input
 
   -- the text of what is read within the limit is a front of the whole text
-  front_of_text : (rest : List ℕ) × (whole_text layout name all ≡ whole_text layout name some ++ rest)
+  front_of_text : (rest : List ℕ) × (whole_text telling all ≡ whole_text telling some ++ rest)
   front_of_text = by_ending some.ending refl
     where
-      by_ending : (ending : Ending) → some.ending ≡ ending → (rest : List ℕ) × (whole_text layout name all ≡ whole_text layout name some ++ rest)
+      by_ending : (ending : Ending) → some.ending ≡ ending → (rest : List ℕ) × (whole_text telling all ≡ whole_text telling some ++ rest)
       by_ending Ended is =
-          ([], ap (whole_text layout name) (within_ended meaning limit input is).1 ∙ sym (append-nil (whole_text layout name some)))
+          ([], ap (whole_text telling) (within_ended meaning limit input is).1 ∙ sym (append-nil (whole_text telling some)))
       by_ending (RefusedAt line cause) is =
-          ([], ap (whole_text layout name) (within_refused meaning limit input line cause is) ∙ sym (append-nil (whole_text layout name some)))
+          ([], ap (whole_text telling) (within_refused meaning limit input line cause is) ∙ sym (append-nil (whole_text telling some)))
       by_ending CutOff is =
           let more = (within_is_first meaning limit input).more in
-          let lines = event_lines-front some.batches more in
-          let nothing : whole_text layout name some ≡ event_lines some.batches =
-          ap (λ e. event_lines some.batches ++ end_text layout name some.batches e) is ∙ append-nil (event_lines some.batches) in (
-            lines.0 ++ end_text layout name all.batches all.ending,
-            ap (λ l. l ++ end_text layout name all.batches all.ending) (ap event_lines (within_is_first meaning limit input).batches ∙ lines.1)
-                ∙ append_assoc (event_lines some.batches) lines.0 (end_text layout name all.batches all.ending)
-                ∙ ap (λ l. l ++ (lines.0 ++ end_text layout name all.batches all.ending)) (sym nothing),
+          let lines = event_lines-front telling some.batches more in
+          let nothing : whole_text telling some ≡ event_lines telling.report some.batches =
+          ap (λ e. event_lines telling.report some.batches ++ end_text telling some.batches e) is ∙ append-nil (event_lines telling.report some.batches) in (
+            lines.0 ++ end_text telling all.batches all.ending,
+            ap (λ l. l ++ end_text telling all.batches all.ending) (ap (event_lines telling.report) (within_is_first meaning limit input).batches ∙ lines.1)
+                ∙ append_assoc (event_lines telling.report some.batches) lines.0 (end_text telling all.batches all.ending)
+                ∙ ap (λ l. l ++ (lines.0 ++ end_text telling all.batches all.ending)) (sym nothing),
           )
 
   abbrev Holds : (left old new : Option (List ℕ)) → Result Finish Fault → Type 0
-  Holds left old new r = Headline meaning layout name limit input left old new (status_of r)
+  Holds left old new r = Headline meaning telling limit input left old new (status_of r)
 
-  pub headline : (left old new : Option (List ℕ)) (r : Result Finish Fault) → EndsSo meaning layout name limit input left old r new → Holds left old new r
+  pub headline : (left old new : Option (List ℕ)) (r : Result Finish Fault) → EndsSo meaning telling limit input left old r new → Holds left old new r
   headline left old new (Ok Complete) ends =
       let fits = within_ended meaning limit input ends.0 in
       record {
-        done = λ is. (fits.0, ap (λ a. a.ending) fits.1 ∙ ends.0, ends.1 ∙ ap (λ a. behind old (whole_text layout name a)) (sym fits.1));
+        done = λ is. (fits.0, ap (λ a. a.ending) fits.1 ∙ ends.0, ends.1 ∙ ap (λ a. behind old (whole_text telling a)) (sym fits.1));
         refused = λ is. absurd (omega (arith, is));
         read = λ is. absurd (omega (arith, is));
         write = λ is. absurd (omega (arith, is));
@@ -62,7 +61,7 @@ module _ (meaning : Meaning) (layout : Layout) (name : ℕ → List ℕ) (limit 
       let same = within_refused meaning limit input line cause at in
       record {
         done = λ is. absurd (omega (arith, is));
-        refused = λ is. (line, cause, ap (λ a. a.ending) same ∙ at, appended ∙ ap (λ a. behind old (whole_text layout name a)) (sym same));
+        refused = λ is. (line, cause, ap (λ a. a.ending) same ∙ at, appended ∙ ap (λ a. behind old (whole_text telling a)) (sym same));
         read = λ is. absurd (omega (arith, is));
         write = λ is. absurd (omega (arith, is));
         memory = λ is. absurd (omega (arith, is));
@@ -80,7 +79,7 @@ module _ (meaning : Meaning) (layout : Layout) (name : ℕ → List ℕ) (limit 
     done = λ is. absurd (omega (arith, is));
     refused = λ is. absurd (omega (arith, is));
     read = λ is. absurd (omega (arith, is));
-    write = λ is. prefix_more old new (whole_text layout name some) front_of_text.0 (whole_text layout name all) front_of_text.1 ends;
+    write = λ is. prefix_more old new (whole_text telling some) front_of_text.0 (whole_text telling all) front_of_text.1 ends;
     memory = λ is. absurd (omega (arith, is));
     long = λ is. absurd (omega (arith, is));
   }
@@ -106,14 +105,14 @@ module _ (meaning : Meaning) (layout : Layout) (name : ℕ → List ℕ) (limit 
         read = λ is. absurd (omega (arith, is));
         write = λ is. absurd (omega (arith, is));
         memory = λ is. absurd (omega (arith, is));
-        long = λ is. (cut.0, ends.0, ends.1 ∙ ap (λ l. behind old (event_lines l)) cut.1);
+        long = λ is. (cut.0, ends.0, ends.1 ∙ ap (λ l. behind old (event_lines telling.report l)) cut.1);
       }
 
   abbrev Comes : Result Finish Fault → Type 0
   Comes r = Completes meaning limit input (status_of r)
 
   -- without a fault of the source and the sink, the status is the one that the input asks for, or want of memory
-  pub completes : (left old new : Option (List ℕ)) (r : Result Finish Fault) → EndsSo meaning layout name limit input left old r new
+  pub completes : (left old new : Option (List ℕ)) (r : Result Finish Fault) → EndsSo meaning telling limit input left old r new
       → (IsErrOf r Read → ⊥) → (IsErrOf r Write → ⊥) → Comes r
   completes left old new (Ok Complete) ends reads writes = record {
     done = λ fits is. inl refl;

@@ -5,3 +5,6 @@ pub mod Ending
 pub mod Between
 pub mod Headlines
 pub mod Answering
+pub mod Asked
+pub mod Summing
+pub mod Making

@@ -3,7 +3,6 @@ use Rattle.std.proofs.Common.{cond, ◌≡◌, ℕ, ◌+◌, ◌<◌, List, [], 
 use Rattle.std.specs.Prelude.{option_map, IfSome, not}
 use Rattle.std.proofs.lemmas.List.Sums.{sum_by-append}
 use Rattle.std.proofs.lemmas.List.Concat.{flat_map-append}
-use Rattle.morph_base.specs.declared.key.Layout.{Layout}
 use Rattle.morph_base.specs.Transactions.{Transaction, by_time}
 use Rattle.morph_base.specs.States.{State, opening_state, after, after_all}
 use Rattle.morph_base.specs.Outcomes.{Fate, fate, fates}
@@ -13,7 +12,9 @@ use Rattle.morph_io.specs.Told.{behind, behind_nil, behind_behind, AppendsPrefix
 use Rattle.morph_io.proofs.Putting.{prefix_more}
 use Rattle.event_reader.specs.Accepted.{Accepted, Ending, Ended, RefusedAt, CutOff, with_batch}
 use Rattle.morph_cli.specs.declared.counts.Counts.{Counts}
-use Rattle.morph_cli.specs.Text.{in_order, run_state, run_fates, event_lines, lines_of, event_line, committed_in, aborted_in, value_lines, counts_line, closing_text, end_text, whole_text, refused_text}
+use Rattle.morph_cli.specs.declared.report.Report.{Report}
+use Rattle.morph_cli.specs.declared.report.Report.TheVariants.{Whole, Summary}
+use Rattle.morph_cli.specs.Text.{Telling, in_order, run_state, run_fates, event_lines, told_lines, event_line, committed_in, aborted_in, told_values, counts_line, closing_text, end_text, whole_text, refused_text}
 use Rattle.morph_cli.specs.Runs.{AppendsBatches}
 
 -- batches that were done, in front of those that are still to come
@@ -21,10 +22,10 @@ abbrev pub fronts : List (List Transaction) → Accepted → Accepted
 fronts done all = record { batches = done ++ all.batches; ending = all.ending }
 
 -- between two batches: what was done of what is there, the state and the counts after it, and what was appended
-pub record RunsOn (before now : Option Accepted) (old new : Option (List ℕ)) (s : State) (counts : Counts) (done : List (List Transaction)) : Type 0 where
+pub record RunsOn (telling : Telling) (before now : Option Accepted) (old new : Option (List ℕ)) (s : State) (counts : Counts) (done : List (List Transaction)) : Type 0 where
   pub whole : before ≡ option_map (fronts done) now
   pub state : s ≡ run_state done
-  pub appended : new ≡ behind old (event_lines done)
+  pub appended : new ≡ behind old (event_lines telling.report done)
   pub committed : counts.committed ≡ committed_in (run_fates done)
   pub aborted : counts.aborted ≡ aborted_in (run_fates done)
 
@@ -51,25 +52,37 @@ run_state-more done batch = ap (after_all opening_state) (in_order-more done bat
 run_fates-more : (done : List (List Transaction)) (batch : List Transaction) → run_fates (done ++ batch ∷ []) ≡ run_fates done ++ fates (run_state done) (by_time batch)
 run_fates-more done batch = ap (fates opening_state) (in_order-more done batch) ∙ fates-append opening_state (in_order done) (by_time batch)
 
-event_lines-more : (done : List (List Transaction)) (batch : List Transaction) →
-    event_lines (done ++ batch ∷ []) ≡ event_lines done ++ lines_of (fates (run_state done) (by_time batch))
-event_lines-more done batch = ap lines_of (run_fates-more done batch) ∙ flat_map-append event_line (run_fates done) (fates (run_state done) (by_time batch))
+-- what is told of some events and of more; of none, nothing
+told_lines-append : (report : Report) (fs gs : List Fate) → told_lines report (fs ++ gs) ≡ told_lines report fs ++ told_lines report gs
+told_lines-append Whole fs gs = flat_map-append event_line fs gs
+told_lines-append Summary fs gs = refl
+
+told_lines-nil : (report : Report) → [] ≡ told_lines report []
+told_lines-nil Whole = refl
+told_lines-nil Summary = refl
+
+pub nothing_told : (report : Report) → [] ≡ event_lines report []
+nothing_told report = told_lines-nil report ∙ ap (told_lines report) (sym (fates-nil opening_state))
+
+event_lines-more : (telling : Telling) (done : List (List Transaction)) (batch : List Transaction) →
+    event_lines telling.report (done ++ batch ∷ []) ≡ event_lines telling.report done ++ told_lines telling.report (fates (run_state done) (by_time batch))
+event_lines-more telling done batch = ap (told_lines telling.report) (run_fates-more done batch) ∙ told_lines-append telling.report (run_fates done) (fates (run_state done) (by_time batch))
 
 -- more batches behind what is done
-pub event_lines-front : (done more : List (List Transaction)) → (rest : List ℕ) × (event_lines (done ++ more) ≡ event_lines done ++ rest)
-event_lines-front done more = (
-  lines_of (fates (run_state done) (in_order more)),
-  ap (λ es. lines_of (fates opening_state es)) (flat_map-append by_time done more)
-      ∙ ap lines_of (fates-append opening_state (in_order done) (in_order more))
-      ∙ flat_map-append event_line (run_fates done) (fates (run_state done) (in_order more)),
+pub event_lines-front : (telling : Telling) (done more : List (List Transaction)) → (rest : List ℕ) × (event_lines telling.report (done ++ more) ≡ event_lines telling.report done ++ rest)
+event_lines-front telling done more = (
+  told_lines telling.report (fates (run_state done) (in_order more)),
+  ap (λ es. told_lines telling.report (fates opening_state es)) (flat_map-append by_time done more)
+      ∙ ap (told_lines telling.report) (fates-append opening_state (in_order done) (in_order more))
+      ∙ told_lines-append telling.report (run_fates done) (fates (run_state done) (in_order more)),
 )
 
-pub runs_start : (before : Option Accepted) (old : Option (List ℕ)) (s : State) (counts : Counts) → s ≡ opening_state → counts.committed ≡ 0 → counts.aborted ≡ 0 →
-    RunsOn before before old old s counts []
-runs_start before old s counts opening zero none = record {
+pub runs_start : (telling : Telling) (before : Option Accepted) (old : Option (List ℕ)) (s : State) (counts : Counts) → s ≡ opening_state → counts.committed ≡ 0 → counts.aborted ≡ 0 →
+    RunsOn telling before before old old s counts []
+runs_start telling before old s counts opening zero none = record {
   whole = sym (option_map-same (fronts []) (λ a. refl) before);
   state = opening ∙ sym (after_all-nil opening_state);
-  appended = sym (behind_nil old) ∙ ap (behind old) (ap lines_of (sym (fates-nil opening_state)));
+  appended = sym (behind_nil old) ∙ ap (behind old) (nothing_told telling.report);
   committed = zero ∙ ap committed_in (sym (fates-nil opening_state));
   aborted = none ∙ ap aborted_in (sym (fates-nil opening_state));
 }
@@ -81,20 +94,20 @@ with_batch-fronts done (e ∷ es) all some =
     let at : List (List Transaction) → Accepted = λ l. record { batches = l; ending = all.ending } in
     ap at (sym (append_assoc done ((e ∷ es) ∷ []) all.batches))
 
-pub runs_batch : (before now next : Option Accepted) (old new newer : Option (List ℕ)) (s t : State) (counts counts' : Counts)
-    (done : List (List Transaction)) (batch : List Transaction) (told : List Fate) → RunsOn before now old new s counts done →
+pub runs_batch : (telling : Telling) (before now next : Option Accepted) (old new newer : Option (List ℕ)) (s t : State) (counts counts' : Counts)
+    (done : List (List Transaction)) (batch : List Transaction) (told : List Fate) → RunsOn telling before now old new s counts done →
     now ≡ option_map (with_batch batch) next → 0 < length batch → t ≡ after_all s (by_time batch) → told ≡ fates s (by_time batch) →
-    newer ≡ behind new (lines_of told) → counts'.committed ≡ counts.committed + committed_in told → counts'.aborted ≡ counts.aborted + aborted_in told →
-    RunsOn before next old newer t counts' (done ++ batch ∷ [])
-runs_batch before now next old new newer s t counts counts' done batch told runs was some state fates_are appended committed aborted =
+    newer ≡ behind new (told_lines telling.report told) → counts'.committed ≡ counts.committed + committed_in told → counts'.aborted ≡ counts.aborted + aborted_in told →
+    RunsOn telling before next old newer t counts' (done ++ batch ∷ [])
+runs_batch telling before now next old new newer s t counts counts' done batch told runs was some state fates_are appended committed aborted =
     let told_is : told ≡ fates (run_state done) (by_time batch) = fates_are ∙ ap (λ r. fates r (by_time batch)) runs.state in
     let all_told : run_fates done ++ told ≡ run_fates (done ++ batch ∷ []) = ap (λ l. run_fates done ++ l) told_is ∙ sym (run_fates-more done batch) in
     record {
       whole = runs.whole ∙ ap (option_map (fronts done)) was
           ∙ option_map-twice (fronts done) (with_batch batch) (fronts (done ++ batch ∷ [])) (λ all. with_batch-fronts done batch all some) next;
       state = state ∙ ap (λ r. after_all r (by_time batch)) runs.state ∙ sym (run_state-more done batch);
-      appended = appended ∙ ap (λ w. behind w (lines_of told)) runs.appended ∙ behind_behind old (event_lines done) (lines_of told)
-          ∙ ap (λ l. behind old (event_lines done ++ lines_of l)) told_is ∙ ap (behind old) (sym (event_lines-more done batch));
+      appended = appended ∙ ap (λ w. behind w (told_lines telling.report told)) runs.appended ∙ behind_behind old (event_lines telling.report done) (told_lines telling.report told)
+          ∙ ap (λ l. behind old (event_lines telling.report done ++ told_lines telling.report l)) told_is ∙ ap (behind old) (sym (event_lines-more telling done batch));
       committed = committed ∙ ap (λ n. n + committed_in told) runs.committed ∙ sym (sum_by-append (λ (f : Fate). cond f.committed 1 0) (run_fates done) told) ∙ ap committed_in all_told;
       aborted = aborted ∙ ap (λ n. n + aborted_in told) runs.aborted ∙ sym (sum_by-append (λ (f : Fate). cond (not f.committed) 1 0) (run_fates done) told) ∙ ap aborted_in all_told;
     }
@@ -115,65 +128,65 @@ told_of all None done whole = absurd (cc)
 told_of all (Some rest) done whole = (rest, refl, cc)
 
 -- the run is at the end of what is there
-pub runs_ended : (all : Accepted) (now : Option Accepted) (old new : Option (List ℕ)) (s : State) (counts : Counts) (done : List (List Transaction)) (ending : Ending) →
-    RunsOn (Some all) now old new s counts done → IfSome now (λ rest. rest ≡ record { batches = []; ending = ending }) →
+pub runs_ended : (telling : Telling) (all : Accepted) (now : Option Accepted) (old new : Option (List ℕ)) (s : State) (counts : Counts) (done : List (List Transaction)) (ending : Ending) →
+    RunsOn telling (Some all) now old new s counts done → IfSome now (λ rest. rest ≡ record { batches = []; ending = ending }) →
     all ≡ record { batches = done; ending = ending }
-runs_ended all now old new s counts done ending runs at_end =
+runs_ended telling all now old new s counts done ending runs at_end =
     let t = told_of all now done runs.whole in
     let last : t.0 ≡ record { batches = []; ending = ending } = rw t.1 at at_end in
     let done_with : List (List Transaction) → Accepted = λ l. record { batches = l; ending = ending } in
     t.2 ∙ ap (fronts done) last ∙ ap done_with (append-nil done)
 
 -- the closing text that was written is that of the run
-closing_is : (layout : Layout) (name : ℕ → List ℕ) (s : State) (counts : Counts) (done : List (List Transaction)) → s ≡ run_state done →
+closing_is : (telling : Telling) (s : State) (counts : Counts) (done : List (List Transaction)) → s ≡ run_state done →
     counts.committed ≡ committed_in (run_fates done) → counts.aborted ≡ aborted_in (run_fates done) →
-    value_lines layout name s ++ counts_line counts.committed counts.aborted ≡ closing_text layout name (run_state done) (run_fates done)
-closing_is layout name s counts done state committed aborted =
-    ap (λ r. value_lines layout name r ++ counts_line counts.committed counts.aborted) state
-    ∙ ap (λ n. value_lines layout name (run_state done) ++ counts_line n counts.aborted) committed
-    ∙ ap (λ n. value_lines layout name (run_state done) ++ counts_line (committed_in (run_fates done)) n) aborted
+    told_values telling.report telling.layout telling.name s ++ counts_line counts.committed counts.aborted ≡ closing_text telling (run_state done) (run_fates done)
+closing_is telling s counts done state committed aborted =
+    ap (λ r. told_values telling.report telling.layout telling.name r ++ counts_line counts.committed counts.aborted) state
+    ∙ ap (λ n. told_values telling.report telling.layout telling.name (run_state done) ++ counts_line n counts.aborted) committed
+    ∙ ap (λ n. told_values telling.report telling.layout telling.name (run_state done) ++ counts_line (committed_in (run_fates done)) n) aborted
 
 -- what stands at the end of a run that is done
-abbrev pub IsLast : Layout → (ℕ → List ℕ) → State → Counts → Ending → List ℕ → Type 0
-IsLast layout name s counts Ended text = text ≡ value_lines layout name s ++ counts_line counts.committed counts.aborted
-IsLast layout name s counts (RefusedAt number cause) text = text ≡ refused_text number cause
-IsLast layout name s counts CutOff text = text ≡ []
+abbrev pub IsLast : Telling → State → Counts → Ending → List ℕ → Type 0
+IsLast telling s counts Ended text = text ≡ told_values telling.report telling.layout telling.name s ++ counts_line counts.committed counts.aborted
+IsLast telling s counts (RefusedAt number cause) text = text ≡ refused_text number cause
+IsLast telling s counts CutOff text = text ≡ []
 
-last_is : (layout : Layout) (name : ℕ → List ℕ) (s : State) (counts : Counts) (done : List (List Transaction)) (ending : Ending) (text : List ℕ) →
+last_is : (telling : Telling) (s : State) (counts : Counts) (done : List (List Transaction)) (ending : Ending) (text : List ℕ) →
     s ≡ run_state done → counts.committed ≡ committed_in (run_fates done) → counts.aborted ≡ aborted_in (run_fates done) →
-    IsLast layout name s counts ending text → text ≡ end_text layout name done ending
-last_is layout name s counts done Ended text state committed aborted is = is ∙ closing_is layout name s counts done state committed aborted
-last_is layout name s counts done (RefusedAt number cause) text state committed aborted is = is
-last_is layout name s counts done CutOff text state committed aborted is = is
+    IsLast telling s counts ending text → text ≡ end_text telling done ending
+last_is telling s counts done Ended text state committed aborted is = is ∙ closing_is telling s counts done state committed aborted
+last_is telling s counts done (RefusedAt number cause) text state committed aborted is = is
+last_is telling s counts done CutOff text state committed aborted is = is
 
 -- the end was written: all is as it has to be
-pub runs_done : (layout : Layout) (name : ℕ → List ℕ) (all : Accepted) (now : Option Accepted) (old new newer : Option (List ℕ)) (s : State) (counts : Counts)
-    (done : List (List Transaction)) (ending : Ending) (text : List ℕ) → RunsOn (Some all) now old new s counts done →
-    IfSome now (λ rest. rest ≡ record { batches = []; ending = ending }) → IsLast layout name s counts ending text →
-    newer ≡ behind new text → (all.ending ≡ ending) × (newer ≡ behind old (whole_text layout name all))
-runs_done layout name all now old new newer s counts done ending text runs at_end last written =
-    let whole = runs_ended all now old new s counts done ending runs at_end in
-    let text_is = last_is layout name s counts done ending text runs.state runs.committed runs.aborted last in (
+pub runs_done : (telling : Telling) (all : Accepted) (now : Option Accepted) (old new newer : Option (List ℕ)) (s : State) (counts : Counts)
+    (done : List (List Transaction)) (ending : Ending) (text : List ℕ) → RunsOn telling (Some all) now old new s counts done →
+    IfSome now (λ rest. rest ≡ record { batches = []; ending = ending }) → IsLast telling s counts ending text →
+    newer ≡ behind new text → (all.ending ≡ ending) × (newer ≡ behind old (whole_text telling all))
+runs_done telling all now old new newer s counts done ending text runs at_end last written =
+    let whole = runs_ended telling all now old new s counts done ending runs at_end in
+    let text_is = last_is telling s counts done ending text runs.state runs.committed runs.aborted last in (
       ap (λ (a : Accepted). a.ending) whole,
-      written ∙ ap (λ w. behind w text) runs.appended ∙ behind_behind old (event_lines done) text
-          ∙ ap (λ t. behind old (event_lines done ++ t)) text_is ∙ ap (λ a. behind old (whole_text layout name a)) (sym whole),
+      written ∙ ap (λ w. behind w text) runs.appended ∙ behind_behind old (event_lines telling.report done) text
+          ∙ ap (λ t. behind old (event_lines telling.report done ++ t)) text_is ∙ ap (λ a. behind old (whole_text telling a)) (sym whole),
     )
 
 -- the end was cut off: a prefix of all was written
-pub runs_cut : (layout : Layout) (name : ℕ → List ℕ) (all : Accepted) (now : Option Accepted) (old new newer : Option (List ℕ)) (s : State) (counts : Counts)
-    (done : List (List Transaction)) (ending : Ending) (text : List ℕ) → RunsOn (Some all) now old new s counts done →
-    IfSome now (λ rest. rest ≡ record { batches = []; ending = ending }) → IsLast layout name s counts ending text →
-    AppendsPrefix new text newer → AppendsPrefix old (whole_text layout name all) newer
-runs_cut layout name all now old new newer s counts done ending text runs at_end last cut =
-    let whole = runs_ended all now old new s counts done ending runs at_end in
-    let text_is = last_is layout name s counts done ending text runs.state runs.committed runs.aborted last in
-    subst (λ l. AppendsPrefix old l newer) (ap (λ t. event_lines done ++ t) text_is ∙ ap (whole_text layout name) (sym whole))
-    (prefix_after old new newer (event_lines done) text runs.appended cut)
+pub runs_cut : (telling : Telling) (all : Accepted) (now : Option Accepted) (old new newer : Option (List ℕ)) (s : State) (counts : Counts)
+    (done : List (List Transaction)) (ending : Ending) (text : List ℕ) → RunsOn telling (Some all) now old new s counts done →
+    IfSome now (λ rest. rest ≡ record { batches = []; ending = ending }) → IsLast telling s counts ending text →
+    AppendsPrefix new text newer → AppendsPrefix old (whole_text telling all) newer
+runs_cut telling all now old new newer s counts done ending text runs at_end last cut =
+    let whole = runs_ended telling all now old new s counts done ending runs at_end in
+    let text_is = last_is telling s counts done ending text runs.state runs.committed runs.aborted last in
+    subst (λ l. AppendsPrefix old l newer) (ap (λ t. event_lines telling.report done ++ t) text_is ∙ ap (whole_text telling) (sym whole))
+    (prefix_after old new newer (event_lines telling.report done) text runs.appended cut)
 
 -- the batches done are some first ones of all
-pub runs_short : (all : Accepted) (now : Option Accepted) (old new : Option (List ℕ)) (s : State) (counts : Counts) (done : List (List Transaction)) →
-    RunsOn (Some all) now old new s counts done → AppendsBatches all.batches old new
-runs_short all now old new s counts done runs =
+pub runs_short : (telling : Telling) (all : Accepted) (now : Option Accepted) (old new : Option (List ℕ)) (s : State) (counts : Counts) (done : List (List Transaction)) →
+    RunsOn telling (Some all) now old new s counts done → AppendsBatches telling.report all.batches old new
+runs_short telling all now old new s counts done runs =
     let t = told_of all now done runs.whole in record {
       done = done;
       rest = t.0.batches;
@@ -182,21 +195,21 @@ runs_short all now old new s counts done runs =
     }
 
 -- the lines of a batch were cut off
-pub runs_cut_in_batch : (layout : Layout) (name : ℕ → List ℕ) (all : Accepted) (now next : Option Accepted) (old new newer : Option (List ℕ)) (s : State) (counts : Counts)
-    (done : List (List Transaction)) (batch : List Transaction) (told : List Fate) → RunsOn (Some all) now old new s counts done →
+pub runs_cut_in_batch : (telling : Telling) (all : Accepted) (now next : Option Accepted) (old new newer : Option (List ℕ)) (s : State) (counts : Counts)
+    (done : List (List Transaction)) (batch : List Transaction) (told : List Fate) → RunsOn telling (Some all) now old new s counts done →
     now ≡ option_map (with_batch batch) next → 0 < length batch → told ≡ fates s (by_time batch) →
-    AppendsPrefix new (lines_of told) newer → AppendsPrefix old (whole_text layout name all) newer
-runs_cut_in_batch layout name all now next old new newer s counts done batch told runs was some told_is cut =
+    AppendsPrefix new (told_lines telling.report told) newer → AppendsPrefix old (whole_text telling all) newer
+runs_cut_in_batch telling all now next old new newer s counts done batch told runs was some told_is cut =
     let whole : Some all ≡ option_map (fronts (done ++ batch ∷ [])) next =
     runs.whole ∙ ap (option_map (fronts done)) was
     ∙ option_map-twice (fronts done) (with_batch batch) (fronts (done ++ batch ∷ [])) (λ a. with_batch-fronts done batch a some) next in
     let t = told_of all next (done ++ batch ∷ []) whole in
-    let rest = event_lines-front (done ++ batch ∷ []) t.0.batches in
-    let lines_are : event_lines done ++ lines_of told ≡ event_lines (done ++ batch ∷ []) =
-    ap (λ l. event_lines done ++ lines_of l) (told_is ∙ ap (λ r. fates r (by_time batch)) runs.state) ∙ sym (event_lines-more done batch) in
-    let ended : List ℕ = end_text layout name all.batches all.ending in
-    let all_lines : event_lines all.batches ≡ (event_lines done ++ lines_of told) ++ rest.0 =
-    ap (λ (a : Accepted). event_lines a.batches) t.2 ∙ rest.1 ∙ ap (λ l. l ++ rest.0) (sym lines_are) in
-    prefix_more old newer (event_lines done ++ lines_of told) (rest.0 ++ ended) (whole_text layout name all)
-    (ap (λ l. l ++ ended) all_lines ∙ append_assoc (event_lines done ++ lines_of told) rest.0 ended)
-    (prefix_after old new newer (event_lines done) (lines_of told) runs.appended cut)
+    let rest = event_lines-front telling (done ++ batch ∷ []) t.0.batches in
+    let lines_are : event_lines telling.report done ++ told_lines telling.report told ≡ event_lines telling.report (done ++ batch ∷ []) =
+    ap (λ l. event_lines telling.report done ++ told_lines telling.report l) (told_is ∙ ap (λ r. fates r (by_time batch)) runs.state) ∙ sym (event_lines-more telling done batch) in
+    let ended : List ℕ = end_text telling all.batches all.ending in
+    let all_lines : event_lines telling.report all.batches ≡ (event_lines telling.report done ++ told_lines telling.report told) ++ rest.0 =
+    ap (λ (a : Accepted). event_lines telling.report a.batches) t.2 ∙ rest.1 ∙ ap (λ l. l ++ rest.0) (sym lines_are) in
+    prefix_more old newer (event_lines telling.report done ++ told_lines telling.report told) (rest.0 ++ ended) (whole_text telling all)
+    (ap (λ l. l ++ ended) all_lines ∙ append_assoc (event_lines telling.report done ++ told_lines telling.report told) rest.0 ended)
+    (prefix_after old new newer (event_lines telling.report done) (told_lines telling.report told) runs.appended cut)

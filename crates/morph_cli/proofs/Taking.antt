@@ -8,7 +8,7 @@ use Rattle.event_reader.specs.Steps.{Meaning}
 use Rattle.event_reader.specs.Accepted.{Accepted, CutOff, accepted_from, closed_batches}
 use Rattle.event_reader.specs.declared.answers.Next.TheVariants.{Batch}
 use Rattle.event_reader.specs.Reader.{LinesView, new_lines, accepted_next, Takes, ShowsBatch}
-use Rattle.morph_cli.specs.Text.{event_lines}
+use Rattle.morph_cli.specs.Text.{Telling, event_lines}
 use Rattle.morph_cli.specs.Runs.{AppendsClosed}
 use Rattle.morph_cli.proofs.Running.{fronts, with_batch-fronts}
 
@@ -46,13 +46,13 @@ unfolding ahead
 nothing_told input front back e = cc
 
 -- the source failed: what was done are the batches that are closed within the bytes taken
-pub takes_failed : (meaning : Meaning) (input : List ℕ) (left left' old new : Option (List ℕ)) (closed_before : ℕ) (lines : LinesView)
+pub takes_failed : (telling : Telling) (meaning : Meaning) (input : List ℕ) (left left' old new : Option (List ℕ)) (closed_before : ℕ) (lines : LinesView)
     (done : List (List Transaction)) → TakesOn meaning (Some input) left closed_before lines done → lines.ended ≡ false →
     Takes left left' (λ got. accepted_next meaning closed_before lines (front (lines.kept ++ got)) ≡ record { batches = []; ending = CutOff }) →
-    new ≡ behind old (event_lines done) → AppendsClosed meaning input left' old new
-takes_failed meaning input left None old new closed_before lines done on unended last appended =
+    new ≡ behind old (event_lines telling.report done) → AppendsClosed telling.report meaning input left' old new
+takes_failed telling meaning input left None old new closed_before lines done on unended last appended =
     absurd (let e = on.parts ∙ ap (ahead on.taken) last.taken in nothing_told input on.taken last.got e)
-takes_failed meaning input left (Some rest) old new closed_before lines done on unended last appended =
+takes_failed telling meaning input left (Some rest) old new closed_before lines done on unended last appended =
     let taken : List ℕ = on.taken ++ last.got in
     let whole : Some input ≡ Some (taken ++ rest) = on.parts ∙ ap (ahead on.taken) last.taken ∙ ahead_ahead on.taken last.got (Some rest) ∙ ahead_some taken rest in
     let closed_is : closed_batches meaning taken ≡ done =
@@ -62,5 +62,5 @@ takes_failed meaning input left (Some rest) old new closed_before lines done on 
       rest = rest;
       parts = cc;
       left_is = refl;
-      appended = appended ∙ ap (λ l. behind old (event_lines l)) (sym closed_is);
+      appended = appended ∙ ap (λ l. behind old (event_lines telling.report l)) (sym closed_is);
     }

@@ -1,15 +1,73 @@
--- What the settings say of the application: what a line says, its tables and their names.
-use Rattle.std.specs.Prelude.{ℕ, ◌==◌, if◌then◌else◌, List, codes}
-use Rattle.morph_base.specs.declared.key.Layout.{Layout}
+-- What the settings say of a run: its input, what a line says, and how the run is told.
+use Rattle.std.specs.Prelude.{ℕ, ◌==◌, if◌then◌else◌, List, codes, Option, Some, None}
 use Rattle.event_reader.specs.Steps.{Meaning}
+use Rattle.event_reader.specs.Generated.{Drawn}
+use Rattle.event_reader.specs.GeneratedText.{generated_text}
 use Rattle.ledger_app.specs.Ledger.{ledger_event}
+use Rattle.ledger_app.specs.LedgerDraws.{ledger_drawn}
+use Rattle.grep_app.specs.Grep.{grep_event}
+use Rattle.grep_app.specs.GrepDraws.{grep_drawn}
+use Rattle.toll_app.specs.Toll.{toll_event}
+use Rattle.toll_app.specs.TollDraws.{toll_drawn}
+use Rattle.morph_cli.specs.declared.report.Report.{Report}
+use Rattle.morph_cli.specs.declared.report.Report.TheVariants.{Whole, Summary}
 use Rattle.morph_cli.specs.declared.settings.Settings.{Settings}
+use Rattle.morph_cli.specs.declared.settings.Generated.{Generated}
+use Rattle.morph_cli.specs.declared.settings.App.{App}
+use Rattle.morph_cli.specs.declared.settings.App.TheVariants.{Ledger, Grep, Toll}
+use Rattle.morph_cli.specs.Text.{Telling}
 
+-- a summary where the program makes the input itself
+abbrev pub report_by : Option Generated → Report
+report_by None = Whole
+report_by (Some g) = Summary
+
+abbrev pub report_of : Settings → Report
+report_of s = report_by s.generated
+
+-- how a run is told, where tables have so many ids and these names
+abbrev pub telling_by : Option Generated → (tables size : ℕ) → (ℕ → List ℕ) → Telling
+telling_by generated tables size name = record { report = report_by generated; layout = record { tables = tables; size = size }; name = name }
+
+-- the input: what the source has left, or a text that the program makes
+abbrev pub input_by : Option Generated → (text : (seed events : ℕ) → List ℕ) → Option (List ℕ) → Option (List ℕ)
+input_by None text left = left
+input_by (Some g) text left = Some (text g.seed g.events)
+
+-- what is left of an input that is read; of one that the program makes it is not told
+abbrev pub left_by : Option Generated → Option (List ℕ) → Option (List ℕ)
+left_by None left = left
+left_by (Some g) left = None
+
+-- the applications: what the words of a line say, where each table has so many ids
+abbrev pub event_in : App → (size : ℕ) → Meaning
+event_in Ledger = ledger_event
+event_in Grep = grep_event
+event_in Toll = toll_event
+
+-- what their generators write
+abbrev pub drawn_in : App → (size i state : ℕ) → Drawn
+drawn_in Ledger = ledger_drawn
+drawn_in Grep = grep_drawn
+drawn_in Toll = toll_drawn
+
+-- their tables, and the names of these
+abbrev pub tables_in : App → ℕ
+tables_in Ledger = 2
+tables_in Grep = 1
+tables_in Toll = 4
+
+abbrev pub name_in : App → (table : ℕ) → List ℕ
+name_in Ledger table = if table == 0 then codes "acct" else codes "asset"
+name_in Grep table = codes "cell"
+name_in Toll table = if table == 0 then codes "spd" else (if table == 1 then codes "at" else (if table == 2 then codes "cnt" else codes "bill"))
+
+-- all of this by the settings
 abbrev pub meaning_of : Settings → Meaning
-meaning_of s = ledger_event s.size
+meaning_of s = event_in s.app s.size
 
-abbrev pub layout_of : Settings → Layout
-layout_of s = record { tables = 2; size = s.size }
+abbrev pub input_of : Settings → Option (List ℕ) → Option (List ℕ)
+input_of s left = input_by s.generated (generated_text (drawn_in s.app s.size)) left
 
-abbrev pub name_of : Settings → ℕ → List ℕ
-name_of s table = if table == 0 then codes "acct" else codes "asset"
+abbrev pub telling_of : Settings → Telling
+telling_of s = telling_by s.generated (tables_in s.app) s.size (name_in s.app)

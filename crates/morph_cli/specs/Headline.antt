@@ -1,30 +1,29 @@
 -- The headline: what stands in the sink and which status the run has, by what the input is.
 use Rattle.std.specs.Prelude.{◌≡◌, ℕ, ◌<◌, ◌≤◌, ◌⊎◌, List, length, take, Option}
-use Rattle.morph_base.specs.declared.key.Layout.{Layout}
 use Rattle.morph_io.specs.Told.{behind, AppendsPrefix}
 use Rattle.event_reader.specs.declared.cause.Cause.{Cause}
 use Rattle.event_reader.specs.Steps.{Meaning}
 use Rattle.event_reader.specs.Accepted.{Ended, RefusedAt, CutOff, accepted, accepted_within, closed_batches}
-use Rattle.morph_cli.specs.Text.{event_lines, whole_text}
+use Rattle.morph_cli.specs.Text.{Telling, event_lines, whole_text}
 use Rattle.morph_cli.specs.Runs.{AppendsBatches, AppendsClosed}
 
 -- over an input, where at most `limit` bytes of it are read: by the status, what the input is and what was appended to the
 -- sink. The whole text is that of applying the events one transaction at a time, in the order of time, to a plain map
-pub record Headline (meaning : Meaning) (layout : Layout) (name : ℕ → List ℕ) (limit : ℕ) (input : List ℕ) (left old new : Option (List ℕ)) (status : ℕ) : Type 0 where
+pub record Headline (meaning : Meaning) (telling : Telling) (limit : ℕ) (input : List ℕ) (left old new : Option (List ℕ)) (status : ℕ) : Type 0 where
   -- all was read and accepted, and the whole text was written
-  pub done : status ≡ 0 → (length input ≤ limit) × ((accepted meaning input).ending ≡ Ended) × (new ≡ behind old (whole_text layout name (accepted meaning input)))
+  pub done : status ≡ 0 → (length input ≤ limit) × ((accepted meaning input).ending ≡ Ended) × (new ≡ behind old (whole_text telling (accepted meaning input)))
   -- a line was refused, and the whole text with the refused text was written
   pub refused : status ≡ 3 → (line : ℕ) × (cause : Cause) × ((accepted meaning input).ending ≡ RefusedAt line cause)
-      × (new ≡ behind old (whole_text layout name (accepted meaning input)))
-  -- reading failed: the lines of the events of the batches that are closed within the bytes taken
-  pub read : status ≡ 4 → AppendsClosed meaning input left old new
+      × (new ≡ behind old (whole_text telling (accepted meaning input)))
+  -- reading failed: what is told of the events of the batches that are closed within the bytes taken
+  pub read : status ≡ 4 → AppendsClosed telling.report meaning input left old new
   -- writing failed: a prefix of the whole text
-  pub write : status ≡ 5 → AppendsPrefix old (whole_text layout name (accepted meaning input)) new
-  -- want of memory: the lines of the events of some first accepted batches, whole
-  pub memory : status ≡ 6 → AppendsBatches (accepted meaning input).batches old new
-  -- the input is too long: the lines of the events of the batches that are closed within the limit, none of whose lines is refused
+  pub write : status ≡ 5 → AppendsPrefix old (whole_text telling (accepted meaning input)) new
+  -- want of memory: what is told of the events of some first accepted batches, whole
+  pub memory : status ≡ 6 → AppendsBatches telling.report (accepted meaning input).batches old new
+  -- the input is too long: what is told of the events of the batches that are closed within the limit, none of whose lines is refused
   pub long : status ≡ 7 → (limit < length input) × ((accepted_within meaning limit input).ending ≡ CutOff)
-      × (new ≡ behind old (event_lines (closed_batches meaning (take limit input))))
+      × (new ≡ behind old (event_lines telling.report (closed_batches meaning (take limit input))))
 
 -- where no fault came, the status is the one that the input asks for, or want of memory
 pub record Completes (meaning : Meaning) (limit : ℕ) (input : List ℕ) (status : ℕ) : Type 0 where

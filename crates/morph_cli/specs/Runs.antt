@@ -1,6 +1,5 @@
 -- What a run comes to: by what is read, where it ends, and what stands in the sink.
 use Rattle.std.specs.Prelude.{◌≡◌, ℕ, List, ◌++◌, Option, Some, Result, Ok, Err}
-use Rattle.morph_base.specs.declared.key.Layout.{Layout}
 use Rattle.morph_base.specs.Transactions.{Transaction}
 use Rattle.morph_io.specs.Told.{behind, AppendsPrefix}
 use Rattle.event_reader.specs.declared.cause.Cause.{Cause}
@@ -10,33 +9,43 @@ use Rattle.morph_cli.specs.declared.run.Finish.{Finish}
 use Rattle.morph_cli.specs.declared.run.Finish.TheVariants.{Complete, Refused}
 use Rattle.morph_cli.specs.declared.fault.Fault.{Fault}
 use Rattle.morph_cli.specs.declared.fault.Fault.TheVariants.{Read, Write, OutOfMemory, TooLong}
-use Rattle.morph_cli.specs.Text.{event_lines, whole_text}
+use Rattle.morph_cli.specs.declared.report.Report.{Report}
+use Rattle.morph_cli.specs.Text.{Telling, event_lines, whole_text}
 
--- the lines of the events of some first ones of the batches, whole, were appended
-pub record AppendsBatches (batches : List (List Transaction)) (old new : Option (List ℕ)) : Type 0 where
+-- what is told of the events of some first ones of the batches, whole, was appended
+pub record AppendsBatches (report : Report) (batches : List (List Transaction)) (old new : Option (List ℕ)) : Type 0 where
   pub done : List (List Transaction)
   pub rest : List (List Transaction)
   pub parts : batches ≡ done ++ rest
-  pub appended : new ≡ behind old (event_lines done)
+  pub appended : new ≡ behind old (event_lines report done)
 
--- some bytes of the input were taken, and the lines of the events of the batches that are closed within them were appended
-pub record AppendsClosed (meaning : Meaning) (input : List ℕ) (left old new : Option (List ℕ)) : Type 0 where
+-- some bytes of the input were taken, and what is told of the events of the batches that are closed within them was appended
+pub record AppendsClosed (report : Report) (meaning : Meaning) (input : List ℕ) (left old new : Option (List ℕ)) : Type 0 where
   pub taken : List ℕ
   pub rest : List ℕ
   pub parts : input ≡ taken ++ rest
   pub left_is : left ≡ Some rest
-  pub appended : new ≡ behind old (event_lines (closed_batches meaning taken))
+  pub appended : new ≡ behind old (event_lines report (closed_batches meaning taken))
 
 -- how a run over an input ends, where at most `limit` bytes of it are read
-module _ (meaning : Meaning) (layout : Layout) (name : ℕ → List ℕ) (limit : ℕ) (input : List ℕ) where
+module _ (meaning : Meaning) (telling : Telling) (limit : ℕ) (input : List ℕ) where
   abbrev pub all : Accepted
   all = accepted_within meaning limit input
 
   abbrev pub EndsSo : (left old : Option (List ℕ)) → Result Finish Fault → (new : Option (List ℕ)) → Type 0
-  EndsSo left old (Ok Complete) new = (all.ending ≡ Ended) × (new ≡ behind old (whole_text layout name all))
+  EndsSo left old (Ok Complete) new = (all.ending ≡ Ended) × (new ≡ behind old (whole_text telling all))
   EndsSo left old (Ok Refused) new =
-      (line : ℕ) × (cause : Cause) × (all.ending ≡ RefusedAt line cause) × (new ≡ behind old (whole_text layout name all))
-  EndsSo left old (Err Read) new = AppendsClosed meaning input left old new
-  EndsSo left old (Err TooLong) new = (all.ending ≡ CutOff) × (new ≡ behind old (event_lines all.batches))
-  EndsSo left old (Err OutOfMemory) new = AppendsBatches all.batches old new
-  EndsSo left old (Err Write) new = AppendsPrefix old (whole_text layout name all) new
+      (line : ℕ) × (cause : Cause) × (all.ending ≡ RefusedAt line cause) × (new ≡ behind old (whole_text telling all))
+  EndsSo left old (Err Read) new = AppendsClosed telling.report meaning input left old new
+  EndsSo left old (Err TooLong) new = (all.ending ≡ CutOff) × (new ≡ behind old (event_lines telling.report all.batches))
+  EndsSo left old (Err OutOfMemory) new = AppendsBatches telling.report all.batches old new
+  EndsSo left old (Err Write) new = AppendsPrefix old (whole_text telling all) new
+
+-- a run over an input that the program makes: it is read to its end, or a write fails, or memory is refused
+abbrev pub EndsMade : Result Finish Fault → Type 0
+EndsMade (Ok Complete) = Unit {0}
+EndsMade (Ok Refused) = ⊥
+EndsMade (Err Read) = ⊥
+EndsMade (Err TooLong) = ⊥
+EndsMade (Err OutOfMemory) = Unit {0}
+EndsMade (Err Write) = Unit {0}

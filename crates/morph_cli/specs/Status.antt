@@ -1,5 +1,5 @@
 -- The statuses, and the last line of the notes.
-use Rattle.std.specs.Prelude.{◌≡◌, ℕ, ◌≤◌, ◌==◌, if◌then◌else◌, List, [], codes, Result, Ok, Err}
+use Rattle.std.specs.Prelude.{◌≡◌, ℕ, ◌≤◌, ◌⊎◌, ◌==◌, if◌then◌else◌, List, [], codes, Result, Ok, Err}
 use Rattle.morph_cli.specs.declared.fault.Fault.{Fault}
 use Rattle.morph_cli.specs.declared.fault.Fault.TheVariants.{Read, Write, OutOfMemory, TooLong}
 use Rattle.morph_cli.specs.declared.run.Finish.{Finish}
@@ -18,7 +18,7 @@ status_of (Err TooLong) = 7
 -- the last line of the notes by the status: at 0 and 3 there is none
 abbrev pub note_at : (status : ℕ) → List ℕ
 note_at status =
-    if status == 2 then line (codes "usage: morph app=ledger")
+    if status == 2 then line (codes "usage: morph app=ledger|grep|toll [name=value ...]")
     else (if status == 4 then line (codes "morph: read failed")
     else (if status == 5 then line (codes "morph: write failed")
     else (if status == 6 then line (codes "morph: out of memory")
@@ -27,3 +27,7 @@ note_at status =
 -- the statuses: 0, and 2 to 7
 abbrev pub IsStatus : ℕ → Type 0
 IsStatus status = (status ≤ 7) × (status ≡ 1 → ⊥)
+
+-- those of a run over an input that the program makes
+abbrev pub IsMadeStatus : ℕ → Type 0
+IsMadeStatus status = (status ≡ 0) ⊎ (status ≡ 5) ⊎ (status ≡ 6)

@@ -16,7 +16,7 @@ pub struct Ended {
 pub const USAGE_STATUS: u8 = 2;
 
 /// The last line of the notes where the words are no settings.
-pub const USAGE: &[u8] = b"usage: morph app=ledger\n";
+pub const USAGE: &[u8] = b"usage: morph app=ledger|grep|toll [name=value ...]\n";
 
 /// The status of a run.
 pub fn status(end: &Result<Finish, Fault>) -> u8

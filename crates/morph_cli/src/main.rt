@@ -12,11 +12,13 @@ mod ended;
 mod fault;
 mod morph;
 mod note;
+mod report;
 mod run;
 mod settings;
 #[cfg(test)]
 mod tests;
 mod text;
+mod totals;
 mod words;
 mod writing;
 

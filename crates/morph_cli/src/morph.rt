@@ -1,22 +1,67 @@
-ghost use Rattle.std.specs.Prelude.{◌≡◌, ◌≤◌, None, map, IfSome, IsErrOf};
+ghost use Rattle.std.specs.Prelude.{◌≡◌, None, Some, map, IsSome, IfSome, IsErrOf};
 ghost use Rattle.morph_io.specs.Told.{behind, HasRisen, AppendsPrefix};
 ghost use Rattle.event_reader.specs.declared.limits.TheConstants.{INPUT_BYTES};
-ghost use Rattle.morph_cli.specs.Apps.{meaning_of, layout_of, name_of};
+ghost use Rattle.event_reader.specs.GeneratedText.{generated_text};
+ghost use Rattle.morph_cli.specs.Apps.{input_by, input_of, left_by, meaning_of, telling_by, telling_of};
 ghost use Rattle.morph_cli.specs.Headline.{Headline, Completes};
-ghost use Rattle.morph_cli.specs.Runs.{EndsSo};
-ghost use Rattle.morph_cli.specs.Settings.{settings_of};
-ghost use Rattle.morph_cli.specs.Status.{note_at, IsStatus};
+ghost use Rattle.morph_cli.specs.Runs.{EndsSo, EndsMade};
+ghost use Rattle.morph_cli.specs.Settings.{AreInRange, settings_of};
+ghost use Rattle.morph_cli.specs.Status.{note_at, IsStatus, IsMadeStatus};
 
 use crate::ended::{Ended, USAGE, USAGE_STATUS, note_of, status};
 use crate::fault::Fault;
 use crate::note::write_note;
 use crate::run::{Finish, run};
-use crate::settings::{App, Settings};
+use crate::settings::{App, Generated, Settings};
 use crate::words::settings;
+use event_reader::{EventApp, GenSource};
+use grep_app::Grep;
 use ledger_app::Ledger;
 use morph_base::List;
 use morph_io::{Sink, Source};
 use std::alloc::Global;
+use toll_app::Toll;
+
+/// Runs an application over the input that the settings ask for: the source's, or one that the program makes.
+fn run_over<A: EventApp + Copy, S: Source, K: Sink>(
+    alloc: Global,
+    app: A,
+    settings: Settings,
+    source: &mut S,
+    sink: &mut K,
+) -> Result<Finish, Fault>
+    requires { AreInRange settings }
+    ensures ends { IfSome (input_by settings.generated (generated_text (A.generated app settings.size)) (S.left source.old)) (λ input.
+        EndsSo (A.event_of app settings.size) (telling_by settings.generated (A.table_count app) settings.size (A.name_of app))
+        INPUT_BYTES input (left_by settings.generated (S.left source.new)) (K.written sink.old) result (K.written sink.new)) }
+    ensures made { IsSome settings.generated → (source.new ≡ source.old) × EndsMade result }
+    ensures read { IsErrOf result Fault.Read → HasRisen (S.faults source.old) (S.faults source.new) }
+    ensures write { IsErrOf result Fault.Write → HasRisen (K.faults sink.old) (K.faults sink.new) }
+{
+    match settings.generated {
+        None => run(alloc, app, settings, source, sink),
+        Some(generated) => run_made(alloc, app, settings, generated, sink),
+    }
+}
+
+/// Runs an application over an input that the program makes.
+fn run_made<A: EventApp + Copy, K: Sink>(
+    alloc: Global,
+    app: A,
+    settings: Settings,
+    generated: Generated,
+    sink: &mut K,
+) -> Result<Finish, Fault>
+    requires settings { AreInRange settings }
+    requires generated { settings.generated ≡ Some generated }
+    ensures ends { EndsSo (A.event_of app settings.size) (telling_by settings.generated (A.table_count app) settings.size (A.name_of app))
+        INPUT_BYTES (generated_text (A.generated app settings.size) generated.seed generated.events) None (K.written sink.old) result (K.written sink.new) }
+    ensures made { EndsMade result }
+    ensures write { IsErrOf result Fault.Write → HasRisen (K.faults sink.old) (K.faults sink.new) }
+{
+    let mut source = GenSource::new(app, generated.seed, generated.events, settings.size);
+    run(alloc, app, settings, &mut source, sink)
+}
 
 /// Runs the application that the settings name.
 fn run_app<S: Source, K: Sink>(
@@ -25,19 +70,22 @@ fn run_app<S: Source, K: Sink>(
     source: &mut S,
     sink: &mut K,
 ) -> Result<Finish, Fault>
-    requires { 1 ≤ settings.size }
-    ensures ends { IfSome (S.left source.old) (λ input. EndsSo (meaning_of settings) (layout_of settings) (name_of settings)
-        INPUT_BYTES input (S.left source.new) (K.written sink.old) result (K.written sink.new)) }
+    requires { AreInRange settings }
+    ensures ends { IfSome (input_of settings (S.left source.old)) (λ input. EndsSo (meaning_of settings) (telling_of settings)
+        INPUT_BYTES input (left_by settings.generated (S.left source.new)) (K.written sink.old) result (K.written sink.new)) }
+    ensures made { IsSome settings.generated → (source.new ≡ source.old) × EndsMade result }
     ensures read { IsErrOf result Fault.Read → HasRisen (S.faults source.old) (S.faults source.new) }
     ensures write { IsErrOf result Fault.Write → HasRisen (K.faults sink.old) (K.faults sink.new) }
 {
     match settings.app {
-        App::Ledger => run(alloc, Ledger, settings.size, source, sink),
+        App::Ledger => run_over(alloc, Ledger, settings, source, sink),
+        App::Grep => run_over(alloc, Grep, settings, source, sink),
+        App::Toll => run_over(alloc, Toll, settings, source, sink),
     }
 }
 
-/// Does all that the program does: reads the settings from its words, runs the application over the source, writes the
-/// text to the sink, and the last line to the notes where there is one.
+/// Does all that the program does: reads the settings from its words, runs the application over the source or over an input
+/// that it makes itself, writes the text to the sink, and the last line to the notes where there is one.
 ///
 /// The text is that of applying the events one transaction at a time, in the order of time within each batch, to a map
 /// that is zero everywhere. The statuses are those of [`Ended`]. A fault of writing the last line of the notes changes
@@ -51,11 +99,14 @@ pub fn morph<S: Source, K: Sink, N: Sink>(
 ) -> Ended
     ensures usage { (result.status ≡ 2 → settings_of (map (λ word. word.items) words.now) ≡ None) × (settings_of (map (λ word. word.items) words.now) ≡ None → result.status ≡ 2) }
     ensures untouched { result.status ≡ 2 → (source.new ≡ source.old) × (sink.new ≡ sink.old) }
-    ensures headline { IfSome (settings_of (map (λ word. word.items) words.now)) (λ s. IfSome (S.left source.old) (λ input.
-        Headline (meaning_of s) (layout_of s) (name_of s) INPUT_BYTES input (S.left source.new) (K.written sink.old) (K.written sink.new) result.status)) }
+    ensures headline { IfSome (settings_of (map (λ word. word.items) words.now)) (λ s. IfSome (input_of s (S.left source.old)) (λ input.
+        Headline (meaning_of s) (telling_of s) INPUT_BYTES input (left_by s.generated (S.left source.new)) (K.written sink.old) (K.written sink.new) result.status)) }
     ensures completes { (HasRisen (S.faults source.old) (S.faults source.new) → ⊥) → (HasRisen (K.faults sink.old) (K.faults sink.new) → ⊥)
-        → IfSome (settings_of (map (λ word. word.items) words.now)) (λ s. IfSome (S.left source.old) (λ input.
+        → IfSome (settings_of (map (λ word. word.items) words.now)) (λ s. IfSome (input_of s (S.left source.old)) (λ input.
         Completes (meaning_of s) INPUT_BYTES input result.status)) }
+
+    // An input that the program makes is not read from the source, and none of its lines is refused.
+    ensures made { IfSome (settings_of (map (λ word. word.items) words.now)) (λ s. IsSome s.generated → (source.new ≡ source.old) × IsMadeStatus result.status) }
     ensures read { result.status ≡ 4 → HasRisen (S.faults source.old) (S.faults source.new) }
     ensures write { result.status ≡ 5 → HasRisen (K.faults sink.old) (K.faults sink.new) }
     ensures statuses { IsStatus result.status }

@@ -1,11 +1,14 @@
 ghost use Rattle.std.specs.Prelude.{◌≡◌, ℕ, ◌≤◌, IfSome, IsErrOf};
 ghost use Rattle.event_reader.specs.declared.limits.TheConstants.{INPUT_BYTES};
 ghost use Rattle.morph_io.specs.Told.{HasRisen};
+ghost use Rattle.morph_cli.specs.Apps.{telling_by};
 ghost use Rattle.morph_cli.specs.Runs.{EndsSo};
+ghost use Rattle.morph_cli.specs.Settings.{AreInRange};
 
 use crate::batch::run_batch;
 use crate::counts::Counts;
 use crate::fault::Fault;
+use crate::settings::Settings;
 use crate::writing::{write_closing, write_events, write_refused};
 use event_reader::{BatchReader, EventApp, INPUT_BYTES, Next};
 use morph_base::Layout;
@@ -26,13 +29,13 @@ pub enum Finish {
 pub fn run<A: EventApp + Copy, S: Source, K: Sink>(
     alloc: Global,
     app: A,
-    size: u32,
+    settings: Settings,
     source: &mut S,
     sink: &mut K,
 ) -> Result<Finish, Fault>
-    requires { 1 ≤ size }
-    ensures ends { IfSome (S.left source.old) (λ input. EndsSo (A.event_of app size) (record { tables = A.table_count app; size = size }) (A.name_of app)
-        INPUT_BYTES input (S.left source.new) (K.written sink.old) result (K.written sink.new)) }
+    requires { AreInRange settings }
+    ensures ends { IfSome (S.left source.old) (λ input. EndsSo (A.event_of app settings.size)
+        (telling_by settings.generated (A.table_count app) settings.size (A.name_of app)) INPUT_BYTES input (S.left source.new) (K.written sink.old) result (K.written sink.new)) }
     ensures source_faults { S.faults source.old ≤ S.faults source.new }
     ensures sink_faults { K.faults sink.old ≤ K.faults sink.new }
     ensures read { IsErrOf result Fault.Read → HasRisen (S.faults source.old) (S.faults source.new) }
@@ -40,10 +43,10 @@ pub fn run<A: EventApp + Copy, S: Source, K: Sink>(
 {
     let layout = Layout {
         tables: app.tables(),
-        size,
+        size: settings.size,
     };
     let mut engine = Engine::new(alloc, layout)?;
-    let mut reader = BatchReader::new(alloc, app, size, INPUT_BYTES)?;
+    let mut reader = BatchReader::new(alloc, app, settings.size, INPUT_BYTES)?;
     let mut out = Out::new(alloc)?;
     let mut counts = Counts {
         committed: 0,
@@ -53,11 +56,18 @@ pub fn run<A: EventApp + Copy, S: Source, K: Sink>(
         match reader.next_batch(alloc, source)? {
             Next::Batch(batch) => {
                 let outcomes = run_batch(alloc, &mut engine, &batch)?;
-                write_events(&mut out, sink, outcomes.as_slice())?;
+                write_events(&mut out, sink, settings.report(), outcomes.as_slice())?;
                 counts.add(outcomes.as_slice());
             }
             Next::End => {
-                write_closing(&mut out, sink, &app, engine.state(), counts)?;
+                write_closing(
+                    &mut out,
+                    sink,
+                    &app,
+                    settings.report(),
+                    engine.state(),
+                    counts,
+                )?;
                 return Ok(Finish::Complete);
             }
             Next::Refused { line, cause } => {

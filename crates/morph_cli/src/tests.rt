@@ -1,4 +1,5 @@
 //! Runs of the program over memory: what stands in the sink and in the notes, and the status.
+mod apps;
 mod faults;
 mod inputs;
 
@@ -6,6 +7,8 @@ use crate::morph::morph;
 use morph_base::{List, OutOfMemory};
 use morph_io::{MemSink, MemSource, Sink, Source};
 use std::alloc::Global;
+use std::process::Abort;
+use std::test::Fail;
 
 /// The words that ask for the ledger.
 const LEDGER: &[&[u8]] = &[b"app=ledger"];
@@ -79,13 +82,28 @@ fn run_with(
     })
 }
 
-/// Runs the ledger on an input that comes in pieces of a thousand bytes.
-fn run_over(alloc: Global, input: &[u8]) -> Result<Ran, OutOfMemory> {
+/// Runs the program with these words on an input that comes in pieces of a thousand bytes.
+fn run_words(alloc: Global, words: &[&[u8]], input: &[u8]) -> Result<Ran, OutOfMemory> {
     let mut source = source_of(alloc, input, 1000, &[])?;
     run_with(
         alloc,
-        LEDGER,
+        words,
         &mut source,
         sink_of(alloc, 100_000, &[], &[])?,
     )
+}
+
+/// Runs the program with these words over each input, and expects this status and text, and no notes.
+fn expect(
+    rt: &(impl Abort + Alloc<A = Global>),
+    words: &[&[u8]],
+    runs: &[(&[u8], u8, &[u8])],
+) -> Result<(), Fail> {
+    for (input, status, text) in runs {
+        let ran = run_words(rt.alloc(), words, input)?;
+        assert_eq!(rt; ran.status, *status);
+        assert_eq!(rt; ran.sink.bytes(), *text);
+        assert_eq!(rt; ran.notes.bytes(), b"".as_slice());
+    }
+    Ok(())
 }

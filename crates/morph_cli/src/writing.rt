@@ -2,18 +2,42 @@ ghost use Rattle.std.specs.Prelude.{◌≡◌, ◌<◌, ◌≤◌, [], ◌++◌,
 ghost use Rattle.morph_base.specs.declared.limits.TheConstants.{EVENT_OPS};
 ghost use Rattle.morph_base.specs.Flat.{contents};
 ghost use Rattle.event_reader.specs.declared.limits.TheConstants.{NAME_BYTES};
+ghost use Rattle.morph_cli.specs.declared.settings.TheConstants.{GREATEST_SIZE};
 ghost use Rattle.morph_io.specs.Told.{behind, HasRisen, Puts, AppendsPrefix};
-ghost use Rattle.morph_cli.specs.Text.{outcome_lines, value_line, table_lines, value_lines, counts_line, cause_word, refused_text};
+ghost use Rattle.morph_cli.specs.Text.{outcome_lines, told_outcomes, value_line, table_lines, value_lines, told_values, counts_line, cause_word, refused_text};
 
 use crate::counts::Counts;
+use crate::report::Report;
 use crate::text::event_line;
+use crate::totals::put_totals;
 use event_reader::{Cause, EventApp};
 use morph_base::{Key, Outcome};
 use morph_io::{LineBuf, Out, Sink, WriteFailed};
 use version_table::State;
 
-/// Writes the lines of events, whole.
+/// Writes what is told of events, whole: their lines, and in a summary nothing.
 pub fn write_events<K: Sink>(
+    out: &mut Out,
+    sink: &mut K,
+    report: Report,
+    outcomes: &[Outcome],
+) -> Result<(), WriteFailed>
+    requires empty { out.old ≡ [] }
+    requires few { All (λ o. length o.values.items ≤ EVENT_OPS) outcomes.now }
+    ensures written { OnOk result (K.written sink.new ≡ behind (K.written sink.old) (told_outcomes report outcomes.now)) }
+    ensures prefix { OnErr result (AppendsPrefix (K.written sink.old) (told_outcomes report outcomes.now) (K.written sink.new)) }
+    ensures empty { OnOk result (out.new ≡ []) }
+    ensures never_falls { K.faults sink.old ≤ K.faults sink.new }
+    ensures cause { OnErr result (HasRisen (K.faults sink.old) (K.faults sink.new)) }
+{
+    match report {
+        Report::Whole => write_lines(out, sink, outcomes),
+        Report::Summary => Ok(()),
+    }
+}
+
+/// Writes the lines of events, whole.
+fn write_lines<K: Sink>(
     out: &mut Out,
     sink: &mut K,
     outcomes: &[Outcome],
@@ -30,24 +54,26 @@ pub fn write_events<K: Sink>(
     out.flush(sink)
 }
 
-/// Writes the closing text: the values that are not zero, and the counts.
+/// Writes the closing text: what is told of the values, and the counts.
 pub fn write_closing<A: EventApp, K: Sink>(
     out: &mut Out,
     sink: &mut K,
     app: &A,
+    report: Report,
     values: &State,
     counts: Counts,
 ) -> Result<(), WriteFailed>
     requires empty { out.old ≡ [] }
     requires tables { values.now.layout.tables ≡ A.table_count app.now }
+    requires few_ids { values.now.layout.size ≤ GREATEST_SIZE }
     ensures written { OnOk result (K.written sink.new
-        ≡ behind (K.written sink.old) (value_lines values.now.layout (A.name_of app.now) (contents values.now) ++ counts_line counts.committed counts.aborted)) }
+        ≡ behind (K.written sink.old) (told_values report values.now.layout (A.name_of app.now) (contents values.now) ++ counts_line counts.committed counts.aborted)) }
     ensures prefix { OnErr result (AppendsPrefix (K.written sink.old)
-        (value_lines values.now.layout (A.name_of app.now) (contents values.now) ++ counts_line counts.committed counts.aborted) (K.written sink.new)) }
+        (told_values report values.now.layout (A.name_of app.now) (contents values.now) ++ counts_line counts.committed counts.aborted) (K.written sink.new)) }
     ensures never_falls { K.faults sink.old ≤ K.faults sink.new }
     ensures cause { OnErr result (HasRisen (K.faults sink.old) (K.faults sink.new)) }
 {
-    put_values(out, sink, app, values)?;
+    put_told_values(out, sink, app, report, values)?;
     put_counts(out, sink, counts)?;
     out.flush(sink)
 }
@@ -170,6 +196,28 @@ fn put_values<A: EventApp, K: Sink>(
         put_table(out, sink, app.table_name(table), values, table)?;
     }
     Ok(())
+}
+
+/// Puts what is told of the values.
+fn put_told_values<A: EventApp, K: Sink>(
+    out: &mut Out,
+    sink: &mut K,
+    app: &A,
+    report: Report,
+    values: &State,
+) -> Result<(), WriteFailed>
+    requires tables { values.now.layout.tables ≡ A.table_count app.now }
+    requires few_ids { values.now.layout.size ≤ GREATEST_SIZE }
+    ensures puts { OnOk result (Puts (K.written sink.old) out.old (told_values report values.now.layout (A.name_of app.now) (contents values.now)) (K.written sink.new) out.new) }
+    ensures prefix { OnErr result (AppendsPrefix (K.written sink.old)
+        (out.old ++ told_values report values.now.layout (A.name_of app.now) (contents values.now)) (K.written sink.new)) }
+    ensures never_falls { K.faults sink.old ≤ K.faults sink.new }
+    ensures cause { OnErr result (HasRisen (K.faults sink.old) (K.faults sink.new)) }
+{
+    match report {
+        Report::Whole => put_values(out, sink, app, values),
+        Report::Summary => put_totals(out, sink, app, values),
+    }
 }
 
 /// Puts the line of the counts.

@@ -29,13 +29,18 @@ left_from_last line at times end none =
     let past : length line ≤ at = omega arith in
     ap (λ n. drop at line ++ repeated n line) none ∙ ap (λ front. front ++ []) (drop_all at line past)
 
--- the first bytes of the line are given
+-- the first of the bytes from a place in a line on are given
+pub given_parts : (line buf given : List ℕ) (at n : ℕ) → n ≤ length (drop at line) → given ≡ take n (drop at line) ++ buf
+    → drop at line ≡ take n given ++ drop (at + n) line
+given_parts line buf given at n short e =
+    let front : take n given ≡ take n (drop at line) =
+    ap (take n) e ∙ take_at (take n (drop at line)) buf n (length-take-le n (drop at line) short) in
+    sym (take-append-drop n (drop at line)) ∙ ap (λ bytes. bytes ++ drop n (drop at line)) (sym front)
+    ∙ ap (λ bytes. take n given ++ bytes) (drop-drop n at line)
+
+-- the same with the line's times to come
 pub left_from_given : (line buf given : List ℕ) (at times n : ℕ) → n ≤ length (drop at line) → given ≡ take n (drop at line) ++ buf
     → left_from line at times ≡ take n given ++ left_from line (at + n) times
 left_from_given line buf given at times n short e =
-    let front : take n given ≡ take n (drop at line) =
-    ap (take n) e ∙ take_at (take n (drop at line)) buf n (length-take-le n (drop at line) short) in
-    let parts : drop at line ≡ take n given ++ drop (at + n) line =
-    sym (take-append-drop n (drop at line)) ∙ ap (λ bytes. bytes ++ drop n (drop at line)) (sym front)
-    ∙ ap (λ bytes. take n given ++ bytes) (drop-drop n at line) in
-    ap (λ bytes. bytes ++ repeated times line) parts ∙ append_assoc (take n given) (drop (at + n) line) (repeated times line)
+    ap (λ bytes. bytes ++ repeated times line) (given_parts line buf given at n short e)
+    ∙ append_assoc (take n given) (drop (at + n) line) (repeated times line)

@@ -1,2 +1,4 @@
 pub mod Toll
+pub mod TollDraws
 pub mod TollLaws
+pub mod DrawLaws

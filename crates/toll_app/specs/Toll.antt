@@ -1,6 +1,6 @@
 -- What the words of a line of Toll Processing say.
 use Rattle.std.specs.Prelude.{ℕ, ◌+◌, ◌-◌, ◌*◌, ◌==◌, codes, if◌then◌else◌, min, List, [], ◌∷◌, drop, slice_index, Result, Ok, Err}
-use Rattle.morph_base.specs.declared.limits.TheConstants.{MAX, LATEST}
+use Rattle.morph_base.specs.declared.limits.TheConstants.{MAX}
 use Rattle.morph_base.specs.declared.key.Key.{Key}
 use Rattle.morph_base.specs.declared.operation.Func.TheVariants.{Blend, Set, Enter, Charge}
 use Rattle.morph_base.specs.Operations.{op_of}
@@ -9,6 +9,7 @@ use Rattle.event_reader.specs.declared.cause.Cause.{Cause}
 use Rattle.event_reader.specs.declared.cause.Cause.TheVariants.{Form}
 use Rattle.event_reader.specs.declared.ranges.Range.{Range}
 use Rattle.event_reader.specs.Numbers.{numbers_in, has_form}
+use Rattle.event_reader.specs.Ranges.{times, ids}
 
 -- the printed names of the tables
 abbrev pub table_name : ℕ → List ℕ
@@ -27,14 +28,8 @@ count_of segment = record { table = 2; id = segment }
 abbrev pub bill_of : (vehicle : ℕ) → Key
 bill_of vehicle = record { table = 3; id = vehicle }
 
--- the ranges of a timestamp, of an id where each table has `size` of them, and of a speed in miles per hour
-abbrev pub times : Range
-times = record { least = 1; greatest = LATEST }
-
-abbrev pub ids : (size : ℕ) → Range
-ids size = record { least = 0; greatest = size - 1 }
-
--- a segment's range leaves room for one more among the values, where vehicles' places are kept
+-- the ranges of a segment, and of a speed in miles per hour. A segment's leaves room for one more among the values, where
+-- vehicles' places are kept
 abbrev pub segments : (size : ℕ) → Range
 segments size = record { least = 0; greatest = min size MAX - 1 }
 

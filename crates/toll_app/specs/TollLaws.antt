@@ -14,9 +14,10 @@ use Rattle.morph_base.specs.Transactions.{Transaction, IsTransaction, HasKeysIn}
 use Rattle.event_reader.specs.declared.cause.Cause.{Cause}
 use Rattle.event_reader.specs.declared.cause.Cause.TheVariants.{Form}
 use Rattle.event_reader.specs.Numbers.{numbers_in, has_form, are_in}
+use Rattle.event_reader.specs.Ranges.{times, ids}
 use Rattle.event_reader.specs.Reader.{IsOfWords}
 use Rattle.event_reader.proofs.NumberLists.{in_place, numbers_are_in, numbers_causes, form_length}
-use Rattle.toll_app.specs.Toll.{speed_of, place_of, count_of, bill_of, times, ids, segments, miles, report_ranges, report, report_of, toll_event}
+use Rattle.toll_app.specs.Toll.{speed_of, place_of, count_of, bill_of, segments, miles, report_ranges, report, report_of, toll_event}
 
 -- the operations have a valid shape
 shaped_blend : (key : Key) (c : ℕ) → c ≤ MAX → IsShaped (op_of Blend key [] c)

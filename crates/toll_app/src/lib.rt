@@ -6,6 +6,7 @@
 //! event has; the toll itself is a function of `morph_base`.
 #![tactic(auto)]
 
+mod generating;
 #[cfg(test)]
 mod tests;
 mod toll;

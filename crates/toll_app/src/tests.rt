@@ -1,6 +1,7 @@
 use crate::{BILLS, COUNTS, PLACES, SPEEDS, Toll};
-use event_reader::{Cause, EventApp, LineFault, Words};
+use event_reader::{Cause, Draws, EventApp, LineFault, Words};
 use morph_base::{Event, Func, Key, Op};
+use morph_io::LineBuf;
 use std::alloc::Global;
 use std::test::Fail;
 
@@ -85,4 +86,24 @@ fn causes_come_in_their_order(rt: HostRuntime) -> Result<(), Fail> {
         assert_eq!(rt; fault, LineFault::Refused(cause), "at {line:?}");
     }
     Ok(())
+}
+
+#[test]
+fn lines_are_generated_by_draws_in_order(rt: HostRuntime) {
+    let rows: [(u64, u32, &[u8], &[u8]); 4] = [
+        (0, 10_000, b"T 1 1807 24 23", b"T 2 5236 25 74"),
+        (0, 10, b"T 1 7 4 23", b"T 2 6 5 74"),
+        (1, 1, b"T 1 0 0 40", b"T 2 0 0 17"),
+        (7, 10_000, b"T 1 5278 31 44", b"T 2 8673 45 79"),
+    ];
+    for (seed, size, first, second) in rows {
+        assert!(rt; size >= 1 && size <= 1_000_000);
+        let mut draws = Draws::new(seed);
+        let mut line = LineBuf::new();
+        Toll.generate(&mut draws, 1, size, &mut line);
+        assert_eq!(rt; line.bytes(), first, "seed {seed} and size {size}");
+        let mut line = LineBuf::new();
+        Toll.generate(&mut draws, 2, size, &mut line);
+        assert_eq!(rt; line.bytes(), second, "seed {seed} and size {size}");
+    }
 }

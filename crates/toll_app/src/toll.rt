@@ -2,10 +2,12 @@ ghost use Rattle.std.specs.Prelude.{◌≡◌, ℕ, ◌+◌, ◌*◌, ◌^◌, �
 ghost use Rattle.morph_base.specs.Transactions.{transaction_of};
 ghost use Rattle.event_reader.specs.Reader.{GivesEvent};
 ghost use Rattle.event_reader.specs.Numbers.{numbers_in};
-ghost use Rattle.toll_app.specs.Toll.{ids, segments, speed_of, place_of, count_of, bill_of, table_name, report_of, report_ranges, toll_event};
+ghost use Rattle.toll_app.specs.Toll.{segments, speed_of, place_of, count_of, bill_of, table_name, report_of, report_ranges, toll_event};
 
-use event_reader::{Cause, EventApp, LineFault, Range, Words};
-use morph_base::{Event, Func, Key, LATEST, List, Op};
+use crate::generating::write_report;
+use event_reader::{Cause, Draws, EventApp, LineFault, Range, TIMES, Words};
+use morph_base::{Event, Func, Key, List, Op};
+use morph_io::LineBuf;
 use std::alloc::Global;
 
 /// The number of the table of the segments' average speeds, in hundredths of a mile per hour.
@@ -24,12 +26,6 @@ pub const BILLS: u8 = 3;
 /// The most that a bill can be.
 pub const GREATEST_BILL: u64 = 1_000_000;
 
-/// The range of a timestamp.
-const TIMES: Range = Range {
-    least: 1,
-    greatest: LATEST,
-};
-
 /// The range of a speed, in miles per hour.
 const MILES: Range = Range {
     least: 0,
@@ -40,23 +36,12 @@ const MILES: Range = Range {
 #[derive(Clone, Copy, Debug, PartialEq, Eq)]
 pub struct Toll;
 
-/// The range of an id where a table has `size` of them.
-fn ids(size: u32) -> Range
-    requires { 1 ≤ size }
-    ensures { result ≡ ids size }
-{
-    Range {
-        least: 0,
-        greatest: u64::from(size) - 1,
-    }
-}
-
 /// The range of a segment. One more than a segment is a value, since a size has 32 bits.
 fn segments(size: u32) -> Range
     requires { 1 ≤ size }
     ensures { result ≡ segments size }
 {
-    ids(size)
+    Range::ids(size)
 }
 
 /// The key of a segment's average speed.
@@ -109,7 +94,7 @@ fn report(alloc: Global, words: &Words<'_>, size: u32) -> Result<Event, LineFaul
     requires count { length words.now ≡ 5 }
     ensures { GivesEvent (report_of (numbers_in (report_ranges size) (drop 1 words.now))) result }
 {
-    let ranges = [TIMES, ids(size), segments(size), MILES];
+    let ranges = [TIMES, Range::ids(size), segments(size), MILES];
     let [ts, vehicle, segment, speed] = words.numbers(&ranges)?;
     let (average, count) = (speed_of(segment), count_of(segment));
     let (place, bill) = (place_of(vehicle), bill_of(vehicle));
@@ -122,7 +107,9 @@ fn report(alloc: Global, words: &Words<'_>, size: u32) -> Result<Event, LineFaul
 }
 
 impl EventApp for Toll {
+    ghost use Rattle.toll_app.specs.TollDraws.{toll_drawn};
     ghost use Rattle.toll_app.specs.TollLaws.{toll_is_valid, toll_causes};
+    ghost use Rattle.toll_app.specs.DrawLaws.{toll_generates};
 
     ghost table_count = { λ _. 4 };
 
@@ -130,9 +117,13 @@ impl EventApp for Toll {
 
     ghost event_of = { λ _ size words. toll_event size words };
 
+    ghost generated = { λ _ size i state. toll_drawn size i state };
+
     ghost gives_valid = { λ _ size words e. toll_is_valid size words e };
 
     ghost causes = { λ _ size words cause. toll_causes size words cause };
+
+    ghost generates = { λ _ size i state some few start last. toll_generates size i state some few start last };
 
     fn tables(&self) -> u8 {
         4
@@ -153,5 +144,9 @@ impl EventApp for Toll {
         } else {
             Err(LineFault::Refused(Cause::Form))
         }
+    }
+
+    fn generate(&self, draws: &mut Draws, i: u64, size: u32, line: &mut LineBuf) {
+        write_report(draws, i, u64::from(size), line);
     }
 }

@@ -12,7 +12,10 @@ fn expect_usage(rt: &(impl Abort + Alloc<A = Global>), words: &[&[u8]]) -> Resul
     let ran = run_with(alloc, words, &mut source, sink_of(alloc, 50, &[], &[])?)?;
     assert_eq!(rt; ran.status, 2);
     assert_eq!(rt; ran.sink.bytes(), b"".as_slice());
-    assert_eq!(rt; ran.notes.bytes(), b"usage: morph app=ledger\n".as_slice());
+    assert_eq!(rt;
+        ran.notes.bytes(),
+        b"usage: morph app=ledger|grep|toll [name=value ...]\n".as_slice()
+    );
     let mut rest = [0; 4];
     assert_eq!(rt; source.read(&mut rest), Ok(1));
     Ok(())
@@ -21,10 +24,25 @@ fn expect_usage(rt: &(impl Abort + Alloc<A = Global>), words: &[&[u8]]) -> Resul
 #[test]
 fn words_that_are_no_settings(rt: HostRuntime) -> Result<(), Fail> {
     expect_usage(&rt, &[])?;
-    expect_usage(&rt, &[b"app="])?;
-    expect_usage(&rt, &[b"app=ledger", b"colour=1"])?;
-    expect_usage(&rt, &[b"app=ledger", b"workers=0"])?;
-    expect_usage(&rt, &[b"app=ledger", b"workers=17"])?;
+    for words in [
+        [b"app=".as_slice(), b"size=1"],
+        [b"app=ledger", b"colour=1"],
+        [b"app=ledger", b"workers"],
+        [b"app=ledger", b"workers=0"],
+        [b"app=ledger", b"workers=17"],
+        [b"app=ledger", b"size=0"],
+        [b"app=ledger", b"size=1000001"],
+        [b"app=ledger", b"size=07"],
+        [b"app=ledger", b"app=ledger"],
+        [b"app=ledger", b"self=ledger"],
+        [b"app=ledger", b"seed=1"],
+        [b"app=ledger", b"events=1"],
+        [b"self=ledger", b"events=1000001"],
+        [b"self=ledger", b"seed=1000000000001"],
+        [b"workers=2", b"size=5"],
+    ] {
+        expect_usage(&rt, &words)?;
+    }
     expect_usage(&rt, &[b"app=ledger", b"workers=2", b"workers=2"])?;
     expect_usage(&rt, &[b"app=ledger", b"plan=auto", b"unit=op"])
 }

@@ -1,30 +1,19 @@
 //! Whole inputs, each with its text and its status.
-use super::run_over;
+use super::{LEDGER, expect, run_words};
 use morph_base::{List, OutOfMemory};
 use morph_io::LineBuf;
 use std::alloc::Global;
-use std::process::Abort;
 use std::test::Fail;
 
 /// The text of the four events of a deposit and three transfers, of which the first asks for too much of an asset.
 const FOUR: &[u8] =
     b"1 C 100 5\n2 A\n3 C 40 0 60 5\n4 C 0 0 60 5\nacct 0 40\nacct 2 60\nasset 2 5\ncommitted 3 aborted 1\n";
 
-/// Runs the ledger over each input, and expects this status and text, and no notes.
-fn expect(rt: &(impl Abort + Alloc<A = Global>), runs: &[(&[u8], u8, &[u8])]) -> Result<(), Fail> {
-    for (input, status, text) in runs {
-        let ran = run_over(rt.alloc(), input)?;
-        assert_eq!(rt; ran.status, *status);
-        assert_eq!(rt; ran.sink.bytes(), *text);
-        assert_eq!(rt; ran.notes.bytes(), b"".as_slice());
-    }
-    Ok(())
-}
-
 #[test]
 fn inputs_without_events(rt: HostRuntime) -> Result<(), Fail> {
     expect(
         &rt,
+        LEDGER,
         &[
             (b"", 0, b"committed 0 aborted 0\n"),
             (b"P\nP\nP\n", 0, b"committed 0 aborted 0\n"),
@@ -36,6 +25,7 @@ fn inputs_without_events(rt: HostRuntime) -> Result<(), Fail> {
 fn events_commit_or_abort(rt: HostRuntime) -> Result<(), Fail> {
     expect(
         &rt,
+        LEDGER,
         &[
             (
                 b"D 1 0 0 100 5\n",
@@ -60,6 +50,7 @@ fn events_commit_or_abort(rt: HostRuntime) -> Result<(), Fail> {
 fn events_out_of_order(rt: HostRuntime) -> Result<(), Fail> {
     expect(
         &rt,
+        LEDGER,
         &[(
             b"X 4 1 2 1 2 60 5\nX 3 0 1 0 1 60 5\nX 2 0 1 0 1 60 6\nD 1 0 0 100 5\n",
             0,
@@ -72,6 +63,7 @@ fn events_out_of_order(rt: HostRuntime) -> Result<(), Fail> {
 fn refused_by_time_or_place(rt: HostRuntime) -> Result<(), Fail> {
     expect(
         &rt,
+        LEDGER,
         &[
             (
                 b"D 5 0 0 1 1\nP\nD 5 0 0 1 1\n",
@@ -95,6 +87,7 @@ fn refused_by_range_or_form(rt: HostRuntime) -> Result<(), Fail> {
     let form = b"refused line 1: form\n";
     expect(
         &rt,
+        LEDGER,
         &[
             (b"D 1 0 0 1000000000001 0\n", 3, range),
             (b"D 0 0 0 1 1\n", 3, range),
@@ -110,6 +103,7 @@ fn refused_by_range_or_form(rt: HostRuntime) -> Result<(), Fail> {
 fn comments_and_last_lines(rt: HostRuntime) -> Result<(), Fail> {
     expect(
         &rt,
+        LEDGER,
         &[
             (
                 b"#x\r\n\r\nD 1 0 0 1 1",
@@ -145,7 +139,7 @@ fn a_comment_has_at_most_a_thousand_bytes(rt: HostRuntime) -> Result<(), Fail> {
     ];
     for (bytes, status, text) in runs {
         let input = comment_of(rt.alloc(), bytes)?;
-        let ran = run_over(rt.alloc(), input.as_slice())?;
+        let ran = run_words(rt.alloc(), LEDGER, input.as_slice())?;
         assert_eq!(rt; ran.status, status);
         assert_eq!(rt; ran.sink.bytes(), text);
     }
@@ -171,13 +165,13 @@ fn deposits(alloc: Global, count: u64) -> Result<List<u8>, OutOfMemory> {
 #[test]
 fn a_batch_has_at_most_10240_events(rt: HostRuntime) -> Result<(), Fail> {
     let input = deposits(rt.alloc(), 10_240)?;
-    let ran = run_over(rt.alloc(), input.as_slice())?;
+    let ran = run_words(rt.alloc(), LEDGER, input.as_slice())?;
     let end = b"10240 C 10240 0\nacct 0 10240\ncommitted 10240 aborted 0\n";
     assert_eq!(rt; ran.status, 0);
     assert!(rt; ran.sink.bytes().ends_with(end));
 
     let input = deposits(rt.alloc(), 10_241)?;
-    let ran = run_over(rt.alloc(), input.as_slice())?;
+    let ran = run_words(rt.alloc(), LEDGER, input.as_slice())?;
     assert_eq!(rt; ran.status, 3);
     assert_eq!(rt; ran.sink.bytes(), b"refused line 10241: full\n".as_slice());
     Ok(())

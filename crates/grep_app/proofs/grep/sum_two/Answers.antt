@@ -1,5 +1,5 @@
 use Rattle.std.proofs.Common.{arith}
-use Rattle.grep_app.proofs.Ids.{id_fits}
+use Rattle.event_reader.proofs.Ids.{id_fits}
 use Rattle.grep_app.proofs.grep.sum_two.Goals as goal
 
 pub cell-requires : goal.cell-requires

@@ -1,5 +1,5 @@
 use Rattle.std.proofs.Common.{arith}
-use Rattle.ledger_app.proofs.Ids.{id_fits}
+use Rattle.event_reader.proofs.Ids.{id_fits}
 use Rattle.ledger_app.proofs.ledger.transfer.Goals as goal
 
 pub account-requires : goal.account-requires

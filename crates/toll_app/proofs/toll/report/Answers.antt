@@ -1,5 +1,6 @@
 use Rattle.std.proofs.Common.{arith, refl}
-use Rattle.toll_app.specs.Toll.{ids, segments, miles}
+use Rattle.event_reader.specs.Ranges.{ids}
+use Rattle.toll_app.specs.Toll.{segments, miles}
 use Rattle.toll_app.proofs.Bounds.{at_most}
 use Rattle.toll_app.proofs.toll.report.Goals as goal
 

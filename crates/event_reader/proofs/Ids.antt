@@ -5,7 +5,7 @@ use Rattle.std.proofs.lemmas.List.{get_or_past}
 use Rattle.event_reader.specs.declared.ranges.Range.{Range}
 use Rattle.event_reader.specs.Numbers.{are_in}
 use Rattle.event_reader.proofs.NumberLists.{in_place}
-use Rattle.ledger_app.specs.Ledger.{ids}
+use Rattle.event_reader.specs.Ranges.{ids}
 
 pub id_fits : (ranges : List Range) (numbers : List ℕ) (i size : ℕ) → are_in ranges numbers ≡ true → i < length ranges → get_or ranges i (ids size) ≡ ids size
     → 1 ≤ size → size < 2 ^ 32 → get_or numbers i 0 < 2 ^ 32

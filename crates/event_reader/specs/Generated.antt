@@ -1,0 +1,28 @@
+-- What the generator of an application writes.
+use Rattle.std.specs.Prelude.{◌≡◌, ℕ, ◌<◌, ◌≤◌, false, List, length, Ok}
+use Rattle.std.specs.List.{All}
+use Rattle.morph_base.specs.Transactions.{Transaction}
+use Rattle.event_reader.specs.declared.limits.TheConstants.{GENERATED_EVENTS, GENERATED_IDS, GENERATED_BYTES}
+use Rattle.event_reader.specs.Steps.{Meaning, said_by, is_ignored, is_punctuation}
+use Rattle.event_reader.specs.Words.{words_of}
+
+-- a line, without its LF, and the state of the draws after it
+pub record Drawn : Type 0 where
+  pub line : List ℕ
+  pub state : ℕ
+
+-- a short line that is neither ignored nor a punctuation, without LF and CR, whose words are an event at time i
+pub record IsEventLine (meaning : Meaning) (i : ℕ) (line : List ℕ) : Type 0 where
+  pub event : Transaction
+  pub says : said_by meaning (words_of line) ≡ Ok event
+  pub time : event.ts ≡ i
+  pub printable : All (λ b. 32 ≤ b) line
+  pub counts : is_ignored line ≡ false
+  pub no_mark : is_punctuation line ≡ false
+  pub short : length line ≤ GENERATED_BYTES
+
+-- each line that an application's generator writes is an event's, at the time of its number
+abbrev pub GeneratesEvents : {App : Type 0} → (App → ℕ → Meaning) → (App → (size i state : ℕ) → Drawn) → Type 0
+GeneratesEvents {App} event_of generated =
+    (app : App) (size i state : ℕ) → 0 < size → size ≤ GENERATED_IDS → 0 < i → i ≤ GENERATED_EVENTS
+    → IsEventLine (event_of app size) i (generated app size i state).line

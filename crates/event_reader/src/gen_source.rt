@@ -1,0 +1,135 @@
+ghost use Rattle.std.specs.Prelude.{◌≡◌, ◌+◌, ◌<◌, ◌≤◌, [], ◌++◌, length, take, Some, IsOk, IfOk};
+ghost use Rattle.event_reader.specs.declared.limits.TheConstants.{GENERATED_EVENTS, GENERATED_IDS};
+ghost use Rattle.event_reader.specs.GeneratedText.{with_end, new_generator, generated_left};
+
+use crate::app::EventApp;
+use crate::draws::Draws;
+use crate::limits::GENERATED_BATCH;
+use morph_io::{LineBuf, ReadFailed, Source};
+use std::marker::Model;
+
+/// A source of the text that an application's generator writes, which never fails and takes no memory.
+///
+/// Its lines are those of the events from 1 on, each at the time of its number, and a punctuation after each
+/// [`GENERATED_BATCH`](crate::GENERATED_BATCH) events. The same seed gives the same text.
+#[derive(Drop)]
+pub struct GenSource<A> {
+    app: A,
+    size: u32,
+    draws: Draws,
+    /// The line that is being given, with its end, and the place in it of the next byte.
+    line: LineBuf,
+    at: usize,
+    /// How many events come after that line, and the number of the next.
+    count: u64,
+    next: u64,
+}
+
+impl<A> Model for GenSource<A> {
+    ghost use Rattle.std.specs.Prelude.{drop};
+    ghost use Rattle.event_reader.specs.GeneratedText.{GenView};
+
+    ghost Value = { GenView A };
+
+    ghost use Rattle.event_reader.specs.Generating.{IsGenerator};
+
+    ghost view = { λ source. record {
+      app = source.app;
+      size = source.size;
+      rest = drop source.at source.line;
+      count = source.count;
+      next = source.next;
+      state = source.draws;
+    } };
+
+    ghost invariant = { IsGenerator };
+}
+
+/// Writes the line of event `i` with its LF, and the line of a punctuation behind it where the event ends a batch.
+fn write_event<A: EventApp>(app: &A, draws: &mut Draws, i: u64, size: u32, line: &mut LineBuf)
+    requires event { 1 ≤ i }
+    requires last { i ≤ GENERATED_EVENTS }
+    requires size { 1 ≤ size }
+    requires ids { size ≤ GENERATED_IDS }
+    ensures line { line.new ≡ with_end i (A.generated app.now size i draws.old).line }
+    ensures state { draws.new ≡ (A.generated app.now size i draws.old).state }
+{
+    line.clear();
+    app.generate(draws, i, size, line);
+    line.word(b"\n");
+    if i % GENERATED_BATCH == 0 {
+        line.word(b"P\n");
+    }
+}
+
+impl<A: EventApp> GenSource<A> {
+    /// A source of the lines of `events` events, at most [`GENERATED_EVENTS`](crate::GENERATED_EVENTS), for tables of
+    /// `size` ids each, which are 1 to [`GENERATED_IDS`](crate::GENERATED_IDS). The draws begin at `seed`.
+    pub fn new(app: A, seed: u64, events: u64, size: u32) -> Self
+        requires events { events ≤ GENERATED_EVENTS }
+        requires size { 1 ≤ size }
+        requires ids { size ≤ GENERATED_IDS }
+        ensures { result ≡ new_generator app seed events size }
+    {
+        GenSource {
+            app,
+            size,
+            draws: Draws::new(seed),
+            line: LineBuf::new(),
+            at: 0,
+            count: events,
+            next: 1,
+        }
+    }
+
+    /// Writes the next line.
+    fn write_next(&mut self)
+        requires end { self.old.rest ≡ [] }
+        requires more { 0 < self.old.count }
+        ensures same { generated_left A.generated self.new ≡ generated_left A.generated self.old }
+        ensures some { 0 < length self.new.rest }
+    {
+        write_event(
+            &self.app,
+            &mut self.draws,
+            self.next,
+            self.size,
+            &mut self.line,
+        );
+        self.at = 0;
+        self.count -= 1;
+        self.next += 1;
+    }
+
+    /// Begins the next line where the one before it was given whole, if there is one more.
+    fn begin_line(&mut self)
+        ensures same { generated_left A.generated self.new ≡ generated_left A.generated self.old }
+        ensures last { self.new.rest ≡ [] → generated_left A.generated self.new ≡ [] }
+    {
+        if self.at == self.line.len() && self.count > 0 {
+            self.write_next();
+        }
+    }
+}
+
+impl<A: EventApp> Source for GenSource<A> {
+    ghost left = { λ source. Some (generated_left A.generated source) };
+
+    ghost faults = { λ _. 0 };
+
+    /// Gives as much of one line as the buffer has room for. It never fails.
+    fn read(&mut self, buf: &mut [u8]) -> Result<usize, ReadFailed>
+        requires { 0 < length buf.old }
+        ensures ok { IsOk result }
+        ensures bound { IfOk result (λ n. n ≤ length buf.new) }
+        ensures bytes { IfOk result (λ n. generated_left A.generated self.old ≡ take n buf.new ++ generated_left A.generated self.new) }
+        ensures end { IfOk result (λ n. n ≡ 0 → generated_left A.generated self.new ≡ []) }
+    {
+        self.begin_line();
+        let left = &self.line.bytes()[self.at..];
+        let count = left.len().min(buf.len());
+        buf[..count].copy_from_slice(&left[..count]);
+        self.at += count;
+        Ok(count)
+    }
+}

@@ -1,0 +1,20 @@
+ghost use Rattle.std.specs.Prelude.{◌≡◌, ◌<◌, [], length};
+ghost use Rattle.event_reader.specs.PlainLines.{plain_line};
+ghost use Rattle.event_reader.specs.declared.limits.TheConstants.{LINE_WORDS};
+
+use morph_io::LineBuf;
+
+/// Writes a line of one letter and numbers, with one space in front of each number, into an empty buffer.
+///
+/// The line has as many words as an event line can have at most.
+pub fn write_line(letter: u8, numbers: &[u64], line: &mut LineBuf)
+    requires empty { line.old ≡ [] }
+    requires few { length numbers.now < LINE_WORDS }
+    ensures { line.new ≡ plain_line letter numbers.now }
+{
+    line.word(&[letter]);
+    'numbers: for i in 0..numbers.len() {
+        line.word(b" ");
+        line.number(numbers[i]);
+    }
+}

@@ -1,0 +1,128 @@
+-- Each line that the ledger's generator writes is an event's.
+use Rattle.std.proofs.Common.{◌≡◌, ℕ, ◌+◌, ◌%◌, ◌<◌, ◌≤◌, Bool, true, false, List, [], ◌∷◌, refl, ◌∙◌, ap, arith, inl, inr, Result, Ok, Err}
+use Rattle.std.specs.Prelude.{◌==◌, ◌||◌, if◌then◌else◌, nat_lt}
+use Rattle.std.specs.List.{All}
+use Rattle.std.proofs.Math.Nat.{mod_self, mod-eq_of_lt}
+use Rattle.std.proofs.lemmas.Bool.{cases_lt}
+use Rattle.std.proofs.lemmas.Bool.Decides.{nat_tests}
+use Rattle.std.proofs.lemmas.List.Elements.{All-nil, All-cons}
+use Rattle.event_reader.specs.declared.limits.TheConstants.{GENERATED_EVENTS, GENERATED_IDS}
+use Rattle.morph_base.specs.Transactions.{Transaction}
+use Rattle.event_reader.specs.declared.cause.Cause.{Cause}
+use Rattle.event_reader.specs.declared.cause.Cause.TheVariants.{Same}
+use Rattle.event_reader.specs.Draws.{after_draws, draw_at}
+use Rattle.event_reader.specs.Generated.{Drawn, IsEventLine}
+use Rattle.event_reader.specs.Numbers.{are_in}
+use Rattle.event_reader.specs.PlainLines.{plain_line}
+use Rattle.event_reader.specs.Ranges.{times, ids, amounts}
+use Rattle.event_reader.proofs.Drawing.{draw_below}
+use Rattle.event_reader.proofs.NumberLists.{in_range}
+use Rattle.event_reader.proofs.PlainLines.{IsSmall, numbers_plain, plain_event}
+use Rattle.ledger_app.specs.declared.generating.TheConstants.{DRAWN_AMOUNTS}
+use Rattle.ledger_app.specs.Ledger.{deposit, moving, deposit_ranges, transfer_ranges, deposit_of, transfer_of, ledger_event}
+use Rattle.ledger_app.specs.LedgerDraws.{apart, drawn_deposit, drawn_transfer, ledger_drawn}
+
+abbrev ok : Transaction → Result Transaction Cause
+ok e = Ok e
+
+-- five small numbers
+all_small_five : (a b c d e : ℕ) → IsSmall a → IsSmall b → IsSmall c → IsSmall d → IsSmall e → All IsSmall (a ∷ b ∷ c ∷ d ∷ e ∷ [])
+all_small_five a b c d e h1 h2 h3 h4 h5 =
+    All-cons IsSmall a (b ∷ c ∷ d ∷ e ∷ []) h1 (All-cons IsSmall b (c ∷ d ∷ e ∷ []) h2 (All-cons IsSmall c (d ∷ e ∷ []) h3
+    (All-cons IsSmall d (e ∷ []) h4 (All-cons IsSmall e [] h5 (All-nil IsSmall)))))
+
+-- numbers in their ranges
+deposit_in : (size i acct ast a b : ℕ) → 0 < i → i ≤ GENERATED_EVENTS → acct < size → ast < size → a < DRAWN_AMOUNTS → b < DRAWN_AMOUNTS
+    → are_in (deposit_ranges size) (i ∷ acct ∷ ast ∷ a ∷ b ∷ []) ≡ true
+unfolding are_in
+deposit_in size i acct ast a b start last in1 in2 small small' = rw (
+  in_range times i (omega arith) (omega arith),
+  in_range (ids size) acct (omega arith) (omega arith),
+  in_range (ids size) ast (omega arith) (omega arith),
+  in_range amounts a (omega arith) (omega arith),
+  in_range amounts b (omega arith) (omega arith),
+) refl
+
+transfer_in : (size i src dst asrc adst a b : ℕ) → 0 < i → i ≤ GENERATED_EVENTS → src < size → dst < size → asrc < size → adst < size → a < DRAWN_AMOUNTS → b < DRAWN_AMOUNTS
+    → are_in (transfer_ranges size) (i ∷ src ∷ dst ∷ asrc ∷ adst ∷ a ∷ b ∷ []) ≡ true
+unfolding are_in
+transfer_in size i src dst asrc adst a b start last in1 in2 in3 in4 small small' = rw (
+  in_range times i (omega arith) (omega arith),
+  in_range (ids size) src (omega arith) (omega arith),
+  in_range (ids size) dst (omega arith) (omega arith),
+  in_range (ids size) asrc (omega arith) (omega arith),
+  in_range (ids size) adst (omega arith) (omega arith),
+  in_range amounts a (omega arith) (omega arith),
+  in_range amounts b (omega arith) (omega arith),
+) refl
+
+-- the line of a deposit
+deposit_line : (size i acct ast a b : ℕ) → size ≤ GENERATED_IDS → 0 < i → i ≤ GENERATED_EVENTS → acct < size → ast < size → a < DRAWN_AMOUNTS → b < DRAWN_AMOUNTS
+    → IsEventLine (ledger_event size) i (plain_line 68 (i ∷ acct ∷ ast ∷ a ∷ b ∷ []))
+deposit_line size i acct ast a b few start last in1 in2 small small' =
+    let ns : List ℕ = i ∷ acct ∷ ast ∷ a ∷ b ∷ [] in
+    let all : All IsSmall ns = all_small_five i acct ast a b (omega arith) (omega arith) (omega arith) (omega arith) (omega arith) in
+    let read = numbers_plain (deposit_ranges size) ns all (deposit_in size i acct ast a b start last in1 in2 small small') in
+    plain_event (ledger_event size) i 68 ns (deposit i acct ast a b) (omega arith) (omega arith) (omega arith) all (ap deposit_of read) refl
+
+-- two ids that are brought apart differ
+apart_below : (size first second : ℕ) → first < size → second < size → apart size first second < size
+apart_below size first second in1 in2 = grind (arith, nat_tests)
+
+next_differs : (size first : ℕ) → 1 < size → first < size → (first == (first + 1) % size) ≡ false
+next_differs size first two inside = elim (cases_lt (first + 1) size) [
+  | inl below ↦ let same : (first + 1) % size ≡ first + 1 = mod-eq_of_lt below in
+      rw same (let differ : (first == first + 1) ≡ false = grind (arith, nat_tests) in differ)
+  | inr last ↦ let end : first + 1 ≡ size = omega arith in
+      let zero : (first + 1) % size ≡ 0 = ap (λ n. n % size) end ∙ mod_self size in
+      rw zero (let differ : (first == 0) ≡ false = grind (arith, nat_tests) in differ)
+]
+
+apart_differs : (size first second : ℕ) → 1 < size → first < size → (first == apart size first second) ≡ false
+apart_differs size first second two inside = by_test (first == second) refl
+  where
+    by_test : (t : Bool) → (first == second) ≡ t → (first == (if t then (first + 1) % size else second)) ≡ false
+    by_test true same = next_differs size first two inside
+    by_test false differ = differ
+
+-- the line of a transfer
+transfer_line : (size i src dst asrc adst a b : ℕ) → size ≤ GENERATED_IDS → 0 < i → i ≤ GENERATED_EVENTS → src < size → dst < size → asrc < size → adst < size → a < DRAWN_AMOUNTS → b < DRAWN_AMOUNTS
+    → (src == dst) ≡ false → (asrc == adst) ≡ false → IsEventLine (ledger_event size) i (plain_line 88 (i ∷ src ∷ dst ∷ asrc ∷ adst ∷ a ∷ b ∷ []))
+transfer_line size i src dst asrc adst a b few start last in1 in2 in3 in4 small small' differ differ' =
+    let ns : List ℕ = i ∷ src ∷ dst ∷ asrc ∷ adst ∷ a ∷ b ∷ [] in
+    let all : All IsSmall ns = All-cons IsSmall i (src ∷ dst ∷ asrc ∷ adst ∷ a ∷ b ∷ []) (omega arith) (All-cons IsSmall src (dst ∷ asrc ∷ adst ∷ a ∷ b ∷ []) (omega arith)
+    (all_small_five dst asrc adst a b (omega arith) (omega arith) (omega arith) (omega arith) (omega arith))) in
+    let read = numbers_plain (transfer_ranges size) ns all (transfer_in size i src dst asrc adst a b start last in1 in2 in3 in4 small small') in
+    let apart : (if src == dst || asrc == adst then Err Same else Ok (moving i src dst asrc adst a b)) ≡ ok (moving i src dst asrc adst a b) = rw (differ, differ') refl in
+    plain_event (ledger_event size) i 88 ns (moving i src dst asrc adst a b) (omega arith) (omega arith) (omega arith) all (ap transfer_of read ∙ apart) refl
+
+pub ledger_generates : (size i state : ℕ) → 0 < size → size ≤ GENERATED_IDS → 0 < i → i ≤ GENERATED_EVENTS
+    → IsEventLine (ledger_event size) i (ledger_drawn size i state).line
+ledger_generates size i state some few start last = by_choice (nat_lt (draw_at state 1 4) 2) (nat_lt size 2) refl
+  where
+    after : ℕ
+    after = after_draws state 1
+
+    deposit_at : IsEventLine (ledger_event size) i (plain_line 68 (drawn_deposit size i after))
+    deposit_at = deposit_line size i _ _ _ _ few start last (draw_below after 1 size some) (draw_below after 2 size some)
+        (draw_below after 3 DRAWN_AMOUNTS (omega arith)) (draw_below after 4 DRAWN_AMOUNTS (omega arith))
+
+    transfer_at : 1 < size → IsEventLine (ledger_event size) i (plain_line 88 (drawn_transfer size i after))
+    transfer_at two =
+        let src = draw_below after 1 size some in
+        let dst = draw_below after 2 size some in
+        let asrc = draw_below after 3 size some in
+        let adst = draw_below after 4 size some in
+        transfer_line size i _ _ _ _ _ _ few start last src (apart_below size _ _ src dst) asrc (apart_below size _ _ asrc adst)
+        (draw_below after 5 DRAWN_AMOUNTS (omega arith)) (draw_below after 6 DRAWN_AMOUNTS (omega arith))
+        (apart_differs size (draw_at after 1 size) (draw_at after 2 size) two src) (apart_differs size (draw_at after 3 size) (draw_at after 4 size) two asrc)
+
+    chosen : (one : Bool) → Drawn
+    chosen one =
+        if one then record { line = plain_line 68 (drawn_deposit size i after); state = after_draws state 5 }
+        else record { line = plain_line 88 (drawn_transfer size i after); state = after_draws state 7 }
+
+    by_choice : (low one : Bool) → nat_lt size 2 ≡ one → IsEventLine (ledger_event size) i (chosen (low || one)).line
+    by_choice true one is = deposit_at
+    by_choice false true is = deposit_at
+    by_choice false false is = let two : 1 < size = grind (arith, nat_tests) in transfer_at two

@@ -1,0 +1,32 @@
+-- The lines that the ledger's generator writes.
+use Rattle.std.specs.Prelude.{ℕ, ◌+◌, ◌%◌, ◌||◌, ◌==◌, Bool, nat_lt, if◌then◌else◌, List, [], ◌∷◌}
+use Rattle.event_reader.specs.Draws.{after_draws, draw_at}
+use Rattle.event_reader.specs.Generated.{Drawn}
+use Rattle.event_reader.specs.PlainLines.{plain_line}
+use Rattle.ledger_app.specs.declared.generating.TheConstants.{DRAWN_AMOUNTS}
+
+-- the second of two ids, or the id after the first where they are the same; id 0 comes after the last
+abbrev pub apart : (size first second : ℕ) → ℕ
+apart size first second = if first == second then (first + 1) % size else second
+
+-- the numbers of a deposit at time i: an account, an asset and two amounts are drawn
+abbrev pub drawn_deposit : (size i state : ℕ) → List ℕ
+drawn_deposit size i state = i ∷ draw_at state 1 size ∷ draw_at state 2 size ∷ draw_at state 3 DRAWN_AMOUNTS ∷ draw_at state 4 DRAWN_AMOUNTS ∷ []
+
+-- the numbers of a transfer at time i, where the two accounts and the two assets are brought apart
+abbrev pub moved : (size i src dst asrc adst a b : ℕ) → List ℕ
+moved size i src dst asrc adst a b = i ∷ src ∷ apart size src dst ∷ asrc ∷ apart size asrc adst ∷ a ∷ b ∷ []
+
+abbrev pub drawn_transfer : (size i state : ℕ) → List ℕ
+drawn_transfer size i state =
+    moved size i (draw_at state 1 size) (draw_at state 2 size) (draw_at state 3 size) (draw_at state 4 size) (draw_at state 5 DRAWN_AMOUNTS) (draw_at state 6 DRAWN_AMOUNTS)
+
+-- the line of event i: a deposit in two of four draws, and always where there is one id alone, which has nothing apart
+-- from it; else a transfer
+abbrev pub deposits : (size state : ℕ) → Bool
+deposits size state = nat_lt (draw_at state 1 4) 2 || nat_lt size 2
+
+abbrev pub ledger_drawn : (size i state : ℕ) → Drawn
+ledger_drawn size i state =
+    if deposits size state then record { line = plain_line 68 (drawn_deposit size i (after_draws state 1)); state = after_draws state 5 }
+    else record { line = plain_line 88 (drawn_transfer size i (after_draws state 1)); state = after_draws state 7 }

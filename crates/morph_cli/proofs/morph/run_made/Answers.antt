@@ -1,0 +1,39 @@
+use Rattle.std.proofs.Common.{◌≡◌, ℕ, List, Some, None, ap, ◌∙◌, arith, subst}
+use Rattle.std.specs.Prelude.{IsErrOf}
+use Rattle.event_reader.specs.declared.limits.TheConstants.{INPUT_BYTES}
+use Rattle.event_reader.specs.Accepted.{Accepted, Ended, accepted_within}
+use Rattle.event_reader.specs.GeneratedText.{generated_text, generated_left}
+use Rattle.event_reader.proofs.GeneratedLaws.{generated_ends, generated_within}
+use Rattle.morph_cli.specs.declared.fault.Fault.TheVariants.{Read}
+use Rattle.morph_cli.specs.Apps.{telling_by}
+use Rattle.morph_cli.specs.Runs.{EndsSo}
+use Rattle.morph_cli.specs.Text.{Telling}
+use Rattle.morph_cli.proofs.Making.{left_apart, made_ends}
+use Rattle.morph_cli.proofs.morph.run_made.Goals as goal
+
+pub returns-clause-ends : goal.returns-clause-ends
+returns-clause-ends g c =
+    let meaning = g.A.EventApp.event_of c.args.app c.args.settings.size in
+    let telling = telling_by c.args.settings.generated (g.A.EventApp.table_count c.args.app) c.args.settings.size (g.A.EventApp.name_of c.args.app) in
+    let left = Some (generated_left g.A.EventApp.generated c.run.new.source) in
+    let old = g.K.Sink.written c.args.sink.now in
+    let new = g.K.Sink.written c.run.new.sink in
+    left_apart meaning telling INPUT_BYTES (generated_text (g.A.EventApp.generated c.args.app c.args.settings.size) c.args.generated.seed c.args.generated.events) left None old new c.run.result
+    (λ is. let risen = c.run.ensures.read is in absurd (omega (arith, risen (omega arith))))
+    (subst (λ text. EndsSo meaning telling INPUT_BYTES text left old c.run.result new) (ap (generated_left g.A.EventApp.generated) c.new-source.ensures) c.run.ensures.ends)
+
+pub returns-clause-made : goal.returns-clause-made
+returns-clause-made g c =
+    let size = c.args.settings.size in
+    let meaning = g.A.EventApp.event_of c.args.app size in
+    let drawn = g.A.EventApp.generated c.args.app size in
+    let text = generated_text drawn c.args.generated.seed c.args.generated.events in
+    let telling = telling_by c.args.settings.generated (g.A.EventApp.table_count c.args.app) size (g.A.EventApp.name_of c.args.app) in
+    let left = Some (generated_left g.A.EventApp.generated c.run.new.source) in
+    let old = g.K.Sink.written c.args.sink.now in
+    let new = g.K.Sink.written c.run.new.sink in
+    let few = rw c.requires.generated at c.requires.settings.generated in
+    made_ends meaning telling INPUT_BYTES text left None old new c.run.result
+    (λ is. let risen = c.run.ensures.read is in absurd (omega (arith, risen (omega arith))))
+    (ap (λ (a : Accepted). a.ending) (generated_within meaning drawn (λ i state start end. g.met.A.EventApp.generates c.args.app size i state c.requires.settings.some_ids c.requires.settings.few_ids start end) c.args.generated.seed c.args.generated.events few.1) ∙ generated_ends meaning drawn (λ i state start end. g.met.A.EventApp.generates c.args.app size i state c.requires.settings.some_ids c.requires.settings.few_ids start end) c.args.generated.seed c.args.generated.events few.1)
+    (subst (λ t. EndsSo meaning telling INPUT_BYTES t left old c.run.result new) (ap (generated_left g.A.EventApp.generated) c.new-source.ensures) c.run.ensures.ends)

@@ -1,0 +1,5 @@
+pub mod KeyOrder
+pub mod Insertion
+pub mod Chaining
+pub mod Partition
+pub mod Entering

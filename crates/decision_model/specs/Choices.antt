@@ -1,0 +1,26 @@
+-- The profile of a batch, and the strategy that is chosen for it.
+use Rattle.std.specs.Prelude.{◌*◌, ◌&&◌, nat_le, if◌then◌else◌}
+use Rattle.morph_base.specs.declared.plan.Plan.{Plan}
+use Rattle.morph_base.specs.declared.strategy.Strategy.{Strategy}
+use Rattle.morph_base.specs.declared.strategy.Unit.TheVariants.{Op, Chain}
+use Rattle.morph_base.specs.declared.strategy.Explore.TheVariants.{Strata, Steal}
+use Rattle.morph_base.specs.declared.strategy.Abort.TheVariants.{Lazy, Eager}
+use Rattle.morph_base.specs.Plans.{op_count}
+use Rattle.morph_base.specs.Graphs.{op_depth}
+use Rattle.decision_model.specs.declared.counts.Last.{Last}
+use Rattle.decision_model.specs.declared.counts.Profile.{Profile}
+
+-- the counts of a plan: its operations, the levels of these, and its temporal and parametric dependencies
+abbrev pub profile_of : Plan → Last → Profile
+profile_of p last =
+    record { ops = op_count p; levels = op_depth p; temporal = p.edges.temporal; parametric = p.edges.parametric; last = last }
+
+-- chains exactly where the temporal dependencies are at least twice the parametric ones and twice their number is at least
+-- that of the operations; strata exactly where 32 times the levels are at most the operations; lazy exactly where 10 times
+-- the events that aborted before are at most the events before
+abbrev pub strategy_for : Profile → Strategy
+strategy_for p = record {
+  unit = if nat_le (2 * p.parametric) p.temporal && nat_le p.ops (2 * p.temporal) then Chain else Op;
+  explore = if nat_le (32 * p.levels) p.ops then Strata else Steal;
+  abort = if nat_le (10 * p.last.aborted) p.last.events then Lazy else Eager;
+}

@@ -1,6 +1,6 @@
 -- What is said of the whole call, from what is said of the run.
 use Rattle.std.proofs.Common.{◌≡◌, ◌⊎◌, inl, inr, ℕ, List, Option, Some, None, Result, Ok, Err, IsSome, refl, sym, subst}
-use Rattle.std.specs.Prelude.{IfSome, IsErrOf}
+use Rattle.std.specs.Prelude.{option_map, IfSome, IsErrOf}
 use Rattle.event_reader.specs.declared.limits.TheConstants.{INPUT_BYTES}
 use Rattle.morph_cli.specs.declared.fault.Fault.{Fault}
 use Rattle.morph_cli.specs.declared.fault.Fault.TheVariants.{Read, Write, OutOfMemory, TooLong}
@@ -10,8 +10,11 @@ use Rattle.morph_cli.specs.declared.settings.Settings.{Settings}
 use Rattle.morph_cli.specs.Apps.{input_of, left_by, meaning_of, telling_of}
 use Rattle.morph_cli.specs.Runs.{EndsSo, EndsMade}
 use Rattle.morph_cli.specs.Status.{status_of, IsMadeStatus}
+use Rattle.event_reader.specs.Accepted.{accepted, accepted_within}
+use Rattle.morph_cli.specs.declared.tally.Tally.{Tally}
+use Rattle.morph_cli.specs.Tallies.{IsTallyAt}
 use Rattle.morph_cli.specs.Headline.{Headline, Completes}
-use Rattle.morph_cli.proofs.Headlines.{headline, completes}
+use Rattle.morph_cli.proofs.Headlines.{headline, completes, tally_all}
 
 -- what holds of the settings holds of what the words ask for
 asked_so : (P : Settings → Type 0) (asked : Option Settings) (s : Settings) → asked ≡ Some s → P s → IfSome asked P
@@ -48,6 +51,20 @@ completes_asked asked s told left old new r status is status_is ends reads write
     by_told (Some input) ends =
         subst (λ n. Completes (meaning_of s) INPUT_BYTES input n) (sym status_is)
         (completes (meaning_of s) (telling_of s) INPUT_BYTES input (left_by s.generated left) old new r ends reads writes)
+
+-- the tally over the whole input
+pub tally_asked : (asked : Option Settings) (s : Settings) (told left old new : Option (List ℕ)) (r : Result Finish Fault) (status : ℕ) (t : Tally) →
+    asked ≡ Some s → status ≡ status_of r → Ends s told left old r new →
+    IsTallyAt (option_map (accepted_within (meaning_of s) INPUT_BYTES) (input_of s told)) (status_of r) t →
+    IfSome asked (λ s. IsTallyAt (option_map (accepted (meaning_of s)) (input_of s told)) status t)
+tally_asked asked s told left old new r status t is status_is ends counted =
+    asked_so (λ s. IsTallyAt (option_map (accepted (meaning_of s)) (input_of s told)) status t) asked s is
+    (subst (λ n. IsTallyAt (option_map (accepted (meaning_of s)) (input_of s told)) n t) (sym status_is) (by_told (input_of s told) ends counted))
+  where
+    by_told : (told : Option (List ℕ)) → EndsBy s told left old r new → IsTallyAt (option_map (accepted_within (meaning_of s) INPUT_BYTES) told) (status_of r) t
+        → IsTallyAt (option_map (accepted (meaning_of s)) told) (status_of r) t
+    by_told None ends counted = counted
+    by_told (Some input) ends counted = tally_all (meaning_of s) (telling_of s) INPUT_BYTES input (left_by s.generated left) old new r t ends counted
 
 -- the status of a run over an input that the program makes
 made_status : (r : Result Finish Fault) → EndsMade r → IsMadeStatus (status_of r)

@@ -1,5 +1,5 @@
 -- What holds between two batches of a run, over plain values.
-use Rattle.std.proofs.Common.{◌≡◌, ℕ, suc, ◌+◌, ◌<◌, ◌≤◌, true, false, List, [], ◌∷◌, length, map, Option, Result, Ok, Err, All, refl, ap, sym, subst, ◌∙◌, arith}
+use Rattle.std.proofs.Common.{◌≡◌, ℕ, suc, ◌+◌, ◌*◌, ◌<◌, ◌≤◌, true, false, List, [], ◌∷◌, length, map, Option, Result, Ok, Err, All, refl, ap, sym, subst, ◌∙◌, arith}
 use Rattle.std.specs.Prelude.{IfSome, IsTrue, IsErrAnd, IsErrOf}
 use Rattle.std.proofs.Math.ListN.{get_or-map, length-map}
 use Rattle.std.proofs.lemmas.Bool.{false≢true}
@@ -10,6 +10,7 @@ use Rattle.morph_base.specs.declared.limits.TheConstants.{EVENT_OPS}
 use Rattle.morph_base.specs.declared.key.Layout.{Layout}
 use Rattle.morph_base.specs.declared.event.Batch.{Batch as TheBatch}
 use Rattle.morph_base.specs.declared.outcome.Outcome.{Outcome}
+use Rattle.morph_base.specs.declared.plan.Plan.{Plan}
 use Rattle.morph_base.specs.Transactions.{Transaction, transactions_of, by_time, IsTransaction}
 use Rattle.morph_base.specs.States.{State, opening_state, after, fold_batch}
 use Rattle.morph_base.specs.Outcomes.{Fate, fate, fates, fate_of}
@@ -22,7 +23,7 @@ use Rattle.event_reader.specs.declared.answers.Next.{Next}
 use Rattle.event_reader.specs.declared.answers.Next.TheVariants.{Batch}
 use Rattle.event_reader.specs.Steps.{Meaning}
 use Rattle.event_reader.specs.Reader.{ReaderView, new_reader, accepted_by, Takes, AnswersNext, ShowsNext, ShowsBatch}
-use Rattle.morph_cli.specs.declared.counts.Counts.{Counts}
+use Rattle.morph_cli.specs.declared.tally.Tally.{Tally}
 use Rattle.morph_cli.specs.declared.fault.Fault.{Fault}
 use Rattle.morph_cli.specs.declared.fault.Fault.TheVariants.{Write}
 use Rattle.morph_cli.specs.declared.report.Report.{Report}
@@ -31,6 +32,8 @@ use Rattle.morph_cli.specs.declared.run.Finish.{Finish}
 use Rattle.morph_cli.specs.Faults.{fault_of}
 use Rattle.morph_cli.specs.Text.{Telling, event_line, told_lines, told_outcomes, committed_in, aborted_in}
 use Rattle.morph_cli.specs.Runs.{EndsSo}
+use Rattle.morph_cli.specs.Tallies.{IsMadeOf, no_tally}
+use Rattle.morph_cli.proofs.Tallying.{Adds}
 use Rattle.morph_cli.proofs.Ending.{Goes, goes_start, goes_batch, ends_read, ends_long, ends_memory, ends_batch_cut}
 
 -- an error of which the value is told
@@ -66,7 +69,7 @@ outcomes-few s es os told valid k d lt =
     let here = all k (fate_of d) (simp length-map lt) in
     subst (λ (f : Fate). length f.values ≤ EVENT_OPS) (get_or-map fate_of os k d) here
 
-outcomes-length : (s : State) (batch : TheBatch) (os : List Outcome) → map fate_of os ≡ fates s (by_time (transactions_of batch)) → length os ≡ length batch.events.items
+pub outcomes-length : (s : State) (batch : TheBatch) (os : List Outcome) → map fate_of os ≡ fates s (by_time (transactions_of batch)) → length os ≡ length batch.events.items
 outcomes-length s batch os told =
     let es : List Transaction = transactions_of batch in
     let outcomes : length (map fate_of os) ≡ length os = simp length-map in
@@ -74,8 +77,8 @@ outcomes-length s batch os told =
     sym outcomes ∙ ap length told ∙ fates-length s (by_time es) ∙ length_permutation es (by_time es) (by_time-permutes es) ∙ events
 
 module _ {App : Type 0} (event_of : App → ℕ → Meaning) (tables : ℕ) (app : App) (size limit : ℕ) (telling : Telling) where
-  pub record Between (told left old new : Option (List ℕ)) (r : ReaderView App) (values : Kept) (counts : Counts) (out : List ℕ) : Type 0 where
-    pub goes : Goes event_of app size limit telling told left old new r (contents values) counts
+  pub record Between (told left old new : Option (List ℕ)) (r : ReaderView App) (values : Kept) (tally : Tally) (out : List ℕ) : Type 0 where
+    pub goes : Goes event_of app size limit telling told left old new r (contents values) tally
     pub layout : values.layout ≡ record { tables = tables; size = size }
     pub app_is : r.app ≡ app
     pub size_is : r.size ≡ size
@@ -84,19 +87,19 @@ module _ {App : Type 0} (event_of : App → ℕ → Meaning) (tables : ℕ) (app
     pub live : IsTrue r.live
     pub at_end : IsTrue r.lines.ended → IsAtEnd left
     pub kept : out ≡ []
-    pub counted : counts.committed + counts.aborted ≤ r.lines.number
+    pub counted : tally.committed + tally.aborted ≤ r.lines.number
 
   abbrev NewFacts : ReaderView App → Type 0
   NewFacts r = (r.app ≡ app) × (r.size ≡ size) × (r.lines.limit ≡ limit) × (r.lines.number ≡ 0) × IsTrue r.live × (r.lines.ended ≡ false)
 
-  pub between_start : (told old : Option (List ℕ)) (r : ReaderView App) (values : Kept) (counts : Counts) (out : List ℕ) (layout : Layout) → r ≡ new_reader app size limit →
-      values.layout ≡ layout → layout ≡ record { tables = tables; size = size } → contents values ≡ opening_state → out ≡ [] → counts.committed ≡ 0 → counts.aborted ≡ 0 →
-      Between told told old old r values counts out
-  between_start told old r values counts out layout new layout_is tables_are opening empty zero none =
+  pub between_start : (told old : Option (List ℕ)) (r : ReaderView App) (values : Kept) (tally : Tally) (out : List ℕ) (layout : Layout) → r ≡ new_reader app size limit →
+      values.layout ≡ layout → layout ≡ record { tables = tables; size = size } → contents values ≡ opening_state → out ≡ [] → tally ≡ no_tally →
+      Between told told old old r values tally out
+  between_start told old r values tally out layout new layout_is tables_are opening empty none =
       let facts : NewFacts r = subst NewFacts (sym new) (refl, refl, refl, refl, refl, refl) in
       record {
-        goes = subst (λ v. Goes event_of app size limit telling told told old old v (contents values) counts) (sym new)
-            (goes_start event_of app size limit telling told old (contents values) counts opening zero none);
+        goes = subst (λ v. Goes event_of app size limit telling told told old old v (contents values) tally) (sym new)
+            (goes_start event_of app size limit telling told old (contents values) tally opening none);
         layout = layout_is ∙ tables_are;
         app_is = facts.0;
         size_is = facts.1;
@@ -105,14 +108,33 @@ module _ {App : Type 0} (event_of : App → ℕ → Meaning) (tables : ℕ) (app
         live = facts.4;
         at_end = λ ended. absurd (false≢true (sym facts.5 ∙ ended));
         kept = empty;
-        counted = omega (arith, facts.3);
+        counted = let committed = ap (λ (t : Tally). t.committed) none in let aborted = ap (λ (t : Tally). t.aborted) none in omega (arith, facts.3, committed, aborted);
       }
+
+  -- the numbers of the tally are far below what they can hold
+  pub tally_few : (told left old new : Option (List ℕ)) (r : ReaderView App) (values : Kept) (tally : Tally) (out : List ℕ) → Between told left old new r values tally out →
+      (tally.batches ≤ limit + 1) × (tally.events ≤ limit + 1) × (tally.ops ≤ 40960 * (limit + 1)) × (tally.rolled ≤ 40960 * (limit + 1)) × (tally.evaluated ≤ 81920 * (limit + 1))
+  tally_few told left old new r values tally out b =
+      let t = b.goes.tallied in
+      let events = t.counts.events in
+      let evaluated = t.counts.evaluated in
+      let batches = t.few_batches in
+      let ops = t.few_ops in
+      let rolled = t.few_rolled in
+      let counted = b.counted in
+      let number = b.number in (
+        omega (arith, events, batches, counted, number),
+        omega (arith, events, counted, number),
+        omega (arith, events, batches, ops, counted, number),
+        omega (arith, events, batches, ops, rolled, counted, number),
+        omega (arith, events, batches, ops, rolled, evaluated, counted, number),
+      )
 
   meaning_is : (r : ReaderView App) → r.app ≡ app → r.size ≡ size → event_of r.app r.size ≡ event_of app size
   meaning_is r app_is size_is = ap (λ a. event_of a r.size) app_is ∙ ap (event_of app) size_is
 
-  pub between_batch : (told left left' old new newer : Option (List ℕ)) (r r' : ReaderView App) (values values' : Kept) (counts counts' : Counts) (out out' : List ℕ)
-      (batch : TheBatch) (outcomes : List Outcome) → Between told left old new r values counts out →
+  pub between_batch : (told left left' old new newer : Option (List ℕ)) (r r' : ReaderView App) (values values' : Kept) (tally tally' : Tally) (out out' : List ℕ)
+      (batch : TheBatch) (outcomes : List Outcome) (p : Plan) → Between told left old new r values tally out →
       AnswersNext (accepted_by event_of r left) (Ok (Batch batch)) (accepted_by event_of r' left') →
       Takes left left' (ShowsNext event_of r (Ok (Batch batch)) r') →
       0 < length batch.events.items → r.lines.number + length batch.events.items ≤ r'.lines.number → r'.lines.number ≤ r'.lines.limit + 1 →
@@ -120,15 +142,15 @@ module _ {App : Type 0} (event_of : App → ℕ → Meaning) (tables : ℕ) (app
       (r'.lines.ended ≡ false → r.lines.ended ≡ false) → r'.live ≡ true → values'.layout ≡ values.layout →
       contents values' ≡ fold_batch batch (contents values) → map fate_of outcomes ≡ fates (contents values) (by_time (transactions_of batch)) →
       newer ≡ behind new (told_outcomes telling.report outcomes) → out' ≡ [] →
-      counts'.committed ≡ counts.committed + committed_in (map fate_of outcomes) → counts'.aborted ≡ counts.aborted + aborted_in (map fate_of outcomes) →
-      counts'.committed + counts'.aborted ≡ counts.committed + counts.aborted + length outcomes →
-      Between told left' old newer r' values' counts' out'
-  between_batch told left left' old new newer r r' values values' counts counts' out out' batch outcomes b answers shows some counted bound same at_end unended live layout_is
-      state fates_are written empty committed aborted all = record {
-        goes = goes_batch event_of app size limit telling told left left' old new newer r r' (contents values) (contents values') counts counts'
-            batch (map fate_of outcomes) b.goes (simp length-map some) answers unended
+      Adds tally tally' p (map fate_of outcomes) (length outcomes) → IsMadeOf (contents values) (transactions_of batch) p →
+      Between told left' old newer r' values' tally' out'
+  between_batch told left left' old new newer r r' values values' tally tally' out out' batch outcomes p b answers shows some counted bound same at_end unended live layout_is
+      state fates_are written empty adds made = record {
+        goes = goes_batch event_of app size limit telling told left left' old new newer r r' (contents values) (contents values') tally tally'
+            batch (map fate_of outcomes) p (length outcomes) b.goes (simp length-map some) answers unended
             (subst (λ m. Takes left left' (ShowsBatch m r.closed r.lines (Ok (Batch batch)) r'.closed r'.lines)) (meaning_is r b.app_is b.size_is) shows) state fates_are
-            (written ∙ ap (behind new) (told_outcomes-fates telling.report outcomes)) committed aborted;
+            (written ∙ ap (behind new) (told_outcomes-fates telling.report outcomes)) adds made
+            (let n = outcomes-length (contents values) batch outcomes fates_are in omega (arith, n, some));
         layout = layout_is ∙ b.layout;
         app_is = same.0 ∙ b.app_is;
         size_is = same.1 ∙ b.size_is;
@@ -137,30 +159,30 @@ module _ {App : Type 0} (event_of : App → ℕ → Meaning) (tables : ℕ) (app
         live = live;
         at_end = at_end;
         kept = empty;
-        counted = let n = outcomes-length (contents values) batch outcomes fates_are in omega (arith, b.counted);
+        counted = let n = outcomes-length (contents values) batch outcomes fates_are in let before = b.counted in let all = adds.all in omega (arith, n, before, all, counted);
       }
 
   -- the reader failed
-  pub ends_fault : (told left left' old new : Option (List ℕ)) (r r' : ReaderView App) (values : Kept) (counts : Counts) (out : List ℕ)
-      (e : ReaderFault) → Between told left old new r values counts out → AnswersNext (accepted_by event_of r left) (Err e) (accepted_by event_of r' left') →
+  pub ends_fault : (told left left' old new : Option (List ℕ)) (r r' : ReaderView App) (values : Kept) (tally : Tally) (out : List ℕ)
+      (e : ReaderFault) → Between told left old new r values tally out → AnswersNext (accepted_by event_of r left) (Err e) (accepted_by event_of r' left') →
       Takes left left' (ShowsNext event_of r (Err e) r') → (IsErrOf {T = Next} (Err e) ReadFault → r.lines.ended ≡ false) →
       IfSome told (λ input. EndsSo (event_of app size) telling limit input left' old (Err (fault_of e)) new)
-  ends_fault told left left' old new r r' values counts out ReadFault b answers shows asked =
-      ends_read event_of app size limit telling told left left' old new r (contents values) counts b.goes (asked refl)
+  ends_fault told left left' old new r r' values tally out ReadFault b answers shows asked =
+      ends_read event_of app size limit telling told left left' old new r (contents values) tally b.goes (asked refl)
       (subst (λ m. Takes left left' (ShowsBatch m r.closed r.lines (Err ReadFault) r'.closed r'.lines)) (meaning_is r b.app_is b.size_is) shows)
-  ends_fault told left left' old new r r' values counts out LongInput b answers shows asked =
-      ends_long event_of app size limit telling told left left' old new r (contents values) counts b.goes answers
-  ends_fault told left left' old new r r' values counts out NoMemory b answers shows asked =
-      ends_memory event_of app size limit telling told left left' old new r (contents values) counts b.goes
+  ends_fault told left left' old new r r' values tally out LongInput b answers shows asked =
+      ends_long event_of app size limit telling told left left' old new r (contents values) tally b.goes answers
+  ends_fault told left left' old new r r' values tally out NoMemory b answers shows asked =
+      ends_memory event_of app size limit telling told left left' old new r (contents values) tally b.goes
 
   -- writing failed in a batch
-  pub ends_in_batch : (told left left' old new newer : Option (List ℕ)) (r r' : ReaderView App) (values : Kept) (counts : Counts) (out : List ℕ)
-      (batch : TheBatch) (outcomes : List Outcome) → Between told left old new r values counts out →
+  pub ends_in_batch : (told left left' old new newer : Option (List ℕ)) (r r' : ReaderView App) (values : Kept) (tally : Tally) (out : List ℕ)
+      (batch : TheBatch) (outcomes : List Outcome) → Between told left old new r values tally out →
       AnswersNext (accepted_by event_of r left) (Ok (Batch batch)) (accepted_by event_of r' left') → 0 < length batch.events.items →
       map fate_of outcomes ≡ fates (contents values) (by_time (transactions_of batch)) → AppendsPrefix new (told_outcomes telling.report outcomes) newer →
       IfSome told (λ input. EndsSo (event_of app size) telling limit input left' old (Err Write) newer)
-  ends_in_batch told left left' old new newer r r' values counts out batch outcomes b answers some fates_are cut =
-      ends_batch_cut event_of app size limit telling told left left' left' old new newer r r' (contents values) counts (transactions_of batch) (map fate_of outcomes)
+  ends_in_batch told left left' old new newer r r' values tally out batch outcomes b answers some fates_are cut =
+      ends_batch_cut event_of app size limit telling told left left' left' old new newer r r' (contents values) tally (transactions_of batch) (map fate_of outcomes)
       b.goes (simp length-map some) answers fates_are (subst (λ l. AppendsPrefix new l newer) (told_outcomes-fates telling.report outcomes) cut)
 
   -- the answer in place of what it is

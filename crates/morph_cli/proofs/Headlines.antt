@@ -1,5 +1,5 @@
 -- The headline of a run, from how the run ends.
-use Rattle.std.proofs.Common.{◌≡◌, ℕ, inl, inr, List, [], ◌++◌, Option, Result, Ok, Err, refl, ap, sym, ◌∙◌, arith, append-nil, append_assoc}
+use Rattle.std.proofs.Common.{◌≡◌, ℕ, inl, inr, List, [], ◌++◌, Option, Some, Result, Ok, Err, refl, ap, sym, subst, ◌∙◌, arith, append-nil, append_assoc}
 use Rattle.std.specs.Prelude.{IsErrOf}
 use Rattle.morph_io.specs.Told.{behind}
 use Rattle.morph_io.proofs.Putting.{prefix_more}
@@ -14,6 +14,9 @@ use Rattle.morph_cli.specs.Text.{Telling, event_lines, end_text, whole_text}
 use Rattle.morph_cli.specs.Runs.{EndsSo}
 use Rattle.morph_cli.specs.Status.{status_of}
 use Rattle.morph_cli.specs.Headline.{Headline, Completes}
+use Rattle.morph_cli.specs.declared.tally.Tally.{Tally}
+use Rattle.morph_cli.specs.Tallies.{IsTallyAt}
+use Rattle.morph_cli.proofs.Tallying.{cut_off}
 use Rattle.morph_cli.proofs.Running.{event_lines-front}
 
 module _ (meaning : Meaning) (telling : Telling) (limit : ℕ) (input : List ℕ) where
@@ -136,3 +139,22 @@ module _ (meaning : Meaning) (telling : Telling) (limit : ℕ) (input : List ℕ
     refused = λ line cause is. absurd (cc);
     long = λ is. inl refl;
   }
+
+  -- the tally at the end, over the whole input
+  pub tally_all : (left old new : Option (List ℕ)) (r : Result Finish Fault) (t : Tally) → EndsSo meaning telling limit input left old r new
+      → IsTallyAt (Some some) (status_of r) t → IsTallyAt (Some all) (status_of r) t
+  tally_all left old new (Ok Complete) t ends counted =
+      let same = (within_ended meaning limit input ends.0).1 in subst (λ (a : Accepted). IsTallyAt (Some a) 0 t) (sym same) counted
+  tally_all left old new (Ok Refused) t (line, cause, at, appended) counted =
+      let same = within_refused meaning limit input line cause at in subst (λ (a : Accepted). IsTallyAt (Some a) 3 t) (sym same) counted
+  tally_all left old new (Err e) t ends counted =
+      let first = within_is_first meaning limit input in
+      record {
+        done = counted.done;
+        rest = counted.rest ++ first.more;
+        plans = counted.plans;
+        parts = first.batches ∙ ap (λ l. l ++ first.more) counted.parts ∙ append_assoc counted.done counted.rest first.more;
+        ran = counted.ran;
+        counts = counted.counts;
+        whole = λ end. absurd (cut_off (Err e) e refl end);
+      }

@@ -8,3 +8,4 @@ pub mod Answering
 pub mod Asked
 pub mod Summing
 pub mod Making
+pub mod Tallying

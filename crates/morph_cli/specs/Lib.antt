@@ -5,3 +5,4 @@ pub mod Settings
 pub mod Status
 pub mod Headline
 pub mod Apps
+pub mod Tallies

@@ -3,6 +3,7 @@ ghost use Rattle.morph_cli.specs.Status.{status_of, note_at};
 
 use crate::fault::Fault;
 use crate::run::Finish;
+use crate::tally::Tally;
 
 /// How the program ends.
 #[derive(Clone, Copy, Debug, PartialEq, Eq)]
@@ -10,6 +11,8 @@ pub struct Ended {
     /// 0 where all was read, applied and written; 2 usage; 3 a refused line; 4 a read failed; 5 a write failed; 6 want of memory;
     /// 7 the input is too long.
     pub status: u8,
+    /// What was done until then.
+    pub tally: Tally,
 }
 
 /// The status where the words are no settings.

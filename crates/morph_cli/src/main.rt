@@ -15,6 +15,7 @@ mod note;
 mod report;
 mod run;
 mod settings;
+mod tally;
 #[cfg(test)]
 mod tests;
 mod text;

@@ -1,18 +1,21 @@
-ghost use Rattle.std.specs.Prelude.{◌≡◌, None, Some, map, IsSome, IfSome, IsErrOf};
+ghost use Rattle.std.specs.Prelude.{◌≡◌, None, Some, map, option_map, IsSome, IfSome, IsErrOf};
 ghost use Rattle.morph_io.specs.Told.{behind, HasRisen, AppendsPrefix};
 ghost use Rattle.event_reader.specs.declared.limits.TheConstants.{INPUT_BYTES};
+ghost use Rattle.event_reader.specs.Accepted.{accepted, accepted_within};
 ghost use Rattle.event_reader.specs.GeneratedText.{generated_text};
 ghost use Rattle.morph_cli.specs.Apps.{input_by, input_of, left_by, meaning_of, telling_by, telling_of};
 ghost use Rattle.morph_cli.specs.Headline.{Headline, Completes};
 ghost use Rattle.morph_cli.specs.Runs.{EndsSo, EndsMade};
 ghost use Rattle.morph_cli.specs.Settings.{AreInRange, settings_of};
-ghost use Rattle.morph_cli.specs.Status.{note_at, IsStatus, IsMadeStatus};
+ghost use Rattle.morph_cli.specs.Status.{note_at, status_of, IsStatus, IsMadeStatus};
+ghost use Rattle.morph_cli.specs.Tallies.{no_tally, IsTallyAt, IsBalanced};
 
 use crate::ended::{Ended, USAGE, USAGE_STATUS, note_of, status};
 use crate::fault::Fault;
 use crate::note::write_note;
 use crate::run::{Finish, run};
 use crate::settings::{App, Generated, Settings};
+use crate::tally::Tally;
 use crate::words::settings;
 use event_reader::{EventApp, GenSource};
 use grep_app::Grep;
@@ -32,19 +35,23 @@ fn run_over<R: Threads + Sync, A: EventApp + Copy, S: Source, K: Sink, G: Gate>(
     settings: Settings,
     source: &mut S,
     sink: &mut K,
+    tally: &mut Tally,
     gate: &G,
 ) -> Result<Finish, Fault>
-    requires { AreInRange settings }
+    requires settings { AreInRange settings }
+    requires tally { tally.old ≡ no_tally }
     ensures ends { IfSome (input_by settings.generated (generated_text (A.generated app settings.size)) (S.left source.old)) (λ input.
         EndsSo (A.event_of app settings.size) (telling_by settings.generated (A.table_count app) settings.size (A.name_of app))
         INPUT_BYTES input (left_by settings.generated (S.left source.new)) (K.written sink.old) result (K.written sink.new)) }
+    ensures tally { IsTallyAt (option_map (accepted_within (A.event_of app settings.size) INPUT_BYTES)
+        (input_by settings.generated (generated_text (A.generated app settings.size)) (S.left source.old))) (status_of result) tally.new }
     ensures made { IsSome settings.generated → (source.new ≡ source.old) × EndsMade result }
     ensures read { IsErrOf result Fault.Read → HasRisen (S.faults source.old) (S.faults source.new) }
     ensures write { IsErrOf result Fault.Write → HasRisen (K.faults sink.old) (K.faults sink.new) }
 {
     match settings.generated {
-        None => run(rt, alloc, app, settings, source, sink, gate),
-        Some(generated) => run_made(rt, alloc, app, settings, generated, sink, gate),
+        None => run(rt, alloc, app, settings, source, sink, tally, gate),
+        Some(generated) => run_made(rt, alloc, app, settings, generated, sink, tally, gate),
     }
 }
 
@@ -56,17 +63,21 @@ fn run_made<R: Threads + Sync, A: EventApp + Copy, K: Sink, G: Gate>(
     settings: Settings,
     generated: Generated,
     sink: &mut K,
+    tally: &mut Tally,
     gate: &G,
 ) -> Result<Finish, Fault>
     requires settings { AreInRange settings }
     requires generated { settings.generated ≡ Some generated }
+    requires tally { tally.old ≡ no_tally }
     ensures ends { EndsSo (A.event_of app settings.size) (telling_by settings.generated (A.table_count app) settings.size (A.name_of app))
         INPUT_BYTES (generated_text (A.generated app settings.size) generated.seed generated.events) None (K.written sink.old) result (K.written sink.new) }
+    ensures tally { IsTallyAt (option_map (accepted_within (A.event_of app settings.size) INPUT_BYTES)
+        (Some (generated_text (A.generated app settings.size) generated.seed generated.events))) (status_of result) tally.new }
     ensures made { EndsMade result }
     ensures write { IsErrOf result Fault.Write → HasRisen (K.faults sink.old) (K.faults sink.new) }
 {
     let mut source = GenSource::new(app, generated.seed, generated.events, settings.size);
-    run(rt, alloc, app, settings, &mut source, sink, gate)
+    run(rt, alloc, app, settings, &mut source, sink, tally, gate)
 }
 
 /// Runs the application that the settings name.
@@ -76,19 +87,22 @@ fn run_app<R: Threads + Sync, S: Source, K: Sink, G: Gate>(
     settings: Settings,
     source: &mut S,
     sink: &mut K,
+    tally: &mut Tally,
     gate: &G,
 ) -> Result<Finish, Fault>
-    requires { AreInRange settings }
+    requires settings { AreInRange settings }
+    requires tally { tally.old ≡ no_tally }
     ensures ends { IfSome (input_of settings (S.left source.old)) (λ input. EndsSo (meaning_of settings) (telling_of settings)
         INPUT_BYTES input (left_by settings.generated (S.left source.new)) (K.written sink.old) result (K.written sink.new)) }
+    ensures tally { IsTallyAt (option_map (accepted_within (meaning_of settings) INPUT_BYTES) (input_of settings (S.left source.old))) (status_of result) tally.new }
     ensures made { IsSome settings.generated → (source.new ≡ source.old) × EndsMade result }
     ensures read { IsErrOf result Fault.Read → HasRisen (S.faults source.old) (S.faults source.new) }
     ensures write { IsErrOf result Fault.Write → HasRisen (K.faults sink.old) (K.faults sink.new) }
 {
     match settings.app {
-        App::Ledger => run_over(rt, alloc, Ledger, settings, source, sink, gate),
-        App::Grep => run_over(rt, alloc, Grep, settings, source, sink, gate),
-        App::Toll => run_over(rt, alloc, Toll, settings, source, sink, gate),
+        App::Ledger => run_over(rt, alloc, Ledger, settings, source, sink, tally, gate),
+        App::Grep => run_over(rt, alloc, Grep, settings, source, sink, tally, gate),
+        App::Toll => run_over(rt, alloc, Toll, settings, source, sink, tally, gate),
     }
 }
 
@@ -120,18 +134,24 @@ pub fn morph<R: Threads + Sync, S: Source, K: Sink, N: Sink, G: Gate>(
     ensures read { result.status ≡ 4 → HasRisen (S.faults source.old) (S.faults source.new) }
     ensures write { result.status ≡ 5 → HasRisen (K.faults sink.old) (K.faults sink.new) }
     ensures statuses { IsStatus result.status }
+    ensures tally { IfSome (settings_of (map (λ word. word.items) words.now)) (λ s.
+        IsTallyAt (option_map (accepted (meaning_of s)) (input_of s (S.left source.old))) result.status result.tally) }
+    ensures balanced { IsBalanced result.tally }
     ensures note { AppendsPrefix (N.written notes.old) (note_at result.status) (N.written notes.new) }
     ensures whole_note { (HasRisen (N.faults notes.old) (N.faults notes.new) → ⊥) → N.written notes.new ≡ behind (N.written notes.old) (note_at result.status) }
 {
+    let mut tally = Tally::new();
     let Some(settings) = settings(words) else {
         write_note(notes, USAGE);
         return Ended {
             status: USAGE_STATUS,
+            tally,
         };
     };
-    let end = run_app(rt, alloc, settings, source, sink, gate);
+    let end = run_app(rt, alloc, settings, source, sink, &mut tally, gate);
     write_note(notes, note_of(&end));
     Ended {
         status: status(&end),
+        tally,
     }
 }

@@ -1,14 +1,17 @@
-ghost use Rattle.std.specs.Prelude.{◌≡◌, ℕ, ◌≤◌, IfSome, IsErrOf};
+ghost use Rattle.std.specs.Prelude.{◌≡◌, ℕ, ◌≤◌, option_map, IfSome, IsErrOf};
+ghost use Rattle.event_reader.specs.Accepted.{accepted_within};
 ghost use Rattle.event_reader.specs.declared.limits.TheConstants.{INPUT_BYTES};
 ghost use Rattle.morph_io.specs.Told.{HasRisen};
 ghost use Rattle.morph_cli.specs.Apps.{telling_by};
 ghost use Rattle.morph_cli.specs.Runs.{EndsSo};
 ghost use Rattle.morph_cli.specs.Settings.{AreInRange};
+ghost use Rattle.morph_cli.specs.Status.{status_of};
+ghost use Rattle.morph_cli.specs.Tallies.{no_tally, IsTallyAt};
 
 use crate::batch::run_batch;
-use crate::counts::Counts;
 use crate::fault::Fault;
 use crate::settings::Settings;
+use crate::tally::Tally;
 use crate::writing::{write_closing, write_events, write_refused};
 use event_reader::{BatchReader, EventApp, INPUT_BYTES, Next};
 use morph_base::Layout;
@@ -27,7 +30,8 @@ pub enum Finish {
     Refused,
 }
 
-/// Runs an application over an input: batch by batch, each written whole before the next is read.
+/// Runs an application over an input: batch by batch, each written whole before the next is read. The batches that were run
+/// are counted in the tally, also those of a run that is cut off.
 pub fn run<R: Threads + Sync, A: EventApp + Copy, S: Source, K: Sink, G: Gate>(
     rt: &R,
     alloc: Global,
@@ -35,11 +39,14 @@ pub fn run<R: Threads + Sync, A: EventApp + Copy, S: Source, K: Sink, G: Gate>(
     settings: Settings,
     source: &mut S,
     sink: &mut K,
+    tally: &mut Tally,
     gate: &G,
 ) -> Result<Finish, Fault>
-    requires { AreInRange settings }
+    requires settings { AreInRange settings }
+    requires tally { tally.old ≡ no_tally }
     ensures ends { IfSome (S.left source.old) (λ input. EndsSo (A.event_of app settings.size)
         (telling_by settings.generated (A.table_count app) settings.size (A.name_of app)) INPUT_BYTES input (S.left source.new) (K.written sink.old) result (K.written sink.new)) }
+    ensures tally { IsTallyAt (option_map (accepted_within (A.event_of app settings.size) INPUT_BYTES) (S.left source.old)) (status_of result) tally.new }
     ensures source_faults { S.faults source.old ≤ S.faults source.new }
     ensures sink_faults { K.faults sink.old ≤ K.faults sink.new }
     ensures read { IsErrOf result Fault.Read → HasRisen (S.faults source.old) (S.faults source.new) }
@@ -52,16 +59,12 @@ pub fn run<R: Threads + Sync, A: EventApp + Copy, S: Source, K: Sink, G: Gate>(
     let mut engine = Engine::new(alloc, layout)?;
     let mut reader = BatchReader::new(alloc, app, settings.size, INPUT_BYTES)?;
     let mut out = Out::new(alloc)?;
-    let mut counts = Counts {
-        committed: 0,
-        aborted: 0,
-    };
     'batches: loop {
         match reader.next_batch(alloc, source)? {
             Next::Batch(batch) => {
-                let outcomes = run_batch(rt, alloc, &mut engine, &batch, settings.workers, gate)?;
-                write_events(&mut out, sink, settings.report(), outcomes.as_slice())?;
-                counts.add(outcomes.as_slice());
+                let ran = run_batch(rt, alloc, &mut engine, &batch, settings.workers, gate)?;
+                tally.add(&ran);
+                write_events(&mut out, sink, settings.report(), ran.outcomes.as_slice())?;
             }
             Next::End => {
                 write_closing(
@@ -70,7 +73,7 @@ pub fn run<R: Threads + Sync, A: EventApp + Copy, S: Source, K: Sink, G: Gate>(
                     &app,
                     settings.report(),
                     engine.state(),
-                    counts,
+                    tally,
                 )?;
                 return Ok(Finish::Complete);
             }

@@ -2,8 +2,11 @@
 mod apps;
 mod faults;
 mod inputs;
+mod tallies;
 
+use crate::ended::Ended;
 use crate::morph::morph;
+use crate::tally::Tally;
 use morph_base::{List, OutOfMemory};
 use morph_io::{MemSink, MemSource, Sink, Source};
 use std::alloc::Global;
@@ -19,6 +22,7 @@ const LEDGER: &[&[u8]] = &[b"app=ledger"];
 #[derive(Drop)]
 struct Ran {
     status: u8,
+    tally: Tally,
     sink: MemSink,
     notes: MemSink,
 }
@@ -56,16 +60,16 @@ fn sink_of(
     MemSink::new(alloc, 1_000_000, piece.max(1), fail, stall)
 }
 
-/// Runs the program, and answers its status alone.
-fn status_of_run<R: Threads + Sync, S: Source, K: Sink, N: Sink>(
+/// Runs the program.
+fn ended<R: Threads + Sync, S: Source, K: Sink, N: Sink>(
     rt: &R,
     alloc: Global,
     words: &[List<u8>],
     source: &mut S,
     sink: &mut K,
     notes: &mut N,
-) -> u8 {
-    morph(rt, alloc, words, source, sink, notes, &FreeGate).status
+) -> Ended {
+    morph(rt, alloc, words, source, sink, notes, &FreeGate)
 }
 
 /// Runs the program with these words, and tells what it left.
@@ -78,9 +82,10 @@ fn run_with<R: Threads + Sync>(
 ) -> Result<Ran, OutOfMemory> {
     let words = words_of(alloc, words)?;
     let mut notes = sink_of(alloc, 1000, &[], &[])?;
-    let status = status_of_run(rt, alloc, words.as_slice(), source, &mut sink, &mut notes);
+    let ended = ended(rt, alloc, words.as_slice(), source, &mut sink, &mut notes);
     Ok(Ran {
-        status,
+        status: ended.status,
+        tally: ended.tally,
         sink,
         notes,
     })

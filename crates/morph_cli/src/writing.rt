@@ -6,8 +6,8 @@ ghost use Rattle.morph_cli.specs.declared.settings.TheConstants.{GREATEST_SIZE};
 ghost use Rattle.morph_io.specs.Told.{behind, HasRisen, Puts, AppendsPrefix};
 ghost use Rattle.morph_cli.specs.Text.{outcome_lines, told_outcomes, value_line, table_lines, value_lines, told_values, counts_line, cause_word, refused_text};
 
-use crate::counts::Counts;
 use crate::report::Report;
+use crate::tally::Tally;
 use crate::text::event_line;
 use crate::totals::put_totals;
 use event_reader::{Cause, EventApp};
@@ -61,20 +61,20 @@ pub fn write_closing<A: EventApp, K: Sink>(
     app: &A,
     report: Report,
     values: &State,
-    counts: Counts,
+    tally: &Tally,
 ) -> Result<(), WriteFailed>
     requires empty { out.old ≡ [] }
     requires tables { values.now.layout.tables ≡ A.table_count app.now }
     requires few_ids { values.now.layout.size ≤ GREATEST_SIZE }
     ensures written { OnOk result (K.written sink.new
-        ≡ behind (K.written sink.old) (told_values report values.now.layout (A.name_of app.now) (contents values.now) ++ counts_line counts.committed counts.aborted)) }
+        ≡ behind (K.written sink.old) (told_values report values.now.layout (A.name_of app.now) (contents values.now) ++ counts_line tally.now.committed tally.now.aborted)) }
     ensures prefix { OnErr result (AppendsPrefix (K.written sink.old)
-        (told_values report values.now.layout (A.name_of app.now) (contents values.now) ++ counts_line counts.committed counts.aborted) (K.written sink.new)) }
+        (told_values report values.now.layout (A.name_of app.now) (contents values.now) ++ counts_line tally.now.committed tally.now.aborted) (K.written sink.new)) }
     ensures never_falls { K.faults sink.old ≤ K.faults sink.new }
     ensures cause { OnErr result (HasRisen (K.faults sink.old) (K.faults sink.new)) }
 {
     put_told_values(out, sink, app, report, values)?;
-    put_counts(out, sink, counts)?;
+    put_counts(out, sink, tally)?;
     out.flush(sink)
 }
 
@@ -221,17 +221,17 @@ fn put_told_values<A: EventApp, K: Sink>(
 }
 
 /// Puts the line of the counts.
-fn put_counts<K: Sink>(out: &mut Out, sink: &mut K, counts: Counts) -> Result<(), WriteFailed>
-    ensures puts { OnOk result (Puts (K.written sink.old) out.old (counts_line counts.committed counts.aborted) (K.written sink.new) out.new) }
-    ensures prefix { OnErr result (AppendsPrefix (K.written sink.old) (out.old ++ counts_line counts.committed counts.aborted) (K.written sink.new)) }
+fn put_counts<K: Sink>(out: &mut Out, sink: &mut K, tally: &Tally) -> Result<(), WriteFailed>
+    ensures puts { OnOk result (Puts (K.written sink.old) out.old (counts_line tally.now.committed tally.now.aborted) (K.written sink.new) out.new) }
+    ensures prefix { OnErr result (AppendsPrefix (K.written sink.old) (out.old ++ counts_line tally.now.committed tally.now.aborted) (K.written sink.new)) }
     ensures never_falls { K.faults sink.old ≤ K.faults sink.new }
     ensures cause { OnErr result (HasRisen (K.faults sink.old) (K.faults sink.new)) }
 {
     let mut line = LineBuf::new();
     line.word(b"committed ");
-    line.number(counts.committed);
+    line.number(tally.committed);
     line.word(b" aborted ");
-    line.number(counts.aborted);
+    line.number(tally.aborted);
     line.word(b"\n");
     out.put(sink, &line)
 }

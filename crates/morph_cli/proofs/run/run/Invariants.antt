@@ -8,7 +8,7 @@ abbrev pub invariant-batches : goal.invariant-batches
 invariant-batches g l = record {
   between : Between g.A.EventApp.event_of (g.A.EventApp.table_count l.app) l.app l.settings.size INPUT_BYTES
       (telling_by l.settings.generated (g.A.EventApp.table_count l.app) l.settings.size (g.A.EventApp.name_of l.app)) (g.S.Source.left l.initial.source)
-      (g.S.Source.left l.source) (g.K.Sink.written l.initial.sink) (g.K.Sink.written l.sink) l.reader l.engine l.counts l.out;
+      (g.S.Source.left l.source) (g.K.Sink.written l.initial.sink) (g.K.Sink.written l.sink) l.reader l.engine l.tally l.out;
   source_faults : g.S.Source.faults l.initial.source ≤ g.S.Source.faults l.source;
   sink_faults : g.K.Sink.faults l.initial.sink ≤ g.K.Sink.faults l.sink;
 }

@@ -1,0 +1,215 @@
+-- The tally of the batches that were run: one batch more, and at each end of a run.
+use Rattle.std.proofs.Common.{◌≡◌, ◌⊎◌, inl, inr, ℕ, ◌+◌, ◌*◌, ◌<◌, ◌≤◌, List, [], ◌∷◌, ◌++◌, length, sum, sum_by, Option, Some, None, Result, Ok, Err, refl, ap, sym, subst, ◌∙◌, arith, cond, append-nil, append_assoc}
+use Rattle.std.specs.Prelude.{option_map, IfSome, not}
+use Rattle.std.proofs.lemmas.List.{length-append}
+use Rattle.std.proofs.lemmas.List.FromFn.{length-range_with_len}
+use Rattle.std.proofs.lemmas.List.Sums.{sum_by-append, sum_by_push, sum_by-le-sum_by, count_by-le-length}
+use Rattle.morph_base.specs.declared.plan.Plan.{Plan}
+use Rattle.morph_base.specs.Transactions.{Transaction, by_time}
+use Rattle.morph_base.specs.States.{State, opening_state, after_all}
+use Rattle.morph_base.specs.Outcomes.{Fate, fates}
+use Rattle.morph_base.specs.Plans.{op_count}
+use Rattle.morph_base.specs.Graphs.{below}
+use Rattle.morph_base.specs.Guesses.{is_stale, stale_count}
+use Rattle.morph_base.proofs.NumberLaws.{op_count-small}
+use Rattle.morph_base.proofs.PlainLaws.{fates-nil}
+use Rattle.morph_base.proofs.StateLaws.{after_all-append, after_all-nil}
+use Rattle.event_reader.specs.Accepted.{Accepted, Ending}
+use Rattle.morph_cli.specs.declared.tally.Tally.{Tally}
+use Rattle.morph_cli.specs.declared.fault.Fault.{Fault}
+use Rattle.morph_cli.specs.declared.fault.Fault.TheVariants.{Read, Write, OutOfMemory, TooLong}
+use Rattle.morph_cli.specs.declared.run.Finish.{Finish}
+use Rattle.morph_cli.specs.Status.{status_of}
+use Rattle.morph_cli.specs.Text.{in_order, run_state, run_fates, committed_in, aborted_in}
+use Rattle.morph_cli.proofs.Running.{fronts}
+use Rattle.morph_cli.specs.Tallies.{IsMadeOf, AreRunFrom, IsTallyOf, IsTallyAt, IsBalanced, no_tally, settled_by_first}
+
+-- between two batches: the plans of those that were done, and their tally with the bounds of its numbers
+pub record Tallied (done : List (List Transaction)) (plans : List Plan) (t : Tally) : Type 0 where
+  pub ran : AreRunFrom opening_state done plans
+  pub counts : IsTallyOf done plans t
+  pub few_batches : t.batches ≤ t.events
+  pub few_ops : t.ops ≤ 40960 * t.batches
+  pub few_rolled : t.rolled ≤ t.ops
+
+-- a batch of n events was counted: its plan, and what became of its events
+pub record Adds (t t' : Tally) (p : Plan) (fs : List Fate) (n : ℕ) : Type 0 where
+  pub batches : t'.batches ≡ t.batches + 1
+  pub events : t'.events ≡ t.events + n
+  pub committed : t'.committed ≡ t.committed + committed_in fs
+  pub aborted : t'.aborted ≡ t.aborted + aborted_in fs
+  pub all : t'.committed + t'.aborted ≡ t.committed + t.aborted + n
+  pub ops : t'.ops ≡ t.ops + op_count p
+  pub rolled : t'.rolled ≡ t.rolled + stale_count p
+  pub evaluated : t'.evaluated ≡ t.evaluated + (op_count p + stale_count p)
+  pub settled_by : t'.settled_by ≡ settled_by_first t'.ops
+  pub spread : t'.spread ≡ t.spread
+  pub left : t'.left ≡ t.left
+  pub handed : t'.handed ≡ t.handed
+  pub stolen : t'.stolen ≡ t.stolen
+
+pub few_stale : (p : Plan) → stale_count p ≤ op_count p
+few_stale p =
+    let few : stale_count p ≤ length (below (op_count p)) = count_by-le-length (is_stale p) (below (op_count p)) in
+    let all : length (below (op_count p)) ≡ op_count p = length-range_with_len 0 (op_count p) in
+    omega (arith, few, all)
+
+few_stales : (plans : List Plan) → sum_by stale_count plans ≤ sum_by op_count plans
+few_stales plans = sum_by-le-sum_by stale_count op_count plans few_stale
+
+-- one plan more
+ran_more : (s : State) (done : List (List Transaction)) (plans : List Plan) (batch : List Transaction) (p : Plan) → AreRunFrom s done plans →
+    IsMadeOf (after_all s (in_order done)) batch p → AreRunFrom s (done ++ batch ∷ []) (plans ++ p ∷ [])
+unfolding AreRunFrom
+ran_more s [] [] batch p ran made = (subst (λ r. IsMadeOf r batch p) (after_all-nil s) made, tt)
+ran_more s [] (q ∷ qs) batch p ran made = absurd ran
+ran_more s (b ∷ bs) [] batch p ran made = absurd ran
+ran_more s (b ∷ bs) (q ∷ qs) batch p ran made =
+    (ran.0, ran_more (after_all s (by_time b)) bs qs batch p ran.1 (subst (λ r. IsMadeOf r batch p) (after_all-append s (by_time b) (in_order bs)) made))
+
+nothing_ran : AreRunFrom opening_state [] []
+unfolding AreRunFrom
+nothing_ran = tt
+
+at_start : Tallied [] [] no_tally
+at_start = record {
+  ran = nothing_ran;
+  counts = record {
+    batches = refl;
+    events = refl;
+    committed = ap committed_in (sym (fates-nil opening_state));
+    aborted = ap aborted_in (sym (fates-nil opening_state));
+    ops = refl;
+    rolled = refl;
+    evaluated = refl;
+    settled_by = refl;
+    spread = refl;
+    left = refl;
+    handed = refl;
+    stolen = refl;
+  };
+  few_batches = omega arith;
+  few_ops = omega arith;
+  few_rolled = omega arith;
+}
+
+pub tallied_start : (t : Tally) → t ≡ no_tally → Tallied [] [] t
+tallied_start t is = subst (Tallied [] []) (sym is) at_start
+
+-- one batch more
+pub tallied_more : (done : List (List Transaction)) (plans : List Plan) (t t' : Tally) (batch : List Transaction) (p : Plan) (fs : List Fate) (n : ℕ) →
+    Tallied done plans t → Adds t t' p fs n → IsMadeOf (run_state done) batch p → run_fates (done ++ batch ∷ []) ≡ run_fates done ++ fs → 0 < n →
+    Tallied (done ++ batch ∷ []) (plans ++ p ∷ []) t'
+tallied_more done plans t t' batch p fs n so_far adds made told some =
+    let counts = so_far.counts in
+    let few_ops : op_count p ≤ 40960 = op_count-small p made.valid.plan in
+    let few_rolled : stale_count p ≤ op_count p = few_stale p in
+    record {
+      ran = ran_more opening_state done plans batch p so_far.ran made;
+      counts = record {
+        batches = let before = counts.batches in let now = adds.batches in let long : length (done ++ batch ∷ []) ≡ length done + 1 = length-append done (batch ∷ []) in
+            omega (arith, before, now, long);
+        events = let before = counts.events in let now = adds.events in let all = adds.all in omega (arith, before, now, all);
+        committed = adds.committed ∙ ap (λ k. k + committed_in fs) counts.committed ∙ sym (sum_by-append (λ (f : Fate). cond f.committed 1 0) (run_fates done) fs) ∙ ap committed_in (sym told);
+        aborted = adds.aborted ∙ ap (λ k. k + aborted_in fs) counts.aborted ∙ sym (sum_by-append (λ (f : Fate). cond (not f.committed) 1 0) (run_fates done) fs) ∙ ap aborted_in (sym told);
+        ops = adds.ops ∙ ap (λ k. k + op_count p) counts.ops ∙ sym (sum_by_push op_count plans p);
+        rolled = adds.rolled ∙ ap (λ k. k + stale_count p) counts.rolled ∙ sym (sum_by_push stale_count plans p);
+        evaluated = let before = counts.evaluated in let now = adds.evaluated in let ops = adds.ops in let rolled = adds.rolled in omega (arith, before, now, ops, rolled);
+        settled_by = adds.settled_by;
+        spread = adds.spread ∙ counts.spread;
+        left = adds.left ∙ counts.left;
+        handed = adds.handed ∙ counts.handed;
+        stolen = adds.stolen ∙ counts.stolen;
+      };
+      few_batches = let before = so_far.few_batches in let now = adds.batches in let events = adds.events in omega (arith, before, now, events, some);
+      few_ops = let before = so_far.few_ops in let now = adds.batches in let ops = adds.ops in omega (arith, before, now, ops, few_ops);
+      few_rolled = let before = so_far.few_rolled in let now = adds.rolled in let ops = adds.ops in omega (arith, before, now, ops, few_rolled);
+    }
+
+-- the numbers of a tally go together
+all_settled : (ops : ℕ) → sum (settled_by_first ops) ≡ ops
+all_settled ops = omega arith
+
+pub balanced : (all : Option Accepted) (status : ℕ) (t : Tally) → IsTallyAt all status t → IsBalanced t
+balanced all status t at_end =
+    let counts = at_end.counts in
+    record {
+      events = sym counts.events;
+      settled = ap sum counts.settled_by ∙ all_settled t.ops;
+      evaluated = counts.evaluated;
+      few =
+          let evaluated = counts.evaluated in let rolled = counts.rolled in let ops = counts.ops in let few = few_stales at_end.plans in
+          omega (arith, evaluated, rolled, ops, few);
+      spread = counts.spread;
+      left = counts.left;
+      handed = counts.handed;
+      stolen = counts.stolen;
+    }
+
+pub balanced_none : (t : Tally) → t ≡ no_tally → IsBalanced t
+balanced_none t none =
+    let start = tallied_start t none in
+    balanced None 0 t (record { done = []; rest = []; plans = []; parts = tt; ran = start.ran; counts = start.counts; whole = λ end. refl })
+
+-- batches that were done, in front of those that are still to come
+abbrev still : Option Accepted → List (List Transaction)
+still None = []
+still (Some rest) = rest.batches
+
+-- the run is cut off: some of the batches may be left
+pub tally_cut : (all now : Option Accepted) (done : List (List Transaction)) (plans : List Plan) (t : Tally) (status : ℕ) →
+    all ≡ option_map (fronts done) now → Tallied done plans t →
+    ((status ≡ 0) ⊎ (status ≡ 3) → ⊥) → IsTallyAt all status t
+tally_cut all now done plans t status whole tallied cut = record {
+  done = done;
+  rest = still now;
+  plans = plans;
+  parts = parts now all whole;
+  ran = tallied.ran;
+  counts = tallied.counts;
+  whole = λ end. absurd (cut end);
+}
+  where
+    parts : (now all : Option Accepted) → all ≡ option_map (fronts done) now →
+        IfSome all (λ a. a.batches ≡ done ++ still now)
+    parts None None is = tt
+    parts None (Some a) is = absurd (cc)
+    parts (Some rest) None is = tt
+    parts (Some rest) (Some a) is = cc
+
+-- the run is at the end of what is there: no batch is left
+pub tally_whole : (all now : Option Accepted) (done : List (List Transaction)) (plans : List Plan) (t : Tally) (status : ℕ) (ending : Ending) →
+    all ≡ option_map (fronts done) now → Tallied done plans t →
+    IfSome now (λ rest. rest ≡ record { batches = []; ending = ending }) → IsTallyAt all status t
+tally_whole all now done plans t status ending whole tallied at_end = record {
+  done = done;
+  rest = [];
+  plans = plans;
+  parts = parts now all whole at_end;
+  ran = tallied.ran;
+  counts = tallied.counts;
+  whole = λ end. refl;
+}
+  where
+    parts : (now all : Option Accepted) → all ≡ option_map (fronts done) now →
+        IfSome now (λ rest. rest ≡ record { batches = []; ending = ending }) → IfSome all (λ a. a.batches ≡ done ++ [])
+    parts None None is last = tt
+    parts None (Some a) is last = absurd (cc)
+    parts (Some rest) None is last = tt
+    parts (Some rest) (Some a) is last =
+        let before : a.batches ≡ done ++ rest.batches = cc in
+        before ∙ ap (λ (r : Accepted). done ++ r.batches) last
+
+-- a run that is cut off does not end by 0 or 3
+by_fault : (e : Fault) → (status_of (Err e) ≡ 0) ⊎ (status_of (Err e) ≡ 3) → ⊥
+by_fault Read (inl is) = absurd (omega (arith, is))
+by_fault Read (inr is) = absurd (omega (arith, is))
+by_fault Write (inl is) = absurd (omega (arith, is))
+by_fault Write (inr is) = absurd (omega (arith, is))
+by_fault OutOfMemory (inl is) = absurd (omega (arith, is))
+by_fault OutOfMemory (inr is) = absurd (omega (arith, is))
+by_fault TooLong (inl is) = absurd (omega (arith, is))
+by_fault TooLong (inr is) = absurd (omega (arith, is))
+
+pub cut_off : (r : Result Finish Fault) (e : Fault) → r ≡ Err e → (status_of r ≡ 0) ⊎ (status_of r ≡ 3) → ⊥
+cut_off r e is = subst (λ (s : Result Finish Fault). (status_of s ≡ 0) ⊎ (status_of s ≡ 3) → ⊥) (sym is) (by_fault e)

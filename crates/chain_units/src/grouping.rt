@@ -1,4 +1,4 @@
-ghost use Rattle.std.specs.Prelude.{◌≡◌, ℕ, ◌<◌, [], length, map, slice_index_or, IfOk};
+ghost use Rattle.std.specs.Prelude.{◌≡◌, ℕ, ◌<◌, ◌↔◌, IsTrue, [], length, map, slice_index_or, IfOk};
 ghost use Rattle.chain_units.specs.Places.{StandsAt, IsPartition, AreFew};
 
 use crate::places::{Place, places};
@@ -47,6 +47,13 @@ impl Units {
         ensures { result ≡ length self.now.units }
     {
         self.units.len() as u32
+    }
+
+    /// Whether there is no unit.
+    pub fn is_empty(&self) -> bool
+        ensures { IsTrue result ↔ (self.now.units ≡ []) }
+    {
+        self.units.is_empty()
     }
 
     /// The operations of unit `u`, by rising number.

@@ -69,9 +69,13 @@ fn four_events(alloc: Global, rt: &impl Abort, unit: Unit) -> Result<Units, Fail
     Ok(units(alloc, &plan, unit)?)
 }
 
+/// Takes what threads may share and take over.
+fn share<T: Send + Sync>(_value: &T) {}
+
 #[test]
 fn chains_come_by_key(rt: HostRuntime) -> Result<(), Fail> {
     let units = four_events(rt.alloc(), &rt, Unit::Chain)?;
+    share(&units);
     assert_eq!(rt; units.len(), 6);
     let want = [
         0, 2, 6, 99, 4, 8, 10, 99, 12, 99, 1, 3, 7, 99, 5, 9, 11, 99, 13, 99,

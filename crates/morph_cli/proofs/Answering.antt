@@ -1,6 +1,6 @@
 -- What is said of the whole call, from what is said of the run.
-use Rattle.std.proofs.Common.{◌≡◌, ◌⊎◌, inl, inr, ℕ, List, Option, Some, None, Result, Ok, Err, IsSome, refl, sym, subst}
-use Rattle.std.specs.Prelude.{option_map, IfSome, IsErrOf}
+use Rattle.std.proofs.Common.{◌≡◌, ◌≤◌, inl, inr, ℕ, List, Option, Some, None, Result, Ok, Err, IsSome, refl, sym, subst}
+use Rattle.std.specs.Prelude.{option_map, IfSome, IsErrOf, IsTrue}
 use Rattle.event_reader.specs.declared.limits.TheConstants.{INPUT_BYTES}
 use Rattle.morph_cli.specs.declared.fault.Fault.{Fault}
 use Rattle.morph_cli.specs.declared.fault.Fault.TheVariants.{Read, Write, OutOfMemory, TooLong}
@@ -9,12 +9,14 @@ use Rattle.morph_cli.specs.declared.run.Finish.TheVariants.{Complete, Refused}
 use Rattle.morph_cli.specs.declared.settings.Settings.{Settings}
 use Rattle.morph_cli.specs.Apps.{input_of, left_by, meaning_of, telling_of}
 use Rattle.morph_cli.specs.Runs.{EndsSo, EndsMade}
-use Rattle.morph_cli.specs.Status.{status_of, IsMadeStatus}
+use Rattle.morph_cli.specs.Status.{note_at, status_of, IsMadeStatus}
 use Rattle.event_reader.specs.Accepted.{accepted, accepted_within}
 use Rattle.morph_cli.specs.declared.tally.Tally.{Tally}
-use Rattle.morph_cli.specs.Tallies.{IsTallyAt}
+use Rattle.morph_cli.specs.Tallies.{RunTold, CallTold}
+use Rattle.morph_io.specs.Told.{behind, HasRisen, AppendsPrefix}
+use Rattle.morph_cli.proofs.Noting.{risen_later}
 use Rattle.morph_cli.specs.Headline.{Headline, Completes}
-use Rattle.morph_cli.proofs.Headlines.{headline, completes, tally_all}
+use Rattle.morph_cli.proofs.Headlines.{headline, completes, told_all}
 
 -- what holds of the settings holds of what the words ask for
 asked_so : (P : Settings → Type 0) (asked : Option Settings) (s : Settings) → asked ≡ Some s → P s → IfSome asked P
@@ -40,31 +42,42 @@ headline_asked asked s told left old new r status is status_is ends =
         subst (λ n. Headline (meaning_of s) (telling_of s) INPUT_BYTES input (left_by s.generated left) old new n) (sym status_is)
         (headline (meaning_of s) (telling_of s) INPUT_BYTES input (left_by s.generated left) old new r ends)
 
-pub completes_asked : (asked : Option Settings) (s : Settings) (told left old new : Option (List ℕ)) (r : Result Finish Fault) (status : ℕ) →
-    asked ≡ Some s → status ≡ status_of r → Ends s told left old r new → (IsErrOf r Read → ⊥) → (IsErrOf r Write → ⊥) →
-    IfSome asked (λ s. IfSome (input_of s told) (λ input. Completes (meaning_of s) INPUT_BYTES input status))
-completes_asked asked s told left old new r status is status_is ends reads writes =
-    asked_so (λ s. IfSome (input_of s told) (λ input. Completes (meaning_of s) INPUT_BYTES input status)) asked s is (by_told (input_of s told) ends)
+pub completes_asked : (asked : Option Settings) (s : Settings) (told left old new : Option (List ℕ)) (r : Result Finish Fault) (status : ℕ) (risen : Type 0) →
+    asked ≡ Some s → status ≡ status_of r → Ends s told left old r new → (IsErrOf r Read → ⊥) → ((IsTrue s.notes → risen → ⊥) → IsErrOf r Write → ⊥) →
+    IfSome asked (λ s. (IsTrue s.notes → risen → ⊥) → IfSome (input_of s told) (λ input. Completes (meaning_of s) INPUT_BYTES input status))
+completes_asked asked s told left old new r status risen is status_is ends reads writes =
+    asked_so (λ s. (IsTrue s.notes → risen → ⊥) → IfSome (input_of s told) (λ input. Completes (meaning_of s) INPUT_BYTES input status)) asked s is
+    (λ none. by_told (writes none) (input_of s told) ends)
   where
-    by_told : (told : Option (List ℕ)) → EndsBy s told left old r new → IfSome told (λ input. Completes (meaning_of s) INPUT_BYTES input status)
-    by_told None ends = tt
-    by_told (Some input) ends =
+    by_told : (IsErrOf r Write → ⊥) → (told : Option (List ℕ)) → EndsBy s told left old r new → IfSome told (λ input. Completes (meaning_of s) INPUT_BYTES input status)
+    by_told writes None ends = tt
+    by_told writes (Some input) ends =
         subst (λ n. Completes (meaning_of s) INPUT_BYTES input n) (sym status_is)
         (completes (meaning_of s) (telling_of s) INPUT_BYTES input (left_by s.generated left) old new r ends reads writes)
 
--- the tally over the whole input
-pub tally_asked : (asked : Option Settings) (s : Settings) (told left old new : Option (List ℕ)) (r : Result Finish Fault) (status : ℕ) (t : Tally) →
-    asked ≡ Some s → status ≡ status_of r → Ends s told left old r new →
-    IsTallyAt (option_map (accepted_within (meaning_of s) INPUT_BYTES) (input_of s told)) (status_of r) t →
-    IfSome asked (λ s. IsTallyAt (option_map (accepted (meaning_of s)) (input_of s told)) status t)
-tally_asked asked s told left old new r status t is status_is ends counted =
-    asked_so (λ s. IsTallyAt (option_map (accepted (meaning_of s)) (input_of s told)) status t) asked s is
-    (subst (λ n. IsTallyAt (option_map (accepted (meaning_of s)) (input_of s told)) n t) (sym status_is) (by_told (input_of s told) ends counted))
+-- what is told of the call, over the whole input
+pub told_asked : (asked : Option Settings) (s : Settings) (told left old new : Option (List ℕ)) (r : Result Finish Fault) (status : ℕ) (t : Tally)
+    (before noted after : Option (List ℕ)) (risen_from risen_by risen_to : ℕ) → asked ≡ Some s → status ≡ status_of r → Ends s told left old r new →
+    RunTold (option_map (accepted_within (meaning_of s) INPUT_BYTES) (input_of s told)) s.notes s.workers (status_of r) t before noted →
+    AppendsPrefix noted (note_at (status_of r)) after → ((HasRisen risen_by risen_to → ⊥) → after ≡ behind noted (note_at (status_of r))) →
+    risen_from ≤ risen_by → risen_by ≤ risen_to →
+    IfSome asked (λ s. CallTold (option_map (accepted (meaning_of s)) (input_of s told)) s.notes s.workers status t before after (HasRisen risen_from risen_to))
+told_asked asked s told left old new r status t before noted after risen_from risen_by risen_to is status_is ends run last whole first second =
+    asked_so (λ s. CallTold (option_map (accepted (meaning_of s)) (input_of s told)) s.notes s.workers status t before after (HasRisen risen_from risen_to)) asked s is
+    (subst (λ n. CallTold (option_map (accepted (meaning_of s)) (input_of s told)) s.notes s.workers n t before after (HasRisen risen_from risen_to)) (sym status_is)
+    (record {
+      noted = noted;
+      run = by_told (input_of s told) ends run;
+      last = last;
+      whole = λ none. whole (λ later. none (risen_later risen_from risen_by risen_to first second later));
+    }))
   where
-    by_told : (told : Option (List ℕ)) → EndsBy s told left old r new → IsTallyAt (option_map (accepted_within (meaning_of s) INPUT_BYTES) told) (status_of r) t
-        → IsTallyAt (option_map (accepted (meaning_of s)) told) (status_of r) t
-    by_told None ends counted = counted
-    by_told (Some input) ends counted = tally_all (meaning_of s) (telling_of s) INPUT_BYTES input (left_by s.generated left) old new r t ends counted
+    by_told : (told : Option (List ℕ)) → EndsBy s told left old r new
+        → RunTold (option_map (accepted_within (meaning_of s) INPUT_BYTES) told) s.notes s.workers (status_of r) t before noted
+        → RunTold (option_map (accepted (meaning_of s)) told) s.notes s.workers (status_of r) t before noted
+    by_told None ends run = run
+    by_told (Some input) ends run =
+        told_all (meaning_of s) (telling_of s) INPUT_BYTES input (left_by s.generated left) old new r t s.notes s.workers before noted ends run
 
 -- the status of a run over an input that the program makes
 made_status : (r : Result Finish Fault) → EndsMade r → IsMadeStatus (status_of r)

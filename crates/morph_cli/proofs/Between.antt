@@ -1,5 +1,5 @@
 -- What holds between two batches of a run, over plain values.
-use Rattle.std.proofs.Common.{◌≡◌, ℕ, suc, ◌+◌, ◌*◌, ◌<◌, ◌≤◌, true, false, List, [], ◌∷◌, length, map, Option, Result, Ok, Err, All, refl, ap, sym, subst, ◌∙◌, arith}
+use Rattle.std.proofs.Common.{◌≡◌, ℕ, Bool, suc, ◌+◌, ◌*◌, ◌<◌, ◌≤◌, true, false, List, [], ◌∷◌, length, map, Option, Result, Ok, Err, All, refl, ap, sym, subst, ◌∙◌, arith}
 use Rattle.std.specs.Prelude.{IfSome, IsTrue, IsErrAnd, IsErrOf}
 use Rattle.std.proofs.Math.ListN.{get_or-map, length-map}
 use Rattle.std.proofs.lemmas.Bool.{false≢true}
@@ -30,10 +30,12 @@ use Rattle.morph_cli.specs.declared.report.Report.{Report}
 use Rattle.morph_cli.specs.declared.report.Report.TheVariants.{Whole, Summary}
 use Rattle.morph_cli.specs.declared.run.Finish.{Finish}
 use Rattle.morph_cli.specs.Faults.{fault_of}
-use Rattle.morph_cli.specs.Text.{Telling, event_line, told_lines, told_outcomes, committed_in, aborted_in}
+use Rattle.morph_cli.specs.Text.{Telling, event_line, told_lines, told_outcomes}
 use Rattle.morph_cli.specs.Runs.{EndsSo}
 use Rattle.morph_cli.specs.Tallies.{IsMadeOf, no_tally}
 use Rattle.morph_cli.proofs.Tallying.{Adds}
+use Rattle.morph_cli.specs.Notes.{noted, batch_note}
+use Rattle.morph_cli.proofs.Noting.{IsNoted, noted_nothing, noted_more, number_is}
 use Rattle.morph_cli.proofs.Ending.{Goes, goes_start, goes_batch, ends_read, ends_long, ends_memory, ends_batch_cut}
 
 -- an error of which the value is told
@@ -89,6 +91,11 @@ module _ {App : Type 0} (event_of : App → ℕ → Meaning) (tables : ℕ) (app
     pub kept : out ≡ []
     pub counted : tally.committed + tally.aborted ≤ r.lines.number
 
+  -- and what was written to the notes
+  pub record BetweenNoted (told left old new : Option (List ℕ)) (r : ReaderView App) (values : Kept) (tally : Tally) (out : List ℕ) (on : Bool) (before now : Option (List ℕ)) : Type 0 where
+    pub between : Between told left old new r values tally out
+    pub noted : IsNoted on between.goes.plans before now
+
   abbrev NewFacts : ReaderView App → Type 0
   NewFacts r = (r.app ≡ app) × (r.size ≡ size) × (r.lines.limit ≡ limit) × (r.lines.number ≡ 0) × IsTrue r.live × (r.lines.ended ≡ false)
 
@@ -98,8 +105,7 @@ module _ {App : Type 0} (event_of : App → ℕ → Meaning) (tables : ℕ) (app
   between_start told old r values tally out layout new layout_is tables_are opening empty none =
       let facts : NewFacts r = subst NewFacts (sym new) (refl, refl, refl, refl, refl, refl) in
       record {
-        goes = subst (λ v. Goes event_of app size limit telling told told old old v (contents values) tally) (sym new)
-            (goes_start event_of app size limit telling told old (contents values) tally opening none);
+        goes = goes_start event_of app size limit telling told old r (contents values) tally new opening none;
         layout = layout_is ∙ tables_are;
         app_is = facts.0;
         size_is = facts.1;
@@ -161,6 +167,34 @@ module _ {App : Type 0} (event_of : App → ℕ → Meaning) (tables : ℕ) (app
         kept = empty;
         counted = let n = outcomes-length (contents values) batch outcomes fates_are in let before = b.counted in let all = adds.all in omega (arith, n, before, all, counted);
       }
+
+  -- the same with what was written to the notes
+  pub noted_start : (told old : Option (List ℕ)) (r : ReaderView App) (values : Kept) (tally : Tally) (out : List ℕ) (layout : Layout) (on : Bool) (before : Option (List ℕ)) → r ≡ new_reader app size limit →
+      values.layout ≡ layout → layout ≡ record { tables = tables; size = size } → contents values ≡ opening_state → out ≡ [] → tally ≡ no_tally →
+      BetweenNoted told told old old r values tally out on before before
+  unfolding goes_start between_start
+  noted_start told old r values tally out layout on before new layout_is tables_are opening empty none = record {
+    between = between_start told old r values tally out layout new layout_is tables_are opening empty none;
+    noted = noted_nothing on before;
+  }
+
+  pub noted_batch : (told left left' old new newer : Option (List ℕ)) (r r' : ReaderView App) (values values' : Kept) (tally tally' : Tally) (out out' : List ℕ)
+      (batch : TheBatch) (outcomes : List Outcome) (p : Plan) (on : Bool) (before now after : Option (List ℕ)) → BetweenNoted told left old new r values tally out on before now →
+      AnswersNext (accepted_by event_of r left) (Ok (Batch batch)) (accepted_by event_of r' left') →
+      Takes left left' (ShowsNext event_of r (Ok (Batch batch)) r') →
+      0 < length batch.events.items → r.lines.number + length batch.events.items ≤ r'.lines.number → r'.lines.number ≤ r'.lines.limit + 1 →
+      (r'.app ≡ r.app) × (r'.size ≡ r.size) × (r'.lines.limit ≡ r.lines.limit) → (IsTrue r'.lines.ended → IsAtEnd left') →
+      (r'.lines.ended ≡ false → r.lines.ended ≡ false) → r'.live ≡ true → values'.layout ≡ values.layout →
+      contents values' ≡ fold_batch batch (contents values) → map fate_of outcomes ≡ fates (contents values) (by_time (transactions_of batch)) →
+      newer ≡ behind new (told_outcomes telling.report outcomes) → out' ≡ [] →
+      Adds tally tally' p (map fate_of outcomes) (length outcomes) → IsMadeOf (contents values) (transactions_of batch) p →
+      after ≡ behind now (noted on (batch_note tally'.batches p)) → BetweenNoted told left' old newer r' values' tally' out' on before after
+  unfolding goes_batch between_batch
+  noted_batch told left left' old new newer r r' values values' tally tally' out out' batch outcomes p on before now after b answers shows some counted bound same at_end unended live layout_is state fates_are written empty adds made note = record {
+    between = between_batch told left left' old new newer r r' values values' tally tally' out out' batch outcomes p b.between answers shows some counted bound same at_end unended live layout_is state fates_are written empty adds made;
+    noted = noted_more on b.between.goes.plans p tally'.batches before now after
+        (number_is b.between.goes.done b.between.goes.plans tally tally'.batches b.between.goes.tallied adds.batches) b.noted note;
+  }
 
   -- the reader failed
   pub ends_fault : (told left left' old new : Option (List ℕ)) (r r' : ReaderView App) (values : Kept) (tally : Tally) (out : List ℕ)

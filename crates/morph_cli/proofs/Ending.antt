@@ -1,5 +1,5 @@
 -- How a run ends, by the answer that ends it.
-use Rattle.std.proofs.Common.{◌≡◌, ◌⊎◌, ℕ, ◌+◌, ◌-◌, ◌<◌, false, List, [], ◌∷◌, ◌++◌, length, Option, Some, None, Ok, Err, refl, ap, sym, subst, ◌∙◌, arith}
+use Rattle.std.proofs.Common.{◌≡◌, ◌⊎◌, ℕ, Bool, ◌+◌, ◌-◌, ◌<◌, false, List, [], ◌∷◌, ◌++◌, length, Option, Some, None, Ok, Err, refl, ap, sym, subst, ◌∙◌, arith}
 use Rattle.std.specs.Prelude.{option_map, IfSome}
 use Rattle.morph_base.specs.declared.event.Batch.{Batch as TheBatch}
 use Rattle.morph_base.specs.declared.plan.Plan.{Plan}
@@ -17,11 +17,13 @@ use Rattle.event_reader.specs.Lines.{front}
 use Rattle.morph_cli.specs.declared.tally.Tally.{Tally}
 use Rattle.morph_cli.specs.declared.fault.Fault.TheVariants.{Read, Write, OutOfMemory, TooLong}
 use Rattle.morph_cli.specs.declared.run.Finish.TheVariants.{Complete, Refused}
-use Rattle.morph_cli.specs.Text.{Telling, event_lines, told_lines, committed_in, aborted_in, told_values, counts_line, refused_text}
+use Rattle.morph_cli.specs.Text.{Telling, event_lines, told_lines, told_values, counts_line, refused_text}
 use Rattle.morph_cli.specs.Runs.{EndsSo}
 use Rattle.morph_cli.proofs.Running.{RunsOn, nothing_told, runs_start, runs_batch, runs_ended, runs_done, runs_cut, runs_short, runs_cut_in_batch, whole_more, whole_nil, told_more}
-use Rattle.morph_cli.specs.Tallies.{IsMadeOf, IsTallyAt, no_tally}
-use Rattle.morph_cli.proofs.Tallying.{Tallied, Adds, tallied_start, tallied_more, tally_cut, tally_whole}
+use Rattle.morph_cli.specs.Tallies.{IsMadeOf, RunTold, no_tally}
+use Rattle.morph_cli.proofs.Tallying.{Tallied, Adds, tallied_start, tallied_more, told_cut, told_whole}
+use Rattle.morph_cli.specs.Notes.{AppendsNotes}
+use Rattle.morph_cli.proofs.Noting.{noted_nothing, notes_cut}
 use Rattle.morph_cli.proofs.Taking.{TakesOn, takes_start, takes_batch, takes_failed}
 
 -- what a new reader has to give
@@ -42,18 +44,19 @@ pub record Goes {App : Type 0} (event_of : App → ℕ → Meaning) (app : App) 
 
 module _ {App : Type 0} (event_of : App → ℕ → Meaning) (app : App) (size limit : ℕ) (telling : Telling) where
   -- nothing was done yet
-  pub goes_start : (told old : Option (List ℕ)) (s : State) (tally : Tally) → s ≡ opening_state → tally ≡ no_tally →
-      Goes event_of app size limit telling told told old old (new_reader app size limit) s tally
-  goes_start told old s tally opening none = record {
+  unfoldable pub goes_start : (told old : Option (List ℕ)) (r : ReaderView App) (s : State) (tally : Tally) → r ≡ new_reader app size limit → s ≡ opening_state → tally ≡ no_tally →
+      Goes event_of app size limit telling told told old old r s tally
+  goes_start told old r s tally new opening none = record {
     done = [];
     plans = [];
     tallied = tallied_start tally none;
-    runs = runs_start telling (accepted_by event_of (new_reader app size limit) told) old s tally opening (ap (λ (t : Tally). t.committed) none) (ap (λ (t : Tally). t.aborted) none);
-    takes = takes_start (event_of app size) limit told;
+    runs = subst (λ v. RunsOn telling (accepted_by event_of (new_reader app size limit) told) (accepted_by event_of v told) old old s tally []) (sym new)
+        (runs_start telling (accepted_by event_of (new_reader app size limit) told) old s tally opening (ap (λ (t : Tally). t.committed) none) (ap (λ (t : Tally). t.aborted) none));
+    takes = subst (λ v. TakesOn (event_of app size) told told v.closed v.lines []) (sym new) (takes_start (event_of app size) limit told);
   }
 
   -- a batch was run, and counted
-  tallied_batch : (told left old new : Option (List ℕ)) (r : ReaderView App) (s : State) (tally tally' : Tally) (batch : List Transaction) (fates_told : List Fate)
+  pub tallied_batch : (told left old new : Option (List ℕ)) (r : ReaderView App) (s : State) (tally tally' : Tally) (batch : List Transaction) (fates_told : List Fate)
       (p : Plan) (n : ℕ) → (goes : Goes event_of app size limit telling told left old new r s tally) → fates_told ≡ fates s (by_time batch) →
       Adds tally tally' p fates_told n → IsMadeOf s batch p → 0 < n → Tallied (goes.done ++ batch ∷ []) (goes.plans ++ p ∷ []) tally'
   tallied_batch told left old new r s tally tally' batch fates_told p n goes told_is adds made events =
@@ -61,7 +64,7 @@ module _ {App : Type 0} (event_of : App → ℕ → Meaning) (app : App) (size l
       (told_more goes.done batch s fates_told goes.runs.state told_is) events
 
   -- a batch was done
-  pub goes_batch : (told left left' old new newer : Option (List ℕ)) (r r' : ReaderView App) (s t : State) (tally tally' : Tally) (batch : TheBatch)
+  unfoldable pub goes_batch : (told left left' old new newer : Option (List ℕ)) (r r' : ReaderView App) (s t : State) (tally tally' : Tally) (batch : TheBatch)
       (fates_told : List Fate) (p : Plan) (n : ℕ) → Goes event_of app size limit telling told left old new r s tally → 0 < length (transactions_of batch) →
       accepted_by event_of r left ≡ option_map (with_batch (transactions_of batch)) (accepted_by event_of r' left') → (r'.lines.ended ≡ false → r.lines.ended ≡ false) →
       Takes left left' (ShowsBatch (event_of app size) r.closed r.lines (Ok (Batch batch)) r'.closed r'.lines) →
@@ -175,29 +178,35 @@ module _ {App : Type 0} (event_of : App → ℕ → Meaning) (app : App) (size l
   given (Some input) = given_at_start event_of app size limit input
 
   -- nothing was run yet
-  pub tally_at_once : (told : Option (List ℕ)) (tally : Tally) (status : ℕ) → tally ≡ no_tally → ((status ≡ 0) ⊎ (status ≡ 3) → ⊥) → IsTallyAt (Told told) status tally
-  tally_at_once told tally status none cut =
-      tally_cut (Told told) (Told told) [] [] tally status (whole_nil (Told told)) (tallied_start tally none) cut
+  pub told_at_once : (told : Option (List ℕ)) (tally : Tally) (on : Bool) (workers status : ℕ) (before : Option (List ℕ)) → tally ≡ no_tally →
+      ((status ≡ 0) ⊎ (status ≡ 3) → ⊥) → RunTold (Told told) on workers status tally before before
+  told_at_once told tally on workers status before none cut =
+      told_cut (Told told) (Told told) [] [] tally on workers status before before (whole_nil (Told told)) (tallied_start tally none) cut
+      (notes_cut on workers status [] tally before before cut (noted_nothing on before))
 
-  -- the run was cut off between two batches, or within the end
-  pub tally_between : (told left old new : Option (List ℕ)) (r : ReaderView App) (s : State) (tally : Tally) (status : ℕ) →
-      Goes event_of app size limit telling told left old new r s tally → ((status ≡ 0) ⊎ (status ≡ 3) → ⊥) → IsTallyAt (Told told) status tally
-  tally_between told left old new r s tally status goes cut =
-      tally_cut (Told told) (accepted_by event_of r left) goes.done goes.plans tally status (sym (given told) ∙ goes.runs.whole) goes.tallied cut
+  -- the run was cut off between two batches, or its end was
+  pub told_between : (told left old new : Option (List ℕ)) (r : ReaderView App) (s : State) (tally : Tally) (on : Bool) (workers status : ℕ) (before after : Option (List ℕ)) →
+      (goes : Goes event_of app size limit telling told left old new r s tally) → ((status ≡ 0) ⊎ (status ≡ 3) → ⊥) →
+      AppendsNotes on workers status goes.plans tally before after → RunTold (Told told) on workers status tally before after
+  told_between told left old new r s tally on workers status before after goes cut notes =
+      told_cut (Told told) (accepted_by event_of r left) goes.done goes.plans tally on workers status before after (sym (given told) ∙ goes.runs.whole) goes.tallied cut notes
 
   -- it was cut off within a batch that was run
-  pub tally_in_batch : (told left left' old new : Option (List ℕ)) (r r' : ReaderView App) (s : State) (tally tally' : Tally) (batch : List Transaction)
-      (fates_told : List Fate) (p : Plan) (n status : ℕ) → Goes event_of app size limit telling told left old new r s tally →
+  pub told_in_batch : (told left left' old new : Option (List ℕ)) (r r' : ReaderView App) (s : State) (tally tally' : Tally) (batch : List Transaction)
+      (fates_told : List Fate) (p : Plan) (n : ℕ) (on : Bool) (workers status : ℕ) (before after : Option (List ℕ)) →
+      (goes : Goes event_of app size limit telling told left old new r s tally) →
       accepted_by event_of r left ≡ option_map (with_batch batch) (accepted_by event_of r' left') → 0 < length batch → fates_told ≡ fates s (by_time batch) →
-      Adds tally tally' p fates_told n → IsMadeOf s batch p → 0 < n → ((status ≡ 0) ⊎ (status ≡ 3) → ⊥) → IsTallyAt (Told told) status tally'
-  tally_in_batch told left left' old new r r' s tally tally' batch fates_told p n status goes was some told_is adds made events cut =
-      tally_cut (Told told) (accepted_by event_of r' left') (goes.done ++ batch ∷ []) (goes.plans ++ p ∷ []) tally' status
+      Adds tally tally' p fates_told n → IsMadeOf s batch p → 0 < n → ((status ≡ 0) ⊎ (status ≡ 3) → ⊥) →
+      AppendsNotes on workers status (goes.plans ++ p ∷ []) tally' before after → RunTold (Told told) on workers status tally' before after
+  told_in_batch told left left' old new r r' s tally tally' batch fates_told p n on workers status before after goes was some told_is adds made events cut notes =
+      told_cut (Told told) (accepted_by event_of r' left') (goes.done ++ batch ∷ []) (goes.plans ++ p ∷ []) tally' on workers status before after
       (whole_more (Told told) (accepted_by event_of r left) (accepted_by event_of r' left') goes.done batch (sym (given told) ∙ goes.runs.whole) was some)
-      (tallied_batch told left old new r s tally tally' batch fates_told p n goes told_is adds made events) cut
+      (tallied_batch told left old new r s tally tally' batch fates_told p n goes told_is adds made events) cut notes
 
   -- the run came to its end
-  pub tally_at_end : (told left old new : Option (List ℕ)) (r : ReaderView App) (s : State) (tally : Tally) (status : ℕ) (ending : Ending) →
-      Goes event_of app size limit telling told left old new r s tally → IfSome (accepted_by event_of r left) (λ all. all ≡ record { batches = []; ending = ending }) →
-      IsTallyAt (Told told) status tally
-  tally_at_end told left old new r s tally status ending goes at_end =
-      tally_whole (Told told) (accepted_by event_of r left) goes.done goes.plans tally status ending (sym (given told) ∙ goes.runs.whole) goes.tallied at_end
+  pub told_at_end : (told left old new : Option (List ℕ)) (r : ReaderView App) (s : State) (tally : Tally) (on : Bool) (workers status : ℕ) (before after : Option (List ℕ))
+      (ending : Ending) → (goes : Goes event_of app size limit telling told left old new r s tally) →
+      IfSome (accepted_by event_of r left) (λ all. all ≡ record { batches = []; ending = ending }) →
+      AppendsNotes on workers status goes.plans tally before after → RunTold (Told told) on workers status tally before after
+  told_at_end told left old new r s tally on workers status before after ending goes at_end notes =
+      told_whole (Told told) (accepted_by event_of r left) goes.done goes.plans tally on workers status before after ending (sym (given told) ∙ goes.runs.whole) goes.tallied at_end notes

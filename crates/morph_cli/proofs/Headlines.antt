@@ -1,5 +1,5 @@
 -- The headline of a run, from how the run ends.
-use Rattle.std.proofs.Common.{◌≡◌, ℕ, inl, inr, List, [], ◌++◌, Option, Some, Result, Ok, Err, refl, ap, sym, subst, ◌∙◌, arith, append-nil, append_assoc}
+use Rattle.std.proofs.Common.{◌≡◌, ℕ, Bool, inl, inr, List, [], ◌++◌, Option, Some, Result, Ok, Err, refl, ap, sym, subst, ◌∙◌, arith, append-nil, append_assoc}
 use Rattle.std.specs.Prelude.{IsErrOf}
 use Rattle.morph_io.specs.Told.{behind}
 use Rattle.morph_io.proofs.Putting.{prefix_more}
@@ -15,7 +15,7 @@ use Rattle.morph_cli.specs.Runs.{EndsSo}
 use Rattle.morph_cli.specs.Status.{status_of}
 use Rattle.morph_cli.specs.Headline.{Headline, Completes}
 use Rattle.morph_cli.specs.declared.tally.Tally.{Tally}
-use Rattle.morph_cli.specs.Tallies.{IsTallyAt}
+use Rattle.morph_cli.specs.Tallies.{RunTold}
 use Rattle.morph_cli.proofs.Tallying.{cut_off}
 use Rattle.morph_cli.proofs.Running.{event_lines-front}
 
@@ -140,14 +140,14 @@ module _ (meaning : Meaning) (telling : Telling) (limit : ℕ) (input : List ℕ
     long = λ is. inl refl;
   }
 
-  -- the tally at the end, over the whole input
-  pub tally_all : (left old new : Option (List ℕ)) (r : Result Finish Fault) (t : Tally) → EndsSo meaning telling limit input left old r new
-      → IsTallyAt (Some some) (status_of r) t → IsTallyAt (Some all) (status_of r) t
-  tally_all left old new (Ok Complete) t ends counted =
-      let same = (within_ended meaning limit input ends.0).1 in subst (λ (a : Accepted). IsTallyAt (Some a) 0 t) (sym same) counted
-  tally_all left old new (Ok Refused) t (line, cause, at, appended) counted =
-      let same = within_refused meaning limit input line cause at in subst (λ (a : Accepted). IsTallyAt (Some a) 3 t) (sym same) counted
-  tally_all left old new (Err e) t ends counted =
+  -- what is told of the run, over the whole input
+  pub told_all : (left old new : Option (List ℕ)) (r : Result Finish Fault) (t : Tally) (on : Bool) (workers : ℕ) (before after : Option (List ℕ)) →
+      EndsSo meaning telling limit input left old r new → RunTold (Some some) on workers (status_of r) t before after → RunTold (Some all) on workers (status_of r) t before after
+  told_all left old new (Ok Complete) t on workers before after ends counted =
+      let same = (within_ended meaning limit input ends.0).1 in subst (λ (a : Accepted). RunTold (Some a) on workers 0 t before after) (sym same) counted
+  told_all left old new (Ok Refused) t on workers before after (line, cause, at, appended) counted =
+      let same = within_refused meaning limit input line cause at in subst (λ (a : Accepted). RunTold (Some a) on workers 3 t before after) (sym same) counted
+  told_all left old new (Err e) t on workers before after ends counted =
       let first = within_is_first meaning limit input in
       record {
         done = counted.done;
@@ -157,4 +157,5 @@ module _ (meaning : Meaning) (telling : Telling) (limit : ℕ) (input : List ℕ
         ran = counted.ran;
         counts = counted.counts;
         whole = λ end. absurd (cut_off (Err e) e refl end);
+        notes = counted.notes;
       }

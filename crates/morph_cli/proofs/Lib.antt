@@ -9,3 +9,4 @@ pub mod Asked
 pub mod Summing
 pub mod Making
 pub mod Tallying
+pub mod Noting

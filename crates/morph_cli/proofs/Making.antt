@@ -1,5 +1,5 @@
 -- How a run ends by the application and by whose input it is.
-use Rattle.std.proofs.Common.{◌≡◌, ℕ, List, Option, Some, None, Result, Ok, Err, refl, sym, ◌∙◌, subst}
+use Rattle.std.proofs.Common.{◌≡◌, ℕ, Bool, List, Option, Some, None, Result, Ok, Err, refl, sym, subst}
 use Rattle.std.specs.Prelude.{option_map, IfSome, IsErrOf}
 use Rattle.event_reader.specs.Steps.{Meaning}
 use Rattle.event_reader.specs.Accepted.{Ended, accepted_within}
@@ -14,7 +14,7 @@ use Rattle.morph_cli.specs.declared.settings.Settings.{Settings}
 use Rattle.morph_cli.specs.Apps.{drawn_in, event_in, input_by, left_by, name_in, tables_in, telling_by}
 use Rattle.morph_cli.specs.Runs.{EndsSo, EndsMade}
 use Rattle.morph_cli.specs.declared.tally.Tally.{Tally}
-use Rattle.morph_cli.specs.Tallies.{IsTallyAt}
+use Rattle.morph_cli.specs.Tallies.{RunTold}
 use Rattle.morph_cli.specs.Text.{Telling}
 
 module _ (meaning : Meaning) (telling : Telling) (limit : ℕ) (input : List ℕ) (left left' old new : Option (List ℕ)) where
@@ -63,23 +63,28 @@ pub in_app : (s : Settings) (limit : ℕ) (told left old : Option (List ℕ)) (r
     EndsIn s limit told left old r new app → EndsIn s limit told left old r new s.app
 in_app s limit told left old r new app is ends = subst (EndsIn s limit told left old r new) (sym is) ends
 
--- the tally at the end, by whose input it is
-abbrev TallyOver : Meaning → (limit : ℕ) → Option Generated → (text : ℕ → ℕ → List ℕ) → (told : Option (List ℕ)) → (status : ℕ) → Tally → Type 0
-TallyOver meaning limit generated text told status t = IsTallyAt (option_map (accepted_within meaning limit) (input_by generated text told)) status t
+-- what is told of the run, by whose input it is
+abbrev ToldOver : Meaning → (limit : ℕ) → Option Generated → (text : ℕ → ℕ → List ℕ) → (told : Option (List ℕ)) → (on : Bool) → (workers status : ℕ) → Tally → (old new : Option (List ℕ)) → Type 0
+ToldOver meaning limit generated text told on workers status t old new = RunTold (option_map (accepted_within meaning limit) (input_by generated text told)) on workers status t old new
 
-pub tally_source : (meaning : Meaning) (limit : ℕ) (generated : Option Generated) (text : ℕ → ℕ → List ℕ) (told : Option (List ℕ)) (status : ℕ) (t : Tally) →
-    generated ≡ None → IsTallyAt (option_map (accepted_within meaning limit) told) status t → TallyOver meaning limit generated text told status t
-tally_source meaning limit generated text told status t none counted = subst (λ o. TallyOver meaning limit o text told status t) (sym none) counted
+pub told_source : (meaning : Meaning) (limit : ℕ) (generated : Option Generated) (text : ℕ → ℕ → List ℕ) (told : Option (List ℕ)) (on : Bool) (workers status : ℕ) (t : Tally)
+    (old new : Option (List ℕ)) → generated ≡ None → RunTold (option_map (accepted_within meaning limit) told) on workers status t old new →
+    ToldOver meaning limit generated text told on workers status t old new
+told_source meaning limit generated text told on workers status t old new none run =
+    subst (λ o. ToldOver meaning limit o text told on workers status t old new) (sym none) run
 
-pub tally_made : (meaning : Meaning) (limit : ℕ) (generated : Option Generated) (text : ℕ → ℕ → List ℕ) (told : Option (List ℕ)) (status : ℕ) (t : Tally) (g : Generated) →
-    generated ≡ Some g → IsTallyAt (option_map (accepted_within meaning limit) (Some (text g.seed g.events))) status t →
-    TallyOver meaning limit generated text told status t
-tally_made meaning limit generated text told status t g some counted = subst (λ o. TallyOver meaning limit o text told status t) (sym some) counted
+pub told_made : (meaning : Meaning) (limit : ℕ) (generated : Option Generated) (text : ℕ → ℕ → List ℕ) (told : Option (List ℕ)) (on : Bool) (workers status : ℕ) (t : Tally)
+    (old new : Option (List ℕ)) (g : Generated) → generated ≡ Some g →
+    RunTold (option_map (accepted_within meaning limit) (Some (text g.seed g.events))) on workers status t old new →
+    ToldOver meaning limit generated text told on workers status t old new
+told_made meaning limit generated text told on workers status t old new g some run =
+    subst (λ o. ToldOver meaning limit o text told on workers status t old new) (sym some) run
 
 -- and by the application
-abbrev TallyIn : Settings → (limit : ℕ) → (told : Option (List ℕ)) → (status : ℕ) → Tally → App → Type 0
-TallyIn s limit told status t app = TallyOver (event_in app s.size) limit s.generated (generated_text (drawn_in app s.size)) told status t
+abbrev ToldIn : Settings → (limit : ℕ) → (told : Option (List ℕ)) → (status : ℕ) → Tally → (old new : Option (List ℕ)) → App → Type 0
+ToldIn s limit told status t old new app =
+    ToldOver (event_in app s.size) limit s.generated (generated_text (drawn_in app s.size)) told s.notes s.workers status t old new
 
-pub tally_in_app : (s : Settings) (limit : ℕ) (told : Option (List ℕ)) (status : ℕ) (t : Tally) (app : App) → s.app ≡ app →
-    TallyIn s limit told status t app → TallyIn s limit told status t s.app
-tally_in_app s limit told status t app is counted = subst (TallyIn s limit told status t) (sym is) counted
+pub told_in_app : (s : Settings) (limit : ℕ) (told : Option (List ℕ)) (status : ℕ) (t : Tally) (old new : Option (List ℕ)) (app : App) → s.app ≡ app →
+    ToldIn s limit told status t old new app → ToldIn s limit told status t old new s.app
+told_in_app s limit told status t old new app is run = subst (ToldIn s limit told status t old new) (sym is) run

@@ -129,7 +129,7 @@ runs_batch telling before now next old new newer s t tally tally' done batch tol
     }
 
 -- a prefix of what comes after some bytes
-prefix_after : (old new newer : Option (List ℕ)) (front text : List ℕ) → new ≡ behind old front → AppendsPrefix new text newer → AppendsPrefix old (front ++ text) newer
+pub prefix_after : (old new newer : Option (List ℕ)) (front text : List ℕ) → new ≡ behind old front → AppendsPrefix new text newer → AppendsPrefix old (front ++ text) newer
 prefix_after old new newer front text appended cut = record {
   done = front ++ cut.done;
   rest = cut.rest;

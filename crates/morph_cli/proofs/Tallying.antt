@@ -1,5 +1,5 @@
 -- The tally of the batches that were run: one batch more, and at each end of a run.
-use Rattle.std.proofs.Common.{◌≡◌, ◌⊎◌, inl, inr, ℕ, ◌+◌, ◌*◌, ◌<◌, ◌≤◌, List, [], ◌∷◌, ◌++◌, length, sum, sum_by, Option, Some, None, Result, Ok, Err, refl, ap, sym, subst, ◌∙◌, arith, cond, append-nil, append_assoc}
+use Rattle.std.proofs.Common.{◌≡◌, ◌⊎◌, inl, inr, ℕ, Bool, ◌+◌, ◌*◌, ◌<◌, ◌≤◌, List, [], ◌∷◌, ◌++◌, length, sum, sum_by, Option, Some, None, Result, Err, refl, ap, sym, subst, ◌∙◌, arith, cond}
 use Rattle.std.specs.Prelude.{option_map, IfSome, not}
 use Rattle.std.proofs.lemmas.List.{length-append}
 use Rattle.std.proofs.lemmas.List.FromFn.{length-range_with_len}
@@ -7,7 +7,7 @@ use Rattle.std.proofs.lemmas.List.Sums.{sum_by-append, sum_by_push, sum_by-le-su
 use Rattle.morph_base.specs.declared.plan.Plan.{Plan}
 use Rattle.morph_base.specs.Transactions.{Transaction, by_time}
 use Rattle.morph_base.specs.States.{State, opening_state, after_all}
-use Rattle.morph_base.specs.Outcomes.{Fate, fates}
+use Rattle.morph_base.specs.Outcomes.{Fate}
 use Rattle.morph_base.specs.Plans.{op_count}
 use Rattle.morph_base.specs.Graphs.{below}
 use Rattle.morph_base.specs.Guesses.{is_stale, stale_count}
@@ -20,9 +20,10 @@ use Rattle.morph_cli.specs.declared.fault.Fault.{Fault}
 use Rattle.morph_cli.specs.declared.fault.Fault.TheVariants.{Read, Write, OutOfMemory, TooLong}
 use Rattle.morph_cli.specs.declared.run.Finish.{Finish}
 use Rattle.morph_cli.specs.Status.{status_of}
+use Rattle.morph_cli.specs.Notes.{AppendsNotes}
 use Rattle.morph_cli.specs.Text.{in_order, run_state, run_fates, committed_in, aborted_in}
 use Rattle.morph_cli.proofs.Running.{fronts}
-use Rattle.morph_cli.specs.Tallies.{IsMadeOf, AreRunFrom, IsTallyOf, IsTallyAt, IsBalanced, no_tally, settled_by_first}
+use Rattle.morph_cli.specs.Tallies.{IsMadeOf, AreRunFrom, IsTallyOf, RunTold, IsBalanced, no_tally, settled_by_first}
 
 -- between two batches: the plans of those that were done, and their tally with the bounds of its numbers
 pub record Tallied (done : List (List Transaction)) (plans : List Plan) (t : Tally) : Type 0 where
@@ -130,26 +131,22 @@ tallied_more done plans t t' batch p fs n so_far adds made told some =
 all_settled : (ops : ℕ) → sum (settled_by_first ops) ≡ ops
 all_settled ops = omega arith
 
-pub balanced : (all : Option Accepted) (status : ℕ) (t : Tally) → IsTallyAt all status t → IsBalanced t
-balanced all status t at_end =
-    let counts = at_end.counts in
-    record {
-      events = sym counts.events;
-      settled = ap sum counts.settled_by ∙ all_settled t.ops;
-      evaluated = counts.evaluated;
-      few =
-          let evaluated = counts.evaluated in let rolled = counts.rolled in let ops = counts.ops in let few = few_stales at_end.plans in
-          omega (arith, evaluated, rolled, ops, few);
-      spread = counts.spread;
-      left = counts.left;
-      handed = counts.handed;
-      stolen = counts.stolen;
-    }
+pub balanced : (done : List (List Transaction)) (plans : List Plan) (t : Tally) → IsTallyOf done plans t → IsBalanced t
+balanced done plans t counts = record {
+  events = sym counts.events;
+  settled = ap sum counts.settled_by ∙ all_settled t.ops;
+  evaluated = counts.evaluated;
+  few =
+      let evaluated = counts.evaluated in let rolled = counts.rolled in let ops = counts.ops in let few = few_stales plans in
+      omega (arith, evaluated, rolled, ops, few);
+  spread = counts.spread;
+  left = counts.left;
+  handed = counts.handed;
+  stolen = counts.stolen;
+}
 
 pub balanced_none : (t : Tally) → t ≡ no_tally → IsBalanced t
-balanced_none t none =
-    let start = tallied_start t none in
-    balanced None 0 t (record { done = []; rest = []; plans = []; parts = tt; ran = start.ran; counts = start.counts; whole = λ end. refl })
+balanced_none t none = balanced [] [] t (tallied_start t none).counts
 
 -- batches that were done, in front of those that are still to come
 abbrev still : Option Accepted → List (List Transaction)
@@ -157,10 +154,10 @@ still None = []
 still (Some rest) = rest.batches
 
 -- the run is cut off: some of the batches may be left
-pub tally_cut : (all now : Option Accepted) (done : List (List Transaction)) (plans : List Plan) (t : Tally) (status : ℕ) →
-    all ≡ option_map (fronts done) now → Tallied done plans t →
-    ((status ≡ 0) ⊎ (status ≡ 3) → ⊥) → IsTallyAt all status t
-tally_cut all now done plans t status whole tallied cut = record {
+pub told_cut : (all now : Option Accepted) (done : List (List Transaction)) (plans : List Plan) (t : Tally) (on : Bool) (workers status : ℕ) (old new : Option (List ℕ)) →
+    all ≡ option_map (fronts done) now → Tallied done plans t → ((status ≡ 0) ⊎ (status ≡ 3) → ⊥) → AppendsNotes on workers status plans t old new →
+    RunTold all on workers status t old new
+told_cut all now done plans t on workers status old new whole tallied cut notes = record {
   done = done;
   rest = still now;
   plans = plans;
@@ -168,20 +165,20 @@ tally_cut all now done plans t status whole tallied cut = record {
   ran = tallied.ran;
   counts = tallied.counts;
   whole = λ end. absurd (cut end);
+  notes = notes;
 }
   where
-    parts : (now all : Option Accepted) → all ≡ option_map (fronts done) now →
-        IfSome all (λ a. a.batches ≡ done ++ still now)
+    parts : (now all : Option Accepted) → all ≡ option_map (fronts done) now → IfSome all (λ a. a.batches ≡ done ++ still now)
     parts None None is = tt
     parts None (Some a) is = absurd (cc)
     parts (Some rest) None is = tt
     parts (Some rest) (Some a) is = cc
 
 -- the run is at the end of what is there: no batch is left
-pub tally_whole : (all now : Option Accepted) (done : List (List Transaction)) (plans : List Plan) (t : Tally) (status : ℕ) (ending : Ending) →
-    all ≡ option_map (fronts done) now → Tallied done plans t →
-    IfSome now (λ rest. rest ≡ record { batches = []; ending = ending }) → IsTallyAt all status t
-tally_whole all now done plans t status ending whole tallied at_end = record {
+pub told_whole : (all now : Option Accepted) (done : List (List Transaction)) (plans : List Plan) (t : Tally) (on : Bool) (workers status : ℕ) (old new : Option (List ℕ))
+    (ending : Ending) → all ≡ option_map (fronts done) now → Tallied done plans t → IfSome now (λ rest. rest ≡ record { batches = []; ending = ending }) →
+    AppendsNotes on workers status plans t old new → RunTold all on workers status t old new
+told_whole all now done plans t on workers status old new ending whole tallied at_end notes = record {
   done = done;
   rest = [];
   plans = plans;
@@ -189,10 +186,11 @@ tally_whole all now done plans t status ending whole tallied at_end = record {
   ran = tallied.ran;
   counts = tallied.counts;
   whole = λ end. refl;
+  notes = notes;
 }
   where
-    parts : (now all : Option Accepted) → all ≡ option_map (fronts done) now →
-        IfSome now (λ rest. rest ≡ record { batches = []; ending = ending }) → IfSome all (λ a. a.batches ≡ done ++ [])
+    parts : (now all : Option Accepted) → all ≡ option_map (fronts done) now → IfSome now (λ rest. rest ≡ record { batches = []; ending = ending }) →
+        IfSome all (λ a. a.batches ≡ done ++ [])
     parts None None is last = tt
     parts None (Some a) is last = absurd (cc)
     parts (Some rest) None is last = tt

@@ -6,3 +6,4 @@ pub mod Status
 pub mod Headline
 pub mod Apps
 pub mod Tallies
+pub mod Notes

@@ -1,6 +1,6 @@
 -- The settings that words ask for. A word is `name=value`; a name is written here with its `=`.
-use Rattle.std.specs.Prelude.{◌≡◌, ℕ, ◌≤◌, ◌&&◌, ◌||◌, Bool, true, false, nat_le, List, [], ◌∷◌, codes, count_by, drop, length, take, Option, Some, None, if◌then◌else◌, is_some, IfSome}
-use Rattle.std.specs.List.{list_all, list_any}
+use Rattle.std.specs.Prelude.{ℕ, ◌≤◌, ◌&&◌, ◌||◌, Bool, true, false, nat_le, List, [], ◌∷◌, codes, count_by, drop, length, take, Option, Some, None, if◌then◌else◌, is_some, IfSome}
+use Rattle.std.specs.List.{list_all}
 use Rattle.std.specs.Str.{bytes_eq}
 use Rattle.morph_base.specs.declared.limits.TheConstants.{WORKERS}
 use Rattle.event_reader.specs.declared.number.Number.{Number}
@@ -21,7 +21,7 @@ has_name name word = bytes_eq (take (length name) word) name
 -- whether it has a name that there is
 abbrev pub is_known : List ℕ → Bool
 is_known word = has_name (codes "app=") word || has_name (codes "self=") word || has_name (codes "workers=") word || has_name (codes "size=") word
-    || has_name (codes "seed=") word || has_name (codes "events=") word
+    || has_name (codes "seed=") word || has_name (codes "events=") word || has_name (codes "notes=") word
 
 -- whether at most one of the words has a name
 abbrev pub is_once : List (List ℕ) → (name : List ℕ) → Bool
@@ -30,7 +30,7 @@ is_once words name = nat_le (count_by (has_name name) words) 1
 -- whether no name is given twice
 abbrev pub are_once : List (List ℕ) → Bool
 are_once words = is_once words (codes "app=") && is_once words (codes "self=") && is_once words (codes "workers=") && is_once words (codes "size=")
-    && is_once words (codes "seed=") && is_once words (codes "events=")
+    && is_once words (codes "seed=") && is_once words (codes "events=") && is_once words (codes "notes=")
 
 -- the value that words give under a name
 unfoldable pub value_under : (name : List ℕ) → List (List ℕ) → Option (List ℕ)
@@ -73,6 +73,18 @@ number_given range other (Some value) = number_in range value
 abbrev pub number_under : (name : List ℕ) → Range → (other : ℕ) → List (List ℕ) → Option ℕ
 number_under name range other words = number_given range other (value_under name words)
 
+-- whether a value says on or off
+abbrev pub switch_in : List ℕ → Option Bool
+switch_in value = if bytes_eq value (codes "on") then Some true else (if bytes_eq value (codes "off") then Some false else None)
+
+-- what is switched under a name, off where it is missing
+abbrev pub switch_given : Option (List ℕ) → Option Bool
+switch_given None = Some false
+switch_given (Some value) = switch_in value
+
+abbrev pub switch_under : (name : List ℕ) → List (List ℕ) → Option Bool
+switch_under name words = switch_given (value_under name words)
+
 abbrev pub from_to : (least greatest : ℕ) → Range
 from_to least greatest = record { least = least; greatest = greatest }
 
@@ -104,18 +116,20 @@ input_by words None self = None
 abbrev pub input_of : List (List ℕ) → Option Input
 input_of words = input_by words (app_under (codes "app=") words) (app_under (codes "self=") words)
 
-abbrev pub settings_by : Option Input → (workers size : Option ℕ) → Option Settings
-settings_by (Some input) (Some workers) (Some size) = Some (record { app = input.app; workers = workers; size = size; generated = input.generated })
-settings_by (Some input) (Some workers) None = None
-settings_by (Some input) None size = None
-settings_by None workers size = None
+abbrev pub settings_by : Option Input → (workers size : Option ℕ) → (notes : Option Bool) → Option Settings
+settings_by (Some input) (Some workers) (Some size) (Some notes) =
+    Some (record { app = input.app; workers = workers; size = size; notes = notes; generated = input.generated })
+settings_by (Some input) (Some workers) (Some size) None = None
+settings_by (Some input) (Some workers) None notes = None
+settings_by (Some input) None size notes = None
+settings_by None workers size notes = None
 
 -- the settings: every word has a name that there is, no name is given twice, and each value is one of its name's
 abbrev pub settings_of : List (List ℕ) → Option Settings
 settings_of words =
     if list_all is_known words && are_once words
     then settings_by (input_of words) (number_under (codes "workers=") (from_to 1 WORKERS) DEFAULT_WORKERS words)
-    (number_under (codes "size=") (from_to 1 GREATEST_SIZE) DEFAULT_SIZE words)
+    (number_under (codes "size=") (from_to 1 GREATEST_SIZE) DEFAULT_SIZE words) (switch_under (codes "notes=") words)
     else None
 
 -- the numbers of an input that the program makes are in their ranges

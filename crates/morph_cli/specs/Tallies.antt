@@ -1,5 +1,5 @@
 -- What was done in a run: the plans of the batches that were run, and the numbers that are told of them.
-use Rattle.std.specs.Prelude.{◌≡◌, ℕ, ◌+◌, ◌*◌, ◌≤◌, ◌⊎◌, List, [], ◌∷◌, ◌++◌, length, replicate, sum, sum_by, Option, IfSome}
+use Rattle.std.specs.Prelude.{◌≡◌, ℕ, Bool, ◌+◌, ◌*◌, ◌≤◌, ◌⊎◌, List, [], ◌∷◌, ◌++◌, length, replicate, sum, sum_by, Option, IfSome}
 use Rattle.morph_base.specs.declared.plan.Plan.{Plan}
 use Rattle.morph_base.specs.Transactions.{Transaction, by_time}
 use Rattle.morph_base.specs.States.{State, opening_state, after_all}
@@ -8,6 +8,9 @@ use Rattle.morph_base.specs.Graphs.{IsValidPlan}
 use Rattle.morph_base.specs.Guesses.{stale_count}
 use Rattle.event_reader.specs.Accepted.{Accepted}
 use Rattle.morph_cli.specs.declared.tally.Tally.{Tally}
+use Rattle.morph_io.specs.Told.{behind, AppendsPrefix}
+use Rattle.morph_cli.specs.Notes.{AppendsNotes}
+use Rattle.morph_cli.specs.Status.{note_at}
 use Rattle.morph_cli.specs.Text.{run_fates, committed_in, aborted_in}
 
 -- a valid plan of the events of a batch, from the state before it
@@ -59,9 +62,9 @@ pub record IsTallyOf (done : List (List Transaction)) (plans : List Plan) (t : T
   pub handed : t.handed ≡ 0
   pub stolen : t.stolen ≡ 0
 
--- the tally of a run by its status: some first ones of the accepted batches were run, each by a valid plan from the state
--- before it, and those are counted. At 0 and 3 they are all
-pub record IsTallyAt (told : Option Accepted) (status : ℕ) (t : Tally) : Type 0 where
+-- what is told of a run by its status: some first ones of the accepted batches were run, each by a valid plan from the state
+-- before it, and these are counted and noted. At 0 and 3 they are all
+pub record RunTold (told : Option Accepted) (on : Bool) (workers status : ℕ) (t : Tally) (old new : Option (List ℕ)) : Type 0 where
   pub done : List (List Transaction)
   pub rest : List (List Transaction)
   pub plans : List Plan
@@ -69,6 +72,14 @@ pub record IsTallyAt (told : Option Accepted) (status : ℕ) (t : Tally) : Type 
   pub ran : AreRunFrom opening_state done plans
   pub counts : IsTallyOf done plans t
   pub whole : (status ≡ 0) ⊎ (status ≡ 3) → rest ≡ []
+  pub notes : AppendsNotes on workers status plans t old new
+
+-- what is told of a call: the notes of its run, and the last line behind them; a prefix of that where a write of it failed
+pub record CallTold (told : Option Accepted) (on : Bool) (workers status : ℕ) (t : Tally) (old new : Option (List ℕ)) (HasFailed : Type 0) : Type 0 where
+  pub noted : Option (List ℕ)
+  pub run : RunTold told on workers status t old noted
+  pub last : AppendsPrefix noted (note_at status) new
+  pub whole : (HasFailed → ⊥) → new ≡ behind noted (note_at status)
 
 -- how the numbers of a tally go together, whatever is told of the input
 pub record IsBalanced (t : Tally) : Type 0 where

@@ -12,6 +12,7 @@ mod ended;
 mod fault;
 mod morph;
 mod note;
+mod notes;
 mod report;
 mod run;
 mod settings;

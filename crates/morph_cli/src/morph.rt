@@ -1,4 +1,4 @@
-ghost use Rattle.std.specs.Prelude.{◌≡◌, None, Some, map, option_map, IsSome, IfSome, IsErrOf};
+ghost use Rattle.std.specs.Prelude.{◌≡◌, ◌≤◌, ◌⊎◌, None, Some, map, option_map, IsSome, IfSome, IsErrOf, IsTrue};
 ghost use Rattle.morph_io.specs.Told.{behind, HasRisen, AppendsPrefix};
 ghost use Rattle.event_reader.specs.declared.limits.TheConstants.{INPUT_BYTES};
 ghost use Rattle.event_reader.specs.Accepted.{accepted, accepted_within};
@@ -8,7 +8,7 @@ ghost use Rattle.morph_cli.specs.Headline.{Headline, Completes};
 ghost use Rattle.morph_cli.specs.Runs.{EndsSo, EndsMade};
 ghost use Rattle.morph_cli.specs.Settings.{AreInRange, settings_of};
 ghost use Rattle.morph_cli.specs.Status.{note_at, status_of, IsStatus, IsMadeStatus};
-ghost use Rattle.morph_cli.specs.Tallies.{no_tally, IsTallyAt, IsBalanced};
+ghost use Rattle.morph_cli.specs.Tallies.{no_tally, RunTold, CallTold, IsBalanced};
 
 use crate::ended::{Ended, USAGE, USAGE_STATUS, note_of, status};
 use crate::fault::Fault;
@@ -28,13 +28,14 @@ use toll_app::Toll;
 use worker_gate::Gate;
 
 /// Runs an application over the input that the settings ask for: the source's, or one that the program makes.
-fn run_over<R: Threads + Sync, A: EventApp + Copy, S: Source, K: Sink, G: Gate>(
+fn run_over<R: Threads + Sync, A: EventApp + Copy, S: Source, K: Sink, N: Sink, G: Gate>(
     rt: &R,
     alloc: Global,
     app: A,
     settings: Settings,
     source: &mut S,
     sink: &mut K,
+    notes: &mut N,
     tally: &mut Tally,
     gate: &G,
 ) -> Result<Finish, Fault>
@@ -43,26 +44,31 @@ fn run_over<R: Threads + Sync, A: EventApp + Copy, S: Source, K: Sink, G: Gate>(
     ensures ends { IfSome (input_by settings.generated (generated_text (A.generated app settings.size)) (S.left source.old)) (λ input.
         EndsSo (A.event_of app settings.size) (telling_by settings.generated (A.table_count app) settings.size (A.name_of app))
         INPUT_BYTES input (left_by settings.generated (S.left source.new)) (K.written sink.old) result (K.written sink.new)) }
-    ensures tally { IsTallyAt (option_map (accepted_within (A.event_of app settings.size) INPUT_BYTES)
-        (input_by settings.generated (generated_text (A.generated app settings.size)) (S.left source.old))) (status_of result) tally.new }
+    ensures told { RunTold (option_map (accepted_within (A.event_of app settings.size) INPUT_BYTES)
+        (input_by settings.generated (generated_text (A.generated app settings.size)) (S.left source.old)))
+        settings.notes settings.workers (status_of result) tally.new (N.written notes.old) (N.written notes.new) }
+    ensures notes_faults { N.faults notes.old ≤ N.faults notes.new }
     ensures made { IsSome settings.generated → (source.new ≡ source.old) × EndsMade result }
     ensures read { IsErrOf result Fault.Read → HasRisen (S.faults source.old) (S.faults source.new) }
-    ensures write { IsErrOf result Fault.Write → HasRisen (K.faults sink.old) (K.faults sink.new) }
+    ensures write { IsErrOf result Fault.Write → HasRisen (K.faults sink.old) (K.faults sink.new) ⊎ (IsTrue settings.notes × HasRisen (N.faults notes.old) (N.faults notes.new)) }
 {
     match settings.generated {
-        None => run(rt, alloc, app, settings, source, sink, tally, gate),
-        Some(generated) => run_made(rt, alloc, app, settings, generated, sink, tally, gate),
+        None => run(rt, alloc, app, settings, source, sink, notes, tally, gate),
+        Some(generated) => run_made(
+            rt, alloc, app, settings, generated, sink, notes, tally, gate,
+        ),
     }
 }
 
 /// Runs an application over an input that the program makes.
-fn run_made<R: Threads + Sync, A: EventApp + Copy, K: Sink, G: Gate>(
+fn run_made<R: Threads + Sync, A: EventApp + Copy, K: Sink, N: Sink, G: Gate>(
     rt: &R,
     alloc: Global,
     app: A,
     settings: Settings,
     generated: Generated,
     sink: &mut K,
+    notes: &mut N,
     tally: &mut Tally,
     gate: &G,
 ) -> Result<Finish, Fault>
@@ -71,22 +77,35 @@ fn run_made<R: Threads + Sync, A: EventApp + Copy, K: Sink, G: Gate>(
     requires tally { tally.old ≡ no_tally }
     ensures ends { EndsSo (A.event_of app settings.size) (telling_by settings.generated (A.table_count app) settings.size (A.name_of app))
         INPUT_BYTES (generated_text (A.generated app settings.size) generated.seed generated.events) None (K.written sink.old) result (K.written sink.new) }
-    ensures tally { IsTallyAt (option_map (accepted_within (A.event_of app settings.size) INPUT_BYTES)
-        (Some (generated_text (A.generated app settings.size) generated.seed generated.events))) (status_of result) tally.new }
+    ensures told { RunTold (option_map (accepted_within (A.event_of app settings.size) INPUT_BYTES)
+        (Some (generated_text (A.generated app settings.size) generated.seed generated.events)))
+        settings.notes settings.workers (status_of result) tally.new (N.written notes.old) (N.written notes.new) }
+    ensures notes_faults { N.faults notes.old ≤ N.faults notes.new }
     ensures made { EndsMade result }
-    ensures write { IsErrOf result Fault.Write → HasRisen (K.faults sink.old) (K.faults sink.new) }
+    ensures write { IsErrOf result Fault.Write → HasRisen (K.faults sink.old) (K.faults sink.new) ⊎ (IsTrue settings.notes × HasRisen (N.faults notes.old) (N.faults notes.new)) }
 {
     let mut source = GenSource::new(app, generated.seed, generated.events, settings.size);
-    run(rt, alloc, app, settings, &mut source, sink, tally, gate)
+    run(
+        rt,
+        alloc,
+        app,
+        settings,
+        &mut source,
+        sink,
+        notes,
+        tally,
+        gate,
+    )
 }
 
 /// Runs the application that the settings name.
-fn run_app<R: Threads + Sync, S: Source, K: Sink, G: Gate>(
+fn run_app<R: Threads + Sync, S: Source, K: Sink, N: Sink, G: Gate>(
     rt: &R,
     alloc: Global,
     settings: Settings,
     source: &mut S,
     sink: &mut K,
+    notes: &mut N,
     tally: &mut Tally,
     gate: &G,
 ) -> Result<Finish, Fault>
@@ -94,15 +113,19 @@ fn run_app<R: Threads + Sync, S: Source, K: Sink, G: Gate>(
     requires tally { tally.old ≡ no_tally }
     ensures ends { IfSome (input_of settings (S.left source.old)) (λ input. EndsSo (meaning_of settings) (telling_of settings)
         INPUT_BYTES input (left_by settings.generated (S.left source.new)) (K.written sink.old) result (K.written sink.new)) }
-    ensures tally { IsTallyAt (option_map (accepted_within (meaning_of settings) INPUT_BYTES) (input_of settings (S.left source.old))) (status_of result) tally.new }
+    ensures told { RunTold (option_map (accepted_within (meaning_of settings) INPUT_BYTES) (input_of settings (S.left source.old)))
+        settings.notes settings.workers (status_of result) tally.new (N.written notes.old) (N.written notes.new) }
+    ensures notes_faults { N.faults notes.old ≤ N.faults notes.new }
     ensures made { IsSome settings.generated → (source.new ≡ source.old) × EndsMade result }
     ensures read { IsErrOf result Fault.Read → HasRisen (S.faults source.old) (S.faults source.new) }
-    ensures write { IsErrOf result Fault.Write → HasRisen (K.faults sink.old) (K.faults sink.new) }
+    ensures write { IsErrOf result Fault.Write → HasRisen (K.faults sink.old) (K.faults sink.new) ⊎ (IsTrue settings.notes × HasRisen (N.faults notes.old) (N.faults notes.new)) }
 {
     match settings.app {
-        App::Ledger => run_over(rt, alloc, Ledger, settings, source, sink, tally, gate),
-        App::Grep => run_over(rt, alloc, Grep, settings, source, sink, tally, gate),
-        App::Toll => run_over(rt, alloc, Toll, settings, source, sink, tally, gate),
+        App::Ledger => run_over(
+            rt, alloc, Ledger, settings, source, sink, notes, tally, gate,
+        ),
+        App::Grep => run_over(rt, alloc, Grep, settings, source, sink, notes, tally, gate),
+        App::Toll => run_over(rt, alloc, Toll, settings, source, sink, notes, tally, gate),
     }
 }
 
@@ -126,19 +149,20 @@ pub fn morph<R: Threads + Sync, S: Source, K: Sink, N: Sink, G: Gate>(
     ensures headline { IfSome (settings_of (map (λ word. word.items) words.now)) (λ s. IfSome (input_of s (S.left source.old)) (λ input.
         Headline (meaning_of s) (telling_of s) INPUT_BYTES input (left_by s.generated (S.left source.new)) (K.written sink.old) (K.written sink.new) result.status)) }
     ensures completes { (HasRisen (S.faults source.old) (S.faults source.new) → ⊥) → (HasRisen (K.faults sink.old) (K.faults sink.new) → ⊥)
-        → IfSome (settings_of (map (λ word. word.items) words.now)) (λ s. IfSome (input_of s (S.left source.old)) (λ input.
+        → IfSome (settings_of (map (λ word. word.items) words.now)) (λ s. (IsTrue s.notes → HasRisen (N.faults notes.old) (N.faults notes.new) → ⊥) → IfSome (input_of s (S.left source.old)) (λ input.
         Completes (meaning_of s) INPUT_BYTES input result.status)) }
 
     // An input that the program makes is not read from the source, and none of its lines is refused.
     ensures made { IfSome (settings_of (map (λ word. word.items) words.now)) (λ s. IsSome s.generated → (source.new ≡ source.old) × IsMadeStatus result.status) }
     ensures read { result.status ≡ 4 → HasRisen (S.faults source.old) (S.faults source.new) }
-    ensures write { result.status ≡ 5 → HasRisen (K.faults sink.old) (K.faults sink.new) }
+    ensures write { result.status ≡ 5 → HasRisen (K.faults sink.old) (K.faults sink.new) ⊎ HasRisen (N.faults notes.old) (N.faults notes.new) }
     ensures statuses { IsStatus result.status }
-    ensures tally { IfSome (settings_of (map (λ word. word.items) words.now)) (λ s.
-        IsTallyAt (option_map (accepted (meaning_of s)) (input_of s (S.left source.old))) result.status result.tally) }
+    ensures told { IfSome (settings_of (map (λ word. word.items) words.now)) (λ s.
+        CallTold (option_map (accepted (meaning_of s)) (input_of s (S.left source.old))) s.notes s.workers result.status result.tally
+        (N.written notes.old) (N.written notes.new) (HasRisen (N.faults notes.old) (N.faults notes.new))) }
     ensures balanced { IsBalanced result.tally }
-    ensures note { AppendsPrefix (N.written notes.old) (note_at result.status) (N.written notes.new) }
-    ensures whole_note { (HasRisen (N.faults notes.old) (N.faults notes.new) → ⊥) → N.written notes.new ≡ behind (N.written notes.old) (note_at result.status) }
+    ensures note { result.status ≡ 2 → AppendsPrefix (N.written notes.old) (note_at result.status) (N.written notes.new) }
+    ensures whole_note { result.status ≡ 2 → (HasRisen (N.faults notes.old) (N.faults notes.new) → ⊥) → N.written notes.new ≡ behind (N.written notes.old) (note_at result.status) }
 {
     let mut tally = Tally::new();
     let Some(settings) = settings(words) else {
@@ -148,7 +172,7 @@ pub fn morph<R: Threads + Sync, S: Source, K: Sink, N: Sink, G: Gate>(
             tally,
         };
     };
-    let end = run_app(rt, alloc, settings, source, sink, &mut tally, gate);
+    let end = run_app(rt, alloc, settings, source, sink, notes, &mut tally, gate);
     write_note(notes, note_of(&end));
     Ended {
         status: status(&end),

@@ -1,4 +1,4 @@
-ghost use Rattle.std.specs.Prelude.{◌≡◌, ℕ, ◌≤◌, option_map, IfSome, IsErrOf};
+ghost use Rattle.std.specs.Prelude.{◌≡◌, ℕ, ◌≤◌, ◌⊎◌, option_map, IfSome, IsErrOf, IsTrue};
 ghost use Rattle.event_reader.specs.Accepted.{accepted_within};
 ghost use Rattle.event_reader.specs.declared.limits.TheConstants.{INPUT_BYTES};
 ghost use Rattle.morph_io.specs.Told.{HasRisen};
@@ -6,10 +6,11 @@ ghost use Rattle.morph_cli.specs.Apps.{telling_by};
 ghost use Rattle.morph_cli.specs.Runs.{EndsSo};
 ghost use Rattle.morph_cli.specs.Settings.{AreInRange};
 ghost use Rattle.morph_cli.specs.Status.{status_of};
-ghost use Rattle.morph_cli.specs.Tallies.{no_tally, IsTallyAt};
+ghost use Rattle.morph_cli.specs.Tallies.{no_tally, RunTold};
 
 use crate::batch::run_batch;
 use crate::fault::Fault;
+use crate::notes::{note_batch, note_tally};
 use crate::settings::Settings;
 use crate::tally::Tally;
 use crate::writing::{write_closing, write_events, write_refused};
@@ -31,14 +32,16 @@ pub enum Finish {
 }
 
 /// Runs an application over an input: batch by batch, each written whole before the next is read. The batches that were run
-/// are counted in the tally, also those of a run that is cut off.
-pub fn run<R: Threads + Sync, A: EventApp + Copy, S: Source, K: Sink, G: Gate>(
+/// are counted in the tally, also those of a run that is cut off, and where the notes are on each is told there once it is
+/// written, and the tally at the end.
+pub fn run<R: Threads + Sync, A: EventApp + Copy, S: Source, K: Sink, N: Sink, G: Gate>(
     rt: &R,
     alloc: Global,
     app: A,
     settings: Settings,
     source: &mut S,
     sink: &mut K,
+    notes: &mut N,
     tally: &mut Tally,
     gate: &G,
 ) -> Result<Finish, Fault>
@@ -46,11 +49,13 @@ pub fn run<R: Threads + Sync, A: EventApp + Copy, S: Source, K: Sink, G: Gate>(
     requires tally { tally.old ≡ no_tally }
     ensures ends { IfSome (S.left source.old) (λ input. EndsSo (A.event_of app settings.size)
         (telling_by settings.generated (A.table_count app) settings.size (A.name_of app)) INPUT_BYTES input (S.left source.new) (K.written sink.old) result (K.written sink.new)) }
-    ensures tally { IsTallyAt (option_map (accepted_within (A.event_of app settings.size) INPUT_BYTES) (S.left source.old)) (status_of result) tally.new }
+    ensures told { RunTold (option_map (accepted_within (A.event_of app settings.size) INPUT_BYTES) (S.left source.old)) settings.notes settings.workers
+        (status_of result) tally.new (N.written notes.old) (N.written notes.new) }
     ensures source_faults { S.faults source.old ≤ S.faults source.new }
     ensures sink_faults { K.faults sink.old ≤ K.faults sink.new }
+    ensures notes_faults { N.faults notes.old ≤ N.faults notes.new }
     ensures read { IsErrOf result Fault.Read → HasRisen (S.faults source.old) (S.faults source.new) }
-    ensures write { IsErrOf result Fault.Write → HasRisen (K.faults sink.old) (K.faults sink.new) }
+    ensures write { IsErrOf result Fault.Write → HasRisen (K.faults sink.old) (K.faults sink.new) ⊎ (IsTrue settings.notes × HasRisen (N.faults notes.old) (N.faults notes.new)) }
 {
     let layout = Layout {
         tables: app.tables(),
@@ -65,6 +70,7 @@ pub fn run<R: Threads + Sync, A: EventApp + Copy, S: Source, K: Sink, G: Gate>(
                 let ran = run_batch(rt, alloc, &mut engine, &batch, settings.workers, gate)?;
                 tally.add(&ran);
                 write_events(&mut out, sink, settings.report(), ran.outcomes.as_slice())?;
+                note_batch(notes, settings.notes, tally.batches, &ran.end.plan)?;
             }
             Next::End => {
                 write_closing(
@@ -75,10 +81,12 @@ pub fn run<R: Threads + Sync, A: EventApp + Copy, S: Source, K: Sink, G: Gate>(
                     engine.state(),
                     tally,
                 )?;
+                note_tally(notes, settings.notes, settings.workers, tally)?;
                 return Ok(Finish::Complete);
             }
             Next::Refused { line, cause } => {
                 write_refused(&mut out, sink, line, cause)?;
+                note_tally(notes, settings.notes, settings.workers, tally)?;
                 return Ok(Finish::Refused);
             }
         }

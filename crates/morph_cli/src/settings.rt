@@ -31,6 +31,8 @@ pub struct Settings {
     pub workers: u32,
     /// The number of ids in each table: 1 to 1,000,000.
     pub size: u32,
+    /// Whether the notes tell of each batch, and at the end the tally.
+    pub notes: bool,
     /// The input where the program makes it itself; none where it reads one.
     pub generated: Option<Generated>,
 }

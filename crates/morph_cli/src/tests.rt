@@ -2,6 +2,7 @@
 mod apps;
 mod faults;
 mod inputs;
+mod notes;
 mod tallies;
 
 use crate::ended::Ended;
@@ -17,6 +18,9 @@ use worker_gate::FreeGate;
 
 /// The words that ask for the ledger.
 const LEDGER: &[&[u8]] = &[b"app=ledger"];
+
+/// A deposit and three transfers: the first asks for too much of an asset, and the second was tried on what it left.
+const FOUR_EVENTS: &[u8] = b"D 1 0 0 100 5\nX 2 0 1 0 1 60 6\nX 3 0 1 0 1 60 5\nX 4 1 2 1 2 60 5\n";
 
 /// What a run left.
 #[derive(Drop)]

@@ -1,8 +1,9 @@
-ghost use Rattle.std.specs.Prelude.{◌≡◌, ◌+◌, ◌*◌, ◌<◌, ◌≤◌, [], length};
+ghost use Rattle.std.specs.Prelude.{◌≡◌, ◌+◌, ◌*◌, ◌<◌, ◌≤◌, [], ◌++◌, length};
+ghost use Rattle.std.specs.List.{flat_map};
 ghost use Rattle.morph_base.specs.declared.limits.TheConstants.{EVENT_OPS};
 ghost use Rattle.morph_io.specs.declared.line_buf.TheConstants.{LINE_BYTES};
 ghost use Rattle.morph_base.specs.Outcomes.{fate_of};
-ghost use Rattle.morph_cli.specs.Text.{event_text};
+ghost use Rattle.morph_cli.specs.Text.{after_space, event_text};
 
 use morph_base::Outcome;
 use morph_io::LineBuf;
@@ -21,8 +22,17 @@ pub fn event_line(outcome: &Outcome, line: &mut LineBuf)
         return;
     }
     line.word(b" C");
-    for value in outcome.values.as_slice() {
+    put_numbers(outcome.values.as_slice(), line);
+}
+
+/// Puts each number after a space behind a line that has room for them.
+pub fn put_numbers(numbers: &[u64], line: &mut LineBuf)
+    requires room { length line.old + 21 * length numbers.now ≤ LINE_BYTES }
+    ensures text { line.new ≡ line.old ++ flat_map after_space numbers.now }
+    ensures short { length line.new ≤ length line.old + 21 * length numbers.now }
+{
+    for number in numbers {
         line.word(b" ");
-        line.number(*value);
+        line.number(*number);
     }
 }

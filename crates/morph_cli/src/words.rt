@@ -1,7 +1,7 @@
 ghost use Rattle.std.specs.Prelude.{◌≡◌, ◌<◌, ◌≤◌, ◌^◌, map, count_by, length, MatchOption, IfSome};
 ghost use Rattle.std.specs.List.{list_all};
 ghost use Rattle.event_reader.specs.declared.limits.TheConstants.{GREATEST_NUMBER};
-ghost use Rattle.morph_cli.specs.Settings.{has_name, is_known, is_once, are_once, value_under, app_in, app_under, number_in, number_under, input_of, read_input, made_input, AreFew, AreInRange, settings_of};
+ghost use Rattle.morph_cli.specs.Settings.{has_name, is_known, is_once, are_once, value_under, app_in, app_under, number_in, number_under, switch_in, switch_under, input_of, read_input, made_input, AreFew, AreInRange, settings_of};
 
 use crate::settings::{
     App, DEFAULT_EVENTS, DEFAULT_SEED, DEFAULT_SIZE, DEFAULT_WORKERS, GREATEST_EVENTS,
@@ -49,6 +49,7 @@ fn is_known(word: &[u8]) -> bool
         || has_name(b"size=", word)
         || has_name(b"seed=", word)
         || has_name(b"events=", word)
+        || has_name(b"notes=", word)
 }
 
 /// Whether all words have names that there are.
@@ -86,6 +87,7 @@ fn are_once(words: &[List<u8>]) -> bool
         && is_once(words, b"size=")
         && is_once(words, b"seed=")
         && is_once(words, b"events=")
+        && is_once(words, b"notes=")
 }
 
 /// The value that is given under a name.
@@ -149,6 +151,29 @@ fn number_under(words: &[List<u8>], name: &[u8], range: Range, other: u64) -> Op
     }
 }
 
+/// Whether a value says on or off.
+fn switch_of(value: &[u8]) -> Option<bool>
+    ensures { result ≡ switch_in value.now }
+{
+    if value == b"on".as_slice() {
+        Some(true)
+    } else if value == b"off".as_slice() {
+        Some(false)
+    } else {
+        None
+    }
+}
+
+/// What is switched under a name; off where the name is not given.
+fn switch_under(words: &[List<u8>], name: &[u8]) -> Option<bool>
+    ensures { result ≡ switch_under name.now (map (λ word. word.items) words.now) }
+{
+    match value_under(words, name) {
+        Some(value) => switch_of(value),
+        None => Some(false),
+    }
+}
+
 /// An application, and the input that the program makes for it, if it makes one.
 #[derive(Clone, Copy, Debug, PartialEq, Eq)]
 struct Input {
@@ -209,10 +234,12 @@ pub fn settings(words: &[List<u8>]) -> Option<Settings>
     let input = input_of(words)?;
     let workers = number_under(words, b"workers=", WORKER_COUNTS, DEFAULT_WORKERS)?;
     let size = number_under(words, b"size=", SIZES, DEFAULT_SIZE)?;
+    let notes = switch_under(words, b"notes=")?;
     Some(Settings {
         app: input.app,
         workers: workers as u32,
         size: size as u32,
+        notes,
         generated: input.generated,
     })
 }

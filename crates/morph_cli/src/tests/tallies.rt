@@ -1,10 +1,7 @@
 //! What is counted of the batches that were run.
-use super::{LEDGER, run_words};
+use super::{FOUR_EVENTS, LEDGER, run_words};
 use crate::tally::Tally;
 use std::test::Fail;
-
-/// A deposit and three transfers: the first asks for too much of an asset, and the second was tried on what it left.
-const FOUR_EVENTS: &[u8] = b"D 1 0 0 100 5\nX 2 0 1 0 1 60 6\nX 3 0 1 0 1 60 5\nX 4 1 2 1 2 60 5\n";
 
 /// The batches, the events with how many committed and aborted, the operations, how often these were evaluated and rolled
 /// back, and how many the first worker settled.

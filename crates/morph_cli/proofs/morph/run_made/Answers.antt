@@ -1,15 +1,13 @@
-use Rattle.std.proofs.Common.{◌≡◌, ℕ, List, Some, None, ap, ◌∙◌, arith, subst}
-use Rattle.std.specs.Prelude.{option_map, IsErrOf}
+use Rattle.std.proofs.Common.{Some, None, ap, ◌∙◌, arith, subst}
+use Rattle.std.specs.Prelude.{option_map}
 use Rattle.morph_cli.specs.Status.{status_of}
-use Rattle.morph_cli.specs.Tallies.{IsTallyAt}
+use Rattle.morph_cli.specs.Tallies.{RunTold}
 use Rattle.event_reader.specs.declared.limits.TheConstants.{INPUT_BYTES}
-use Rattle.event_reader.specs.Accepted.{Accepted, Ended, accepted_within}
+use Rattle.event_reader.specs.Accepted.{Accepted, accepted_within}
 use Rattle.event_reader.specs.GeneratedText.{generated_text, generated_left}
 use Rattle.event_reader.proofs.GeneratedLaws.{generated_ends, generated_within}
-use Rattle.morph_cli.specs.declared.fault.Fault.TheVariants.{Read}
 use Rattle.morph_cli.specs.Apps.{telling_by}
 use Rattle.morph_cli.specs.Runs.{EndsSo}
-use Rattle.morph_cli.specs.Text.{Telling}
 use Rattle.morph_cli.proofs.Making.{left_apart, made_ends}
 use Rattle.morph_cli.proofs.morph.run_made.Goals as goal
 
@@ -40,8 +38,9 @@ returns-clause-made g c =
     (ap (λ (a : Accepted). a.ending) (generated_within meaning drawn (λ i state start end. g.met.A.EventApp.generates c.args.app size i state c.requires.settings.some_ids c.requires.settings.few_ids start end) c.args.generated.seed c.args.generated.events few.1) ∙ generated_ends meaning drawn (λ i state start end. g.met.A.EventApp.generates c.args.app size i state c.requires.settings.some_ids c.requires.settings.few_ids start end) c.args.generated.seed c.args.generated.events few.1)
     (subst (λ t. EndsSo meaning telling INPUT_BYTES t left old c.run.result new) (ap (generated_left g.A.EventApp.generated) c.new-source.ensures) c.run.ensures.ends)
 
-pub returns-clause-tally : goal.returns-clause-tally
-returns-clause-tally g c =
+pub returns-clause-told : goal.returns-clause-told
+returns-clause-told g c =
     let meaning = g.A.EventApp.event_of c.args.app c.args.settings.size in
-    subst (λ text. IsTallyAt (option_map (accepted_within meaning INPUT_BYTES) (Some text)) (status_of c.run.result) c.run.new.tally)
-    (ap (generated_left g.A.EventApp.generated) c.new-source.ensures) c.run.ensures.tally
+    subst (λ text. RunTold (option_map (accepted_within meaning INPUT_BYTES) (Some text)) c.args.settings.notes c.args.settings.workers (status_of c.run.result) c.run.new.tally
+    (g.N.Sink.written c.args.notes.now) (g.N.Sink.written c.run.new.notes))
+    (ap (generated_left g.A.EventApp.generated) c.new-source.ensures) c.run.ensures.told

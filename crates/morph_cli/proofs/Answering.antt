@@ -1,5 +1,5 @@
 -- What is said of the whole call, from what is said of the run.
-use Rattle.std.proofs.Common.{◌≡◌, ◌≤◌, inl, inr, ℕ, List, Option, Some, None, Result, Ok, Err, IsSome, refl, sym, subst}
+use Rattle.std.proofs.Common.{◌≡◌, ◌≤◌, ◌⊎◌, ◌∙◌, arith, inl, inr, ℕ, List, Option, Some, None, Result, Ok, Err, IsSome, refl, sym, subst}
 use Rattle.std.specs.Prelude.{option_map, IfSome, IsErrOf, IsTrue}
 use Rattle.event_reader.specs.declared.limits.TheConstants.{INPUT_BYTES}
 use Rattle.morph_cli.specs.declared.fault.Fault.{Fault}
@@ -14,7 +14,7 @@ use Rattle.event_reader.specs.Accepted.{accepted, accepted_within}
 use Rattle.morph_cli.specs.declared.tally.Tally.{Tally}
 use Rattle.morph_cli.specs.Tallies.{RunTold, CallTold}
 use Rattle.morph_io.specs.Told.{behind, HasRisen, AppendsPrefix}
-use Rattle.morph_cli.proofs.Noting.{risen_later}
+use Rattle.morph_cli.proofs.Noting.{risen_before, risen_later}
 use Rattle.morph_cli.specs.Headline.{Headline, Completes}
 use Rattle.morph_cli.proofs.Headlines.{headline, completes, told_all}
 
@@ -93,3 +93,21 @@ pub made_asked : {X : Type 0} (asked : Option Settings) (s : Settings) (old new 
 made_asked asked s old new r status is status_is made =
     asked_so (λ s. IsSome s.generated → (new ≡ old) × IsMadeStatus status) asked s is
     (λ some. let m = made some in (m.0, subst IsMadeStatus (sym status_is) (made_status r m.1)))
+
+-- a status of a failed write
+is_write : (r : Result Finish Fault) → status_of r ≡ 5 → IsErrOf r Write
+is_write (Ok Complete) five = absurd (omega (arith, five))
+is_write (Ok Refused) five = absurd (omega (arith, five))
+is_write (Err Read) five = absurd (omega (arith, five))
+is_write (Err Write) five = refl
+is_write (Err OutOfMemory) five = absurd (omega (arith, five))
+is_write (Err TooLong) five = absurd (omega (arith, five))
+
+pub write_asked : (asked : Option Settings) (s : Settings) (r : Result Finish Fault) (status : ℕ) (Sunk : Type 0) (n0 n1 n2 : ℕ) → asked ≡ Some s → status ≡ status_of r →
+    (IsErrOf r Write → Sunk ⊎ (IsTrue s.notes × HasRisen n0 n1)) → n1 ≤ n2 → IfSome asked (λ s. status ≡ 5 → Sunk ⊎ (IsTrue s.notes × HasRisen n0 n2))
+write_asked asked s r status Sunk n0 n1 n2 is status_is cause later =
+    asked_so (λ s. status ≡ 5 → Sunk ⊎ (IsTrue s.notes × HasRisen n0 n2)) asked s is (λ five. by_cause (cause (is_write r (sym status_is ∙ five))))
+  where
+    by_cause : Sunk ⊎ (IsTrue s.notes × HasRisen n0 n1) → Sunk ⊎ (IsTrue s.notes × HasRisen n0 n2)
+    by_cause (inl sunk) = inl sunk
+    by_cause (inr noted) = inr (noted.0, risen_before n0 n1 n2 later noted.1)

@@ -155,7 +155,8 @@ pub fn morph<R: Threads + Sync, S: Source, K: Sink, N: Sink, G: Gate>(
     // An input that the program makes is not read from the source, and none of its lines is refused.
     ensures made { IfSome (settings_of (map (λ word. word.items) words.now)) (λ s. IsSome s.generated → (source.new ≡ source.old) × IsMadeStatus result.status) }
     ensures read { result.status ≡ 4 → HasRisen (S.faults source.old) (S.faults source.new) }
-    ensures write { result.status ≡ 5 → HasRisen (K.faults sink.old) (K.faults sink.new) ⊎ HasRisen (N.faults notes.old) (N.faults notes.new) }
+    ensures write { IfSome (settings_of (map (λ word. word.items) words.now)) (λ s. result.status ≡ 5 →
+        HasRisen (K.faults sink.old) (K.faults sink.new) ⊎ (IsTrue s.notes × HasRisen (N.faults notes.old) (N.faults notes.new))) }
     ensures statuses { IsStatus result.status }
     ensures told { IfSome (settings_of (map (λ word. word.items) words.now)) (λ s.
         CallTold (option_map (accepted (meaning_of s)) (input_of s (S.left source.old))) s.notes s.workers result.status result.tally

@@ -5,7 +5,7 @@ use Rattle.morph_io.specs.Told.{behind, HasRisen, AppendsPrefix}
 use Rattle.morph_cli.proofs.Noting.{risen_before}
 use Rattle.morph_cli.proofs.Tallying.{balanced}
 use Rattle.morph_cli.specs.Settings.{settings_of}
-use Rattle.morph_cli.proofs.Answering.{headline_asked, completes_asked, made_asked, told_asked}
+use Rattle.morph_cli.proofs.Answering.{headline_asked, completes_asked, made_asked, told_asked, write_asked}
 use Rattle.morph_cli.proofs.morph.morph.Goals as goal
 
 pub returns-clause-headline : goal.returns-clause-headline
@@ -47,3 +47,9 @@ returns-clause-told g c =
 pub returns-clause-balanced : goal.returns-clause-balanced
 returns-clause-balanced g c =
     balanced c.run_app-end.ensures.told.done c.run_app-end.ensures.told.plans c.run_app-end.new.tally c.run_app-end.ensures.told.counts
+
+pub returns-clause-write : goal.returns-clause-write
+returns-clause-write g c =
+    write_asked (settings_of (map (λ word. word.items) c.args.words.now)) c.in-Some.settings c.run_app-end.result c.status.result (HasRisen (g.K.Sink.faults c.args.sink.now) (g.K.Sink.faults c.run_app-end.new.sink))
+    (g.N.Sink.faults c.args.notes.now) (g.N.Sink.faults c.run_app-end.new.notes) (g.N.Sink.faults c.write_note-2.new.notes) (sym c.in-Some.ensures.asked) c.status.ensures
+    c.run_app-end.ensures.write c.write_note-2.ensures.never_falls

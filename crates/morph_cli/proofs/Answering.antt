@@ -12,6 +12,7 @@ use Rattle.morph_cli.specs.Runs.{EndsSo, EndsMade}
 use Rattle.morph_cli.specs.Status.{note_at, status_of, IsMadeStatus}
 use Rattle.event_reader.specs.Accepted.{accepted, accepted_within}
 use Rattle.morph_cli.specs.declared.tally.Tally.{Tally}
+use Rattle.morph_cli.specs.Outputs.{Outputs, outputs_of}
 use Rattle.morph_cli.specs.Tallies.{RunTold, CallTold}
 use Rattle.morph_io.specs.Told.{behind, HasRisen, AppendsPrefix}
 use Rattle.morph_cli.proofs.Noting.{risen_before, risen_later}
@@ -56,28 +57,29 @@ completes_asked asked s told left old new r status risen is status_is ends reads
         (completes (meaning_of s) (telling_of s) INPUT_BYTES input (left_by s.generated left) old new r ends reads writes)
 
 -- what is told of the call, over the whole input
-pub told_asked : (asked : Option Settings) (s : Settings) (told left old new : Option (List ℕ)) (r : Result Finish Fault) (status : ℕ) (t : Tally)
-    (before noted after : Option (List ℕ)) (risen_from risen_by risen_to : ℕ) → asked ≡ Some s → status ≡ status_of r → Ends s told left old r new →
-    RunTold (option_map (accepted_within (meaning_of s) INPUT_BYTES) (input_of s told)) s.notes s.workers (status_of r) t before noted →
-    AppendsPrefix noted (note_at (status_of r)) after → ((HasRisen risen_by risen_to → ⊥) → after ≡ behind noted (note_at (status_of r))) →
+pub told_asked : (asked : Option Settings) (s : Settings) (told left : Option (List ℕ)) (r : Result Finish Fault) (status : ℕ) (t : Tally)
+    (old ran : Outputs) (after : Option (List ℕ)) (risen_from risen_by risen_to : ℕ) → asked ≡ Some s → status ≡ status_of r → Ends s told left old.sink r ran.sink →
+    RunTold (telling_of s) (option_map (accepted_within (meaning_of s) INPUT_BYTES) (input_of s told)) s.notes s.workers (status_of r) t old ran →
+    AppendsPrefix ran.notes (note_at (status_of r)) after → ((HasRisen risen_by risen_to → ⊥) → after ≡ behind ran.notes (note_at (status_of r))) →
     risen_from ≤ risen_by → risen_by ≤ risen_to →
-    IfSome asked (λ s. CallTold (option_map (accepted (meaning_of s)) (input_of s told)) s.notes s.workers status t before after (HasRisen risen_from risen_to))
-told_asked asked s told left old new r status t before noted after risen_from risen_by risen_to is status_is ends run last whole first second =
-    asked_so (λ s. CallTold (option_map (accepted (meaning_of s)) (input_of s told)) s.notes s.workers status t before after (HasRisen risen_from risen_to)) asked s is
-    (subst (λ n. CallTold (option_map (accepted (meaning_of s)) (input_of s told)) s.notes s.workers n t before after (HasRisen risen_from risen_to)) (sym status_is)
+    IfSome asked (λ s. CallTold (telling_of s) (option_map (accepted (meaning_of s)) (input_of s told)) s.notes s.workers status t old (outputs_of ran.sink after) (HasRisen risen_from risen_to))
+told_asked asked s told left r status t old ran after risen_from risen_by risen_to is status_is ends run last whole first second =
+    asked_so (λ s. CallTold (telling_of s) (option_map (accepted (meaning_of s)) (input_of s told)) s.notes s.workers status t old (outputs_of ran.sink after) (HasRisen risen_from risen_to)) asked s is
+    (subst (λ n. CallTold (telling_of s) (option_map (accepted (meaning_of s)) (input_of s told)) s.notes s.workers n t old (outputs_of ran.sink after) (HasRisen risen_from risen_to)) (sym status_is)
     (record {
-      noted = noted;
+      ran = ran;
       run = by_told (input_of s told) ends run;
+      sink = refl;
       last = last;
       whole = λ none. whole (λ later. none (risen_later risen_from risen_by risen_to first second later));
     }))
   where
-    by_told : (told : Option (List ℕ)) → EndsBy s told left old r new
-        → RunTold (option_map (accepted_within (meaning_of s) INPUT_BYTES) told) s.notes s.workers (status_of r) t before noted
-        → RunTold (option_map (accepted (meaning_of s)) told) s.notes s.workers (status_of r) t before noted
+    by_told : (told : Option (List ℕ)) → EndsBy s told left old.sink r ran.sink
+        → RunTold (telling_of s) (option_map (accepted_within (meaning_of s) INPUT_BYTES) told) s.notes s.workers (status_of r) t old ran
+        → RunTold (telling_of s) (option_map (accepted (meaning_of s)) told) s.notes s.workers (status_of r) t old ran
     by_told None ends run = run
     by_told (Some input) ends run =
-        told_all (meaning_of s) (telling_of s) INPUT_BYTES input (left_by s.generated left) old new r t s.notes s.workers before noted ends run
+        told_all (meaning_of s) (telling_of s) INPUT_BYTES input (left_by s.generated left) old.sink ran.sink r t s.notes s.workers old ran ends run
 
 -- the status of a run over an input that the program makes
 made_status : (r : Result Finish Fault) → EndsMade r → IsMadeStatus (status_of r)

@@ -1,6 +1,6 @@
 -- What holds between two batches of a run, over plain values.
-use Rattle.std.proofs.Common.{◌≡◌, ℕ, Bool, suc, ◌+◌, ◌*◌, ◌<◌, ◌≤◌, true, false, List, [], ◌∷◌, length, map, Option, Result, Ok, Err, All, refl, ap, sym, subst, ◌∙◌, arith}
-use Rattle.std.specs.Prelude.{IfSome, IsTrue, IsErrAnd, IsErrOf}
+use Rattle.std.proofs.Common.{◌≡◌, ℕ, suc, ◌+◌, ◌*◌, ◌<◌, ◌≤◌, true, false, List, [], ◌∷◌, length, map, Option, Result, Ok, Err, All, refl, ap, sym, subst, ◌∙◌, arith}
+use Rattle.std.specs.Prelude.{IsTrue, IsErrAnd, IsErrOf}
 use Rattle.std.proofs.Math.ListN.{get_or-map, length-map}
 use Rattle.std.proofs.lemmas.Bool.{false≢true}
 use Rattle.std.proofs.lemmas.List.Elements.{All-tail, All-head, All-cons}
@@ -15,8 +15,10 @@ use Rattle.morph_base.specs.Transactions.{Transaction, transactions_of, by_time,
 use Rattle.morph_base.specs.States.{State, opening_state, after, fold_batch}
 use Rattle.morph_base.specs.Outcomes.{Fate, fate, fates, fate_of}
 use Rattle.morph_base.specs.Flat.{Kept, contents}
+use Rattle.morph_base.specs.Guesses.{stale_count}
+use Rattle.morph_base.specs.Plans.{op_count}
 use Rattle.morph_base.proofs.TimeLaws.{by_time-permutes}
-use Rattle.morph_io.specs.Told.{IsAtEnd, behind, AppendsPrefix}
+use Rattle.morph_io.specs.Told.{IsAtEnd, AppendsPrefix}
 use Rattle.event_reader.specs.declared.fault.ReaderFault.{ReaderFault}
 use Rattle.event_reader.specs.declared.fault.ReaderFault.TheVariants.{ReadFault, TooLong as LongInput, OutOfMemory as NoMemory}
 use Rattle.event_reader.specs.declared.answers.Next.{Next}
@@ -25,18 +27,20 @@ use Rattle.event_reader.specs.Steps.{Meaning}
 use Rattle.event_reader.specs.Reader.{ReaderView, new_reader, accepted_by, Takes, AnswersNext, ShowsNext, ShowsBatch}
 use Rattle.morph_cli.specs.declared.tally.Tally.{Tally}
 use Rattle.morph_cli.specs.declared.fault.Fault.{Fault}
-use Rattle.morph_cli.specs.declared.fault.Fault.TheVariants.{Write}
+use Rattle.morph_cli.specs.declared.fault.Fault.TheVariants.{Write, OutOfMemory as RunMemory}
 use Rattle.morph_cli.specs.declared.report.Report.{Report}
 use Rattle.morph_cli.specs.declared.report.Report.TheVariants.{Whole, Summary}
 use Rattle.morph_cli.specs.declared.run.Finish.{Finish}
 use Rattle.morph_cli.specs.Faults.{fault_of}
-use Rattle.morph_cli.specs.Text.{Telling, event_line, told_lines, told_outcomes}
-use Rattle.morph_cli.specs.Runs.{EndsSo}
-use Rattle.morph_cli.specs.Tallies.{IsMadeOf, no_tally}
-use Rattle.morph_cli.proofs.Tallying.{Adds}
+use Rattle.morph_cli.specs.Text.{event_line, told_lines, told_outcomes}
+use Rattle.morph_cli.specs.Tallies.{Adds, IsMadeOf, no_tally}
 use Rattle.morph_cli.specs.Notes.{noted, batch_note}
-use Rattle.morph_cli.proofs.Noting.{IsNoted, noted_nothing, noted_more, number_is}
-use Rattle.morph_cli.proofs.Ending.{Goes, goes_start, goes_batch, ends_read, ends_long, ends_memory, ends_batch_cut}
+use Rattle.morph_cli.specs.Outputs.{Outputs, with_both, IsCutIn}
+use Rattle.morph_cli.specs.Status.{status_of}
+use Rattle.morph_cli.specs.Apps.{telling_by}
+use Rattle.morph_cli.specs.declared.settings.Settings.{Settings}
+use Rattle.morph_cli.proofs.Turns.{cut_text, cut_as}
+use Rattle.morph_cli.proofs.Ending.{Course, Goes, Ends, IsTold, meaning_in, goes_start, goes_batch, ends_read, ends_long, ends_memory, ends_batch_cut, told_short, told_in_batch}
 
 -- an error of which the value is told
 pub error_is : {T E : Type 0} (r : Result T E) (e : E) → IsErrAnd r (λ y. y ≡ e) → r ≡ Err e
@@ -78,34 +82,58 @@ outcomes-length s batch os told =
     let events : length es ≡ length batch.events.items = simp length-map in
     sym outcomes ∙ ap length told ∙ fates-length s (by_time es) ∙ length_permutation es (by_time es) (by_time-permutes es) ∙ events
 
-module _ {App : Type 0} (event_of : App → ℕ → Meaning) (tables : ℕ) (app : App) (size limit : ℕ) (telling : Telling) where
-  pub record Between (told left old new : Option (List ℕ)) (r : ReaderView App) (values : Kept) (tally : Tally) (out : List ℕ) : Type 0 where
-    pub goes : Goes event_of app size limit telling told left old new r (contents values) tally
-    pub layout : values.layout ≡ record { tables = tables; size = size }
-    pub app_is : r.app ≡ app
-    pub size_is : r.size ≡ size
-    pub limit_is : r.lines.limit ≡ limit
-    pub number : r.lines.number ≤ limit + 1
+some_fates : (s : State) (batch : TheBatch) (os : List Outcome) → map fate_of os ≡ fates s (by_time (transactions_of batch)) → 0 < length batch.events.items → 0 < length (map fate_of os)
+some_fates s batch os told some =
+    let many = outcomes-length s batch os told in let all : length (map fate_of os) ≡ length os = simp length-map in omega (arith, many, all, some)
+
+-- what was evaluated and rolled back is what the plan asks for
+as_planned : (t t' : Tally) (p : Plan) (evaluated rolled : ℕ) (fs : List Fate) → Adds t t' p evaluated rolled fs → evaluated ≡ op_count p + rolled → rolled ≡ stale_count p →
+    Adds t t' p (op_count p + stale_count p) (stale_count p) fs
+as_planned t t' p evaluated rolled fs adds once stale =
+    subst (λ n. Adds t t' p (op_count p + n) n fs) stale (subst (λ n. Adds t t' p n rolled fs) once adds)
+
+-- what is given of a run by its settings, where at most `limit` bytes of the input are read
+abbrev pub course_of : {App : Type 0} → (App → ℕ → Meaning) → (tables : ℕ) → (name : ℕ → List ℕ) → App → Settings → (limit : ℕ) → (input : Option (List ℕ)) → Outputs → Course App
+course_of event_of tables name app s limit input old = record {
+  event_of = event_of;
+  app = app;
+  size = s.size;
+  limit = limit;
+  telling = telling_by s.generated tables s.size name;
+  on = s.notes;
+  workers = s.workers;
+  input = input;
+  old = old;
+}
+
+-- what a fault of the reader is to a run is no failed write
+reads_only : (e : ReaderFault) → fault_of e ≡ Write → ⊥
+reads_only ReadFault is = absurd (cc)
+reads_only LongInput is = absurd (cc)
+reads_only NoMemory is = absurd (cc)
+
+module _ {App : Type 0} where
+  pub record Between (c : Course App) (left : Option (List ℕ)) (new : Outputs) (r : ReaderView App) (values : Kept) (tally : Tally) (out : List ℕ) : Type 0 where
+    pub goes : Goes c left new r (contents values) tally
+    pub layout : values.layout ≡ c.telling.layout
+    pub app_is : r.app ≡ c.app
+    pub size_is : r.size ≡ c.size
+    pub limit_is : r.lines.limit ≡ c.limit
+    pub number : r.lines.number ≤ c.limit + 1
     pub live : IsTrue r.live
     pub at_end : IsTrue r.lines.ended → IsAtEnd left
     pub kept : out ≡ []
     pub counted : tally.committed + tally.aborted ≤ r.lines.number
 
-  -- and what was written to the notes
-  pub record BetweenNoted (told left old new : Option (List ℕ)) (r : ReaderView App) (values : Kept) (tally : Tally) (out : List ℕ) (on : Bool) (before now : Option (List ℕ)) : Type 0 where
-    pub between : Between told left old new r values tally out
-    pub noted : IsNoted on between.goes.plans before now
+  abbrev NewFacts : Course App → ReaderView App → Type 0
+  NewFacts c r = (r.app ≡ c.app) × (r.size ≡ c.size) × (r.lines.limit ≡ c.limit) × (r.lines.number ≡ 0) × IsTrue r.live × (r.lines.ended ≡ false)
 
-  abbrev NewFacts : ReaderView App → Type 0
-  NewFacts r = (r.app ≡ app) × (r.size ≡ size) × (r.lines.limit ≡ limit) × (r.lines.number ≡ 0) × IsTrue r.live × (r.lines.ended ≡ false)
-
-  pub between_start : (told old : Option (List ℕ)) (r : ReaderView App) (values : Kept) (tally : Tally) (out : List ℕ) (layout : Layout) → r ≡ new_reader app size limit →
-      values.layout ≡ layout → layout ≡ record { tables = tables; size = size } → contents values ≡ opening_state → out ≡ [] → tally ≡ no_tally →
-      Between told told old old r values tally out
-  between_start told old r values tally out layout new layout_is tables_are opening empty none =
-      let facts : NewFacts r = subst NewFacts (sym new) (refl, refl, refl, refl, refl, refl) in
+  pub between_start : (c : Course App) (r : ReaderView App) (values : Kept) (tally : Tally) (out : List ℕ) (layout : Layout) → r ≡ new_reader c.app c.size c.limit →
+      values.layout ≡ layout → layout ≡ c.telling.layout → contents values ≡ opening_state → out ≡ [] → tally ≡ no_tally → Between c c.input c.old r values tally out
+  between_start c r values tally out layout new layout_is tables_are opening empty none =
+      let facts : NewFacts c r = subst (NewFacts c) (sym new) (refl, refl, refl, refl, refl, refl) in
       record {
-        goes = goes_start event_of app size limit telling told old r (contents values) tally new opening none;
+        goes = goes_start c r (contents values) tally new opening none;
         layout = layout_is ∙ tables_are;
         app_is = facts.0;
         size_is = facts.1;
@@ -118,9 +146,9 @@ module _ {App : Type 0} (event_of : App → ℕ → Meaning) (tables : ℕ) (app
       }
 
   -- the numbers of the tally are far below what they can hold
-  pub tally_few : (told left old new : Option (List ℕ)) (r : ReaderView App) (values : Kept) (tally : Tally) (out : List ℕ) → Between told left old new r values tally out →
-      (tally.batches ≤ limit + 1) × (tally.events ≤ limit + 1) × (tally.ops ≤ 40960 * (limit + 1)) × (tally.rolled ≤ 40960 * (limit + 1)) × (tally.evaluated ≤ 81920 * (limit + 1))
-  tally_few told left old new r values tally out b =
+  pub tally_few : {c : Course App} {left : Option (List ℕ)} {new : Outputs} {r : ReaderView App} {values : Kept} {tally : Tally} {out : List ℕ} → Between c left new r values tally out →
+      (tally.batches ≤ c.limit + 1) × (tally.events ≤ c.limit + 1) × (tally.ops ≤ 40960 * (c.limit + 1)) × (tally.rolled ≤ 40960 * (c.limit + 1)) × (tally.evaluated ≤ 81920 * (c.limit + 1))
+  tally_few {c} {left} {new} {r} {values} {tally} {out} b =
       let t = b.goes.tallied in
       let events = t.counts.events in
       let evaluated = t.counts.evaluated in
@@ -136,27 +164,26 @@ module _ {App : Type 0} (event_of : App → ℕ → Meaning) (tables : ℕ) (app
         omega (arith, events, batches, ops, rolled, evaluated, counted, number),
       )
 
-  meaning_is : (r : ReaderView App) → r.app ≡ app → r.size ≡ size → event_of r.app r.size ≡ event_of app size
-  meaning_is r app_is size_is = ap (λ a. event_of a r.size) app_is ∙ ap (event_of app) size_is
+  meaning_is : (c : Course App) (r : ReaderView App) → r.app ≡ c.app → r.size ≡ c.size → c.event_of r.app r.size ≡ meaning_in c
+  meaning_is c r app_is size_is = ap (λ a. c.event_of a r.size) app_is ∙ ap (c.event_of c.app) size_is
 
-  pub between_batch : (told left left' old new newer : Option (List ℕ)) (r r' : ReaderView App) (values values' : Kept) (tally tally' : Tally) (out out' : List ℕ)
-      (batch : TheBatch) (outcomes : List Outcome) (p : Plan) → Between told left old new r values tally out →
-      AnswersNext (accepted_by event_of r left) (Ok (Batch batch)) (accepted_by event_of r' left') →
-      Takes left left' (ShowsNext event_of r (Ok (Batch batch)) r') →
+  pub between_batch : {c : Course App} {left left' : Option (List ℕ)} {new newer : Outputs} {r r' : ReaderView App} {values values' : Kept} {tally tally' : Tally} {out out' : List ℕ}
+      (batch : TheBatch) (outcomes : List Outcome) (p : Plan) (evaluated rolled : ℕ) → Between c left new r values tally out →
+      AnswersNext (accepted_by c.event_of r left) (Ok (Batch batch)) (accepted_by c.event_of r' left') →
+      Takes left left' (ShowsNext c.event_of r (Ok (Batch batch)) r') →
       0 < length batch.events.items → r.lines.number + length batch.events.items ≤ r'.lines.number → r'.lines.number ≤ r'.lines.limit + 1 →
       (r'.app ≡ r.app) × (r'.size ≡ r.size) × (r'.lines.limit ≡ r.lines.limit) → (IsTrue r'.lines.ended → IsAtEnd left') →
       (r'.lines.ended ≡ false → r.lines.ended ≡ false) → r'.live ≡ true → values'.layout ≡ values.layout →
       contents values' ≡ fold_batch batch (contents values) → map fate_of outcomes ≡ fates (contents values) (by_time (transactions_of batch)) →
-      newer ≡ behind new (told_outcomes telling.report outcomes) → out' ≡ [] →
-      Adds tally tally' p (map fate_of outcomes) (length outcomes) → IsMadeOf (contents values) (transactions_of batch) p →
-      Between told left' old newer r' values' tally' out'
-  between_batch told left left' old new newer r r' values values' tally tally' out out' batch outcomes p b answers shows some counted bound same at_end unended live layout_is
-      state fates_are written empty adds made = record {
-        goes = goes_batch event_of app size limit telling told left left' old new newer r r' (contents values) (contents values') tally tally'
-            batch (map fate_of outcomes) p (length outcomes) b.goes (simp length-map some) answers unended
-            (subst (λ m. Takes left left' (ShowsBatch m r.closed r.lines (Ok (Batch batch)) r'.closed r'.lines)) (meaning_is r b.app_is b.size_is) shows) state fates_are
-            (written ∙ ap (behind new) (told_outcomes-fates telling.report outcomes)) adds made
-            (let n = outcomes-length (contents values) batch outcomes fates_are in omega (arith, n, some));
+      newer ≡ with_both new (told_outcomes c.telling.report outcomes) (noted c.on (batch_note tally'.batches p)) → out' ≡ [] →
+      Adds tally tally' p evaluated rolled (map fate_of outcomes) → evaluated ≡ op_count p + rolled → rolled ≡ stale_count p → IsMadeOf (contents values) (transactions_of batch) p →
+      Between c left' newer r' values' tally' out'
+  between_batch {c} {left} {left'} {new} {newer} {r} {r'} {values} {values'} {tally} {tally'} {out} {out'} batch outcomes p evaluated rolled b answers shows some counted bound same at_end unended live layout_is
+      state fates_are written empty adds once stale made = record {
+        goes = goes_batch c left left' new newer r r' (contents values) (contents values') tally tally' batch (map fate_of outcomes) p b.goes (simp length-map some) answers unended
+            (subst (λ m. Takes left left' (ShowsBatch m r.closed r.lines (Ok (Batch batch)) r'.closed r'.lines)) (meaning_is c r b.app_is b.size_is) shows) state fates_are
+            (written ∙ ap (λ l. with_both new l (noted c.on (batch_note tally'.batches p))) (told_outcomes-fates c.telling.report outcomes))
+            (as_planned tally tally' p evaluated rolled (map fate_of outcomes) adds once stale) made (some_fates (contents values) batch outcomes fates_are some);
         layout = layout_is ∙ b.layout;
         app_is = same.0 ∙ b.app_is;
         size_is = same.1 ∙ b.size_is;
@@ -165,62 +192,52 @@ module _ {App : Type 0} (event_of : App → ℕ → Meaning) (tables : ℕ) (app
         live = live;
         at_end = at_end;
         kept = empty;
-        counted = let n = outcomes-length (contents values) batch outcomes fates_are in let before = b.counted in let all = adds.all in omega (arith, n, before, all, counted);
+        counted = let n = outcomes-length (contents values) batch outcomes fates_are in let before = b.counted in let all = adds.both in let fates : length (map fate_of outcomes) ≡ length outcomes = simp length-map in omega (arith, n, before, all, fates, counted);
       }
 
-  -- the same with what was written to the notes
-  pub noted_start : (told old : Option (List ℕ)) (r : ReaderView App) (values : Kept) (tally : Tally) (out : List ℕ) (layout : Layout) (on : Bool) (before : Option (List ℕ)) → r ≡ new_reader app size limit →
-      values.layout ≡ layout → layout ≡ record { tables = tables; size = size } → contents values ≡ opening_state → out ≡ [] → tally ≡ no_tally →
-      BetweenNoted told told old old r values tally out on before before
-  unfolding goes_start between_start
-  noted_start told old r values tally out layout on before new layout_is tables_are opening empty none = record {
-    between = between_start told old r values tally out layout new layout_is tables_are opening empty none;
-    noted = noted_nothing on before;
-  }
+  -- memory was refused before the first batch
+  pub ends_at_once : {x : Result Finish Fault} (c : Course App) (left' : Option (List ℕ)) (tally : Tally) → x ≡ Err RunMemory → tally ≡ no_tally → Ends c left' x c.old
+  ends_at_once c left' tally failed none = ends_memory left' failed (goes_start c (new_reader c.app c.size c.limit) opening_state tally refl refl none)
 
-  pub noted_batch : (told left left' old new newer : Option (List ℕ)) (r r' : ReaderView App) (values values' : Kept) (tally tally' : Tally) (out out' : List ℕ)
-      (batch : TheBatch) (outcomes : List Outcome) (p : Plan) (on : Bool) (before now after : Option (List ℕ)) → BetweenNoted told left old new r values tally out on before now →
-      AnswersNext (accepted_by event_of r left) (Ok (Batch batch)) (accepted_by event_of r' left') →
-      Takes left left' (ShowsNext event_of r (Ok (Batch batch)) r') →
-      0 < length batch.events.items → r.lines.number + length batch.events.items ≤ r'.lines.number → r'.lines.number ≤ r'.lines.limit + 1 →
-      (r'.app ≡ r.app) × (r'.size ≡ r.size) × (r'.lines.limit ≡ r.lines.limit) → (IsTrue r'.lines.ended → IsAtEnd left') →
-      (r'.lines.ended ≡ false → r.lines.ended ≡ false) → r'.live ≡ true → values'.layout ≡ values.layout →
-      contents values' ≡ fold_batch batch (contents values) → map fate_of outcomes ≡ fates (contents values) (by_time (transactions_of batch)) →
-      newer ≡ behind new (told_outcomes telling.report outcomes) → out' ≡ [] →
-      Adds tally tally' p (map fate_of outcomes) (length outcomes) → IsMadeOf (contents values) (transactions_of batch) p →
-      after ≡ behind now (noted on (batch_note tally'.batches p)) → BetweenNoted told left' old newer r' values' tally' out' on before after
-  unfolding goes_batch between_batch
-  noted_batch told left left' old new newer r r' values values' tally tally' out out' batch outcomes p on before now after b answers shows some counted bound same at_end unended live layout_is state fates_are written empty adds made note = record {
-    between = between_batch told left left' old new newer r r' values values' tally tally' out out' batch outcomes p b.between answers shows some counted bound same at_end unended live layout_is state fates_are written empty adds made;
-    noted = noted_more on b.between.goes.plans p tally'.batches before now after
-        (number_is b.between.goes.done b.between.goes.plans tally tally'.batches b.between.goes.tallied adds.batches) b.noted note;
-  }
+  pub told_at_once : {x : Result Finish Fault} (c : Course App) (tally : Tally) → x ≡ Err RunMemory → tally ≡ no_tally → IsTold c (status_of x) tally c.old
+  told_at_once c tally failed none = told_short RunMemory failed (λ is. absurd (cc)) (goes_start c (new_reader c.app c.size c.limit) opening_state tally refl refl none)
 
   -- the reader failed
-  pub ends_fault : (told left left' old new : Option (List ℕ)) (r r' : ReaderView App) (values : Kept) (tally : Tally) (out : List ℕ)
-      (e : ReaderFault) → Between told left old new r values tally out → AnswersNext (accepted_by event_of r left) (Err e) (accepted_by event_of r' left') →
-      Takes left left' (ShowsNext event_of r (Err e) r') → (IsErrOf {T = Next} (Err e) ReadFault → r.lines.ended ≡ false) →
-      IfSome told (λ input. EndsSo (event_of app size) telling limit input left' old (Err (fault_of e)) new)
-  ends_fault told left left' old new r r' values tally out ReadFault b answers shows asked =
-      ends_read event_of app size limit telling told left left' old new r (contents values) tally b.goes (asked refl)
-      (subst (λ m. Takes left left' (ShowsBatch m r.closed r.lines (Err ReadFault) r'.closed r'.lines)) (meaning_is r b.app_is b.size_is) shows)
-  ends_fault told left left' old new r r' values tally out LongInput b answers shows asked =
-      ends_long event_of app size limit telling told left left' old new r (contents values) tally b.goes answers
-  ends_fault told left left' old new r r' values tally out NoMemory b answers shows asked =
-      ends_memory event_of app size limit telling told left left' old new r (contents values) tally b.goes
+  pub ends_fault : {c : Course App} {left : Option (List ℕ)} {new : Outputs} {r : ReaderView App} {values : Kept} {tally : Tally} {out : List ℕ} {x : Result Finish Fault}
+      (left' : Option (List ℕ)) (r' : ReaderView App) (e : ReaderFault) → x ≡ Err (fault_of e) → Between c left new r values tally out →
+      AnswersNext (accepted_by c.event_of r left) (Err e) (accepted_by c.event_of r' left') →
+      Takes left left' (ShowsNext c.event_of r (Err e) r') → (IsErrOf {T = Next} (Err e) ReadFault → r.lines.ended ≡ false) → Ends c left' x new
+  ends_fault {c} {left} {new} {r} {values} {tally} {out} {x} left' r' e failed b answers shows asked = subst (λ y. Ends c left' y new) (sym failed) (by_fault e answers shows asked)
+    where
+      by_fault : (e : ReaderFault) → AnswersNext (accepted_by c.event_of r left) (Err e) (accepted_by c.event_of r' left') →
+          Takes left left' (ShowsNext c.event_of r (Err e) r') → (IsErrOf {T = Next} (Err e) ReadFault → r.lines.ended ≡ false) → Ends c left' (Err (fault_of e)) new
+      by_fault ReadFault answers shows asked =
+          ends_read c left left' new r (contents values) tally b.goes (asked refl)
+          (subst (λ m. Takes left left' (ShowsBatch m r.closed r.lines (Err ReadFault) r'.closed r'.lines)) (meaning_is c r b.app_is b.size_is) shows)
+      by_fault LongInput answers shows asked = ends_long c left left' new r (contents values) tally b.goes answers
+      by_fault NoMemory answers shows asked = ends_memory left' refl b.goes
+
+  pub told_fault : {c : Course App} {left : Option (List ℕ)} {new : Outputs} {r : ReaderView App} {values : Kept} {tally : Tally} {out : List ℕ} {x : Result Finish Fault}
+      (e : ReaderFault) → x ≡ Err (fault_of e) → Between c left new r values tally out → IsTold c (status_of x) tally new
+  told_fault e failed b = told_short (fault_of e) failed (reads_only e) b.goes
 
   -- writing failed in a batch
-  pub ends_in_batch : (told left left' old new newer : Option (List ℕ)) (r r' : ReaderView App) (values : Kept) (tally : Tally) (out : List ℕ)
-      (batch : TheBatch) (outcomes : List Outcome) → Between told left old new r values tally out →
-      AnswersNext (accepted_by event_of r left) (Ok (Batch batch)) (accepted_by event_of r' left') → 0 < length batch.events.items →
-      map fate_of outcomes ≡ fates (contents values) (by_time (transactions_of batch)) → AppendsPrefix new (told_outcomes telling.report outcomes) newer →
-      IfSome told (λ input. EndsSo (event_of app size) telling limit input left' old (Err Write) newer)
-  ends_in_batch told left left' old new newer r r' values tally out batch outcomes b answers some fates_are cut =
-      ends_batch_cut event_of app size limit telling told left left' left' old new newer r r' (contents values) tally (transactions_of batch) (map fate_of outcomes)
-      b.goes (simp length-map some) answers fates_are (subst (λ l. AppendsPrefix new l newer) (told_outcomes-fates telling.report outcomes) cut)
+  pub ends_in_batch : {c : Course App} {left : Option (List ℕ)} {new : Outputs} {r : ReaderView App} {values : Kept} {tally : Tally} {out : List ℕ} {x : Result Finish Fault}
+      (left' : Option (List ℕ)) (newer : Outputs) (r' : ReaderView App) (batch : TheBatch) (outcomes : List Outcome) (note : List ℕ) → x ≡ Err Write → Between c left new r values tally out →
+      AnswersNext (accepted_by c.event_of r left) (Ok (Batch batch)) (accepted_by c.event_of r' left') → 0 < length batch.events.items →
+      map fate_of outcomes ≡ fates (contents values) (by_time (transactions_of batch)) → IsCutIn new (told_outcomes c.telling.report outcomes) note newer → Ends c left' x newer
+  ends_in_batch {c} {left} {new} {r} {values} {tally} {out} {x} left' newer r' batch outcomes note failed b answers some fates_are cut =
+      ends_batch_cut left' left' newer r' (transactions_of batch) (map fate_of outcomes) failed b.goes (simp length-map some) answers fates_are
+      (subst (λ l. AppendsPrefix new.sink l newer.sink) (told_outcomes-fates c.telling.report outcomes) (cut_text new (told_outcomes c.telling.report outcomes) note newer cut))
 
-  -- the answer in place of what it is
-  pub as_answered : (told left old new : Option (List ℕ)) (r s : Result Finish Fault) → r ≡ s →
-      IfSome told (λ input. EndsSo (event_of app size) telling limit input left old s new) →
-      IfSome told (λ input. EndsSo (event_of app size) telling limit input left old r new)
-  as_answered told left old new r s e = subst (λ a. IfSome told (λ input. EndsSo (event_of app size) telling limit input left old a new)) (sym e)
+  pub told_cut_in_batch : {c : Course App} {left : Option (List ℕ)} {new : Outputs} {r : ReaderView App} {values : Kept} {tally tally' : Tally} {out : List ℕ} {x : Result Finish Fault}
+      (left' : Option (List ℕ)) (newer : Outputs) (r' : ReaderView App) (batch : TheBatch) (outcomes : List Outcome) (p : Plan) (evaluated rolled : ℕ) → x ≡ Err Write → Between c left new r values tally out →
+      AnswersNext (accepted_by c.event_of r left) (Ok (Batch batch)) (accepted_by c.event_of r' left') → 0 < length batch.events.items →
+      map fate_of outcomes ≡ fates (contents values) (by_time (transactions_of batch)) →
+      Adds tally tally' p evaluated rolled (map fate_of outcomes) → evaluated ≡ op_count p + rolled → rolled ≡ stale_count p → IsMadeOf (contents values) (transactions_of batch) p →
+      IsCutIn new (told_outcomes c.telling.report outcomes) (noted c.on (batch_note tally'.batches p)) newer → IsTold c (status_of x) tally' newer
+  told_cut_in_batch {c} {left} {new} {r} {values} {tally} {tally'} {out} {x} left' newer r' batch outcomes p evaluated rolled failed b answers some fates_are adds once stale made cut =
+      told_in_batch left' newer r' (transactions_of batch) failed b.goes answers (simp length-map some) fates_are
+      (as_planned tally tally' p evaluated rolled (map fate_of outcomes) adds once stale) made (some_fates (contents values) batch outcomes fates_are some)
+      (cut_as new new (told_outcomes c.telling.report outcomes) (told_lines c.telling.report (map fate_of outcomes)) (noted c.on (batch_note tally'.batches p)) (noted c.on (batch_note tally'.batches p)) newer
+      refl (told_outcomes-fates c.telling.report outcomes) refl cut)

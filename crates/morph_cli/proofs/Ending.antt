@@ -1,212 +1,374 @@
 -- How a run ends, by the answer that ends it.
-use Rattle.std.proofs.Common.{◌≡◌, ◌⊎◌, ℕ, Bool, ◌+◌, ◌-◌, ◌<◌, false, List, [], ◌∷◌, ◌++◌, length, Option, Some, None, Ok, Err, refl, ap, sym, subst, ◌∙◌, arith}
+use Rattle.std.proofs.Common.{◌≡◌, ◌⊎◌, inl, inr, ℕ, Bool, ◌+◌, ◌-◌, ◌<◌, false, List, [], ◌∷◌, ◌++◌, length, Option, Some, None, Result, Ok, Err, refl, ap, sym, subst, ◌∙◌, arith}
 use Rattle.std.specs.Prelude.{option_map, IfSome}
 use Rattle.morph_base.specs.declared.event.Batch.{Batch as TheBatch}
 use Rattle.morph_base.specs.declared.plan.Plan.{Plan}
 use Rattle.morph_base.specs.Transactions.{Transaction, transactions_of, by_time}
 use Rattle.morph_base.specs.States.{State, opening_state, after_all}
+use Rattle.morph_base.specs.Guesses.{stale_count}
 use Rattle.morph_base.specs.Outcomes.{Fate, fates}
-use Rattle.morph_io.specs.Told.{ahead, behind, behind_nil, AppendsPrefix}
+use Rattle.morph_base.specs.Plans.{op_count}
+use Rattle.morph_io.specs.Told.{ahead, behind, AppendsPrefix}
 use Rattle.event_reader.specs.declared.cause.Cause.{Cause}
 use Rattle.event_reader.specs.Steps.{Meaning}
-use Rattle.event_reader.specs.Lines.{within}
+use Rattle.event_reader.specs.Lines.{front, within}
 use Rattle.event_reader.specs.Accepted.{Accepted, Ending, Ended, RefusedAt, CutOff, with_batch, accepted_within}
 use Rattle.event_reader.specs.declared.answers.Next.TheVariants.{Batch}
 use Rattle.event_reader.specs.Reader.{ReaderView, new_reader, accepted_by, accepted_after, accepted_next, Takes, ShowsBatch}
-use Rattle.event_reader.specs.Lines.{front}
 use Rattle.morph_cli.specs.declared.tally.Tally.{Tally}
+use Rattle.morph_cli.specs.declared.fault.Fault.{Fault}
 use Rattle.morph_cli.specs.declared.fault.Fault.TheVariants.{Read, Write, OutOfMemory, TooLong}
+use Rattle.morph_cli.specs.declared.run.Finish.{Finish}
 use Rattle.morph_cli.specs.declared.run.Finish.TheVariants.{Complete, Refused}
-use Rattle.morph_cli.specs.Text.{Telling, event_lines, told_lines, told_values, counts_line, refused_text}
+use Rattle.morph_cli.specs.Notes.{noted, batch_note, batch_notes, closing_notes}
+use Rattle.morph_cli.specs.Outputs.{Outputs, with_both, with_batches, IsCutIn, IsAtLast}
 use Rattle.morph_cli.specs.Runs.{EndsSo}
-use Rattle.morph_cli.proofs.Running.{RunsOn, nothing_told, runs_start, runs_batch, runs_ended, runs_done, runs_cut, runs_short, runs_cut_in_batch, whole_more, whole_nil, told_more}
-use Rattle.morph_cli.specs.Tallies.{IsMadeOf, RunTold, no_tally}
-use Rattle.morph_cli.proofs.Tallying.{Tallied, Adds, tallied_start, tallied_more, told_cut, told_whole}
-use Rattle.morph_cli.specs.Notes.{AppendsNotes}
-use Rattle.morph_cli.proofs.Noting.{noted_nothing, notes_cut}
+use Rattle.morph_cli.specs.Status.{status_of}
+use Rattle.morph_cli.specs.Tallies.{Adds, IsMadeOf, RunTold, no_tally}
+use Rattle.morph_cli.specs.Text.{Telling, event_lines, told_lines, run_state, end_text}
+use Rattle.morph_cli.proofs.Noting.{IsNoted, noted_nothing, noted_more, number_is}
+use Rattle.morph_cli.proofs.Running.{RunsOn, IsLast, fronts, runs_start, runs_batch, runs_ended, runs_done, runs_cut, runs_short, runs_cut_in_batch, whole_more, told_more, last_is}
 use Rattle.morph_cli.proofs.Taking.{TakesOn, takes_start, takes_batch, takes_failed}
+use Rattle.morph_cli.proofs.Tallying.{Tallied, tallied_start, tallied_more}
+use Rattle.morph_cli.proofs.Turns.{both_is, both_as, cut_as}
 
--- what a new reader has to give
-given_at_start : {App : Type 0} (event_of : App → ℕ → Meaning) (app : App) (size limit : ℕ) (input : List ℕ) →
-    accepted_by event_of (new_reader app size limit) (Some input) ≡ Some (accepted_within (event_of app size) limit input)
-unfolding ahead
-given_at_start event_of app size limit input =
-    ap (λ n. Some (accepted_after event_of (new_reader app size limit) (within n input))) {x = 0 + (limit - 0)} {y = limit} (omega arith)
+-- what is given of a run: what the application's lines say, how many ids each of its tables has, how many bytes of the input are read, how the run is
+-- told, whether the notes are on, how many workers there are, the input, and what stood in the outputs before
+pub record Course (App : Type 0) : Type 0 where
+  pub event_of : App → ℕ → Meaning
+  pub app : App
+  pub size : ℕ
+  pub limit : ℕ
+  pub telling : Telling
+  pub on : Bool
+  pub workers : ℕ
+  pub input : Option (List ℕ)
+  pub old : Outputs
 
--- between two batches of a run: some batches were done
-pub record Goes {App : Type 0} (event_of : App → ℕ → Meaning) (app : App) (size limit : ℕ) (telling : Telling) (told left old new : Option (List ℕ)) (r : ReaderView App) (s : State)
-    (tally : Tally) : Type 0 where
-  pub done : List (List Transaction)
-  pub plans : List Plan
-  pub tallied : Tallied done plans tally
-  pub runs : RunsOn telling (accepted_by event_of (new_reader app size limit) told) (accepted_by event_of r left) old new s tally done
-  pub takes : TakesOn (event_of app size) told left r.closed r.lines done
+-- a status of a run that was cut off
+by_fault : (e : Fault) → (status_of (Err e) ≡ 0) ⊎ (status_of (Err e) ≡ 3) → ⊥
+by_fault Read (inl is) = absurd (omega (arith, is))
+by_fault Read (inr is) = absurd (omega (arith, is))
+by_fault Write (inl is) = absurd (omega (arith, is))
+by_fault Write (inr is) = absurd (omega (arith, is))
+by_fault OutOfMemory (inl is) = absurd (omega (arith, is))
+by_fault OutOfMemory (inr is) = absurd (omega (arith, is))
+by_fault TooLong (inl is) = absurd (omega (arith, is))
+by_fault TooLong (inr is) = absurd (omega (arith, is))
 
-module _ {App : Type 0} (event_of : App → ℕ → Meaning) (app : App) (size limit : ℕ) (telling : Telling) where
+by_write : (e : Fault) → status_of (Err e) ≡ 5 → e ≡ Write
+by_write Read is = absurd (omega (arith, is))
+by_write Write is = refl
+by_write OutOfMemory is = absurd (omega (arith, is))
+by_write TooLong is = absurd (omega (arith, is))
+
+write_not_short : (status : ℕ) → status ≡ 5 → (status ≡ 4) ⊎ (status ≡ 6) ⊎ (status ≡ 7) → ⊥
+write_not_short status a (inl b) = absurd (omega (arith, a, b))
+write_not_short status a (inr (inl b)) = absurd (omega (arith, a, b))
+write_not_short status a (inr (inr b)) = absurd (omega (arith, a, b))
+
+whole_not_short : (status : ℕ) → (status ≡ 0) ⊎ (status ≡ 3) → (status ≡ 4) ⊎ (status ≡ 6) ⊎ (status ≡ 7) → ⊥
+whole_not_short status (inl a) (inl b) = absurd (omega (arith, a, b))
+whole_not_short status (inl a) (inr (inl b)) = absurd (omega (arith, a, b))
+whole_not_short status (inl a) (inr (inr b)) = absurd (omega (arith, a, b))
+whole_not_short status (inr a) (inl b) = absurd (omega (arith, a, b))
+whole_not_short status (inr a) (inr (inl b)) = absurd (omega (arith, a, b))
+whole_not_short status (inr a) (inr (inr b)) = absurd (omega (arith, a, b))
+
+whole_not_write : (status : ℕ) → (status ≡ 0) ⊎ (status ≡ 3) → status ≡ 5 → ⊥
+whole_not_write status (inl a) b = absurd (omega (arith, a, b))
+whole_not_write status (inr a) b = absurd (omega (arith, a, b))
+
+-- the batches that are still to come
+abbrev still : Option Accepted → List (List Transaction)
+still None = []
+still (Some rest) = rest.batches
+
+parts_are : (all now : Option Accepted) (done : List (List Transaction)) → all ≡ option_map (fronts done) now → IfSome all (λ a. a.batches ≡ done ++ still now)
+parts_are None None done is = tt
+parts_are None (Some rest) done is = tt
+parts_are (Some a) None done is = absurd (cc)
+parts_are (Some a) (Some rest) done is = cc
+
+-- at the end no batch is left
+abbrev pub IsOver : Ending → Accepted → Type 0
+IsOver ending rest = rest ≡ record { batches = []; ending = ending }
+
+last_parts : (all now : Option Accepted) (done : List (List Transaction)) (ending : Ending) → all ≡ option_map (fronts done) now → IfSome now (IsOver ending) →
+    IfSome all (λ a. a.batches ≡ done ++ [])
+last_parts None now done ending is over = tt
+last_parts (Some a) None done ending is over = absurd (cc)
+last_parts (Some a) (Some rest) done ending is over =
+    let before : a.batches ≡ done ++ rest.batches = cc in before ∙ ap (λ (r : Accepted). done ++ r.batches) over
+
+last_ending : (all now : Option Accepted) (done : List (List Transaction)) (ending : Ending) → all ≡ option_map (fronts done) now → IfSome now (IsOver ending) →
+    IfSome all (λ a. a.ending ≡ ending)
+last_ending None now done ending is over = tt
+last_ending (Some a) None done ending is over = absurd (cc)
+last_ending (Some a) (Some rest) done ending is over =
+    let before : a.ending ≡ rest.ending = cc in before ∙ ap (λ (r : Accepted). r.ending) over
+
+module _ {App : Type 0} where
+  abbrev pub meaning_in : Course App → Meaning
+  meaning_in c = c.event_of c.app c.size
+
+  abbrev pub accepted_in : Course App → Option Accepted
+  accepted_in c = option_map (accepted_within (meaning_in c) c.limit) c.input
+
+  -- how the run ends, and what is told of it
+  abbrev pub Ends : Course App → (left : Option (List ℕ)) → Result Finish Fault → Outputs → Type 0
+  Ends c left x new = IfSome c.input (λ input. EndsSo (meaning_in c) c.telling c.limit input left c.old.sink x new.sink)
+
+  abbrev pub IsTold : Course App → (status : ℕ) → Tally → Outputs → Type 0
+  IsTold c status t new = RunTold c.telling (accepted_in c) c.on c.workers status t c.old new
+
+  -- between two batches of a run: some batches were done
+  pub record Goes (c : Course App) (left : Option (List ℕ)) (new : Outputs) (r : ReaderView App) (s : State) (tally : Tally) : Type 0 where
+    pub done : List (List Transaction)
+    pub plans : List Plan
+    pub tallied : Tallied done plans tally
+    pub runs : RunsOn c.telling (accepted_in c) (accepted_by c.event_of r left) c.old.sink new.sink s tally done
+    pub takes : TakesOn (meaning_in c) c.input left r.closed r.lines done
+    pub noted : IsNoted c.on plans c.old.notes new.notes
+
+  -- what a new reader has to give
+  given_at_start : (event_of : App → ℕ → Meaning) (app : App) (size limit : ℕ) (told : Option (List ℕ)) →
+      option_map (accepted_within (event_of app size) limit) told ≡ accepted_by event_of (new_reader app size limit) told
+  unfolding ahead
+  given_at_start event_of app size limit None = refl
+  given_at_start event_of app size limit (Some input) =
+      ap (λ n. Some (accepted_after event_of (new_reader app size limit) (within n input))) {x = limit} {y = 0 + (limit - 0)} (omega arith)
+
   -- nothing was done yet
-  unfoldable pub goes_start : (told old : Option (List ℕ)) (r : ReaderView App) (s : State) (tally : Tally) → r ≡ new_reader app size limit → s ≡ opening_state → tally ≡ no_tally →
-      Goes event_of app size limit telling told told old old r s tally
-  goes_start told old r s tally new opening none = record {
+  pub goes_start : (c : Course App) (r : ReaderView App) (s : State) (tally : Tally) → r ≡ new_reader c.app c.size c.limit → s ≡ opening_state → tally ≡ no_tally →
+      Goes c c.input c.old r s tally
+  goes_start c r s tally new opening none = record {
     done = [];
     plans = [];
     tallied = tallied_start tally none;
-    runs = subst (λ v. RunsOn telling (accepted_by event_of (new_reader app size limit) told) (accepted_by event_of v told) old old s tally []) (sym new)
-        (runs_start telling (accepted_by event_of (new_reader app size limit) told) old s tally opening (ap (λ (t : Tally). t.committed) none) (ap (λ (t : Tally). t.aborted) none));
-    takes = subst (λ v. TakesOn (event_of app size) told told v.closed v.lines []) (sym new) (takes_start (event_of app size) limit told);
+    runs = subst (λ now. RunsOn c.telling (accepted_in c) now c.old.sink c.old.sink s tally [])
+        (given_at_start c.event_of c.app c.size c.limit c.input ∙ ap (λ v. accepted_by c.event_of v c.input) (sym new))
+        (runs_start c.telling (accepted_in c) c.old.sink s tally opening (ap (λ (t : Tally). t.committed) none) (ap (λ (t : Tally). t.aborted) none));
+    takes = subst (λ v. TakesOn (meaning_in c) c.input c.input v.closed v.lines []) (sym new) (takes_start (meaning_in c) c.limit c.input);
+    noted = noted_nothing c.on c.old.notes;
   }
 
   -- a batch was run, and counted
-  pub tallied_batch : (told left old new : Option (List ℕ)) (r : ReaderView App) (s : State) (tally tally' : Tally) (batch : List Transaction) (fates_told : List Fate)
-      (p : Plan) (n : ℕ) → (goes : Goes event_of app size limit telling told left old new r s tally) → fates_told ≡ fates s (by_time batch) →
-      Adds tally tally' p fates_told n → IsMadeOf s batch p → 0 < n → Tallied (goes.done ++ batch ∷ []) (goes.plans ++ p ∷ []) tally'
-  tallied_batch told left old new r s tally tally' batch fates_told p n goes told_is adds made events =
-      tallied_more goes.done goes.plans tally tally' batch p fates_told n goes.tallied adds (subst (λ q. IsMadeOf q batch p) goes.runs.state made)
-      (told_more goes.done batch s fates_told goes.runs.state told_is) events
+  tallied_batch : (c : Course App) (left : Option (List ℕ)) (new : Outputs) (r : ReaderView App) (s : State) (tally tally' : Tally) (batch : List Transaction) (told : List Fate)
+      (p : Plan) → (goes : Goes c left new r s tally) → told ≡ fates s (by_time batch) → Adds tally tally' p (op_count p + stale_count p) (stale_count p) told → IsMadeOf s batch p → 0 < length told →
+      Tallied (goes.done ++ batch ∷ []) (goes.plans ++ p ∷ []) tally'
+  tallied_batch c left new r s tally tally' batch told p goes told_is adds made events =
+      tallied_more goes.done goes.plans tally tally' batch p told goes.tallied adds (subst (λ q. IsMadeOf q batch p) goes.runs.state made)
+      (told_more goes.done batch s told goes.runs.state told_is) events
 
   -- a batch was done
-  unfoldable pub goes_batch : (told left left' old new newer : Option (List ℕ)) (r r' : ReaderView App) (s t : State) (tally tally' : Tally) (batch : TheBatch)
-      (fates_told : List Fate) (p : Plan) (n : ℕ) → Goes event_of app size limit telling told left old new r s tally → 0 < length (transactions_of batch) →
-      accepted_by event_of r left ≡ option_map (with_batch (transactions_of batch)) (accepted_by event_of r' left') → (r'.lines.ended ≡ false → r.lines.ended ≡ false) →
-      Takes left left' (ShowsBatch (event_of app size) r.closed r.lines (Ok (Batch batch)) r'.closed r'.lines) →
-      t ≡ after_all s (by_time (transactions_of batch)) → fates_told ≡ fates s (by_time (transactions_of batch)) → newer ≡ behind new (told_lines telling.report fates_told) →
-      Adds tally tally' p fates_told n → IsMadeOf s (transactions_of batch) p → 0 < n →
-      Goes event_of app size limit telling told left' old newer r' t tally'
-  goes_batch told left left' old new newer r r' s t tally tally' batch fates_told p n goes some was unended took state told_is appended adds made events = record {
+  pub goes_batch : (c : Course App) (left left' : Option (List ℕ)) (new newer : Outputs) (r r' : ReaderView App) (s t : State) (tally tally' : Tally) (batch : TheBatch)
+      (told : List Fate) (p : Plan) → Goes c left new r s tally → 0 < length (transactions_of batch) →
+      accepted_by c.event_of r left ≡ option_map (with_batch (transactions_of batch)) (accepted_by c.event_of r' left') → (r'.lines.ended ≡ false → r.lines.ended ≡ false) →
+      Takes left left' (ShowsBatch (meaning_in c) r.closed r.lines (Ok (Batch batch)) r'.closed r'.lines) →
+      t ≡ after_all s (by_time (transactions_of batch)) → told ≡ fates s (by_time (transactions_of batch)) →
+      newer ≡ with_both new (told_lines c.telling.report told) (noted c.on (batch_note tally'.batches p)) →
+      Adds tally tally' p (op_count p + stale_count p) (stale_count p) told → IsMadeOf s (transactions_of batch) p → 0 < length told → Goes c left' newer r' t tally'
+  goes_batch c left left' new newer r r' s t tally tally' batch told p goes some was unended took state told_is written adds made events = record {
     done = goes.done ++ transactions_of batch ∷ [];
     plans = goes.plans ++ p ∷ [];
-    tallied = tallied_batch told left old new r s tally tally' (transactions_of batch) fates_told p n goes told_is adds made events;
-    runs = runs_batch telling _ _ _ old new newer s t tally tally' goes.done (transactions_of batch) fates_told goes.runs was some state told_is appended adds.committed adds.aborted;
-    takes = takes_batch (event_of app size) told left left' r.closed r'.closed r.lines r'.lines goes.done batch goes.takes some unended took;
+    tallied = tallied_batch c left new r s tally tally' (transactions_of batch) told p goes told_is adds made events;
+    runs = runs_batch c.telling _ _ _ c.old.sink new.sink newer.sink s t tally tally' goes.done (transactions_of batch) told goes.runs was some state told_is
+        (ap (λ (o : Outputs). o.sink) written) adds.committed adds.aborted;
+    takes = takes_batch (meaning_in c) c.input left left' r.closed r'.closed r.lines r'.lines goes.done batch goes.takes some unended took;
+    noted = noted_more c.on goes.plans p tally'.batches c.old.notes new.notes newer.notes (number_is tally'.batches goes.tallied adds.batches) goes.noted
+        (ap (λ (o : Outputs). o.notes) written);
   }
 
-  -- the run over a told input, in terms of what the input is
-  at_input : (input : List ℕ) (left old new : Option (List ℕ)) (r : ReaderView App) (s : State) (tally : Tally) →
-      (goes : Goes event_of app size limit telling (Some input) left old new r s tally) →
-      RunsOn telling (Some (accepted_within (event_of app size) limit input)) (accepted_by event_of r left) old new s tally goes.done
-  at_input input left old new r s tally goes =
-      subst (λ before. RunsOn telling before (accepted_by event_of r left) old new s tally goes.done) (given_at_start event_of app size limit input) goes.runs
+  -- ---- how the run ends
+
+  -- over an input that is told
+  over_input : (c : Course App) (P : List ℕ → Type 0) → ((input : List ℕ) → c.input ≡ Some input → P input) → IfSome c.input P
+  over_input c P holds = by_input c.input holds
+    where
+      by_input : (o : Option (List ℕ)) → ((input : List ℕ) → o ≡ Some input → P input) → IfSome o P
+      by_input None holds = tt
+      by_input (Some input) holds = holds input refl
+
+  runs_over : (c : Course App) (left : Option (List ℕ)) (new : Outputs) (r : ReaderView App) (s : State) (tally : Tally) (input : List ℕ) → c.input ≡ Some input →
+      (goes : Goes c left new r s tally) →
+      RunsOn c.telling (Some (accepted_within (meaning_in c) c.limit input)) (accepted_by c.event_of r left) c.old.sink new.sink s tally goes.done
+  runs_over c left new r s tally input is goes =
+      subst (λ told. RunsOn c.telling (option_map (accepted_within (meaning_in c) c.limit) told) (accepted_by c.event_of r left) c.old.sink new.sink s tally goes.done) is goes.runs
+
+  -- the answer in place of what it is
+  ends_as : (c : Course App) (left : Option (List ℕ)) (new : Outputs) (x y : Result Finish Fault) → x ≡ y → Ends c left y new → Ends c left x new
+  ends_as c left new x y is ends = subst (λ z. Ends c left z new) (sym is) ends
 
   -- the closing text was written
-  pub ends_complete : (told left left' old new newer : Option (List ℕ)) (r : ReaderView App) (s : State) (tally : Tally) →
-      Goes event_of app size limit telling told left old new r s tally → IfSome (accepted_by event_of r left) (λ all. all ≡ record { batches = []; ending = Ended }) →
-      newer ≡ behind new (told_values telling.report telling.layout telling.name s ++ counts_line tally.committed tally.aborted) →
-      IfSome told (λ input. EndsSo (event_of app size) telling limit input left' old (Ok Complete) newer)
-  ends_complete None left left' old new newer r s tally goes at_end written = tt
-  ends_complete (Some input) left left' old new newer r s tally goes at_end written =
-      runs_done telling _ _ old new newer s tally goes.done Ended _ (at_input input left old new r s tally goes) at_end refl written
+  pub ends_complete : {c : Course App} {left : Option (List ℕ)} {new : Outputs} {r : ReaderView App} {s : State} {tally : Tally} (left' : Option (List ℕ)) (newer : Outputs) (text note : List ℕ) →
+      Goes c left new r s tally → IfSome (accepted_by c.event_of r left) (IsOver Ended) → IsLast c.telling s tally Ended text →
+      newer ≡ with_both new text note → Ends c left' (Ok Complete) newer
+  ends_complete {c} {left} {new} {r} {s} {tally} left' newer text note goes over last written =
+      over_input c (λ input. EndsSo (meaning_in c) c.telling c.limit input left' c.old.sink (Ok Complete) newer.sink) (λ input is.
+      runs_done c.telling _ _ c.old.sink new.sink newer.sink s tally goes.done Ended text (runs_over c left new r s tally input is goes) over last (ap (λ (o : Outputs). o.sink) written))
 
   -- the refused text was written
-  pub ends_refused : (told left left' old new newer : Option (List ℕ)) (r : ReaderView App) (s : State) (tally : Tally) (line : ℕ) (cause : Cause) →
-      Goes event_of app size limit telling told left old new r s tally → IfSome (accepted_by event_of r left) (λ all. all ≡ record { batches = []; ending = RefusedAt line cause }) →
-      newer ≡ behind new (refused_text line cause) →
-      IfSome told (λ input. EndsSo (event_of app size) telling limit input left' old (Ok Refused) newer)
-  ends_refused None left left' old new newer r s tally line cause goes at_end written = tt
-  ends_refused (Some input) left left' old new newer r s tally line cause goes at_end written =
-      let d = runs_done telling _ _ old new newer s tally goes.done (RefusedAt line cause) (refused_text line cause)
-      (at_input input left old new r s tally goes) at_end refl written in (line, cause, d.0, d.1)
+  pub ends_refused : {c : Course App} {left : Option (List ℕ)} {new : Outputs} {r : ReaderView App} {s : State} {tally : Tally} (left' : Option (List ℕ)) (newer : Outputs) (line : ℕ) (cause : Cause)
+      (text note : List ℕ) → Goes c left new r s tally → IfSome (accepted_by c.event_of r left) (IsOver (RefusedAt line cause)) → IsLast c.telling s tally (RefusedAt line cause) text →
+      newer ≡ with_both new text note → Ends c left' (Ok Refused) newer
+  ends_refused {c} {left} {new} {r} {s} {tally} left' newer line cause text note goes over last written =
+      over_input c (λ input. EndsSo (meaning_in c) c.telling c.limit input left' c.old.sink (Ok Refused) newer.sink) (λ input is.
+      let d = runs_done c.telling _ _ c.old.sink new.sink newer.sink s tally goes.done (RefusedAt line cause) text (runs_over c left new r s tally input is goes) over last
+      (ap (λ (o : Outputs). o.sink) written) in (line, cause, d.0, d.1))
 
   -- reading failed
-  pub ends_read : (told left left' old new : Option (List ℕ)) (r : ReaderView App) (s : State) (tally : Tally) →
-      Goes event_of app size limit telling told left old new r s tally → r.lines.ended ≡ false →
-      Takes left left' (λ got. accepted_next (event_of app size) r.closed r.lines (front (r.lines.kept ++ got)) ≡ record { batches = []; ending = CutOff }) →
-      IfSome told (λ input. EndsSo (event_of app size) telling limit input left' old (Err Read) new)
-  ends_read None left left' old new r s tally goes unended took = tt
-  ends_read (Some input) left left' old new r s tally goes unended took =
-      takes_failed telling (event_of app size) input left left' old new r.closed r.lines goes.done goes.takes unended took goes.runs.appended
+  pub ends_read : (c : Course App) (left left' : Option (List ℕ)) (new : Outputs) (r : ReaderView App) (s : State) (tally : Tally) →
+      Goes c left new r s tally → r.lines.ended ≡ false →
+      Takes left left' (λ got. accepted_next (meaning_in c) r.closed r.lines (front (r.lines.kept ++ got)) ≡ record { batches = []; ending = CutOff }) → Ends c left' (Err Read) new
+  ends_read c left left' new r s tally goes unended took =
+      over_input c (λ input. EndsSo (meaning_in c) c.telling c.limit input left' c.old.sink (Err Read) new.sink) (λ input is.
+      takes_failed c.telling (meaning_in c) input left left' c.old.sink new.sink r.closed r.lines goes.done
+      (subst (λ told. TakesOn (meaning_in c) told left r.closed r.lines goes.done) is goes.takes) unended took goes.runs.appended)
 
   -- the input is too long
-  pub ends_long : (told left left' old new : Option (List ℕ)) (r : ReaderView App) (s : State) (tally : Tally) →
-      Goes event_of app size limit telling told left old new r s tally → IfSome (accepted_by event_of r left) (λ all. all ≡ record { batches = []; ending = CutOff }) →
-      IfSome told (λ input. EndsSo (event_of app size) telling limit input left' old (Err TooLong) new)
-  ends_long None left left' old new r s tally goes at_end = tt
-  ends_long (Some input) left left' old new r s tally goes at_end =
-      let runs = at_input input left old new r s tally goes in
-      let whole = runs_ended telling _ _ old new s tally goes.done CutOff runs at_end in
-      (ap (λ (a : Accepted). a.ending) whole, runs.appended ∙ ap (λ (a : Accepted). behind old (event_lines telling.report a.batches)) (sym whole))
+  pub ends_long : (c : Course App) (left left' : Option (List ℕ)) (new : Outputs) (r : ReaderView App) (s : State) (tally : Tally) →
+      Goes c left new r s tally → IfSome (accepted_by c.event_of r left) (IsOver CutOff) → Ends c left' (Err TooLong) new
+  ends_long c left left' new r s tally goes over =
+      over_input c (λ input. EndsSo (meaning_in c) c.telling c.limit input left' c.old.sink (Err TooLong) new.sink) (λ input is.
+      let runs = runs_over c left new r s tally input is goes in
+      let whole = runs_ended c.telling _ _ c.old.sink new.sink s tally goes.done CutOff runs over in
+      (ap (λ (a : Accepted). a.ending) whole, runs.appended ∙ ap (λ (a : Accepted). behind c.old.sink (event_lines c.telling.report a.batches)) (sym whole)))
 
   -- memory was refused, before or between batches
-  pub ends_memory : (told left left' old new : Option (List ℕ)) (r : ReaderView App) (s : State) (tally : Tally) →
-      Goes event_of app size limit telling told left old new r s tally →
-      IfSome told (λ input. EndsSo (event_of app size) telling limit input left' old (Err OutOfMemory) new)
-  ends_memory None left left' old new r s tally goes = tt
-  ends_memory (Some input) left left' old new r s tally goes =
-      runs_short telling _ _ old new s tally goes.done (at_input input left old new r s tally goes)
+  pub ends_memory : {c : Course App} {left : Option (List ℕ)} {new : Outputs} {r : ReaderView App} {s : State} {tally : Tally} {x : Result Finish Fault} (left' : Option (List ℕ)) →
+      x ≡ Err OutOfMemory → Goes c left new r s tally → Ends c left' x new
+  ends_memory {c} {left} {new} {r} {s} {tally} {x} left' failed goes =
+      ends_as c left' new x (Err OutOfMemory) failed
+      (over_input c (λ input. EndsSo (meaning_in c) c.telling c.limit input left' c.old.sink (Err OutOfMemory) new.sink) (λ input is.
+      runs_short c.telling _ _ c.old.sink new.sink s tally goes.done (runs_over c left new r s tally input is goes)))
 
-  pub ends_at_once : (told left' old : Option (List ℕ)) → IfSome told (λ input. EndsSo (event_of app size) telling limit input left' old (Err OutOfMemory) old)
-  ends_at_once None left' old = tt
-  ends_at_once (Some input) left' old = record {
-    done = [];
-    rest = (accepted_within (event_of app size) limit input).batches;
-    parts = refl;
-    appended = sym (behind_nil old) ∙ ap (behind old) (nothing_told telling.report);
+  -- writing failed at the end
+  pub ends_cut : {c : Course App} {left : Option (List ℕ)} {new : Outputs} {r : ReaderView App} {s : State} {tally : Tally} {x : Result Finish Fault} (left' : Option (List ℕ)) (newer : Outputs)
+      (ending : Ending) (text : List ℕ) → x ≡ Err Write → Goes c left new r s tally → IfSome (accepted_by c.event_of r left) (IsOver ending) →
+      IsLast c.telling s tally ending text → AppendsPrefix new.sink text newer.sink → Ends c left' x newer
+  ends_cut {c} {left} {new} {r} {s} {tally} {x} left' newer ending text failed goes over last cut =
+      ends_as c left' newer x (Err Write) failed
+      (over_input c (λ input. EndsSo (meaning_in c) c.telling c.limit input left' c.old.sink (Err Write) newer.sink) (λ input is.
+      runs_cut c.telling _ _ c.old.sink new.sink newer.sink s tally goes.done ending text (runs_over c left new r s tally input is goes) over last cut))
+
+  -- writing failed in a batch
+  pub ends_batch_cut : {c : Course App} {left : Option (List ℕ)} {new : Outputs} {r : ReaderView App} {s : State} {tally : Tally} {x : Result Finish Fault}
+      (left' left'' : Option (List ℕ)) (newer : Outputs) (r' : ReaderView App) (batch : List Transaction) (told : List Fate) → x ≡ Err Write → Goes c left new r s tally →
+      0 < length batch → accepted_by c.event_of r left ≡ option_map (with_batch batch) (accepted_by c.event_of r' left') → told ≡ fates s (by_time batch) →
+      AppendsPrefix new.sink (told_lines c.telling.report told) newer.sink → Ends c left'' x newer
+  ends_batch_cut {c} {left} {new} {r} {s} {tally} {x} left' left'' newer r' batch told failed goes some was told_is cut =
+      ends_as c left'' newer x (Err Write) failed
+      (over_input c (λ input. EndsSo (meaning_in c) c.telling c.limit input left'' c.old.sink (Err Write) newer.sink) (λ input is.
+      runs_cut_in_batch c.telling _ _ _ c.old.sink new.sink newer.sink s tally goes.done batch told (runs_over c left new r s tally input is goes) was some told_is cut))
+
+  -- ---- what is told of the run
+
+  -- what was written so far
+  wrote : (c : Course App) (left : Option (List ℕ)) (new : Outputs) (r : ReaderView App) (s : State) (tally : Tally) (goes : Goes c left new r s tally) →
+      new ≡ with_batches c.old c.telling.report c.on goes.done goes.plans
+  wrote c left new r s tally goes =
+      both_is new (behind c.old.sink (event_lines c.telling.report goes.done)) (behind c.old.notes (noted c.on (batch_notes 1 goes.plans))) goes.runs.appended goes.noted
+
+  -- the run was cut off between two batches
+  pub told_short : {c : Course App} {left : Option (List ℕ)} {new : Outputs} {r : ReaderView App} {s : State} {tally : Tally} {x : Result Finish Fault} (e : Fault) → x ≡ Err e → (e ≡ Write → ⊥) →
+      Goes c left new r s tally → IsTold c (status_of x) tally new
+  told_short {c} {left} {new} {r} {s} {tally} {x} e failed other goes = subst (λ y. IsTold c (status_of y) tally new) (sym failed) (record {
+    done = goes.done;
+    rest = still (accepted_by c.event_of r left);
+    plans = goes.plans;
+    parts = parts_are (accepted_in c) (accepted_by c.event_of r left) goes.done goes.runs.whole;
+    ran = goes.tallied.ran;
+    counts = goes.tallied.counts;
+    whole = λ is. absurd (by_fault e is);
+    short = λ is. wrote c left new r s tally goes;
+    cut = λ is. absurd (other (by_write e is));
+  })
+
+  -- a write failed in a batch that was run
+  pub told_in_batch : {c : Course App} {left : Option (List ℕ)} {new : Outputs} {r : ReaderView App} {s : State} {tally tally' : Tally} {x : Result Finish Fault}
+      {p : Plan} {told : List Fate} (left' : Option (List ℕ)) (newer : Outputs) (r' : ReaderView App) (batch : List Transaction) → x ≡ Err Write → Goes c left new r s tally →
+      accepted_by c.event_of r left ≡ option_map (with_batch batch) (accepted_by c.event_of r' left') → 0 < length batch → told ≡ fates s (by_time batch) →
+      Adds tally tally' p (op_count p + stale_count p) (stale_count p) told → IsMadeOf s batch p → 0 < length told →
+      IsCutIn new (told_lines c.telling.report told) (noted c.on (batch_note tally'.batches p)) newer → IsTold c (status_of x) tally' newer
+  told_in_batch {c} {left} {new} {r} {s} {tally} {tally'} {x} {p} {told} left' newer r' batch failed goes was some told_is adds made events cut =
+      let tallied = tallied_batch c left new r s tally tally' batch told p goes told_is adds made events in
+      subst (λ y. IsTold c (status_of y) tally' newer) (sym failed) (record {
+        done = goes.done ++ batch ∷ [];
+        rest = still (accepted_by c.event_of r' left');
+        plans = goes.plans ++ p ∷ [];
+        parts = parts_are (accepted_in c) (accepted_by c.event_of r' left') (goes.done ++ batch ∷ [])
+            (whole_more (accepted_in c) (accepted_by c.event_of r left) (accepted_by c.event_of r' left') goes.done batch goes.runs.whole was some);
+        ran = tallied.ran;
+        counts = tallied.counts;
+        whole = λ is. absurd (by_fault Write is);
+        short = λ is. absurd (write_not_short 5 refl is);
+        cut = λ is. inl (record {
+          before = goes.done;
+          before_plans = goes.plans;
+          batch = batch;
+          plan = p;
+          done_is = refl;
+          plans_is = refl;
+          cut = cut_as new (with_batches c.old c.telling.report c.on goes.done goes.plans) (told_lines c.telling.report told)
+              (told_lines c.telling.report (fates (run_state goes.done) (by_time batch))) (noted c.on (batch_note tally'.batches p)) (noted c.on (batch_note (length (goes.done ++ batch ∷ [])) p)) newer
+              (wrote c left new r s tally goes)
+              (ap (told_lines c.telling.report) (told_is ∙ ap (λ q. fates q (by_time batch)) goes.runs.state))
+              (ap (λ k. noted c.on (batch_note k p)) tallied.counts.batches) cut;
+        });
+      })
+
+  -- the end was reached
+  abbrev at_last : (c : Course App) (left : Option (List ℕ)) (new : Outputs) (r : ReaderView App) (s : State) (tally : Tally) (ending : Ending) → (ending ≡ CutOff → ⊥) →
+      (goes : Goes c left new r s tally) → IfSome (accepted_by c.event_of r left) (IsOver ending) → IsAtLast (accepted_in c) []
+  at_last c left new r s tally ending reached goes over = record {
+    ending = ending;
+    ends = last_ending (accepted_in c) (accepted_by c.event_of r left) goes.done ending goes.runs.whole over;
+    reached = reached;
+    none_left = refl;
   }
 
-  -- writing failed: at the closing text, at the refused text, and in a batch
-  pub ends_closing_cut : (told left left' old new newer : Option (List ℕ)) (r : ReaderView App) (s : State) (tally : Tally) →
-      Goes event_of app size limit telling told left old new r s tally → IfSome (accepted_by event_of r left) (λ all. all ≡ record { batches = []; ending = Ended }) →
-      AppendsPrefix new (told_values telling.report telling.layout telling.name s ++ counts_line tally.committed tally.aborted) newer →
-      IfSome told (λ input. EndsSo (event_of app size) telling limit input left' old (Err Write) newer)
-  ends_closing_cut None left left' old new newer r s tally goes at_end cut = tt
-  ends_closing_cut (Some input) left left' old new newer r s tally goes at_end cut =
-      runs_cut telling _ _ old new newer s tally goes.done Ended _ (at_input input left old new r s tally goes) at_end refl cut
+  -- the text at the end is that of the batches that were done
+  text_is : (c : Course App) (left : Option (List ℕ)) (new : Outputs) (r : ReaderView App) (s : State) (tally : Tally) (ending : Ending) (text : List ℕ) →
+      (goes : Goes c left new r s tally) → IsLast c.telling s tally ending text → text ≡ end_text c.telling goes.done ending
+  text_is c left new r s tally ending text goes last = last_is c.telling s tally goes.done ending text goes.runs.state goes.runs.committed goes.runs.aborted last
 
-  pub ends_refused_cut : (told left left' old new newer : Option (List ℕ)) (r : ReaderView App) (s : State) (tally : Tally) (line : ℕ) (cause : Cause) →
-      Goes event_of app size limit telling told left old new r s tally → IfSome (accepted_by event_of r left) (λ all. all ≡ record { batches = []; ending = RefusedAt line cause }) →
-      AppendsPrefix new (refused_text line cause) newer →
-      IfSome told (λ input. EndsSo (event_of app size) telling limit input left' old (Err Write) newer)
-  ends_refused_cut None left left' old new newer r s tally line cause goes at_end cut = tt
-  ends_refused_cut (Some input) left left' old new newer r s tally line cause goes at_end cut =
-      runs_cut telling _ _ old new newer s tally goes.done (RefusedAt line cause) _ (at_input input left old new r s tally goes) at_end refl cut
+  -- the text and the tally were written there
+  pub told_at_end : {c : Course App} {left : Option (List ℕ)} {new : Outputs} {r : ReaderView App} {s : State} {tally : Tally} (newer : Outputs) (status : ℕ) (ending : Ending) (text : List ℕ) →
+      (status ≡ 0) ⊎ (status ≡ 3) → (ending ≡ CutOff → ⊥) → Goes c left new r s tally → IfSome (accepted_by c.event_of r left) (IsOver ending) →
+      IsLast c.telling s tally ending text → newer ≡ with_both new text (noted c.on (closing_notes c.workers tally)) → IsTold c status tally newer
+  told_at_end {c} {left} {new} {r} {s} {tally} newer status ending text ends reached goes over last written = record {
+    done = goes.done;
+    rest = [];
+    plans = goes.plans;
+    parts = last_parts (accepted_in c) (accepted_by c.event_of r left) goes.done ending goes.runs.whole over;
+    ran = goes.tallied.ran;
+    counts = goes.tallied.counts;
+    whole = λ is. (
+      at_last c left new r s tally ending reached goes over,
+      both_as new (with_batches c.old c.telling.report c.on goes.done goes.plans) text (end_text c.telling goes.done ending) (noted c.on (closing_notes c.workers tally)) (noted c.on (closing_notes c.workers tally)) newer
+          (wrote c left new r s tally goes) (text_is c left new r s tally ending text goes last) refl written,
+    );
+    short = λ is. absurd (whole_not_short status ends is);
+    cut = λ is. absurd (whole_not_write status ends is);
+  }
 
-  pub ends_batch_cut : (told left left' left'' old new newer : Option (List ℕ)) (r r' : ReaderView App) (s : State) (tally : Tally) (batch : List Transaction)
-      (fates_told : List Fate) → Goes event_of app size limit telling told left old new r s tally → 0 < length batch →
-      accepted_by event_of r left ≡ option_map (with_batch batch) (accepted_by event_of r' left') → fates_told ≡ fates s (by_time batch) →
-      AppendsPrefix new (told_lines telling.report fates_told) newer →
-      IfSome told (λ input. EndsSo (event_of app size) telling limit input left'' old (Err Write) newer)
-  ends_batch_cut None left left' left'' old new newer r r' s tally batch fates_told goes some was told_is cut = tt
-  ends_batch_cut (Some input) left left' left'' old new newer r r' s tally batch fates_told goes some was told_is cut =
-      runs_cut_in_batch telling _ _ _ old new newer s tally goes.done batch fates_told (at_input input left old new r s tally goes) was some told_is cut
-
-  -- ---- the tally at the end
-
-  abbrev pub Told : Option (List ℕ) → Option Accepted
-  Told told = option_map (accepted_within (event_of app size) limit) told
-
-  given : (told : Option (List ℕ)) → accepted_by event_of (new_reader app size limit) told ≡ Told told
-  unfolding ahead
-  given None = refl
-  given (Some input) = given_at_start event_of app size limit input
-
-  -- nothing was run yet
-  pub told_at_once : (told : Option (List ℕ)) (tally : Tally) (on : Bool) (workers status : ℕ) (before : Option (List ℕ)) → tally ≡ no_tally →
-      ((status ≡ 0) ⊎ (status ≡ 3) → ⊥) → RunTold (Told told) on workers status tally before before
-  told_at_once told tally on workers status before none cut =
-      told_cut (Told told) (Told told) [] [] tally on workers status before before (whole_nil (Told told)) (tallied_start tally none) cut
-      (notes_cut on workers status [] tally before before cut (noted_nothing on before))
-
-  -- the run was cut off between two batches, or its end was
-  pub told_between : (told left old new : Option (List ℕ)) (r : ReaderView App) (s : State) (tally : Tally) (on : Bool) (workers status : ℕ) (before after : Option (List ℕ)) →
-      (goes : Goes event_of app size limit telling told left old new r s tally) → ((status ≡ 0) ⊎ (status ≡ 3) → ⊥) →
-      AppendsNotes on workers status goes.plans tally before after → RunTold (Told told) on workers status tally before after
-  told_between told left old new r s tally on workers status before after goes cut notes =
-      told_cut (Told told) (accepted_by event_of r left) goes.done goes.plans tally on workers status before after (sym (given told) ∙ goes.runs.whole) goes.tallied cut notes
-
-  -- it was cut off within a batch that was run
-  pub told_in_batch : (told left left' old new : Option (List ℕ)) (r r' : ReaderView App) (s : State) (tally tally' : Tally) (batch : List Transaction)
-      (fates_told : List Fate) (p : Plan) (n : ℕ) (on : Bool) (workers status : ℕ) (before after : Option (List ℕ)) →
-      (goes : Goes event_of app size limit telling told left old new r s tally) →
-      accepted_by event_of r left ≡ option_map (with_batch batch) (accepted_by event_of r' left') → 0 < length batch → fates_told ≡ fates s (by_time batch) →
-      Adds tally tally' p fates_told n → IsMadeOf s batch p → 0 < n → ((status ≡ 0) ⊎ (status ≡ 3) → ⊥) →
-      AppendsNotes on workers status (goes.plans ++ p ∷ []) tally' before after → RunTold (Told told) on workers status tally' before after
-  told_in_batch told left left' old new r r' s tally tally' batch fates_told p n on workers status before after goes was some told_is adds made events cut notes =
-      told_cut (Told told) (accepted_by event_of r' left') (goes.done ++ batch ∷ []) (goes.plans ++ p ∷ []) tally' on workers status before after
-      (whole_more (Told told) (accepted_by event_of r left) (accepted_by event_of r' left') goes.done batch (sym (given told) ∙ goes.runs.whole) was some)
-      (tallied_batch told left old new r s tally tally' batch fates_told p n goes told_is adds made events) cut notes
-
-  -- the run came to its end
-  pub told_at_end : (told left old new : Option (List ℕ)) (r : ReaderView App) (s : State) (tally : Tally) (on : Bool) (workers status : ℕ) (before after : Option (List ℕ))
-      (ending : Ending) → (goes : Goes event_of app size limit telling told left old new r s tally) →
-      IfSome (accepted_by event_of r left) (λ all. all ≡ record { batches = []; ending = ending }) →
-      AppendsNotes on workers status goes.plans tally before after → RunTold (Told told) on workers status tally before after
-  told_at_end told left old new r s tally on workers status before after ending goes at_end notes =
-      told_whole (Told told) (accepted_by event_of r left) goes.done goes.plans tally on workers status before after ending (sym (given told) ∙ goes.runs.whole) goes.tallied at_end notes
+  -- a write failed there
+  pub told_cut_at_end : {c : Course App} {left : Option (List ℕ)} {new : Outputs} {r : ReaderView App} {s : State} {tally : Tally} {x : Result Finish Fault} (newer : Outputs) (ending : Ending) (text : List ℕ) →
+      x ≡ Err Write → (ending ≡ CutOff → ⊥) → Goes c left new r s tally → IfSome (accepted_by c.event_of r left) (IsOver ending) →
+      IsLast c.telling s tally ending text → IsCutIn new text (noted c.on (closing_notes c.workers tally)) newer → IsTold c (status_of x) tally newer
+  told_cut_at_end {c} {left} {new} {r} {s} {tally} {x} newer ending text failed reached goes over last cut = subst (λ y. IsTold c (status_of y) tally newer) (sym failed) (record {
+    done = goes.done;
+    rest = [];
+    plans = goes.plans;
+    parts = last_parts (accepted_in c) (accepted_by c.event_of r left) goes.done ending goes.runs.whole over;
+    ran = goes.tallied.ran;
+    counts = goes.tallied.counts;
+    whole = λ is. absurd (by_fault Write is);
+    short = λ is. absurd (write_not_short 5 refl is);
+    cut = λ is. inr (
+      at_last c left new r s tally ending reached goes over,
+      cut_as new (with_batches c.old c.telling.report c.on goes.done goes.plans) text (end_text c.telling goes.done ending) (noted c.on (closing_notes c.workers tally)) (noted c.on (closing_notes c.workers tally)) newer
+          (wrote c left new r s tally goes) (text_is c left new r s tally ending text goes last) refl cut,
+    );
+  })

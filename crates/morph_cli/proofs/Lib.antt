@@ -10,3 +10,4 @@ pub mod Summing
 pub mod Making
 pub mod Tallying
 pub mod Noting
+pub mod Turns

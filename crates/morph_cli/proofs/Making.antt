@@ -14,6 +14,7 @@ use Rattle.morph_cli.specs.declared.settings.Settings.{Settings}
 use Rattle.morph_cli.specs.Apps.{drawn_in, event_in, input_by, left_by, name_in, tables_in, telling_by}
 use Rattle.morph_cli.specs.Runs.{EndsSo, EndsMade}
 use Rattle.morph_cli.specs.declared.tally.Tally.{Tally}
+use Rattle.morph_cli.specs.Outputs.{Outputs}
 use Rattle.morph_cli.specs.Tallies.{RunTold}
 use Rattle.morph_cli.specs.Text.{Telling}
 
@@ -42,18 +43,6 @@ abbrev EndsOver : Meaning → Telling → (limit : ℕ) → Option Generated →
 EndsOver meaning telling limit generated text told left old r new =
     IfSome (input_by generated text told) (λ input. EndsSo meaning telling limit input (left_by generated left) old r new)
 
-pub over_source : (meaning : Meaning) (telling : Telling) (limit : ℕ) (generated : Option Generated) (text : ℕ → ℕ → List ℕ) (told left old : Option (List ℕ))
-    (r : Result Finish Fault) (new : Option (List ℕ)) → generated ≡ None → IfSome told (λ input. EndsSo meaning telling limit input left old r new) →
-    EndsOver meaning telling limit generated text told left old r new
-over_source meaning telling limit None text told left old r new none ends = ends
-over_source meaning telling limit (Some g) text told left old r new none ends = absurd (cc)
-
-pub over_made : (meaning : Meaning) (telling : Telling) (limit : ℕ) (generated : Option Generated) (text : ℕ → ℕ → List ℕ) (told left old : Option (List ℕ))
-    (r : Result Finish Fault) (new : Option (List ℕ)) (g : Generated) → generated ≡ Some g → EndsSo meaning telling limit (text g.seed g.events) None old r new →
-    EndsOver meaning telling limit generated text told left old r new
-over_made meaning telling limit generated text told left old r new g some ends =
-    subst (λ o. EndsOver meaning telling limit o text told left old r new) (sym some) ends
-
 -- and by the application
 abbrev EndsIn : Settings → (limit : ℕ) → (told left old : Option (List ℕ)) → Result Finish Fault → (new : Option (List ℕ)) → App → Type 0
 EndsIn s limit told left old r new app =
@@ -64,27 +53,28 @@ pub in_app : (s : Settings) (limit : ℕ) (told left old : Option (List ℕ)) (r
 in_app s limit told left old r new app is ends = subst (EndsIn s limit told left old r new) (sym is) ends
 
 -- what is told of the run, by whose input it is
-abbrev ToldOver : Meaning → (limit : ℕ) → Option Generated → (text : ℕ → ℕ → List ℕ) → (told : Option (List ℕ)) → (on : Bool) → (workers status : ℕ) → Tally → (old new : Option (List ℕ)) → Type 0
-ToldOver meaning limit generated text told on workers status t old new = RunTold (option_map (accepted_within meaning limit) (input_by generated text told)) on workers status t old new
+abbrev ToldOver : Telling → Meaning → (limit : ℕ) → Option Generated → (text : ℕ → ℕ → List ℕ) → (told : Option (List ℕ)) → (on : Bool) → (workers status : ℕ) → Tally → (old new : Outputs) → Type 0
+ToldOver telling meaning limit generated text told on workers status t old new =
+    RunTold telling (option_map (accepted_within meaning limit) (input_by generated text told)) on workers status t old new
 
-pub told_source : (meaning : Meaning) (limit : ℕ) (generated : Option Generated) (text : ℕ → ℕ → List ℕ) (told : Option (List ℕ)) (on : Bool) (workers status : ℕ) (t : Tally)
-    (old new : Option (List ℕ)) → generated ≡ None → RunTold (option_map (accepted_within meaning limit) told) on workers status t old new →
-    ToldOver meaning limit generated text told on workers status t old new
-told_source meaning limit generated text told on workers status t old new none run =
-    subst (λ o. ToldOver meaning limit o text told on workers status t old new) (sym none) run
+pub told_source : (telling : Telling) (meaning : Meaning) (limit : ℕ) (generated : Option Generated) (text : ℕ → ℕ → List ℕ) (told : Option (List ℕ)) (on : Bool) (workers status : ℕ) (t : Tally)
+    (old new : Outputs) → generated ≡ None → RunTold telling (option_map (accepted_within meaning limit) told) on workers status t old new →
+    ToldOver telling meaning limit generated text told on workers status t old new
+told_source telling meaning limit generated text told on workers status t old new none run =
+    subst (λ o. ToldOver telling meaning limit o text told on workers status t old new) (sym none) run
 
-pub told_made : (meaning : Meaning) (limit : ℕ) (generated : Option Generated) (text : ℕ → ℕ → List ℕ) (told : Option (List ℕ)) (on : Bool) (workers status : ℕ) (t : Tally)
-    (old new : Option (List ℕ)) (g : Generated) → generated ≡ Some g →
-    RunTold (option_map (accepted_within meaning limit) (Some (text g.seed g.events))) on workers status t old new →
-    ToldOver meaning limit generated text told on workers status t old new
-told_made meaning limit generated text told on workers status t old new g some run =
-    subst (λ o. ToldOver meaning limit o text told on workers status t old new) (sym some) run
+pub told_made : (telling : Telling) (meaning : Meaning) (limit : ℕ) (generated : Option Generated) (text : ℕ → ℕ → List ℕ) (told : Option (List ℕ)) (on : Bool) (workers status : ℕ) (t : Tally)
+    (old new : Outputs) (g : Generated) → generated ≡ Some g →
+    RunTold telling (option_map (accepted_within meaning limit) (Some (text g.seed g.events))) on workers status t old new →
+    ToldOver telling meaning limit generated text told on workers status t old new
+told_made telling meaning limit generated text told on workers status t old new g some run =
+    subst (λ o. ToldOver telling meaning limit o text told on workers status t old new) (sym some) run
 
 -- and by the application
-abbrev ToldIn : Settings → (limit : ℕ) → (told : Option (List ℕ)) → (status : ℕ) → Tally → (old new : Option (List ℕ)) → App → Type 0
+abbrev ToldIn : Settings → (limit : ℕ) → (told : Option (List ℕ)) → (status : ℕ) → Tally → (old new : Outputs) → App → Type 0
 ToldIn s limit told status t old new app =
-    ToldOver (event_in app s.size) limit s.generated (generated_text (drawn_in app s.size)) told s.notes s.workers status t old new
+    ToldOver (telling_by s.generated (tables_in app) s.size (name_in app)) (event_in app s.size) limit s.generated (generated_text (drawn_in app s.size)) told s.notes s.workers status t old new
 
-pub told_in_app : (s : Settings) (limit : ℕ) (told : Option (List ℕ)) (status : ℕ) (t : Tally) (old new : Option (List ℕ)) (app : App) → s.app ≡ app →
+pub told_in_app : (s : Settings) (limit : ℕ) (told : Option (List ℕ)) (status : ℕ) (t : Tally) (old new : Outputs) (app : App) → s.app ≡ app →
     ToldIn s limit told status t old new app → ToldIn s limit told status t old new s.app
 told_in_app s limit told status t old new app is run = subst (ToldIn s limit told status t old new) (sym is) run

@@ -107,10 +107,6 @@ whole_more before now next done batch whole was some =
     whole ∙ ap (option_map (fronts done)) was
     ∙ option_map-twice (fronts done) (with_batch batch) (fronts (done ++ batch ∷ [])) (λ all. with_batch-fronts done batch all some) next
 
--- nothing was done
-pub whole_nil : (before : Option Accepted) → before ≡ option_map (fronts []) before
-whole_nil before = sym (option_map-same (fronts []) (λ a. refl) before)
-
 pub runs_batch : (telling : Telling) (before now next : Option Accepted) (old new newer : Option (List ℕ)) (s t : State) (tally tally' : Tally)
     (done : List (List Transaction)) (batch : List Transaction) (told : List Fate) → RunsOn telling before now old new s tally done →
     now ≡ option_map (with_batch batch) next → 0 < length batch → t ≡ after_all s (by_time batch) → told ≡ fates s (by_time batch) →
@@ -168,7 +164,7 @@ IsLast telling s tally Ended text = text ≡ told_values telling.report telling.
 IsLast telling s tally (RefusedAt number cause) text = text ≡ refused_text number cause
 IsLast telling s tally CutOff text = text ≡ []
 
-last_is : (telling : Telling) (s : State) (tally : Tally) (done : List (List Transaction)) (ending : Ending) (text : List ℕ) →
+pub last_is : (telling : Telling) (s : State) (tally : Tally) (done : List (List Transaction)) (ending : Ending) (text : List ℕ) →
     s ≡ run_state done → tally.committed ≡ committed_in (run_fates done) → tally.aborted ≡ aborted_in (run_fates done) →
     IsLast telling s tally ending text → text ≡ end_text telling done ending
 last_is telling s tally done Ended text state committed aborted is = is ∙ closing_is telling s tally done state committed aborted

@@ -1,6 +1,6 @@
 -- The tally of the batches that were run: one batch more, and at each end of a run.
-use Rattle.std.proofs.Common.{◌≡◌, ◌⊎◌, inl, inr, ℕ, Bool, ◌+◌, ◌*◌, ◌<◌, ◌≤◌, List, [], ◌∷◌, ◌++◌, length, sum, sum_by, Option, Some, None, Result, Err, refl, ap, sym, subst, ◌∙◌, arith, cond}
-use Rattle.std.specs.Prelude.{option_map, IfSome, not}
+use Rattle.std.proofs.Common.{◌≡◌, ℕ, ◌+◌, ◌*◌, ◌<◌, ◌≤◌, List, [], ◌∷◌, ◌++◌, length, sum, sum_by, refl, ap, sym, subst, ◌∙◌, arith, cond}
+use Rattle.std.specs.Prelude.{not}
 use Rattle.std.proofs.lemmas.List.{length-append}
 use Rattle.std.proofs.lemmas.List.FromFn.{length-range_with_len}
 use Rattle.std.proofs.lemmas.List.Sums.{sum_by-append, sum_by_push, sum_by-le-sum_by, count_by-le-length}
@@ -14,16 +14,9 @@ use Rattle.morph_base.specs.Guesses.{is_stale, stale_count}
 use Rattle.morph_base.proofs.NumberLaws.{op_count-small}
 use Rattle.morph_base.proofs.PlainLaws.{fates-nil}
 use Rattle.morph_base.proofs.StateLaws.{after_all-append, after_all-nil}
-use Rattle.event_reader.specs.Accepted.{Accepted, Ending}
 use Rattle.morph_cli.specs.declared.tally.Tally.{Tally}
-use Rattle.morph_cli.specs.declared.fault.Fault.{Fault}
-use Rattle.morph_cli.specs.declared.fault.Fault.TheVariants.{Read, Write, OutOfMemory, TooLong}
-use Rattle.morph_cli.specs.declared.run.Finish.{Finish}
-use Rattle.morph_cli.specs.Status.{status_of}
-use Rattle.morph_cli.specs.Notes.{AppendsNotes}
 use Rattle.morph_cli.specs.Text.{in_order, run_state, run_fates, committed_in, aborted_in}
-use Rattle.morph_cli.proofs.Running.{fronts}
-use Rattle.morph_cli.specs.Tallies.{IsMadeOf, AreRunFrom, IsTallyOf, RunTold, IsBalanced, no_tally, settled_by_first}
+use Rattle.morph_cli.specs.Tallies.{IsMadeOf, AreRunFrom, IsTallyOf, Adds, IsBalanced, no_tally, settled_by_first}
 
 -- between two batches: the plans of those that were done, and their tally with the bounds of its numbers
 pub record Tallied (done : List (List Transaction)) (plans : List Plan) (t : Tally) : Type 0 where
@@ -32,22 +25,6 @@ pub record Tallied (done : List (List Transaction)) (plans : List Plan) (t : Tal
   pub few_batches : t.batches ≤ t.events
   pub few_ops : t.ops ≤ 40960 * t.batches
   pub few_rolled : t.rolled ≤ t.ops
-
--- a batch of n events was counted: its plan, and what became of its events
-pub record Adds (t t' : Tally) (p : Plan) (fs : List Fate) (n : ℕ) : Type 0 where
-  pub batches : t'.batches ≡ t.batches + 1
-  pub events : t'.events ≡ t.events + n
-  pub committed : t'.committed ≡ t.committed + committed_in fs
-  pub aborted : t'.aborted ≡ t.aborted + aborted_in fs
-  pub all : t'.committed + t'.aborted ≡ t.committed + t.aborted + n
-  pub ops : t'.ops ≡ t.ops + op_count p
-  pub rolled : t'.rolled ≡ t.rolled + stale_count p
-  pub evaluated : t'.evaluated ≡ t.evaluated + (op_count p + stale_count p)
-  pub settled_by : t'.settled_by ≡ settled_by_first t'.ops
-  pub spread : t'.spread ≡ t.spread
-  pub left : t'.left ≡ t.left
-  pub handed : t'.handed ≡ t.handed
-  pub stolen : t'.stolen ≡ t.stolen
 
 pub few_stale : (p : Plan) → stale_count p ≤ op_count p
 few_stale p =
@@ -98,10 +75,10 @@ pub tallied_start : (t : Tally) → t ≡ no_tally → Tallied [] [] t
 tallied_start t is = subst (Tallied [] []) (sym is) at_start
 
 -- one batch more
-pub tallied_more : (done : List (List Transaction)) (plans : List Plan) (t t' : Tally) (batch : List Transaction) (p : Plan) (fs : List Fate) (n : ℕ) →
-    Tallied done plans t → Adds t t' p fs n → IsMadeOf (run_state done) batch p → run_fates (done ++ batch ∷ []) ≡ run_fates done ++ fs → 0 < n →
+pub tallied_more : (done : List (List Transaction)) (plans : List Plan) (t t' : Tally) (batch : List Transaction) (p : Plan) (fs : List Fate) →
+    Tallied done plans t → Adds t t' p (op_count p + stale_count p) (stale_count p) fs → IsMadeOf (run_state done) batch p → run_fates (done ++ batch ∷ []) ≡ run_fates done ++ fs → 0 < length fs →
     Tallied (done ++ batch ∷ []) (plans ++ p ∷ []) t'
-tallied_more done plans t t' batch p fs n so_far adds made told some =
+tallied_more done plans t t' batch p fs so_far adds made told some =
     let counts = so_far.counts in
     let few_ops : op_count p ≤ 40960 = op_count-small p made.valid.plan in
     let few_rolled : stale_count p ≤ op_count p = few_stale p in
@@ -110,12 +87,12 @@ tallied_more done plans t t' batch p fs n so_far adds made told some =
       counts = record {
         batches = let before = counts.batches in let now = adds.batches in let long : length (done ++ batch ∷ []) ≡ length done + 1 = length-append done (batch ∷ []) in
             omega (arith, before, now, long);
-        events = let before = counts.events in let now = adds.events in let all = adds.all in omega (arith, before, now, all);
+        events = let before = counts.events in let now = adds.events in let all = adds.both in omega (arith, before, now, all);
         committed = adds.committed ∙ ap (λ k. k + committed_in fs) counts.committed ∙ sym (sum_by-append (λ (f : Fate). cond f.committed 1 0) (run_fates done) fs) ∙ ap committed_in (sym told);
         aborted = adds.aborted ∙ ap (λ k. k + aborted_in fs) counts.aborted ∙ sym (sum_by-append (λ (f : Fate). cond (not f.committed) 1 0) (run_fates done) fs) ∙ ap aborted_in (sym told);
         ops = adds.ops ∙ ap (λ k. k + op_count p) counts.ops ∙ sym (sum_by_push op_count plans p);
-        rolled = adds.rolled ∙ ap (λ k. k + stale_count p) counts.rolled ∙ sym (sum_by_push stale_count plans p);
-        evaluated = let before = counts.evaluated in let now = adds.evaluated in let ops = adds.ops in let rolled = adds.rolled in omega (arith, before, now, ops, rolled);
+        rolled = adds.rolled_more ∙ ap (λ k. k + stale_count p) counts.rolled ∙ sym (sum_by_push stale_count plans p);
+        evaluated = let before = counts.evaluated in let now = adds.evaluated_more in let ops = adds.ops in let rolled = adds.rolled_more in omega (arith, before, now, ops, rolled);
         settled_by = adds.settled_by;
         spread = adds.spread ∙ counts.spread;
         left = adds.left ∙ counts.left;
@@ -124,7 +101,7 @@ tallied_more done plans t t' batch p fs n so_far adds made told some =
       };
       few_batches = let before = so_far.few_batches in let now = adds.batches in let events = adds.events in omega (arith, before, now, events, some);
       few_ops = let before = so_far.few_ops in let now = adds.batches in let ops = adds.ops in omega (arith, before, now, ops, few_ops);
-      few_rolled = let before = so_far.few_rolled in let now = adds.rolled in let ops = adds.ops in omega (arith, before, now, ops, few_rolled);
+      few_rolled = let before = so_far.few_rolled in let now = adds.rolled_more in let ops = adds.ops in omega (arith, before, now, ops, few_rolled);
     }
 
 -- the numbers of a tally go together
@@ -144,70 +121,3 @@ balanced done plans t counts = record {
   handed = counts.handed;
   stolen = counts.stolen;
 }
-
-pub balanced_none : (t : Tally) → t ≡ no_tally → IsBalanced t
-balanced_none t none = balanced [] [] t (tallied_start t none).counts
-
--- batches that were done, in front of those that are still to come
-abbrev still : Option Accepted → List (List Transaction)
-still None = []
-still (Some rest) = rest.batches
-
--- the run is cut off: some of the batches may be left
-pub told_cut : (all now : Option Accepted) (done : List (List Transaction)) (plans : List Plan) (t : Tally) (on : Bool) (workers status : ℕ) (old new : Option (List ℕ)) →
-    all ≡ option_map (fronts done) now → Tallied done plans t → ((status ≡ 0) ⊎ (status ≡ 3) → ⊥) → AppendsNotes on workers status plans t old new →
-    RunTold all on workers status t old new
-told_cut all now done plans t on workers status old new whole tallied cut notes = record {
-  done = done;
-  rest = still now;
-  plans = plans;
-  parts = parts now all whole;
-  ran = tallied.ran;
-  counts = tallied.counts;
-  whole = λ end. absurd (cut end);
-  notes = notes;
-}
-  where
-    parts : (now all : Option Accepted) → all ≡ option_map (fronts done) now → IfSome all (λ a. a.batches ≡ done ++ still now)
-    parts None None is = tt
-    parts None (Some a) is = absurd (cc)
-    parts (Some rest) None is = tt
-    parts (Some rest) (Some a) is = cc
-
--- the run is at the end of what is there: no batch is left
-pub told_whole : (all now : Option Accepted) (done : List (List Transaction)) (plans : List Plan) (t : Tally) (on : Bool) (workers status : ℕ) (old new : Option (List ℕ))
-    (ending : Ending) → all ≡ option_map (fronts done) now → Tallied done plans t → IfSome now (λ rest. rest ≡ record { batches = []; ending = ending }) →
-    AppendsNotes on workers status plans t old new → RunTold all on workers status t old new
-told_whole all now done plans t on workers status old new ending whole tallied at_end notes = record {
-  done = done;
-  rest = [];
-  plans = plans;
-  parts = parts now all whole at_end;
-  ran = tallied.ran;
-  counts = tallied.counts;
-  whole = λ end. refl;
-  notes = notes;
-}
-  where
-    parts : (now all : Option Accepted) → all ≡ option_map (fronts done) now → IfSome now (λ rest. rest ≡ record { batches = []; ending = ending }) →
-        IfSome all (λ a. a.batches ≡ done ++ [])
-    parts None None is last = tt
-    parts None (Some a) is last = absurd (cc)
-    parts (Some rest) None is last = tt
-    parts (Some rest) (Some a) is last =
-        let before : a.batches ≡ done ++ rest.batches = cc in
-        before ∙ ap (λ (r : Accepted). done ++ r.batches) last
-
--- a run that is cut off does not end by 0 or 3
-by_fault : (e : Fault) → (status_of (Err e) ≡ 0) ⊎ (status_of (Err e) ≡ 3) → ⊥
-by_fault Read (inl is) = absurd (omega (arith, is))
-by_fault Read (inr is) = absurd (omega (arith, is))
-by_fault Write (inl is) = absurd (omega (arith, is))
-by_fault Write (inr is) = absurd (omega (arith, is))
-by_fault OutOfMemory (inl is) = absurd (omega (arith, is))
-by_fault OutOfMemory (inr is) = absurd (omega (arith, is))
-by_fault TooLong (inl is) = absurd (omega (arith, is))
-by_fault TooLong (inr is) = absurd (omega (arith, is))
-
-pub cut_off : (r : Result Finish Fault) (e : Fault) → r ≡ Err e → (status_of r ≡ 0) ⊎ (status_of r ≡ 3) → ⊥
-cut_off r e is = subst (λ (s : Result Finish Fault). (status_of s ≡ 0) ⊎ (status_of s ≡ 3) → ⊥) (sym is) (by_fault e)

@@ -7,3 +7,4 @@ pub mod Headline
 pub mod Apps
 pub mod Tallies
 pub mod Notes
+pub mod Outputs

@@ -1,9 +1,8 @@
 -- The text of the notes where they are on: a line for each batch that was run, and at the end the tally.
-use Rattle.std.specs.Prelude.{◌≡◌, ℕ, ◌+◌, ◌⊎◌, Bool, true, false, List, [], ◌∷◌, ◌++◌, codes, length, take, Option}
+use Rattle.std.specs.Prelude.{ℕ, ◌+◌, Bool, true, false, List, [], ◌∷◌, ◌++◌, codes, length, take}
 use Rattle.std.specs.List.{flat_map}
 use Rattle.morph_base.specs.declared.plan.Plan.{Plan}
 use Rattle.morph_base.specs.Plans.{event_count, op_count}
-use Rattle.morph_io.specs.Told.{behind, AppendsPrefix}
 use Rattle.morph_cli.specs.declared.tally.Tally.{Tally}
 use Rattle.morph_cli.specs.Text.{line, after_space}
 
@@ -12,7 +11,7 @@ abbrev pub level_count : Plan → ℕ
 level_count p = length p.op_levels.items
 
 -- the line of a batch: its number, what its plan counts, and how it was scheduled
-abbrev pub batch_note : (number : ℕ) → Plan → List ℕ
+unfoldable pub batch_note : (number : ℕ) → Plan → List ℕ
 batch_note number p =
     line (codes "batch" ++ after_space number ++ codes ": events" ++ after_space (event_count p) ++ codes " ops" ++ after_space (op_count p)
     ++ codes " levels" ++ after_space (level_count p) ++ codes " op strata lazy")
@@ -23,13 +22,13 @@ batch_notes number [] = []
 batch_notes number (p ∷ ps) = batch_note number p ++ batch_notes (number + 1) ps
 
 -- the line of the tally
-abbrev pub tally_note : Tally → List ℕ
+unfoldable pub tally_note : Tally → List ℕ
 tally_note t =
     line (codes "tally: evaluated" ++ after_space t.evaluated ++ codes " spread" ++ after_space t.spread ++ codes " rolled" ++ after_space t.rolled
     ++ codes " left" ++ after_space t.left ++ codes " handed" ++ after_space t.handed ++ codes " stolen" ++ after_space t.stolen)
 
 -- how many operations were settled by the plain finish and by each of the workers
-abbrev pub settled_note : (workers : ℕ) → Tally → List ℕ
+unfoldable pub settled_note : (workers : ℕ) → Tally → List ℕ
 settled_note workers t = line (codes "settled" ++ flat_map after_space (take (workers + 1) t.settled_by))
 
 -- both lines
@@ -40,10 +39,3 @@ closing_notes workers t = tally_note t ++ settled_note workers t
 abbrev pub noted : (on : Bool) → List ℕ → List ℕ
 noted true text = text
 noted false text = []
-
--- what a run appends to the notes by its status: the line of each batch that was run and written, and at 0 and 3 the tally
--- behind them. Where a write fails it is a prefix of this
-pub record AppendsNotes (on : Bool) (workers status : ℕ) (plans : List Plan) (t : Tally) (old new : Option (List ℕ)) : Type 0 where
-  pub whole : (status ≡ 0) ⊎ (status ≡ 3) → new ≡ behind old (noted on (batch_notes 1 plans ++ closing_notes workers t))
-  pub short : (status ≡ 4) ⊎ (status ≡ 6) ⊎ (status ≡ 7) → new ≡ behind old (noted on (batch_notes 1 plans))
-  pub write : status ≡ 5 → AppendsPrefix old (noted on (batch_notes 1 plans ++ closing_notes workers t)) new

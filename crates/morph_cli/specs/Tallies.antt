@@ -5,13 +5,15 @@ use Rattle.morph_base.specs.Transactions.{Transaction, by_time}
 use Rattle.morph_base.specs.States.{State, opening_state, after_all}
 use Rattle.morph_base.specs.Plans.{HasBases, op_count, transactions}
 use Rattle.morph_base.specs.Graphs.{IsValidPlan}
+use Rattle.morph_base.specs.Outcomes.{Fate}
 use Rattle.morph_base.specs.Guesses.{stale_count}
 use Rattle.event_reader.specs.Accepted.{Accepted}
 use Rattle.morph_cli.specs.declared.tally.Tally.{Tally}
 use Rattle.morph_io.specs.Told.{behind, AppendsPrefix}
-use Rattle.morph_cli.specs.Notes.{AppendsNotes}
+use Rattle.morph_cli.specs.Notes.{noted, closing_notes}
+use Rattle.morph_cli.specs.Outputs.{Outputs, with_both, with_batches, IsCutIn, IsCutInBatch, IsAtLast}
 use Rattle.morph_cli.specs.Status.{note_at}
-use Rattle.morph_cli.specs.Text.{run_fates, committed_in, aborted_in}
+use Rattle.morph_cli.specs.Text.{Telling, run_fates, committed_in, aborted_in, end_text}
 
 -- a valid plan of the events of a batch, from the state before it
 pub record IsMadeOf (s : State) (batch : List Transaction) (p : Plan) : Type 0 where
@@ -47,6 +49,22 @@ no_tally = record {
   stolen = 0;
 }
 
+-- a batch was counted: its plan, how many evaluations it took, how many operations were rolled back, and what became of its events
+pub record Adds (old new : Tally) (p : Plan) (evaluated rolled : ℕ) (fs : List Fate) : Type 0 where
+  pub batches : new.batches ≡ old.batches + 1
+  pub events : new.events ≡ old.events + length fs
+  pub committed : new.committed ≡ old.committed + committed_in fs
+  pub aborted : new.aborted ≡ old.aborted + aborted_in fs
+  pub both : new.committed + new.aborted ≡ old.committed + old.aborted + length fs
+  pub ops : new.ops ≡ old.ops + op_count p
+  pub evaluated_more : new.evaluated ≡ old.evaluated + evaluated
+  pub rolled_more : new.rolled ≡ old.rolled + rolled
+  pub settled_by : new.settled_by ≡ settled_by_first new.ops
+  pub spread : new.spread ≡ old.spread
+  pub left : new.left ≡ old.left
+  pub handed : new.handed ≡ old.handed
+  pub stolen : new.stolen ≡ old.stolen
+
 -- the tally of batches that were run by these plans, all with lazy abort and all settled by the first worker
 pub record IsTallyOf (done : List (List Transaction)) (plans : List Plan) (t : Tally) : Type 0 where
   pub batches : t.batches ≡ length done
@@ -63,23 +81,30 @@ pub record IsTallyOf (done : List (List Transaction)) (plans : List Plan) (t : T
   pub stolen : t.stolen ≡ 0
 
 -- what is told of a run by its status: some first ones of the accepted batches were run, each by a valid plan from the state
--- before it, and these are counted and noted. At 0 and 3 they are all
-pub record RunTold (told : Option Accepted) (on : Bool) (workers status : ℕ) (t : Tally) (old new : Option (List ℕ)) : Type 0 where
+-- before it, these are counted, and the lines and the notes of these, in turn, are what was written. At 0 and 3 they are all
+pub record RunTold (telling : Telling) (told : Option Accepted) (on : Bool) (workers status : ℕ) (t : Tally) (old new : Outputs) : Type 0 where
   pub done : List (List Transaction)
   pub rest : List (List Transaction)
   pub plans : List Plan
   pub parts : IfSome told (λ all. all.batches ≡ done ++ rest)
   pub ran : AreRunFrom opening_state done plans
   pub counts : IsTallyOf done plans t
-  pub whole : (status ≡ 0) ⊎ (status ≡ 3) → rest ≡ []
-  pub notes : AppendsNotes on workers status plans t old new
+  -- the end was written behind the batches, and the tally was noted
+  pub whole : (status ≡ 0) ⊎ (status ≡ 3) → (last : IsAtLast told rest)
+      × (new ≡ with_both (with_batches old telling.report on done plans) (end_text telling done last.ending) (noted on (closing_notes workers t)))
+  -- reading failed, memory was refused or the input is too long: that was between two batches
+  pub short : (status ≡ 4) ⊎ (status ≡ 6) ⊎ (status ≡ 7) → new ≡ with_batches old telling.report on done plans
+  -- a write failed: at the last of these batches, or at the end
+  pub cut : status ≡ 5 → IsCutInBatch telling.report on done plans old new ⊎ ((last : IsAtLast told rest)
+      × IsCutIn (with_batches old telling.report on done plans) (end_text telling done last.ending) (noted on (closing_notes workers t)) new)
 
--- what is told of a call: the notes of its run, and the last line behind them; a prefix of that where a write of it failed
-pub record CallTold (told : Option Accepted) (on : Bool) (workers status : ℕ) (t : Tally) (old new : Option (List ℕ)) (HasFailed : Type 0) : Type 0 where
-  pub noted : Option (List ℕ)
-  pub run : RunTold told on workers status t old noted
-  pub last : AppendsPrefix noted (note_at status) new
-  pub whole : (HasFailed → ⊥) → new ≡ behind noted (note_at status)
+-- what is told of a call: what its run wrote, and the last line of the notes behind that; a prefix of it where a write of it failed
+pub record CallTold (telling : Telling) (told : Option Accepted) (on : Bool) (workers status : ℕ) (t : Tally) (old new : Outputs) (HasFailed : Type 0) : Type 0 where
+  pub ran : Outputs
+  pub run : RunTold telling told on workers status t old ran
+  pub sink : new.sink ≡ ran.sink
+  pub last : AppendsPrefix ran.notes (note_at status) new.notes
+  pub whole : (HasFailed → ⊥) → new.notes ≡ behind ran.notes (note_at status)
 
 -- how the numbers of a tally go together, whatever is told of the input
 pub record IsBalanced (t : Tally) : Type 0 where

@@ -17,6 +17,7 @@ mod report;
 mod run;
 mod settings;
 mod tally;
+mod tell;
 #[cfg(test)]
 mod tests;
 mod text;

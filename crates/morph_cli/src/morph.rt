@@ -5,6 +5,7 @@ ghost use Rattle.event_reader.specs.Accepted.{accepted, accepted_within};
 ghost use Rattle.event_reader.specs.GeneratedText.{generated_text};
 ghost use Rattle.morph_cli.specs.Apps.{input_by, input_of, left_by, meaning_of, telling_by, telling_of};
 ghost use Rattle.morph_cli.specs.Headline.{Headline, Completes};
+ghost use Rattle.morph_cli.specs.Outputs.{outputs_of};
 ghost use Rattle.morph_cli.specs.Runs.{EndsSo, EndsMade};
 ghost use Rattle.morph_cli.specs.Settings.{AreInRange, settings_of};
 ghost use Rattle.morph_cli.specs.Status.{note_at, status_of, IsStatus, IsMadeStatus};
@@ -44,9 +45,9 @@ fn run_over<R: Threads + Sync, A: EventApp + Copy, S: Source, K: Sink, N: Sink, 
     ensures ends { IfSome (input_by settings.generated (generated_text (A.generated app settings.size)) (S.left source.old)) (λ input.
         EndsSo (A.event_of app settings.size) (telling_by settings.generated (A.table_count app) settings.size (A.name_of app))
         INPUT_BYTES input (left_by settings.generated (S.left source.new)) (K.written sink.old) result (K.written sink.new)) }
-    ensures told { RunTold (option_map (accepted_within (A.event_of app settings.size) INPUT_BYTES)
-        (input_by settings.generated (generated_text (A.generated app settings.size)) (S.left source.old)))
-        settings.notes settings.workers (status_of result) tally.new (N.written notes.old) (N.written notes.new) }
+    ensures told { RunTold (telling_by settings.generated (A.table_count app) settings.size (A.name_of app))
+        (option_map (accepted_within (A.event_of app settings.size) INPUT_BYTES) (input_by settings.generated (generated_text (A.generated app settings.size)) (S.left source.old)))
+        settings.notes settings.workers (status_of result) tally.new (outputs_of (K.written sink.old) (N.written notes.old)) (outputs_of (K.written sink.new) (N.written notes.new)) }
     ensures notes_faults { N.faults notes.old ≤ N.faults notes.new }
     ensures made { IsSome settings.generated → (source.new ≡ source.old) × EndsMade result }
     ensures read { IsErrOf result Fault.Read → HasRisen (S.faults source.old) (S.faults source.new) }
@@ -77,9 +78,9 @@ fn run_made<R: Threads + Sync, A: EventApp + Copy, K: Sink, N: Sink, G: Gate>(
     requires tally { tally.old ≡ no_tally }
     ensures ends { EndsSo (A.event_of app settings.size) (telling_by settings.generated (A.table_count app) settings.size (A.name_of app))
         INPUT_BYTES (generated_text (A.generated app settings.size) generated.seed generated.events) None (K.written sink.old) result (K.written sink.new) }
-    ensures told { RunTold (option_map (accepted_within (A.event_of app settings.size) INPUT_BYTES)
-        (Some (generated_text (A.generated app settings.size) generated.seed generated.events)))
-        settings.notes settings.workers (status_of result) tally.new (N.written notes.old) (N.written notes.new) }
+    ensures told { RunTold (telling_by settings.generated (A.table_count app) settings.size (A.name_of app))
+        (option_map (accepted_within (A.event_of app settings.size) INPUT_BYTES) (Some (generated_text (A.generated app settings.size) generated.seed generated.events)))
+        settings.notes settings.workers (status_of result) tally.new (outputs_of (K.written sink.old) (N.written notes.old)) (outputs_of (K.written sink.new) (N.written notes.new)) }
     ensures notes_faults { N.faults notes.old ≤ N.faults notes.new }
     ensures made { EndsMade result }
     ensures write { IsErrOf result Fault.Write → HasRisen (K.faults sink.old) (K.faults sink.new) ⊎ (IsTrue settings.notes × HasRisen (N.faults notes.old) (N.faults notes.new)) }
@@ -113,8 +114,8 @@ fn run_app<R: Threads + Sync, S: Source, K: Sink, N: Sink, G: Gate>(
     requires tally { tally.old ≡ no_tally }
     ensures ends { IfSome (input_of settings (S.left source.old)) (λ input. EndsSo (meaning_of settings) (telling_of settings)
         INPUT_BYTES input (left_by settings.generated (S.left source.new)) (K.written sink.old) result (K.written sink.new)) }
-    ensures told { RunTold (option_map (accepted_within (meaning_of settings) INPUT_BYTES) (input_of settings (S.left source.old)))
-        settings.notes settings.workers (status_of result) tally.new (N.written notes.old) (N.written notes.new) }
+    ensures told { RunTold (telling_of settings) (option_map (accepted_within (meaning_of settings) INPUT_BYTES) (input_of settings (S.left source.old)))
+        settings.notes settings.workers (status_of result) tally.new (outputs_of (K.written sink.old) (N.written notes.old)) (outputs_of (K.written sink.new) (N.written notes.new)) }
     ensures notes_faults { N.faults notes.old ≤ N.faults notes.new }
     ensures made { IsSome settings.generated → (source.new ≡ source.old) × EndsMade result }
     ensures read { IsErrOf result Fault.Read → HasRisen (S.faults source.old) (S.faults source.new) }
@@ -159,8 +160,8 @@ pub fn morph<R: Threads + Sync, S: Source, K: Sink, N: Sink, G: Gate>(
         HasRisen (K.faults sink.old) (K.faults sink.new) ⊎ (IsTrue s.notes × HasRisen (N.faults notes.old) (N.faults notes.new))) }
     ensures statuses { IsStatus result.status }
     ensures told { IfSome (settings_of (map (λ word. word.items) words.now)) (λ s.
-        CallTold (option_map (accepted (meaning_of s)) (input_of s (S.left source.old))) s.notes s.workers result.status result.tally
-        (N.written notes.old) (N.written notes.new) (HasRisen (N.faults notes.old) (N.faults notes.new))) }
+        CallTold (telling_of s) (option_map (accepted (meaning_of s)) (input_of s (S.left source.old))) s.notes s.workers result.status result.tally
+        (outputs_of (K.written sink.old) (N.written notes.old)) (outputs_of (K.written sink.new) (N.written notes.new)) (HasRisen (N.faults notes.old) (N.faults notes.new))) }
     ensures balanced { IsBalanced result.tally }
     ensures note { result.status ≡ 2 → AppendsPrefix (N.written notes.old) (note_at result.status) (N.written notes.new) }
     ensures whole_note { result.status ≡ 2 → (HasRisen (N.faults notes.old) (N.faults notes.new) → ⊥) → N.written notes.new ≡ behind (N.written notes.old) (note_at result.status) }

@@ -64,6 +64,7 @@ fn write_tally<N: Sink>(notes: &mut N, workers: u32, tally: &Tally) -> Result<()
 }
 
 /// The line of a batch.
+#[tactic(auto, unfolding(crate::specs::Notes::batch_note))]
 fn batch_line(number: u64, plan: &Plan) -> LineBuf
     ensures { result ≡ batch_note number plan.now }
 {
@@ -81,6 +82,7 @@ fn batch_line(number: u64, plan: &Plan) -> LineBuf
 }
 
 /// The line of the tally.
+#[tactic(auto, unfolding(crate::specs::Notes::tally_note))]
 fn tally_line(tally: &Tally) -> LineBuf
     ensures { result ≡ tally_note tally.now }
 {
@@ -102,6 +104,7 @@ fn tally_line(tally: &Tally) -> LineBuf
 }
 
 /// The line of what was settled by the plain finish and by each of so many workers.
+#[tactic(auto, unfolding(crate::specs::Notes::settled_note))]
 fn settled_line(workers: u32, tally: &Tally) -> LineBuf
     requires few { workers ≤ WORKERS }
     requires all { length tally.now.settled_by ≡ 17 }

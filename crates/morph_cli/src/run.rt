@@ -3,6 +3,7 @@ ghost use Rattle.event_reader.specs.Accepted.{accepted_within};
 ghost use Rattle.event_reader.specs.declared.limits.TheConstants.{INPUT_BYTES};
 ghost use Rattle.morph_io.specs.Told.{HasRisen};
 ghost use Rattle.morph_cli.specs.Apps.{telling_by};
+ghost use Rattle.morph_cli.specs.Outputs.{outputs_of};
 ghost use Rattle.morph_cli.specs.Runs.{EndsSo};
 ghost use Rattle.morph_cli.specs.Settings.{AreInRange};
 ghost use Rattle.morph_cli.specs.Status.{status_of};
@@ -10,10 +11,9 @@ ghost use Rattle.morph_cli.specs.Tallies.{no_tally, RunTold};
 
 use crate::batch::run_batch;
 use crate::fault::Fault;
-use crate::notes::{note_batch, note_tally};
 use crate::settings::Settings;
 use crate::tally::Tally;
-use crate::writing::{write_closing, write_events, write_refused};
+use crate::tell::{tell_batch, tell_closing, tell_refused};
 use event_reader::{BatchReader, EventApp, INPUT_BYTES, Next};
 use morph_base::Layout;
 use morph_engine::Engine;
@@ -49,8 +49,9 @@ pub fn run<R: Threads + Sync, A: EventApp + Copy, S: Source, K: Sink, N: Sink, G
     requires tally { tally.old ≡ no_tally }
     ensures ends { IfSome (S.left source.old) (λ input. EndsSo (A.event_of app settings.size)
         (telling_by settings.generated (A.table_count app) settings.size (A.name_of app)) INPUT_BYTES input (S.left source.new) (K.written sink.old) result (K.written sink.new)) }
-    ensures told { RunTold (option_map (accepted_within (A.event_of app settings.size) INPUT_BYTES) (S.left source.old)) settings.notes settings.workers
-        (status_of result) tally.new (N.written notes.old) (N.written notes.new) }
+    ensures told { RunTold (telling_by settings.generated (A.table_count app) settings.size (A.name_of app))
+        (option_map (accepted_within (A.event_of app settings.size) INPUT_BYTES) (S.left source.old)) settings.notes settings.workers
+        (status_of result) tally.new (outputs_of (K.written sink.old) (N.written notes.old)) (outputs_of (K.written sink.new) (N.written notes.new)) }
     ensures source_faults { S.faults source.old ≤ S.faults source.new }
     ensures sink_faults { K.faults sink.old ≤ K.faults sink.new }
     ensures notes_faults { N.faults notes.old ≤ N.faults notes.new }
@@ -69,24 +70,15 @@ pub fn run<R: Threads + Sync, A: EventApp + Copy, S: Source, K: Sink, N: Sink, G
             Next::Batch(batch) => {
                 let ran = run_batch(rt, alloc, &mut engine, &batch, settings.workers, gate)?;
                 tally.add(&ran);
-                write_events(&mut out, sink, settings.report(), ran.outcomes.as_slice())?;
-                note_batch(notes, settings.notes, tally.batches, &ran.end.plan)?;
+                tell_batch(&mut out, sink, notes, &settings, tally.batches, &ran)?;
             }
             Next::End => {
-                write_closing(
-                    &mut out,
-                    sink,
-                    &app,
-                    settings.report(),
-                    engine.state(),
-                    tally,
-                )?;
-                note_tally(notes, settings.notes, settings.workers, tally)?;
+                let values = engine.state();
+                tell_closing(&mut out, sink, notes, &app, &settings, values, tally)?;
                 return Ok(Finish::Complete);
             }
             Next::Refused { line, cause } => {
-                write_refused(&mut out, sink, line, cause)?;
-                note_tally(notes, settings.notes, settings.workers, tally)?;
+                tell_refused(&mut out, sink, notes, &settings, line, cause, tally)?;
                 return Ok(Finish::Refused);
             }
         }

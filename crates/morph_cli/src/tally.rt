@@ -1,7 +1,7 @@
 ghost use Rattle.std.specs.Prelude.{◌≡◌, ◌+◌, ◌<◌, ◌^◌, [], ◌∷◌, length, map, replicate};
 ghost use Rattle.morph_base.specs.Outcomes.{fate_of};
 ghost use Rattle.morph_base.specs.Plans.{op_count};
-ghost use Rattle.morph_cli.specs.Tallies.{no_tally, settled_by_first};
+ghost use Rattle.morph_cli.specs.Tallies.{no_tally, settled_by_first, Adds};
 ghost use Rattle.morph_cli.specs.Text.{committed_in, aborted_in};
 
 use crate::batch::BatchRun;
@@ -61,19 +61,7 @@ impl Tally {
         requires ops { self.old.ops + op_count ran.now.end.plan < 2 ^ 64 }
         requires evaluated { self.old.evaluated + ran.now.end.evaluated < 2 ^ 64 }
         requires rolled { self.old.rolled + ran.now.end.rolled < 2 ^ 64 }
-        ensures batches { self.new.batches ≡ self.old.batches + 1 }
-        ensures events { self.new.events ≡ self.old.events + length ran.now.outcomes.items }
-        ensures committed { self.new.committed ≡ self.old.committed + committed_in (map fate_of ran.now.outcomes.items) }
-        ensures aborted { self.new.aborted ≡ self.old.aborted + aborted_in (map fate_of ran.now.outcomes.items) }
-        ensures all { self.new.committed + self.new.aborted ≡ self.old.committed + self.old.aborted + length ran.now.outcomes.items }
-        ensures ops { self.new.ops ≡ self.old.ops + op_count ran.now.end.plan }
-        ensures evaluated { self.new.evaluated ≡ self.old.evaluated + ran.now.end.evaluated }
-        ensures rolled { self.new.rolled ≡ self.old.rolled + ran.now.end.rolled }
-        ensures settled_by { self.new.settled_by ≡ settled_by_first self.new.ops }
-        ensures spread { self.new.spread ≡ self.old.spread }
-        ensures left { self.new.left ≡ self.old.left }
-        ensures handed { self.new.handed ≡ self.old.handed }
-        ensures stolen { self.new.stolen ≡ self.old.stolen }
+        ensures { Adds self.old self.new ran.now.end.plan ran.now.end.evaluated ran.now.end.rolled (map fate_of ran.now.outcomes.items) }
     {
         let mut counts = Counts {
             committed: self.committed,

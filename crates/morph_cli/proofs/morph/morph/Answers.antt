@@ -4,6 +4,7 @@ use Rattle.std.specs.Prelude.{IsTrue}
 use Rattle.morph_io.specs.Told.{behind, HasRisen, AppendsPrefix}
 use Rattle.morph_cli.proofs.Noting.{risen_before}
 use Rattle.morph_cli.proofs.Tallying.{balanced}
+use Rattle.morph_cli.specs.Outputs.{outputs_of}
 use Rattle.morph_cli.specs.Settings.{settings_of}
 use Rattle.morph_cli.proofs.Answering.{headline_asked, completes_asked, made_asked, told_asked, write_asked}
 use Rattle.morph_cli.proofs.morph.morph.Goals as goal
@@ -36,8 +37,9 @@ returns-clause-made g c =
 pub returns-clause-told : goal.returns-clause-told
 returns-clause-told g c =
     told_asked (settings_of (map (λ word. word.items) c.args.words.now)) c.in-Some.settings (g.S.Source.left c.args.source.now) (g.S.Source.left c.run_app-end.new.source)
-    (g.K.Sink.written c.args.sink.now) (g.K.Sink.written c.run_app-end.new.sink) c.run_app-end.result c.status.result c.run_app-end.new.tally
-    (g.N.Sink.written c.args.notes.now) (g.N.Sink.written c.run_app-end.new.notes) (g.N.Sink.written c.write_note-2.new.notes)
+    c.run_app-end.result c.status.result c.run_app-end.new.tally
+    (outputs_of (g.K.Sink.written c.args.sink.now) (g.N.Sink.written c.args.notes.now)) (outputs_of (g.K.Sink.written c.run_app-end.new.sink) (g.N.Sink.written c.run_app-end.new.notes))
+    (g.N.Sink.written c.write_note-2.new.notes)
     (g.N.Sink.faults c.args.notes.now) (g.N.Sink.faults c.run_app-end.new.notes) (g.N.Sink.faults c.write_note-2.new.notes) (sym c.in-Some.ensures.asked) c.status.ensures
     c.run_app-end.ensures.ends c.run_app-end.ensures.told
     (subst (λ l. AppendsPrefix (g.N.Sink.written c.run_app-end.new.notes) l (g.N.Sink.written c.write_note-2.new.notes)) c.note_of.ensures c.write_note-2.ensures.prefix)

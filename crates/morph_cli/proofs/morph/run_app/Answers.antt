@@ -1,5 +1,6 @@
 use Rattle.event_reader.specs.declared.limits.TheConstants.{INPUT_BYTES}
 use Rattle.morph_cli.specs.declared.settings.App.TheVariants.{Ledger, Grep, Toll}
+use Rattle.morph_cli.specs.Outputs.{outputs_of}
 use Rattle.morph_cli.specs.Status.{status_of}
 use Rattle.morph_cli.proofs.Making.{in_app, told_in_app}
 use Rattle.morph_cli.proofs.morph.run_app.Goals as goal
@@ -21,12 +22,12 @@ returns-in-Toll-clause-ends g c =
 
 pub returns-in-Ledger-clause-told : goal.returns-in-Ledger-clause-told
 returns-in-Ledger-clause-told g c =
-    told_in_app c.args.settings INPUT_BYTES (g.S.Source.left c.args.source.now) (status_of c.run_over.result) c.run_over.new.tally (g.N.Sink.written c.args.notes.now) (g.N.Sink.written c.run_over.new.notes) Ledger c.in-Ledger.is c.run_over.ensures.told
+    told_in_app c.args.settings INPUT_BYTES (g.S.Source.left c.args.source.now) (status_of c.run_over.result) c.run_over.new.tally (outputs_of (g.K.Sink.written c.args.sink.now) (g.N.Sink.written c.args.notes.now)) (outputs_of (g.K.Sink.written c.run_over.new.sink) (g.N.Sink.written c.run_over.new.notes)) Ledger c.in-Ledger.is c.run_over.ensures.told
 
 pub returns-in-Grep-clause-told : goal.returns-in-Grep-clause-told
 returns-in-Grep-clause-told g c =
-    told_in_app c.args.settings INPUT_BYTES (g.S.Source.left c.args.source.now) (status_of c.run_over-in-Grep.result) c.run_over-in-Grep.new.tally (g.N.Sink.written c.args.notes.now) (g.N.Sink.written c.run_over-in-Grep.new.notes) Grep c.in-Grep.is c.run_over-in-Grep.ensures.told
+    told_in_app c.args.settings INPUT_BYTES (g.S.Source.left c.args.source.now) (status_of c.run_over-in-Grep.result) c.run_over-in-Grep.new.tally (outputs_of (g.K.Sink.written c.args.sink.now) (g.N.Sink.written c.args.notes.now)) (outputs_of (g.K.Sink.written c.run_over-in-Grep.new.sink) (g.N.Sink.written c.run_over-in-Grep.new.notes)) Grep c.in-Grep.is c.run_over-in-Grep.ensures.told
 
 pub returns-in-Toll-clause-told : goal.returns-in-Toll-clause-told
 returns-in-Toll-clause-told g c =
-    told_in_app c.args.settings INPUT_BYTES (g.S.Source.left c.args.source.now) (status_of c.run_over-in-Toll.result) c.run_over-in-Toll.new.tally (g.N.Sink.written c.args.notes.now) (g.N.Sink.written c.run_over-in-Toll.new.notes) Toll c.in-Toll.is c.run_over-in-Toll.ensures.told
+    told_in_app c.args.settings INPUT_BYTES (g.S.Source.left c.args.source.now) (status_of c.run_over-in-Toll.result) c.run_over-in-Toll.new.tally (outputs_of (g.K.Sink.written c.args.sink.now) (g.N.Sink.written c.args.notes.now)) (outputs_of (g.K.Sink.written c.run_over-in-Toll.new.sink) (g.N.Sink.written c.run_over-in-Toll.new.notes)) Toll c.in-Toll.is c.run_over-in-Toll.ensures.told

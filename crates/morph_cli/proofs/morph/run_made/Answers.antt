@@ -1,5 +1,6 @@
 use Rattle.std.proofs.Common.{Some, None, ap, ◌∙◌, arith, subst}
 use Rattle.std.specs.Prelude.{option_map}
+use Rattle.morph_cli.specs.Outputs.{outputs_of}
 use Rattle.morph_cli.specs.Status.{status_of}
 use Rattle.morph_cli.specs.Tallies.{RunTold}
 use Rattle.event_reader.specs.declared.limits.TheConstants.{INPUT_BYTES}
@@ -41,6 +42,7 @@ returns-clause-made g c =
 pub returns-clause-told : goal.returns-clause-told
 returns-clause-told g c =
     let meaning = g.A.EventApp.event_of c.args.app c.args.settings.size in
-    subst (λ text. RunTold (option_map (accepted_within meaning INPUT_BYTES) (Some text)) c.args.settings.notes c.args.settings.workers (status_of c.run.result) c.run.new.tally
-    (g.N.Sink.written c.args.notes.now) (g.N.Sink.written c.run.new.notes))
+    let telling = telling_by c.args.settings.generated (g.A.EventApp.table_count c.args.app) c.args.settings.size (g.A.EventApp.name_of c.args.app) in
+    subst (λ text. RunTold telling (option_map (accepted_within meaning INPUT_BYTES) (Some text)) c.args.settings.notes c.args.settings.workers (status_of c.run.result) c.run.new.tally
+    (outputs_of (g.K.Sink.written c.args.sink.now) (g.N.Sink.written c.args.notes.now)) (outputs_of (g.K.Sink.written c.run.new.sink) (g.N.Sink.written c.run.new.notes)))
     (ap (generated_left g.A.EventApp.generated) c.new-source.ensures) c.run.ensures.told

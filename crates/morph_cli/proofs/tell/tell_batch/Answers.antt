@@ -1,0 +1,22 @@
+use Rattle.std.proofs.Common.{ap, subst, ◌∙◌}
+use Rattle.morph_io.specs.Told.{behind, AppendsPrefix}
+use Rattle.morph_cli.specs.Apps.{report_of}
+use Rattle.morph_cli.specs.Notes.{noted, batch_note}
+use Rattle.morph_cli.specs.Text.{told_outcomes}
+use Rattle.morph_cli.proofs.Turns.{tells_behind, tells_cut}
+use Rattle.morph_cli.proofs.tell.tell_batch.Goals as goal
+
+pub returns-in_err-write_events-clause-told : goal.returns-in_err-write_events-clause-told
+returns-in_err-write_events-clause-told g c =
+    tells_cut c.from_residual.result (g.K.Sink.written c.args.sink.now) (g.K.Sink.written c.write_events.new.sink) (g.N.Sink.written c.args.notes.now)
+    (told_outcomes (report_of c.args.settings.now) c.args.ran.now.outcomes.items)
+    (noted c.args.settings.now.notes (batch_note c.args.number c.args.ran.now.end.plan)) c.from_residual.ensures.0
+    (subst (λ r. AppendsPrefix (g.K.Sink.written c.args.sink.now) (told_outcomes r c.args.ran.now.outcomes.items) (g.K.Sink.written c.write_events.new.sink)) c.report.ensures
+    (subst (λ os. AppendsPrefix (g.K.Sink.written c.args.sink.now) (told_outcomes c.report.result os) (g.K.Sink.written c.write_events.new.sink)) c.as_slice.ensures c.in_err-write_events.ensures.prefix))
+
+pub returns-clause-told : goal.returns-clause-told
+returns-clause-told g c =
+    tells_behind c.note_batch.result (g.K.Sink.written c.args.sink.now) (g.K.Sink.written c.write_events.new.sink) (g.N.Sink.written c.args.notes.now) (g.N.Sink.written c.note_batch.new.notes)
+    (told_outcomes (report_of c.args.settings.now) c.args.ran.now.outcomes.items)
+    (noted c.args.settings.now.notes (batch_note c.args.number c.args.ran.now.end.plan)) (c.in_ok-write_events.ensures.written ∙ ap (λ r. behind (g.K.Sink.written c.args.sink.now) (told_outcomes r c.as_slice.result.now)) c.report.ensures
+    ∙ ap (λ os. behind (g.K.Sink.written c.args.sink.now) (told_outcomes (report_of c.args.settings.now) os)) c.as_slice.ensures) c.note_batch.ensures.written c.note_batch.ensures.prefix

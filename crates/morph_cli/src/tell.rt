@@ -1,0 +1,89 @@
+ghost use Rattle.std.specs.Prelude.{◌≡◌, ◌≤◌, ◌⊎◌, [], ◌++◌, length, All, IsTrue, OnOk, OnErr};
+ghost use Rattle.morph_base.specs.declared.limits.TheConstants.{EVENT_OPS, WORKERS};
+ghost use Rattle.morph_base.specs.Flat.{contents};
+ghost use Rattle.morph_io.specs.Told.{HasRisen};
+ghost use Rattle.morph_cli.specs.declared.settings.TheConstants.{GREATEST_SIZE};
+ghost use Rattle.morph_cli.specs.Apps.{report_of};
+ghost use Rattle.morph_cli.specs.Notes.{noted, batch_note, closing_notes};
+ghost use Rattle.morph_cli.specs.Outputs.{outputs_of, Tells};
+ghost use Rattle.morph_cli.specs.Text.{told_outcomes, told_values, counts_line, refused_text};
+
+use crate::batch::BatchRun;
+use crate::notes::{note_batch, note_tally};
+use crate::settings::Settings;
+use crate::tally::Tally;
+use crate::writing::{write_closing, write_events, write_refused};
+use event_reader::{Cause, EventApp};
+use morph_io::{Out, Sink, WriteFailed};
+use version_table::State;
+
+/// Tells a batch that was run: its lines to the sink, and behind them its line to the notes, where these are on.
+pub fn tell_batch<K: Sink, N: Sink>(
+    out: &mut Out,
+    sink: &mut K,
+    notes: &mut N,
+    settings: &Settings,
+    number: u64,
+    ran: &BatchRun,
+) -> Result<(), WriteFailed>
+    requires empty { out.old ≡ [] }
+    requires few { All (λ o. length o.values.items ≤ EVENT_OPS) ran.now.outcomes.items }
+    ensures told { Tells result (outputs_of (K.written sink.old) (N.written notes.old)) (told_outcomes (report_of settings.now) ran.now.outcomes.items)
+        (noted settings.now.notes (batch_note number ran.now.end.plan)) (outputs_of (K.written sink.new) (N.written notes.new)) }
+    ensures empty { OnOk result (out.new ≡ []) }
+    ensures sink_faults { K.faults sink.old ≤ K.faults sink.new }
+    ensures notes_faults { N.faults notes.old ≤ N.faults notes.new }
+    ensures cause { OnErr result (HasRisen (K.faults sink.old) (K.faults sink.new) ⊎ (IsTrue settings.now.notes × HasRisen (N.faults notes.old) (N.faults notes.new))) }
+{
+    write_events(out, sink, settings.report(), ran.outcomes.as_slice())?;
+    note_batch(notes, settings.notes, number, &ran.end.plan)
+}
+
+/// Tells the end of the input: the closing text to the sink, and behind it the tally to the notes, where these are on.
+pub fn tell_closing<A: EventApp, K: Sink, N: Sink>(
+    out: &mut Out,
+    sink: &mut K,
+    notes: &mut N,
+    app: &A,
+    settings: &Settings,
+    values: &State,
+    tally: &Tally,
+) -> Result<(), WriteFailed>
+    requires empty { out.old ≡ [] }
+    requires tables { values.now.layout.tables ≡ A.table_count app.now }
+    requires few_ids { values.now.layout.size ≤ GREATEST_SIZE }
+    requires few { settings.now.workers ≤ WORKERS }
+    requires all { length tally.now.settled_by ≡ 17 }
+    ensures told { Tells result (outputs_of (K.written sink.old) (N.written notes.old))
+        (told_values (report_of settings.now) values.now.layout (A.name_of app.now) (contents values.now) ++ counts_line tally.now.committed tally.now.aborted)
+        (noted settings.now.notes (closing_notes settings.now.workers tally.now)) (outputs_of (K.written sink.new) (N.written notes.new)) }
+    ensures sink_faults { K.faults sink.old ≤ K.faults sink.new }
+    ensures notes_faults { N.faults notes.old ≤ N.faults notes.new }
+    ensures cause { OnErr result (HasRisen (K.faults sink.old) (K.faults sink.new) ⊎ (IsTrue settings.now.notes × HasRisen (N.faults notes.old) (N.faults notes.new))) }
+{
+    write_closing(out, sink, app, settings.report(), values, tally)?;
+    note_tally(notes, settings.notes, settings.workers, tally)
+}
+
+/// Tells a refused line: the refused text to the sink, and behind it the tally to the notes, where these are on.
+pub fn tell_refused<K: Sink, N: Sink>(
+    out: &mut Out,
+    sink: &mut K,
+    notes: &mut N,
+    settings: &Settings,
+    number: u64,
+    cause: Cause,
+    tally: &Tally,
+) -> Result<(), WriteFailed>
+    requires empty { out.old ≡ [] }
+    requires few { settings.now.workers ≤ WORKERS }
+    requires all { length tally.now.settled_by ≡ 17 }
+    ensures told { Tells result (outputs_of (K.written sink.old) (N.written notes.old)) (refused_text number cause)
+        (noted settings.now.notes (closing_notes settings.now.workers tally.now)) (outputs_of (K.written sink.new) (N.written notes.new)) }
+    ensures sink_faults { K.faults sink.old ≤ K.faults sink.new }
+    ensures notes_faults { N.faults notes.old ≤ N.faults notes.new }
+    ensures cause { OnErr result (HasRisen (K.faults sink.old) (K.faults sink.new) ⊎ (IsTrue settings.now.notes × HasRisen (N.faults notes.old) (N.faults notes.new))) }
+{
+    write_refused(out, sink, number, cause)?;
+    note_tally(notes, settings.notes, settings.workers, tally)
+}

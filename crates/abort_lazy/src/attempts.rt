@@ -31,7 +31,7 @@ impl Attempts {
             by: 0,
         };
         Ok(Attempts {
-            words: filled(alloc, plan.ops.len(), blocked)?,
+            words: List::filled(alloc, plan.ops.len(), blocked)?,
             records: no_records(alloc, plan)?,
         })
     }
@@ -58,20 +58,9 @@ fn no_records(alloc: Global, plan: &Plan) -> Result<List<List<u64>>, OutOfMemory
     let mut lists = List::with_room(alloc, plan.ops.len())?;
     for o in 0..plan.ops.len() {
         let places = usize::from(plan.ops.get(o).op.n_params) + 1;
-        lists.add(filled(alloc, places, 0)?);
+        lists.add(List::filled(alloc, places, 0)?);
     }
     Ok(lists)
-}
-
-/// A list of `n` times the same item.
-fn filled<T: Copy>(alloc: Global, n: usize, item: T) -> Result<List<T>, OutOfMemory>
-    ensures { IfOk result (λ list. list.items ≡ replicate n item) }
-{
-    let mut list = List::with_room(alloc, n)?;
-    for _ in 0..n {
-        list.add(item);
-    }
-    Ok(list)
 }
 
 /// Puts values in place of those in one of the lists.

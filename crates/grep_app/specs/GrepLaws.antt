@@ -9,10 +9,11 @@ use Rattle.std.proofs.lemmas.List.Elements.{All-nil, All-cons, All-map}
 use Rattle.morph_base.specs.declared.limits.TheConstants.{MAX, LATEST, PARAMS}
 use Rattle.morph_base.specs.declared.key.Key.{Key}
 use Rattle.morph_base.specs.declared.key.Layout.{Layout}
-use Rattle.morph_base.specs.declared.operation.Func.TheVariants.{Sum, Set}
+use Rattle.morph_base.specs.declared.operation.Func.TheVariants.{Keep, Sum, Set}
 use Rattle.morph_base.specs.declared.operation.Op.{Op}
 use Rattle.morph_base.specs.Operations.{IsShaped, InLayout, reads, no_key, same_key, op_of}
 use Rattle.morph_base.specs.Transactions.{Transaction, IsTransaction, HasKeysIn}
+use Rattle.morph_base.proofs.ShapeLaws.{all_of, op_of-shaped, reads-op_of}
 use Rattle.event_reader.specs.declared.cause.Cause.{Cause}
 use Rattle.event_reader.specs.declared.cause.Cause.TheVariants.{Form, Same}
 use Rattle.event_reader.specs.Numbers.{numbers_in, has_form, is_in, are_in}
@@ -55,43 +56,11 @@ differ (key ∷ keys) is = by_test (list_any (same_key key) keys) refl (both (no
     by_test true e none distinct = absurd (cc)
     by_test false e none distinct = (none_same (same_key key) keys e, distinct)
 
--- the operations have a valid shape
-shaped_set : (key : Key) (c : ℕ) → c ≤ MAX → IsShaped (op_of Set key [] c)
-shaped_set key c small = record {
-  at_least = omega arith;
-  at_most = omega arith;
-  places = omega arith;
-  held = omega arith;
-  constant = small;
-  blank = λ j d from inside. get_or-replicate 3 j no_key d inside;
-}
-
-shaped_keep : (key : Key) → IsShaped (keep key)
-shaped_keep key = record {
-  at_least = omega arith;
-  at_most = omega arith;
-  places = omega arith;
-  held = omega arith;
-  constant = omega arith;
-  blank = λ j d from inside. get_or-replicate 3 j no_key d inside;
-}
-
-shaped_sum : (key : Key) (cells : List Key) (c : ℕ) → 0 < length cells → length cells ≤ PARAMS → c ≤ MAX → IsShaped (op_of Sum key cells c)
-shaped_sum key cells c some few small = record {
-  at_least = some;
-  at_most = few;
-  places = omega arith;
-  held = omega (arith, length-append cells (replicate (PARAMS - length cells) no_key));
-  constant = small;
-  blank = λ j d from inside. grind (arith, common_steps);
-}
-
 -- the keys of a sum are in the layout
 sum_in : (size : ℕ) (target : Key) (cells : List Key) (limit : ℕ) → InLayout (grep_layout size) target → All (InLayout (grep_layout size)) cells
     → ReadsIn size (op_of Sum target cells limit)
 sum_in size target cells limit inside all =
-    let read : take (length cells) (cells ++ replicate (PARAMS - length cells) no_key) ≡ cells = grind (arith, common_steps) in
-    All-cons (InLayout (grep_layout size)) target _ inside (subst (All (InLayout (grep_layout size))) (sym read) all)
+    subst (All (InLayout (grep_layout size))) (sym (reads-op_of Sum target cells limit)) (All-cons (InLayout (grep_layout size)) target cells inside all)
 
 kept_keys : (cells : List Key) → map (λ op. op.key) (map keep cells) ≡ cells
 kept_keys [] = refl
@@ -107,7 +76,7 @@ setting_is_valid size ts k v start end inside small = (
     latest = end;
     some = omega arith;
     few = omega arith;
-    shaped = All-cons IsShaped _ [] (shaped_set (cell k) v small) (All-nil IsShaped);
+    shaped = all_of IsShaped (setting ts k v).ops (op_of-shaped Set (cell k) [] v (omega arith) (omega arith) small, tt);
     distinct = (tt, tt);
   },
   All-cons (ReadsIn size) (op_of Set (cell k) [] v) []
@@ -124,8 +93,8 @@ gathering_is_valid size ts limit target cells start end small some few inside al
     latest = end;
     some = omega arith;
     few = omega (arith, length-map cells keep);
-    shaped = All-cons IsShaped (op_of Sum target cells limit) (map keep cells) (shaped_sum target cells limit some few small)
-        (All-map IsShaped keep cells (λ k d here. shaped_keep (get_or cells k d)));
+    shaped = All-cons IsShaped (op_of Sum target cells limit) (map keep cells) (op_of-shaped Sum target cells limit some few small)
+        (All-map IsShaped keep cells (λ k d here. op_of-shaped Keep (get_or cells k d) [] 0 (omega arith) (omega arith) (omega arith)));
     distinct = subst (IsDistinct same_key) (ap (λ keys. target ∷ keys) (sym (kept_keys cells))) (differ (target ∷ cells) apart);
   },
   All-cons (ReadsIn size) (op_of Sum target cells limit) (map keep cells) (sum_in size target cells limit inside all)

@@ -1,4 +1,4 @@
-ghost use Rattle.std.specs.Prelude.{◌≡◌, ℕ, ◌<◌, ◌↔◌, List, length, replicate, IsTrue, IfOk, Some};
+ghost use Rattle.std.specs.Prelude.{◌≡◌, ℕ, ◌<◌, ◌↔◌, List, length, IsTrue, IfOk, Some};
 ghost use Rattle.morph_base.specs.declared.word.TheConstants.{ATTEMPTS};
 ghost use Rattle.morph_base.specs.Plans.{IsPlan, op_count, event_count};
 ghost use Rattle.interleaving_core.specs.declared.event.Step.TheVariants.{Taken, Refused};
@@ -58,10 +58,10 @@ impl CoreState {
         };
         Ok(CoreState {
             cap,
-            words: filled(alloc, ops, blocked)?,
-            records: filled(alloc, ops * READS, None)?,
-            claims: filled(alloc, WORKERS as usize + 1, None)?,
-            decisions: filled(alloc, plan.events.len(), None)?,
+            words: List::filled(alloc, ops, blocked)?,
+            records: List::filled(alloc, ops * READS, None)?,
+            claims: List::filled(alloc, WORKERS as usize + 1, None)?,
+            decisions: List::filled(alloc, plan.events.len(), None)?,
             published: List::with_room(alloc, ops * (cap as usize + 1))?,
             settlings: List::with_room(alloc, ops)?,
         })
@@ -104,15 +104,4 @@ impl CoreState {
     {
         *self.decisions.get(event as usize)
     }
-}
-
-/// A list of `n` times the same item.
-fn filled<T: Copy>(alloc: Global, n: usize, item: T) -> Result<List<T>, OutOfMemory>
-    ensures { IfOk result (λ list. list.items ≡ replicate n item) }
-{
-    let mut list = List::with_room(alloc, n)?;
-    for _ in 0..n {
-        list.add(item);
-    }
-    Ok(list)
 }

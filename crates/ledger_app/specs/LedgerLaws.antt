@@ -2,15 +2,15 @@
 use Rattle.std.proofs.Common.{◌≡◌, ℕ, ◌<◌, ◌≤◌, Bool, true, false, ◌||◌, if◌then◌else◌, List, [], ◌∷◌, length, drop, get_or, suc, zero, refl, ◌∙◌, ap, subst, arith, Result, Ok, Err}
 use Rattle.std.specs.Prelude.{◌==◌, slice_index}
 use Rattle.std.specs.List.{All, IsDistinct}
-use Rattle.std.proofs.lemmas.List.{length-drop, get_or-replicate}
-use Rattle.std.proofs.lemmas.List.Elements.{All-nil, All-cons}
+use Rattle.std.proofs.lemmas.List.{length-drop}
 use Rattle.morph_base.specs.declared.limits.TheConstants.{MAX, LATEST}
 use Rattle.morph_base.specs.declared.key.Key.{Key}
 use Rattle.morph_base.specs.declared.key.Layout.{Layout}
-use Rattle.morph_base.specs.declared.operation.Func.TheVariants.{Add, Sub}
+use Rattle.morph_base.specs.declared.operation.Func.TheVariants.{Add, Sub, MoveIn}
 use Rattle.morph_base.specs.declared.operation.Op.{Op}
-use Rattle.morph_base.specs.Operations.{IsShaped, InLayout, reads, no_key}
+use Rattle.morph_base.specs.Operations.{IsShaped, InLayout, reads}
 use Rattle.morph_base.specs.Transactions.{Transaction, IsTransaction, HasKeysIn}
+use Rattle.morph_base.proofs.ShapeLaws.{all_of, op_of-shaped}
 use Rattle.event_reader.specs.declared.cause.Cause.{Cause}
 use Rattle.event_reader.specs.declared.cause.Cause.TheVariants.{Form, Same}
 use Rattle.event_reader.specs.Numbers.{numbers_in, has_form, are_in}
@@ -18,41 +18,6 @@ use Rattle.event_reader.specs.Ranges.{times, ids, amounts}
 use Rattle.event_reader.specs.Reader.{IsOfWords}
 use Rattle.event_reader.proofs.NumberLists.{in_place, numbers_are_in, numbers_causes, form_length}
 use Rattle.ledger_app.specs.Ledger.{account, asset, change, move_in, deposit_ranges, deposit, moving, transfer_ranges, deposit_of, transfer_of, ledger_event}
-
--- the operations have a valid shape
-shaped_add : (key : Key) (c : ℕ) → c ≤ MAX → IsShaped (change Add key c)
-shaped_add key c small = record {
-  at_least = omega arith;
-  at_most = omega arith;
-  places = omega arith;
-  held = omega arith;
-  constant = small;
-  blank = λ j d from inside. get_or-replicate 3 j no_key d inside;
-}
-
-shaped_sub : (key : Key) (c : ℕ) → c ≤ MAX → IsShaped (change Sub key c)
-shaped_sub key c small = record {
-  at_least = omega arith;
-  at_most = omega arith;
-  places = omega arith;
-  held = omega arith;
-  constant = small;
-  blank = λ j d from inside. get_or-replicate 3 j no_key d inside;
-}
-
-shaped_move : (key from : Key) (c : ℕ) → c ≤ MAX → IsShaped (move_in key from c)
-shaped_move key from c small = record {
-  at_least = omega arith;
-  at_most = omega arith;
-  places = omega arith;
-  held = omega arith;
-  constant = small;
-  blank = rest;
-}
-  where
-    rest : (j : ℕ) (d : Key) → 1 ≤ j → j < 3 → get_or (from ∷ no_key ∷ no_key ∷ []) j d ≡ no_key
-    rest zero d low high = absurd (omega arith)
-    rest (suc j) d low high = get_or-replicate 2 j no_key d (omega arith)
 
 -- the layout of the ledger
 abbrev ledger_layout : (size : ℕ) → Layout
@@ -68,19 +33,6 @@ asset_in size id inside = record { table = omega arith; id = inside }
 abbrev ReadsIn : (size : ℕ) → Op → Type 0
 ReadsIn size op = All (InLayout (ledger_layout size)) (reads op)
 
-one_in : (size : ℕ) (key : Key) → InLayout (ledger_layout size) key → All (InLayout (ledger_layout size)) (key ∷ [])
-one_in size key inside = All-cons (InLayout (ledger_layout size)) key [] inside (All-nil (InLayout (ledger_layout size)))
-
-two_in : (size : ℕ) (key from : Key) → InLayout (ledger_layout size) key → InLayout (ledger_layout size) from → All (InLayout (ledger_layout size)) (key ∷ from ∷ [])
-two_in size key from inside inside' = All-cons (InLayout (ledger_layout size)) key (from ∷ []) inside (one_in size from inside')
-
--- something that holds of each of two or four items
-all_two : (P : Op → Type 0) (a b : Op) → P a → P b → All P (a ∷ b ∷ [])
-all_two P a b h h' = All-cons P a (b ∷ []) h (All-cons P b [] h' (All-nil P))
-
-all_four : (P : Op → Type 0) (a b c d : Op) → P a → P b → P c → P d → All P (a ∷ b ∷ c ∷ d ∷ [])
-all_four P a b c d h h' h'' h3 = All-cons P a (b ∷ c ∷ d ∷ []) h (All-cons P b (c ∷ d ∷ []) h' (all_two P c d h'' h3))
-
 -- a deposit is valid where its numbers are in range
 deposit_is_valid : (size ts acct ast a b : ℕ) → 0 < ts → ts ≤ LATEST → acct < size → ast < size → a ≤ MAX → b ≤ MAX
     → IsTransaction (deposit ts acct ast a b) × HasKeysIn (ledger_layout size) (deposit ts acct ast a b)
@@ -91,11 +43,16 @@ deposit_is_valid size ts acct ast a b start end inside inside' small small' = (
     latest = end;
     some = omega arith;
     few = omega arith;
-    shaped = all_two IsShaped _ _ (shaped_add (account acct) a small) (shaped_add (asset ast) b small');
+    shaped = all_of IsShaped (deposit ts acct ast a b).ops (
+      op_of-shaped Add (account acct) [] a (omega arith) (omega arith) small,
+      (op_of-shaped Add (asset ast) [] b (omega arith) (omega arith) small', tt),
+    );
     distinct = ((refl, tt), (tt, tt));
   },
-  all_two (ReadsIn size) (change Add (account acct) a) (change Add (asset ast) b)
-      (one_in size (account acct) (account_in size acct inside)) (one_in size (asset ast) (asset_in size ast inside')),
+  all_of (ReadsIn size) (deposit ts acct ast a b).ops (
+    all_of (InLayout (ledger_layout size)) (account acct ∷ []) (account_in size acct inside, tt),
+    (all_of (InLayout (ledger_layout size)) (asset ast ∷ []) (asset_in size ast inside', tt), tt),
+  ),
 )
 
 -- so is a transfer whose accounts and assets differ
@@ -109,14 +66,28 @@ transfer_is_valid size ts src dst asrc adst a b start end i1 i2 i3 i4 small smal
     latest = end;
     some = omega arith;
     few = omega arith;
-    shaped = all_four IsShaped _ _ _ _ (shaped_sub (account src) a small) (shaped_sub (asset asrc) b small')
-        (shaped_move (account dst) (account src) a small) (shaped_move (asset adst) (asset asrc) b small');
+    shaped = all_of IsShaped (moving ts src dst asrc adst a b).ops (
+      op_of-shaped Sub (account src) [] a (omega arith) (omega arith) small,
+      (
+        op_of-shaped Sub (asset asrc) [] b (omega arith) (omega arith) small',
+        (
+          op_of-shaped MoveIn (account dst) (account src ∷ []) a (omega arith) (omega arith) small,
+          (op_of-shaped MoveIn (asset adst) (asset asrc ∷ []) b (omega arith) (omega arith) small', tt),
+        ),
+      ),
+    );
     distinct = ((refl, (differ, (refl, tt))), ((refl, (differ', tt)), ((refl, tt), (tt, tt))));
   },
-  all_four (ReadsIn size) (change Sub (account src) a) (change Sub (asset asrc) b) (move_in (account dst) (account src) a) (move_in (asset adst) (asset asrc) b)
-      (one_in size (account src) (account_in size src i1)) (one_in size (asset asrc) (asset_in size asrc i3))
-      (two_in size (account dst) (account src) (account_in size dst i2) (account_in size src i1))
-      (two_in size (asset adst) (asset asrc) (asset_in size adst i4) (asset_in size asrc i3)),
+  all_of (ReadsIn size) (moving ts src dst asrc adst a b).ops (
+    all_of (InLayout (ledger_layout size)) (account src ∷ []) (account_in size src i1, tt),
+    (
+      all_of (InLayout (ledger_layout size)) (asset asrc ∷ []) (asset_in size asrc i3, tt),
+      (
+        all_of (InLayout (ledger_layout size)) (account dst ∷ account src ∷ []) (account_in size dst i2, (account_in size src i1, tt)),
+        (all_of (InLayout (ledger_layout size)) (asset adst ∷ asset asrc ∷ []) (asset_in size adst i4, (asset_in size asrc i3, tt)), tt),
+      ),
+    ),
+  ),
 )
 
 -- numbers in the places of a deposit

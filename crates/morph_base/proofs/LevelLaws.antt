@@ -1,7 +1,8 @@
 -- Levels rise from a source to what reads from it.
 use Rattle.std.proofs.Common.{◌≡◌, ℕ, zero, suc, ◌+◌, ◌-◌, ◌<◌, ◌≤◌, max, List, [], ◌∷◌, ◌++◌, map, flat_map, length, get_or, not-suc-le-zero, le_of_suc-le-suc, sym, ap, ◌∙◌, subst, arith, add-sub_of_le}
-use Rattle.std.proofs.lemmas.List.{map-append, map-id, length-take-le, get_or-take}
-use Rattle.std.proofs.lemmas.List.FromFn.{length-range_with_len, get_or-range_with_len, map-range_with_len_more}
+use Rattle.std.proofs.lemmas.List.{map-append, map-id, length-map, length-take-le, get_or-take}
+use Rattle.std.proofs.lemmas.List.FromFn.{length-range_with_len, length-map-range_with_len, get_or-range_with_len, map-range_with_len_more}
+use Rattle.morph_base.specs.Contents.{Contents}
 use Rattle.morph_base.specs.declared.plan.Origin.{Origin}
 use Rattle.morph_base.specs.declared.plan.Origin.TheVariants.{Base, Op as Written}
 use Rattle.morph_base.specs.declared.plan.Plan.{Plan}
@@ -90,3 +91,8 @@ module _ (p : Plan) (valid : IsPlan p) (graph : IsGraph p) where
   event_level-range i lt =
       let level : (event_at p i).level ≡ 1 + greatest (map (event_level p) (event_origins p i)) = graph.event_level_is i lt in
       (omega arith, le-greatest (λ e. e.level) p.events.items i no_event lt)
+
+-- there is a list for each level
+pub length-op_levels : (p : Plan) → IsGraph p → length p.op_levels.items ≡ op_depth p
+length-op_levels p graph =
+    sym (length-map p.op_levels.items (λ (level : Contents ℕ). level.items)) ∙ ap length graph.op_levels_are ∙ length-map-range_with_len _ 0 (op_depth p)

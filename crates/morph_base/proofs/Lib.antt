@@ -20,3 +20,4 @@ pub mod FateLaws
 pub mod GuessLaws
 pub mod KnownLaws
 pub mod WordLaws
+pub mod ShapeLaws

@@ -1,4 +1,4 @@
-ghost use Rattle.std.specs.Prelude.{◌≡◌, ℕ, ◌+◌, ◌-◌, ◌<◌, ◌≤◌, ◌↔◌, List, [], ◌∷◌, ◌++◌, length, slice_get, slice_index_or, slice_set, IsTrue, IsNone, IfSome, IfNone, IfOk, OnOk, OnErr};
+ghost use Rattle.std.specs.Prelude.{◌≡◌, ℕ, ◌+◌, ◌-◌, ◌<◌, ◌≤◌, ◌↔◌, List, [], ◌∷◌, ◌++◌, length, slice_get, slice_index_or, slice_set, replicate, IsTrue, IsNone, IfSome, IfNone, IfOk, OnOk, OnErr};
 ghost use Rattle.std.specs.Borrow.{sem, Lends, Array};
 
 use crate::memory::OutOfMemory;
@@ -139,6 +139,17 @@ impl<T: Copy> List<T> {
             vec: Vec::from_slice(alloc, items)?,
         })
     }
+
+    /// A list of `n` times the same item.
+    pub fn filled(alloc: Global, n: usize, item: T) -> Result<Self, OutOfMemory>
+        ensures { IfOk result (λ list. list.items ≡ replicate n item) }
+    {
+        let mut list = List::with_room(alloc, n)?;
+        for _ in 0..n {
+            list.add(item);
+        }
+        Ok(list)
+    }
 }
 
 #[cfg(test)]
@@ -165,6 +176,10 @@ mod tests {
         }
         let empty: List<u64> = List::new(rt.alloc());
         assert_eq!(rt; list.as_slice(), empty.as_slice());
+        assert_eq!(rt;
+            List::filled(rt.alloc(), 2, 5)?.as_slice(),
+            [5, 5].as_slice()
+        );
         Ok(())
     }
 }

@@ -17,6 +17,7 @@ use Rattle.morph_base.specs.Outcomes.{Fate, fate, fates, fate_of}
 use Rattle.morph_base.specs.Flat.{Kept, contents}
 use Rattle.morph_base.specs.Guesses.{stale_count}
 use Rattle.morph_base.specs.Plans.{op_count}
+use Rattle.morph_base.proofs.FateLaws.{length-fates}
 use Rattle.morph_base.proofs.TimeLaws.{by_time-permutes}
 use Rattle.morph_io.specs.Told.{IsAtEnd, AppendsPrefix}
 use Rattle.event_reader.specs.declared.fault.ReaderFault.{ReaderFault}
@@ -52,11 +53,6 @@ pub told_outcomes-fates : (report : Report) (os : List Outcome) → told_outcome
 told_outcomes-fates Whole os = sym (flat_map-map event_line fate_of os)
 told_outcomes-fates Summary os = refl
 
-fates-length : (s : State) (es : List Transaction) → length (fates s es) ≡ length es
-unfolding fates
-fates-length s [] = refl
-fates-length s (e ∷ es) = ap suc (fates-length (after s e) es)
-
 -- a transaction's fate has as many values as it has operations
 fates-few : (s : State) (es : List Transaction) → All IsTransaction es → All (λ f. length f.values ≤ EVENT_OPS) (fates s es)
 unfolding fates
@@ -80,7 +76,7 @@ outcomes-length s batch os told =
     let es : List Transaction = transactions_of batch in
     let outcomes : length (map fate_of os) ≡ length os = simp length-map in
     let events : length es ≡ length batch.events.items = simp length-map in
-    sym outcomes ∙ ap length told ∙ fates-length s (by_time es) ∙ length_permutation es (by_time es) (by_time-permutes es) ∙ events
+    sym outcomes ∙ ap length told ∙ length-fates s (by_time es) ∙ length_permutation es (by_time es) (by_time-permutes es) ∙ events
 
 some_fates : (s : State) (batch : TheBatch) (os : List Outcome) → map fate_of os ≡ fates s (by_time (transactions_of batch)) → 0 < length batch.events.items → 0 < length (map fate_of os)
 some_fates s batch os told some =

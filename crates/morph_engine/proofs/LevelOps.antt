@@ -18,7 +18,7 @@ use Rattle.morph_base.specs.Clean.{from, source}
 use Rattle.morph_base.specs.Graphs.{IsGraph, below, op_depth}
 use Rattle.morph_base.specs.Plans.{IsPlan, op_count, op_at, keys_of, origin_at, origins_of}
 use Rattle.morph_base.proofs.BoundLaws.{value_of-small}
-use Rattle.morph_base.proofs.LevelLaws.{op_level-rises, op_level-range}
+use Rattle.morph_base.proofs.LevelLaws.{op_level-rises, op_level-range, length-op_levels}
 use Rattle.morph_base.proofs.OutcomeLaws.{map-agree, source_precedes}
 use Rattle.abort_lazy.specs.declared.attempts.Attempts.{Attempts}
 use Rattle.abort_lazy.specs.Attempts.{AreTried, IsTried, ReadWords, evaluated, word_of, value_in, word_at, records_at}
@@ -80,10 +80,6 @@ level_list p l d graph lt =
     ∙ ap (λ ls. get_or ls l []) lists
     ∙ get_or-map (of_level p) (below (op_depth p)) l 0 [] there
     ∙ ap (of_level p) (get_or-range_with_len 0 (op_depth p) l 0 within ∙ zero-add l)
-
-level_count : (p : Plan) → IsGraph p → length p.op_levels.items ≡ op_depth p
-level_count p graph =
-    sym (length-map p.op_levels.items (λ l. l.items)) ∙ ap length graph.op_levels_are ∙ length-map (below (op_depth p)) (of_level p) ∙ length-range_with_len 0 (op_depth p)
 
 -- ---- what an attempt reads and leaves is small
 
@@ -200,7 +196,7 @@ tried-none p a valid graph = record {
 
 module _ (p : Plan) (valid : IsPlan p) (graph : IsGraph p) (l : ℕ) (a : Attempts) (far : length p.op_levels.items ≤ l) (all : AreTriedUpTo p l a) where
   last : (o : ℕ) → o < op_count p → (op_at p o).level ≤ l
-  last o lt = (let most = (op_level-range p valid graph o lt).1 in let count = level_count p graph in omega arith)
+  last o lt = (let most = (op_level-range p valid graph o lt).1 in let count = length-op_levels p graph in omega arith)
 
   pub tried-all : AreTried p a
   tried-all o lt = all.tried o lt (last o lt)

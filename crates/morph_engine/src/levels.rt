@@ -13,6 +13,9 @@ use std::alloc::{AllocError, Global};
 use std::thread;
 use std::thread::Threads;
 
+/// The least number of operations that a thread is started for: fewer are evaluated in less time than it takes to start.
+const PART_OPS: usize = 1_024;
+
 /// Tries all operations of a plan once, one level after the other, those of a level side by side.
 ///
 /// Each reads the words that the levels before its own have left, so what comes out is the same for every number of workers.
@@ -53,10 +56,20 @@ fn try_level<R: Threads + Sync>(
     ensures made { OnOk result (AreMadeFor plan.now attempts.new) }
     ensures tried { OnOk result (AreTriedUpTo plan.now (level + 1) attempts.new) }
 {
-    let parts = cut(alloc, plan.op_levels.get(level).as_slice(), workers)?;
+    let ops = plan.op_levels.get(level).as_slice();
+    let parts = cut(alloc, ops, parts_for(ops.len(), workers))?;
     let parts = try_parts(rt, plan, &attempts.words, parts)?;
     keep_parts(plan, &parts, attempts);
     Ok(())
+}
+
+/// How many parts so many operations are cut into: one for each worker, as far as each has enough to do, and at least one.
+fn parts_for(ops: usize, workers: usize) -> usize
+    requires { 0 < workers }
+    ensures some { 0 < result }
+    ensures few { result ≤ workers }
+{
+    (ops / PART_OPS).clamp(1, workers)
 }
 
 /// Tries the operations of each part, side by side. All parts read the same words.

@@ -2,15 +2,15 @@
 use Rattle.std.proofs.Common.{◌≡◌, ℕ, ◌+◌, ◌*◌, ◌<◌, ◌≤◌, Bool, true, false, if◌then◌else◌, List, [], ◌∷◌, length, drop, get_or, suc, zero, refl, ◌∙◌, ap, subst, arith, Result, Ok, Err}
 use Rattle.std.specs.Prelude.{slice_index}
 use Rattle.std.specs.List.{All, IsDistinct}
-use Rattle.std.proofs.lemmas.List.{length-drop, get_or-replicate}
-use Rattle.std.proofs.lemmas.List.Elements.{All-nil, All-cons}
+use Rattle.std.proofs.lemmas.List.{length-drop}
 use Rattle.morph_base.specs.declared.limits.TheConstants.{MAX, LATEST}
 use Rattle.morph_base.specs.declared.key.Key.{Key}
 use Rattle.morph_base.specs.declared.key.Layout.{Layout}
 use Rattle.morph_base.specs.declared.operation.Func.TheVariants.{Blend, Set, Enter, Charge}
 use Rattle.morph_base.specs.declared.operation.Op.{Op}
-use Rattle.morph_base.specs.Operations.{IsShaped, InLayout, reads, no_key, op_of}
+use Rattle.morph_base.specs.Operations.{IsShaped, InLayout, reads}
 use Rattle.morph_base.specs.Transactions.{Transaction, IsTransaction, HasKeysIn}
+use Rattle.morph_base.proofs.ShapeLaws.{all_of, op_of-shaped}
 use Rattle.event_reader.specs.declared.cause.Cause.{Cause}
 use Rattle.event_reader.specs.declared.cause.Cause.TheVariants.{Form}
 use Rattle.event_reader.specs.Numbers.{numbers_in, has_form, are_in}
@@ -18,56 +18,6 @@ use Rattle.event_reader.specs.Ranges.{times, ids}
 use Rattle.event_reader.specs.Reader.{IsOfWords}
 use Rattle.event_reader.proofs.NumberLists.{in_place, numbers_are_in, numbers_causes, form_length}
 use Rattle.toll_app.specs.Toll.{speed_of, place_of, count_of, bill_of, segments, miles, report_ranges, report, report_of, toll_event}
-
--- the operations have a valid shape
-shaped_blend : (key : Key) (c : ℕ) → c ≤ MAX → IsShaped (op_of Blend key [] c)
-shaped_blend key c small = record {
-  at_least = omega arith;
-  at_most = omega arith;
-  places = omega arith;
-  held = omega arith;
-  constant = small;
-  blank = λ j d from inside. get_or-replicate 3 j no_key d inside;
-}
-
-shaped_set : (key : Key) (c : ℕ) → c ≤ MAX → IsShaped (op_of Set key [] c)
-shaped_set key c small = record {
-  at_least = omega arith;
-  at_most = omega arith;
-  places = omega arith;
-  held = omega arith;
-  constant = small;
-  blank = λ j d from inside. get_or-replicate 3 j no_key d inside;
-}
-
-shaped_enter : (key from : Key) (c : ℕ) → c ≤ MAX → IsShaped (op_of Enter key (from ∷ []) c)
-shaped_enter key from c small = record {
-  at_least = omega arith;
-  at_most = omega arith;
-  places = omega arith;
-  held = omega arith;
-  constant = small;
-  blank = rest;
-}
-  where
-    rest : (j : ℕ) (d : Key) → 1 ≤ j → j < 3 → get_or (from ∷ no_key ∷ no_key ∷ []) j d ≡ no_key
-    rest zero d low high = absurd (omega arith)
-    rest (suc j) d low high = get_or-replicate 2 j no_key d (omega arith)
-
-shaped_charge : (key average count : Key) (c : ℕ) → c ≤ MAX → IsShaped (op_of Charge key (average ∷ count ∷ []) c)
-shaped_charge key average count c small = record {
-  at_least = omega arith;
-  at_most = omega arith;
-  places = omega arith;
-  held = omega arith;
-  constant = small;
-  blank = rest;
-}
-  where
-    rest : (j : ℕ) (d : Key) → 2 ≤ j → j < 3 → get_or (average ∷ count ∷ no_key ∷ []) j d ≡ no_key
-    rest zero d low high = absurd (omega arith)
-    rest (suc zero) d low high = absurd (omega arith)
-    rest (suc (suc j)) d low high = get_or-replicate 1 j no_key d (omega arith)
 
 -- the layout of the tables
 abbrev toll_layout : (size : ℕ) → Layout
@@ -83,19 +33,6 @@ key_in size table id known inside = record { table = known; id = inside }
 abbrev ReadsIn : (size : ℕ) → Op → Type 0
 ReadsIn size op = All (IsIn size) (reads op)
 
--- something that holds of each of four items
-all_four : (P : Op → Type 0) (a b c d : Op) → P a → P b → P c → P d → All P (a ∷ b ∷ c ∷ d ∷ [])
-all_four P a b c d h h' h'' h3 = All-cons P a (b ∷ c ∷ d ∷ []) h (All-cons P b (c ∷ d ∷ []) h' (All-cons P c (d ∷ []) h'' (All-cons P d [] h3 (All-nil P))))
-
-one_in : (size : ℕ) (key : Key) → IsIn size key → All (IsIn size) (key ∷ [])
-one_in size key inside = All-cons (IsIn size) key [] inside (All-nil (IsIn size))
-
-two_in : (size : ℕ) (key from : Key) → IsIn size key → IsIn size from → All (IsIn size) (key ∷ from ∷ [])
-two_in size key from inside inside' = All-cons (IsIn size) key (from ∷ []) inside (one_in size from inside')
-
-three_in : (size : ℕ) (key from other : Key) → IsIn size key → IsIn size from → IsIn size other → All (IsIn size) (key ∷ from ∷ other ∷ [])
-three_in size key from other inside inside' inside'' = All-cons (IsIn size) key (from ∷ other ∷ []) inside (two_in size from other inside' inside'')
-
 -- a report is valid where its numbers are in range
 report_is_valid : (size ts vehicle segment speed : ℕ) → 0 < ts → ts ≤ LATEST → vehicle < size → segment < size → segment < MAX → speed ≤ 100
     → IsTransaction (report ts vehicle segment speed) × HasKeysIn (toll_layout size) (report ts vehicle segment speed)
@@ -110,17 +47,28 @@ report_is_valid size ts vehicle segment speed start end inside inside' small slo
         latest = end;
         some = omega arith;
         few = omega arith;
-        shaped = all_four IsShaped _ _ _ _ (shaped_blend (speed_of segment) (100 * speed) (omega arith)) (shaped_set (place_of vehicle) (segment + 1) (omega arith))
-            (shaped_enter (count_of segment) (place_of vehicle) (segment + 1) (omega arith))
-            (shaped_charge (bill_of vehicle) (speed_of segment) (count_of segment) 1000000 (omega arith));
+        shaped = all_of IsShaped (report ts vehicle segment speed).ops (
+          op_of-shaped Blend (speed_of segment) [] (100 * speed) (omega arith) (omega arith) (omega arith),
+          (
+            op_of-shaped Set (place_of vehicle) [] (segment + 1) (omega arith) (omega arith) (omega arith),
+            (
+              op_of-shaped Enter (count_of segment) (place_of vehicle ∷ []) (segment + 1) (omega arith) (omega arith) (omega arith),
+              (op_of-shaped Charge (bill_of vehicle) (speed_of segment ∷ count_of segment ∷ []) 1000000 (omega arith) (omega arith) (omega arith), tt),
+            ),
+          ),
+        );
         distinct = ((refl, (refl, (refl, tt))), ((refl, (refl, tt)), ((refl, tt), (tt, tt))));
       },
-      all_four (ReadsIn size) (op_of Blend (speed_of segment) [] (100 * speed)) (op_of Set (place_of vehicle) [] (segment + 1))
-          (op_of Enter (count_of segment) (place_of vehicle ∷ []) (segment + 1))
-          (op_of Charge (bill_of vehicle) (speed_of segment ∷ count_of segment ∷ []) 1000000)
-          (one_in size (speed_of segment) average) (one_in size (place_of vehicle) place)
-          (two_in size (count_of segment) (place_of vehicle) count place)
-          (three_in size (bill_of vehicle) (speed_of segment) (count_of segment) bill average count),
+      all_of (ReadsIn size) (report ts vehicle segment speed).ops (
+        all_of (IsIn size) (speed_of segment ∷ []) (average, tt),
+        (
+          all_of (IsIn size) (place_of vehicle ∷ []) (place, tt),
+          (
+            all_of (IsIn size) (count_of segment ∷ place_of vehicle ∷ []) (count, (place, tt)),
+            (all_of (IsIn size) (bill_of vehicle ∷ speed_of segment ∷ count_of segment ∷ []) (bill, (average, (count, tt))), tt),
+          ),
+        ),
+      ),
     )
 
 report_numbers : (size : ℕ) (ns : List ℕ) → 0 < size → length ns ≡ 4 → are_in (report_ranges size) ns ≡ true → (e : Transaction) → report_of (Ok ns) ≡ Ok e

@@ -14,9 +14,9 @@ try_parts-requires-clause-ready g c =
     let valid = c.requires.plan.plan in
     let graph = c.requires.plan.graph in
     let v : ℕ → ℕ = value_in c.args.attempts.now in
-    let its = c.as_slice.ensures ∙ ap (λ (l : Items ℕ). l.items) (c.get.ensures.at c.get.result.now) ∙ level_list p c.args.level c.get.result.now graph c.requires.level in
+    let its = c.as_slice-ops.ensures ∙ ap (λ (l : Items ℕ). l.items) (c.get.ensures.at c.get.result.now) ∙ level_list p c.args.level c.get.result.now graph c.requires.level in
     let all : All (IsReady p v) (of_level p c.args.level) = all_ready p c.args.level c.args.attempts.now valid graph c.requires.before in
-    λ κs outlives. parts-each (IsReady p v) c.args.workers c.as_slice.result.now c.in_ok-parts.parts.items c.in_ok-parts.ensures.parts (subst (All (IsReady p v)) (sym its) all)
+    λ κs outlives. parts-each (IsReady p v) c.parts_for.result c.as_slice-ops.result.now c.in_ok-parts.parts.items c.in_ok-parts.ensures.parts (subst (All (IsReady p v)) (sym its) all)
 
 pub keep_parts-requires : goal.keep_parts-requires
 keep_parts-requires g c =
@@ -40,7 +40,7 @@ returns-clause-tried g c =
     let v : ℕ → ℕ = value_in c.args.attempts.now in
     let a = c.args.attempts.now in
     let b = c.keep_parts.new.attempts in
-    let its = c.as_slice.ensures ∙ ap (λ (l : Items ℕ). l.items) (c.get.ensures.at c.get.result.now) ∙ level_list p c.args.level c.get.result.now graph c.requires.level in
-    let whole = parts-whole c.args.workers c.as_slice.result.now c.in_ok-parts.parts.items c.in_ok-parts-2.parts.items c.in_ok-parts.ensures.parts c.in_ok-parts-2.ensures.ops in
+    let its = c.as_slice-ops.ensures ∙ ap (λ (l : Items ℕ). l.items) (c.get.ensures.at c.get.result.now) ∙ level_list p c.args.level c.get.result.now graph c.requires.level in
+    let whole = parts-whole c.parts_for.result c.as_slice-ops.result.now c.in_ok-parts.parts.items c.in_ok-parts-2.parts.items c.in_ok-parts.ensures.parts c.in_ok-parts-2.ensures.ops in
     tried-level p valid graph c.args.level a b c.requires.before
     (subst (λ ops. AreTriedOn p v ops a b) (ap (flat_map ops_of) c.deref.ensures.value ∙ whole ∙ its) c.keep_parts.ensures)

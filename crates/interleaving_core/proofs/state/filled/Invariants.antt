@@ -1,5 +1,0 @@
-use Rattle.std.proofs.Common.{◌≡◌, ◌+◌, replicate}
-use Rattle.interleaving_core.proofs.state.filled.Given as goal
-
-abbrev pub invariant-loop : goal.invariant-loop
-invariant-loop g l = (l.list.items ≡ replicate l.counter l.item) × (l.list.room + l.counter ≡ l.n)

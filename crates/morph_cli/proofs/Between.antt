@@ -1,25 +1,21 @@
 -- What holds between two batches of a run, over plain values.
-use Rattle.std.proofs.Common.{◌≡◌, ℕ, suc, ◌+◌, ◌*◌, ◌<◌, ◌≤◌, true, false, List, [], ◌∷◌, length, map, Option, Result, Ok, Err, All, refl, ap, sym, subst, ◌∙◌, arith}
+use Rattle.std.proofs.Common.{◌≡◌, ℕ, ◌+◌, ◌*◌, ◌<◌, ◌≤◌, true, false, List, [], length, Option, Result, Ok, Err, refl, ap, sym, subst, ◌∙◌, arith}
 use Rattle.std.specs.Prelude.{IsTrue, IsErrAnd, IsErrOf}
-use Rattle.std.proofs.Math.ListN.{get_or-map, length-map}
+use Rattle.std.proofs.Math.ListN.{length-map}
 use Rattle.std.proofs.lemmas.Bool.{false≢true}
-use Rattle.std.proofs.lemmas.List.Elements.{All-tail, All-head, All-cons}
-use Rattle.std.proofs.lemmas.List.Folds.{flat_map-map}
-use Rattle.std.proofs.lemmas.List.Sorted.{All-permutation, length_permutation}
-use Rattle.morph_base.specs.declared.limits.TheConstants.{EVENT_OPS}
+use Rattle.std.proofs.lemmas.List.Sorted.{length_permutation}
 use Rattle.morph_base.specs.declared.key.Layout.{Layout}
 use Rattle.morph_base.specs.declared.event.Batch.{Batch as TheBatch}
-use Rattle.morph_base.specs.declared.outcome.Outcome.{Outcome}
 use Rattle.morph_base.specs.declared.plan.Plan.{Plan}
-use Rattle.morph_base.specs.Transactions.{Transaction, transactions_of, by_time, IsTransaction}
-use Rattle.morph_base.specs.States.{State, opening_state, after, fold_batch}
-use Rattle.morph_base.specs.Outcomes.{Fate, fate, fates, fate_of}
+use Rattle.morph_base.specs.Transactions.{Transaction, transactions_of, by_time}
+use Rattle.morph_base.specs.States.{State, opening_state, fold_batch}
+use Rattle.morph_base.specs.Outcomes.{Fate, fates}
 use Rattle.morph_base.specs.Flat.{Kept, contents}
 use Rattle.morph_base.specs.Guesses.{stale_count}
 use Rattle.morph_base.specs.Plans.{op_count}
 use Rattle.morph_base.proofs.FateLaws.{length-fates}
 use Rattle.morph_base.proofs.TimeLaws.{by_time-permutes}
-use Rattle.morph_io.specs.Told.{IsAtEnd, AppendsPrefix}
+use Rattle.morph_io.specs.Told.{IsAtEnd}
 use Rattle.event_reader.specs.declared.fault.ReaderFault.{ReaderFault}
 use Rattle.event_reader.specs.declared.fault.ReaderFault.TheVariants.{ReadFault, TooLong as LongInput, OutOfMemory as NoMemory}
 use Rattle.event_reader.specs.declared.answers.Next.{Next}
@@ -29,18 +25,16 @@ use Rattle.event_reader.specs.Reader.{ReaderView, new_reader, accepted_by, Takes
 use Rattle.morph_cli.specs.declared.tally.Tally.{Tally}
 use Rattle.morph_cli.specs.declared.fault.Fault.{Fault}
 use Rattle.morph_cli.specs.declared.fault.Fault.TheVariants.{Write, OutOfMemory as RunMemory}
-use Rattle.morph_cli.specs.declared.report.Report.{Report}
-use Rattle.morph_cli.specs.declared.report.Report.TheVariants.{Whole, Summary}
 use Rattle.morph_cli.specs.declared.run.Finish.{Finish}
 use Rattle.morph_cli.specs.Faults.{fault_of}
-use Rattle.morph_cli.specs.Text.{event_line, told_lines, told_outcomes}
+use Rattle.morph_cli.specs.Text.{told_lines}
 use Rattle.morph_cli.specs.Tallies.{Adds, IsMadeOf, no_tally}
 use Rattle.morph_cli.specs.Notes.{noted, batch_note}
 use Rattle.morph_cli.specs.Outputs.{Outputs, with_both, IsCutIn}
 use Rattle.morph_cli.specs.Status.{status_of}
 use Rattle.morph_cli.specs.Apps.{telling_by}
 use Rattle.morph_cli.specs.declared.settings.Settings.{Settings}
-use Rattle.morph_cli.proofs.Turns.{cut_text, cut_as}
+use Rattle.morph_cli.proofs.Turns.{cut_text}
 use Rattle.morph_cli.proofs.Ending.{Course, Goes, Ends, IsTold, meaning_in, goes_start, goes_batch, ends_read, ends_long, ends_memory, ends_batch_cut, told_short, told_in_batch}
 
 -- an error of which the value is told
@@ -48,39 +42,15 @@ pub error_is : {T E : Type 0} (r : Result T E) (e : E) → IsErrAnd r (λ y. y �
 error_is (Ok x) e h = absurd h
 error_is (Err y) e h = ap Err h
 
--- what is told of outcomes is what is told of their fates
-pub told_outcomes-fates : (report : Report) (os : List Outcome) → told_outcomes report os ≡ told_lines report (map fate_of os)
-told_outcomes-fates Whole os = sym (flat_map-map event_line fate_of os)
-told_outcomes-fates Summary os = refl
-
--- a transaction's fate has as many values as it has operations
-fates-few : (s : State) (es : List Transaction) → All IsTransaction es → All (λ f. length f.values ≤ EVENT_OPS) (fates s es)
-unfolding fates
-fates-few s [] valid = λ k d lt. absurd (omega arith)
-fates-few s (e ∷ es) valid =
-    All-cons (λ f. length f.values ≤ EVENT_OPS) (fate s e) (fates (after s e) es)
-    (let few = (All-head IsTransaction e es valid).few in simp length-map few)
-    (fates-few (after s e) es (All-tail IsTransaction e es valid))
-
--- so each outcome of a batch has few values
-pub outcomes-few : (s : State) (es : List Transaction) (os : List Outcome) → map fate_of os ≡ fates s (by_time es) → All IsTransaction es →
-    All (λ o. length o.values.items ≤ EVENT_OPS) os
-outcomes-few s es os told valid k d lt =
-    let sorted = All-permutation IsTransaction es (by_time es) (by_time-permutes es) valid in
-    let all : All (λ f. length f.values ≤ EVENT_OPS) (map fate_of os) = subst (All (λ f. length f.values ≤ EVENT_OPS)) (sym told) (fates-few s (by_time es) sorted) in
-    let here = all k (fate_of d) (simp length-map lt) in
-    subst (λ (f : Fate). length f.values ≤ EVENT_OPS) (get_or-map fate_of os k d) here
-
-pub outcomes-length : (s : State) (batch : TheBatch) (os : List Outcome) → map fate_of os ≡ fates s (by_time (transactions_of batch)) → length os ≡ length batch.events.items
-outcomes-length s batch os told =
+-- a transaction has one fate
+pub fates-many : (s : State) (batch : TheBatch) (told : List Fate) → told ≡ fates s (by_time (transactions_of batch)) → length told ≡ length batch.events.items
+fates-many s batch told is =
     let es : List Transaction = transactions_of batch in
-    let outcomes : length (map fate_of os) ≡ length os = simp length-map in
     let events : length es ≡ length batch.events.items = simp length-map in
-    sym outcomes ∙ ap length told ∙ length-fates s (by_time es) ∙ length_permutation es (by_time es) (by_time-permutes es) ∙ events
+    ap length is ∙ length-fates s (by_time es) ∙ length_permutation es (by_time es) (by_time-permutes es) ∙ events
 
-some_fates : (s : State) (batch : TheBatch) (os : List Outcome) → map fate_of os ≡ fates s (by_time (transactions_of batch)) → 0 < length batch.events.items → 0 < length (map fate_of os)
-some_fates s batch os told some =
-    let many = outcomes-length s batch os told in let all : length (map fate_of os) ≡ length os = simp length-map in omega (arith, many, all, some)
+some_fates : (s : State) (batch : TheBatch) (told : List Fate) → told ≡ fates s (by_time (transactions_of batch)) → 0 < length batch.events.items → 0 < length told
+some_fates s batch told is some = let many = fates-many s batch told is in omega (arith, many, some)
 
 -- what was evaluated and rolled back is what the plan asks for
 as_planned : (t t' : Tally) (p : Plan) (evaluated rolled : ℕ) (fs : List Fate) → Adds t t' p evaluated rolled fs → evaluated ≡ op_count p + rolled → rolled ≡ stale_count p →
@@ -164,22 +134,21 @@ module _ {App : Type 0} where
   meaning_is c r app_is size_is = ap (λ a. c.event_of a r.size) app_is ∙ ap (c.event_of c.app) size_is
 
   pub between_batch : {c : Course App} {left left' : Option (List ℕ)} {new newer : Outputs} {r r' : ReaderView App} {values values' : Kept} {tally tally' : Tally} {out out' : List ℕ}
-      (batch : TheBatch) (outcomes : List Outcome) (p : Plan) (evaluated rolled : ℕ) → Between c left new r values tally out →
+      (batch : TheBatch) (told : List Fate) (p : Plan) (evaluated rolled : ℕ) → Between c left new r values tally out →
       AnswersNext (accepted_by c.event_of r left) (Ok (Batch batch)) (accepted_by c.event_of r' left') →
       Takes left left' (ShowsNext c.event_of r (Ok (Batch batch)) r') →
       0 < length batch.events.items → r.lines.number + length batch.events.items ≤ r'.lines.number → r'.lines.number ≤ r'.lines.limit + 1 →
       (r'.app ≡ r.app) × (r'.size ≡ r.size) × (r'.lines.limit ≡ r.lines.limit) → (IsTrue r'.lines.ended → IsAtEnd left') →
       (r'.lines.ended ≡ false → r.lines.ended ≡ false) → r'.live ≡ true → values'.layout ≡ values.layout →
-      contents values' ≡ fold_batch batch (contents values) → map fate_of outcomes ≡ fates (contents values) (by_time (transactions_of batch)) →
-      newer ≡ with_both new (told_outcomes c.telling.report outcomes) (noted c.on (batch_note tally'.batches p)) → out' ≡ [] →
-      Adds tally tally' p evaluated rolled (map fate_of outcomes) → evaluated ≡ op_count p + rolled → rolled ≡ stale_count p → IsMadeOf (contents values) (transactions_of batch) p →
+      contents values' ≡ fold_batch batch (contents values) → told ≡ fates (contents values) (by_time (transactions_of batch)) →
+      newer ≡ with_both new (told_lines c.telling.report told) (noted c.on (batch_note tally'.batches p)) → out' ≡ [] →
+      Adds tally tally' p evaluated rolled told → evaluated ≡ op_count p + rolled → rolled ≡ stale_count p → IsMadeOf (contents values) (transactions_of batch) p →
       Between c left' newer r' values' tally' out'
-  between_batch {c} {left} {left'} {new} {newer} {r} {r'} {values} {values'} {tally} {tally'} {out} {out'} batch outcomes p evaluated rolled b answers shows some counted bound same at_end unended live layout_is
+  between_batch {c} {left} {left'} {new} {newer} {r} {r'} {values} {values'} {tally} {tally'} {out} {out'} batch told p evaluated rolled b answers shows some counted bound same at_end unended live layout_is
       state fates_are written empty adds once stale made = record {
-        goes = goes_batch c left left' new newer r r' (contents values) (contents values') tally tally' batch (map fate_of outcomes) p b.goes (simp length-map some) answers unended
+        goes = goes_batch c left left' new newer r r' (contents values) (contents values') tally tally' batch told p b.goes (simp length-map some) answers unended
             (subst (λ m. Takes left left' (ShowsBatch m r.closed r.lines (Ok (Batch batch)) r'.closed r'.lines)) (meaning_is c r b.app_is b.size_is) shows) state fates_are
-            (written ∙ ap (λ l. with_both new l (noted c.on (batch_note tally'.batches p))) (told_outcomes-fates c.telling.report outcomes))
-            (as_planned tally tally' p evaluated rolled (map fate_of outcomes) adds once stale) made (some_fates (contents values) batch outcomes fates_are some);
+            written (as_planned tally tally' p evaluated rolled told adds once stale) made (some_fates (contents values) batch told fates_are some);
         layout = layout_is ∙ b.layout;
         app_is = same.0 ∙ b.app_is;
         size_is = same.1 ∙ b.size_is;
@@ -188,7 +157,7 @@ module _ {App : Type 0} where
         live = live;
         at_end = at_end;
         kept = empty;
-        counted = let n = outcomes-length (contents values) batch outcomes fates_are in let before = b.counted in let all = adds.both in let fates : length (map fate_of outcomes) ≡ length outcomes = simp length-map in omega (arith, n, before, all, fates, counted);
+        counted = let n = fates-many (contents values) batch told fates_are in let before = b.counted in let all = adds.both in omega (arith, n, before, all, counted);
       }
 
   -- memory was refused before the first batch
@@ -219,21 +188,19 @@ module _ {App : Type 0} where
 
   -- writing failed in a batch
   pub ends_in_batch : {c : Course App} {left : Option (List ℕ)} {new : Outputs} {r : ReaderView App} {values : Kept} {tally : Tally} {out : List ℕ} {x : Result Finish Fault}
-      (left' : Option (List ℕ)) (newer : Outputs) (r' : ReaderView App) (batch : TheBatch) (outcomes : List Outcome) (note : List ℕ) → x ≡ Err Write → Between c left new r values tally out →
+      (left' : Option (List ℕ)) (newer : Outputs) (r' : ReaderView App) (batch : TheBatch) (told : List Fate) (note : List ℕ) → x ≡ Err Write → Between c left new r values tally out →
       AnswersNext (accepted_by c.event_of r left) (Ok (Batch batch)) (accepted_by c.event_of r' left') → 0 < length batch.events.items →
-      map fate_of outcomes ≡ fates (contents values) (by_time (transactions_of batch)) → IsCutIn new (told_outcomes c.telling.report outcomes) note newer → Ends c left' x newer
-  ends_in_batch {c} {left} {new} {r} {values} {tally} {out} {x} left' newer r' batch outcomes note failed b answers some fates_are cut =
-      ends_batch_cut left' left' newer r' (transactions_of batch) (map fate_of outcomes) failed b.goes (simp length-map some) answers fates_are
-      (subst (λ l. AppendsPrefix new.sink l newer.sink) (told_outcomes-fates c.telling.report outcomes) (cut_text new (told_outcomes c.telling.report outcomes) note newer cut))
+      told ≡ fates (contents values) (by_time (transactions_of batch)) → IsCutIn new (told_lines c.telling.report told) note newer → Ends c left' x newer
+  ends_in_batch {c} {left} {new} {r} {values} {tally} {out} {x} left' newer r' batch told note failed b answers some fates_are cut =
+      ends_batch_cut left' left' newer r' (transactions_of batch) told failed b.goes (simp length-map some) answers fates_are
+      (cut_text new (told_lines c.telling.report told) note newer cut)
 
   pub told_cut_in_batch : {c : Course App} {left : Option (List ℕ)} {new : Outputs} {r : ReaderView App} {values : Kept} {tally tally' : Tally} {out : List ℕ} {x : Result Finish Fault}
-      (left' : Option (List ℕ)) (newer : Outputs) (r' : ReaderView App) (batch : TheBatch) (outcomes : List Outcome) (p : Plan) (evaluated rolled : ℕ) → x ≡ Err Write → Between c left new r values tally out →
+      (left' : Option (List ℕ)) (newer : Outputs) (r' : ReaderView App) (batch : TheBatch) (told : List Fate) (p : Plan) (evaluated rolled : ℕ) → x ≡ Err Write → Between c left new r values tally out →
       AnswersNext (accepted_by c.event_of r left) (Ok (Batch batch)) (accepted_by c.event_of r' left') → 0 < length batch.events.items →
-      map fate_of outcomes ≡ fates (contents values) (by_time (transactions_of batch)) →
-      Adds tally tally' p evaluated rolled (map fate_of outcomes) → evaluated ≡ op_count p + rolled → rolled ≡ stale_count p → IsMadeOf (contents values) (transactions_of batch) p →
-      IsCutIn new (told_outcomes c.telling.report outcomes) (noted c.on (batch_note tally'.batches p)) newer → IsTold c (status_of x) tally' newer
-  told_cut_in_batch {c} {left} {new} {r} {values} {tally} {tally'} {out} {x} left' newer r' batch outcomes p evaluated rolled failed b answers some fates_are adds once stale made cut =
+      told ≡ fates (contents values) (by_time (transactions_of batch)) →
+      Adds tally tally' p evaluated rolled told → evaluated ≡ op_count p + rolled → rolled ≡ stale_count p → IsMadeOf (contents values) (transactions_of batch) p →
+      IsCutIn new (told_lines c.telling.report told) (noted c.on (batch_note tally'.batches p)) newer → IsTold c (status_of x) tally' newer
+  told_cut_in_batch {c} {left} {new} {r} {values} {tally} {tally'} {out} {x} left' newer r' batch told p evaluated rolled failed b answers some fates_are adds once stale made cut =
       told_in_batch left' newer r' (transactions_of batch) failed b.goes answers (simp length-map some) fates_are
-      (as_planned tally tally' p evaluated rolled (map fate_of outcomes) adds once stale) made (some_fates (contents values) batch outcomes fates_are some)
-      (cut_as new new (told_outcomes c.telling.report outcomes) (told_lines c.telling.report (map fate_of outcomes)) (noted c.on (batch_note tally'.batches p)) (noted c.on (batch_note tally'.batches p)) newer
-      refl (told_outcomes-fates c.telling.report outcomes) refl cut)
+      (as_planned tally tally' p evaluated rolled told adds once stale) made (some_fates (contents values) batch told fates_are some) cut

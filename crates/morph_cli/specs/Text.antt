@@ -1,14 +1,13 @@
 -- The text of a run: the lines of its events, and what stands at the end.
 use Rattle.std.specs.Prelude.{ℕ, ◌==◌, not, if◌then◌else◌, List, [], ◌∷◌, ◌++◌, codes, decimal, count_by, sum_by}
 use Rattle.std.specs.List.{flat_map, range_with_len}
-use Rattle.morph_base.specs.declared.outcome.Outcome.{Outcome}
 use Rattle.morph_base.specs.declared.key.Layout.{Layout}
 use Rattle.morph_base.specs.Transactions.{Transaction, by_time}
 use Rattle.morph_base.specs.States.{State, opening_state, after_all}
 use Rattle.event_reader.specs.declared.cause.Cause.{Cause}
 use Rattle.event_reader.specs.declared.cause.Cause.TheVariants.{Long, Form, Range, Same, Late, Twice, Full}
 use Rattle.event_reader.specs.Accepted.{Accepted, Ending, Ended, RefusedAt, CutOff}
-use Rattle.morph_base.specs.Outcomes.{Fate, fate_of, fates}
+use Rattle.morph_base.specs.Outcomes.{Fate, fates}
 use Rattle.morph_cli.specs.declared.report.Report.{Report}
 use Rattle.morph_cli.specs.declared.report.Report.TheVariants.{Whole, Summary}
 
@@ -38,17 +37,10 @@ event_line f = line (event_text f)
 abbrev pub lines_of : List Fate → List ℕ
 lines_of fs = flat_map event_line fs
 
-abbrev pub outcome_lines : List Outcome → List ℕ
-outcome_lines outcomes = flat_map (λ o. event_line (fate_of o)) outcomes
-
 -- what is told of events: their lines, and in a summary nothing
 abbrev pub told_lines : Report → List Fate → List ℕ
 told_lines Whole fs = lines_of fs
 told_lines Summary fs = []
-
-abbrev pub told_outcomes : Report → List Outcome → List ℕ
-told_outcomes Whole outcomes = outcome_lines outcomes
-told_outcomes Summary outcomes = []
 
 -- the events of batches in the order of time: batch after batch, each by rising time
 abbrev pub in_order : List (List Transaction) → List Transaction

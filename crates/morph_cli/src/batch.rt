@@ -1,15 +1,15 @@
-ghost use Rattle.std.specs.Prelude.{◌≡◌, ℕ, ◌+◌, ◌<◌, ◌≤◌, length, map, IfOk, OnOk};
+ghost use Rattle.std.specs.Prelude.{◌≡◌, ◌+◌, ◌≤◌, IfOk, OnOk, OnErr};
 ghost use Rattle.morph_base.specs.declared.limits.TheConstants.{WORKERS};
 ghost use Rattle.morph_base.specs.Flat.{contents};
 ghost use Rattle.morph_base.specs.Transactions.{IsBatch, BatchKeysIn, transactions_of, by_time};
 ghost use Rattle.morph_base.specs.States.{fold_batch};
-ghost use Rattle.morph_base.specs.Outcomes.{fate_of, fates};
-ghost use Rattle.morph_base.specs.Plans.{IsPlan, IsSettledOf, event_count, op_count};
+ghost use Rattle.morph_base.specs.Outcomes.{fates};
+ghost use Rattle.morph_base.specs.Plans.{IsSettledOf, op_count};
 ghost use Rattle.morph_base.specs.Guesses.{stale_count};
-ghost use Rattle.morph_engine.specs.Fates.{settled_fate, settled_fates};
+ghost use Rattle.morph_engine.specs.Fates.{settled_fates};
 ghost use Rattle.morph_cli.specs.Tallies.{IsMadeOf};
 
-use morph_base::{Abort, Batch, Explore, List, OutOfMemory, Outcome, Strategy, Unit};
+use morph_base::{Abort, Batch, Explore, OutOfMemory, Strategy, Unit};
 use morph_engine::{BatchEnd, Engine};
 use std::alloc::Global;
 use std::thread::Threads;
@@ -22,16 +22,7 @@ const STRATEGY: Strategy = Strategy {
     abort: Abort::Lazy,
 };
 
-/// A batch that was run: its plan with what it came to, and what became of each event, by rising timestamp.
-#[derive(Debug, Drop)]
-pub struct BatchRun {
-    pub end: BatchEnd,
-    pub outcomes: List<Outcome>,
-}
-
-/// Makes the plan of a batch, runs it on the engine with so many workers, and tells what became of each event, by rising timestamp.
-///
-/// Where memory is refused, the engine may stand after the batch.
+/// Makes the plan of a batch and runs it on the engine with so many workers. Where memory is refused the engine stays.
 pub fn run_batch<R: Threads + Sync, G: Gate>(
     rt: &R,
     alloc: Global,
@@ -39,51 +30,20 @@ pub fn run_batch<R: Threads + Sync, G: Gate>(
     batch: &Batch,
     workers: u32,
     gate: &G,
-) -> Result<BatchRun, OutOfMemory>
+) -> Result<BatchEnd, OutOfMemory>
     requires some_workers { 1 ≤ workers }
     requires few_workers { workers ≤ WORKERS }
     requires batch { IsBatch batch.now }
     requires keys { BatchKeysIn engine.old.layout batch.now }
     ensures layout { engine.new.layout ≡ engine.old.layout }
     ensures state { OnOk result (contents engine.new ≡ fold_batch batch.now (contents engine.old)) }
-    ensures fates { IfOk result (λ ran. map fate_of ran.outcomes.items ≡ fates (contents engine.old) (by_time (transactions_of batch.now))) }
-    ensures made { IfOk result (λ ran. IsMadeOf (contents engine.old) (transactions_of batch.now) ran.end.plan) }
-    ensures evaluated { IfOk result (λ ran. ran.end.evaluated ≡ op_count ran.end.plan + ran.end.rolled) }
-    ensures rolled { IfOk result (λ ran. ran.end.rolled ≡ stale_count ran.end.plan) }
+    ensures fates { IfOk result (λ end. settled_fates end.plan end.settled ≡ fates (contents engine.old) (by_time (transactions_of batch.now))) }
+    ensures made { IfOk result (λ end. IsMadeOf (contents engine.old) (transactions_of batch.now) end.plan) }
+    ensures settled { IfOk result (λ end. IsSettledOf end.plan end.settled) }
+    ensures evaluated { IfOk result (λ end. end.evaluated ≡ op_count end.plan + end.rolled) }
+    ensures rolled { IfOk result (λ end. end.rolled ≡ stale_count end.plan) }
+    ensures refused { OnErr result (engine.new ≡ engine.old) }
 {
     let plan = engine.plan(alloc, batch)?;
-    let end = engine.run_batch(rt, alloc, plan, &STRATEGY, workers, gate)?;
-    let outcomes = outcomes(alloc, &end)?;
-    Ok(BatchRun { end, outcomes })
-}
-
-/// What became of each event of a batch that was run, by rising timestamp.
-fn outcomes(alloc: Global, end: &BatchEnd) -> Result<List<Outcome>, OutOfMemory>
-    requires plan { IsPlan end.now.plan }
-    requires settled { IsSettledOf end.now.plan end.now.settled }
-    ensures { IfOk result (λ outcomes. map fate_of outcomes.items ≡ settled_fates end.now.plan end.now.settled) }
-{
-    let count = end.plan.events.len();
-    let mut outcomes = List::with_room(alloc, count)?;
-    for i in 0..count {
-        outcomes.add(outcome(alloc, end, i)?);
-    }
-    Ok(outcomes)
-}
-
-/// What became of one event.
-fn outcome(alloc: Global, end: &BatchEnd, i: usize) -> Result<Outcome, OutOfMemory>
-    requires plan { IsPlan end.now.plan }
-    requires settled { IsSettledOf end.now.plan end.now.settled }
-    requires event { i < event_count end.now.plan }
-    ensures { IfOk result (λ outcome. fate_of outcome ≡ settled_fate end.now.plan end.now.settled i) }
-{
-    let event = end.plan.events.get(i);
-    let first = event.first as usize;
-    let values = &end.settled.values.as_slice()[first..first + event.count as usize];
-    Ok(Outcome {
-        ts: event.ts,
-        committed: *end.settled.committed.get(i),
-        values: List::from_slice(alloc, values)?,
-    })
+    engine.run_batch(rt, alloc, plan, &STRATEGY, workers, gate)
 }

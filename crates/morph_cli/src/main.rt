@@ -7,7 +7,6 @@
 #![tactic(auto)]
 
 mod batch;
-mod counts;
 mod ended;
 mod fault;
 mod morph;

@@ -68,9 +68,9 @@ pub fn run<R: Threads + Sync, A: EventApp + Copy, S: Source, K: Sink, N: Sink, G
     'batches: loop {
         match reader.next_batch(alloc, source)? {
             Next::Batch(batch) => {
-                let ran = run_batch(rt, alloc, &mut engine, &batch, settings.workers, gate)?;
-                tally.add(&ran);
-                tell_batch(&mut out, sink, notes, &settings, tally.batches, &ran)?;
+                let end = run_batch(rt, alloc, &mut engine, &batch, settings.workers, gate)?;
+                tally.add(&end);
+                tell_batch(&mut out, sink, notes, &settings, tally.batches, &end)?;
             }
             Next::End => {
                 let values = engine.state();

@@ -1,11 +1,9 @@
-ghost use Rattle.std.specs.Prelude.{◌≡◌, ◌+◌, ◌<◌, ◌^◌, [], ◌∷◌, length, map, replicate};
-ghost use Rattle.morph_base.specs.Outcomes.{fate_of};
-ghost use Rattle.morph_base.specs.Plans.{op_count};
+ghost use Rattle.std.specs.Prelude.{◌≡◌, ◌+◌, ◌<◌, ◌^◌, [], ◌∷◌, count_by, replicate};
+ghost use Rattle.morph_base.specs.Plans.{IsPlan, IsSettledOf, event_count, op_count};
+ghost use Rattle.morph_engine.specs.Fates.{settled_fates};
 ghost use Rattle.morph_cli.specs.Tallies.{no_tally, settled_by_first, Adds};
-ghost use Rattle.morph_cli.specs.Text.{committed_in, aborted_in};
 
-use crate::batch::BatchRun;
-use crate::counts::Counts;
+use morph_engine::BatchEnd;
 
 /// What was done in a run, over the batches that were run.
 #[derive(Clone, Copy, Debug, PartialEq, Eq)]
@@ -54,29 +52,35 @@ impl Tally {
     }
 
     /// Counts a batch that was run.
-    pub fn add(&mut self, ran: &BatchRun)
+    pub fn add(&mut self, end: &BatchEnd)
+        requires plan { IsPlan end.now.plan }
+        requires settled { IsSettledOf end.now.plan end.now.settled }
         requires batches { self.old.batches + 1 < 2 ^ 64 }
-        requires events { self.old.events + length ran.now.outcomes.items < 2 ^ 64 }
-        requires counts { self.old.committed + self.old.aborted + length ran.now.outcomes.items < 2 ^ 64 }
-        requires ops { self.old.ops + op_count ran.now.end.plan < 2 ^ 64 }
-        requires evaluated { self.old.evaluated + ran.now.end.evaluated < 2 ^ 64 }
-        requires rolled { self.old.rolled + ran.now.end.rolled < 2 ^ 64 }
-        ensures { Adds self.old self.new ran.now.end.plan ran.now.end.evaluated ran.now.end.rolled (map fate_of ran.now.outcomes.items) }
+        requires events { self.old.events + event_count end.now.plan < 2 ^ 64 }
+        requires counts { self.old.committed + self.old.aborted + event_count end.now.plan < 2 ^ 64 }
+        requires ops { self.old.ops + op_count end.now.plan < 2 ^ 64 }
+        requires evaluated { self.old.evaluated + end.now.evaluated < 2 ^ 64 }
+        requires rolled { self.old.rolled + end.now.rolled < 2 ^ 64 }
+        ensures { Adds self.old self.new end.now.plan end.now.evaluated end.now.rolled (settled_fates end.now.plan end.now.settled) }
     {
-        let mut counts = Counts {
-            committed: self.committed,
-            aborted: self.aborted,
-        };
-        counts.add(ran.outcomes.as_slice());
+        let events = end.plan.events.len();
+        let committed = commits(end.settled.committed.as_slice());
         self.batches += 1;
-        self.events += ran.outcomes.len() as u64;
-        self.committed = counts.committed;
-        self.aborted = counts.aborted;
-        self.ops += ran.end.plan.ops.len() as u64;
-        self.evaluated += ran.end.evaluated;
-        self.rolled += ran.end.rolled;
+        self.events += events as u64;
+        self.committed += committed as u64;
+        self.aborted += (events - committed) as u64;
+        self.ops += end.plan.ops.len() as u64;
+        self.evaluated += end.evaluated;
+        self.rolled += end.rolled;
         self.settled_by = all_by_first(self.ops);
     }
+}
+
+/// How many of some verdicts commit.
+fn commits(verdicts: &[bool]) -> usize
+    ensures { result ≡ count_by (λ verdict. verdict) verdicts.now }
+{
+    verdicts.iter().filter(|verdict| **verdict).count()
 }
 
 /// The first worker settled so many operations, and nobody else any.

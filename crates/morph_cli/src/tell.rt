@@ -1,19 +1,21 @@
-ghost use Rattle.std.specs.Prelude.{◌≡◌, ◌≤◌, ◌⊎◌, [], ◌++◌, length, All, IsTrue, OnOk, OnErr};
-ghost use Rattle.morph_base.specs.declared.limits.TheConstants.{EVENT_OPS, WORKERS};
+ghost use Rattle.std.specs.Prelude.{◌≡◌, ◌≤◌, ◌⊎◌, [], ◌++◌, length, IsTrue, OnOk, OnErr};
+ghost use Rattle.morph_base.specs.declared.limits.TheConstants.{WORKERS};
 ghost use Rattle.morph_base.specs.Flat.{contents};
+ghost use Rattle.morph_base.specs.Plans.{IsPlan, IsSettledOf};
+ghost use Rattle.morph_engine.specs.Fates.{settled_fates};
 ghost use Rattle.morph_io.specs.Told.{HasRisen};
 ghost use Rattle.morph_cli.specs.declared.settings.TheConstants.{GREATEST_SIZE};
 ghost use Rattle.morph_cli.specs.Apps.{report_of};
 ghost use Rattle.morph_cli.specs.Notes.{noted, batch_note, closing_notes};
 ghost use Rattle.morph_cli.specs.Outputs.{outputs_of, Tells};
-ghost use Rattle.morph_cli.specs.Text.{told_outcomes, told_values, counts_line, refused_text};
+ghost use Rattle.morph_cli.specs.Text.{told_lines, told_values, counts_line, refused_text};
 
-use crate::batch::BatchRun;
 use crate::notes::{note_batch, note_tally};
 use crate::settings::Settings;
 use crate::tally::Tally;
 use crate::writing::{write_closing, write_events, write_refused};
 use event_reader::{Cause, EventApp};
+use morph_engine::BatchEnd;
 use morph_io::{Out, Sink, WriteFailed};
 use version_table::State;
 
@@ -24,19 +26,20 @@ pub fn tell_batch<K: Sink, N: Sink>(
     notes: &mut N,
     settings: &Settings,
     number: u64,
-    ran: &BatchRun,
+    end: &BatchEnd,
 ) -> Result<(), WriteFailed>
     requires empty { out.old ≡ [] }
-    requires few { All (λ o. length o.values.items ≤ EVENT_OPS) ran.now.outcomes.items }
-    ensures told { Tells result (outputs_of (K.written sink.old) (N.written notes.old)) (told_outcomes (report_of settings.now) ran.now.outcomes.items)
-        (noted settings.now.notes (batch_note number ran.now.end.plan)) (outputs_of (K.written sink.new) (N.written notes.new)) }
+    requires plan { IsPlan end.now.plan }
+    requires settled { IsSettledOf end.now.plan end.now.settled }
+    ensures told { Tells result (outputs_of (K.written sink.old) (N.written notes.old)) (told_lines (report_of settings.now) (settled_fates end.now.plan end.now.settled))
+        (noted settings.now.notes (batch_note number end.now.plan)) (outputs_of (K.written sink.new) (N.written notes.new)) }
     ensures empty { OnOk result (out.new ≡ []) }
     ensures sink_faults { K.faults sink.old ≤ K.faults sink.new }
     ensures notes_faults { N.faults notes.old ≤ N.faults notes.new }
     ensures cause { OnErr result (HasRisen (K.faults sink.old) (K.faults sink.new) ⊎ (IsTrue settings.now.notes × HasRisen (N.faults notes.old) (N.faults notes.new))) }
 {
-    write_events(out, sink, settings.report(), ran.outcomes.as_slice())?;
-    note_batch(notes, settings.notes, number, &ran.end.plan)
+    write_events(out, sink, settings.report(), end)?;
+    note_batch(notes, settings.notes, number, &end.plan)
 }
 
 /// Tells the end of the input: the closing text to the sink, and behind it the tally to the notes, where these are on.

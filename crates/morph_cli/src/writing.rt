@@ -1,56 +1,56 @@
-ghost use Rattle.std.specs.Prelude.{◌≡◌, ◌<◌, ◌≤◌, [], ◌++◌, length, All, OnOk, OnErr};
-ghost use Rattle.morph_base.specs.declared.limits.TheConstants.{EVENT_OPS};
+ghost use Rattle.std.specs.Prelude.{◌≡◌, ◌<◌, ◌≤◌, [], ◌++◌, length, OnOk, OnErr};
 ghost use Rattle.morph_base.specs.Flat.{contents};
+ghost use Rattle.morph_base.specs.Plans.{IsPlan, IsSettledOf};
+ghost use Rattle.morph_engine.specs.Fates.{settled_fates};
 ghost use Rattle.event_reader.specs.declared.limits.TheConstants.{NAME_BYTES};
 ghost use Rattle.morph_cli.specs.declared.settings.TheConstants.{GREATEST_SIZE};
 ghost use Rattle.morph_io.specs.Told.{behind, HasRisen, Puts, AppendsPrefix};
-ghost use Rattle.morph_cli.specs.Text.{outcome_lines, told_outcomes, value_line, table_lines, value_lines, told_values, counts_line, cause_word, refused_text};
+ghost use Rattle.morph_cli.specs.Text.{lines_of, told_lines, value_line, table_lines, value_lines, told_values, counts_line, cause_word, refused_text};
 
 use crate::report::Report;
 use crate::tally::Tally;
 use crate::text::event_line;
 use crate::totals::put_totals;
 use event_reader::{Cause, EventApp};
-use morph_base::{Key, Outcome};
+use morph_base::{Key, Plan, Settled};
+use morph_engine::BatchEnd;
 use morph_io::{LineBuf, Out, Sink, WriteFailed};
 use version_table::State;
 
-/// Writes what is told of events, whole: their lines, and in a summary nothing.
+/// Writes what is told of the events of a batch that was run, whole: their lines, and in a summary nothing.
 pub fn write_events<K: Sink>(
     out: &mut Out,
     sink: &mut K,
     report: Report,
-    outcomes: &[Outcome],
+    end: &BatchEnd,
 ) -> Result<(), WriteFailed>
     requires empty { out.old ≡ [] }
-    requires few { All (λ o. length o.values.items ≤ EVENT_OPS) outcomes.now }
-    ensures written { OnOk result (K.written sink.new ≡ behind (K.written sink.old) (told_outcomes report outcomes.now)) }
-    ensures prefix { OnErr result (AppendsPrefix (K.written sink.old) (told_outcomes report outcomes.now) (K.written sink.new)) }
+    requires plan { IsPlan end.now.plan }
+    requires settled { IsSettledOf end.now.plan end.now.settled }
+    ensures written { OnOk result (K.written sink.new ≡ behind (K.written sink.old) (told_lines report (settled_fates end.now.plan end.now.settled))) }
+    ensures prefix { OnErr result (AppendsPrefix (K.written sink.old) (told_lines report (settled_fates end.now.plan end.now.settled)) (K.written sink.new)) }
     ensures empty { OnOk result (out.new ≡ []) }
     ensures never_falls { K.faults sink.old ≤ K.faults sink.new }
     ensures cause { OnErr result (HasRisen (K.faults sink.old) (K.faults sink.new)) }
 {
     match report {
-        Report::Whole => write_lines(out, sink, outcomes),
+        Report::Whole => write_lines(out, sink, end),
         Report::Summary => Ok(()),
     }
 }
 
 /// Writes the lines of events, whole.
-fn write_lines<K: Sink>(
-    out: &mut Out,
-    sink: &mut K,
-    outcomes: &[Outcome],
-) -> Result<(), WriteFailed>
+fn write_lines<K: Sink>(out: &mut Out, sink: &mut K, end: &BatchEnd) -> Result<(), WriteFailed>
     requires empty { out.old ≡ [] }
-    requires few { All (λ o. length o.values.items ≤ EVENT_OPS) outcomes.now }
-    ensures written { OnOk result (K.written sink.new ≡ behind (K.written sink.old) (outcome_lines outcomes.now)) }
-    ensures prefix { OnErr result (AppendsPrefix (K.written sink.old) (outcome_lines outcomes.now) (K.written sink.new)) }
+    requires plan { IsPlan end.now.plan }
+    requires settled { IsSettledOf end.now.plan end.now.settled }
+    ensures written { OnOk result (K.written sink.new ≡ behind (K.written sink.old) (lines_of (settled_fates end.now.plan end.now.settled))) }
+    ensures prefix { OnErr result (AppendsPrefix (K.written sink.old) (lines_of (settled_fates end.now.plan end.now.settled)) (K.written sink.new)) }
     ensures empty { OnOk result (out.new ≡ []) }
     ensures never_falls { K.faults sink.old ≤ K.faults sink.new }
     ensures cause { OnErr result (HasRisen (K.faults sink.old) (K.faults sink.new)) }
 {
-    put_events(out, sink, outcomes)?;
+    put_events(out, sink, &end.plan, &end.settled)?;
     out.flush(sink)
 }
 
@@ -111,18 +111,24 @@ fn cause_name(cause: Cause) -> &'static [u8]
     }
 }
 
-/// Puts the lines of events.
-fn put_events<K: Sink>(out: &mut Out, sink: &mut K, outcomes: &[Outcome]) -> Result<(), WriteFailed>
-    requires few { All (λ o. length o.values.items ≤ EVENT_OPS) outcomes.now }
-    ensures puts { OnOk result (Puts (K.written sink.old) out.old (outcome_lines outcomes.now) (K.written sink.new) out.new) }
-    ensures prefix { OnErr result (AppendsPrefix (K.written sink.old) (out.old ++ outcome_lines outcomes.now) (K.written sink.new)) }
+/// Puts the lines of events, by rising timestamp.
+fn put_events<K: Sink>(
+    out: &mut Out,
+    sink: &mut K,
+    plan: &Plan,
+    settled: &Settled,
+) -> Result<(), WriteFailed>
+    requires plan { IsPlan plan.now }
+    requires settled { IsSettledOf plan.now settled.now }
+    ensures puts { OnOk result (Puts (K.written sink.old) out.old (lines_of (settled_fates plan.now settled.now)) (K.written sink.new) out.new) }
+    ensures prefix { OnErr result (AppendsPrefix (K.written sink.old) (out.old ++ lines_of (settled_fates plan.now settled.now)) (K.written sink.new)) }
     ensures never_falls { K.faults sink.old ≤ K.faults sink.new }
     ensures cause { OnErr result (HasRisen (K.faults sink.old) (K.faults sink.new)) }
 {
     let mut line = LineBuf::new();
-    for outcome in outcomes {
+    for i in 0..plan.events.len() as u32 {
         line.clear();
-        event_line(outcome, &mut line);
+        event_line(plan, settled, i, &mut line);
         line.word(b"\n");
         out.put(sink, &line)?;
     }

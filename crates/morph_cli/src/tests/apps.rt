@@ -128,18 +128,23 @@ fn counted(text: &[u8]) -> u64 {
     sum.wrapping_add(number)
 }
 
+/// With a million ids most operations of a batch are on the first level, which is enough of them for several threads.
 #[test]
 fn workers_do_not_change_the_answer(rt: HostRuntime) -> Result<(), Fail> {
-    let made: [&[u8]; 3] = [b"self=ledger", b"seed=7", b"events=20000"];
-    let one = run_words(&rt, rt.alloc(), &made, b"")?;
-    let four = run_words(
-        &rt,
-        rt.alloc(),
-        &[b"self=ledger", b"seed=7", b"events=20000", b"workers=4"],
-        b"",
-    )?;
-    assert_eq!(rt; (one.status, four.status), (0, 0));
-    assert_eq!(rt; one.sink.bytes(), four.sink.bytes());
-    assert_eq!(rt; counted(one.sink.bytes()), 20_000);
+    for size in [b"size=10000".as_slice(), b"size=1000000"] {
+        let made: [&[u8]; 4] = [b"self=ledger", b"seed=7", b"events=20000", size];
+        let one = run_words(&rt, rt.alloc(), &made, b"")?;
+        let made: [&[u8]; 5] = [
+            b"self=ledger",
+            b"seed=7",
+            b"events=20000",
+            size,
+            b"workers=4",
+        ];
+        let four = run_words(&rt, rt.alloc(), &made, b"")?;
+        assert_eq!(rt; (one.status, four.status), (0, 0));
+        assert_eq!(rt; one.sink.bytes(), four.sink.bytes());
+        assert_eq!(rt; counted(one.sink.bytes()), 20_000);
+    }
     Ok(())
 }

@@ -63,3 +63,28 @@ fn the_notes_fail(rt: HostRuntime) -> Result<(), Fail> {
         b"1 C 100 5\nacct 0 100\nasset 0 5\ncommitted 1 aborted 0\n",
     )
 }
+
+/// A sink that fails at the second batch: what it took before stands, and the first batch alone is noted.
+#[test]
+fn a_batch_is_noted_behind_its_lines(rt: HostRuntime) -> Result<(), Fail> {
+    let alloc = rt.alloc();
+    let words = words_of(alloc, &[b"app=ledger", b"notes=on"])?;
+    let mut source = source_of(alloc, b"D 1 0 0 1 1\nP\nD 2 0 0 1 1\n", 50, &[])?;
+    let mut sink = sink_of(alloc, 5, &[4], &[])?;
+    let mut notes = sink_of(alloc, 100, &[], &[])?;
+    let ended = ended(
+        &rt,
+        alloc,
+        words.as_slice(),
+        &mut source,
+        &mut sink,
+        &mut notes,
+    );
+    assert_eq!(rt; ended.status, 5);
+    assert_eq!(rt; sink.bytes(), b"1 C 1 1\n2 C 2".as_slice());
+    assert_eq!(rt;
+        notes.bytes(),
+        b"batch 1: events 1 ops 2 levels 1 op strata lazy\nmorph: write failed\n".as_slice()
+    );
+    Ok(())
+}

@@ -3,8 +3,8 @@ use Rattle.event_reader.specs.declared.limits.TheConstants.{INPUT_BYTES}
 use Rattle.event_reader.specs.Accepted.{Ended, RefusedAt}
 use Rattle.morph_base.specs.declared.key.Layout.{Layout}
 use Rattle.morph_base.specs.Flat.{Kept, contents}
-use Rattle.morph_base.specs.Transactions.{transactions_of}
 use Rattle.morph_base.proofs.NumberLaws.{op_count-small}
+use Rattle.morph_engine.specs.Fates.{settled_fates}
 use Rattle.morph_cli.specs.declared.fault.Fault.TheVariants.{Write, OutOfMemory}
 use Rattle.morph_cli.specs.declared.settings.Settings.{Settings}
 use Rattle.morph_cli.specs.declared.tally.Tally.{Tally}
@@ -13,10 +13,10 @@ use Rattle.morph_cli.specs.Faults.{fault_of}
 use Rattle.morph_cli.specs.Notes.{noted, batch_note, closing_notes}
 use Rattle.morph_cli.specs.Outputs.{outputs_of}
 use Rattle.morph_cli.specs.Text.{told_values, refused_text, counts_line}
-use Rattle.morph_cli.proofs.Between.{course_of, error_is, outcomes-few, outcomes-length, between_start, between_batch, tally_few, ends_at_once, told_at_once, ends_fault, told_fault, ends_in_batch, told_cut_in_batch}
+use Rattle.morph_cli.proofs.Between.{course_of, error_is, fates-many, between_start, between_batch, tally_few, ends_at_once, told_at_once, ends_fault, told_fault, ends_in_batch, told_cut_in_batch}
 use Rattle.morph_cli.proofs.Ending.{ends_memory, ends_complete, ends_refused, ends_cut, told_short, told_at_end, told_cut_at_end}
 use Rattle.morph_cli.proofs.Noting.{risen_in_part}
-use Rattle.morph_cli.proofs.Tallying.{few_stale}
+use Rattle.morph_cli.proofs.Tallying.{few_stale, length-settled_fates}
 use Rattle.morph_cli.proofs.Turns.{cut_text}
 use Rattle.morph_cli.proofs.run.run.Goals as goal
 
@@ -95,14 +95,14 @@ returns-in_err-batch-clause-told g c =
 
 -- ---- a batch
 
-pub returns-in_err-ran-in-Batch-clause-ends : goal.returns-in_err-ran-in-Batch-clause-ends
-returns-in_err-ran-in-Batch-clause-ends g c =
+pub returns-in_err-end-in-Batch-clause-ends : goal.returns-in_err-end-in-Batch-clause-ends
+returns-in_err-end-in-Batch-clause-ends g c =
     ends_memory (g.S.Source.left c.next_batch.new.source)
-    (error_is c.from_residual-in_err-ran-in-Batch.result OutOfMemory c.from_residual-in_err-ran-in-Batch.ensures.1) c.batches.invariant.run.goes
+    (error_is c.from_residual-in_err-end-in-Batch.result OutOfMemory c.from_residual-in_err-end-in-Batch.ensures.1) c.batches.invariant.run.goes
 
-pub returns-in_err-ran-in-Batch-clause-told : goal.returns-in_err-ran-in-Batch-clause-told
-returns-in_err-ran-in-Batch-clause-told g c =
-    told_short OutOfMemory (error_is c.from_residual-in_err-ran-in-Batch.result OutOfMemory c.from_residual-in_err-ran-in-Batch.ensures.1) (λ is. absurd (cc)) c.batches.invariant.run.goes
+pub returns-in_err-end-in-Batch-clause-told : goal.returns-in_err-end-in-Batch-clause-told
+returns-in_err-end-in-Batch-clause-told g c =
+    told_short OutOfMemory (error_is c.from_residual-in_err-end-in-Batch.result OutOfMemory c.from_residual-in_err-end-in-Batch.ensures.1) (λ is. absurd (cc)) c.batches.invariant.run.goes
 
 pub add-requires-clause-batches : goal.add-requires-clause-batches
 add-requires-clause-batches g c = let room = tally_few c.batches.invariant.run in omega (arith, room.0)
@@ -111,58 +111,58 @@ pub add-requires-clause-events : goal.add-requires-clause-events
 add-requires-clause-events g c =
     let room = tally_few c.batches.invariant.run in
     let counted = rw c.in-Batch.is at c.in_ok-batch.ensures.counted in
-    let many = outcomes-length (contents c.batches.engine) c.in-Batch.batch c.in_ok-ran-in-Batch.ran.outcomes.items c.in_ok-ran-in-Batch.ensures.fates in
-    omega (arith, room.1, many, counted, c.in_ok-batch.ensures.bound, c.batches.invariant.run.limit_is, c.in_ok-batch.ensures.same.2)
+    let many = fates-many (contents c.batches.engine) c.in-Batch.batch (settled_fates c.in_ok-end-in-Batch.end.plan c.in_ok-end-in-Batch.end.settled) c.in_ok-end-in-Batch.ensures.fates in
+    let events = length-settled_fates c.in_ok-end-in-Batch.end.plan c.in_ok-end-in-Batch.end.settled in
+    omega (arith, room.1, many, events, counted, c.in_ok-batch.ensures.bound, c.batches.invariant.run.limit_is, c.in_ok-batch.ensures.same.2)
 
 pub add-requires-clause-counts : goal.add-requires-clause-counts
 add-requires-clause-counts g c =
     let counted = rw c.in-Batch.is at c.in_ok-batch.ensures.counted in
-    let many = outcomes-length (contents c.batches.engine) c.in-Batch.batch c.in_ok-ran-in-Batch.ran.outcomes.items c.in_ok-ran-in-Batch.ensures.fates in
-    omega (arith, many, counted, c.batches.invariant.run.counted, c.in_ok-batch.ensures.bound, c.batches.invariant.run.limit_is, c.in_ok-batch.ensures.same.2)
+    let many = fates-many (contents c.batches.engine) c.in-Batch.batch (settled_fates c.in_ok-end-in-Batch.end.plan c.in_ok-end-in-Batch.end.settled) c.in_ok-end-in-Batch.ensures.fates in
+    let events = length-settled_fates c.in_ok-end-in-Batch.end.plan c.in_ok-end-in-Batch.end.settled in
+    omega (arith, many, events, counted, c.batches.invariant.run.counted, c.in_ok-batch.ensures.bound, c.batches.invariant.run.limit_is, c.in_ok-batch.ensures.same.2)
 
 pub add-requires-clause-ops : goal.add-requires-clause-ops
 add-requires-clause-ops g c =
     let room = tally_few c.batches.invariant.run in
-    let few = op_count-small c.in_ok-ran-in-Batch.ran.end.plan c.in_ok-ran-in-Batch.ensures.made.valid.plan in
+    let few = op_count-small c.in_ok-end-in-Batch.end.plan c.in_ok-end-in-Batch.ensures.made.valid.plan in
     omega (arith, room.2, few)
 
 pub add-requires-clause-evaluated : goal.add-requires-clause-evaluated
 add-requires-clause-evaluated g c =
     let room = tally_few c.batches.invariant.run in
-    let few = op_count-small c.in_ok-ran-in-Batch.ran.end.plan c.in_ok-ran-in-Batch.ensures.made.valid.plan in
-    let stale = few_stale c.in_ok-ran-in-Batch.ran.end.plan in
-    omega (arith, room.4, few, stale, c.in_ok-ran-in-Batch.ensures.evaluated, c.in_ok-ran-in-Batch.ensures.rolled)
+    let few = op_count-small c.in_ok-end-in-Batch.end.plan c.in_ok-end-in-Batch.ensures.made.valid.plan in
+    let stale = few_stale c.in_ok-end-in-Batch.end.plan in
+    omega (arith, room.4, few, stale, c.in_ok-end-in-Batch.ensures.evaluated, c.in_ok-end-in-Batch.ensures.rolled)
 
 pub add-requires-clause-rolled : goal.add-requires-clause-rolled
 add-requires-clause-rolled g c =
     let room = tally_few c.batches.invariant.run in
-    let few = op_count-small c.in_ok-ran-in-Batch.ran.end.plan c.in_ok-ran-in-Batch.ensures.made.valid.plan in
-    let stale = few_stale c.in_ok-ran-in-Batch.ran.end.plan in
-    omega (arith, room.3, few, stale, c.in_ok-ran-in-Batch.ensures.rolled)
+    let few = op_count-small c.in_ok-end-in-Batch.end.plan c.in_ok-end-in-Batch.ensures.made.valid.plan in
+    let stale = few_stale c.in_ok-end-in-Batch.end.plan in
+    omega (arith, room.3, few, stale, c.in_ok-end-in-Batch.ensures.rolled)
 
-pub tell_batch-requires-clause-few : goal.tell_batch-requires-clause-few
-tell_batch-requires-clause-few g c =
-    let valid = rw c.in-Batch.is at c.in_ok-batch.ensures.valid in
-    outcomes-few (contents c.batches.engine) (transactions_of c.in-Batch.batch) c.in_ok-ran-in-Batch.ran.outcomes.items c.in_ok-ran-in-Batch.ensures.fates valid.1.valid
+pub tell_batch-requires-clause-plan : goal.tell_batch-requires-clause-plan
+tell_batch-requires-clause-plan g c = c.in_ok-end-in-Batch.ensures.made.valid.plan
 
 pub returns-in_err-tell_batch-in-Batch-clause-ends : goal.returns-in_err-tell_batch-in-Batch-clause-ends
 returns-in_err-tell_batch-in-Batch-clause-ends g c =
     let valid = rw c.in-Batch.is at c.in_ok-batch.ensures.valid in
     let answers = rw c.in-Batch.is at c.in_ok-batch.ensures.answers in
     ends_in_batch (g.S.Source.left c.next_batch.new.source) (outputs_of (g.K.Sink.written c.tell_batch.new.sink) (g.N.Sink.written c.tell_batch.new.notes)) c.next_batch.new.self c.in-Batch.batch
-    c.in_ok-ran-in-Batch.ran.outcomes.items (noted c.args.settings.notes (batch_note c.add.new.self.batches c.in_ok-ran-in-Batch.ran.end.plan))
+    (settled_fates c.in_ok-end-in-Batch.end.plan c.in_ok-end-in-Batch.end.settled) (noted c.args.settings.notes (batch_note c.add.new.self.batches c.in_ok-end-in-Batch.end.plan))
     (error_is c.from_residual-in_err-tell_batch-in-Batch.result Write c.from_residual-in_err-tell_batch-in-Batch.ensures.1)
-    c.batches.invariant.run answers valid.0 c.in_ok-ran-in-Batch.ensures.fates c.in_err-tell_batch-in-Batch.ensures.told
+    c.batches.invariant.run answers valid.0 c.in_ok-end-in-Batch.ensures.fates c.in_err-tell_batch-in-Batch.ensures.told
 
 pub returns-in_err-tell_batch-in-Batch-clause-told : goal.returns-in_err-tell_batch-in-Batch-clause-told
 returns-in_err-tell_batch-in-Batch-clause-told g c =
     let valid = rw c.in-Batch.is at c.in_ok-batch.ensures.valid in
     let answers = rw c.in-Batch.is at c.in_ok-batch.ensures.answers in
     told_cut_in_batch (g.S.Source.left c.next_batch.new.source) (outputs_of (g.K.Sink.written c.tell_batch.new.sink) (g.N.Sink.written c.tell_batch.new.notes)) c.next_batch.new.self c.in-Batch.batch
-    c.in_ok-ran-in-Batch.ran.outcomes.items c.in_ok-ran-in-Batch.ran.end.plan c.in_ok-ran-in-Batch.ran.end.evaluated c.in_ok-ran-in-Batch.ran.end.rolled
+    (settled_fates c.in_ok-end-in-Batch.end.plan c.in_ok-end-in-Batch.end.settled) c.in_ok-end-in-Batch.end.plan c.in_ok-end-in-Batch.end.evaluated c.in_ok-end-in-Batch.end.rolled
     (error_is c.from_residual-in_err-tell_batch-in-Batch.result Write c.from_residual-in_err-tell_batch-in-Batch.ensures.1)
-    c.batches.invariant.run answers valid.0 c.in_ok-ran-in-Batch.ensures.fates c.add.ensures c.in_ok-ran-in-Batch.ensures.evaluated c.in_ok-ran-in-Batch.ensures.rolled
-    c.in_ok-ran-in-Batch.ensures.made c.in_err-tell_batch-in-Batch.ensures.told
+    c.batches.invariant.run answers valid.0 c.in_ok-end-in-Batch.ensures.fates c.add.ensures c.in_ok-end-in-Batch.ensures.evaluated c.in_ok-end-in-Batch.ensures.rolled
+    c.in_ok-end-in-Batch.ensures.made c.in_err-tell_batch-in-Batch.ensures.told
 
 pub returns-in_err-tell_batch-in-Batch-clause-write : goal.returns-in_err-tell_batch-in-Batch-clause-write
 returns-in_err-tell_batch-in-Batch-clause-write g c is =
@@ -177,11 +177,11 @@ batches-preserved g c =
     let counted = rw c.in-Batch.is at c.in_ok-batch.ensures.counted in
     let live = rw c.in-Batch.is at c.in_ok-batch.ensures.goes_on in
     record {
-      run = between_batch c.in-Batch.batch c.in_ok-ran-in-Batch.ran.outcomes.items c.in_ok-ran-in-Batch.ran.end.plan c.in_ok-ran-in-Batch.ran.end.evaluated c.in_ok-ran-in-Batch.ran.end.rolled
+      run = between_batch c.in-Batch.batch (settled_fates c.in_ok-end-in-Batch.end.plan c.in_ok-end-in-Batch.end.settled) c.in_ok-end-in-Batch.end.plan c.in_ok-end-in-Batch.end.evaluated c.in_ok-end-in-Batch.end.rolled
           c.batches.invariant.run answers shows valid.0 counted c.in_ok-batch.ensures.bound
-          c.in_ok-batch.ensures.same c.in_ok-batch.ensures.at_end c.in_ok-batch.ensures.unended live c.in_ok-ran-in-Batch.ensures.layout
-          c.in_ok-ran-in-Batch.ensures.state c.in_ok-ran-in-Batch.ensures.fates c.in_ok-tell_batch-in-Batch.ensures.told c.in_ok-tell_batch-in-Batch.ensures.empty
-          c.add.ensures c.in_ok-ran-in-Batch.ensures.evaluated c.in_ok-ran-in-Batch.ensures.rolled c.in_ok-ran-in-Batch.ensures.made;
+          c.in_ok-batch.ensures.same c.in_ok-batch.ensures.at_end c.in_ok-batch.ensures.unended live c.in_ok-end-in-Batch.ensures.layout
+          c.in_ok-end-in-Batch.ensures.state c.in_ok-end-in-Batch.ensures.fates c.in_ok-tell_batch-in-Batch.ensures.told c.in_ok-tell_batch-in-Batch.ensures.empty
+          c.add.ensures c.in_ok-end-in-Batch.ensures.evaluated c.in_ok-end-in-Batch.ensures.rolled c.in_ok-end-in-Batch.ensures.made;
       source_faults = omega (arith, c.batches.invariant.source_faults, c.in_ok-batch.ensures.never_falls);
       sink_faults = omega (arith, c.batches.invariant.sink_faults, c.in_ok-tell_batch-in-Batch.ensures.sink_faults);
       notes_faults = omega (arith, c.batches.invariant.notes_faults, c.in_ok-tell_batch-in-Batch.ensures.notes_faults);

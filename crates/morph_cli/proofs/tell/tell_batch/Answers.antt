@@ -1,22 +1,22 @@
 use Rattle.std.proofs.Common.{ap, subst, ◌∙◌}
 use Rattle.morph_io.specs.Told.{behind, AppendsPrefix}
+use Rattle.morph_engine.specs.Fates.{settled_fates}
 use Rattle.morph_cli.specs.Apps.{report_of}
 use Rattle.morph_cli.specs.Notes.{noted, batch_note}
-use Rattle.morph_cli.specs.Text.{told_outcomes}
+use Rattle.morph_cli.specs.Text.{told_lines}
 use Rattle.morph_cli.proofs.Turns.{tells_behind, tells_cut}
 use Rattle.morph_cli.proofs.tell.tell_batch.Goals as goal
 
 pub returns-in_err-write_events-clause-told : goal.returns-in_err-write_events-clause-told
 returns-in_err-write_events-clause-told g c =
+    let told = settled_fates c.args.end.now.plan c.args.end.now.settled in
     tells_cut c.from_residual.result (g.K.Sink.written c.args.sink.now) (g.K.Sink.written c.write_events.new.sink) (g.N.Sink.written c.args.notes.now)
-    (told_outcomes (report_of c.args.settings.now) c.args.ran.now.outcomes.items)
-    (noted c.args.settings.now.notes (batch_note c.args.number c.args.ran.now.end.plan)) c.from_residual.ensures.0
-    (subst (λ r. AppendsPrefix (g.K.Sink.written c.args.sink.now) (told_outcomes r c.args.ran.now.outcomes.items) (g.K.Sink.written c.write_events.new.sink)) c.report.ensures
-    (subst (λ os. AppendsPrefix (g.K.Sink.written c.args.sink.now) (told_outcomes c.report.result os) (g.K.Sink.written c.write_events.new.sink)) c.as_slice.ensures c.in_err-write_events.ensures.prefix))
+    (told_lines (report_of c.args.settings.now) told) (noted c.args.settings.now.notes (batch_note c.args.number c.args.end.now.plan)) c.from_residual.ensures.0
+    (subst (λ r. AppendsPrefix (g.K.Sink.written c.args.sink.now) (told_lines r told) (g.K.Sink.written c.write_events.new.sink)) c.report.ensures c.in_err-write_events.ensures.prefix)
 
 pub returns-clause-told : goal.returns-clause-told
 returns-clause-told g c =
+    let told = settled_fates c.args.end.now.plan c.args.end.now.settled in
     tells_behind c.note_batch.result (g.K.Sink.written c.args.sink.now) (g.K.Sink.written c.write_events.new.sink) (g.N.Sink.written c.args.notes.now) (g.N.Sink.written c.note_batch.new.notes)
-    (told_outcomes (report_of c.args.settings.now) c.args.ran.now.outcomes.items)
-    (noted c.args.settings.now.notes (batch_note c.args.number c.args.ran.now.end.plan)) (c.in_ok-write_events.ensures.written ∙ ap (λ r. behind (g.K.Sink.written c.args.sink.now) (told_outcomes r c.as_slice.result.now)) c.report.ensures
-    ∙ ap (λ os. behind (g.K.Sink.written c.args.sink.now) (told_outcomes (report_of c.args.settings.now) os)) c.as_slice.ensures) c.note_batch.ensures.written c.note_batch.ensures.prefix
+    (told_lines (report_of c.args.settings.now) told) (noted c.args.settings.now.notes (batch_note c.args.number c.args.end.now.plan))
+    (c.in_ok-write_events.ensures.written ∙ ap (λ r. behind (g.K.Sink.written c.args.sink.now) (told_lines r told)) c.report.ensures) c.note_batch.ensures.written c.note_batch.ensures.prefix

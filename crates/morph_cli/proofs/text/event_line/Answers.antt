@@ -2,11 +2,11 @@ use Rattle.std.proofs.Common.{arith, length, ap}
 use Rattle.morph_base.specs.declared.plan.PlanEvent.{PlanEvent}
 use Rattle.morph_base.specs.Plans.{no_event}
 use Rattle.morph_base.proofs.PlanLaws.{end_in_range}
-use Rattle.morph_cli.proofs.batch.outcome.Goals as goal
+use Rattle.morph_cli.proofs.text.event_line.Goals as goal
 
 pub slice_bounds-values-end : goal.slice_bounds-values-end
 slice_bounds-values-end c =
-    let room = end_in_range c.args.end.now.plan c.requires.plan c.args.i c.requires.event in
+    let room = end_in_range c.args.plan.now c.requires.plan c.args.i c.requires.event in
     let event = c.get-event.ensures.at no_event in
     let first = ap (λ (e : PlanEvent). e.first) event in
     let count = ap (λ (e : PlanEvent). e.count) event in

@@ -1,12 +1,10 @@
 -- The last writers among the first operations, and the sources that they are.
 use Rattle.std.proofs.Common.{◌≡◌, ℕ, ◌<◌, ◌≤◌, inl, inr, arith}
 use Rattle.std.proofs.Common.{Option, None, Some}
-use Rattle.std.specs.BTreeMap.{get}
-use denote.Param.{read}
-use Rattle.std.specs.declared.cmp.Ord.Ghosts.{cmp}
-use Rattle.morph_base.specs.contracts.key.KeyOrd.TheImpl.{ghosts}
+use Rattle.std.specs.HashMap.{get}
 use Rattle.std.proofs.lemmas.Bool.{cases_lt, cases_eq}
 use Rattle.morph_base.specs.declared.key.Key.{Key}
+use Rattle.morph_base.specs.Operations.{same_key}
 use Rattle.morph_base.specs.declared.plan.Origin.{Origin}
 use Rattle.morph_base.specs.declared.plan.Origin.TheVariants.{Base, Op as Written}
 use Rattle.morph_base.specs.Sources.{Writes, IsSource}
@@ -68,7 +66,7 @@ module _ (x : Txns) (is : IsTxns x) (i : ℕ) (lt : i < txn_count x) where
 
 -- the base of a table is 0
 pub base_zero : (writers : Writers) (key : Key) (v : ℕ) → source_in writers key ≡ Base v → v ≡ 0
-base_zero writers key v is = of_found (get (read (cmp {X-1 = Key}) ghosts) writers.last key) is
+base_zero writers key v is = of_found (get same_key writers.last key) is
   where
     of_found : (found : Option ℕ) → source_of found ≡ Base v → v ≡ 0
     of_found None e = cc

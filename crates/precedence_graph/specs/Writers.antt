@@ -1,10 +1,8 @@
 -- A table of last writers, read as the source that it has for each key.
 use Rattle.std.specs.Prelude.{ℕ, Option, Some, None}
-use Rattle.std.specs.BTreeMap.{get}
-use denote.Param.{read}
-use Rattle.std.specs.declared.cmp.Ord.Ghosts.{cmp}
-use Rattle.morph_base.specs.contracts.key.KeyOrd.TheImpl.{ghosts}
+use Rattle.std.specs.HashMap.{get}
 use Rattle.morph_base.specs.declared.key.Key.{Key}
+use Rattle.morph_base.specs.Operations.{same_key}
 use Rattle.morph_base.specs.declared.plan.Origin.{Origin}
 use Rattle.morph_base.specs.declared.plan.Origin.TheVariants.{Base, Op as Written}
 use Rattle.precedence_graph.specs.declared.writers.Writers.{Writers}
@@ -16,4 +14,4 @@ source_of (Some o) = Written o
 
 -- the source that the table has for a key
 abbrev pub source_in : Writers → Key → Origin
-source_in w key = source_of (get (read (cmp {X-1 = Key}) ghosts) w.last key)
+source_in w key = source_of (get same_key w.last key)

@@ -4,12 +4,12 @@ ghost use Rattle.precedence_graph.specs.Writers.{source_in};
 
 use morph_base::{Key, Origin, OutOfMemory};
 use std::alloc::Global;
-use std::collections::BTreeMap;
+use std::collections::HashMap;
 
 /// For each key the last of the operations entered so far that changes it.
 #[derive(Drop)]
 pub struct Writers {
-    last: BTreeMap<Key, u32>,
+    last: HashMap<Key, u32>,
 }
 
 impl Writers {
@@ -18,7 +18,7 @@ impl Writers {
         ensures { (key : Key) → source_in result key ≡ Origin.Base 0 }
     {
         Writers {
-            last: BTreeMap::new(alloc),
+            last: HashMap::new(alloc),
         }
     }
 

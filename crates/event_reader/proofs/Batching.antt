@@ -7,7 +7,7 @@ use Rattle.std.proofs.lemmas.List.Elements.{All-nil}
 use Rattle.morph_base.specs.declared.key.Layout.{Layout}
 use Rattle.morph_base.specs.Transactions.{Transaction, IsTransaction, HasKeysIn}
 use Rattle.morph_io.specs.Told.{ahead, ahead_nil, ahead_ahead, IsAtEnd}
-use Rattle.event_reader.specs.declared.limits.TheConstants.{LONGEST_LINE}
+use Rattle.event_reader.specs.Limits.{longest_line}
 use Rattle.event_reader.specs.declared.cause.Cause.{Cause}
 use Rattle.event_reader.specs.declared.cause.Cause.TheVariants.{Long}
 use Rattle.event_reader.specs.declared.answers.LineNext.TheVariants.{Line}
@@ -99,7 +99,7 @@ long_refused : (m : Meaning) (n closed : ℕ) (batch : List Transaction) (r : Re
     → accepted_from m n closed batch r ≡ record { batches = []; ending = RefusedAt (n + 1) Long }
 unfolding step_of accepted_lines
 long_refused m n closed batch r (line, more, is, long) =
-    let too_long : nat_lt LONGEST_LINE (length line) ≡ true = grind (arith, nat_tests) in
+    let too_long : nat_lt longest_line (length line) ≡ true = grind (arith, nat_tests) in
     rw is (rw too_long refl)
 
 module _ (m : Meaning) (closed : ℕ) (before : LinesView) (left : Option (List ℕ)) (batch : List Transaction) (now : LinesView) (left' : Option (List ℕ)) where

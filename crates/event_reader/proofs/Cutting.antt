@@ -7,7 +7,7 @@ use Rattle.std.proofs.lemmas.List.{take-append-drop, drop_more, length-take-le, 
 use Rattle.std.proofs.lemmas.List.Elements.{All-head, All-tail, All-from_get_or}
 use Rattle.std.proofs.lemmas.List.Splits.{slice_split_at, slice_split_none, slice_split-cons_no}
 use Rattle.memchr.specs.Find.{NoneBefore, Nowhere, Passes}
-use Rattle.event_reader.specs.declared.limits.TheConstants.{DECIDING_BYTES}
+use Rattle.event_reader.specs.Limits.{deciding_bytes}
 use Rattle.event_reader.specs.Lines.{is_line_feed, pieces, last_if, without_cr, IsLongFirst}
 
 -- where no byte passes a test, none does
@@ -88,11 +88,11 @@ length-without_cr piece = by_test (slice_index piece (length piece - 1) == 13)
     by_test false = omega arith
 
 -- so many bytes without an LF begin a line that is too long, whatever follows them
-pub long_open : (test : List ℕ → Bool) → ((piece : List ℕ) → DECIDING_BYTES ≤ length piece → test piece ≡ true) → (bytes rest : List ℕ)
-    → All (λ b. is_line_feed b ≡ false) bytes → DECIDING_BYTES ≤ length bytes → IsLongFirst (lines_by test (bytes ++ rest))
+pub long_open : (test : List ℕ → Bool) → ((piece : List ℕ) → deciding_bytes ≤ length piece → test piece ≡ true) → (bytes rest : List ℕ)
+    → All (λ b. is_line_feed b ≡ false) bytes → deciding_bytes ≤ length bytes → IsLongFirst (lines_by test (bytes ++ rest))
 long_open test passes bytes rest none many =
     let some = some_piece is_line_feed rest in
-    let long : DECIDING_BYTES ≤ length (bytes ++ some.0) = omega (arith, length-append bytes some.0) in
+    let long : deciding_bytes ≤ length (bytes ++ some.0) = omega (arith, length-append bytes some.0) in
     let line = first_if test (bytes ++ some.0) some.1 (passes (bytes ++ some.0) long) in
     let is : lines_by test (bytes ++ rest) ≡ without_cr (bytes ++ some.0) ∷ line.0
     = ap (λ ps. map without_cr (last_if test ps)) (first_piece is_line_feed bytes rest some.0 some.1 none some.2) ∙ line.1 in

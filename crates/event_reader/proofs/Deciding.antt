@@ -6,7 +6,7 @@ use Rattle.std.proofs.lemmas.Bool.{true≢false}
 use Rattle.std.proofs.lemmas.Bool.Decides.{nat_tests}
 use Rattle.std.proofs.lemmas.List.{take-take, length-take, drop_all}
 use Rattle.memchr.specs.Find.{NoneBefore, Passes}
-use Rattle.event_reader.specs.declared.limits.TheConstants.{DECIDING_BYTES}
+use Rattle.event_reader.specs.Limits.{deciding_bytes}
 use Rattle.event_reader.specs.declared.decision.Decision.{Decision}
 use Rattle.event_reader.specs.declared.decision.Decision.TheVariants.{Line, Long, End, Open}
 use Rattle.event_reader.specs.Lines.{is_line_feed, without_cr, last_if, lines_of, decided_lines, IsLongFirst}
@@ -17,7 +17,7 @@ abbrev has_bytes : List ℕ → Bool
 has_bytes piece = nat_le 1 (length piece)
 
 abbrev is_overlong : List ℕ → Bool
-is_overlong piece = nat_le DECIDING_BYTES (length piece)
+is_overlong piece = nat_le deciding_bytes (length piece)
 
 -- the first line ends at the first LF
 first_line : (test : List ℕ → Bool) (kept rest : List ℕ) (at : ℕ) → NoneBefore (Passes is_line_feed kept) 0 (length kept) at
@@ -55,7 +55,7 @@ decides_at kept ended at End first is d = absurd d
 decides_at kept ended at Open first is d = absurd d
 
 -- so many bytes without an LF are a line that is too long
-pub decides_overlong : (kept : List ℕ) (ended : Bool) → All (λ b. is_line_feed b ≡ false) kept → DECIDING_BYTES ≤ length kept → DecidesLong kept ended
+pub decides_overlong : (kept : List ℕ) (ended : Bool) → All (λ b. is_line_feed b ≡ false) kept → deciding_bytes ≤ length kept → DecidesLong kept ended
 decides_overlong kept ended none many = record {
   some = omega arith;
   all = λ rest follows. long_open has_bytes (λ piece h. grind (arith, nat_tests)) kept rest none many;
@@ -63,7 +63,7 @@ decides_overlong kept ended none many = record {
 }
 
 -- fewer decide nothing while more may follow
-pub decides_none : (kept : List ℕ) (ended : Bool) → All (λ b. is_line_feed b ≡ false) kept → length kept < DECIDING_BYTES → ended ≡ false → DecidesNone kept ended
+pub decides_none : (kept : List ℕ) (ended : Bool) → All (λ b. is_line_feed b ≡ false) kept → length kept < deciding_bytes → ended ≡ false → DecidesNone kept ended
 decides_none kept ended none few unended =
     let short : is_overlong kept ≡ false = grind (arith, nat_tests) in
     record { goes_on = unended; few = few; none = lines_open is_overlong kept none ∙ rw short refl }

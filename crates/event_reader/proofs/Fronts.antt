@@ -7,7 +7,7 @@ use Rattle.std.proofs.lemmas.Bool.Decides.{nat_tests}
 use Rattle.std.proofs.lemmas.List.{take-append-drop}
 use Rattle.morph_base.specs.Transactions.{Transaction}
 use Rattle.morph_io.specs.Told.{ahead}
-use Rattle.event_reader.specs.declared.limits.TheConstants.{LONGEST_LINE, DECIDING_BYTES}
+use Rattle.event_reader.specs.Limits.{longest_line, deciding_bytes}
 use Rattle.event_reader.specs.declared.cause.Cause.{Cause}
 use Rattle.event_reader.specs.declared.cause.Cause.TheVariants.{Long}
 use Rattle.event_reader.specs.Lines.{is_line_feed, pieces, last_if, without_cr, lines_of, decided_lines, within}
@@ -25,7 +25,7 @@ data GoesOn : List (List ℕ) → List (List ℕ) → Type 0 where
 data Extends : List (List ℕ) → List (List ℕ) → Type 0 where
   nothing : (lines : List (List ℕ)) → Extends [] lines
   one : (line : List ℕ) (lines lines' : List (List ℕ)) → Extends lines lines' → Extends (line ∷ lines) (line ∷ lines')
-  long : (line line' : List ℕ) (lines' : List (List ℕ)) → LONGEST_LINE < length line → LONGEST_LINE < length line' → Extends (line ∷ []) (line' ∷ lines')
+  long : (line line' : List ℕ) (lines' : List (List ℕ)) → longest_line < length line → longest_line < length line' → Extends (line ∷ []) (line' ∷ lines')
 
 goes_on_first : (b : ℕ) (ps qs : List (List ℕ)) → GoesOn ps qs → GoesOn (onto_first b ps) (onto_first b qs)
 goes_on_first b _ _ (last piece more next) = last (b ∷ piece) more next
@@ -43,17 +43,17 @@ pieces_go_on (b ∷ bytes) rest =
     by_test false some some' h = goes_on_first b (pieces bytes) (pieces (bytes ++ rest)) h
 
 extends_from : (ps qs : List (List ℕ)) → GoesOn ps qs
-    → Extends (map without_cr (last_if (λ piece. nat_le DECIDING_BYTES (length piece)) ps)) (map without_cr (last_if (λ piece. nat_le 1 (length piece)) qs))
+    → Extends (map without_cr (last_if (λ piece. nat_le deciding_bytes (length piece)) ps)) (map without_cr (last_if (λ piece. nat_le 1 (length piece)) qs))
 unfolding last_if
 extends_from _ _ (same piece next next' more more' h) =
     one (without_cr piece) _ _ (extends_from (next ∷ more) (next' ∷ more') h)
-extends_from _ _ (last piece more next) = by_test (nat_le DECIDING_BYTES (length piece)) refl
+extends_from _ _ (last piece more next) = by_test (nat_le deciding_bytes (length piece)) refl
   where
-    by_test : (t : Bool) → nat_le DECIDING_BYTES (length piece) ≡ t
+    by_test : (t : Bool) → nat_le deciding_bytes (length piece) ≡ t
         → Extends (map without_cr (if t then piece ∷ [] else [])) (map without_cr (last_if (λ piece. nat_le 1 (length piece)) ((piece ++ more) ∷ next)))
     by_test false is = nothing _
     by_test true is =
-        let many : DECIDING_BYTES ≤ length piece = grind (arith, nat_tests) in
+        let many : deciding_bytes ≤ length piece = grind (arith, nat_tests) in
         let some : nat_le 1 (length (piece ++ more)) ≡ true = grind (arith, nat_tests, length-append piece more) in
         let first = first_if (λ piece. nat_le 1 (length piece)) (piece ++ more) next some in
         rw first.1
@@ -96,8 +96,8 @@ front_lines m n closed batch _ _ (nothing lines') = record {
 front_lines m n closed batch _ _ (one line lines lines' h) =
     front_led (step_of m closed batch line) n closed batch _ _ (λ closed' batch'. front_lines m (n + 1) closed' batch' lines lines' h)
 front_lines m n closed batch _ _ (long line line' lines' is is') =
-    let too_long : nat_lt LONGEST_LINE (length line) ≡ true = grind (arith, nat_tests) in
-    let too_long' : nat_lt LONGEST_LINE (length line') ≡ true = grind (arith, nat_tests) in
+    let too_long : nat_lt longest_line (length line) ≡ true = grind (arith, nat_tests) in
+    let too_long' : nat_lt longest_line (length line') ≡ true = grind (arith, nat_tests) in
     rw (too_long, too_long') (same_front (record { batches = []; ending = RefusedAt (n + 1) Long }))
 
 -- what a front of an input decides is the first of what the input has

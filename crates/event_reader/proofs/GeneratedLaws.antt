@@ -7,7 +7,7 @@ use Rattle.std.proofs.lemmas.List.Elements.{All-nil, All-cons, All-get_or, All-w
 use Rattle.std.proofs.lemmas.List.Sums.{fold-append, sum_by-cons}
 use Rattle.morph_base.specs.declared.limits.TheConstants.{EVENTS}
 use Rattle.morph_base.specs.Transactions.{Transaction}
-use Rattle.event_reader.specs.declared.limits.TheConstants.{GENERATED_EVENTS, GENERATED_BATCH, GENERATED_BYTES, INPUT_BYTES}
+use Rattle.event_reader.specs.Limits.{generated_events, generated_batch, generated_bytes, input_bytes}
 use Rattle.event_reader.specs.Accepted.{Accepted, Ended, with_batch, accepted, accepted_from, accepted_lines, accepted_within}
 use Rattle.event_reader.specs.Generated.{Drawn, IsEventLine}
 use Rattle.event_reader.specs.GeneratedText.{with_end, generated_from, generated_text}
@@ -53,7 +53,7 @@ latest_more batch closed e = fold-append (λ latest f. max latest f.ts) closed b
 -- the last punctuation
 record IsBefore (j closed : ℕ) (batch : List Transaction) : Type 0 where
   latest : latest_with batch closed ≤ j
-  few : length batch ≤ j % GENERATED_BATCH
+  few : length batch ≤ j % generated_batch
 
 -- the event joins the batch
 joins : (j closed : ℕ) (batch : List Transaction) (e : Transaction) → IsBefore j closed batch → e.ts ≡ j + 1 → joining closed batch e ≡ Adds e
@@ -99,7 +99,7 @@ nothing_left m n closed batch = one_more batch (record { batches = []; ending = 
 after_event : (m : Meaning) (j n closed count : ℕ) (batch : List Transaction) (line rest : List ℕ) → IsEventLine m (j + 1) line → IsBefore j closed batch
     → ((n' closed' : ℕ) (batch' : List Transaction) → IsBefore (j + 1) closed' batch' → IsWhole (accepted_from m n' closed' batch' (whole rest)) (length batch' + count))
     → IsWhole (accepted_from m n closed batch (whole (with_end (j + 1) line ++ rest))) (length batch + (count + 1))
-after_event m j n closed count batch line rest h before after = by_mark ((j + 1) % GENERATED_BATCH == 0) refl
+after_event m j n closed count batch line rest h before after = by_mark ((j + 1) % generated_batch == 0) refl
   where
     longer : List Transaction
     longer = batch ++ h.event ∷ []
@@ -110,7 +110,7 @@ after_event m j n closed count batch line rest h before after = by_mark ((j + 1)
     latest : latest_with longer closed ≤ j + 1
     latest = omega (arith, latest_more batch closed h.event, before.latest, h.time)
 
-    by_mark : (ends : Bool) → ((j + 1) % GENERATED_BATCH == 0) ≡ ends
+    by_mark : (ends : Bool) → ((j + 1) % generated_batch == 0) ≡ ends
         → IsWhole (accepted_from m n closed batch (whole ((line ++ 10 ∷ (if ends then 80 ∷ 10 ∷ [] else [])) ++ rest))) (length batch + (count + 1))
     by_mark true is =
         let leads =
@@ -119,15 +119,15 @@ after_event m j n closed count batch line rest h before after = by_mark ((j + 1)
         let next = after (n + 1 + 1) (latest_with longer closed) [] (record { latest = latest; few = omega arith }) in
         subst (λ all. IsWhole all (length batch + (count + 1))) (sym leads) (one_more longer _ (0 + count) (length batch + (count + 1)) next (omega (arith, one)))
     by_mark false is =
-        let goes_on : (j + 1) % GENERATED_BATCH ≢ 0 = grind (arith, nat_tests) in
+        let goes_on : (j + 1) % generated_batch ≢ 0 = grind (arith, nat_tests) in
         let leads =
         ap (λ text. accepted_from m n closed batch (whole text)) (append_assoc line (10 ∷ []) rest) ∙ after_line m j n closed batch line rest h before in
         let next = after (n + 1) closed longer (record { latest = latest; few = omega (arith, one, before.few) }) in
         let total : length longer + count ≡ length batch + (count + 1) = omega (arith, one) in
         subst (λ all. IsWhole all (length batch + (count + 1))) (sym leads) (subst (λ k. IsWhole (accepted_from m (n + 1) closed longer (whole rest)) k) total next)
 
-module _ (m : Meaning) (drawn : ℕ → ℕ → Drawn) (each : (i state : ℕ) → 0 < i → i ≤ GENERATED_EVENTS → IsEventLine m i (drawn i state).line) where
-  whole_from : (count j state n closed : ℕ) (batch : List Transaction) → j + count ≤ GENERATED_EVENTS → IsBefore j closed batch
+module _ (m : Meaning) (drawn : ℕ → ℕ → Drawn) (each : (i state : ℕ) → 0 < i → i ≤ generated_events → IsEventLine m i (drawn i state).line) where
+  whole_from : (count j state n closed : ℕ) (batch : List Transaction) → j + count ≤ generated_events → IsBefore j closed batch
       → IsWhole (accepted_from m n closed batch (whole (generated_from drawn count (j + 1) state))) (length batch + count)
   unfolding generated_from
   whole_from zero j state n closed batch few before =
@@ -141,24 +141,24 @@ module _ (m : Meaning) (drawn : ℕ → ℕ → Drawn) (each : (i state : ℕ) �
       let total : length batch + (count + 1) ≡ length batch + suc count = omega arith in
       subst (λ k. IsWhole (accepted_from m n closed batch (whole (with_end (j + 1) d.line ++ rest))) k) total all
 
-  generated_is_whole : (seed events : ℕ) → events ≤ GENERATED_EVENTS → IsWhole (accepted m (generated_text drawn seed events)) (0 + events)
+  generated_is_whole : (seed events : ℕ) → events ≤ generated_events → IsWhole (accepted m (generated_text drawn seed events)) (0 + events)
   generated_is_whole seed events few = whole_from events 0 seed 0 0 [] (omega arith) (record { latest = omega arith; few = omega arith })
 
-  pub generated_ends : (seed events : ℕ) → events ≤ GENERATED_EVENTS → (accepted m (generated_text drawn seed events)).ending ≡ Ended
+  pub generated_ends : (seed events : ℕ) → events ≤ generated_events → (accepted m (generated_text drawn seed events)).ending ≡ Ended
   generated_ends seed events few = (generated_is_whole seed events few).ends
 
-  pub generated_events : (seed events : ℕ) → events ≤ GENERATED_EVENTS → sum_by (λ batch. length batch) (accepted m (generated_text drawn seed events)).batches ≡ events
-  generated_events seed events few = omega (arith, (generated_is_whole seed events few).counted)
+  pub generated_counted : (seed events : ℕ) → events ≤ generated_events → sum_by (λ batch. length batch) (accepted m (generated_text drawn seed events)).batches ≡ events
+  generated_counted seed events few = omega (arith, (generated_is_whole seed events few).counted)
 
   -- a line with its end, and the whole text, are short
-  length-with_end : (i : ℕ) (line : List ℕ) → length line ≤ GENERATED_BYTES → length (with_end i line) ≤ GENERATED_BYTES + 3
-  length-with_end i line short = by_mark (i % GENERATED_BATCH == 0)
+  length-with_end : (i : ℕ) (line : List ℕ) → length line ≤ generated_bytes → length (with_end i line) ≤ generated_bytes + 3
+  length-with_end i line short = by_mark (i % generated_batch == 0)
     where
-      by_mark : (ends : Bool) → length (line ++ 10 ∷ (if ends then 80 ∷ 10 ∷ [] else [])) ≤ GENERATED_BYTES + 3
+      by_mark : (ends : Bool) → length (line ++ 10 ∷ (if ends then 80 ∷ 10 ∷ [] else [])) ≤ generated_bytes + 3
       by_mark true = omega (arith, length-append line (10 ∷ 80 ∷ 10 ∷ []))
       by_mark false = omega (arith, length-append line (10 ∷ []))
 
-  length-generated_from : (count i state : ℕ) → 0 < i → i + count ≤ GENERATED_EVENTS + 1 → length (generated_from drawn count i state) ≤ (GENERATED_BYTES + 3) * count
+  length-generated_from : (count i state : ℕ) → 0 < i → i + count ≤ generated_events + 1 → length (generated_from drawn count i state) ≤ (generated_bytes + 3) * count
   unfolding generated_from
   length-generated_from zero i state begun few = omega arith
   length-generated_from (suc count) i state begun few =
@@ -167,13 +167,13 @@ module _ (m : Meaning) (drawn : ℕ → ℕ → Drawn) (each : (i state : ℕ) �
       let rest = length-generated_from count (i + 1) d.state (omega arith) (omega arith) in
       omega (arith, length-append (with_end i d.line) (generated_from drawn count (i + 1) d.state), line, rest)
 
-  pub generated_is_short : (seed events : ℕ) → events ≤ GENERATED_EVENTS → length (generated_text drawn seed events) < INPUT_BYTES
+  pub generated_is_short : (seed events : ℕ) → events ≤ generated_events → length (generated_text drawn seed events) < input_bytes
   generated_is_short seed events few = omega (arith, length-generated_from events 1 seed (omega arith) (omega arith))
 
-  pub generated_within : (seed events : ℕ) → events ≤ GENERATED_EVENTS
-      → accepted_within m INPUT_BYTES (generated_text drawn seed events) ≡ accepted m (generated_text drawn seed events)
+  pub generated_within : (seed events : ℕ) → events ≤ generated_events
+      → accepted_within m input_bytes (generated_text drawn seed events) ≡ accepted m (generated_text drawn seed events)
   unfolding within
   generated_within seed events few =
       let short = generated_is_short seed events few in
-      let all : nat_le (length (generated_text drawn seed events)) INPUT_BYTES ≡ true = grind (arith, nat_tests) in
+      let all : nat_le (length (generated_text drawn seed events)) input_bytes ≡ true = grind (arith, nat_tests) in
       rw all refl

@@ -8,7 +8,7 @@ use Rattle.morph_io.specs.Told.{ahead, ahead_nil, ahead_ahead, IsAtEnd}
 use Rattle.std.proofs.lemmas.List.{length-take}
 use Rattle.event_reader.specs.Lines.{decided_lines, last_if, whole, front, within, with_line, IsLongFirst}
 use Rattle.event_reader.specs.Decisions.{MayFollow, DecidesLine, DecidesLong, DecidesNone}
-use Rattle.event_reader.specs.declared.limits.TheConstants.{LONGEST_LINE}
+use Rattle.event_reader.specs.Limits.{longest_line}
 use Rattle.event_reader.specs.declared.fault.ReaderFault.{ReaderFault}
 use Rattle.event_reader.specs.declared.fault.ReaderFault.TheVariants.{ReadFault, TooLong, OutOfMemory}
 use Rattle.event_reader.specs.Filling.{KeepsMore, KeepsAll, Fills}
@@ -205,7 +205,7 @@ pub answers_line : (before : LinesView) (left : Option (List ℕ)) (now : LinesV
     → (reading_of before left
     ≡ option_map (with_line (take len now.kept))
     (option_map (within (length (drop used now.kept) + (now.limit - now.taken))) (ahead (drop used now.kept) left')))
-    × (length (take len now.kept) ≤ LONGEST_LINE)
+    × (length (take len now.kept) ≤ longest_line)
 answers_line before left now left' len used h bound d = (
   same_reading before left now left' h bound ∙ line_told now.kept now.ended left' len used (now.limit - now.taken) d h.at_end,
   omega (arith, d.short, length-take len now.kept),

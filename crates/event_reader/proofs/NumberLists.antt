@@ -9,7 +9,7 @@ use Rattle.std.proofs.lemmas.Bool.Decides.{nat_tests}
 use Rattle.std.proofs.lemmas.List.{drop_more, get_or-drop, take_more_set, map_more, drop_all, length-map}
 use Rattle.std.proofs.lemmas.List.Elements.{All-head, All-tail}
 use Rattle.std.proofs.lemmas.List.Folds.{list_all_at, list_all_more}
-use Rattle.event_reader.specs.declared.limits.TheConstants.{GREATEST_NUMBER}
+use Rattle.event_reader.specs.Limits.{greatest_number}
 use Rattle.event_reader.specs.declared.ranges.Range.{Range}
 use Rattle.event_reader.specs.declared.cause.Cause.TheVariants.{Range as OutOfRange}
 use Rattle.event_reader.specs.Numbers.{is_number, value_of, cut_value, cut_number, is_in, are_in, numbers_in, has_form, AreCutNumbers}
@@ -76,15 +76,15 @@ cut_in range n limit small = elim (cases_lt limit n) [
     by_and false true = refl
     by_and false false = refl
 
-pub all_cut_in : (ranges : List Range) (words : List (List ℕ)) → All (λ range. range.greatest ≤ GREATEST_NUMBER) ranges
+pub all_cut_in : (ranges : List Range) (words : List (List ℕ)) → All (λ range. range.greatest ≤ greatest_number) ranges
     → are_in ranges (map cut_value words) ≡ are_in ranges (map value_of words)
 unfolding are_in
 all_cut_in [] words small = refl
 all_cut_in (range ∷ ranges) [] small = refl
 all_cut_in (range ∷ ranges) (word ∷ words) small =
     rw (
-      cut_in range (value_of word) GREATEST_NUMBER (All-head (λ r. r.greatest ≤ GREATEST_NUMBER) range ranges small),
-      all_cut_in ranges words (All-tail (λ r. r.greatest ≤ GREATEST_NUMBER) range ranges small),
+      cut_in range (value_of word) greatest_number (All-head (λ r. r.greatest ≤ greatest_number) range ranges small),
+      all_cut_in ranges words (All-tail (λ r. r.greatest ≤ greatest_number) range ranges small),
     ) refl
 
 -- and where they are in range, nothing was cut
@@ -94,7 +94,7 @@ and_parts true true false is = absurd (cc)
 and_parts true false c is = absurd (cc)
 and_parts false b c is = absurd (cc)
 
-pub nothing_cut : (ranges : List Range) (words : List (List ℕ)) → length ranges ≡ length words → All (λ range. range.greatest ≤ GREATEST_NUMBER) ranges
+pub nothing_cut : (ranges : List Range) (words : List (List ℕ)) → length ranges ≡ length words → All (λ range. range.greatest ≤ greatest_number) ranges
     → are_in ranges (map value_of words) ≡ true → map cut_value words ≡ map value_of words
 unfolding are_in
 nothing_cut [] [] same small fits = refl
@@ -103,17 +103,17 @@ nothing_cut (range ∷ ranges) [] same small fits = absurd (omega arith)
 nothing_cut (range ∷ ranges) (word ∷ words) same small fits =
     let parts = and_parts (nat_le range.least (value_of word)) (nat_le (value_of word) range.greatest) (are_in ranges (map value_of words)) fits in
     let below : value_of word ≤ range.greatest = grind (arith, nat_tests, parts.0) in
-    let whole : cut_value word ≡ value_of word = omega (arith, below, All-head (λ r. r.greatest ≤ GREATEST_NUMBER) range ranges small) in
-    rw (whole, nothing_cut ranges words (omega arith) (All-tail (λ r. r.greatest ≤ GREATEST_NUMBER) range ranges small) parts.1) refl
+    let whole : cut_value word ≡ value_of word = omega (arith, below, All-head (λ r. r.greatest ≤ greatest_number) range ranges small) in
+    rw (whole, nothing_cut ranges words (omega arith) (All-tail (λ r. r.greatest ≤ greatest_number) range ranges small) parts.1) refl
 
 -- the whole answer
-pub numbers_are : (ranges : List Range) (words : List (List ℕ)) (numbers : List ℕ) → length ranges ≡ length words → All (λ range. range.greatest ≤ GREATEST_NUMBER) ranges
+pub numbers_are : (ranges : List Range) (words : List (List ℕ)) (numbers : List ℕ) → length ranges ≡ length words → All (λ range. range.greatest ≤ greatest_number) ranges
     → AreCutNumbers words numbers → are_in ranges numbers ≡ true → numbers_in ranges words ≡ Ok numbers
 numbers_are ranges words numbers same small cut fits =
     let values : are_in ranges (map value_of words) ≡ true = sym (all_cut_in ranges words small) ∙ ap (are_in ranges) (sym cut.values) ∙ fits in
     rw (cut.all, values) (ap Ok (sym (cut.values ∙ nothing_cut ranges words same small values)))
 
-pub numbers_out : (ranges : List Range) (words : List (List ℕ)) (numbers : List ℕ) → All (λ range. range.greatest ≤ GREATEST_NUMBER) ranges
+pub numbers_out : (ranges : List Range) (words : List (List ℕ)) (numbers : List ℕ) → All (λ range. range.greatest ≤ greatest_number) ranges
     → AreCutNumbers words numbers → are_in ranges numbers ≡ false → numbers_in ranges words ≡ Err OutOfRange
 numbers_out ranges words numbers small cut out =
     let values : are_in ranges (map value_of words) ≡ false = sym (all_cut_in ranges words small) ∙ ap (are_in ranges) (sym cut.values) ∙ out in

@@ -11,7 +11,7 @@ use Rattle.std.proofs.lemmas.List.Sums.{list_all-from_AllPass}
 use Rattle.std.proofs.lemmas.List.Splits.{slice_split_at, slice_split_none}
 use Rattle.std.proofs.lemmas.Str.Parse.{digit_at}
 use Rattle.morph_base.specs.Transactions.{Transaction}
-use Rattle.event_reader.specs.declared.limits.TheConstants.{GREATEST_NUMBER, LINE_WORDS}
+use Rattle.event_reader.specs.Limits.{greatest_number, line_words}
 use Rattle.event_reader.specs.declared.ranges.Range.{Range}
 use Rattle.event_reader.specs.Generated.{IsEventLine}
 use Rattle.event_reader.specs.Numbers.{is_number, value_of, are_in, numbers_in}
@@ -21,7 +21,7 @@ use Rattle.event_reader.specs.Words.{is_space, is_word, parts_of, words_of}
 
 -- a number that a word can say
 abbrev pub IsSmall : ℕ → Type 0
-IsSmall n = n ≤ GREATEST_NUMBER
+IsSmall n = n ≤ greatest_number
 
 spaced_append : (ms ns : List ℕ) → spaced (ms ++ ns) ≡ spaced ms ++ spaced ns
 unfolding spaced
@@ -75,13 +75,13 @@ numbers_are_words (n ∷ ns) small =
     rw (number_is_word n (All-head IsSmall n ns small), numbers_are_words ns (All-tail IsSmall n ns small)) refl
 
 -- the words of a plain line
-pub words_plain : (letter : ℕ) (ns : List ℕ) → 32 < letter → length ns < LINE_WORDS → All IsSmall ns
+pub words_plain : (letter : ℕ) (ns : List ℕ) → 32 < letter → length ns < line_words → All IsSmall ns
     → words_of (plain_line letter ns) ≡ Some ((letter ∷ []) ∷ map decimal ns)
 words_plain letter ns visible few small =
     let other : is_space letter ≡ false = grind (arith, nat_tests) in
     let none = All-cons (λ b. is_space b ≡ false) letter [] other (All-nil (λ b. is_space b ≡ false)) in
     let parts : parts_of (plain_line letter ns) ≡ (letter ∷ []) ∷ map decimal ns = parts_spaced (letter ∷ []) ns none small in
-    let room : nat_le (length ((letter ∷ []) ∷ map decimal ns)) LINE_WORDS ≡ true = grind (arith, nat_tests, length-map ns decimal) in
+    let room : nat_le (length ((letter ∷ []) ∷ map decimal ns)) line_words ≡ true = grind (arith, nat_tests, length-map ns decimal) in
     rw (parts, numbers_are_words ns small, room) refl
 
 -- what they say
@@ -152,7 +152,7 @@ no_mark_plain letter [] some = absurd (omega arith)
 no_mark_plain letter (n ∷ ns) some = no_and (letter == 80)
 
 -- a plain line whose words are an event at a time is a line of it
-pub plain_event : (meaning : Meaning) (i letter : ℕ) (ns : List ℕ) (e : Transaction) → 35 < letter → 0 < length ns → length ns < LINE_WORDS → All IsSmall ns
+pub plain_event : (meaning : Meaning) (i letter : ℕ) (ns : List ℕ) (e : Transaction) → 35 < letter → 0 < length ns → length ns < line_words → All IsSmall ns
     → meaning ((letter ∷ []) ∷ map decimal ns) ≡ Ok e → e.ts ≡ i → IsEventLine meaning i (plain_line letter ns)
 plain_event meaning i letter ns e visible some few small says time =
     let words = words_plain letter ns (omega arith) few small in record {

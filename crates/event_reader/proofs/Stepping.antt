@@ -10,7 +10,7 @@ use Rattle.std.proofs.lemmas.Map.Keys.{IsDistinct-cons, IsDistinct-IsPermutation
 use Rattle.morph_base.specs.declared.limits.TheConstants.{EVENTS}
 use Rattle.morph_base.specs.declared.key.Layout.{Layout}
 use Rattle.morph_base.specs.Transactions.{Transaction, time, IsTransaction, HasKeysIn}
-use Rattle.event_reader.specs.declared.limits.TheConstants.{LONGEST_LINE}
+use Rattle.event_reader.specs.Limits.{longest_line}
 use Rattle.event_reader.specs.declared.cause.Cause.{Cause}
 use Rattle.event_reader.specs.declared.cause.Cause.TheVariants.{Late, Twice, Full}
 use Rattle.event_reader.specs.Lines.{Reading, with_line}
@@ -20,8 +20,8 @@ use Rattle.event_reader.specs.Accepted.{RefusedAt, accepted_from, with_batch}
 use Rattle.event_reader.specs.Pending.{IsSound}
 use Rattle.event_reader.proofs.Batching.{leads}
 
-module _ (m : Meaning) (closed : ℕ) (batch : List Transaction) (line : List ℕ) (short : length line ≤ LONGEST_LINE) where
-  is_short : nat_lt LONGEST_LINE (length line) ≡ false
+module _ (m : Meaning) (closed : ℕ) (batch : List Transaction) (line : List ℕ) (short : length line ≤ longest_line) where
+  is_short : nat_lt longest_line (length line) ≡ false
   is_short = grind (arith, nat_tests)
 
   step_ignored : is_ignored line ≡ true → step_of m closed batch line ≡ Ignored

@@ -1,6 +1,7 @@
 -- What the buffer of a reader of lines keeps true.
 use Rattle.std.specs.Prelude.{◌≡◌, ◌+◌, ◌-◌, ◌≤◌, IsTrue, length}
-use Rattle.event_reader.specs.declared.limits.TheConstants.{BUFFER_BYTES, INPUT_BYTES}
+use Rattle.event_reader.specs.declared.limits.TheConstants.{BUFFER_BYTES}
+use Rattle.event_reader.specs.Limits.{input_bytes}
 use Rattle.event_reader.specs.declared.lines.Lines.TheInside.{Inside}
 
 pub record IsBuffer (lines : Inside) : Type 0 where
@@ -10,7 +11,7 @@ pub record IsBuffer (lines : Inside) : Type 0 where
   pub line_order : lines.line_start ≤ lines.line_end
   pub line_inside : lines.line_end ≤ BUFFER_BYTES
   pub taken_bound : lines.taken ≤ lines.limit
-  pub limit_bound : lines.limit ≤ INPUT_BYTES
+  pub limit_bound : lines.limit ≤ input_bytes
   pub kept_bound : lines.end - lines.start ≤ lines.taken
   pub number_bound : lines.number ≤ lines.limit + 1
   pub number_live : IsTrue lines.live → lines.number + (lines.end - lines.start) ≤ lines.taken

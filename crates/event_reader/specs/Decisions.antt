@@ -1,6 +1,6 @@
 -- What the bytes that a reader keeps say of the first line of all that is unread, whatever follows them.
 use Rattle.std.specs.Prelude.{◌≡◌, ℕ, ◌<◌, ◌≤◌, Bool, false, IsTrue, List, [], ◌∷◌, ◌++◌, length, take, drop}
-use Rattle.event_reader.specs.declared.limits.TheConstants.{LONGEST_LINE, DECIDING_BYTES}
+use Rattle.event_reader.specs.Limits.{longest_line, deciding_bytes}
 use Rattle.event_reader.specs.declared.decision.Decision.{Decision}
 use Rattle.event_reader.specs.declared.decision.Decision.TheVariants.{Line, Long, End, Open}
 use Rattle.event_reader.specs.Lines.{lines_of, decided_lines, without_cr, IsLongFirst}
@@ -11,7 +11,7 @@ MayFollow ended rest = IsTrue ended → rest ≡ []
 
 -- the first line is the first `len` of the bytes kept, and with its end it takes up `used` of them
 pub record DecidesLine (kept : List ℕ) (ended : Bool) (len used : ℕ) : Type 0 where
-  pub short : len ≤ LONGEST_LINE
+  pub short : len ≤ longest_line
   pub inside : len ≤ used
   pub some : 0 < used
   pub held : used ≤ length kept
@@ -27,7 +27,7 @@ pub record DecidesLong (kept : List ℕ) (ended : Bool) : Type 0 where
 -- the bytes decide no line, and more may follow
 pub record DecidesNone (kept : List ℕ) (ended : Bool) : Type 0 where
   pub goes_on : ended ≡ false
-  pub few : length kept < DECIDING_BYTES
+  pub few : length kept < deciding_bytes
   pub none : decided_lines kept ≡ []
 
 abbrev pub Decides : List ℕ → (ended : Bool) → Decision → Type 0
@@ -38,6 +38,6 @@ Decides kept ended Open = DecidesNone kept ended
 
 -- a decision on a piece that is a whole line and takes up `used` bytes with its end
 abbrev pub DecidesPiece : List ℕ → (used : ℕ) → Decision → Type 0
-DecidesPiece piece used (Line len taken) = (len ≤ LONGEST_LINE) × (len ≤ length piece) × (take len piece ≡ without_cr piece) × (taken ≡ used)
-DecidesPiece piece used Long = LONGEST_LINE < length (without_cr piece)
+DecidesPiece piece used (Line len taken) = (len ≤ longest_line) × (len ≤ length piece) × (take len piece ≡ without_cr piece) × (taken ≡ used)
+DecidesPiece piece used Long = longest_line < length (without_cr piece)
 DecidesPiece piece used _ = ⊥

@@ -2,7 +2,7 @@
 use Rattle.std.specs.Prelude.{◌≡◌, ℕ, ◌<◌, ◌≤◌, false, List, length, Ok}
 use Rattle.std.specs.List.{All}
 use Rattle.morph_base.specs.Transactions.{Transaction}
-use Rattle.event_reader.specs.declared.limits.TheConstants.{GENERATED_EVENTS, GENERATED_IDS, GENERATED_BYTES}
+use Rattle.event_reader.specs.Limits.{generated_events, generated_ids, generated_bytes}
 use Rattle.event_reader.specs.Steps.{Meaning, said_by, is_ignored, is_punctuation}
 use Rattle.event_reader.specs.Words.{words_of}
 
@@ -19,10 +19,10 @@ pub record IsEventLine (meaning : Meaning) (i : ℕ) (line : List ℕ) : Type 0 
   pub printable : All (λ b. 32 ≤ b) line
   pub counts : is_ignored line ≡ false
   pub no_mark : is_punctuation line ≡ false
-  pub short : length line ≤ GENERATED_BYTES
+  pub short : length line ≤ generated_bytes
 
 -- each line that an application's generator writes is an event's, at the time of its number
 abbrev pub GeneratesEvents : {App : Type 0} → (App → ℕ → Meaning) → (App → (size i state : ℕ) → Drawn) → Type 0
 GeneratesEvents {App} event_of generated =
-    (app : App) (size i state : ℕ) → 0 < size → size ≤ GENERATED_IDS → 0 < i → i ≤ GENERATED_EVENTS
+    (app : App) (size i state : ℕ) → 0 < size → size ≤ generated_ids → 0 < i → i ≤ generated_events
     → IsEventLine (event_of app size) i (generated app size i state).line

@@ -1,11 +1,11 @@
 -- The text that a generator writes, line by line.
 use Rattle.std.specs.Prelude.{ℕ, zero, suc, ◌+◌, ◌%◌, ◌==◌, if◌then◌else◌, List, [], ◌∷◌, ◌++◌}
-use Rattle.event_reader.specs.declared.limits.TheConstants.{GENERATED_BATCH}
+use Rattle.event_reader.specs.Limits.{generated_batch}
 use Rattle.event_reader.specs.Generated.{Drawn}
 
 -- the line of event i with its LF, and behind that of the last event of a batch the line of a punctuation
 abbrev pub with_end : (i : ℕ) → List ℕ → List ℕ
-with_end i line = line ++ 10 ∷ (if i % GENERATED_BATCH == 0 then 80 ∷ 10 ∷ [] else [])
+with_end i line = line ++ 10 ∷ (if i % generated_batch == 0 then 80 ∷ 10 ∷ [] else [])
 
 -- the lines of so many events from event i on, each written from the state that the one before it left
 unfoldable pub generated_from : (ℕ → ℕ → Drawn) → (count i state : ℕ) → List ℕ

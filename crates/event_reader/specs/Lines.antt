@@ -1,7 +1,7 @@
 -- How bytes are cut into lines.
 use Rattle.std.specs.Prelude.{◌≡◌, ℕ, ◌-◌, ◌<◌, Bool, true, false, ◌==◌, nat_le, if◌then◌else◌, List, [], ◌∷◌, length, take, map, slice_index}
 use Rattle.std.specs.List.{slice_split}
-use Rattle.event_reader.specs.declared.limits.TheConstants.{LONGEST_LINE, DECIDING_BYTES}
+use Rattle.event_reader.specs.Limits.{longest_line, deciding_bytes}
 
 abbrev pub is_line_feed : ℕ → Bool
 is_line_feed b = b == 10
@@ -27,7 +27,7 @@ lines_of input = map without_cr (last_if (λ piece. nat_le 1 (length piece)) (pi
 -- the lines that are decided by a front of an input, whatever follows it: those that end in it, and its last piece where
 -- that has so many bytes that its line is too long
 abbrev pub decided_lines : List ℕ → List (List ℕ)
-decided_lines front = map without_cr (last_if (λ piece. nat_le DECIDING_BYTES (length piece)) (pieces front))
+decided_lines front = map without_cr (last_if (λ piece. nat_le deciding_bytes (length piece)) (pieces front))
 
 -- lines one after another, and whether they are cut off there, so that more lines may follow
 pub record Reading : Type 0 where
@@ -52,4 +52,4 @@ with_line line reading = record { lines = line ∷ reading.lines; cut = reading.
 
 -- there is a first line, and it is too long
 abbrev pub IsLongFirst : List (List ℕ) → Type 0
-IsLongFirst lines = (line : List ℕ) × (more : List (List ℕ)) × (lines ≡ line ∷ more) × (LONGEST_LINE < length line)
+IsLongFirst lines = (line : List ℕ) × (more : List (List ℕ)) × (lines ≡ line ∷ more) × (longest_line < length line)

@@ -3,7 +3,7 @@ use Rattle.std.specs.Prelude.{◌≡◌, ℕ, ◌+◌, Bool, true, not, ◌&&◌
 use Rattle.std.specs.Char.{is_ascii_digit}
 use Rattle.std.specs.List.{list_all}
 use Rattle.std.specs.Str.Parse.{digits_value}
-use Rattle.event_reader.specs.declared.limits.TheConstants.{GREATEST_NUMBER}
+use Rattle.event_reader.specs.Limits.{greatest_number}
 use Rattle.std.specs.Str.{bytes_eq}
 use Rattle.event_reader.specs.declared.cause.Cause.{Cause}
 use Rattle.event_reader.specs.declared.cause.Cause.TheVariants.{Form, Range as OutOfRange}
@@ -22,7 +22,7 @@ value_of word = digits_value 10 word
 -- what a word says as a number
 abbrev pub number_of : List ℕ → Number
 number_of word =
-    if is_number word then (if nat_le (value_of word) GREATEST_NUMBER then Value (value_of word) else TooGreat) else NotNumber
+    if is_number word then (if nat_le (value_of word) greatest_number then Value (value_of word) else TooGreat) else NotNumber
 
 -- whether a number is in a range
 abbrev pub is_in : Range → ℕ → Bool
@@ -43,7 +43,7 @@ numbers_in ranges words =
 
 -- the number that digits represent, where one above the greatest stands for all that are greater
 abbrev pub cut_value : List ℕ → ℕ
-cut_value word = min (value_of word) (GREATEST_NUMBER + 1)
+cut_value word = min (value_of word) (greatest_number + 1)
 
 abbrev pub cut_number : List ℕ → Option ℕ
 cut_number word = if is_number word then Some (cut_value word) else None

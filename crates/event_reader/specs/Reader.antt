@@ -4,7 +4,7 @@ use Rattle.morph_base.specs.declared.key.Layout.{Layout}
 use Rattle.morph_base.specs.Transactions.{Transaction, IsTransaction, HasKeysIn, IsBatch, BatchKeysIn, transactions_of, transaction_of}
 use Rattle.morph_base.specs.declared.event.Event.{Event}
 use Rattle.morph_io.specs.Told.{ahead}
-use Rattle.event_reader.specs.declared.limits.TheConstants.{LONGEST_LINE}
+use Rattle.event_reader.specs.Limits.{longest_line}
 use Rattle.event_reader.specs.declared.cause.Cause.{Cause}
 use Rattle.event_reader.specs.declared.cause.Cause.TheVariants.{Form, Range, Same}
 use Rattle.event_reader.specs.declared.cause.LineFault.{LineFault}
@@ -69,7 +69,7 @@ pub record Takes (old new : Option (List ℕ)) (Shows : List ℕ → Type 0) : T
 
 -- an answer of a reader of lines, by what it had to give before and what it has to give after
 abbrev pub AnswersLine : Option Reading → Result LineNext ReaderFault → List ℕ → Option Reading → Type 0
-AnswersLine before (Ok Line) line after = (before ≡ option_map (with_line line) after) × (length line ≤ LONGEST_LINE)
+AnswersLine before (Ok Line) line after = (before ≡ option_map (with_line line) after) × (length line ≤ longest_line)
 AnswersLine before (Ok Long) line after = IfSome before (λ reading. IsLongFirst reading.lines)
 AnswersLine before (Ok NoLine) line after = (before ≡ after) × IfSome before (λ reading. reading ≡ record { lines = []; cut = false })
 AnswersLine before (Err TooLong) line after = IfSome before (λ reading. reading ≡ record { lines = []; cut = true })

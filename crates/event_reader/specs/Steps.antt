@@ -4,7 +4,7 @@ use Rattle.std.specs.List.{list_any}
 use Rattle.std.specs.Str.{bytes_eq}
 use Rattle.morph_base.specs.declared.limits.TheConstants.{EVENTS}
 use Rattle.morph_base.specs.Transactions.{Transaction}
-use Rattle.event_reader.specs.declared.limits.TheConstants.{LONGEST_LINE}
+use Rattle.event_reader.specs.Limits.{longest_line}
 use Rattle.event_reader.specs.declared.cause.Cause.{Cause}
 use Rattle.event_reader.specs.declared.cause.Cause.TheVariants.{Long, Form, Late, Twice, Full}
 use Rattle.event_reader.specs.Words.{words_of}
@@ -55,5 +55,5 @@ is_punctuation line = bytes_eq line (80 ∷ [])
 -- of the unfinished batch, in order of arrival
 unfoldable pub step_of : Meaning → (closed : ℕ) → List Transaction → List ℕ → Step
 step_of meaning closed batch line =
-    if nat_lt LONGEST_LINE (length line) then Refuses Long else (if is_ignored line then Ignored
+    if nat_lt longest_line (length line) then Refuses Long else (if is_ignored line then Ignored
     else (if is_punctuation line then Closes else event_step closed batch (said_by meaning (words_of line))))

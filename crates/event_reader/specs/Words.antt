@@ -1,7 +1,7 @@
 -- The words of a line.
 use Rattle.std.specs.Prelude.{ℕ, Bool, ◌&&◌, ◌==◌, nat_le, if◌then◌else◌, List, length, Option, Some, None}
 use Rattle.std.specs.List.{slice_split, list_all}
-use Rattle.event_reader.specs.declared.limits.TheConstants.{LINE_WORDS}
+use Rattle.event_reader.specs.Limits.{line_words}
 
 abbrev pub is_space : ℕ → Bool
 is_space b = b == 32
@@ -17,4 +17,4 @@ is_word part = nat_le 1 (length part)
 -- the words of a line, with one space between each two; None where one would be empty or there are too many
 abbrev pub words_of : List ℕ → Option (List (List ℕ))
 words_of line =
-    if list_all is_word (parts_of line) && nat_le (length (parts_of line)) LINE_WORDS then Some (parts_of line) else None
+    if list_all is_word (parts_of line) && nat_le (length (parts_of line)) line_words then Some (parts_of line) else None

@@ -1,6 +1,6 @@
 ghost use Rattle.std.specs.Prelude.{◌≡◌, ℕ, ◌<◌, ◌≤◌, List, [], Result, length};
 ghost use Rattle.morph_base.specs.Transactions.{Transaction};
-ghost use Rattle.event_reader.specs.declared.limits.TheConstants.{NAME_BYTES, GENERATED_EVENTS, GENERATED_IDS};
+ghost use Rattle.event_reader.specs.Limits.{name_bytes, generated_events, generated_ids};
 ghost use Rattle.event_reader.specs.declared.cause.Cause.{Cause};
 ghost use Rattle.event_reader.specs.Reader.{GivesEvent, GivesValid, IsOfWords};
 ghost use Rattle.event_reader.specs.Generated.{Drawn, GeneratesEvents};
@@ -36,7 +36,7 @@ pub trait EventApp {
     fn table_name(&self, table: u8) -> &'static str
         requires { table < table_count self.now }
         ensures name { result.now ≡ name_of self.now table }
-        ensures short { length result.now ≤ NAME_BYTES };
+        ensures short { length result.now ≤ name_bytes };
 
     /// Reads the words of an event line, where each table has `size` ids.
     fn read_event(&self, alloc: Global, words: &Words<'_>, size: u32) -> Result<Event, LineFault>
@@ -48,9 +48,9 @@ pub trait EventApp {
     fn generate(&self, draws: &mut Draws, i: u64, size: u32, line: &mut LineBuf)
         requires empty { line.old ≡ [] }
         requires event { 1 ≤ i }
-        requires last { i ≤ GENERATED_EVENTS }
+        requires last { i ≤ generated_events }
         requires size { 1 ≤ size }
-        requires ids { size ≤ GENERATED_IDS }
+        requires ids { size ≤ generated_ids }
         ensures line { line.new ≡ (generated self.now size i draws.old).line }
         ensures state { draws.new ≡ (generated self.now size i draws.old).state };
 

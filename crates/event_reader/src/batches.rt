@@ -106,7 +106,7 @@ impl<A> Model for BatchReader<A> {
 }
 
 impl<A: EventApp> BatchReader<A> {
-    ghost use Rattle.event_reader.specs.declared.limits.TheConstants.{INPUT_BYTES};
+    ghost use Rattle.event_reader.specs.Limits.{input_bytes};
     ghost use Rattle.event_reader.specs.Reader.{ReaderView, new_reader, accepted_by, ShowsNext};
 
     /// A reader for an application whose tables have `size` ids each, of an input of at most `limit` bytes.
@@ -115,7 +115,7 @@ impl<A: EventApp> BatchReader<A> {
         A: Drop,
         requires size { 1 ≤ size }
         requires some { 1 ≤ limit }
-        requires bound { limit ≤ INPUT_BYTES }
+        requires bound { limit ≤ input_bytes }
         ensures { IfOk result (λ reader. reader ≡ new_reader app size limit) }
     {
         Ok(BatchReader {

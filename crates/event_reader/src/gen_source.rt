@@ -1,5 +1,5 @@
 ghost use Rattle.std.specs.Prelude.{◌≡◌, ◌+◌, ◌<◌, ◌≤◌, [], ◌++◌, length, take, Some, IsOk, IfOk};
-ghost use Rattle.event_reader.specs.declared.limits.TheConstants.{GENERATED_EVENTS, GENERATED_IDS};
+ghost use Rattle.event_reader.specs.Limits.{generated_events, generated_ids};
 ghost use Rattle.event_reader.specs.GeneratedText.{with_end, new_generator, generated_left};
 
 use crate::app::EventApp;
@@ -48,9 +48,9 @@ impl<A> Model for GenSource<A> {
 /// Writes the line of event `i` with its LF, and the line of a punctuation behind it where the event ends a batch.
 fn write_event<A: EventApp>(app: &A, draws: &mut Draws, i: u64, size: u32, line: &mut LineBuf)
     requires event { 1 ≤ i }
-    requires last { i ≤ GENERATED_EVENTS }
+    requires last { i ≤ generated_events }
     requires size { 1 ≤ size }
-    requires ids { size ≤ GENERATED_IDS }
+    requires ids { size ≤ generated_ids }
     ensures line { line.new ≡ with_end i (A.generated app.now size i draws.old).line }
     ensures state { draws.new ≡ (A.generated app.now size i draws.old).state }
 {
@@ -66,9 +66,9 @@ impl<A: EventApp> GenSource<A> {
     /// A source of the lines of `events` events, at most [`GENERATED_EVENTS`](crate::GENERATED_EVENTS), for tables of
     /// `size` ids each, which are 1 to [`GENERATED_IDS`](crate::GENERATED_IDS). The draws begin at `seed`.
     pub fn new(app: A, seed: u64, events: u64, size: u32) -> Self
-        requires events { events ≤ GENERATED_EVENTS }
+        requires events { events ≤ generated_events }
         requires size { 1 ≤ size }
-        requires ids { size ≤ GENERATED_IDS }
+        requires ids { size ≤ generated_ids }
         ensures { result ≡ new_generator app seed events size }
     {
         GenSource {

@@ -1,6 +1,6 @@
 //! Laws of definitions that callers of this crate cite.
 ghost use Rattle.std.specs.Prelude.{◌≡◌, ℕ, ◌<◌, ◌≤◌, length, sum_by};
-ghost use Rattle.event_reader.specs.declared.limits.TheConstants.{GENERATED_EVENTS, GENERATED_IDS, INPUT_BYTES};
+ghost use Rattle.event_reader.specs.Limits.{generated_events, generated_ids, input_bytes};
 ghost use Rattle.event_reader.specs.Accepted.{Ended, accepted, accepted_within};
 ghost use Rattle.event_reader.specs.GeneratedText.{generated_text};
 
@@ -11,13 +11,13 @@ use crate::app::EventApp;
 ///
 /// So a run on a generated text reads all of it.
 pub fn generated_text_is_accepted<A: EventApp>()
-    ensures ended { (app : A) (size seed events : ℕ) → 0 < size → size ≤ GENERATED_IDS → events ≤ GENERATED_EVENTS
+    ensures ended { (app : A) (size seed events : ℕ) → 0 < size → size ≤ generated_ids → events ≤ generated_events
         → (accepted (A.event_of app size) (generated_text (A.generated app size) seed events)).ending ≡ Ended }
-    ensures events { (app : A) (size seed events : ℕ) → 0 < size → size ≤ GENERATED_IDS → events ≤ GENERATED_EVENTS
+    ensures events { (app : A) (size seed events : ℕ) → 0 < size → size ≤ generated_ids → events ≤ generated_events
         → sum_by (λ batch. length batch) (accepted (A.event_of app size) (generated_text (A.generated app size) seed events)).batches ≡ events }
-    ensures short { (app : A) (size seed events : ℕ) → 0 < size → size ≤ GENERATED_IDS → events ≤ GENERATED_EVENTS
-        → length (generated_text (A.generated app size) seed events) < INPUT_BYTES }
-    ensures within { (app : A) (size seed events : ℕ) → 0 < size → size ≤ GENERATED_IDS → events ≤ GENERATED_EVENTS
+    ensures short { (app : A) (size seed events : ℕ) → 0 < size → size ≤ generated_ids → events ≤ generated_events
+        → length (generated_text (A.generated app size) seed events) < input_bytes }
+    ensures within { (app : A) (size seed events : ℕ) → 0 < size → size ≤ generated_ids → events ≤ generated_events
         → let text = generated_text (A.generated app size) seed events in
-        accepted_within (A.event_of app size) INPUT_BYTES text ≡ accepted (A.event_of app size) text }
+        accepted_within (A.event_of app size) input_bytes text ≡ accepted (A.event_of app size) text }
 {}

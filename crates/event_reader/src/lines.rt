@@ -101,14 +101,14 @@ fn asked_bytes(free: usize, left: u64) -> usize
 impl Lines {
     ghost use Rattle.std.specs.Prelude.{◌≡◌, ℕ, ◌+◌, ◌<◌, ◌≤◌, List, [], ◌++◌, length, take, drop, IsTrue, IfOk, OnOk, IsErrOf, false, Ok, OnErr};
     ghost use Rattle.morph_io.specs.Told.{ahead, IsAtEnd, HasRisen};
-    ghost use Rattle.event_reader.specs.declared.limits.TheConstants.{LONGEST_LINE, DECIDING_BYTES, INPUT_BYTES};
+    ghost use Rattle.event_reader.specs.Limits.{longest_line, deciding_bytes, input_bytes};
     ghost use Rattle.event_reader.specs.Reader.{LinesView, new_lines, reading_of, AnswersLine, ShowsLine, Takes, is_line, lines_given};
     ghost use Rattle.event_reader.specs.Filling.{Fills};
 
     /// A reader of an input of at most `limit` bytes, which has taken none yet.
     pub fn new(alloc: Global, limit: u64) -> Result<Self, OutOfMemory>
         requires some { 1 ≤ limit }
-        requires bound { limit ≤ INPUT_BYTES }
+        requires bound { limit ≤ input_bytes }
         ensures { IfOk result (λ lines. lines ≡ new_lines limit) }
     {
         Ok(Lines {
@@ -156,7 +156,7 @@ impl Lines {
 
     /// Takes more bytes from the source.
     fn fill<S: Source>(&mut self, source: &mut S) -> Result<(), ReaderFault>
-        requires few { length self.old.kept < DECIDING_BYTES }
+        requires few { length self.old.kept < deciding_bytes }
         requires goes_on { self.old.ended ≡ false }
         requires live { IsTrue self.old.live }
         ensures fills { Fills self.old (S.left source.old) result self.new (S.left source.new) }

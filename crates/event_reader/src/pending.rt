@@ -1,7 +1,7 @@
 ghost use Rattle.std.specs.Prelude.{◌≡◌, ◌≤◌, [], length, IfOk};
 ghost use Rattle.morph_base.specs.Transactions.{transaction_of};
 ghost use Rattle.event_reader.specs.Steps.{is_ignored, is_punctuation};
-ghost use Rattle.event_reader.specs.declared.limits.TheConstants.{LONGEST_LINE};
+ghost use Rattle.event_reader.specs.Limits.{longest_line};
 
 use crate::app::EventApp;
 use crate::cause::{Cause, LineFault};
@@ -88,7 +88,7 @@ impl Pending {
         line: &[u8],
     ) -> Result<LineEffect, OutOfMemory>
         requires size { 1 ≤ size }
-        requires short { length line.now ≤ LONGEST_LINE }
+        requires short { length line.now ≤ longest_line }
         requires notes { Notes closed self.old }
         requires sound { IsSound (record { tables = A.table_count app.now; size = size }) (batch_of self.old) }
         ensures { IfOk result (TakesLine (A.event_of app.now size) (record { tables = A.table_count app.now; size = size }) closed self.old line.now self.new) }

@@ -1,6 +1,6 @@
 ghost use Rattle.std.specs.Prelude.{◌≡◌, ◌<◌, [], length};
 ghost use Rattle.event_reader.specs.PlainLines.{plain_line};
-ghost use Rattle.event_reader.specs.declared.limits.TheConstants.{LINE_WORDS};
+ghost use Rattle.event_reader.specs.Limits.{line_words};
 
 use morph_io::LineBuf;
 
@@ -9,7 +9,7 @@ use morph_io::LineBuf;
 /// The line has as many words as an event line can have at most.
 pub fn write_line(letter: u8, numbers: &[u64], line: &mut LineBuf)
     requires empty { line.old ≡ [] }
-    requires few { length numbers.now < LINE_WORDS }
+    requires few { length numbers.now < line_words }
     ensures { line.new ≡ plain_line letter numbers.now }
 {
     line.word(&[letter]);

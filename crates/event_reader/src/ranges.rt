@@ -1,6 +1,6 @@
 ghost use Rattle.std.specs.Prelude.{◌≡◌, ℕ, ◌+◌, ◌<◌, ◌≤◌, All, length, drop, IfOk, IfErr, MatchOption, IsTrue, false};
 ghost use Rattle.std.specs.List.{list_all};
-ghost use Rattle.event_reader.specs.declared.limits.TheConstants.{GREATEST_NUMBER, LINE_WORDS};
+ghost use Rattle.event_reader.specs.Limits.{greatest_number, line_words};
 ghost use Rattle.event_reader.specs.Numbers.{is_number, is_in, are_in, numbers_in, has_form, cut_number, AreCutNumbers};
 
 use crate::cause::Cause;
@@ -77,7 +77,7 @@ fn cut_number(word: &[u8]) -> Option<u64>
 impl Words<'_> {
     /// Whether the words are one letter and `count` more words.
     pub fn has_form(&self, letter: u8, count: usize) -> bool
-        requires { count < LINE_WORDS }
+        requires { count < line_words }
         ensures { result ≡ has_form letter count self.now }
     {
         self.count() == count + 1 && self.word(0) == [letter].as_slice()
@@ -101,7 +101,7 @@ impl Words<'_> {
     /// The cause is [`Cause::Form`] where one is no number, and else [`Cause::Range`] where one is out of its range.
     pub fn numbers<const N: usize>(&self, ranges: &[Range; N]) -> Result<[u64; N], Cause>
         requires count { length self.now ≡ N + 1 }
-        requires small { All (λ range. range.greatest ≤ GREATEST_NUMBER) ranges.now }
+        requires small { All (λ range. range.greatest ≤ greatest_number) ranges.now }
         ensures ok { IfOk result (λ numbers. numbers_in ranges.now (drop 1 self.now) ≡ Ok numbers) }
         ensures fits { IfOk result (λ numbers. IsTrue (are_in ranges.now numbers)) }
         ensures err { IfErr result (λ cause. numbers_in ranges.now (drop 1 self.now) ≡ Err cause) }

@@ -1,6 +1,6 @@
 ghost use Rattle.std.specs.Prelude.{◌≡◌, ℕ, ◌<◌, ◌≤◌, List, [], ◌∷◌, length, map, take, slice_index_or, MatchOption};
 ghost use Rattle.event_reader.specs.Words.{parts_of, words_of};
-ghost use Rattle.event_reader.specs.declared.limits.TheConstants.{LINE_WORDS};
+ghost use Rattle.event_reader.specs.Limits.{line_words};
 
 use crate::limits::LINE_WORDS;
 use memchr::memchr;
@@ -18,7 +18,7 @@ impl<'a> Model for Words<'a> {
 
     ghost view = { λ w. take w.count (map (λ word. word.now) w.words) };
 
-    ghost invariant = { λ w. w.count ≤ LINE_WORDS };
+    ghost invariant = { λ w. w.count ≤ line_words };
 }
 
 /// The part of a line in front of its first space, and what follows that space; the whole line where there is none.

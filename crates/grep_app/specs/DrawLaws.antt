@@ -7,7 +7,7 @@ use Rattle.std.proofs.lemmas.Bool.{cases_lt}
 use Rattle.std.proofs.lemmas.Bool.Decides.{nat_tests}
 use Rattle.std.proofs.lemmas.List.Elements.{All-nil, All-cons, All-head, All-tail, All-weaker}
 use Rattle.morph_base.specs.Transactions.{Transaction}
-use Rattle.event_reader.specs.declared.limits.TheConstants.{GENERATED_EVENTS, GENERATED_IDS}
+use Rattle.event_reader.specs.Limits.{generated_events, generated_ids}
 use Rattle.event_reader.specs.declared.cause.Cause.{Cause}
 use Rattle.event_reader.specs.declared.cause.Cause.TheVariants.{Same}
 use Rattle.event_reader.specs.Draws.{after_draws, draw_at}
@@ -29,7 +29,7 @@ all_small_three : (a b c : ℕ) (ns : List ℕ) → IsSmall a → IsSmall b → 
 all_small_three a b c ns h1 h2 h3 rest = All-cons IsSmall a (b ∷ c ∷ ns) h1 (All-cons IsSmall b (c ∷ ns) h2 (All-cons IsSmall c ns h3 rest))
 
 -- the line that sets a cell
-setting_in : (size i k v : ℕ) → 0 < i → i ≤ GENERATED_EVENTS → k < size → v < 1000 → are_in (setting_ranges size) (i ∷ k ∷ v ∷ []) ≡ true
+setting_in : (size i k v : ℕ) → 0 < i → i ≤ generated_events → k < size → v < 1000 → are_in (setting_ranges size) (i ∷ k ∷ v ∷ []) ≡ true
 unfolding are_in
 setting_in size i k v start last inside small = rw (
   in_range times i (omega arith) (omega arith),
@@ -37,7 +37,7 @@ setting_in size i k v start last inside small = rw (
   in_range amounts v (omega arith) (omega arith),
 ) refl
 
-setting_line : (size i k v : ℕ) → size ≤ GENERATED_IDS → 0 < i → i ≤ GENERATED_EVENTS → k < size → v < 1000
+setting_line : (size i k v : ℕ) → size ≤ generated_ids → 0 < i → i ≤ generated_events → k < size → v < 1000
     → IsEventLine (grep_event size) i (plain_line 87 (i ∷ k ∷ v ∷ []))
 setting_line size i k v few start last inside small =
     let ns : List ℕ = i ∷ k ∷ v ∷ [] in
@@ -95,7 +95,7 @@ ids_in size (suc many) (c ∷ cells) inside =
     let here = All-head (λ c. c < size) c cells inside in
     rw (in_range (ids size) c (omega arith) (omega arith), ids_in size many cells (All-tail (λ c. c < size) c cells inside)) refl
 
-gather_in : (size many i k limit : ℕ) (cells : List ℕ) → 0 < i → i ≤ GENERATED_EVENTS → k < size → limit < 4000 → All (λ c. c < size) cells
+gather_in : (size many i k limit : ℕ) (cells : List ℕ) → 0 < i → i ≤ generated_events → k < size → limit < 4000 → All (λ c. c < size) cells
     → are_in (gather_ranges size many) (i ∷ k ∷ limit ∷ cells) ≡ true
 unfolding are_in
 gather_in size many i k limit cells start last inside small all = rw (
@@ -105,12 +105,12 @@ gather_in size many i k limit cells start last inside small all = rw (
   ids_in size many cells all,
 ) refl
 
-sum_small : (size i k limit : ℕ) (cells : List ℕ) → size ≤ GENERATED_IDS → i ≤ GENERATED_EVENTS → k < size → limit < 4000 → All (λ c. c < size) cells
+sum_small : (size i k limit : ℕ) (cells : List ℕ) → size ≤ generated_ids → i ≤ generated_events → k < size → limit < 4000 → All (λ c. c < size) cells
     → All IsSmall (i ∷ k ∷ limit ∷ cells)
 sum_small size i k limit cells few last inside small all =
     all_small_three i k limit cells (omega arith) (omega arith) (omega arith) (All-weaker (λ c. c < size) IsSmall (λ c below. omega (arith, below)) cells all)
 
-sum_said : (size many i k limit : ℕ) (cells : List ℕ) → size ≤ GENERATED_IDS → 0 < i → i ≤ GENERATED_EVENTS → k < size → limit < 4000
+sum_said : (size many i k limit : ℕ) (cells : List ℕ) → size ≤ generated_ids → 0 < i → i ≤ generated_events → k < size → limit < 4000
     → All (λ c. c < size) cells → are_distinct (cell k ∷ map cell cells) ≡ true
     → gather_of (numbers_in (gather_ranges size many) (map decimal (i ∷ k ∷ limit ∷ cells))) ≡ ok (gathering i limit (cell k) (map cell cells))
 sum_said size many i k limit cells few start last inside small all differ =
@@ -120,7 +120,7 @@ sum_said size many i k limit cells few start last inside small all differ =
     = rw differ refl in
     ap gather_of read ∙ apart
 
-sum_line : (size i k many limit : ℕ) → 3 < size → size ≤ GENERATED_IDS → 0 < i → i ≤ GENERATED_EVENTS → k < size → many < 3 → limit < 4000
+sum_line : (size i k many limit : ℕ) → 3 < size → size ≤ generated_ids → 0 < i → i ≤ generated_events → k < size → many < 3 → limit < 4000
     → IsEventLine (grep_event size) i (plain_line 71 (summed size i k (many + 1) limit))
 sum_line size i k many limit four few start last inside some small = by_many many some
   where
@@ -170,7 +170,7 @@ sum_line size i k many limit four few start last inside some small = by_many man
         (later 1 2 (omega arith) (omega arith)) (later 1 3 (omega arith) (omega arith)) (later 2 3 (omega arith) (omega arith))))
     by_many (suc (suc (suc n))) below = absurd (omega arith)
 
-pub grep_generates : (size i state : ℕ) → 0 < size → size ≤ GENERATED_IDS → 0 < i → i ≤ GENERATED_EVENTS
+pub grep_generates : (size i state : ℕ) → 0 < size → size ≤ generated_ids → 0 < i → i ≤ generated_events
     → IsEventLine (grep_event size) i (grep_drawn size i state).line
 grep_generates size i state some few start last = by_choice (draw_at state 1 2 == 0) (nat_lt size 4) refl
   where

@@ -6,7 +6,7 @@ use Rattle.std.proofs.Math.Nat.{mod_self, mod-eq_of_lt}
 use Rattle.std.proofs.lemmas.Bool.{cases_lt}
 use Rattle.std.proofs.lemmas.Bool.Decides.{nat_tests}
 use Rattle.std.proofs.lemmas.List.Elements.{All-nil, All-cons}
-use Rattle.event_reader.specs.declared.limits.TheConstants.{GENERATED_EVENTS, GENERATED_IDS}
+use Rattle.event_reader.specs.Limits.{generated_events, generated_ids}
 use Rattle.morph_base.specs.Transactions.{Transaction}
 use Rattle.event_reader.specs.declared.cause.Cause.{Cause}
 use Rattle.event_reader.specs.declared.cause.Cause.TheVariants.{Same}
@@ -18,9 +18,8 @@ use Rattle.event_reader.specs.Ranges.{times, ids, amounts}
 use Rattle.event_reader.proofs.Drawing.{draw_below}
 use Rattle.event_reader.proofs.NumberLists.{in_range}
 use Rattle.event_reader.proofs.PlainLines.{IsSmall, numbers_plain, plain_event}
-use Rattle.ledger_app.specs.declared.generating.TheConstants.{DRAWN_AMOUNTS}
 use Rattle.ledger_app.specs.Ledger.{deposit, moving, deposit_ranges, transfer_ranges, deposit_of, transfer_of, ledger_event}
-use Rattle.ledger_app.specs.LedgerDraws.{apart, drawn_deposit, drawn_transfer, ledger_drawn}
+use Rattle.ledger_app.specs.LedgerDraws.{apart, drawn_amounts, drawn_deposit, drawn_transfer, ledger_drawn}
 
 abbrev ok : Transaction → Result Transaction Cause
 ok e = Ok e
@@ -32,7 +31,7 @@ all_small_five a b c d e h1 h2 h3 h4 h5 =
     (All-cons IsSmall d (e ∷ []) h4 (All-cons IsSmall e [] h5 (All-nil IsSmall)))))
 
 -- numbers in their ranges
-deposit_in : (size i acct ast a b : ℕ) → 0 < i → i ≤ GENERATED_EVENTS → acct < size → ast < size → a < DRAWN_AMOUNTS → b < DRAWN_AMOUNTS
+deposit_in : (size i acct ast a b : ℕ) → 0 < i → i ≤ generated_events → acct < size → ast < size → a < drawn_amounts → b < drawn_amounts
     → are_in (deposit_ranges size) (i ∷ acct ∷ ast ∷ a ∷ b ∷ []) ≡ true
 unfolding are_in
 deposit_in size i acct ast a b start last in1 in2 small small' = rw (
@@ -43,7 +42,7 @@ deposit_in size i acct ast a b start last in1 in2 small small' = rw (
   in_range amounts b (omega arith) (omega arith),
 ) refl
 
-transfer_in : (size i src dst asrc adst a b : ℕ) → 0 < i → i ≤ GENERATED_EVENTS → src < size → dst < size → asrc < size → adst < size → a < DRAWN_AMOUNTS → b < DRAWN_AMOUNTS
+transfer_in : (size i src dst asrc adst a b : ℕ) → 0 < i → i ≤ generated_events → src < size → dst < size → asrc < size → adst < size → a < drawn_amounts → b < drawn_amounts
     → are_in (transfer_ranges size) (i ∷ src ∷ dst ∷ asrc ∷ adst ∷ a ∷ b ∷ []) ≡ true
 unfolding are_in
 transfer_in size i src dst asrc adst a b start last in1 in2 in3 in4 small small' = rw (
@@ -57,7 +56,7 @@ transfer_in size i src dst asrc adst a b start last in1 in2 in3 in4 small small'
 ) refl
 
 -- the line of a deposit
-deposit_line : (size i acct ast a b : ℕ) → size ≤ GENERATED_IDS → 0 < i → i ≤ GENERATED_EVENTS → acct < size → ast < size → a < DRAWN_AMOUNTS → b < DRAWN_AMOUNTS
+deposit_line : (size i acct ast a b : ℕ) → size ≤ generated_ids → 0 < i → i ≤ generated_events → acct < size → ast < size → a < drawn_amounts → b < drawn_amounts
     → IsEventLine (ledger_event size) i (plain_line 68 (i ∷ acct ∷ ast ∷ a ∷ b ∷ []))
 deposit_line size i acct ast a b few start last in1 in2 small small' =
     let ns : List ℕ = i ∷ acct ∷ ast ∷ a ∷ b ∷ [] in
@@ -86,7 +85,7 @@ apart_differs size first second two inside = by_test (first == second) refl
     by_test false differ = differ
 
 -- the line of a transfer
-transfer_line : (size i src dst asrc adst a b : ℕ) → size ≤ GENERATED_IDS → 0 < i → i ≤ GENERATED_EVENTS → src < size → dst < size → asrc < size → adst < size → a < DRAWN_AMOUNTS → b < DRAWN_AMOUNTS
+transfer_line : (size i src dst asrc adst a b : ℕ) → size ≤ generated_ids → 0 < i → i ≤ generated_events → src < size → dst < size → asrc < size → adst < size → a < drawn_amounts → b < drawn_amounts
     → (src == dst) ≡ false → (asrc == adst) ≡ false → IsEventLine (ledger_event size) i (plain_line 88 (i ∷ src ∷ dst ∷ asrc ∷ adst ∷ a ∷ b ∷ []))
 transfer_line size i src dst asrc adst a b few start last in1 in2 in3 in4 small small' differ differ' =
     let ns : List ℕ = i ∷ src ∷ dst ∷ asrc ∷ adst ∷ a ∷ b ∷ [] in
@@ -96,7 +95,7 @@ transfer_line size i src dst asrc adst a b few start last in1 in2 in3 in4 small 
     let apart : (if src == dst || asrc == adst then Err Same else Ok (moving i src dst asrc adst a b)) ≡ ok (moving i src dst asrc adst a b) = rw (differ, differ') refl in
     plain_event (ledger_event size) i 88 ns (moving i src dst asrc adst a b) (omega arith) (omega arith) (omega arith) all (ap transfer_of read ∙ apart) refl
 
-pub ledger_generates : (size i state : ℕ) → 0 < size → size ≤ GENERATED_IDS → 0 < i → i ≤ GENERATED_EVENTS
+pub ledger_generates : (size i state : ℕ) → 0 < size → size ≤ generated_ids → 0 < i → i ≤ generated_events
     → IsEventLine (ledger_event size) i (ledger_drawn size i state).line
 ledger_generates size i state some few start last = by_choice (nat_lt (draw_at state 1 4) 2) (nat_lt size 2) refl
   where
@@ -105,7 +104,7 @@ ledger_generates size i state some few start last = by_choice (nat_lt (draw_at s
 
     deposit_at : IsEventLine (ledger_event size) i (plain_line 68 (drawn_deposit size i after))
     deposit_at = deposit_line size i _ _ _ _ few start last (draw_below after 1 size some) (draw_below after 2 size some)
-        (draw_below after 3 DRAWN_AMOUNTS (omega arith)) (draw_below after 4 DRAWN_AMOUNTS (omega arith))
+        (draw_below after 3 drawn_amounts (omega arith)) (draw_below after 4 drawn_amounts (omega arith))
 
     transfer_at : 1 < size → IsEventLine (ledger_event size) i (plain_line 88 (drawn_transfer size i after))
     transfer_at two =
@@ -114,7 +113,7 @@ ledger_generates size i state some few start last = by_choice (nat_lt (draw_at s
         let asrc = draw_below after 3 size some in
         let adst = draw_below after 4 size some in
         transfer_line size i _ _ _ _ _ _ few start last src (apart_below size _ _ src dst) asrc (apart_below size _ _ asrc adst)
-        (draw_below after 5 DRAWN_AMOUNTS (omega arith)) (draw_below after 6 DRAWN_AMOUNTS (omega arith))
+        (draw_below after 5 drawn_amounts (omega arith)) (draw_below after 6 drawn_amounts (omega arith))
         (apart_differs size (draw_at after 1 size) (draw_at after 2 size) two src) (apart_differs size (draw_at after 3 size) (draw_at after 4 size) two asrc)
 
     chosen : (one : Bool) → Drawn

@@ -3,7 +3,10 @@ use Rattle.std.specs.Prelude.{ℕ, ◌+◌, ◌%◌, ◌||◌, ◌==◌, Bool, n
 use Rattle.event_reader.specs.Draws.{after_draws, draw_at}
 use Rattle.event_reader.specs.Generated.{Drawn}
 use Rattle.event_reader.specs.PlainLines.{plain_line}
-use Rattle.ledger_app.specs.declared.generating.TheConstants.{DRAWN_AMOUNTS}
+
+-- the amounts that are drawn are below this number
+abbrev pub drawn_amounts : ℕ
+drawn_amounts = 1000
 
 -- the second of two ids, or the id after the first where they are the same; id 0 comes after the last
 abbrev pub apart : (size first second : ℕ) → ℕ
@@ -11,7 +14,7 @@ apart size first second = if first == second then (first + 1) % size else second
 
 -- the numbers of a deposit at time i: an account, an asset and two amounts are drawn
 abbrev pub drawn_deposit : (size i state : ℕ) → List ℕ
-drawn_deposit size i state = i ∷ draw_at state 1 size ∷ draw_at state 2 size ∷ draw_at state 3 DRAWN_AMOUNTS ∷ draw_at state 4 DRAWN_AMOUNTS ∷ []
+drawn_deposit size i state = i ∷ draw_at state 1 size ∷ draw_at state 2 size ∷ draw_at state 3 drawn_amounts ∷ draw_at state 4 drawn_amounts ∷ []
 
 -- the numbers of a transfer at time i, where the two accounts and the two assets are brought apart
 abbrev pub moved : (size i src dst asrc adst a b : ℕ) → List ℕ
@@ -19,7 +22,7 @@ moved size i src dst asrc adst a b = i ∷ src ∷ apart size src dst ∷ asrc �
 
 abbrev pub drawn_transfer : (size i state : ℕ) → List ℕ
 drawn_transfer size i state =
-    moved size i (draw_at state 1 size) (draw_at state 2 size) (draw_at state 3 size) (draw_at state 4 size) (draw_at state 5 DRAWN_AMOUNTS) (draw_at state 6 DRAWN_AMOUNTS)
+    moved size i (draw_at state 1 size) (draw_at state 2 size) (draw_at state 3 size) (draw_at state 4 size) (draw_at state 5 drawn_amounts) (draw_at state 6 drawn_amounts)
 
 -- the line of event i: a deposit in two of four draws, and always where there is one id alone, which has nothing apart
 -- from it; else a transfer

@@ -1,5 +1,5 @@
 ghost use Rattle.std.specs.Prelude.{◌≡◌, ◌<◌, ◌≤◌, IfOk};
-ghost use Rattle.event_reader.specs.declared.limits.TheConstants.{INPUT_BYTES};
+ghost use Rattle.event_reader.specs.Limits.{input_bytes};
 
 use crate::{ACCOUNTS, ASSETS, Ledger};
 use event_reader::{
@@ -42,7 +42,7 @@ fn read_batches<S: Source>(
     limit: u64,
 ) -> Result<Outcome, OutOfMemory>
     requires some { 1 ≤ limit }
-    requires limit { limit ≤ INPUT_BYTES }
+    requires limit { limit ≤ input_bytes }
 {
     let mut reader = BatchReader::new(alloc, Ledger, 10_000, limit)?;
     let mut sizes = Vec::new(alloc);
@@ -74,7 +74,7 @@ fn read_all(
 ) -> Result<Outcome, OutOfMemory>
     requires piece { 0 < piece }
     requires some { 1 ≤ limit }
-    requires limit { limit ≤ INPUT_BYTES }
+    requires limit { limit ≤ input_bytes }
 {
     let mut source = MemSource::new(list_of(alloc, text)?, piece, list_of(alloc, fail)?);
     read_batches(alloc, &mut source, limit)

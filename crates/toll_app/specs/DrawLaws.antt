@@ -2,7 +2,7 @@
 use Rattle.std.proofs.Common.{◌≡◌, ℕ, ◌<◌, ◌≤◌, true, List, [], ◌∷◌, min, refl, ap, arith}
 use Rattle.std.specs.List.{All}
 use Rattle.std.proofs.lemmas.List.Elements.{All-nil, All-cons}
-use Rattle.event_reader.specs.declared.limits.TheConstants.{GENERATED_EVENTS, GENERATED_IDS}
+use Rattle.event_reader.specs.Limits.{generated_events, generated_ids}
 use Rattle.event_reader.specs.Draws.{draw_at}
 use Rattle.event_reader.specs.Generated.{IsEventLine}
 use Rattle.event_reader.specs.Numbers.{are_in}
@@ -15,7 +15,7 @@ use Rattle.toll_app.specs.Toll.{segments, miles, report, report_ranges, report_o
 use Rattle.toll_app.specs.TollDraws.{toll_drawn}
 
 -- numbers in their ranges
-report_in : (size i vehicle segment speed : ℕ) → size ≤ GENERATED_IDS → 0 < i → i ≤ GENERATED_EVENTS → vehicle < size → segment < min size 100 → speed ≤ 100
+report_in : (size i vehicle segment speed : ℕ) → size ≤ generated_ids → 0 < i → i ≤ generated_events → vehicle < size → segment < min size 100 → speed ≤ 100
     → are_in (report_ranges size) (i ∷ vehicle ∷ segment ∷ speed ∷ []) ≡ true
 unfolding are_in
 report_in size i vehicle segment speed few start last inside inside' slow = rw (
@@ -26,7 +26,7 @@ report_in size i vehicle segment speed few start last inside inside' slow = rw (
 ) refl
 
 -- the line of a report
-report_line : (size i vehicle segment speed : ℕ) → size ≤ GENERATED_IDS → 0 < i → i ≤ GENERATED_EVENTS → vehicle < size → segment < min size 100 → speed ≤ 100
+report_line : (size i vehicle segment speed : ℕ) → size ≤ generated_ids → 0 < i → i ≤ generated_events → vehicle < size → segment < min size 100 → speed ≤ 100
     → IsEventLine (toll_event size) i (plain_line 84 (i ∷ vehicle ∷ segment ∷ speed ∷ []))
 report_line size i vehicle segment speed few start last inside inside' slow =
     let ns : List ℕ = i ∷ vehicle ∷ segment ∷ speed ∷ [] in
@@ -35,7 +35,7 @@ report_line size i vehicle segment speed few start last inside inside' slow =
     let read = numbers_plain (report_ranges size) ns all (report_in size i vehicle segment speed few start last inside inside' slow) in
     plain_event (toll_event size) i 84 ns (report i vehicle segment speed) (omega arith) (omega arith) (omega arith) all (ap report_of read) refl
 
-pub toll_generates : (size i state : ℕ) → 0 < size → size ≤ GENERATED_IDS → 0 < i → i ≤ GENERATED_EVENTS
+pub toll_generates : (size i state : ℕ) → 0 < size → size ≤ generated_ids → 0 < i → i ≤ generated_events
     → IsEventLine (toll_event size) i (toll_drawn size i state).line
 toll_generates size i state some few start last =
     let slow : draw_at state 3 101 ≤ 100 = omega (arith, draw_below state 3 101 (omega arith)) in

@@ -1,4 +1,4 @@
-use Rattle.event_reader.proofs.GeneratedLaws.{generated_ends, generated_events, generated_is_short, generated_within}
+use Rattle.event_reader.proofs.GeneratedLaws.{generated_ends, generated_counted, generated_is_short, generated_within}
 use Rattle.event_reader.proofs.laws.generated_text_is_accepted.Goals as goal
 
 pub returns-clause-ended : goal.returns-clause-ended
@@ -8,7 +8,7 @@ returns-clause-ended g c = λ app size seed events some few last.
 
 pub returns-clause-events : goal.returns-clause-events
 returns-clause-events g c = λ app size seed events some few last.
-    generated_events (g.A.EventApp.event_of app size) (g.A.EventApp.generated app size) (λ i state start end. g.met.A.EventApp.generates app size i state some few start end)
+    generated_counted (g.A.EventApp.event_of app size) (g.A.EventApp.generated app size) (λ i state start end. g.met.A.EventApp.generates app size i state some few start end)
     seed events last
 
 pub returns-clause-short : goal.returns-clause-short

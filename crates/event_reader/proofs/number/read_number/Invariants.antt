@@ -1,7 +1,7 @@
 use Rattle.std.proofs.Common.{◌≡◌, ◌+◌, true, take, min}
 use Rattle.std.specs.Char.{is_ascii_digit}
 use Rattle.std.specs.List.{list_all}
-use Rattle.event_reader.specs.declared.limits.TheConstants.{GREATEST_NUMBER}
+use Rattle.event_reader.specs.Limits.{greatest_number}
 use Rattle.event_reader.specs.Numbers.{value_of}
 use Rattle.event_reader.proofs.number.read_number.Given as goal
 
@@ -9,5 +9,5 @@ use Rattle.event_reader.proofs.number.read_number.Given as goal
 abbrev pub invariant-digits : goal.invariant-digits
 invariant-digits l = record {
   digits : list_all is_ascii_digit (take l.byte-index l.word) ≡ true;
-  value : l.value ≡ min (value_of (take l.byte-index l.word)) (GREATEST_NUMBER + 1);
+  value : l.value ≡ min (value_of (take l.byte-index l.word)) (greatest_number + 1);
 }

@@ -7,7 +7,7 @@ use Rattle.morph_base.specs.declared.plan.Plan.{Plan}
 use Rattle.morph_base.specs.declared.word.OpWord.{OpWord}
 use Rattle.morph_base.specs.Plans.{IsPlan, op_at, final}
 use Rattle.abort_lazy.specs.declared.attempts.Attempts.{Attempts}
-use Rattle.abort_lazy.specs.Attempts.{AreMadeFor, IsTried, evaluated, word_at, records_at, records_in, blocked}
+use Rattle.abort_lazy.specs.Attempts.{AreMadeFor, IsTried, evaluated, word_at, records_at, records_in, untried}
 use Rattle.abort_lazy.specs.Settling.{settled_sources, RestsOnSettled, IsKept, AreChanged}
 use Rattle.abort_lazy.proofs.Reading.{length-sources}
 
@@ -41,7 +41,7 @@ module _ (word : ℕ → OpWord) (records : ℕ → List ℕ) where
     word_count = ap length words ∙ length-set old.words.items o w;
     record_count = sym (length-map new.records.items (λ list. list.items)) ∙ ap length reads ∙ length-set (records_in old) o xs ∙ length-map old.records.items (λ list. list.items);
     words = λ t from below. (let here : t ≡ o = omega arith in
-        ap (word_at new) here ∙ ap (λ (l : List OpWord). get_or l o blocked) words ∙ get_or-set_same old.words.items o w blocked in_words ∙ word_is ∙ ap word (sym here));
+        ap (word_at new) here ∙ ap (λ (l : List OpWord). get_or l o untried) words ∙ get_or-set_same old.words.items o w untried in_words ∙ word_is ∙ ap word (sym here));
     reads = λ t from below. (let here : t ≡ o = omega arith in let inside : o < length (records_in old) = (let len = length-map old.records.items (λ list. list.items) in omega arith) in
         ap (records_at new) here ∙ ap (λ (l : List (List ℕ)). get_or l o []) reads ∙ get_or-set_same (records_in old) o xs [] inside ∙ reads_are ∙ ap records (sym here));
     before = λ t less. (let apart : t ≢ o = omega arith in other t apart);
@@ -50,7 +50,7 @@ module _ (word : ℕ → OpWord) (records : ℕ → List ℕ) where
     where
       other : (t : ℕ) → t ≢ o → IsKept old new t
       other t apart = record {
-        word = ap (λ (l : List OpWord). get_or l t blocked) words ∙ get_or-set_other old.words.items o t w blocked apart;
+        word = ap (λ (l : List OpWord). get_or l t untried) words ∙ get_or-set_other old.words.items o t w untried apart;
         records = ap (λ (l : List (List ℕ)). get_or l t []) reads ∙ get_or-set_other (records_in old) o t xs [] apart;
       }
 
@@ -65,7 +65,7 @@ module _ (word : ℕ → OpWord) (records : ℕ → List ℕ) where
   pub none_changed : (a : Attempts) (o : ℕ) → o < length a.words.items → o < length a.records.items → word_at a o ≡ word o → records_at a o ≡ records o
       → AreChanged o (o + 1) word records a a
   none_changed a o in_words in_records word_is reads_are =
-      word_changed a a o (word_at a o) in_words in_records (sym (set-get_or a.words.items o blocked)) refl word_is reads_are
+      word_changed a a o (word_at a o) in_words in_records (sym (set-get_or a.words.items o untried)) refl word_is reads_are
 
   -- ---- one after another
 

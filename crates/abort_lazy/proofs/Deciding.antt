@@ -8,7 +8,8 @@ use Rattle.morph_base.specs.Clean.{outcome}
 use Rattle.morph_base.specs.Plans.{IsPlan, op_count, op_at, event_of, final, verdict}
 use Rattle.morph_base.proofs.KnownLaws.{final_committed, final_aborted}
 use Rattle.abort_lazy.specs.declared.attempts.Attempts.{Attempts}
-use Rattle.abort_lazy.specs.Attempts.{word_of, evaluated, word_at, records_at}
+use Rattle.morph_base.specs.Words.{word_of}
+use Rattle.abort_lazy.specs.Attempts.{evaluated, word_at, records_at}
 use Rattle.abort_lazy.specs.Settling.{settled_sources, differ, last_attempt, checked, settling, settled_word, RestsOnSettled, IsKept, AreChanged}
 use Rattle.abort_lazy.proofs.Made.{places_some}
 use Rattle.abort_lazy.proofs.Reading.{source_in}

@@ -7,5 +7,3 @@ pub mod Changes
 pub mod Deciding
 pub mod Outdated
 pub mod Redoing
-pub mod PlanTests
-pub mod FourEvents

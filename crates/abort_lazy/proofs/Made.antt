@@ -7,11 +7,12 @@ use Rattle.morph_base.specs.declared.plan.Plan.{Plan}
 use Rattle.morph_base.specs.declared.plan.PlanOp.{PlanOp}
 use Rattle.morph_base.specs.Contents.{Contents}
 use Rattle.morph_base.specs.Graphs.{below}
+use Rattle.morph_base.specs.Operations.{reads}
 use Rattle.morph_base.specs.Plans.{IsPlan, op_count, op_at, keys_of}
 use Rattle.morph_base.proofs.LevelLaws.{below_more}
 use Rattle.morph_base.proofs.PlainLaws.{length-reads}
 use Rattle.abort_lazy.specs.declared.attempts.Attempts.{Attempts}
-use Rattle.abort_lazy.specs.Attempts.{AreMadeFor, records_in, records_at, blocked}
+use Rattle.abort_lazy.specs.Attempts.{AreMadeFor, records_in, records_at, untried}
 
 -- one item more, which is g of the next number
 pub pushed : {Y : Type 0} (g : ℕ → Y) (n : ℕ) (before now : List Y) (y : Y) → before ≡ map g (below n) → now ≡ before ++ y ∷ [] → y ≡ g n → now ≡ map g (below (n + 1))
@@ -28,8 +29,8 @@ pub pushed_under : {X Y : Type 0} (f : X → Y) (g : ℕ → Y) (n : ℕ) (befor
 pushed_under f g n before now x so_far one its = pushed g n (map f before) (map f now) (f x) so_far (ap (map f) one ∙ map-append f before (x ∷ [])) its
 
 -- an operation that was read reads so many places
-pub places_of : (p : Plan) (o : ℕ) (q : PlanOp) → IsPlan p → o < op_count p → q ≡ op_at p o → q.op.n_params + 1 ≡ length (keys_of p o)
-places_of p o q valid lt is = ap (λ (r : PlanOp). r.op.n_params + 1) is ∙ sym (length-reads (op_at p o).op (valid.numbering.shaped o lt))
+pub places_of : (p : Plan) (o n : ℕ) (q : PlanOp) → n ≡ length (reads q.op) → q ≡ op_at p o → n ≡ length (keys_of p o)
+places_of p o n q many is = many ∙ ap (λ (r : PlanOp). length (reads r.op)) is
 
 -- an operation has at least one place, and few
 pub places_some : (p : Plan) (o : ℕ) → IsPlan p → o < op_count p → (0 < length (keys_of p o)) × (length (keys_of p o) ≤ READS)
@@ -47,10 +48,10 @@ pub records_read : (a : Attempts) (o : ℕ) (list : Contents ℕ) → list ≡ g
 records_read a o list is inside = ap (λ (l : Contents ℕ). l.items) is ∙ sym (get_or-map (λ (l : Contents ℕ). l.items) a.records.items o no_list [] inside)
 
 -- the attempts at the start are made for the plan
-pub made_blank : (p : Plan) (a : Attempts) → a.words.items ≡ replicate (op_count p) blocked
+pub made_blank : (p : Plan) (a : Attempts) → a.words.items ≡ replicate (op_count p) untried
     → records_in a ≡ map (λ o. replicate (length (keys_of p o)) 0) (below (op_count p)) → AreMadeFor p a
 made_blank p a words records = record {
-  words = ap length words ∙ length-replicate (op_count p) blocked;
+  words = ap length words ∙ length-replicate (op_count p) untried;
   records = sym (length-map a.records.items (λ list. list.items)) ∙ ap length records ∙ length-map-range_with_len (λ o. replicate (length (keys_of p o)) 0) 0 (op_count p);
   places = λ o lt.
       ap length (ap (λ (l : List (List ℕ)). get_or l o []) records ∙ get_or-map-range_with_len (λ o. replicate (length (keys_of p o)) 0) 0 (op_count p) o o [] lt (zero-add o))

@@ -1,8 +1,9 @@
 -- The numbers of an event's operations, and how many operations the first events have.
-use Rattle.std.proofs.Common.{◌≡◌, ℕ, ◌+◌, ◌<◌, ◌≤◌, take, sum_by, sym, ap, ◌∙◌, inl, inr, arith, add-one}
+use Rattle.std.proofs.Common.{◌≡◌, ℕ, ◌+◌, ◌*◌, ◌<◌, ◌≤◌, take, sum_by, sym, ap, ◌∙◌, inl, inr, arith, add-one}
 use Rattle.std.proofs.Math.Seq.{take-suc, take-length}
 use Rattle.std.proofs.lemmas.List.Sums.{sum_by_push}
 use Rattle.std.proofs.lemmas.Bool.{cases_lt}
+use Rattle.morph_base.specs.declared.limits.TheConstants.{EVENT_OPS, EVENTS}
 use Rattle.morph_base.specs.declared.plan.Plan.{Plan}
 use Rattle.morph_base.specs.declared.plan.PlanEvent.{PlanEvent}
 use Rattle.morph_base.specs.Plans.{IsPlan, InEvent, op_count, event_count, event_at, event_of, no_event}
@@ -24,12 +25,12 @@ module _ (p : Plan) (i : ℕ) (valid : IsPlan p) (lt : i < event_count p) where
   end_small = end_fits _ _ _ _ _ _ _ valid.numbering i lt
 
   -- an event that was read at i
-  pub read_event : (e : PlanEvent) → e ≡ event_at p i → (e.first ≡ (event_at p i).first) × (e.count ≡ (event_at p i).count) × (e.first + e.count < 65536)
+  pub read_event : (e : PlanEvent) → e ≡ event_at p i → (e.first ≡ (event_at p i).first) × (e.count ≡ (event_at p i).count) × (e.first + e.count ≤ EVENT_OPS * EVENTS)
   read_event e same =
       let f : e.first ≡ (event_at p i).first = ap (λ (x : PlanEvent). x.first) same in
       let k : e.count ≡ (event_at p i).count = ap (λ (x : PlanEvent). x.count) same in
       let room = end_small in
-      let few : op_count p ≤ 40960 = op_count-small p valid in
+      let few : op_count p ≤ EVENT_OPS * EVENTS = op_count-small p valid in
       (f, k, omega arith)
 
   -- an operation that is reached from its first on

@@ -14,7 +14,8 @@ use Rattle.morph_base.specs.Plans.{IsPlan, op_count, op_at, keys_of, origins_of,
 use Rattle.morph_base.proofs.GuessLaws.{guess_alone}
 use Rattle.morph_base.proofs.OutcomeLaws.{source-same}
 use Rattle.abort_lazy.specs.declared.attempts.Attempts.{Attempts}
-use Rattle.abort_lazy.specs.Attempts.{AreTried, ReadWords, word_of, evaluated, records_at, value_in}
+use Rattle.morph_base.specs.Words.{word_of}
+use Rattle.abort_lazy.specs.Attempts.{AreTried, ReadWords, evaluated, records_at, value_in}
 use Rattle.abort_lazy.specs.Settling.{settled_sources, differ, is_outdated, outdated_count}
 use Rattle.abort_lazy.proofs.Made.{places_some}
 use Rattle.abort_lazy.proofs.Reading.{length-sources, source_in, sources_are}

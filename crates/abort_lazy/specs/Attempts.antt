@@ -1,35 +1,29 @@
 -- Attempts at the operations of a plan: which are made for it, and what the first one at each operation leaves.
-use Rattle.std.specs.Prelude.{◌≡◌, ℕ, ◌<◌, ◌≤◌, List, [], length, map, replicate, All, Option, Some, None, slice_index, slice_index_or}
+use Rattle.std.specs.Prelude.{◌≡◌, ℕ, ◌<◌, ◌≤◌, List, [], length, map, replicate, All, slice_index_or}
 use Rattle.morph_base.specs.declared.limits.TheConstants.{MAX}
 use Rattle.morph_base.specs.declared.operation.Op.{Op}
 use Rattle.morph_base.specs.declared.plan.Plan.{Plan}
-use Rattle.morph_base.specs.declared.word.OpState.TheVariants.{Blocked, Executed, Failed}
 use Rattle.morph_base.specs.declared.word.OpWord.{OpWord}
 use Rattle.morph_base.specs.Clean.{from}
-use Rattle.morph_base.specs.Functions.{value_of}
 use Rattle.morph_base.specs.Graphs.{below}
 use Rattle.morph_base.specs.Plans.{op_count, op_at, keys_of, origins_of}
+use Rattle.morph_base.specs.Words.{blocked, finished}
 use Rattle.abort_lazy.specs.declared.attempts.Attempts.{Attempts}
 
 -- the word of an operation that was not tried yet
-abbrev pub blocked : OpWord
-blocked = record { value = 0; attempt = 1; state = Blocked; by = 0 }
-
--- the word that an attempt leaves, from what the operation answers and the value of its target before
-abbrev pub word_of : (attempt : ℕ) → (answer : Option ℕ) → (before : ℕ) → OpWord
-word_of attempt (Some value) before = record { value = value; attempt = attempt; state = Executed; by = 0 }
-word_of attempt None before = record { value = before; attempt = attempt; state = Failed; by = 0 }
+abbrev pub untried : OpWord
+untried = blocked 1
 
 -- the word of an operation that was evaluated on the values of its places
 abbrev pub evaluated : (attempt : ℕ) → Op → List ℕ → OpWord
-evaluated attempt op xs = word_of attempt (value_of op xs) (slice_index xs 0)
+evaluated attempt op xs = finished op attempt xs
 
 -- the records of all operations, and of operation o the word, its value and the records
 abbrev pub records_in : Attempts → List (List ℕ)
 records_in a = map (λ list. list.items) a.records.items
 
 abbrev pub word_at : Attempts → ℕ → OpWord
-word_at a o = slice_index_or a.words.items o blocked
+word_at a o = slice_index_or a.words.items o untried
 
 abbrev pub value_in : Attempts → ℕ → ℕ
 value_in a o = (word_at a o).value
@@ -45,7 +39,7 @@ pub record AreMadeFor (p : Plan) (a : Attempts) : Type 0 where
 
 -- no operation was tried yet
 pub record AreBlank (p : Plan) (a : Attempts) : Type 0 where
-  pub words : a.words.items ≡ replicate (op_count p) blocked
+  pub words : a.words.items ≡ replicate (op_count p) untried
   pub records : records_in a ≡ map (λ o. replicate (length (keys_of p o)) 0) (below (op_count p))
 
 -- operation o was tried once, on its records

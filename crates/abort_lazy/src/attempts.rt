@@ -3,7 +3,7 @@ ghost use Rattle.morph_base.specs.Graphs.{below};
 ghost use Rattle.morph_base.specs.Plans.{IsPlan, op_count, keys_of};
 ghost use Rattle.abort_lazy.specs.Attempts.{AreMadeFor, AreBlank, records_in, records_at};
 
-use morph_base::{List, OpState, OpWord, OutOfMemory, Plan};
+use morph_base::{List, OpWord, OutOfMemory, Plan};
 use std::alloc::Global;
 
 /// The latest attempt at each operation of a plan: its word, and what its places read at it.
@@ -24,14 +24,8 @@ impl Attempts {
         ensures made { IfOk result (AreMadeFor plan.now) }
         ensures blank { IfOk result (AreBlank plan.now) }
     {
-        let blocked = OpWord {
-            value: 0,
-            attempt: 1,
-            state: OpState::Blocked,
-            by: 0,
-        };
         Ok(Attempts {
-            words: List::filled(alloc, plan.ops.len(), blocked)?,
+            words: List::filled(alloc, plan.ops.len(), OpWord::blocked(1))?,
             records: no_records(alloc, plan)?,
         })
     }
@@ -57,7 +51,7 @@ fn no_records(alloc: Global, plan: &Plan) -> Result<List<List<u64>>, OutOfMemory
 {
     let mut lists = List::with_room(alloc, plan.ops.len())?;
     for o in 0..plan.ops.len() {
-        let places = usize::from(plan.ops.get(o).op.n_params) + 1;
+        let places = plan.ops.get(o).places();
         lists.add(List::filled(alloc, places, 0)?);
     }
     Ok(lists)

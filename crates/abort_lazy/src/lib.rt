@@ -17,15 +17,11 @@
 #![tactic(auto)]
 
 mod attempts;
-mod evaluation;
 pub mod laws;
 mod room;
 mod settling;
 mod sources;
-#[cfg(test)]
-mod tests;
 
 pub use attempts::Attempts;
-pub use evaluation::evaluate;
 pub use room::Room;
 pub use settling::{Redone, settle_plain};

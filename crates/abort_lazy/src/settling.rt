@@ -7,10 +7,9 @@ ghost use Rattle.abort_lazy.specs.Rooms.{IsRoomFor, AreSettledSoFar, AreDecidedS
 ghost use Rattle.abort_lazy.specs.Settling.{settled_sources, is_outdated, outdated_count, settled_state, settled_word, checked, settling, RestsOnSettled, AreChanged};
 
 use crate::attempts::Attempts;
-use crate::evaluation::evaluate;
 use crate::room::Room;
 use crate::sources::read_settled;
-use morph_base::{List, OpState, OpWord, Plan, Settled};
+use morph_base::{List, OpState, OpWord, Plan, Settled, evaluate};
 
 /// How much was evaluated when a plan was settled.
 #[derive(Clone, Copy, Debug, PartialEq, Eq)]
@@ -109,14 +108,14 @@ fn redo(plan: &Plan, o: usize, values: &List<u64>, attempts: &mut Attempts) -> b
     ensures outdated { result ≡ is_outdated plan.now attempts.old o }
     ensures change { AreChanged o (o + 1) (checked plan.now attempts.old) (settled_sources plan.now) attempts.old attempts.new }
 {
-    let op = plan.ops.get(o).op;
-    let places = usize::from(op.n_params) + 1;
+    let planned = plan.ops.get(o);
+    let places = planned.places();
     let settled = read_settled(plan, o, values);
     let sources = &settled[..places];
     if are_same(attempts.records.get(o).as_slice(), sources) {
         return false;
     }
-    let word = evaluate(&op, sources, 2);
+    let word = evaluate(&planned.op, sources, 2);
     attempts.keep(o, sources, word);
     true
 }

@@ -1,11 +1,9 @@
-ghost use Rattle.std.specs.Prelude.{◌≡◌, ◌<◌, length, take, map, slice_index};
-ghost use Rattle.morph_base.specs.Clean.{from};
+ghost use Rattle.std.specs.Prelude.{◌≡◌, ◌<◌, length, take, map};
 ghost use Rattle.morph_base.specs.Graphs.{below};
-ghost use Rattle.morph_base.specs.Known.{IsKnown};
 ghost use Rattle.morph_base.specs.Plans.{IsPlan, op_count, event_at, event_of, keys_of, final};
 ghost use Rattle.abort_lazy.specs.Settling.{settled_sources};
 
-use morph_base::{List, Origin, Plan, READS};
+use morph_base::{List, Plan, READS};
 
 /// The settled values of an operation's sources, place by place; 0 past them. `values` has those of all earlier events.
 pub(crate) fn read_settled(plan: &Plan, o: usize, values: &List<u64>) -> [u64; READS]
@@ -16,21 +14,9 @@ pub(crate) fn read_settled(plan: &Plan, o: usize, values: &List<u64>) -> [u64; R
     ensures values { take (length (keys_of plan.now o)) result ≡ settled_sources plan.now o }
 {
     let op = plan.ops.get(o);
-    let places = usize::from(op.op.n_params) + 1;
     let mut xs = [0; READS];
-    for j in 0..places {
-        xs[j] = source_value(op.origins[j], values);
+    for j in 0..op.places() {
+        xs[j] = op.origins[j].value_in(values);
     }
     xs
-}
-
-/// The value of a source whose operation, if it is one, has its value in the list.
-fn source_value(origin: Origin, values: &List<u64>) -> u64
-    requires { IsKnown (λ t. t < length values.now.items) origin }
-    ensures { result ≡ from (slice_index values.now.items) origin }
-{
-    match origin {
-        Origin::Base(value) => value,
-        Origin::Op(source) => *values.get(source as usize),
-    }
 }

@@ -3,7 +3,7 @@ use Rattle.std.proofs.Common.{◌≡◌, ◌≢◌, ℕ, ◌<◌, ◌≤◌, Boo
 use Rattle.std.specs.Prelude.{Contains}
 use Rattle.std.proofs.lemmas.Bool.{true≢false, false≢true}
 use Rattle.std.proofs.lemmas.Option.{same_Some, none-some}
-use Rattle.morph_base.specs.declared.word.TheConstants.{ATTEMPTS}
+use Rattle.morph_base.specs.Limits.{most_attempts}
 use Rattle.morph_base.specs.declared.plan.Plan.{Plan}
 use Rattle.morph_base.specs.declared.word.OpState.TheVariants.{Blocked, Ready, Claimed}
 use Rattle.morph_base.specs.declared.word.OpWord.{OpWord}
@@ -46,7 +46,7 @@ word_grows p c d o w words later open_before entries records decisions settlings
   settlings = settlings;
 }
 
-module _ (p : Plan) (cap : ℕ) (valid : IsPlan p) (small_cap : cap < ATTEMPTS) (c : Core) (sound : IsSound p cap c) where
+module _ (p : Plan) (cap : ℕ) (valid : IsPlan p) (small_cap : cap < most_attempts) (c : Core) (sound : IsSound p cap c) where
   -- the claim of a worker that holds an operation
   pub record HasClaim (o t : ℕ) : Type 0 where
     pub held : Held
@@ -108,7 +108,7 @@ module _ (p : Plan) (cap : ℕ) (valid : IsPlan p) (small_cap : cap < ATTEMPTS) 
           sound_at =
               subst (IsSoundAt p cap (readied p c o) o) (sym (put_here c.word o w))
               (ready_sound p cap (readied p c o) o v.attempt
-              (ready_range cap small_cap v.attempt here.range.word.first here.range.most)
+              (ready_range p cap small_cap v.attempt here.range.word.first here.range.most)
               (published_same c.published o v w refl (λ is. idle) (λ is. absurd (false≢true is)) here.published)
               (booked_open c.settlings o v w ready_unsettled refl here.booked)
               (λ j r below is. record_grows p c (readied p c o) ready_grows o v w j r (omega arith) (here.records j r below is)));
@@ -163,7 +163,7 @@ module _ (p : Plan) (cap : ℕ) (valid : IsPlan p) (small_cap : cap < ATTEMPTS) 
           sound_at =
               subst (IsSoundAt p cap d o) (sym (put_here c.word o w))
               (claimed_sound p cap d o v.attempt t
-              (claimed_range cap small_cap v.attempt t here.range.word.first here.range.most may.worker.first may.worker.last)
+              (claimed_range p cap small_cap v.attempt t here.range.word.first here.range.most may.worker.first may.worker.last)
               (new, put_here c.claim t (Some new), refl)
               (published_same c.published o v w refl (λ is. idle) (λ is. absurd (false≢true is)) here.published)
               (booked_open c.settlings o v w claim_unsettled refl here.booked)
@@ -216,7 +216,7 @@ module _ (p : Plan) (cap : ℕ) (valid : IsPlan p) (small_cap : cap < ATTEMPTS) 
           sound_at =
               subst (IsSoundAt p cap d o) (sym (put_here c.word o w))
               (blocked_sound p cap d o v.attempt
-              (blocked_range cap small_cap v.attempt here.range.word.first here.range.most)
+              (blocked_range p cap small_cap v.attempt here.range.word.first here.range.most)
               (published_same c.published o v w refl (λ is. idle) (λ is. absurd (false≢true is)) here.published)
               (booked_open c.settlings o v w give_unsettled refl here.booked)
               (λ j r below is. record_grows p c d giving_back_grows o v w j r (omega arith) (here.records j r below is)));

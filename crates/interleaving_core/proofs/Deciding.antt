@@ -1,7 +1,7 @@
 -- A decision on an event is the fold's, and leaves all else as it was.
 use Rattle.std.proofs.Common.{◌≡◌, ℕ, ◌<◌, Bool, true, false, refl, sym, ap, ◌∙◌, subst, inl, inr, arith, Some}
 use Rattle.std.proofs.lemmas.Option.{same_Some, none-some}
-use Rattle.morph_base.specs.declared.word.TheConstants.{ATTEMPTS}
+use Rattle.morph_base.specs.Limits.{most_attempts}
 use Rattle.morph_base.specs.declared.plan.Plan.{Plan}
 use Rattle.morph_base.specs.Plans.{IsPlan, event_count, verdict}
 use Rattle.morph_base.proofs.KnownLaws.{may_commit, may_abort}
@@ -13,7 +13,7 @@ use Rattle.interleaving_core.proofs.Basics.{put_else, put_cases}
 use Rattle.interleaving_core.proofs.Frames.{at_grows, claim_grows}
 use Rattle.interleaving_core.proofs.Sources.{settled_right}
 
-module _ (p : Plan) (cap : ℕ) (valid : IsPlan p) (small_cap : cap < ATTEMPTS) (c : Core) (sound : IsSound p cap c) where
+module _ (p : Plan) (cap : ℕ) (valid : IsPlan p) (small_cap : cap < most_attempts) (c : Core) (sound : IsSound p cap c) where
   -- what is decided on grounds is the fold's verdict
   pub grounds_right : (i : ℕ) (committed : Bool) → i < event_count p → HasGrounds p c i committed → verdict p i ≡ committed
   grounds_right i true lt grounds =

@@ -4,11 +4,10 @@ use Rattle.std.proofs.lemmas.Bool.{cases_eq, cases_lt, false≢true}
 use Rattle.std.proofs.lemmas.List.{get_or_append_left}
 use Rattle.std.proofs.Math.Seq.{get_or-append_seam}
 use Rattle.std.proofs.lemmas.Option.{same_Some}
-use Rattle.morph_base.specs.declared.limits.TheConstants.{MAX}
-use Rattle.morph_base.specs.declared.word.TheConstants.{ATTEMPTS}
+use Rattle.morph_base.specs.Limits.{most_attempts}
 use Rattle.morph_base.specs.declared.plan.Plan.{Plan}
 use Rattle.morph_base.specs.declared.word.OpWord.{OpWord}
-use Rattle.morph_base.specs.Plans.{IsPlan, origin_at}
+use Rattle.morph_base.specs.Plans.{high_of, IsPlan, origin_at}
 use Rattle.morph_base.specs.Words.{is_idle, is_settled}
 use Rattle.interleaving_core.specs.declared.entry.Record.{Record}
 use Rattle.interleaving_core.specs.declared.entry.Held.{Held}
@@ -22,7 +21,7 @@ use Rattle.interleaving_core.proofs.Parts.{published_same, booked_open, claimed_
 use Rattle.interleaving_core.proofs.Sources.{version_from_settled, version_small}
 use Rattle.interleaving_core.proofs.Claiming.{HasClaim, claim_of, others_claim}
 
-module _ (p : Plan) (cap : ℕ) (valid : IsPlan p) (small_cap : cap < ATTEMPTS) (c : Core) (sound : IsSound p cap c) where
+module _ (p : Plan) (cap : ℕ) (valid : IsPlan p) (small_cap : cap < most_attempts) (c : Core) (sound : IsSound p cap c) where
   module _ (o j t x : ℕ) (may : MayFetch p cap c o j t x) where
     here : IsSoundAt p cap c o (c.word o)
     here = sound.each_op o may.goes_from.in_range
@@ -59,7 +58,7 @@ module _ (p : Plan) (cap : ℕ) (valid : IsPlan p) (small_cap : cap < ATTEMPTS) 
           | inr below ↦ may.version below
         ]
 
-    fetched_small : x ≤ MAX
+    fetched_small : x ≤ high_of p
     fetched_small = version_small p cap valid c sound o j x may.goes_from.in_range may.in_places fetched_version
 
     abbrev new_record : Record
@@ -185,7 +184,7 @@ module _ (p : Plan) (cap : ℕ) (valid : IsPlan p) (small_cap : cap < ATTEMPTS) 
           sound_at =
               subst (IsSoundAt p cap d o) (sym word_is)
               (claimed_sound p cap d o v.attempt t
-              (claimed_range cap small_cap v.attempt t here.range.word.first here.range.most may.goes_from.worker.first may.goes_from.worker.last)
+              (claimed_range p cap small_cap v.attempt t here.range.word.first here.range.most may.goes_from.worker.first may.goes_from.worker.last)
               (new_held, put_here c.claim t (Some new_held), refl)
               (published_same c.published o v (claimed v.attempt t) refl (λ is. idle) (λ is. absurd (false≢true is)) here.published)
               (booked_open c.settlings o v (claimed v.attempt t) unsettled refl here.booked)

@@ -1,16 +1,15 @@
 -- The end of an attempt: the operation shows what its function makes of what was fetched.
-use Rattle.std.proofs.Common.{◌≡◌, ℕ, ◌+◌, ◌<◌, ◌≤◌, true, false, List, length, get_or, refl, sym, ap, ◌∙◌, subst, inl, inr, arith, Option, Some, None}
+use Rattle.std.proofs.Common.{◌≡◌, ℕ, ◌+◌, ◌<◌, ◌≤◌, true, false, List, length, get_or, refl, sym, ap, ◌∙◌, subst, inl, inr, arith, Option, Some, None, le_trans}
 use Rattle.std.proofs.lemmas.Bool.{false≢true}
 use Rattle.std.proofs.lemmas.List.Elements.{All-from_get_or, Contains-push_cases}
 use Rattle.std.proofs.lemmas.Option.{same_Some}
-use Rattle.morph_base.specs.declared.limits.TheConstants.{MAX}
-use Rattle.morph_base.specs.declared.word.TheConstants.{ATTEMPTS}
+use Rattle.morph_base.specs.Limits.{most_attempts}
 use Rattle.morph_base.specs.declared.plan.Plan.{Plan}
 use Rattle.morph_base.specs.declared.word.OpWord.{OpWord}
 use Rattle.morph_base.specs.Functions.{value_of}
-use Rattle.morph_base.specs.Plans.{IsPlan, op_count, op_at, origin_at}
+use Rattle.morph_base.specs.Plans.{high_of, IsPlan, op_count, op_at, origin_at}
 use Rattle.morph_base.specs.Words.{is_idle, is_settled}
-use Rattle.morph_base.proofs.BoundLaws.{value_of-small}
+use Rattle.morph_base.proofs.BoundLaws.{value_of-within, high_of-small, high_of-all}
 use Rattle.interleaving_core.specs.declared.entry.Record.{Record}
 use Rattle.interleaving_core.specs.declared.entry.Held.{Held}
 use Rattle.interleaving_core.specs.declared.entry.Entry.{Entry}
@@ -37,25 +36,27 @@ ended-settled : (a : ℕ) (xs : List ℕ) (r : Option ℕ) → is_settled (ended
 ended-settled a xs (Some v) = refl
 ended-settled a xs None = refl
 
-ended-small : (a : ℕ) (xs : List ℕ) (r : Option ℕ) → ((v : ℕ) → r ≡ Some v → v ≤ MAX) → get_or xs 0 0 ≤ MAX → (ended a xs r).value ≤ MAX
-ended-small a xs (Some v) small first = small v refl
-ended-small a xs None small first = first
+ended-small : (high a : ℕ) (xs : List ℕ) (r : Option ℕ) → ((v : ℕ) → r ≡ Some v → v ≤ high) → get_or xs 0 0 ≤ high → (ended a xs r).value ≤ high
+ended-small high a xs (Some v) small first = small v refl
+ended-small high a xs None small first = first
 
-ended_range : (cap a : ℕ) (xs : List ℕ) (r : Option ℕ) → cap < ATTEMPTS → 1 ≤ a → a ≤ cap + 1 → (ended a xs r).value ≤ MAX → IsInRange cap (ended a xs r)
-ended_range cap a xs (Some v) small_cap first most small = record {
-  word = record { small = small; first = first; last = omega arith; blank = λ is. absurd (false≢true is); by_worker = λ is. absurd (false≢true is); by_none = λ is. refl };
+ended_range : (p : Plan) (cap a : ℕ) (xs : List ℕ) (r : Option ℕ) → IsPlan p → cap < most_attempts → 1 ≤ a → a ≤ cap + 1 → (ended a xs r).value ≤ high_of p → IsInRange p cap (ended a xs r)
+ended_range p cap a xs (Some v) valid small_cap first most small = record {
+  small = small;
+  word = record { small = le_trans small (high_of-small p valid); first = first; last = omega arith; blank = λ is. absurd (false≢true is); by_worker = λ is. absurd (false≢true is); by_none = λ is. refl };
   most = most;
   spread = λ is. absurd (cc);
 }
-ended_range cap a xs None small_cap first most small = record {
-  word = record { small = small; first = first; last = omega arith; blank = λ is. absurd (false≢true is); by_worker = λ is. absurd (false≢true is); by_none = λ is. refl };
+ended_range p cap a xs None valid small_cap first most small = record {
+  small = small;
+  word = record { small = le_trans small (high_of-small p valid); first = first; last = omega arith; blank = λ is. absurd (false≢true is); by_worker = λ is. absurd (false≢true is); by_none = λ is. refl };
   most = most;
   spread = λ is. absurd (cc);
 }
 
 -- what of its soundness does not follow from its state
 record IsEnd (p : Plan) (cap : ℕ) (d : Core) (o a : ℕ) (xs : List ℕ) (w : OpWord) : Type 0 where
-  range : IsInRange cap w
+  range : IsInRange p cap w
   kept : HasRecords p (d.recorded o) o xs a
   published : IsPublishedOnce d.published o w
   booked : IsBooked d.settlings o w
@@ -86,9 +87,9 @@ ended_sound p cap d o a xs None is end = record {
   records = end.records;
 }
 
-module _ (p : Plan) (cap : ℕ) (valid : IsPlan p) (small_cap : cap < ATTEMPTS) (c : Core) (sound : IsSound p cap c) where
+module _ (p : Plan) (cap : ℕ) (valid : IsPlan p) (small_cap : cap < most_attempts) (c : Core) (sound : IsSound p cap c) where
   -- what a worker fetched are values
-  pub held_small : (t : ℕ) (h : Held) → c.claim t ≡ Some h → (j : ℕ) → j < length h.values → get_or h.values j 0 ≤ MAX
+  pub held_small : (t : ℕ) (h : Held) → c.claim t ≡ Some h → (j : ℕ) → j < length h.values → get_or h.values j 0 ≤ high_of p
   held_small t h is j below =
       let claim : IsSoundClaim p cap c t h = sound.each_claim t h is in
       let in_places : j < places p h.op = (let few = claim.few in omega arith) in
@@ -129,14 +130,14 @@ module _ (p : Plan) (cap : ℕ) (valid : IsPlan p) (small_cap : cap < ATTEMPTS) 
     values_are : xs ≡ mine.held.values
     values_are = ap fetched mine.is
 
-    values_small : (j : ℕ) → j < length xs → get_or xs j 0 ≤ MAX
+    values_small : (j : ℕ) → j < length xs → get_or xs j 0 ≤ high_of p
     values_small j below =
-        subst (λ ys. get_or ys j 0 ≤ MAX) (sym values_are) (held_small t mine.held mine.is j (subst (λ n. j < n) (ap length values_are) below))
+        subst (λ ys. get_or ys j 0 ≤ high_of p) (sym values_are) (held_small t mine.held mine.is j (subst (λ n. j < n) (ap length values_are) below))
 
-    word_small : w.value ≤ MAX
+    word_small : w.value ≤ high_of p
     word_small =
-        ended-small v.attempt xs (value_of (op_at p o).op xs)
-        (λ x is. value_of-small (op_at p o).op xs x is (valid.numbering.shaped o may.goes_from.in_range) (All-from_get_or (λ y. y ≤ MAX) xs 0 values_small))
+        ended-small (high_of p) v.attempt xs (value_of (op_at p o).op xs)
+        (λ x is. value_of-within (high_of p) (op_at p o).op xs x is (valid.numbering.shaped o may.goes_from.in_range) (high_of-all p) (All-from_get_or (λ y. y ≤ high_of p) xs 0 values_small))
         (values_small 0 (let all = may.all_fetched in omega arith))
 
     -- all places were fetched in this attempt
@@ -166,7 +167,7 @@ module _ (p : Plan) (cap : ℕ) (valid : IsPlan p) (small_cap : cap < ATTEMPTS) 
 
     end : IsEnd p cap d o v.attempt xs w
     end = record {
-      range = ended_range cap v.attempt xs (value_of (op_at p o).op xs) small_cap here.range.word.first here.range.most word_small;
+      range = ended_range p cap v.attempt xs (value_of (op_at p o).op xs) valid small_cap here.range.word.first here.range.most word_small;
       kept = kept;
       published =
           published_more c.published o v w (let first = here.range.word.first in let same = attempt_same in omega arith) (let same = attempt_same in omega arith) unseen
@@ -193,7 +194,7 @@ module _ (p : Plan) (cap : ℕ) (valid : IsPlan p) (small_cap : cap < ATTEMPTS) 
               elim (Contains-push_cases c.published (entry_of o w) e inside) [
                 | inl old ↦ sound.entries e old
                 | inr new ↦
-                    (subst (λ (x : Entry). x.op < op_count p) new may.goes_from.in_range, subst (λ (x : Entry). x.value ≤ MAX) new word_small)
+                    (subst (λ (x : Entry). x.op < op_count p) new may.goes_from.in_range, subst (λ (x : Entry). x.value ≤ high_of p) new word_small)
               ];
           settlings = sound.settlings;
           sound_at =

@@ -3,12 +3,11 @@
 use Rattle.std.proofs.Common.{◌≡◌, ◌≢◌, ℕ, ◌<◌, ◌≤◌, Bool, true, false, get_or, refl, sym, ap, ◌∙◌, subst, inl, inr, ◌⊎◌, arith, Some}
 use Rattle.std.specs.Prelude.{Contains}
 use Rattle.std.proofs.lemmas.Bool.{cases_eq}
-use Rattle.morph_base.specs.declared.limits.TheConstants.{MAX}
 use Rattle.morph_base.specs.declared.plan.Origin.{Origin}
 use Rattle.morph_base.specs.declared.plan.Origin.TheVariants.{Base, Op as Written}
 use Rattle.morph_base.specs.declared.plan.Plan.{Plan}
 use Rattle.morph_base.specs.declared.word.OpWord.{OpWord}
-use Rattle.morph_base.specs.Plans.{op_count, event_of, origin_at}
+use Rattle.morph_base.specs.Plans.{high_of, op_count, event_of, origin_at}
 use Rattle.morph_base.specs.Clean.{from, outcome}
 use Rattle.morph_base.specs.Known.{IsKnown, AreKnown}
 use Rattle.morph_base.specs.Words.{is_settled}
@@ -113,7 +112,7 @@ pub record IsStepAt (p : Plan) (cap : ℕ) (o : ℕ) (c d : Core) : Type 0 where
   pub published : (i : ℕ) (w : OpWord) → i ≢ o → IsPublishedOnce c.published i w → IsPublishedOnce d.published i w
   pub booked : (i : ℕ) (w : OpWord) → i ≢ o → IsBooked c.settlings i w → IsBooked d.settlings i w
   pub decisions : (i : ℕ) (b : Bool) → d.decision i ≡ Some b → c.decision i ≡ Some b
-  pub entries : (e : Entry) → Contains d.published e → (e.op < op_count p) × (e.value ≤ MAX)
+  pub entries : (e : Entry) → Contains d.published e → (e.op < op_count p) × (e.value ≤ high_of p)
   pub settlings : (x : Settling) → Contains d.settlings x → x.op < op_count p
   pub sound_at : IsSoundAt p cap d o (d.word o)
 

@@ -13,4 +13,3 @@ pub mod Machine
 pub mod Storing
 pub mod Shown
 pub mod Places
-pub mod Deposit

@@ -5,7 +5,7 @@ use Rattle.std.proofs.lemmas.Bool.{false≢true, cases_lt, ne_eqb, eq-eqb}
 use Rattle.std.proofs.lemmas.List.Sums.{length-filter, sum_by-cons}
 use Rattle.std.proofs.lemmas.List.Elements.{Contains-get_or, All-filter}
 use Rattle.std.proofs.lemmas.Option.{same_Some, none-some}
-use Rattle.morph_base.specs.declared.word.TheConstants.{ATTEMPTS}
+use Rattle.morph_base.specs.Limits.{most_attempts}
 use Rattle.morph_base.specs.declared.plan.Plan.{Plan}
 use Rattle.morph_base.specs.declared.word.OpState.{OpState}
 use Rattle.morph_base.specs.declared.word.OpState.TheVariants.{Blocked, Ready, Claimed, Executed, Failed, Spread, Settled, SettledAborted}
@@ -34,10 +34,10 @@ use Rattle.interleaving_core.proofs.Counting.{length-classes, count_by-filter}
 
 -- ---- the start
 
-pub start_sound : (p : Plan) (cap : ℕ) → cap < ATTEMPTS → IsSound p cap start
+pub start_sound : (p : Plan) (cap : ℕ) → cap < most_attempts → IsSound p cap start
 start_sound p cap small_cap = record {
   each_op = λ o lt.
-      blocked_sound p cap start o 1 (blocked_range cap small_cap 1 (omega arith) (omega arith))
+      blocked_sound p cap start o 1 (blocked_range p cap small_cap 1 (omega arith) (omega arith))
       (record { once = λ a. omega arith; below = λ e inside op_is. absurd (not-suc-le-zero inside.1); not_yet = λ is. refl; shown = λ is. absurd (false≢true is) })
       (record { count = refl; by_word = λ x inside op_is. absurd (not-suc-le-zero inside.1) })
       (λ j r below is. absurd (none-some r is));
@@ -49,7 +49,7 @@ start_sound p cap small_cap = record {
 
 -- ---- one step
 
-module _ (p : Plan) (cap : ℕ) (valid : IsPlan p) (small_cap : cap < ATTEMPTS) (c : Core) (sound : IsSound p cap c) where
+module _ (p : Plan) (cap : ℕ) (valid : IsPlan p) (small_cap : cap < most_attempts) (c : Core) (sound : IsSound p cap c) where
   pub step_keeps : (e : CoreEvent) → May p cap c e → IsSound p cap (after p c e)
   step_keeps (ReadyStep o) may = ready_keeps p cap valid small_cap c sound o may
   step_keeps (Claim o t) may = claiming_keeps p cap valid small_cap c sound o t may
@@ -86,7 +86,7 @@ module _ (p : Plan) (cap : ℕ) (valid : IsPlan p) (small_cap : cap < ATTEMPTS) 
 
 -- ---- every list of steps
 
-pub run_sound : (p : Plan) (cap : ℕ) → IsPlan p → cap < ATTEMPTS → (es : List CoreEvent) (c : Core) → Run p cap es c → IsSound p cap c
+pub run_sound : (p : Plan) (cap : ℕ) → IsPlan p → cap < most_attempts → (es : List CoreEvent) (c : Core) → Run p cap es c → IsSound p cap c
 run_sound p cap valid small_cap [] c run = subst (IsSound p cap) (sym run) (start_sound p cap small_cap)
 run_sound p cap valid small_cap (e ∷ es) c run =
     subst (IsSound p cap) (sym run.3) (step_keeps p cap valid small_cap run.0 (run_sound p cap valid small_cap es run.0 run.1) e run.2)

@@ -1,10 +1,10 @@
 -- The parts of soundness as one word of an operation gives way to another.
-use Rattle.std.proofs.Common.{◌≡◌, ◌≢◌, ℕ, ◌+◌, ◌<◌, ◌≤◌, true, false, cond, eqb, List, [], ◌∷◌, ◌++◌, refl, sym, ap, ◌∙◌, subst, inl, inr, arith, Some}
+use Rattle.std.proofs.Common.{◌≡◌, ◌≢◌, ℕ, ◌+◌, ◌<◌, ◌≤◌, true, false, cond, eqb, List, [], ◌∷◌, ◌++◌, refl, sym, ap, ◌∙◌, subst, inl, inr, arith, Some, zero-le}
 use Rattle.std.specs.Prelude.{Contains}
 use Rattle.std.proofs.lemmas.Bool.{cases_eq, true≢false, false≢true, eq-eqb}
 use Rattle.std.proofs.lemmas.List.Elements.{Contains-push, Contains-push_cases}
 use Rattle.morph_base.specs.declared.limits.TheConstants.{WORKERS}
-use Rattle.morph_base.specs.declared.word.TheConstants.{ATTEMPTS}
+use Rattle.morph_base.specs.Limits.{most_attempts}
 use Rattle.morph_base.specs.declared.plan.Plan.{Plan}
 use Rattle.morph_base.specs.declared.word.OpWord.{OpWord}
 use Rattle.morph_base.specs.Words.{is_idle, is_settled}
@@ -116,24 +116,27 @@ booked_else xs x i w other was = record {
 
 -- ---- words in range
 
-module _ (cap : ℕ) (small_cap : cap < ATTEMPTS) where
-  pub blocked_range : (a : ℕ) → 1 ≤ a → a ≤ cap + 1 → IsInRange cap (blocked a)
+module _ (p : Plan) (cap : ℕ) (small_cap : cap < most_attempts) where
+  pub blocked_range : (a : ℕ) → 1 ≤ a → a ≤ cap + 1 → IsInRange p cap (blocked a)
   blocked_range a first most = record {
     word = record { small = omega arith; first = first; last = omega arith; blank = λ is. refl; by_worker = λ is. absurd (false≢true is); by_none = λ is. refl };
+    small = zero-le;
     most = most;
     spread = λ is. absurd (cc);
   }
 
-  pub ready_range : (a : ℕ) → 1 ≤ a → a ≤ cap + 1 → IsInRange cap (ready a)
+  pub ready_range : (a : ℕ) → 1 ≤ a → a ≤ cap + 1 → IsInRange p cap (ready a)
   ready_range a first most = record {
     word = record { small = omega arith; first = first; last = omega arith; blank = λ is. refl; by_worker = λ is. absurd (false≢true is); by_none = λ is. refl };
+    small = zero-le;
     most = most;
     spread = λ is. absurd (cc);
   }
 
-  pub claimed_range : (a t : ℕ) → 1 ≤ a → a ≤ cap + 1 → 1 ≤ t → t ≤ WORKERS → IsInRange cap (claimed a t)
+  pub claimed_range : (a t : ℕ) → 1 ≤ a → a ≤ cap + 1 → 1 ≤ t → t ≤ WORKERS → IsInRange p cap (claimed a t)
   claimed_range a t first most least greatest = record {
     word = record { small = omega arith; first = first; last = omega arith; blank = λ is. refl; by_worker = λ is. (least, greatest); by_none = λ is. absurd (true≢false is) };
+    small = zero-le;
     most = most;
     spread = λ is. absurd (cc);
   }
@@ -142,7 +145,7 @@ module _ (cap : ℕ) (small_cap : cap < ATTEMPTS) where
 
 -- all that is to be shown of a blocked or a ready word
 module _ (p : Plan) (cap : ℕ) (d : Core) (o a : ℕ) where
-  pub blocked_sound : IsInRange cap (blocked a) → IsPublishedOnce d.published o (blocked a) → IsBooked d.settlings o (blocked a)
+  pub blocked_sound : IsInRange p cap (blocked a) → IsPublishedOnce d.published o (blocked a) → IsBooked d.settlings o (blocked a)
       → ((j : ℕ) (r : Record) → j < places p o → d.recorded o j ≡ Some r → IsRightRecord p d o (blocked a) j r) → IsSoundAt p cap d o (blocked a)
   blocked_sound range published booked records = record {
     range = range;
@@ -156,7 +159,7 @@ module _ (p : Plan) (cap : ℕ) (d : Core) (o a : ℕ) where
     records = records;
   }
 
-  pub ready_sound : IsInRange cap (ready a) → IsPublishedOnce d.published o (ready a) → IsBooked d.settlings o (ready a)
+  pub ready_sound : IsInRange p cap (ready a) → IsPublishedOnce d.published o (ready a) → IsBooked d.settlings o (ready a)
       → ((j : ℕ) (r : Record) → j < places p o → d.recorded o j ≡ Some r → IsRightRecord p d o (ready a) j r) → IsSoundAt p cap d o (ready a)
   ready_sound range published booked records = record {
     range = range;
@@ -170,7 +173,7 @@ module _ (p : Plan) (cap : ℕ) (d : Core) (o a : ℕ) where
     records = records;
   }
 
-  pub claimed_sound : (t : ℕ) → IsInRange cap (claimed a t) → ((h : Held) × (d.claim t ≡ Some h) × (h.op ≡ o)) → IsPublishedOnce d.published o (claimed a t) → IsBooked d.settlings o (claimed a t)
+  pub claimed_sound : (t : ℕ) → IsInRange p cap (claimed a t) → ((h : Held) × (d.claim t ≡ Some h) × (h.op ≡ o)) → IsPublishedOnce d.published o (claimed a t) → IsBooked d.settlings o (claimed a t)
       → ((j : ℕ) (r : Record) → j < places p o → d.recorded o j ≡ Some r → IsRightRecord p d o (claimed a t) j r) → IsSoundAt p cap d o (claimed a t)
   claimed_sound t range held published booked records = record {
     range = range;

@@ -1,15 +1,15 @@
 -- Steps to the next attempt: an executed operation is spread, and an evaluated one is rolled back.
-use Rattle.std.proofs.Common.{◌≡◌, ◌≢◌, ℕ, ◌+◌, ◌-◌, ◌<◌, ◌≤◌, true, false, List, get_or, refl, sym, ap, ◌∙◌, subst, inl, inr, arith, Some, zero-lt-suc}
+use Rattle.std.proofs.Common.{◌≡◌, ◌≢◌, ℕ, ◌+◌, ◌-◌, ◌<◌, ◌≤◌, true, false, List, get_or, refl, sym, ap, ◌∙◌, subst, inl, inr, arith, Some, zero-lt-suc, le_trans}
 use Rattle.std.proofs.lemmas.Bool.{false≢true}
 use Rattle.std.proofs.lemmas.List.Elements.{Contains-push_cases}
-use Rattle.morph_base.specs.declared.limits.TheConstants.{MAX}
-use Rattle.morph_base.specs.declared.word.TheConstants.{ATTEMPTS}
+use Rattle.morph_base.specs.Limits.{most_attempts}
 use Rattle.morph_base.specs.declared.plan.Plan.{Plan}
 use Rattle.morph_base.specs.declared.word.OpState.{OpState}
 use Rattle.morph_base.specs.declared.word.OpState.TheVariants.{Blocked, Ready, Claimed, Executed, Failed, Spread, Settled, SettledAborted}
 use Rattle.morph_base.specs.declared.word.OpWord.{OpWord}
-use Rattle.morph_base.specs.Plans.{IsPlan, op_count}
+use Rattle.morph_base.specs.Plans.{high_of, IsPlan, op_count}
 use Rattle.morph_base.specs.Words.{is_evaluated, is_settled}
+use Rattle.morph_base.proofs.BoundLaws.{high_of-small}
 use Rattle.interleaving_core.specs.declared.entry.Entry.{Entry}
 use Rattle.interleaving_core.specs.Core.{Core, blocked, spread, has_run, record_value, entry_of}
 use Rattle.interleaving_core.specs.Steps.{MaySpread, MayRollBack, spread_of, spreading, rolling_back}
@@ -31,14 +31,15 @@ evaluated_unsettled Spread is = refl
 evaluated_unsettled Settled is = absurd (false≢true is)
 evaluated_unsettled SettledAborted is = absurd (false≢true is)
 
-spread_range : (cap a x : ℕ) → cap < ATTEMPTS → 1 ≤ a → a < cap → x ≤ MAX → IsInRange cap (spread (a + 1) x)
-spread_range cap a x small_cap first below small = record {
-  word = record { small = small; first = omega arith; last = omega arith; blank = λ is. absurd (false≢true is); by_worker = λ is. absurd (false≢true is); by_none = λ is. refl };
+spread_range : (p : Plan) (cap a x : ℕ) → IsPlan p → cap < most_attempts → 1 ≤ a → a < cap → x ≤ high_of p → IsInRange p cap (spread (a + 1) x)
+spread_range p cap a x valid small_cap first below small = record {
+  small = small;
+  word = record { small = le_trans small (high_of-small p valid); first = omega arith; last = omega arith; blank = λ is. absurd (false≢true is); by_worker = λ is. absurd (false≢true is); by_none = λ is. refl };
   most = omega arith;
   spread = λ is. (omega arith, omega arith);
 }
 
-module _ (p : Plan) (cap : ℕ) (valid : IsPlan p) (small_cap : cap < ATTEMPTS) (c : Core) (sound : IsSound p cap c) where
+module _ (p : Plan) (cap : ℕ) (valid : IsPlan p) (small_cap : cap < most_attempts) (c : Core) (sound : IsSound p cap c) where
   -- ---- spread
 
   module _ (o sibling : ℕ) (may : MaySpread p cap c o sibling) where
@@ -76,10 +77,10 @@ module _ (p : Plan) (cap : ℕ) (valid : IsPlan p) (small_cap : cap < ATTEMPTS) 
     value_is : x ≡ get_or ran.0 0 0
     value_is = ap record_value first_record
 
-    value_small : x ≤ MAX
+    value_small : x ≤ high_of p
     value_small =
         let right : IsRightRecord p c o v 0 (record { value = get_or ran.0 0 0; attempt = v.attempt }) = here.records 0 _ (zero-lt-suc _) first_record in
-        subst (λ n. n ≤ MAX) (sym value_is) right.small
+        subst (λ n. n ≤ high_of p) (sym value_is) right.small
 
     pub spreading_keeps : IsSound p cap (spreading p c o)
     spreading_keeps =
@@ -97,13 +98,13 @@ module _ (p : Plan) (cap : ℕ) (valid : IsPlan p) (small_cap : cap < ATTEMPTS) 
               elim (Contains-push_cases c.published (entry_of o w) e inside) [
                 | inl old ↦ sound.entries e old
                 | inr new ↦
-                    (subst (λ (y : Entry). y.op < op_count p) new may.in_range, subst (λ (y : Entry). y.value ≤ MAX) new value_small)
+                    (subst (λ (y : Entry). y.op < op_count p) new may.in_range, subst (λ (y : Entry). y.value ≤ high_of p) new value_small)
               ];
           settlings = sound.settlings;
           sound_at =
               subst (IsSoundAt p cap d o) (sym (put_here c.word o w))
               (record {
-                range = spread_range cap v.attempt x small_cap here.range.word.first may.below_cap value_small;
+                range = spread_range p cap v.attempt x valid small_cap here.range.word.first may.below_cap value_small;
                 held = λ is. absurd (cc);
                 follows = record {
                   run = λ is. absurd (false≢true is);
@@ -171,7 +172,7 @@ module _ (p : Plan) (cap : ℕ) (valid : IsPlan p) (small_cap : cap < ATTEMPTS) 
           sound_at =
               subst (IsSoundAt p cap next o) (sym (put_here c.word o new))
               (blocked_sound p cap next o (old.attempt + 1)
-              (blocked_range cap small_cap (old.attempt + 1) (omega arith) (let most = within_cap in omega arith))
+              (blocked_range p cap small_cap (old.attempt + 1) (omega arith) (let most = within_cap in omega arith))
               (published_next c.published o old new refl refl was.published)
               (booked_open c.settlings o old new open_before refl was.booked)
               (λ k r below is. record_grows p c next rolling_back_grows o old new k r (omega arith) (was.records k r below is)));

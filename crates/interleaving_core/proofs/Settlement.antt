@@ -1,10 +1,10 @@
 -- An operation is settled: with its own value where its event commits, else with that of its target's source.
-use Rattle.std.proofs.Common.{◌≡◌, ◌≢◌, ℕ, ◌<◌, true, false, List, [], ◌∷◌, ◌++◌, map, refl, sym, ap, ◌∙◌, subst, inl, inr, arith, Option, Some, None, zero-lt-suc}
+use Rattle.std.proofs.Common.{◌≡◌, ◌≢◌, ℕ, ◌<◌, true, false, List, [], ◌∷◌, ◌++◌, map, refl, sym, ap, ◌∙◌, subst, inl, inr, arith, Option, Some, None, zero-lt-suc, le_trans}
 use Rattle.std.specs.Prelude.{Contains}
 use Rattle.std.proofs.lemmas.Bool.{true≢false, false≢true}
 use Rattle.std.proofs.lemmas.List.Elements.{Contains-push_cases}
 use Rattle.std.proofs.lemmas.Option.{same_Some}
-use Rattle.morph_base.specs.declared.word.TheConstants.{ATTEMPTS}
+use Rattle.morph_base.specs.Limits.{most_attempts}
 use Rattle.morph_base.specs.declared.plan.Plan.{Plan}
 use Rattle.morph_base.specs.declared.word.OpState.{OpState}
 use Rattle.morph_base.specs.declared.word.OpState.TheVariants.{Blocked, Ready, Claimed, Executed, Failed, Spread, Settled, SettledAborted}
@@ -14,6 +14,7 @@ use Rattle.morph_base.specs.Plans.{IsPlan, op_count, op_at, event_of, origins_of
 use Rattle.morph_base.specs.Clean.{from, source, outcome}
 use Rattle.morph_base.specs.Words.{is_settled}
 use Rattle.morph_base.proofs.KnownLaws.{settles, settles_aborted}
+use Rattle.morph_base.proofs.BoundLaws.{high_of-small}
 use Rattle.interleaving_core.specs.declared.entry.Record.{Record}
 use Rattle.interleaving_core.specs.declared.entry.Settling.{Settling}
 use Rattle.interleaving_core.specs.Core.{Core, settled, settled_aborted, ended, has_run, is_shown, is_open, is_failed, entry_of, IsSettledIn, value_in}
@@ -41,7 +42,7 @@ open_unsettled Spread is = refl
 open_unsettled Settled is = absurd (false≢true is)
 open_unsettled SettledAborted is = absurd (false≢true is)
 
-module _ (p : Plan) (cap : ℕ) (valid : IsPlan p) (small_cap : cap < ATTEMPTS) (c : Core) (sound : IsSound p cap c) (o t : ℕ) (lt : o < op_count p) (worker : IsWorker t) where
+module _ (p : Plan) (cap : ℕ) (valid : IsPlan p) (small_cap : cap < most_attempts) (c : Core) (sound : IsSound p cap c) (o t : ℕ) (lt : o < op_count p) (worker : IsWorker t) where
   abbrev v : OpWord
   v = c.word o
 
@@ -130,6 +131,7 @@ module _ (p : Plan) (cap : ℕ) (valid : IsPlan p) (small_cap : cap < ATTEMPTS) 
                     by_worker = λ is. (worker.first, worker.last);
                     by_none = λ is. absurd (true≢false is);
                   };
+                  small = here.range.small;
                   most = here.range.most;
                   spread = λ is. absurd (cc);
                 };
@@ -195,13 +197,14 @@ module _ (p : Plan) (cap : ℕ) (valid : IsPlan p) (small_cap : cap < ATTEMPTS) 
               (record {
                 range = record {
                   word = record {
-                    small = settled_small p cap valid c sound o 0 lt (zero-lt-suc _) may.target;
+                    small = le_trans (settled_small p cap valid c sound o 0 lt (zero-lt-suc _) may.target) (high_of-small p valid);
                     first = here.range.word.first;
                     last = here.range.word.last;
                     blank = λ is. absurd (false≢true is);
                     by_worker = λ is. (worker.first, worker.last);
                     by_none = λ is. absurd (true≢false is);
                   };
+                  small = settled_small p cap valid c sound o 0 lt (zero-lt-suc _) may.target;
                   most = here.range.most;
                   spread = λ is. absurd (cc);
                 };

@@ -1,13 +1,12 @@
 -- Versions of sources are values, and settled sources have the fold's values.
 use Rattle.std.proofs.Common.{◌≡◌, ℕ, ◌<◌, ◌≤◌, true, List, length, get_or, take, map, refl, sym, ap, ◌∙◌, subst, inl, inr, ◌⊎◌, arith}
 use Rattle.std.proofs.lemmas.Bool.{false≢true}
-use Rattle.morph_base.specs.declared.limits.TheConstants.{MAX}
 use Rattle.morph_base.specs.declared.plan.Origin.{Origin}
 use Rattle.morph_base.specs.declared.plan.Origin.TheVariants.{Base, Op as Written}
 use Rattle.morph_base.specs.declared.plan.Plan.{Plan}
 use Rattle.morph_base.specs.declared.word.OpState.{OpState}
 use Rattle.morph_base.specs.declared.word.OpState.TheVariants.{Blocked, Ready, Claimed, Executed, Failed, Spread, Settled, SettledAborted}
-use Rattle.morph_base.specs.Plans.{IsPlan, IsSourceIn, op_count, event_of, key_at, op_at, origin_at, origins_of}
+use Rattle.morph_base.specs.Plans.{high_of, IsPlan, op_count, op_at, origin_at, origins_of}
 use Rattle.morph_base.specs.Clean.{from, source}
 use Rattle.morph_base.specs.Known.{IsKnown, IsRight}
 use Rattle.morph_base.specs.Words.{is_settled}
@@ -33,29 +32,27 @@ version_from_settled c (Base v) x is = is.1
 version_from_settled c (Written s) x is = inl is
 
 module _ (p : Plan) (cap : ℕ) (valid : IsPlan p) (c : Core) (sound : IsSound p cap c) where
-  pub base_small : (o j v : ℕ) → o < op_count p → j < places p o → origin_at p o j ≡ Base v → v ≤ MAX
-  base_small o j v lt below is =
-      let based : IsSourceIn p (event_of p o) (key_at p o j) (Base v) = subst (IsSourceIn p (event_of p o) (key_at p o j)) is (valid.sources o j lt below) in
-      based.1
+  pub base_small : (o j v : ℕ) → o < op_count p → j < places p o → origin_at p o j ≡ Base v → v ≤ high_of p
+  base_small = valid.small
 
   -- each version of a source is a value
-  pub version_small : (o j x : ℕ) → o < op_count p → j < places p o → IsVersion c (origin_at p o j) x → x ≤ MAX
+  pub version_small : (o j x : ℕ) → o < op_count p → j < places p o → IsVersion c (origin_at p o j) x → x ≤ high_of p
   version_small o j x lt below is = of_origin (origin_at p o j) refl is
     where
-      of_origin : (origin : Origin) → origin_at p o j ≡ origin → IsVersion c origin x → x ≤ MAX
-      of_origin (Base v) same is = let small : v ≤ MAX = base_small o j v lt below same in omega arith
+      of_origin : (origin : Origin) → origin_at p o j ≡ origin → IsVersion c origin x → x ≤ high_of p
+      of_origin (Base v) same is = let small : v ≤ high_of p = base_small o j v lt below same in omega arith
       of_origin (Written s) same is =
           elim is [
             | inl stands ↦
                 let word : IsSoundAt p cap c s (c.word s) = sound.each_op s (source_precedes p o j s valid lt below same).in_range in
-                let small : value_in c s ≤ MAX = word.range.word.small in
+                let small : value_in c s ≤ high_of p = word.range.small in
                 let value_is : value_in c s ≡ x = stands.1 in
                 omega arith
-            | inr seen ↦ let entry = sound.entries seen.entry seen.inside in subst (λ n. n ≤ MAX) seen.value_is entry.1
+            | inr seen ↦ let entry = sound.entries seen.entry seen.inside in subst (λ n. n ≤ high_of p) seen.value_is entry.1
           ]
 
   -- and so is the value of each settled source
-  pub settled_small : (o j : ℕ) → o < op_count p → j < places p o → IsKnown (IsSettledIn c) (origin_at p o j) → source p (value_in c) o j ≤ MAX
+  pub settled_small : (o j : ℕ) → o < op_count p → j < places p o → IsKnown (IsSettledIn c) (origin_at p o j) → source p (value_in c) o j ≤ high_of p
   settled_small o j lt below is =
       version_small o j (source p (value_in c) o j) lt below (version_from_settled c (origin_at p o j) (source p (value_in c) o j) (is, refl))
 

@@ -1,16 +1,17 @@
 -- A stored state's lists as the functions of the machine's state.
-use Rattle.std.proofs.Common.{◌≡◌, ◌≢◌, ℕ, zero, suc, ◌+◌, ◌*◌, ◌<◌, ◌≤◌, Bool, true, false, if◌then◌else◌, List, [], ◌∷◌, ◌++◌, length, get_or, set, replicate, refl, sym, ap, ◌∙◌, subst, inl, inr, arith, Option, Some, None, zero-add}
+use Rattle.std.proofs.Common.{◌≡◌, ◌≢◌, ℕ, zero, suc, ◌+◌, ◌*◌, ◌<◌, ◌≤◌, Bool, true, false, if◌then◌else◌, List, [], ◌∷◌, ◌++◌, length, get_or, set, replicate, refl, sym, ap, ◌∙◌, subst, inl, inr, arith, Option, Some, None, zero-add, le_trans}
 use Rattle.std.specs.Prelude.{nat_lt}
 use Rattle.std.proofs.Math.Path.{fun_ext}
 use Rattle.std.proofs.lemmas.Bool.{cases_eq, lt-ltb, ltb-true, cond-true}
 use Rattle.std.proofs.lemmas.List.{length-replicate, get_or-set_same, get_or-set_other}
 use Rattle.std.proofs.lemmas.Option.{none-some}
-use Rattle.morph_base.specs.declared.limits.TheConstants.{READS, WORKERS}
-use Rattle.morph_base.specs.declared.word.TheConstants.{ATTEMPTS}
+use Rattle.morph_base.specs.declared.limits.TheConstants.{MAX, READS, WORKERS}
+use Rattle.morph_base.specs.Limits.{most_attempts}
 use Rattle.morph_base.specs.declared.word.OpWord.{OpWord}
 use Rattle.morph_base.specs.declared.plan.Plan.{Plan}
 use Rattle.morph_base.specs.Plans.{IsPlan, op_count, event_count}
 use Rattle.morph_base.specs.Contents.{Contents}
+use Rattle.morph_base.proofs.BoundLaws.{high_of-small}
 use Rattle.interleaving_core.specs.declared.claim.Claim.{Claim}
 use Rattle.interleaving_core.specs.declared.entry.Record.{Record}
 use Rattle.interleaving_core.specs.declared.entry.Held.{Held}
@@ -19,7 +20,6 @@ use Rattle.interleaving_core.specs.Core.{Core, blocked, put, start}
 use Rattle.std.specs.Prelude.{All}
 use Rattle.std.proofs.lemmas.List.Elements.{All-nil, All-from_get_or}
 use Rattle.std.proofs.Common.{length-append}
-use Rattle.morph_base.specs.declared.limits.TheConstants.{MAX}
 use Rattle.morph_base.specs.Plans.{event_of}
 use Rattle.interleaving_core.specs.declared.event.CoreEvent.{CoreEvent}
 use Rattle.interleaving_core.specs.declared.event.CoreEvent.TheVariants.{Settle}
@@ -63,7 +63,7 @@ start_core s n r t d words records claims decisions published settlings =
     none_else false x = refl
 
 -- and there is room for all that steps need
-pub start_state : (p : Plan) (s : CoreState) → s.cap < ATTEMPTS → s.words.items ≡ replicate (op_count p) (blocked 1) → s.records.items ≡ replicate (op_count p * READS) None
+pub start_state : (p : Plan) (s : CoreState) → s.cap < most_attempts → s.words.items ≡ replicate (op_count p) (blocked 1) → s.records.items ≡ replicate (op_count p * READS) None
     → s.claims.items ≡ replicate (WORKERS + 1) None → s.decisions.items ≡ replicate (event_count p) None → s.published.items ≡ [] → s.settlings.items ≡ []
     → s.published.room ≡ op_count p * (s.cap + 1) → s.settlings.room ≡ op_count p → IsStateOf p s
 start_state p s small words records claims decisions published settlings entry_room settling_room = record {
@@ -182,7 +182,7 @@ same_shape_trans a b c one two = record {
 -- a sound state of the same shape is a state of the plan
 pub state_again : (p : Plan) (s t : CoreState) → IsStateOf p s → IsSameShape s t → IsSound p s.cap (core_of t) → IsStateOf p t
 state_again p s t state shape sound = record {
-  small_cap = subst (λ n. n < ATTEMPTS) (sym shape.cap) state.small_cap;
+  small_cap = subst (λ n. n < most_attempts) (sym shape.cap) state.small_cap;
   sizes = record {
     words = shape.words ∙ state.sizes.words;
     records = shape.records ∙ state.sizes.records;
@@ -245,4 +245,4 @@ fetched_small p s t valid state = of_claim ((core_of s).claim t) refl
   where
     of_claim : (k : Option Held) → (core_of s).claim t ≡ k → All (λ x. x ≤ MAX) (fetched k)
     of_claim None is = All-nil (λ x. x ≤ MAX)
-    of_claim (Some h) is = All-from_get_or (λ x. x ≤ MAX) h.values 0 (held_small p s.cap valid state.small_cap (core_of s) state.sound t h is)
+    of_claim (Some h) is = All-from_get_or (λ x. x ≤ MAX) h.values 0 (λ j below. le_trans (held_small p s.cap valid state.small_cap (core_of s) state.sound t h is j below) (high_of-small p valid))

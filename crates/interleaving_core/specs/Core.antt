@@ -1,18 +1,15 @@
 -- The state of the machine: the words, records and decisions that all workers share, what each worker holds, and all that
 -- was ever shown and settled.
-use Rattle.std.specs.Prelude.{◌≡◌, ℕ, Bool, true, false, ◌&&◌, ◌==◌, ◌⊎◌, if◌then◌else◌, List, [], length, Contains, Option, Some, None, count_by, slice_index}
-use Rattle.morph_base.specs.declared.operation.Op.{Op}
+use Rattle.std.specs.Prelude.{◌≡◌, ℕ, Bool, true, ◌&&◌, ◌==◌, ◌⊎◌, if◌then◌else◌, List, [], length, Contains, Option, Some, None, count_by}
 use Rattle.morph_base.specs.declared.plan.Origin.{Origin}
 use Rattle.morph_base.specs.declared.plan.Origin.TheVariants.{Base, Op as Written}
 use Rattle.morph_base.specs.declared.plan.Plan.{Plan}
-use Rattle.morph_base.specs.declared.word.OpState.{OpState}
-use Rattle.morph_base.specs.declared.word.OpState.TheVariants.{Blocked, Ready, Claimed, Executed, Failed, Spread, Settled, SettledAborted}
 use Rattle.morph_base.specs.declared.word.OpWord.{OpWord}
-use Rattle.morph_base.specs.Functions.{value_of}
 use Rattle.morph_base.specs.Plans.{keys_of}
 use Rattle.morph_base.specs.Clean.{from}
 use Rattle.morph_base.specs.Known.{IsKnown}
 use Rattle.morph_base.specs.Words.{is_settled}
+pub use Rattle.morph_base.specs.Words.{blocked, ready, claimed, executed, failed, spread, settled, settled_aborted, ended, finished, has_run, is_shown, is_failed, is_open}
 use Rattle.interleaving_core.specs.declared.entry.Record.{Record}
 use Rattle.interleaving_core.specs.declared.entry.Held.{Held}
 use Rattle.interleaving_core.specs.declared.entry.Entry.{Entry}
@@ -33,84 +30,6 @@ pub record Core : Type 0 where
 -- a function with another value at one number
 unfoldable pub put : {A : Type 0} → (ℕ → A) → ℕ → A → ℕ → A
 put f i a j = if j == i then a else f j
-
--- ---- words
-
-abbrev pub blocked : ℕ → OpWord
-blocked a = record { value = 0; attempt = a; state = Blocked; by = 0 }
-
-abbrev pub ready : ℕ → OpWord
-ready a = record { value = 0; attempt = a; state = Ready; by = 0 }
-
-abbrev pub claimed : ℕ → ℕ → OpWord
-claimed a t = record { value = 0; attempt = a; state = Claimed; by = t }
-
-abbrev pub executed : ℕ → ℕ → OpWord
-executed a v = record { value = v; attempt = a; state = Executed; by = 0 }
-
-abbrev pub failed : ℕ → ℕ → OpWord
-failed a v = record { value = v; attempt = a; state = Failed; by = 0 }
-
-abbrev pub spread : ℕ → ℕ → OpWord
-spread a v = record { value = v; attempt = a; state = Spread; by = 0 }
-
-abbrev pub settled : ℕ → ℕ → ℕ → OpWord
-settled a v t = record { value = v; attempt = a; state = Settled; by = t }
-
-abbrev pub settled_aborted : ℕ → ℕ → ℕ → OpWord
-settled_aborted a v t = record { value = v; attempt = a; state = SettledAborted; by = t }
-
--- what an operation comes to at an attempt that read the values xs: executed with its answer, or failed with the value of
--- its target
-abbrev pub ended : ℕ → List ℕ → Option ℕ → OpWord
-ended a xs (Some v) = executed a v
-ended a xs None = failed a (slice_index xs 0)
-
-abbrev pub finished : Op → ℕ → List ℕ → OpWord
-finished op a xs = ended a xs (value_of op xs)
-
--- executed or failed: its function was run on its records
-abbrev pub has_run : OpState → Bool
-has_run Blocked = false
-has_run Ready = false
-has_run Claimed = false
-has_run Executed = true
-has_run Failed = true
-has_run Spread = false
-has_run Settled = false
-has_run SettledAborted = false
-
--- its value at this attempt was shown
-abbrev pub is_shown : OpState → Bool
-is_shown Blocked = false
-is_shown Ready = false
-is_shown Claimed = false
-is_shown Executed = true
-is_shown Failed = true
-is_shown Spread = true
-is_shown Settled = true
-is_shown SettledAborted = false
-
-abbrev pub is_failed : OpState → Bool
-is_failed Blocked = false
-is_failed Ready = false
-is_failed Claimed = false
-is_failed Executed = false
-is_failed Failed = true
-is_failed Spread = false
-is_failed Settled = false
-is_failed SettledAborted = false
-
--- nobody holds it, and it is not settled
-abbrev pub is_open : OpState → Bool
-is_open Blocked = true
-is_open Ready = true
-is_open Claimed = false
-is_open Executed = true
-is_open Failed = true
-is_open Spread = true
-is_open Settled = false
-is_open SettledAborted = false
 
 -- ---- entries
 

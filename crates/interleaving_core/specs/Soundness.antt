@@ -1,10 +1,9 @@
 -- Which states of the machine are sound: what holds of each word, of each claim and of the decisions.
 use Rattle.std.specs.Prelude.{◌≡◌, ℕ, ◌+◌, ◌-◌, ◌≤◌, ◌<◌, Bool, true, false, cond, List, length, Contains, Option, Some, slice_index}
-use Rattle.morph_base.specs.declared.limits.TheConstants.{MAX}
 use Rattle.morph_base.specs.declared.plan.Plan.{Plan}
 use Rattle.morph_base.specs.declared.word.OpState.TheVariants.{Claimed, Spread, Settled, SettledAborted}
 use Rattle.morph_base.specs.declared.word.OpWord.{OpWord}
-use Rattle.morph_base.specs.Plans.{event_count, op_count, op_at, event_of, origin_at, final, verdict}
+use Rattle.morph_base.specs.Plans.{high_of, event_count, op_count, op_at, event_of, origin_at, final, verdict}
 use Rattle.morph_base.specs.Clean.{source, outcome}
 use Rattle.morph_base.specs.Known.{IsKnown, AreKnown}
 use Rattle.morph_base.specs.Words.{IsWord, is_idle, is_settled}
@@ -16,8 +15,9 @@ use Rattle.interleaving_core.specs.Core.{Core, claimed, finished, has_run, is_sh
 use Rattle.interleaving_core.specs.Steps.{RecordsAgree}
 
 -- attempts in range: a word in range, at most one attempt above the cap, and spread words in between
-pub record IsInRange (cap : ℕ) (w : OpWord) : Type 0 where
+pub record IsInRange (p : Plan) (cap : ℕ) (w : OpWord) : Type 0 where
   pub word : IsWord w
+  pub small : w.value ≤ high_of p
   pub most : w.attempt ≤ cap + 1
   pub spread : w.state ≡ Spread → (2 ≤ w.attempt) × (w.attempt ≤ cap)
 
@@ -68,13 +68,13 @@ pub record IsBooked (settlings : List Settling) (o : ℕ) (w : OpWord) : Type 0 
 -- records were published: a record is of no later attempt, and it is a version of its source
 pub record IsRightRecord (p : Plan) (c : Core) (o : ℕ) (w : OpWord) (j : ℕ) (r : Record) : Type 0 where
   pub attempt : r.attempt ≤ w.attempt
-  pub small : r.value ≤ MAX
+  pub small : r.value ≤ high_of p
   pub version : IsVersion c (origin_at p o j) r.value
 
 module _ (p : Plan) (cap : ℕ) (c : Core) where
   -- what holds of an operation with this word
   pub record IsSoundAt (o : ℕ) (w : OpWord) : Type 0 where
-    pub range : IsInRange cap w
+    pub range : IsInRange p cap w
     pub held : IsHeld c.claim o w
     pub follows : Follows p (c.recorded o) o w
     pub published : IsPublishedOnce c.published o w
@@ -100,5 +100,5 @@ module _ (p : Plan) (cap : ℕ) (c : Core) where
     -- decisions are the fold's
     pub decided : (i : ℕ) (d : Bool) → c.decision i ≡ Some d → (i < event_count p) × (verdict p i ≡ d)
     -- nothing else was shown or settled, and all that was shown are values
-    pub entries : (e : Entry) → Contains c.published e → (e.op < op_count p) × (e.value ≤ MAX)
+    pub entries : (e : Entry) → Contains c.published e → (e.op < op_count p) × (e.value ≤ high_of p)
     pub settlings : (x : Settling) → Contains c.settlings x → x.op < op_count p

@@ -1,6 +1,6 @@
 -- The steps of the machine: when each may be made, the state after it, and the states that lists of steps lead to.
 use Rattle.std.specs.Prelude.{◌≡◌, ◌≢◌, ℕ, ◌+◌, ◌≤◌, ◌<◌, ◌⊎◌, Bool, true, false, List, [], ◌∷◌, ◌++◌, length, Contains, Option, Some, None, IsSome}
-use Rattle.morph_base.specs.declared.limits.TheConstants.{WORKERS}
+use Rattle.morph_base.specs.Limits.{most_workers}
 use Rattle.morph_base.specs.declared.plan.Plan.{Plan}
 use Rattle.morph_base.specs.declared.word.OpState.TheVariants.{Blocked, Ready, Claimed, Executed, Spread}
 use Rattle.morph_base.specs.declared.word.OpWord.{OpWord}
@@ -17,7 +17,7 @@ use Rattle.interleaving_core.specs.Core.{Core, put, blocked, ready, claimed, spr
 -- the numbers of workers
 pub record IsWorker (t : ℕ) : Type 0 where
   pub first : 1 ≤ t
-  pub last : t ≤ WORKERS
+  pub last : t ≤ most_workers
 
 -- the record of operation o at place j has another value than x
 pub record IsRecordedOtherwise (c : Core) (o j x : ℕ) : Type 0 where

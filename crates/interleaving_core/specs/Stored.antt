@@ -1,7 +1,7 @@
 -- What a `CoreState` stands for, and which of them are states of a plan.
 use Rattle.std.specs.Prelude.{◌≡◌, ◌≢◌, List, Contains, ℕ, ◌+◌, ◌*◌, ◌≤◌, ◌<◌, if◌then◌else◌, nat_lt, length, take, Option, Some, None, slice_index_or}
-use Rattle.morph_base.specs.declared.limits.TheConstants.{READS, WORKERS}
-use Rattle.morph_base.specs.declared.word.TheConstants.{ATTEMPTS}
+use Rattle.morph_base.specs.declared.limits.TheConstants.{READS}
+use Rattle.morph_base.specs.Limits.{most_attempts, most_workers}
 use Rattle.morph_base.specs.declared.plan.Origin.{Origin}
 use Rattle.morph_base.specs.declared.plan.Origin.TheVariants.{Base, Op as Written}
 use Rattle.morph_base.specs.declared.plan.Plan.{Plan}
@@ -45,7 +45,7 @@ decision_count s = length s.decisions.items
 pub record HasSizes (p : Plan) (s : CoreState) : Type 0 where
   pub words : length s.words.items ≡ op_count p
   pub records : length s.records.items ≡ op_count p * READS
-  pub claims : length s.claims.items ≡ WORKERS + 1
+  pub claims : length s.claims.items ≡ most_workers + 1
   pub decisions : length s.decisions.items ≡ event_count p
   pub entries : length s.published.items + s.published.room ≡ op_count p * (s.cap + 1)
   pub settlings : length s.settlings.items + s.settlings.room ≡ op_count p
@@ -57,7 +57,7 @@ pub record Fits (k : Claim) : Type 0 where
 
 -- a state of this plan: one that `new` and steps lead to
 pub record IsStateOf (p : Plan) (s : CoreState) : Type 0 where
-  pub small_cap : s.cap < ATTEMPTS
+  pub small_cap : s.cap < most_attempts
   pub sizes : HasSizes p s
   pub claims : (t : ℕ) (k : Claim) → slice_index_or s.claims.items t None ≡ Some k → Fits k
   pub sound : IsSound p s.cap (core_of s)

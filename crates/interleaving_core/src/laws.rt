@@ -4,7 +4,7 @@
 //! however many workers make them. A crate above cites the lemmas behind them, which stand in `proofs/`.
 ghost use Rattle.std.specs.Prelude.{◌≡◌, ℕ, ◌<◌, ◌≤◌, Bool, List, Some, count_by};
 ghost use Rattle.morph_base.specs.declared.plan.Plan.{Plan};
-ghost use Rattle.morph_base.specs.declared.word.TheConstants.{ATTEMPTS};
+ghost use Rattle.morph_base.specs.Limits.{most_attempts};
 ghost use Rattle.morph_base.specs.Plans.{IsPlan, op_count};
 ghost use Rattle.morph_base.specs.Words.{IsWord};
 ghost use Rattle.interleaving_core.specs.declared.event.CoreEvent.{CoreEvent};
@@ -19,31 +19,31 @@ ghost use Rattle.interleaving_core.specs.Schedules.{RestsOnAborted, IsFold, IsSe
 ///
 /// Whoever shares the words between threads uses it one step at a time.
 pub fn one_step()
-    ensures start { (p : Plan) (cap : ℕ) → cap < ATTEMPTS → IsSound p cap start }
-    ensures sound { (p : Plan) (cap : ℕ) (c : Core) (e : CoreEvent) → IsPlan p → cap < ATTEMPTS → IsSound p cap c → May p cap c e → IsSound p cap (after p c e) }
-    ensures grows { (p : Plan) (cap : ℕ) (c : Core) (e : CoreEvent) → IsPlan p → cap < ATTEMPTS → IsSound p cap c → May p cap c e → Grows p c (after p c e) }
+    ensures start { (p : Plan) (cap : ℕ) → cap < most_attempts → IsSound p cap start }
+    ensures sound { (p : Plan) (cap : ℕ) (c : Core) (e : CoreEvent) → IsPlan p → cap < most_attempts → IsSound p cap c → May p cap c e → IsSound p cap (after p c e) }
+    ensures grows { (p : Plan) (cap : ℕ) (c : Core) (e : CoreEvent) → IsPlan p → cap < most_attempts → IsSound p cap c → May p cap c e → Grows p c (after p c e) }
 {}
 
 /// After every list of steps that can be made one after another the state is sound. Therefore no settled value rests on
 /// an aborted version; settled values and decisions are the fold's; each operation is settled at most once, by one worker;
 /// each attempt is shown at most once, there are at most cap + 1 of them, and the last rests on settled values alone.
 pub fn every_schedule()
-    ensures sound { (p : Plan) (cap : ℕ) (es : List CoreEvent) (c : Core) → IsPlan p → cap < ATTEMPTS → Run p cap es c → IsSound p cap c }
-    ensures none_rests { (p : Plan) (cap : ℕ) (es : List CoreEvent) (c : Core) (o : ℕ) → IsPlan p → cap < ATTEMPTS → Run p cap es c → o < op_count p
+    ensures sound { (p : Plan) (cap : ℕ) (es : List CoreEvent) (c : Core) → IsPlan p → cap < most_attempts → Run p cap es c → IsSound p cap c }
+    ensures none_rests { (p : Plan) (cap : ℕ) (es : List CoreEvent) (c : Core) (o : ℕ) → IsPlan p → cap < most_attempts → Run p cap es c → o < op_count p
         → RestsOnAborted p c o → ⊥ }
-    ensures fold { (p : Plan) (cap : ℕ) (es : List CoreEvent) (c : Core) → IsPlan p → cap < ATTEMPTS → Run p cap es c → IsFold p c }
-    ensures once { (p : Plan) (cap : ℕ) (es : List CoreEvent) (c : Core) (o : ℕ) → IsPlan p → cap < ATTEMPTS → Run p cap es c
+    ensures fold { (p : Plan) (cap : ℕ) (es : List CoreEvent) (c : Core) → IsPlan p → cap < most_attempts → Run p cap es c → IsFold p c }
+    ensures once { (p : Plan) (cap : ℕ) (es : List CoreEvent) (c : Core) (o : ℕ) → IsPlan p → cap < most_attempts → Run p cap es c
         → (count_by (settles o) es ≤ 1) × IsSettledOnce p c }
-    ensures attempts { (p : Plan) (cap : ℕ) (es : List CoreEvent) (c : Core) → IsPlan p → cap < ATTEMPTS → Run p cap es c → HasFewAttempts p cap c }
+    ensures attempts { (p : Plan) (cap : ℕ) (es : List CoreEvent) (c : Core) → IsPlan p → cap < most_attempts → Run p cap es c → HasFewAttempts p cap c }
     ensures steps { (p : Plan) (cap : ℕ) (es : List CoreEvent) (c : Core) → Run p cap es c → TellsSteps es c }
 {}
 
 /// Two schedules that settle the same operation settle it with the same value, and two that decide on the same event
 /// decide the same.
 pub fn schedules_agree()
-    ensures values { (p : Plan) (cap m : ℕ) (es fs : List CoreEvent) (c d : Core) (o : ℕ) → IsPlan p → cap < ATTEMPTS → m < ATTEMPTS
+    ensures values { (p : Plan) (cap m : ℕ) (es fs : List CoreEvent) (c d : Core) (o : ℕ) → IsPlan p → cap < most_attempts → m < most_attempts
         → Run p cap es c → Run p m fs d → o < op_count p → IsSettledIn c o → IsSettledIn d o → value_in c o ≡ value_in d o }
-    ensures verdicts { (p : Plan) (cap m : ℕ) (es fs : List CoreEvent) (c d : Core) (i : ℕ) (a b : Bool) → IsPlan p → cap < ATTEMPTS → m < ATTEMPTS
+    ensures verdicts { (p : Plan) (cap m : ℕ) (es fs : List CoreEvent) (c d : Core) (i : ℕ) (a b : Bool) → IsPlan p → cap < most_attempts → m < most_attempts
         → Run p cap es c → Run p m fs d → c.decision i ≡ Some a → d.decision i ≡ Some b → a ≡ b }
 {}
 

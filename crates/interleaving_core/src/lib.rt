@@ -10,8 +10,6 @@ mod entry;
 mod event;
 pub mod laws;
 mod state;
-#[cfg(test)]
-mod tests;
 
 pub use entry::{Entry, Held, Record, Settling};
 pub use event::{CoreEvent, Step};

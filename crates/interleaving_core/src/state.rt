@@ -1,5 +1,5 @@
 ghost use Rattle.std.specs.Prelude.{◌≡◌, ℕ, ◌<◌, ◌↔◌, List, length, IsTrue, IfOk, Some};
-ghost use Rattle.morph_base.specs.declared.word.TheConstants.{ATTEMPTS};
+ghost use Rattle.morph_base.specs.Limits.{most_attempts};
 ghost use Rattle.morph_base.specs.Plans.{IsPlan, op_count, event_count};
 ghost use Rattle.interleaving_core.specs.declared.event.Step.TheVariants.{Taken, Refused};
 ghost use Rattle.interleaving_core.specs.Core.{start};
@@ -9,7 +9,7 @@ ghost use Rattle.interleaving_core.specs.Stored.{core_of, cap_of, word_count, de
 use crate::claim::Claim;
 use crate::entry::{Entry, Record, Settling};
 use crate::event::{CoreEvent, Step};
-use morph_base::{List, OpState, OpWord, OutOfMemory, Plan, READS, WORKERS};
+use morph_base::{List, OpWord, OutOfMemory, Plan, READS, WORKERS};
 use std::alloc::Global;
 
 mod effects;
@@ -44,21 +44,15 @@ impl CoreState {
     /// All memory that steps ever need is taken here.
     pub fn new(alloc: Global, plan: &Plan, cap: u8) -> Result<CoreState, OutOfMemory>
         requires plan { IsPlan plan.now }
-        requires cap { cap < ATTEMPTS }
+        requires cap { cap < most_attempts }
         ensures state { IfOk result (λ state. IsStateOf plan.now state) }
         ensures cap { IfOk result (λ state. cap_of state ≡ cap) }
         ensures start { IfOk result (λ state. core_of state ≡ start) }
     {
         let ops = plan.ops.len();
-        let blocked = OpWord {
-            value: 0,
-            attempt: 1,
-            state: OpState::Blocked,
-            by: 0,
-        };
         Ok(CoreState {
             cap,
-            words: List::filled(alloc, ops, blocked)?,
+            words: List::filled(alloc, ops, OpWord::blocked(1))?,
             records: List::filled(alloc, ops * READS, None)?,
             claims: List::filled(alloc, WORKERS as usize + 1, None)?,
             decisions: List::filled(alloc, plan.events.len(), None)?,

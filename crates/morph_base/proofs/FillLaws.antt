@@ -3,7 +3,6 @@ use Rattle.std.proofs.Common.{◌≡◌, ℕ, zero, suc, ◌<◌, ◌≤◌, Lis
 use Rattle.std.proofs.Math.Path.{fun_ext, subst₃}
 use Rattle.std.proofs.lemmas.List.{length-map, get_or-map, take-map, drop-map}
 use Rattle.std.proofs.lemmas.Simd.{map-map}
-use Rattle.morph_base.specs.declared.limits.TheConstants.{MAX}
 use Rattle.morph_base.specs.declared.key.Key.{Key}
 use Rattle.morph_base.specs.declared.key.Layout.{Layout}
 use Rattle.morph_base.specs.declared.operation.Op.{Op}
@@ -17,7 +16,7 @@ use Rattle.morph_base.specs.Numbering.{IsNumbering}
 use Rattle.morph_base.specs.Sources.{IsSource}
 use Rattle.morph_base.specs.Transactions.{Transaction}
 use Rattle.morph_base.specs.States.{State}
-use Rattle.morph_base.specs.Plans.{IsPlan, event_count, op_count, event_at, op_at, event_of, target, keys_of, key_at, origin_at, HasBases, IsSourceIn, PlanKeysIn, no_plan_op, transaction_in, transactions, filled_in, filled, filled_plan}
+use Rattle.morph_base.specs.Plans.{IsPlan, high_of, event_count, op_count, event_at, op_at, event_of, target, keys_of, key_at, origin_at, HasBases, IsSourceIn, PlanKeysIn, no_plan_op, transaction_in, transactions, filled_in, filled, filled_plan}
 use Rattle.morph_base.proofs.BaseLaws.{bases-opening}
 use Rattle.morph_base.proofs.OutcomeLaws.{keys_fit}
 
@@ -119,14 +118,18 @@ module _ (s : State) (p : Plan) where
   numbering-filled : NumberedBy (op_count p) (event_of p) (λ o. (op_at p o).op) → NumberedBy (op_count (filled_plan s p)) (event_of (filled_plan s p)) (λ o. (op_at (filled_plan s p) o).op)
   numbering-filled = subst₃ NumberedBy (sym op_count-filled) (sym event_of-filled) (sym op-filled)
 
-  source-filled : (i : ℕ) (key : Key) (origin : Origin) → s key ≤ MAX → IsSourceIn p i key origin → IsSourceIn (filled_plan s p) i key (fill (s key) origin)
-  source-filled i key origin small is = subst₃ (λ m targets events. IsSource m targets events i key (fill (s key) origin)) (sym op_count-filled) (sym target-filled) (sym event_of-filled) (in_p origin is)
+  high-filled : high_of (filled_plan s p) ≡ high_of p
+  unfolding high_of
+  high-filled = refl
+
+  source-filled : (i : ℕ) (key : Key) (origin : Origin) → IsSourceIn p i key origin → IsSourceIn (filled_plan s p) i key (fill (s key) origin)
+  source-filled i key origin is = subst₃ (λ m targets events. IsSource m targets events i key (fill (s key) origin)) (sym op_count-filled) (sym target-filled) (sym event_of-filled) (in_p origin is)
     where
       in_p : (origin : Origin) → IsSourceIn p i key origin → IsSourceIn p i key (fill (s key) origin)
-      in_p (Base v) is = (is.0, small)
+      in_p (Base v) is = is
       in_p (Written t) is = is
 
-  module _ (valid : IsPlan p) (small : (key : Key) → s key ≤ MAX) where
+  module _ (valid : IsPlan p) (small : (key : Key) → s key ≤ high_of p) where
     used_place : (o j : ℕ) → o < op_count p → j < length (keys_of p o) → origin_at (filled_plan s p) o j ≡ fill (s (key_at p o j)) (origin_at p o j)
     used_place o j lt below = origin_at-filled o j lt below (lt_of_lt_of_le below (keys_fit p o valid lt))
 
@@ -161,9 +164,12 @@ module _ (s : State) (p : Plan) where
           origin_at-unused o j (in_plan o lt) beyond ∙ valid.unused o j (in_plan o lt) beyond few;
       sources = λ o j lt below.
           let inside : j < length (keys_of p o) = in_keys o j below in
-          let found = source-filled (event_of p o) (key_at p o j) (origin_at p o j) (small (key_at p o j)) (valid.sources o j (in_plan o lt) inside) in
+          let found = source-filled (event_of p o) (key_at p o j) (origin_at p o j) (valid.sources o j (in_plan o lt) inside) in
           subst₃ (IsSourceIn (filled_plan s p)) (ap (λ events. events o) (sym event_of-filled)) (sym (key_at-filled o j)) (sym (used_place o j (in_plan o lt) inside)) found;
       bases = bases-opening (filled_plan s p) s places_fit has_bases-filled;
+      small = λ o j v lt below is.
+          subst (λ x. x ≤ high_of (filled_plan s p)) (sym (has_bases-filled o j v lt below is))
+          (subst (λ h. s (key_at (filled_plan s p) o j) ≤ h) (sym high-filled) (small (key_at (filled_plan s p) o j)));
     }
 
 -- ---- what filling leaves alone

@@ -3,13 +3,12 @@ use Rattle.std.proofs.Common.{◌≡◌, ℕ, zero, suc, ◌<◌, ◌≤◌, [],
 use Rattle.std.proofs.Math.Path.{ap₂}
 use Rattle.std.proofs.lemmas.List.{length_push, get_or_push, get_or_append_left}
 use Rattle.std.proofs.lemmas.Bool.{cases_eq}
-use Rattle.morph_base.specs.declared.limits.TheConstants.{MAX}
 use Rattle.morph_base.specs.declared.plan.Plan.{Plan}
-use Rattle.morph_base.specs.Plans.{IsPlan, op_count}
+use Rattle.morph_base.specs.Plans.{IsPlan, high_of, op_count}
 use Rattle.morph_base.specs.Clean.{source, outcome}
 use Rattle.morph_base.specs.Guesses.{IsGuess, guesses, guess}
 use Rattle.morph_base.proofs.OutcomeLaws.{Precedes, outcome-same, source-same}
-use Rattle.morph_base.proofs.BoundLaws.{source-small, outcome-small}
+use Rattle.morph_base.proofs.BoundLaws.{source-within, outcome-within}
 
 -- what an operation is guessed to be, by an assignment
 abbrev pub guess_from : Plan → (ℕ → ℕ) → ℕ → ℕ
@@ -81,17 +80,17 @@ guess_alone p g o valid is lt = guess_agree p g (guess p) valid is (guess_is_gue
 
 -- ---- a guess is a value
 
-guess-small_below : (p : Plan) (g : ℕ → ℕ) → IsPlan p → IsGuess p g → (n o : ℕ) → o < n → o < op_count p → g o ≤ MAX
+guess-small_below : (p : Plan) (g : ℕ → ℕ) → IsPlan p → IsGuess p g → (n o : ℕ) → o < n → o < op_count p → g o ≤ high_of p
 guess-small_below p g valid is zero o lt in_range = absurd (not-suc-le-zero lt)
 guess-small_below p g valid is (suc n) o lt in_range =
     made (λ t precedes. guess-small_below p g valid is n t (let before = precedes.number_before in omega arith) precedes.in_range)
   where
-    either : ((t : ℕ) → Precedes p t o → g t ≤ MAX) → (found : Option ℕ) → outcome p g o ≡ found → unwrap_or found (source p g o 0) ≤ MAX
-    either before None found = source-small p g o 0 valid in_range (zero-lt-suc _) before
-    either before (Some x) found = outcome-small p g o x valid in_range before found
+    either : ((t : ℕ) → Precedes p t o → g t ≤ high_of p) → (found : Option ℕ) → outcome p g o ≡ found → unwrap_or found (source p g o 0) ≤ high_of p
+    either before None found = source-within p valid (high_of p) (le_refl (high_of p)) g o 0 in_range (zero-lt-suc _) before
+    either before (Some x) found = outcome-within p valid (high_of p) (le_refl (high_of p)) g o x in_range before found
 
-    made : ((t : ℕ) → Precedes p t o → g t ≤ MAX) → g o ≤ MAX
-    made before = subst (λ x. x ≤ MAX) (sym (is.at o in_range)) (either before (outcome p g o) refl)
+    made : ((t : ℕ) → Precedes p t o → g t ≤ high_of p) → g o ≤ high_of p
+    made before = subst (λ x. x ≤ high_of p) (sym (is.at o in_range)) (either before (outcome p g o) refl)
 
-pub guess-small : (p : Plan) (g : ℕ → ℕ) (o : ℕ) → IsPlan p → IsGuess p g → o < op_count p → g o ≤ MAX
+pub guess-small : (p : Plan) (g : ℕ → ℕ) (o : ℕ) → IsPlan p → IsGuess p g → o < op_count p → g o ≤ high_of p
 guess-small p g o valid is lt = guess-small_below p g valid is (suc o) o (le_refl (suc o)) lt

@@ -21,3 +21,4 @@ pub mod GuessLaws
 pub mod KnownLaws
 pub mod WordLaws
 pub mod ShapeLaws
+pub mod ValidLemmas

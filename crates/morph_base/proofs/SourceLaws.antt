@@ -42,7 +42,7 @@ state_at-unwritten p s valid (suc i) key none =
 -- what a source stands for is the value of its key before the event
 pub state_at-source : (p : Plan) (s : State) → IsPlan p → (i : ℕ) (key : Key) (origin : Origin) → IsSourceIn p i key origin
     → ((v : ℕ) → origin ≡ Base v → v ≡ s key) → state_at p s i key ≡ from (value_at p s) origin
-state_at-source p s valid i key (Base v) is based = state_at-unwritten p s valid i key is.0 ∙ sym (based v refl)
+state_at-source p s valid i key (Base v) is based = state_at-unwritten p s valid i key is ∙ sym (based v refl)
 state_at-source p s valid i key (Written w) is based = state_at-written p s valid i key w is
 
 -- the key that an operation reads at a place has, before its event, the value of its source there

@@ -1,7 +1,7 @@
 -- No two words pack to one number.
 use Rattle.std.proofs.Common.{◌≡◌, ℕ, zero, suc, ◌+◌, ◌*◌, ◌<◌, ◌≤◌, refl, sym, ap, ◌∙◌, arith, lit<}
 use Rattle.morph_base.specs.declared.limits.TheConstants.{MAX}
-use Rattle.morph_base.specs.declared.word.TheConstants.{ATTEMPTS, VALUES}
+use Rattle.morph_base.specs.Limits.{most_attempts, value_room}
 use Rattle.morph_base.specs.declared.word.OpState.{OpState}
 use Rattle.morph_base.specs.declared.word.OpState.TheVariants.{Blocked, Ready, Claimed, Executed, Failed, Spread, Settled, SettledAborted}
 use Rattle.morph_base.specs.declared.word.OpWord.{OpWord}
@@ -43,8 +43,8 @@ pub one_state : (s t : OpState) → code_of s ≡ code_of t → s ≡ t
 one_state s t e = sym (state_of-code_of s) ∙ ap state_of e ∙ state_of-code_of t
 
 -- the four parts of the number, read off
-parts : (x y a b s t i j : ℕ) → x ≤ MAX → y ≤ MAX → a ≤ ATTEMPTS → b ≤ ATTEMPTS → s < 8 → t < 8
-    → x + VALUES * (a + 16 * (s + 16 * i)) ≡ y + VALUES * (b + 16 * (t + 16 * j)) → (x ≡ y) × (a ≡ b) × (s ≡ t) × (i ≡ j)
+parts : (x y a b s t i j : ℕ) → x ≤ MAX → y ≤ MAX → a ≤ most_attempts → b ≤ most_attempts → s < 8 → t < 8
+    → x + value_room * (a + 16 * (s + 16 * i)) ≡ y + value_room * (b + 16 * (t + 16 * j)) → (x ≡ y) × (a ≡ b) × (s ≡ t) × (i ≡ j)
 parts x y a b s t i j x_small y_small a_small b_small s_small t_small e = (omega arith, omega arith, omega arith, omega arith)
 
 pub one_word : (v w : OpWord) → IsWord v → IsWord w → packed v ≡ packed w → v ≡ w

@@ -1,4 +1,5 @@
 pub mod Contents
+pub mod Limits
 pub mod Functions
 pub mod Operations
 pub mod Transactions

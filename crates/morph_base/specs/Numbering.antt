@@ -1,7 +1,8 @@
 -- How events and operations are numbered: events by rising timestamp, operations by event and then by operation order.
 -- Over functions of a number, so that every structure that has such numbers cites the one definition.
 use Rattle.std.specs.Prelude.{◌≡◌, ℕ, ◌+◌, ◌≤◌, ◌<◌}
-use Rattle.morph_base.specs.declared.limits.TheConstants.{EVENT_OPS, EVENTS, LATEST}
+use Rattle.morph_base.specs.declared.limits.TheConstants.{EVENT_OPS, EVENTS}
+use Rattle.morph_base.specs.Limits.{latest_time}
 use Rattle.morph_base.specs.declared.operation.Op.{Op}
 use Rattle.morph_base.specs.Operations.{IsShaped}
 
@@ -14,7 +15,7 @@ pub record IsWithin (start many o : ℕ) : Type 0 where
 -- and belongs to event `event_of o`
 pub record IsNumbering (n m : ℕ) (ts first count event_of : ℕ → ℕ) (op : ℕ → Op) : Type 0 where
   pub few : n ≤ EVENTS
-  pub times : (i : ℕ) → i < n → (0 < ts i) × (ts i ≤ LATEST)
+  pub times : (i : ℕ) → i < n → (0 < ts i) × (ts i ≤ latest_time)
   pub counts : (i : ℕ) → i < n → (0 < count i) × (count i ≤ EVENT_OPS)
   -- each operation is one of its event's, and of no other's
   pub placed : (o : ℕ) → o < m → (event_of o < n) × IsWithin (first (event_of o)) (count (event_of o)) o

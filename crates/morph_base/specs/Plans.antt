@@ -1,6 +1,6 @@
 -- A plan: what its numbers name, when it is valid, what it comes to by the fold, and what a `Settled` of it is.
 use Rattle.std.specs.Prelude.{◌≡◌, ℕ, ◌+◌, ◌≤◌, ◌<◌, Bool, List, [], ◌∷◌, length, take, drop, map, replicate, All, Option, Some, None, if◌then◌else◌, unwrap_or, slice_index, slice_index_or}
-use Rattle.morph_base.specs.declared.limits.TheConstants.{READS, PARAMS, WORKERS}
+use Rattle.morph_base.specs.declared.limits.TheConstants.{MAX, READS, PARAMS}
 use Rattle.morph_base.specs.declared.key.Key.{Key}
 use Rattle.morph_base.specs.declared.key.Layout.{Layout}
 use Rattle.morph_base.specs.declared.operation.Op.{Op}
@@ -15,6 +15,7 @@ use Rattle.morph_base.specs.declared.plan.Settled.{Settled}
 use Rattle.morph_base.specs.Operations.{reads, same_key, no_key, InLayout}
 use Rattle.morph_base.specs.Transactions.{Transaction, transactions_of, by_time}
 use Rattle.morph_base.specs.States.{State, after_all, commits}
+use Rattle.morph_base.specs.Limits.{most_workers}
 use Rattle.morph_base.specs.Numbering.{IsNumbering, IsWithin}
 use Rattle.morph_base.specs.Sources.{IsSource, IsLastWriter, IsUnwritten}
 
@@ -51,6 +52,10 @@ module _ (p : Plan) where
 
   abbrev pub target : ℕ → Key
   target o = (op_at o).op.key
+
+  -- the greatest value of the plan: no value of it is above
+  unfoldable pub high_of : ℕ
+  high_of = MAX
 
   -- the keys that it reads, and at each place the key and where the value comes from
   abbrev pub keys_of : ℕ → List Key
@@ -110,13 +115,15 @@ opening_of (q ∷ qs) key = unwrap_or (base_in (reads q.op) q.origins key) (open
 abbrev pub opening : Plan → State
 opening p = opening_of p.ops.items
 
--- a valid plan: well numbered, each place with its source, each base value a value and the same for the same key
+-- a valid plan: well numbered, each place with its source, each base value the same for the same key and not above the
+-- greatest value of the plan
 pub record IsPlan (p : Plan) : Type 0 where
   pub numbering : IsNumbering (event_count p) (op_count p) (λ i. (event_at p i).ts) (λ i. (event_at p i).first) (λ i. (event_at p i).count) (event_of p) (λ o. (op_at p o).op)
   pub places : (o : ℕ) → o < op_count p → length (op_at p o).origins ≡ READS
   pub unused : (o j : ℕ) → o < op_count p → length (keys_of p o) ≤ j → j < READS → origin_at p o j ≡ Base 0
   pub sources : (o j : ℕ) → o < op_count p → j < length (keys_of p o) → IsSourceIn p (event_of p o) (key_at p o j) (origin_at p o j)
   pub bases : HasBases p (opening p)
+  pub small : (o j v : ℕ) → o < op_count p → j < length (keys_of p o) → origin_at p o j ≡ Base v → v ≤ high_of p
 
 -- the plan has the events of the batch, by rising timestamp, with their operations
 abbrev pub IsPlanOf : Batch → Plan → Type 0
@@ -146,7 +153,7 @@ pub record IsSettledOf (p : Plan) (r : Settled) : Type 0 where
   pub values : length r.values.items ≡ op_count p
   pub verdicts : length r.committed.items ≡ event_count p
   pub workers : length r.by.items ≡ op_count p
-  pub tags : All (λ w. w ≤ WORKERS) r.by.items
+  pub tags : All (λ w. w ≤ most_workers) r.by.items
   pub value : (o : ℕ) → o < op_count p → slice_index r.values.items o ≡ final p o
   pub committed : (i : ℕ) (d : Bool) → i < event_count p → slice_index_or r.committed.items i d ≡ verdict p i
 

@@ -1,7 +1,6 @@
 -- The source of a read: the last operation, of an earlier event, whose target is the key read; where there is none, the
 -- value before the batch. Over functions of a number: n operations, their targets and their events.
 use Rattle.std.specs.Prelude.{◌≡◌, ℕ, ◌≤◌, ◌<◌}
-use Rattle.morph_base.specs.declared.limits.TheConstants.{MAX}
 use Rattle.morph_base.specs.declared.key.Key.{Key}
 use Rattle.morph_base.specs.declared.plan.Origin.{Origin}
 use Rattle.morph_base.specs.declared.plan.Origin.TheVariants.{Base, Op as Written}
@@ -24,5 +23,5 @@ module _ (n : ℕ) (target : ℕ → Key) (event_of : ℕ → ℕ) where
 
   -- where an operation of event i that reads the key has its value from
   abbrev pub IsSource : ℕ → Key → Origin → Type 0
-  IsSource i key (Base v) = IsUnwritten i key × (v ≤ MAX)
+  IsSource i key (Base v) = IsUnwritten i key
   IsSource i key (Written s) = IsLastWriter i key s

@@ -2,7 +2,8 @@
 use Rattle.std.specs.Prelude.{ℕ, ◌≤◌, ◌<◌, nat_le, if◌then◌else◌, List, [], ◌∷◌, length, map, All}
 use Rattle.std.specs.List.{IsDistinct}
 use Rattle.std.specs.Prelude.{nat_eq}
-use Rattle.morph_base.specs.declared.limits.TheConstants.{EVENT_OPS, EVENTS, LATEST}
+use Rattle.morph_base.specs.declared.limits.TheConstants.{EVENT_OPS, EVENTS}
+use Rattle.morph_base.specs.Limits.{latest_time}
 use Rattle.morph_base.specs.declared.key.Key.{Key}
 use Rattle.morph_base.specs.declared.key.Layout.{Layout}
 use Rattle.morph_base.specs.declared.operation.Op.{Op}
@@ -29,10 +30,10 @@ targets e = map (λ op. op.key) e.ops
 abbrev pub time : Transaction → ℕ
 time e = e.ts
 
--- a transaction has 1 to EVENT_OPS operations of valid shape with different targets, and its time is from 1 to LATEST
+-- a transaction has 1 to EVENT_OPS operations of valid shape with different targets, and its time is from 1 to the latest
 pub record IsTransaction (e : Transaction) : Type 0 where
   pub after_start : 0 < e.ts
-  pub latest : e.ts ≤ LATEST
+  pub latest : e.ts ≤ latest_time
   pub some : 0 < length e.ops
   pub few : length e.ops ≤ EVENT_OPS
   pub shaped : All IsShaped e.ops

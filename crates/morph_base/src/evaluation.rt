@@ -1,9 +1,11 @@
 ghost use Rattle.std.specs.Prelude.{◌≡◌, ℕ, ◌+◌, ◌-◌, ◌^◌, ◌<◌, ◌≤◌, length, min, sum, All, IfSome};
 ghost use Rattle.morph_base.specs.Functions.{at_most as at_most_of, toll as toll_of, value_of};
 ghost use Rattle.morph_base.specs.Operations.{IsShaped};
+ghost use Rattle.morph_base.specs.Words.{finished};
 
 use crate::limits::MAX;
 use crate::operation::{Func, Op};
+use crate::word::{OpState, OpWord};
 
 #[cfg(test)]
 mod tests;
@@ -38,6 +40,28 @@ pub fn eval(op: &Op, xs: &[u64]) -> Option<u64>
             }
         }
         Func::Charge => at_most(c, x.saturating_add(toll(xs[1], xs[2]))),
+    }
+}
+
+/// The word that an attempt at an operation leaves, on the values of its places.
+///
+/// It is executed with the operation's answer, or failed with the value of place 0 where there is none. `xs` and the
+/// operation are as for [`eval`]. Attempts are numbered from 1, up to [`ATTEMPTS`](crate::ATTEMPTS).
+pub fn evaluate(op: &Op, xs: &[u64], attempt: u8) -> OpWord
+    requires shaped { IsShaped op.now }
+    requires reads { length xs.now ≡ op.now.n_params + 1 }
+    requires values { All (λ x. x ≤ MAX) xs.now }
+    ensures { result ≡ finished op.now attempt xs.now }
+{
+    let (value, state) = match eval(op, xs) {
+        Some(value) => (value, OpState::Executed),
+        None => (xs[0], OpState::Failed),
+    };
+    OpWord {
+        value,
+        attempt,
+        state,
+        by: 0,
     }
 }
 

@@ -1,4 +1,4 @@
-ghost use Rattle.std.specs.Prelude.{◌↔◌, IsTrue};
+ghost use Rattle.std.specs.Prelude.{◌≡◌, ◌↔◌, IsTrue};
 ghost use Rattle.morph_base.specs.Operations.{InLayout};
 
 /// A place where a value is kept: an id in a table. Keys are ordered by table, then by id.
@@ -6,6 +6,15 @@ ghost use Rattle.morph_base.specs.Operations.{InLayout};
 pub struct Key {
     pub table: u8,
     pub id: u32,
+}
+
+impl Key {
+    /// The place of an id in a table.
+    pub fn of(table: u8, id: u32) -> Self
+        ensures { result ≡ record { table = table; id = id } }
+    {
+        Key { table, id }
+    }
 }
 
 /// Which keys there are: tables numbered from 0 and below `tables`, each with ids from 0 and below `size`.

@@ -35,10 +35,11 @@ mod outcome;
 pub mod plain;
 mod plan;
 mod strategy;
+mod validity;
 mod values;
 mod word;
 
-pub use evaluation::eval;
+pub use evaluation::{eval, evaluate};
 pub use event::{Batch, Event};
 pub use key::{Key, Layout};
 pub use limits::{EVENT_OPS, EVENTS, LATEST, MAX, PARAMS, READS, WORKERS};

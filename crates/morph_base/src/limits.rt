@@ -1,4 +1,6 @@
-//! The limits of values, events and batches, each a constant that code and definitions share.
+//! The limits of values, events, batches and words. The greatest value, the reads of an operation, and the operations and
+//! events that there may be are constants that code and definitions share: raise them here. The others are checked against
+//! the definitions, which have numbers of their own.
 
 /// The greatest value that a key can hold, and the greatest constant of an operation: 10^12.
 pub const MAX: u64 = 1_000_000_000_000;
@@ -20,3 +22,6 @@ pub const EVENTS: usize = 10_240;
 
 /// The most workers, which are numbered from 1.
 pub const WORKERS: u8 = 16;
+
+/// The number of values that a packed word has room for: 2^40, which is above [`MAX`].
+pub(crate) const VALUES: u64 = 1_099_511_627_776;

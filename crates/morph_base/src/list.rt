@@ -109,7 +109,8 @@ impl<T> List<T> {
         ensures empty { IsNone result ↔ (self.old.items ≡ []) }
         ensures last { IfSome result (λ item. self.old.items ≡ self.new.items ++ item ∷ []) }
         ensures none { IfNone result (self.new.items ≡ self.old.items) }
-        ensures room { self.old.room ≤ self.new.room }
+        ensures room { IfSome result (λ _. self.new.room ≡ self.old.room + 1) }
+        ensures kept { IfNone result (self.new.room ≡ self.old.room) }
     {
         self.vec.pop()
     }
@@ -176,6 +177,11 @@ mod tests {
         }
         let empty: List<u64> = List::new(rt.alloc());
         assert_eq!(rt; list.as_slice(), empty.as_slice());
+        list.push(5)?;
+        if list.pop().is_some() {
+            list.add(4);
+        }
+        assert_eq!(rt; list.as_slice(), [4].as_slice());
         assert_eq!(rt;
             List::filled(rt.alloc(), 2, 5)?.as_slice(),
             [5, 5].as_slice()

@@ -1,6 +1,13 @@
+ghost use Rattle.std.specs.Prelude.{◌≡◌, ◌<◌, ◌≤◌, length, slice_index};
+ghost use Rattle.morph_base.specs.Clean.{from};
+ghost use Rattle.morph_base.specs.Known.{IsKnown};
+ghost use Rattle.morph_base.specs.Operations.{IsShaped, reads};
+ghost use Rattle.morph_base.specs.Words.{value_of_word};
+
 use crate::limits::READS;
 use crate::list::List;
 use crate::operation::Op;
+use crate::word::OpWord;
 
 /// Where a place of an operation gets its value.
 #[derive(Clone, Copy, Debug, PartialEq, Eq)]
@@ -9,6 +16,30 @@ pub enum Origin {
     Base(u64),
     /// The value that the operation of this number leaves.
     Op(u32),
+}
+
+impl Origin {
+    /// The value of the source, where `values` has those of operations: a base stands for itself.
+    pub fn value_in(self, values: &List<u64>) -> u64
+        requires { IsKnown (λ t. t < length values.now.items) self }
+        ensures { result ≡ from (slice_index values.now.items) self }
+    {
+        match self {
+            Origin::Base(value) => value,
+            Origin::Op(source) => *values.get(source as usize),
+        }
+    }
+
+    /// The same, where `words` has the words of operations.
+    pub fn word_value_in(self, words: &List<OpWord>) -> u64
+        requires { IsKnown (λ t. t < length words.now.items) self }
+        ensures { result ≡ from (value_of_word words.now.items) self }
+    {
+        match self {
+            Origin::Base(value) => value,
+            Origin::Op(source) => words.get(source as usize).value,
+        }
+    }
 }
 
 /// An operation of a plan. Place 0 reads its target, the places from 1 on its parameters.
@@ -21,6 +52,18 @@ pub struct PlanOp {
     pub origins: [Origin; READS],
     /// 1 and the greatest level of the operations that it reads from; 1 where there is none.
     pub level: u32,
+}
+
+impl PlanOp {
+    /// How many places it reads: its target's, and those of its parameters.
+    pub fn places(&self) -> usize
+        requires { IsShaped self.now.op }
+        ensures places { result ≡ length (reads self.now.op) }
+        ensures some { 0 < result }
+        ensures few { result ≤ READS }
+    {
+        usize::from(self.op.n_params) + 1
+    }
 }
 
 /// An event of a plan: its operations are those numbered from `first` on, `count` of them.

@@ -1,15 +1,12 @@
 ghost use Rattle.std.specs.Prelude.{◌≡◌, ◌<◌, ◌↔◌, IsTrue, IsSome, IfSome, Some};
 ghost use Rattle.morph_base.specs.declared.word.OpWord.{OpWord};
 ghost use Rattle.morph_base.specs.declared.word.OpState.{OpState};
-ghost use Rattle.morph_base.specs.Words.{IsWord, packed, code_of, is_idle as is_idle_in, is_evaluated as is_evaluated_in, is_settled as is_settled_in, has_worker as has_worker_in};
+ghost use Rattle.morph_base.specs.Words.{IsWord, packed, code_of, is_idle as is_idle_in, is_evaluated as is_evaluated_in, is_settled as is_settled_in, has_worker as has_worker_in, is_failed as is_failed_in, is_open as is_open_in, blocked as blocked_at};
 
-use crate::limits::{MAX, WORKERS};
+use crate::limits::{MAX, VALUES, WORKERS};
 
 /// The most attempts at an operation, which are numbered from 1.
 pub const ATTEMPTS: u8 = 8;
-
-/// The number of values that a packed word has room for: 2^40, which is above [`MAX`].
-const VALUES: u64 = 1_099_511_627_776;
 
 /// Where an operation stands.
 #[derive(Clone, Copy, Debug, PartialEq, Eq)]
@@ -76,6 +73,20 @@ impl OpState {
         )
     }
 
+    /// Whether the function failed on what was read.
+    pub fn is_failed(self) -> bool
+        ensures { result ≡ is_failed_in self }
+    {
+        matches!(self, OpState::Failed)
+    }
+
+    /// Whether nobody holds the operation, and it is not settled.
+    pub fn is_open(self) -> bool
+        ensures { result ≡ is_open_in self }
+    {
+        !self.has_worker()
+    }
+
     /// The number of the state in a packed word.
     fn code(self) -> u64
         ensures code { result ≡ code_of self }
@@ -113,6 +124,18 @@ impl OpState {
 }
 
 impl OpWord {
+    /// The word of an operation that has no value at this attempt yet and may not be claimed.
+    pub fn blocked(attempt: u8) -> OpWord
+        ensures { result ≡ blocked_at attempt }
+    {
+        OpWord {
+            value: 0,
+            attempt,
+            state: OpState::Blocked,
+            by: 0,
+        }
+    }
+
     /// Whether the word is in range.
     pub fn is_in_range(self) -> bool
         ensures { IsTrue result ↔ IsWord self }

@@ -1,5 +1,5 @@
 -- The operations of a level, and what holds once those of one level more were tried.
-use Rattle.std.proofs.Common.{◌≡◌, ◌≢◌, ℕ, zero, suc, ◌+◌, ◌<◌, ◌≤◌, Bool, true, false, ◌==◌, ◌&&◌, ◌||◌, if◌then◌else◌, List, [], ◌∷◌, length, filter, get_or, slice_index, Option, Some, None, All, zero-le, zero-lt-suc, le_refl, refl, sym, ap, ◌∙◌, subst, inl, inr, arith, zero-add}
+use Rattle.std.proofs.Common.{le_trans, ◌≡◌, ◌≢◌, ℕ, zero, suc, ◌+◌, ◌<◌, ◌≤◌, Bool, true, false, ◌==◌, ◌&&◌, ◌||◌, if◌then◌else◌, List, [], ◌∷◌, length, filter, get_or, slice_index, Option, Some, None, All, zero-le, zero-lt-suc, le_refl, refl, sym, ap, ◌∙◌, subst, inl, inr, arith, zero-add}
 use Rattle.std.specs.List.{range_with_len}
 use Rattle.std.proofs.lemmas.Bool.{cases_eq, eqb-true}
 use Rattle.std.proofs.lemmas.Bool.Decides.{eqb_tells}
@@ -17,11 +17,12 @@ use Rattle.morph_base.specs.Functions.{value_of}
 use Rattle.morph_base.specs.Clean.{from, source}
 use Rattle.morph_base.specs.Graphs.{IsGraph, below, op_depth}
 use Rattle.morph_base.specs.Plans.{IsPlan, op_count, op_at, keys_of, origin_at, origins_of}
-use Rattle.morph_base.proofs.BoundLaws.{value_of-small}
+use Rattle.morph_base.proofs.BoundLaws.{high_of-small, value_of-small}
 use Rattle.morph_base.proofs.LevelLaws.{op_level-rises, op_level-range, length-op_levels}
 use Rattle.morph_base.proofs.OutcomeLaws.{map-agree, source_precedes}
 use Rattle.abort_lazy.specs.declared.attempts.Attempts.{Attempts}
-use Rattle.abort_lazy.specs.Attempts.{AreTried, IsTried, ReadWords, evaluated, word_of, value_in, word_at, records_at}
+use Rattle.morph_base.specs.Words.{word_of}
+use Rattle.abort_lazy.specs.Attempts.{AreTried, IsTried, ReadWords, evaluated, value_in, word_at, records_at}
 use Rattle.morph_engine.specs.Tries.{AreTriedOn, AreTriedUpTo, IsReady, first_word, is_in, reads_on}
 
 -- ---- numbers in a range
@@ -116,7 +117,7 @@ module _ (p : Plan) (valid : IsPlan p) (graph : IsGraph p) (l o : ℕ) (lt : o <
   ready a before = record { inside = lt; small = each_read (value_in a) (λ x. x ≤ MAX) (λ j below. of_origin j below (origin_at p o j) refl) }
     where
       of_origin : (j : ℕ) → j < length (keys_of p o) → (origin : Origin) → origin_at p o j ≡ origin → from (value_in a) origin ≤ MAX
-      of_origin j below (Base v) is = (rw is at (valid.sources o j lt below)).1
+      of_origin j below (Base v) is = le_trans (valid.small o j v lt below is) (high_of-small p valid)
       of_origin j below (Written t) is =
           (let there = source_before j t below is in value-small p a t valid there.0 (before.tried t there.0 there.1))
 

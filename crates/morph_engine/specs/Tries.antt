@@ -7,12 +7,8 @@ use Rattle.morph_base.specs.declared.word.OpWord.{OpWord}
 use Rattle.morph_base.specs.Clean.{from}
 use Rattle.morph_base.specs.Plans.{op_count, op_at, keys_of, origins_of}
 use Rattle.abort_lazy.specs.declared.attempts.Attempts.{Attempts}
-use Rattle.abort_lazy.specs.Attempts.{IsTried, blocked, evaluated, value_in, word_at, records_at}
+use Rattle.abort_lazy.specs.Attempts.{IsTried, evaluated, value_in, word_at, records_at}
 use Rattle.morph_engine.specs.declared.tries.Tried.{Tried}
-
--- the value of each operation's word
-abbrev pub value_of_word : List OpWord → ℕ → ℕ
-value_of_word words o = (slice_index_or words o blocked).value
 
 module _ (p : Plan) (v : ℕ → ℕ) where
   -- what operation o reads where the words have these values, and the word that its first attempt leaves

@@ -2,8 +2,9 @@ ghost use Rattle.std.specs.Prelude.{◌≡◌, ℕ, ◌+◌, ◌≤◌, ◌<◌,
 ghost use Rattle.std.specs.List.{flat_map};
 ghost use Rattle.morph_base.specs.Graphs.{IsValidPlan};
 ghost use Rattle.morph_base.specs.Plans.{IsPlan, op_count};
+ghost use Rattle.morph_base.specs.Words.{value_of_word};
 ghost use Rattle.abort_lazy.specs.Attempts.{AreMadeFor, AreTried, ReadWords, value_in};
-ghost use Rattle.morph_engine.specs.Tries.{IsReady, IsFirstTry, AreFirstTries, AreTriedOn, AreTriedUpTo, value_of_word};
+ghost use Rattle.morph_engine.specs.Tries.{IsReady, IsFirstTry, AreFirstTries, AreTriedOn, AreTriedUpTo};
 
 use crate::parts::{Part, cut};
 use crate::tries::{Tried, try_op};
@@ -142,6 +143,6 @@ fn keep_op(plan: &Plan, o: usize, tried: &Tried, attempts: &mut Attempts)
     requires tried { IsFirstTry plan.now values o tried.now }
     ensures { AreTriedOn plan.now values (o ∷ []) attempts.old attempts.new }
 {
-    let places = usize::from(plan.ops.get(o).op.n_params) + 1;
+    let places = plan.ops.get(o).places();
     attempts.keep(o, &tried.records[..places], tried.word);
 }

@@ -3,9 +3,6 @@ ghost use Rattle.std.specs.Prelude.{◌≡◌, ◌≤◌, ◌<◌};
 ghost use Rattle.morph_base.specs.declared.limits.TheConstants.{WORKERS};
 ghost use Rattle.morph_base.specs.Transactions.{IsBatch, BatchKeysIn};
 
-mod keys;
-
-use self::keys::has_keys_in;
 use super::*;
 use crate::levels::try_levels;
 use abort_lazy::Attempts;
@@ -16,7 +13,6 @@ use morph_base::{
 use std::alloc::Global;
 use std::test::Fail;
 use std::thread::Threads;
-use txn_splitter::is_valid;
 use version_table::State;
 use worker_gate::FreeGate;
 
@@ -35,17 +31,13 @@ const STRATEGY: Strategy = Strategy {
     abort: Abort::Lazy,
 };
 
-fn key(table: u8, id: u32) -> Key {
-    Key { table, id }
-}
-
 /// A deposit of money and assets.
 fn deposit(alloc: Global, ts: u64, to: u32, money: u64, assets: u64) -> Result<Event, OutOfMemory> {
     let ops = List::from_slice(
         alloc,
         &[
-            Op::new(Func::Add, key(ACCOUNTS, to), &[], money),
-            Op::new(Func::Add, key(ASSETS, to), &[], assets),
+            Op::new(Func::Add, Key::of(ACCOUNTS, to), &[], money),
+            Op::new(Func::Add, Key::of(ASSETS, to), &[], assets),
         ],
     )?;
     Ok(Event { ts, ops })
@@ -60,14 +52,14 @@ fn transfer(
     money: u64,
     assets: u64,
 ) -> Result<Event, OutOfMemory> {
-    let (account, asset) = (key(ACCOUNTS, from), key(ASSETS, from));
+    let (account, asset) = (Key::of(ACCOUNTS, from), Key::of(ASSETS, from));
     let ops = List::from_slice(
         alloc,
         &[
             Op::new(Func::Sub, account, &[], money),
             Op::new(Func::Sub, asset, &[], assets),
-            Op::new(Func::MoveIn, key(ACCOUNTS, to), &[account], money),
-            Op::new(Func::MoveIn, key(ASSETS, to), &[asset], assets),
+            Op::new(Func::MoveIn, Key::of(ACCOUNTS, to), &[account], money),
+            Op::new(Func::MoveIn, Key::of(ASSETS, to), &[asset], assets),
         ],
     )?;
     Ok(Event { ts, ops })
@@ -102,7 +94,7 @@ fn values_of(alloc: Global, state: &State, keys: &[Key]) -> Result<Vec<u64>, Out
 /// Whether a state has the values of a fold in all ids of a table.
 fn has_values(state: &State, values: &Values, table: u8) -> bool {
     (0..LAYOUT.size).all(|id| {
-        let key = Key { table, id };
+        let key = Key::of(table, id);
         state.layout().contains(key)
             && values.layout().contains(key)
             && state.get(key) == values.get(key)
@@ -148,7 +140,7 @@ fn version<R: Threads + Sync>(
     let mut engine = Engine::new(alloc, LAYOUT)?;
     let plan = engine.plan(alloc, batch)?;
     let end = engine.run_batch(rt, alloc, plan, &STRATEGY, 2, &FreeGate)?;
-    let account = Key { table: 0, id: 0 };
+    let account = Key::of(ACCOUNTS, 0);
     Ok(before.state().version(&end.plan, &end.settled, account, ts))
 }
 
@@ -197,17 +189,16 @@ fn batch_end<R: Threads + Sync>(
 #[test]
 fn values_after_four_events(rt: HostRuntime) -> Result<(), Fail> {
     let keys = [
-        key(ACCOUNTS, 0),
-        key(ACCOUNTS, 1),
-        key(ACCOUNTS, 2),
-        key(ASSETS, 0),
-        key(ASSETS, 1),
-        key(ASSETS, 2),
+        Key::of(ACCOUNTS, 0),
+        Key::of(ACCOUNTS, 1),
+        Key::of(ACCOUNTS, 2),
+        Key::of(ASSETS, 0),
+        Key::of(ASSETS, 1),
+        Key::of(ASSETS, 2),
     ];
     for (times, workers) in [([1, 2, 3, 4], 1), ([4, 3, 2, 1], 2), ([2, 4, 1, 3], 16)] {
         let batch = four_events(rt.alloc(), &times)?;
-        assert!(rt; is_valid(&batch));
-        assert!(rt; has_keys_in(&batch, LAYOUT));
+        assert!(rt; batch.is_valid() && batch.has_keys_in(LAYOUT));
         let values = run(&rt, rt.alloc(), &batch, workers, &keys)?.ok_or("not the fold's values")?;
         assert_eq!(rt; values.as_slice(), [40, 0, 60, 0, 0, 5].as_slice());
     }
@@ -217,8 +208,7 @@ fn values_after_four_events(rt: HostRuntime) -> Result<(), Fail> {
 #[test]
 fn attempts_at_four_events(rt: HostRuntime) -> Result<(), Fail> {
     let batch = four_events(rt.alloc(), &[4, 3, 2, 1])?;
-    assert!(rt; is_valid(&batch));
-    assert!(rt; has_keys_in(&batch, LAYOUT));
+    assert!(rt; batch.is_valid() && batch.has_keys_in(LAYOUT));
     let values = [100, 5, 40, 5, 60, 0, 40, 0, 60, 5, 0, 0, 60, 5];
     let failed = [3, 5, 6, 8];
     for workers in [1, 2, 16] {
@@ -232,8 +222,7 @@ fn attempts_at_four_events(rt: HostRuntime) -> Result<(), Fail> {
 #[test]
 fn verdicts_on_four_events(rt: HostRuntime) -> Result<(), Fail> {
     let batch = four_events(rt.alloc(), &[4, 3, 2, 1])?;
-    assert!(rt; is_valid(&batch));
-    assert!(rt; has_keys_in(&batch, LAYOUT));
+    assert!(rt; batch.is_valid() && batch.has_keys_in(LAYOUT));
     for workers in [1, 2, 16] {
         let end = batch_end(&rt, rt.alloc(), &batch, workers)?;
         let committed = end.settled.committed.as_slice();
@@ -246,13 +235,12 @@ fn verdicts_on_four_events(rt: HostRuntime) -> Result<(), Fail> {
 #[test]
 fn versions_of_an_account(rt: HostRuntime) -> Result<(), Fail> {
     let batch = four_events(rt.alloc(), &[4, 3, 2, 1])?;
-    assert!(rt; is_valid(&batch));
-    assert!(rt; has_keys_in(&batch, LAYOUT));
+    assert!(rt; batch.is_valid() && batch.has_keys_in(LAYOUT));
     for (ts, value) in [(0, 0), (1, 100), (2, 100), (3, 40), (4, 40)] {
         assert_eq!(rt; version(&rt, rt.alloc(), &batch, ts)?, value, "at {ts}");
     }
     let state = State::new(rt.alloc(), LAYOUT)?;
-    let values = values_of(rt.alloc(), &state, &[key(ACCOUNTS, 0)])?;
+    let values = values_of(rt.alloc(), &state, &[Key::of(ACCOUNTS, 0)])?;
     assert_eq!(rt; values.as_slice(), [0].as_slice());
     Ok(())
 }

@@ -1,11 +1,9 @@
-ghost use Rattle.std.specs.Prelude.{◌≡◌, ◌<◌, length};
-ghost use Rattle.morph_base.specs.Clean.{from};
-ghost use Rattle.morph_base.specs.Known.{IsKnown};
+ghost use Rattle.std.specs.Prelude.{◌≡◌, length};
 ghost use Rattle.morph_base.specs.Plans.{IsPlan, op_count};
-ghost use Rattle.morph_engine.specs.Tries.{IsReady, IsFirstTry, value_of_word};
+ghost use Rattle.morph_base.specs.Words.{value_of_word};
+ghost use Rattle.morph_engine.specs.Tries.{IsReady, IsFirstTry};
 
-use abort_lazy::evaluate;
-use morph_base::{List, OpWord, Origin, Plan, READS};
+use morph_base::{List, OpWord, Plan, READS, evaluate};
 
 /// The first attempt at an operation: what its places read, in the first of the records, and the word that it left.
 #[derive(Clone, Copy, Debug, PartialEq, Eq)]
@@ -22,22 +20,11 @@ pub(crate) fn try_op(plan: &Plan, words: &List<OpWord>, o: usize) -> Tried
     ensures { IsFirstTry plan.now (value_of_word words.now.items) o result }
 {
     let op = plan.ops.get(o);
-    let places = usize::from(op.op.n_params) + 1;
+    let places = op.places();
     let mut records = [0; READS];
     for j in 0..places {
-        records[j] = source_value(op.origins[j], words);
+        records[j] = op.origins[j].word_value_in(words);
     }
     let word = evaluate(&op.op, &records[..places], 1);
     Tried { word, records }
-}
-
-/// The value of a source: a base stands for itself, an operation for the value of its word.
-fn source_value(origin: Origin, words: &List<OpWord>) -> u64
-    requires { IsKnown (λ t. t < length words.now.items) origin }
-    ensures { result ≡ from (value_of_word words.now.items) origin }
-{
-    match origin {
-        Origin::Base(value) => value,
-        Origin::Op(source) => words.get(source as usize).value,
-    }
 }

@@ -1,5 +1,5 @@
 -- A plan whose bases are all 0, and that it is valid.
-use Rattle.std.proofs.Common.{◌≡◌, ℕ, ◌<◌, List, [], ◌∷◌, length, get_or, refl, sym, ap, ◌∙◌, inl, inr, arith, unwrap_or, Some}
+use Rattle.std.proofs.Common.{◌≡◌, ℕ, ◌<◌, List, [], ◌∷◌, length, get_or, refl, sym, ap, ◌∙◌, inl, inr, arith, unwrap_or, Some, zero-le, subst, ◌≤◌}
 use Rattle.std.specs.Prelude.{All}
 use Rattle.std.proofs.lemmas.Bool.{cases_lt, cond_both}
 use Rattle.std.proofs.lemmas.List.{get_or_past, get_or_default}
@@ -11,7 +11,7 @@ use Rattle.morph_base.specs.declared.plan.Origin.TheVariants.{Base, Op as Writte
 use Rattle.morph_base.specs.declared.plan.PlanOp.{PlanOp}
 use Rattle.morph_base.specs.declared.plan.Plan.{Plan}
 use Rattle.morph_base.specs.Operations.{reads, same_key}
-use Rattle.morph_base.specs.Plans.{no_plan_op, op_count, op_at, keys_of, key_at, origin_at, base_in, opening_of, IsPlan}
+use Rattle.morph_base.specs.Plans.{high_of, no_plan_op, op_count, op_at, keys_of, key_at, origin_at, base_in, opening_of, IsPlan}
 use Rattle.txn_splitter.specs.declared.txns.Txns.{Txns}
 use Rattle.txn_splitter.specs.Txns.{IsTxns, txn_count, txn_op_count}
 use Rattle.precedence_graph.specs.Planned.{ArePlanned, AreEventsPlanned}
@@ -68,6 +68,7 @@ module _ (x : Txns) (is : IsTxns x) (p : Plan) (done : ArePlanned x (txn_op_coun
     unused = λ o j lt past _. unused_is x is p done events_done o j (within o lt) past;
     sources = λ o j lt inside. sources_is x is p done events_done o j (within o lt) inside;
     bases = λ o j v lt inside its. blank_is o j v its ∙ sym (opening_of-zero p.ops.items (key_at p o j) all_blank);
+    small = λ o j v lt inside its. subst (λ n. n ≤ high_of p) (sym (blank_is o j v its)) zero-le;
   }
     where
       within : (o : ℕ) → o < op_count p → o < txn_op_count x

@@ -1,3 +1,5 @@
+pub mod EnterLemmas
+pub mod PlaceLemmas
 pub mod ListLemmas
 pub mod LinkLemmas
 pub mod GreatestLemmas

@@ -21,7 +21,7 @@ among_first n target key (Written s) is = is.itself.in_range
 
 -- no operation, no writer
 pub source_among_none : (n : ℕ) (target : ℕ → Key) (key : Key) → n ≡ 0 → IsSource n target (λ _. 0) 1 key (Base 0)
-source_among_none n target key none = ((λ t w. let lt : t < n = w.in_range in absurd (omega arith)), omega arith)
+source_among_none n target key none = λ t w. (let lt : t < n = w.in_range in absurd (omega arith))
 
 module _ (x : Txns) (is : IsTxns x) (i : ℕ) (lt : i < txn_count x) where
   abbrev pub first_of : ℕ
@@ -56,7 +56,7 @@ module _ (x : Txns) (is : IsTxns x) (i : ℕ) (lt : i < txn_count x) where
 
   -- a source among the operations before event i is the source of its reads
   pub source_at_event : (key : Key) (origin : Origin) → IsSource first_of (txn_target x) (λ _. 0) 1 key origin → IsSource (txn_op_count x) (txn_target x) (txn_of x) i key origin
-  source_at_event key (Base v) (unwritten, small) = ((λ t w. unwritten t (writes_before key t w)), small)
+  source_at_event key (Base v) unwritten = λ t w. unwritten t (writes_before key t w)
   source_at_event key (Written s) last =
       let home = event_from_before s last.itself.in_range in
       record {

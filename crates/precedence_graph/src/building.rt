@@ -37,10 +37,11 @@ pub fn build(alloc: Global, txns: &Txns) -> Result<Plan, OutOfMemory>
     let ops = plan_ops(alloc, txns)?;
     let planned = ops.as_slice();
     let events = plan_events(alloc, txns, planned)?;
-    let dependents = dependents(alloc, planned)?;
+    let edges = edges(planned, events.as_slice());
+    let reads = edges.temporal.saturating_add(edges.parametric);
+    let dependents = dependents(alloc, planned, reads as usize)?;
     let op_levels = op_level_lists(alloc, planned)?;
     let event_levels = event_level_lists(alloc, events.as_slice())?;
-    let edges = edges(planned, events.as_slice());
     Ok(Plan {
         events,
         ops,

@@ -9,27 +9,31 @@ use crate::sources::used;
 use morph_base::{List, Origin, OutOfMemory, PlanOp};
 use std::alloc::Global;
 
-/// For each operation those that read from it, rising, each once.
-pub fn dependents(alloc: Global, ops: &[PlanOp]) -> Result<List<List<u32>>, OutOfMemory>
+/// For each operation those that read from it, rising, each once. So many of all places read from operations.
+pub fn dependents(
+    alloc: Global,
+    ops: &[PlanOp],
+    reads: usize,
+) -> Result<List<List<u32>>, OutOfMemory>
     requires ready { All (IsReady (length ops.now)) ops.now }
     requires few { length ops.now < 2 ^ 32 }
     ensures { IfOk result (λ lists. map (λ list. list.items) lists.items
         ≡ map (λ o. filter (λ t. list_any (is_written_by o) (sources_of (planned ops.now t))) (below (length ops.now)))
         (below (length ops.now))) }
 {
-    let links = read_links(alloc, ops)?;
+    let links = read_links(alloc, ops, reads)?;
     grouped(alloc, ops.len(), links.as_slice())
 }
 
 /// Each operation as an item of the groups of the operations that it reads from.
-fn read_links(alloc: Global, ops: &[PlanOp]) -> Result<List<Link>, OutOfMemory>
+fn read_links(alloc: Global, ops: &[PlanOp], reads: usize) -> Result<List<Link>, OutOfMemory>
     requires ready { All (IsReady (length ops.now)) ops.now }
     requires few { length ops.now < 2 ^ 32 }
     ensures items { IfOk result (λ links. (o : ℕ) → items_of links.items o
         ≡ filter (λ t. list_any (is_written_by o) (sources_of (planned ops.now t))) (below (length ops.now))) }
     ensures groups { IfOk result (λ links. All (λ link. link.group < length ops.now) links.items) }
 {
-    let mut links = List::with_room(alloc, ops.len())?;
+    let mut links = List::with_room(alloc, reads)?;
     for (t, op) in ops.iter().enumerate() {
         link_sources(&mut links, used(op), t as u32)?;
     }

@@ -26,5 +26,5 @@ pub fn used(op: &PlanOp) -> &[Origin]
     requires places { length op.now.origins ≡ READS }
     ensures { result.now ≡ sources_of op.now }
 {
-    &op.origins[..1 + op.op.n_params as usize]
+    &op.origins[..op.places()]
 }

@@ -1,41 +1,22 @@
 use super::*;
-use morph_base::{Batch, Edges, Event, Func, Key, List, Op, Origin, OutOfMemory, PARAMS};
+use morph_base::{Batch, Edges, Event, Func, Key, List, Op, Origin, OutOfMemory};
 use std::alloc::Global;
 use std::test::Fail;
-use txn_splitter::{is_valid, split};
+use txn_splitter::split;
 
 const ACCOUNTS: u8 = 0;
 
 const ASSETS: u8 = 1;
 
-fn key(table: u8, id: u32) -> Key {
-    Key { table, id }
-}
-
-/// Adds `c` to the key, or takes it away.
-fn change(func: Func, key: Key, c: u64) -> Op {
-    Op {
-        key,
-        params: [Key { table: 0, id: 0 }; PARAMS],
-        n_params: 0,
-        func,
-        c,
-    }
-}
-
-/// Adds `c` to the key if `from` has it.
-fn move_in(key: Key, from: Key, c: u64) -> Op {
-    let mut op = change(Func::MoveIn, key, c);
-    op.params[0] = from;
-    op.n_params = 1;
-    op
-}
-
 /// A deposit of money and assets.
 fn deposit(alloc: Global, ts: u64, to: u32, money: u64, assets: u64) -> Result<Event, OutOfMemory> {
-    let mut ops = List::new(alloc);
-    ops.push(change(Func::Add, key(ACCOUNTS, to), money))?;
-    ops.push(change(Func::Add, key(ASSETS, to), assets))?;
+    let ops = List::from_slice(
+        alloc,
+        &[
+            Op::new(Func::Add, Key::of(ACCOUNTS, to), &[], money),
+            Op::new(Func::Add, Key::of(ASSETS, to), &[], assets),
+        ],
+    )?;
     Ok(Event { ts, ops })
 }
 
@@ -48,11 +29,16 @@ fn transfer(
     money: u64,
     assets: u64,
 ) -> Result<Event, OutOfMemory> {
-    let mut ops = List::new(alloc);
-    ops.push(change(Func::Sub, key(ACCOUNTS, from), money))?;
-    ops.push(change(Func::Sub, key(ASSETS, from), assets))?;
-    ops.push(move_in(key(ACCOUNTS, to), key(ACCOUNTS, from), money))?;
-    ops.push(move_in(key(ASSETS, to), key(ASSETS, from), assets))?;
+    let (account, asset) = (Key::of(ACCOUNTS, from), Key::of(ASSETS, from));
+    let ops = List::from_slice(
+        alloc,
+        &[
+            Op::new(Func::Sub, account, &[], money),
+            Op::new(Func::Sub, asset, &[], assets),
+            Op::new(Func::MoveIn, Key::of(ACCOUNTS, to), &[account], money),
+            Op::new(Func::MoveIn, Key::of(ASSETS, to), &[asset], assets),
+        ],
+    )?;
     Ok(Event { ts, ops })
 }
 
@@ -112,7 +98,7 @@ fn graph_of_four_events(rt: HostRuntime) -> Result<(), Fail> {
     ];
     for times in [[1, 2, 3, 4], [4, 3, 2, 1]] {
         let batch = four_events(rt.alloc(), &times)?;
-        assert!(rt; is_valid(&batch));
+        assert!(rt; batch.is_valid());
         let txns = split(rt.alloc(), &batch)?;
         let plan = build(rt.alloc(), &txns)?;
         let mut ops = Vec::new(rt.alloc());
@@ -134,7 +120,7 @@ fn graph_of_four_events(rt: HostRuntime) -> Result<(), Fail> {
 #[test]
 fn counts_of_four_events(rt: HostRuntime) -> Result<(), Fail> {
     let batch = four_events(rt.alloc(), &[4, 3, 2, 1])?;
-    assert!(rt; is_valid(&batch));
+    assert!(rt; batch.is_valid());
     let txns = split(rt.alloc(), &batch)?;
     let plan = build(rt.alloc(), &txns)?;
     let mut events = Vec::new(rt.alloc());

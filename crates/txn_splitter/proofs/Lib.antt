@@ -1,4 +1,3 @@
 pub mod TxnLemmas
 pub mod SplitLemmas
 pub mod OrderLemmas
-pub mod ValidLemmas

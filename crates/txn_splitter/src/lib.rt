@@ -1,16 +1,13 @@
 //! Cuts a batch into its transactions: events by rising timestamp, operations by event and then by operation order.
 //!
 //! Below it stands the vocabulary of `morph_base`. A caller hands a valid batch to [`split`] and gets [`Txns`], in which
-//! events and operations have numbers; `precedence_graph` makes a plan of them. [`is_valid`] tells whether a batch that
-//! was put together by hand may be split.
+//! events and operations have numbers; `precedence_graph` makes a plan of them.
 #![tactic(auto)]
 
 mod splitting;
 #[cfg(test)]
 mod tests;
 mod txns;
-mod validity;
 
 pub use splitting::split;
 pub use txns::{TxnEvent, Txns};
-pub use validity::is_valid;

@@ -1,4 +1,5 @@
-ghost use Rattle.std.specs.Prelude.{◌≡◌, ◌++◌, length, replicate, IfOk, OnOk};
+ghost use Rattle.std.specs.Prelude.{◌≡◌, ◌≤◌, ◌++◌, length, replicate, All, IfOk, OnOk, sum_by};
+ghost use Rattle.morph_base.specs.declared.limits.TheConstants.{EVENT_OPS, EVENTS};
 ghost use Rattle.morph_base.specs.Transactions.{IsBatch};
 ghost use Rattle.txn_splitter.specs.Txns.{IsTxns, IsTxnsOf};
 
@@ -16,8 +17,9 @@ pub fn split(alloc: Global, batch: &Batch) -> Result<Txns, OutOfMemory>
 {
     let order = batch.by_time(alloc)?;
     let mut events = List::with_room(alloc, order.len())?;
-    let mut ops = List::new(alloc);
-    let mut event_of = List::new(alloc);
+    let count = op_count(batch.events.as_slice());
+    let mut ops = List::with_room(alloc, count)?;
+    let mut event_of = List::with_room(alloc, count)?;
     for event in &order {
         let first = ops.len() as u32;
         append_ops(&mut ops, &mut event_of, event, events.len() as u32)?;
@@ -32,6 +34,19 @@ pub fn split(alloc: Global, batch: &Batch) -> Result<Txns, OutOfMemory>
         ops,
         event_of,
     })
+}
+
+/// How many operations the events have.
+fn op_count(events: &[Event]) -> usize
+    requires few { length events.now ≤ EVENTS }
+    requires each { All (λ e. length e.ops.items ≤ EVENT_OPS) events.now }
+    ensures { result ≡ sum_by (λ e. length e.ops.items) events.now }
+{
+    let mut count = 0;
+    for event in events {
+        count += event.ops.len();
+    }
+    count
 }
 
 /// Appends the operations of event `number`, and for each of them that number.

@@ -1,4 +1,4 @@
-ghost use Rattle.std.specs.Prelude.{◌≡◌, ◌≤◌, length, slice_index_or, All};
+ghost use Rattle.std.specs.Prelude.{◌≡◌, ◌<◌, length, slice_index_or, All};
 ghost use Rattle.morph_base.specs.declared.limits.TheConstants.{READS};
 ghost use Rattle.morph_base.specs.Operations.{IsShaped, InLayout, reads, no_key};
 ghost use Rattle.morph_base.specs.Flat.{contents};
@@ -14,8 +14,7 @@ pub(crate) fn fill(values: &Values, op: &mut PlanOp)
     requires keys { All (InLayout values.now.layout) (reads op.old.op) }
     ensures { op.new ≡ filled (contents values.now) op.old }
 {
-    let places = usize::from(op.op.n_params) + 1;
-    for j in 0..places {
+    for j in 0..op.places() {
         op.origins[j] = fill_origin(values, key_at(&op.op, j), op.origins[j]);
     }
 }
@@ -23,7 +22,7 @@ pub(crate) fn fill(values: &Values, op: &mut PlanOp)
 /// The key that an operation reads at a place.
 fn key_at(op: &Op, j: usize) -> Key
     requires shaped { IsShaped op.now }
-    requires place { j ≤ op.now.n_params }
+    requires place { j < length (reads op.now) }
     ensures { result ≡ slice_index_or (reads op.now) j no_key }
 {
     if j == 0 { op.key } else { op.params[j - 1] }

@@ -1,7 +1,7 @@
 //! Whether a step may be made.
 ghost use Rattle.std.specs.Prelude.{◌≡◌, ◌<◌, ◌↔◌, IsTrue, Some};
 ghost use Rattle.morph_base.specs.Plans.{IsPlan, op_count, event_of};
-ghost use Rattle.interleaving_core.specs.Core.{places, is_open as is_open_in};
+ghost use Rattle.interleaving_core.specs.Core.{places};
 ghost use Rattle.interleaving_core.specs.Steps.{May, MayReady, MayClaim, IsClaimedBy, MayFetch, MayFinish, MaySpread, MayRollBack, MayDecide, MaySettle, MaySettleCommitted, MaySettleAborted, HasOtherVersion, IsSpreadOnSettled, IsStaleAtCap};
 ghost use Rattle.interleaving_core.specs.Stored.{core_of, cap_of, IsStateOf};
 
@@ -187,7 +187,7 @@ impl CoreState {
         ensures { IsTrue result ↔ MaySettleAborted plan.now (core_of self.now) op }
     {
         self.is_decided(plan, op, false)
-            && is_open(self.word(op).state)
+            && self.word(op).state.is_open()
             && self.settled_value(origin_of(plan, op, 0)).is_some()
     }
 
@@ -203,14 +203,4 @@ impl CoreState {
             None => false,
         }
     }
-}
-
-/// Whether nobody holds the operation, and it is not settled.
-fn is_open(state: OpState) -> bool
-    ensures { result ≡ is_open_in state }
-{
-    !matches!(
-        state,
-        OpState::Claimed | OpState::Settled | OpState::SettledAborted
-    )
 }

@@ -24,7 +24,7 @@ pub(super) fn places_of(plan: &Plan, op: u32) -> usize
     ensures few { result ≤ READS }
     ensures some { 0 < result }
 {
-    plan.ops.get(op as usize).op.n_params as usize + 1
+    plan.ops.get(op as usize).places()
 }
 
 /// Where a place gets its value.
@@ -210,10 +210,7 @@ impl CoreState {
         requires place { j < places plan.now op }
         ensures { result ≡ source plan.now (value_in (core_of self.now)) op j }
     {
-        match origin_of(plan, op, j) {
-            Origin::Base(value) => value,
-            Origin::Op(source) => self.word(source).value,
-        }
+        origin_of(plan, op, j).word_value_in(&self.words)
     }
 
     /// Whether there is a record at the place with another value than this one.

@@ -9,7 +9,7 @@ use super::CoreState;
 use crate::claim::Claim;
 use crate::entry::{Entry, Record, Settling};
 use crate::event::CoreEvent;
-use morph_base::{OpState, OpWord, Plan, READS, eval};
+use morph_base::{OpState, OpWord, Plan, READS, evaluate};
 
 impl CoreState {
     /// Makes a step that may be made.
@@ -40,7 +40,11 @@ impl CoreState {
         ensures shape { IsSameShape self.old self.new }
     {
         let attempt = self.word(op).attempt;
-        self.put_word(op, waiting(OpState::Ready, attempt));
+        let ready = OpWord {
+            state: OpState::Ready,
+            ..OpWord::blocked(attempt)
+        };
+        self.put_word(op, ready);
     }
 
     fn claim(&mut self, plan: &Plan, op: u32, by: u8)
@@ -114,23 +118,11 @@ impl CoreState {
     {
         let attempt = self.word(op).attempt;
         let claim = self.held(by);
-        match eval(
+        evaluate(
             &plan.ops.get(op as usize).op,
             &claim.values[..claim.count as usize],
-        ) {
-            Some(value) => OpWord {
-                value,
-                attempt,
-                state: OpState::Executed,
-                by: 0,
-            },
-            None => OpWord {
-                value: claim.values[0],
-                attempt,
-                state: OpState::Failed,
-                by: 0,
-            },
-        }
+            attempt,
+        )
     }
 
     fn give_back(&mut self, plan: &Plan, op: u32, by: u8)
@@ -140,7 +132,7 @@ impl CoreState {
         ensures shape { IsSameShape self.old self.new }
     {
         let attempt = self.word(op).attempt;
-        self.put_word(op, waiting(OpState::Blocked, attempt));
+        self.put_word(op, OpWord::blocked(attempt));
         self.put_claim(by, None);
     }
 
@@ -181,7 +173,7 @@ impl CoreState {
         ensures shape { IsSameShape self.old self.new }
     {
         let attempt = self.word(op).attempt;
-        self.put_word(op, waiting(OpState::Blocked, attempt + 1));
+        self.put_word(op, OpWord::blocked(attempt + 1));
     }
 
     fn settle(&mut self, plan: &Plan, op: u32, by: u8)
@@ -222,18 +214,6 @@ impl CoreState {
     }
 }
 
-/// A word without a value.
-fn waiting(state: OpState, attempt: u8) -> OpWord
-    ensures { result ≡ record { value = 0; attempt = attempt; state = state; by = 0 } }
-{
-    OpWord {
-        value: 0,
-        attempt,
-        state,
-        by: 0,
-    }
-}
-
 /// The entry that shows a word.
 fn entry(op: u32, word: OpWord) -> Entry
     ensures { result ≡ entry_of op word }
@@ -242,6 +222,6 @@ fn entry(op: u32, word: OpWord) -> Entry
         op,
         attempt: word.attempt,
         value: word.value,
-        failed: matches!(word.state, OpState::Failed),
+        failed: word.state.is_failed(),
     }
 }

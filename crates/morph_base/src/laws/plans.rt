@@ -11,7 +11,7 @@ ghost use Rattle.morph_base.specs.States.{State, after_all, fold_batch};
 ghost use Rattle.morph_base.specs.Functions.{value_of};
 ghost use Rattle.morph_base.specs.Operations.{IsShaped};
 ghost use Rattle.morph_base.specs.Transactions.{Transaction, IsTransaction, IsBatch};
-ghost use Rattle.morph_base.specs.Plans.{IsPlan, HasBases, PlanKeysIn, event_count, op_count, event_at, event_of, op_at, keys_of, origin_at, transactions, filled_plan, opening, state_at, final};
+ghost use Rattle.morph_base.specs.Plans.{IsPlan, HasBases, high_of, PlanKeysIn, event_count, op_count, event_at, event_of, op_at, keys_of, origin_at, transactions, filled_plan, opening, state_at, final};
 ghost use Rattle.morph_base.specs.Graphs.{IsGraph, IsValidPlan, op_depth, event_depth};
 
 /// The state that a plan's bases tell has those bases as soon as some state has them: the same value for the same key.
@@ -27,8 +27,8 @@ pub fn bases_tell_a_state()
 ///
 /// So a plan can be built before the state that it will start from is known.
 pub fn filling()
-    ensures plan { (p : Plan) (s : State) → IsPlan p → ((key : Key) → s key ≤ MAX) → IsPlan (filled_plan s p) }
-    ensures bases { (p : Plan) (s : State) → IsPlan p → ((key : Key) → s key ≤ MAX) → HasBases (filled_plan s p) s }
+    ensures plan { (p : Plan) (s : State) → IsPlan p → ((key : Key) → s key ≤ high_of p) → IsPlan (filled_plan s p) }
+    ensures bases { (p : Plan) (s : State) → IsPlan p → ((key : Key) → s key ≤ high_of p) → HasBases (filled_plan s p) s }
     ensures graph { (p : Plan) (s : State) → IsGraph p → IsGraph (filled_plan s p) }
     ensures events { (p : Plan) (s : State) → transactions (filled_plan s p) ≡ transactions p }
     ensures keys { (p : Plan) (s : State) (layout : Layout) → PlanKeysIn p layout → PlanKeysIn (filled_plan s p) layout }
@@ -64,13 +64,15 @@ pub fn levels_rise()
     ensures event_range { (p : Plan) (i : ℕ) → IsValidPlan p → i < event_count p → (0 < (event_at p i).level) × ((event_at p i).level ≤ event_depth p) }
 {}
 
-/// Values stay at most [`MAX`](crate::MAX): the answer of an operation of valid shape on values, each key of a state after
-/// transactions or a batch, the state that a plan's bases tell, and the value of each operation.
+/// Values stay at most [`MAX`](crate::MAX): the answer of an operation of valid shape on values, and each key of a state
+/// after transactions or a batch. Where a plan is at hand they stay at most its greatest value, which is at most that: each
+/// key of a state after its events, the state that its bases tell, and the value of each operation.
 pub fn values_stay_small()
     ensures answers { (op : Op) (xs : List ℕ) (v : ℕ) → value_of op xs ≡ Some v → IsShaped op → All (λ x. x ≤ MAX) xs → v ≤ MAX }
     ensures folds { (s : State) (es : List Transaction) (key : Key) → All IsTransaction es → ((k : Key) → s k ≤ MAX) → after_all s es key ≤ MAX }
     ensures batches { (b : Batch) (s : State) (key : Key) → IsBatch b → ((k : Key) → s k ≤ MAX) → fold_batch b s key ≤ MAX }
-    ensures states { (p : Plan) (s : State) (i : ℕ) (key : Key) → IsPlan p → ((k : Key) → s k ≤ MAX) → state_at p s i key ≤ MAX }
-    ensures opening { (p : Plan) (key : Key) → IsPlan p → opening p key ≤ MAX }
-    ensures values { (p : Plan) (o : ℕ) → IsPlan p → final p o ≤ MAX }
+    ensures states { (p : Plan) (s : State) (i : ℕ) (key : Key) → IsPlan p → ((k : Key) → s k ≤ high_of p) → state_at p s i key ≤ high_of p }
+    ensures opening { (p : Plan) (key : Key) → IsPlan p → opening p key ≤ high_of p }
+    ensures values { (p : Plan) (o : ℕ) → IsPlan p → final p o ≤ high_of p }
+    ensures high { (p : Plan) → IsPlan p → high_of p ≤ MAX }
 {}

@@ -1,11 +1,10 @@
 //! The values of operations and the verdicts on events: what the fold makes of a plan, told without a state.
 ghost use Rattle.std.specs.Prelude.{◌≡◌, ℕ, ◌<◌, ◌≤◌, Bool, map, length, slice_index_or};
-ghost use Rattle.morph_base.specs.declared.limits.TheConstants.{MAX};
 ghost use Rattle.morph_base.specs.declared.plan.Plan.{Plan};
 ghost use Rattle.morph_base.specs.States.{State};
 ghost use Rattle.morph_base.specs.Outcomes.{Fate, fates};
 ghost use Rattle.morph_base.specs.Graphs.{ops_in, below};
-ghost use Rattle.morph_base.specs.Plans.{IsPlan, HasBases, op_count, event_of, keys_of, key_at, state_at, value_at, commits_at, event_at, event_count, transactions, final, verdict};
+ghost use Rattle.morph_base.specs.Plans.{IsPlan, HasBases, high_of, op_count, event_of, keys_of, key_at, state_at, value_at, commits_at, event_at, event_count, transactions, final, verdict};
 ghost use Rattle.morph_base.specs.Guesses.{IsGuess, guess};
 ghost use Rattle.morph_base.specs.Clean.{source, IsClean};
 
@@ -52,11 +51,12 @@ pub fn event_fates()
         ≡ map (λ i. record { ts = (event_at p i).ts; committed = verdict p i; values = map (final p) (ops_in p i) }) (below (event_count p)) }
 {}
 
-/// The guess of each operation is an assignment of guesses, there is no other, and a guess is a value.
+/// The guess of each operation is an assignment of guesses, there is no other, and a guess is at most the greatest
+/// value of the plan.
 ///
 /// The first attempts of speculation are these guesses, in whatever order they are made.
 pub fn guesses_alone()
     ensures one { (p : Plan) → IsPlan p → IsGuess p (guess p) }
     ensures alone { (p : Plan) (g : ℕ → ℕ) (o : ℕ) → IsPlan p → IsGuess p g → o < op_count p → g o ≡ guess p o }
-    ensures small { (p : Plan) (o : ℕ) → IsPlan p → o < op_count p → guess p o ≤ MAX }
+    ensures small { (p : Plan) (o : ℕ) → IsPlan p → o < op_count p → guess p o ≤ high_of p }
 {}

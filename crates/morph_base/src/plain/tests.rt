@@ -1,8 +1,5 @@
 //! The fold of batches as three applications make them, from all values 0: a ledger of accounts and assets, sums over
 //! cells, and tolls for the vehicles of a segment.
-mod validity;
-
-use self::validity::is_valid;
 use super::fold;
 use crate::limits::MAX;
 use crate::{Batch, Event, Func, Key, Layout, List, Op, OutOfMemory, Outcome, Values};
@@ -45,7 +42,7 @@ enum Entry {
 
 /// The operations of an entry.
 fn ops_of(alloc: Global, entry: Entry) -> Result<List<Op>, OutOfMemory> {
-    let key = |table, id| Key { table, id };
+    let key = Key::of;
     match entry {
         Entry::Deposit { to, amounts } => List::from_slice(
             alloc,
@@ -126,8 +123,7 @@ fn run(
     reverse: bool,
 ) -> Result<(List<Outcome>, Values), OutOfMemory> {
     let batch = batch_of(alloc, entries, reverse)?;
-    let valid = is_valid(alloc, &batch, layout)?;
-    assert!(rt; valid);
+    assert!(rt; batch.is_valid() && batch.has_keys_in(layout));
     let mut values = Values::new(alloc, layout)?;
     let outcomes = fold(alloc, &mut values, &batch)?;
     Ok((outcomes, values))

@@ -5,7 +5,7 @@ use Rattle.morph_base.specs.declared.word.OpWord.{OpWord}
 use Rattle.morph_base.specs.Clean.{outcome}
 use Rattle.morph_base.specs.Plans.{no_event, final}
 use Rattle.morph_base.proofs.KnownLaws.{commits_from, aborts_from}
-use Rattle.abort_lazy.specs.Attempts.{word_at, blocked}
+use Rattle.abort_lazy.specs.Attempts.{word_at, untried}
 use Rattle.abort_lazy.proofs.Numbers.{read_event, reached, reached_end, own}
 use Rattle.abort_lazy.proofs.Deciding.{failed_none, not_failed_some}
 use Rattle.abort_lazy.proofs.settling.commits.Goals as goal
@@ -31,7 +31,7 @@ loop-o-preserved c t from less =
     let a = c.args.attempts.now in
     let o = c.loop-o.o in
     let its = reached p c.args.i c.requires.plan c.requires.event c.get-event.result.now o (c.get-event.ensures.at no_event) c.loop-o.auto.o c.loop-o-test.true in
-    let other : (word_at a o).state ≢ Failed = λ is. false≢true (sym c.if-has_failed.false ∙ c.has_failed.ensures.1 (ap (λ (w : OpWord). w.state) (c.get.ensures.at blocked) ∙ is)) in
+    let other : (word_at a o).state ≢ Failed = λ is. false≢true (sym c.if-has_failed.false ∙ c.has_failed.ensures.1 (ap (λ (w : OpWord). w.state) (c.get.ensures.at untried) ∙ is)) in
     elim (cases_eq t o) [
       | inl same ↦
           subst (λ k. IsSome (outcome p (final p) k)) (sym same)
@@ -46,7 +46,7 @@ returns-then-has_failed c =
     let o = c.loop-o.o in
     let its = reached p c.args.i c.requires.plan c.requires.event c.get-event.result.now o (c.get-event.ensures.at no_event) c.loop-o.auto.o c.loop-o-test.true in
     let inside = own p c.args.i c.requires.plan c.requires.event o its.0 its.1 in
-    let failed : (word_at a o).state ≡ Failed = sym (ap (λ (w : OpWord). w.state) (c.get.ensures.at blocked)) ∙ c.has_failed.ensures.0 c.if-has_failed.true in
+    let failed : (word_at a o).state ≡ Failed = sym (ap (λ (w : OpWord). w.state) (c.get.ensures.at untried)) ∙ c.has_failed.ensures.0 c.if-has_failed.true in
     sym (aborts_from p c.requires.plan c.args.i o c.requires.event inside (failed_none p a o (c.requires.rests o inside) failed))
 
 pub returns : goal.returns

@@ -2,7 +2,7 @@ use Rattle.std.proofs.Common.{◌≡◌, ◌<◌, ◌∙◌, ℕ, List, length, 
 use Rattle.std.proofs.lemmas.List.{replicate_more}
 use Rattle.morph_base.specs.declared.word.OpWord.{OpWord}
 use Rattle.morph_base.specs.Plans.{final}
-use Rattle.abort_lazy.specs.Attempts.{blocked}
+use Rattle.abort_lazy.specs.Attempts.{untried}
 use Rattle.abort_lazy.specs.Settling.{settled_sources, settled_state, settling}
 use Rattle.abort_lazy.proofs.Made.{pushed, records_read, no_list}
 use Rattle.abort_lazy.proofs.Changes.{word_changed}
@@ -17,7 +17,7 @@ value_is c =
     let in_records : o < length a.records.items = omega (arith, c.requires.made.records, c.requires.op) in
     c.decided_word-word.ensures.value
     ∙ decided_value c.args.plan.now a o c.requires.rests c.args.committed c.get-2.result.now c.get-before.result.now c.requires.plan c.requires.op c.requires.verdict
-    (c.get-2.ensures.at blocked)
+    (c.get-2.ensures.at untried)
     (c.get-before.ensures.at 0 ∙ ap (λ (l : List ℕ). get_or l 0 0) (records_read a o c.get.result.now (c.get.ensures.at no_list) in_records))
 
 pub returns-clause-change : goal.returns-clause-change
@@ -30,7 +30,7 @@ returns-clause-change c =
     let in_records : o < length a.records.items = omega (arith, c.requires.made.records, c.requires.op) in
     word_changed (settling p a) (settled_sources p) a _ o w in_words in_records c.set.ensures.items refl
     (same_word w (settling p a o) (value_is c)
-    (c.decided_word-word.ensures.attempt ∙ ap (λ (v : OpWord). v.attempt) (c.get-2.ensures.at blocked))
+    (c.decided_word-word.ensures.attempt ∙ ap (λ (v : OpWord). v.attempt) (c.get-2.ensures.at untried))
     (c.decided_word-word.ensures.state ∙ ap settled_state c.requires.verdict)
     c.decided_word-word.ensures.by)
     c.requires.rests.records

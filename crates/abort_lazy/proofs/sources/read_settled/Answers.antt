@@ -8,12 +8,12 @@ use Rattle.abort_lazy.proofs.Made.{places_of, places_some}
 use Rattle.abort_lazy.proofs.Reading.{source_known, source_read, front_read}
 use Rattle.abort_lazy.proofs.sources.read_settled.Goals as goal
 
-pub source_value-requires : goal.source_value-requires
-source_value-requires c =
+pub value_in-requires : goal.value_in-requires
+value_in-requires c =
     let p = c.args.plan.now in
     let o = c.args.o in
-    let places = places_of p o c.get-op.result.now c.requires.plan c.requires.op (c.get-op.ensures.at no_plan_op) in
-    let place : c.loop-j.j < length (keys_of p o) = omega (arith, places, c.from-places.ensures, c.loop-j-test.true) in
+    let places = places_of p o c.places-j-end.result c.get-op.result.now c.places-j-end.ensures.places (c.get-op.ensures.at no_plan_op) in
+    let place : c.loop-j.j < length (keys_of p o) = omega (arith, places, c.loop-j-test.true) in
     let at_place = ap (λ (q : PlanOp). get_or q.origins c.loop-j.j (Base 0)) (c.get-op.ensures.at no_plan_op) in
     subst (IsKnown (λ t. t < length c.args.values.now.items)) (sym at_place) (source_known p o c.loop-j.j c.args.values.now.items c.requires.plan c.requires.op place c.requires.values)
 
@@ -23,23 +23,23 @@ loop-j-preserved c =
     let o = c.args.o in
     let j = c.loop-j.j in
     let xs = c.loop-j.xs in
-    let places = places_of p o c.get-op.result.now c.requires.plan c.requires.op (c.get-op.ensures.at no_plan_op) in
-    let place : c.loop-j.j < length (keys_of p o) = omega (arith, places, c.from-places.ensures, c.loop-j-test.true) in
+    let places = places_of p o c.places-j-end.result c.get-op.result.now c.places-j-end.ensures.places (c.get-op.ensures.at no_plan_op) in
+    let place : c.loop-j.j < length (keys_of p o) = omega (arith, places, c.loop-j-test.true) in
     let at_place = ap (λ (q : PlanOp). get_or q.origins c.loop-j.j (Base 0)) (c.get-op.ensures.at no_plan_op) in
     let few = (places_some p o c.requires.plan c.requires.op).1 in
-    let is_read : c.source_value.result ≡ source p (final p) o j =
-    c.source_value.ensures ∙ ap (from (λ t. get_or c.args.values.now.items t 0)) at_place ∙ source_read p o j c.args.values.now.items c.requires.plan c.requires.op place c.requires.values in
+    let is_read : c.value_in.result ≡ source p (final p) o j =
+    c.value_in.ensures ∙ ap (from (λ t. get_or c.args.values.now.items t 0)) at_place ∙ source_read p o j c.args.values.now.items c.requires.plan c.requires.op place c.requires.values in
     record {
       read = below_more _ _
-          (λ k less. let apart : k ≢ j = omega arith in get_or-set_other xs j k c.source_value.result 0 apart ∙ c.loop-j.invariant.read k less)
-          (let inside : j < length xs = omega (arith, c.loop-j.invariant.len) in get_or-set_same xs j c.source_value.result 0 inside ∙ is_read);
-      len = length-set xs j c.source_value.result ∙ c.loop-j.invariant.len;
+          (λ k less. let apart : k ≢ j = omega arith in get_or-set_other xs j k c.value_in.result 0 apart ∙ c.loop-j.invariant.read k less)
+          (let inside : j < length xs = omega (arith, c.loop-j.invariant.len) in get_or-set_same xs j c.value_in.result 0 inside ∙ is_read);
+      len = length-set xs j c.value_in.result ∙ c.loop-j.invariant.len;
     }
 
 pub returns-clause-values : goal.returns-clause-values
 returns-clause-values c =
     let p = c.args.plan.now in
     let o = c.args.o in
-    let places = places_of p o c.get-op.result.now c.requires.plan c.requires.op (c.get-op.ensures.at no_plan_op) in
+    let places = places_of p o c.places-j-end.result c.get-op.result.now c.places-j-end.ensures.places (c.get-op.ensures.at no_plan_op) in
     front_read p o c.loop-j.xs c.requires.plan c.requires.op (omega (arith, c.loop-j.invariant.len, (places_some p o c.requires.plan c.requires.op).1))
-    (λ k place. c.loop-j.invariant.read k (omega (arith, places, c.from-places.ensures, c.loop-j-test.false)))
+    (λ k place. c.loop-j.invariant.read k (omega (arith, places, c.loop-j-test.false)))

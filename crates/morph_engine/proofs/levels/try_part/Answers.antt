@@ -1,5 +1,5 @@
 use Rattle.std.proofs.Common.{arith}
-use Rattle.morph_engine.specs.Tries.{value_of_word}
+use Rattle.morph_base.specs.Words.{value_of_word}
 use Rattle.morph_engine.proofs.Trying.{tries-more}
 use Rattle.morph_engine.proofs.levels.try_part.Goals as goal
 

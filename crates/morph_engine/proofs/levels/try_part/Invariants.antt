@@ -1,5 +1,6 @@
 use Rattle.std.proofs.Common.{◌≡◌, ◌+◌, take}
-use Rattle.morph_engine.specs.Tries.{AreFirstTries, value_of_word}
+use Rattle.morph_base.specs.Words.{value_of_word}
+use Rattle.morph_engine.specs.Tries.{AreFirstTries}
 use Rattle.morph_engine.proofs.levels.try_part.Given as goal
 
 abbrev pub invariant-loop-o : goal.invariant-loop-o

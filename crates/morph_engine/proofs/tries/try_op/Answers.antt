@@ -1,22 +1,19 @@
 use Rattle.std.proofs.Common.{◌≡◌, ◌≤◌, ◌+◌, ℕ, ap, sym, ◌∙◌, arith, length, take, subst, All}
 use Rattle.morph_base.specs.declared.limits.TheConstants.{MAX}
 use Rattle.morph_base.specs.declared.plan.PlanOp.{PlanOp}
-use Rattle.morph_base.specs.Plans.{op_at, keys_of, no_plan_op}
-use Rattle.morph_base.proofs.PlainLaws.{length-reads}
+use Rattle.morph_base.specs.Operations.{reads}
+use Rattle.morph_base.specs.Plans.{keys_of, no_plan_op}
 use Rattle.abort_lazy.specs.Attempts.{evaluated}
-use Rattle.morph_engine.specs.Tries.{reads_on, value_of_word}
+use Rattle.morph_base.specs.Words.{value_of_word}
+use Rattle.morph_engine.specs.Tries.{reads_on}
 use Rattle.morph_engine.proofs.Sources.{sources_read}
 use Rattle.morph_engine.proofs.tries.try_op.Goals as goal
 
 pub evaluate-word-requires-clause-values : goal.evaluate-word-requires-clause-values
 evaluate-word-requires-clause-values c =
-    let shaped = c.requires.plan.numbering.shaped c.args.o c.requires.ready.inside in
-    let few = shaped.places in
-    let params = ap (λ (q : PlanOp). q.op.n_params) (c.get-op.ensures.at no_plan_op) in
-    let keys = length-reads (op_at c.args.plan.now c.args.o).op shaped in
-    let n : ℕ = c.from-places.result + 1 in
-    let all : n ≡ length (keys_of c.args.plan.now c.args.o) = omega (arith, c.from-places.ensures) in
-    let fits : n ≤ length c.loop-j.records = omega (arith, c.loop-j.invariant.len, c.from-places.ensures) in
+    let n : ℕ = c.places-places.result in
+    let all : n ≡ length (keys_of c.args.plan.now c.args.o) = c.places-places.ensures.places ∙ ap (λ (q : PlanOp). length (reads q.op)) (c.get-op.ensures.at no_plan_op) in
+    let fits : n ≤ length c.loop-j.records = omega (arith, c.loop-j.invariant.len, c.places-places.ensures.few) in
     let read =
     sources_read c.args.plan.now c.args.o n c.loop-j.records (value_of_word c.args.words.now.items) c.requires.plan c.requires.ready.inside all fits
     (λ k below. c.loop-j.invariant.read k (omega (arith, c.loop-j-test.false))) in
@@ -24,14 +21,10 @@ evaluate-word-requires-clause-values c =
 
 pub returns : goal.returns
 returns c =
-    let shaped = c.requires.plan.numbering.shaped c.args.o c.requires.ready.inside in
-    let few = shaped.places in
-    let params = ap (λ (q : PlanOp). q.op.n_params) (c.get-op.ensures.at no_plan_op) in
-    let keys = length-reads (op_at c.args.plan.now c.args.o).op shaped in
-    let n : ℕ = c.from-places.result + 1 in
+    let n : ℕ = c.places-places.result in
     let v : ℕ → ℕ = value_of_word c.args.words.now.items in
-    let all : n ≡ length (keys_of c.args.plan.now c.args.o) = omega (arith, c.from-places.ensures) in
-    let fits : n ≤ length c.loop-j.records = omega (arith, c.loop-j.invariant.len, c.from-places.ensures) in
+    let all : n ≡ length (keys_of c.args.plan.now c.args.o) = c.places-places.ensures.places ∙ ap (λ (q : PlanOp). length (reads q.op)) (c.get-op.ensures.at no_plan_op) in
+    let fits : n ≤ length c.loop-j.records = omega (arith, c.loop-j.invariant.len, c.places-places.ensures.few) in
     let read : take n c.loop-j.records ≡ reads_on c.args.plan.now v c.args.o =
     sources_read c.args.plan.now c.args.o n c.loop-j.records v c.requires.plan c.requires.ready.inside all fits
     (λ k below. c.loop-j.invariant.read k (omega (arith, c.loop-j-test.false))) in

@@ -1,7 +1,7 @@
 use Rattle.std.proofs.Common.{◌≡◌, ℕ, ◌<◌, length, get_or}
 use Rattle.morph_base.specs.declared.limits.TheConstants.{READS}
 use Rattle.morph_base.specs.Clean.{source}
-use Rattle.morph_engine.specs.Tries.{value_of_word}
+use Rattle.morph_base.specs.Words.{value_of_word}
 use Rattle.morph_engine.proofs.tries.try_op.Given as goal
 
 abbrev pub invariant-loop-j : goal.invariant-loop-j

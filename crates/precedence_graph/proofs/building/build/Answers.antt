@@ -41,14 +41,14 @@ event_level_lists-requires-clause-positive c =
     let x = c.args.txns.now in
     let ops = c.as_slice-planned.result.now in
     let events = c.in_ok-events.events.items in
-    subst (All (λ e. 0 < e.level)) (sym c.as_slice.ensures) (event_levels_positive x c.requires ops events c.in_ok-events.ensures)
+    subst (All (λ e. 0 < e.level)) (sym c.as_slice-2.ensures) (event_levels_positive x c.requires ops events c.in_ok-events.ensures)
 
 pub event_level_lists-requires-clause-few : goal.event_level_lists-requires-clause-few
 event_level_lists-requires-clause-few c =
     let x = c.args.txns.now in
     let ops = c.as_slice-planned.result.now in
     let events = c.in_ok-events.events.items in
-    omega (arith, ap length c.as_slice.ensures, events_few x c.requires ops events c.in_ok-events.ensures)
+    omega (arith, ap length c.as_slice-2.ensures, events_few x c.requires ops events c.in_ok-events.ensures)
 
 pub edges-edges-requires-clause-ready : goal.edges-edges-requires-clause-ready
 edges-edges-requires-clause-ready c =
@@ -61,7 +61,7 @@ edges-edges-requires-clause-counts c =
     let x = c.args.txns.now in
     let ops = c.as_slice-planned.result.now in
     let events = c.in_ok-events.events.items in
-    subst (All (λ e. (0 < e.count) × (e.count ≤ EVENT_OPS))) (sym c.as_slice-2.ensures) (event_counts x c.requires ops events c.in_ok-events.ensures)
+    subst (All (λ e. (0 < e.count) × (e.count ≤ EVENT_OPS))) (sym c.as_slice.ensures) (event_counts x c.requires ops events c.in_ok-events.ensures)
 
 pub edges-edges-requires-clause-few_ops : goal.edges-edges-requires-clause-few_ops
 edges-edges-requires-clause-few_ops c =
@@ -74,7 +74,7 @@ edges-edges-requires-clause-few_events c =
     let x = c.args.txns.now in
     let ops = c.as_slice-planned.result.now in
     let events = c.in_ok-events.events.items in
-    omega (arith, ap length c.as_slice-2.ensures, events_few x c.requires ops events c.in_ok-events.ensures)
+    omega (arith, ap length c.as_slice.ensures, events_few x c.requires ops events c.in_ok-events.ensures)
 
 pub returns-clause-plan : goal.returns-clause-plan
 returns-clause-plan c =
@@ -103,8 +103,8 @@ returns-clause-graph c =
     } in
     let events_done = subst (λ (ops : List PlanOp). AreEventsPlanned x ops (txn_count x) p.events.items) c.as_slice-planned.ensures c.in_ok-events.ensures in
     let same = c.as_slice-planned.ensures in
-    let same_events = c.as_slice-2.ensures in
-    graph_is x c.requires p c.in_ok-ops.ensures events_done (c.in_ok-dependents.ensures ∙ ap readers_of same) (c.in_ok-op_levels.ensures ∙ ap op_lists_of same) (c.in_ok-event_levels.ensures ∙ ap event_lists_of c.as_slice.ensures)
+    let same_events = c.as_slice.ensures in
+    graph_is x c.requires p c.in_ok-ops.ensures events_done (c.in_ok-dependents.ensures ∙ ap readers_of same) (c.in_ok-op_levels.ensures ∙ ap op_lists_of same) (c.in_ok-event_levels.ensures ∙ ap event_lists_of c.as_slice-2.ensures)
     (c.edges-edges.ensures.temporal ∙ ap temporal_of same) (c.edges-edges.ensures.parametric ∙ ap parametric_of same) (c.edges-edges.ensures.logical ∙ ap logical_of same_events)
 
 pub returns-clause-ops : goal.returns-clause-ops

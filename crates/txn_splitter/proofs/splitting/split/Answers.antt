@@ -1,6 +1,9 @@
-use Rattle.std.proofs.Common.{◌≡◌, ℕ, ◌<◌, List, [], ◌∷◌, ◌++◌, length, get_or, take, replicate, sym, ap, subst, ◌∙◌, arith}
+use Rattle.std.proofs.Common.{◌≡◌, ℕ, ◌<◌, ◌≤◌, List, [], ◌∷◌, ◌++◌, All, length, get_or, take, replicate, sym, ap, subst, ◌∙◌, arith}
 use Rattle.std.proofs.lemmas.List.{length-take, length-map, get_or-take, take_more, take_all}
-use Rattle.morph_base.specs.declared.limits.TheConstants.{EVENTS}
+use Rattle.std.proofs.lemmas.List.Elements.{All-weaker}
+use Rattle.morph_base.specs.declared.limits.TheConstants.{EVENT_OPS, EVENTS}
+use Rattle.morph_base.specs.declared.event.Event.{Event}
+use Rattle.morph_base.proofs.ValidLemmas.{All-from_map}
 use Rattle.morph_base.specs.Transactions.{Transaction, IsTransaction, transaction_of, transactions_of, by_time}
 use Rattle.txn_splitter.specs.declared.txns.TxnEvent.{TxnEvent}
 use Rattle.txn_splitter.specs.declared.txns.Txns.{Txns}
@@ -10,10 +13,17 @@ use Rattle.txn_splitter.proofs.OrderLemmas.{order_few, order_valid, order_rises,
 use Rattle.txn_splitter.proofs.SplitLemmas.{split_none, split_more}
 use Rattle.txn_splitter.proofs.splitting.split.Goals as goal
 
+pub op_count-count-requires-clause-each : goal.op_count-count-requires-clause-each
+op_count-count-requires-clause-each c =
+    let events : List Event = c.args.batch.now.events.items in
+    let few : All (λ e. length e.ops.items ≤ EVENT_OPS) events =
+    All-weaker (λ e. IsTransaction (transaction_of e)) (λ e. length e.ops.items ≤ EVENT_OPS) (λ e is. is.few) events (All-from_map IsTransaction transaction_of events c.requires.valid) in
+    subst (All (λ e. length e.ops.items ≤ EVENT_OPS)) (sym c.as_slice.ensures) few
+
 pub loop-event-init : goal.loop-event-init
 loop-event-init c = record {
   room = omega (arith, c.in_ok-events.ensures.room, c.len.ensures, c.deref-event-items.ensures.len);
-  so_far = split_none _ c.in_ok-events.ensures.items c.new-ops.ensures.items c.new-event_of.ensures.items;
+  so_far = split_none _ c.in_ok-events.ensures.items c.in_ok-ops.ensures.items c.in_ok-event_of.ensures.items;
 }
 
 pub overflow_cast-first : goal.overflow_cast-first

@@ -1,5 +1,6 @@
-use Rattle.std.proofs.Common.{◌+◌, ◌*◌, ap, ◌∙◌, replicate, Option, None, Bool}
+use Rattle.std.proofs.Common.{◌≡◌, ◌+◌, ◌*◌, ap, ◌∙◌, replicate, Option, None, Bool}
 use Rattle.morph_base.specs.declared.limits.TheConstants.{READS, WORKERS}
+use Rattle.morph_base.specs.declared.word.OpWord.{OpWord}
 use Rattle.interleaving_core.specs.declared.state.CoreState.{CoreState}
 use Rattle.interleaving_core.specs.declared.entry.Record.{Record}
 use Rattle.interleaving_core.specs.Core.{blocked}
@@ -19,11 +20,14 @@ made c =
       settlings = c.in_ok-with_room-2.field-0;
     }
 
+words_are : (c : goal.In_ok-with_room-2) → c.in_ok-filled.field-0.items ≡ replicate c.len-ops.result (blocked 1)
+words_are c = c.in_ok-filled.ensures ∙ ap (λ (w : OpWord). replicate c.len-ops.result w) c.blocked.ensures
+
 pub returns-clause-state : goal.returns-clause-state
 unfolding made
 returns-clause-state c =
     start_state c.args.plan.now (made c) c.requires.cap
-    (c.in_ok-filled.ensures ∙ ap (λ n. replicate n (blocked 1)) c.len-ops.ensures)
+    (words_are c ∙ ap (λ n. replicate n (blocked 1)) c.len-ops.ensures)
     (c.in_ok-filled-2.ensures ∙ ap (λ n. replicate {A = Option Record} (n * READS) None) c.len-ops.ensures)
     c.in_ok-filled-3.ensures
     (c.in_ok-filled-4.ensures ∙ ap (λ n. replicate {A = Option Bool} n None) c.len.ensures)
@@ -34,5 +38,5 @@ returns-clause-state c =
 pub returns-clause-start : goal.returns-clause-start
 unfolding made
 returns-clause-start c =
-    start_core (made c) c.len-ops.result (c.len-ops.result * READS) (WORKERS + 1) c.len.result c.in_ok-filled.ensures c.in_ok-filled-2.ensures c.in_ok-filled-3.ensures c.in_ok-filled-4.ensures
+    start_core (made c) c.len-ops.result (c.len-ops.result * READS) (WORKERS + 1) c.len.result (words_are c) c.in_ok-filled-2.ensures c.in_ok-filled-3.ensures c.in_ok-filled-4.ensures
     c.in_ok-with_room.ensures.items c.in_ok-with_room-2.ensures.items

@@ -1,4 +1,4 @@
-use Rattle.std.proofs.Common.{◌≡◌, ◌≤◌, List, All, ap, sym, subst, length, get_or}
+use Rattle.std.proofs.Common.{◌≡◌, ◌≤◌, List, All, ap, sym, subst, length, get_or, le_trans}
 use Rattle.morph_base.specs.declared.limits.TheConstants.{MAX, READS}
 use Rattle.morph_base.specs.declared.key.Key.{Key}
 use Rattle.morph_base.specs.declared.plan.Plan.{Plan}
@@ -6,7 +6,8 @@ use Rattle.morph_base.specs.declared.plan.PlanOp.{PlanOp}
 use Rattle.morph_base.specs.Operations.{IsShaped, InLayout, reads}
 use Rattle.morph_base.specs.Flat.{contents}
 use Rattle.morph_base.specs.States.{State}
-use Rattle.morph_base.specs.Plans.{IsPlan, HasBases, filled_plan, filled, no_plan_op}
+use Rattle.morph_base.specs.Plans.{IsPlan, high_of, HasBases, filled_plan, filled, no_plan_op}
+use Rattle.morph_base.proofs.BoundLaws.{high_of-all}
 use Rattle.morph_base.proofs.FillLaws.{filled_is_plan, has_bases-filled}
 use Rattle.version_table.proofs.Filled.{changed_front-holds, changed_more, changed_all}
 use Rattle.version_table.proofs.state.State.bases.Goals as goal
@@ -42,7 +43,7 @@ loop-op-preserved c =
 abbrev with_ops : Plan → List PlanOp → Plan
 with_ops p items = record p { ops = record { items = items; room = p.ops.room } }
 
-filled_is : (p : Plan) (s : State) (q : Plan) → q ≡ filled_plan s p → IsPlan p → ((key : Key) → s key ≤ MAX) → IsPlan q × HasBases q s
+filled_is : (p : Plan) (s : State) (q : Plan) → q ≡ filled_plan s p → IsPlan p → ((key : Key) → s key ≤ high_of p) → IsPlan q × HasBases q s
 filled_is p s q is valid small = subst (λ r. IsPlan r × HasBases r s) (sym is) (filled_is_plan s p valid small, has_bases-filled s p valid small)
 
 pub returns : goal.returns
@@ -53,5 +54,5 @@ returns c =
     (changed_all (filled s) c.args.plan.now.ops.items c.as_mut_slice-op-items.result.now c.loop-op.op-items c.loop-op.op-index
     c.as_mut_slice-op-items.ensures.items c.loop-op.invariant c.loop-op-test.false) in
     let small : (key : Key) → s key ≤ MAX = rw c.self.view_is at c.self.invariant in
-    let both = filled_is c.args.plan.now s _ whole c.requires.plan small in
+    let both = filled_is c.args.plan.now s _ whole c.requires.plan (λ key. le_trans (small key) (high_of-all c.args.plan.now)) in
     record { filled = whole; plan = both.0; bases = both.1 }

@@ -1,0 +1,18 @@
+-- The limits that no later version raises. They are definitions of their own: the constants of the code are checked
+-- against them. MAX, READS, PARAMS, EVENT_OPS and EVENTS are one constant each, for code and definitions alike.
+use Rattle.std.specs.Prelude.{ℕ}
+
+-- the greatest time of an event, 10^12
+abbrev pub latest_time : ℕ
+latest_time = 1000000000000
+
+-- the most workers, and the most attempts at an operation
+abbrev pub most_workers : ℕ
+most_workers = 16
+
+abbrev pub most_attempts : ℕ
+most_attempts = 8
+
+-- how many values a packed word has room for, 2^40: they stand in 40 bits
+abbrev pub value_room : ℕ
+value_room = 1099511627776

@@ -1,0 +1,158 @@
+//! Whether a batch that was put together by hand is valid, and has its keys in a layout.
+ghost use Rattle.std.specs.Prelude.{◌≡◌, ◌<◌, ◌≤◌, ◌↔◌, length, take, drop, map, All, IsTrue, nat_eq};
+ghost use Rattle.std.specs.List.{IsDistinct, list_any};
+ghost use Rattle.morph_base.specs.Operations.{IsShaped, InLayout, reads, no_key, same_key};
+ghost use Rattle.morph_base.specs.Transactions.{IsTransaction, IsBatch, BatchKeysIn, HasKeysIn, transaction_of};
+
+use crate::event::{Batch, Event};
+use crate::key::{Key, Layout};
+use crate::limits::{EVENT_OPS, EVENTS, LATEST, MAX, READS};
+use crate::operation::Op;
+
+#[cfg(test)]
+mod tests;
+
+impl Batch {
+    /// Whether the batch is valid.
+    ///
+    /// It compares each time with all others, so it is meant for the small batches that are put together by hand.
+    pub fn is_valid(&self) -> bool
+        ensures { IsTrue result ↔ IsBatch self.now }
+    {
+        let events = self.events.as_slice();
+        if events.len() > EVENTS {
+            return false;
+        }
+        are_transactions(events) && times_differ(events)
+    }
+
+    /// Whether all keys that its operations read or change are in the layout.
+    pub fn has_keys_in(&self, layout: Layout) -> bool
+        ensures { IsTrue result ↔ BatchKeysIn layout self.now }
+    {
+        all_have_keys_in(self.events.as_slice(), layout)
+    }
+}
+
+/// Whether all events are valid.
+fn are_transactions(events: &[Event]) -> bool
+    ensures { IsTrue result ↔ All (λ e. IsTransaction (transaction_of e)) events.now }
+{
+    events.iter().all(|event| is_transaction(event))
+}
+
+/// Whether an event is valid.
+fn is_transaction(event: &Event) -> bool
+    ensures { IsTrue result ↔ IsTransaction (transaction_of event.now) }
+{
+    let ops = event.ops.as_slice();
+    0 < event.ts
+        && event.ts <= LATEST
+        && !ops.is_empty()
+        && ops.len() <= EVENT_OPS
+        && ops.iter().all(|op| is_shaped(op))
+        && targets_differ(ops)
+}
+
+/// Whether an operation has a valid shape.
+fn is_shaped(op: &Op) -> bool
+    ensures { IsTrue result ↔ IsShaped op.now }
+{
+    if op.c > MAX || op.n_params as usize >= READS {
+        return false;
+    }
+    op.func.takes(op.n_params as usize) && is_blank_after_params(op)
+}
+
+/// Whether the places after the parameters of an operation hold no key.
+fn is_blank_after_params(op: &Op) -> bool
+    requires { op.now.n_params < READS }
+    ensures held { op.now.n_params ≤ length op.now.params }
+    ensures blank { IsTrue result ↔ All (λ key. key ≡ no_key) (drop op.now.n_params op.now.params) }
+{
+    op.params[op.n_params as usize..]
+        .iter()
+        .all(|key| is_no_key(key))
+}
+
+/// Whether the key is that of the places that are not used.
+fn is_no_key(key: &Key) -> bool
+    ensures { IsTrue result ↔ (key.now ≡ no_key) }
+{
+    *key == Key { table: 0, id: 0 }
+}
+
+/// Whether the targets of some operations differ.
+fn targets_differ(ops: &[Op]) -> bool
+    ensures { IsTrue result ↔ IsDistinct same_key (map (λ op. op.key) ops.now) }
+{
+    for (i, op) in ops.iter().enumerate() {
+        if has_target(&ops[..i], op.key) {
+            return false;
+        }
+    }
+    true
+}
+
+/// Whether one of the operations changes the key.
+fn has_target(ops: &[Op], key: Key) -> bool
+    ensures { result ≡ list_any (same_key key) (map (λ op. op.key) ops.now) }
+{
+    ops.iter().map(|op| op.key).any(|target| key == target)
+}
+
+/// Whether the times of some events differ.
+fn times_differ(events: &[Event]) -> bool
+    ensures { IsTrue result ↔ IsDistinct nat_eq (map (λ e. e.ts) events.now) }
+{
+    for (i, event) in events.iter().enumerate() {
+        if has_time(&events[..i], event.ts) {
+            return false;
+        }
+    }
+    true
+}
+
+/// Whether one of the events has the time.
+fn has_time(events: &[Event], ts: u64) -> bool
+    ensures { result ≡ list_any (nat_eq ts) (map (λ e. e.ts) events.now) }
+{
+    events.iter().map(|event| event.ts).any(|time| ts == time)
+}
+
+/// Whether all keys of the events are in the layout.
+fn all_have_keys_in(events: &[Event], layout: Layout) -> bool
+    ensures { IsTrue result ↔ All (λ e. HasKeysIn layout (transaction_of e)) events.now }
+{
+    events.iter().all(|event| has_keys_in(event, layout))
+}
+
+/// Whether all keys of the event are in the layout.
+fn has_keys_in(event: &Event, layout: Layout) -> bool
+    ensures { IsTrue result ↔ HasKeysIn layout (transaction_of event.now) }
+{
+    let ops = event.ops.as_slice();
+    ops.iter().all(|op| reads_in(op, layout))
+}
+
+/// Whether all keys that the operation reads are in the layout.
+fn reads_in(op: &Op, layout: Layout) -> bool
+    ensures { IsTrue result ↔ All (InLayout layout) (reads op.now) }
+{
+    let params = first(&op.params, usize::from(op.n_params));
+    layout.contains(op.key) && are_in(params, layout)
+}
+
+/// The first `n` keys, or all where there are fewer.
+fn first(keys: &[Key], n: usize) -> &[Key]
+    ensures { result.now ≡ take n keys.now }
+{
+    &keys[..n.min(keys.len())]
+}
+
+/// Whether all these keys are in the layout.
+fn are_in(keys: &[Key], layout: Layout) -> bool
+    ensures { IsTrue result ↔ All (InLayout layout) keys.now }
+{
+    keys.iter().all(|key| layout.contains(*key))
+}

@@ -1,7 +1,0 @@
-use Rattle.std.proofs.Common.{map, take}
-use Rattle.std.specs.List.{IsDistinct}
-use Rattle.morph_base.specs.Operations.{same_key}
-use Rattle.txn_splitter.proofs.validity.targets_differ.Given as goal
-
-abbrev pub invariant-loop-i : goal.invariant-loop-i
-invariant-loop-i l = IsDistinct same_key (map (λ op. op.key) (take l.i l.ops))

@@ -1,11 +1,12 @@
 -- The ranges of the numbers that the lines of several applications have.
 use Rattle.std.specs.Prelude.{ℕ, ◌-◌}
-use Rattle.morph_base.specs.declared.limits.TheConstants.{MAX, LATEST}
+use Rattle.morph_base.specs.declared.limits.TheConstants.{MAX}
+use Rattle.morph_base.specs.Limits.{latest_time}
 use Rattle.event_reader.specs.declared.ranges.Range.{Range}
 
 -- a timestamp, an id where each table has `size` of them, and an amount
 abbrev pub times : Range
-times = record { least = 1; greatest = LATEST }
+times = record { least = 1; greatest = latest_time }
 
 abbrev pub ids : (size : ℕ) → Range
 ids size = record { least = 0; greatest = size - 1 }

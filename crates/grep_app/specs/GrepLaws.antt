@@ -6,7 +6,8 @@ use Rattle.std.proofs.lemmas.Bool.Decides.{nat_tests}
 use Rattle.std.proofs.lemmas.Grind.{common_steps}
 use Rattle.std.proofs.lemmas.List.{length-drop, length-map, get_or-replicate}
 use Rattle.std.proofs.lemmas.List.Elements.{All-nil, All-cons, All-map}
-use Rattle.morph_base.specs.declared.limits.TheConstants.{MAX, LATEST, PARAMS}
+use Rattle.morph_base.specs.declared.limits.TheConstants.{MAX, PARAMS}
+use Rattle.morph_base.specs.Limits.{latest_time}
 use Rattle.morph_base.specs.declared.key.Key.{Key}
 use Rattle.morph_base.specs.declared.key.Layout.{Layout}
 use Rattle.morph_base.specs.declared.operation.Func.TheVariants.{Keep, Sum, Set}
@@ -67,7 +68,7 @@ kept_keys [] = refl
 kept_keys (cell ∷ cells) = ap (λ keys. cell ∷ keys) (kept_keys cells)
 
 -- a line that sets a cell is valid where its numbers are in range
-setting_is_valid : (size ts k v : ℕ) → 0 < ts → ts ≤ LATEST → k < size → v ≤ MAX
+setting_is_valid : (size ts k v : ℕ) → 0 < ts → ts ≤ latest_time → k < size → v ≤ MAX
     → IsTransaction (setting ts k v) × HasKeysIn (grep_layout size) (setting ts k v)
 unfolding IsDistinct
 setting_is_valid size ts k v start end inside small = (
@@ -84,7 +85,7 @@ setting_is_valid size ts k v start end inside small = (
 )
 
 -- so is one that sums cells that differ
-gathering_is_valid : (size ts limit : ℕ) (target : Key) (cells : List Key) → 0 < ts → ts ≤ LATEST → limit ≤ MAX → 0 < length cells → length cells ≤ PARAMS
+gathering_is_valid : (size ts limit : ℕ) (target : Key) (cells : List Key) → 0 < ts → ts ≤ latest_time → limit ≤ MAX → 0 < length cells → length cells ≤ PARAMS
     → InLayout (grep_layout size) target → All (InLayout (grep_layout size)) cells → are_distinct (target ∷ cells) ≡ true
     → IsTransaction (gathering ts limit target cells) × HasKeysIn (grep_layout size) (gathering ts limit target cells)
 gathering_is_valid size ts limit target cells start end small some few inside all apart = (
@@ -143,8 +144,8 @@ gather_numbers size many (ts ∷ k ∷ limit ∷ cells) some least most long fit
     let first = both (is_in times ts) (are_in (ids size ∷ amounts ∷ replicate many (ids size)) (k ∷ limit ∷ cells)) fits in
     let second = both (is_in (ids size) k) (are_in (amounts ∷ replicate many (ids size)) (limit ∷ cells)) first.1 in
     let third = both (is_in amounts limit) (are_in (replicate many (ids size)) cells) second.1 in
-    let start : 1 ≤ ts = grind (arith, nat_tests, (both (nat_le 1 ts) (nat_le ts LATEST) first.0).0) in
-    let end : ts ≤ LATEST = grind (arith, nat_tests, (both (nat_le 1 ts) (nat_le ts LATEST) first.0).1) in
+    let start : 1 ≤ ts = grind (arith, nat_tests, (both (nat_le 1 ts) (nat_le ts latest_time) first.0).0) in
+    let end : ts ≤ latest_time = grind (arith, nat_tests, (both (nat_le 1 ts) (nat_le ts latest_time) first.0).1) in
     let below : k ≤ size - 1 = grind (arith, nat_tests, (both (nat_le 0 k) (nat_le k (size - 1)) second.0).1) in
     let small : limit ≤ MAX = grind (arith, nat_tests, (both (nat_le 0 limit) (nat_le limit MAX) third.0).1) in
     let many' : length cells ≡ many = omega arith in

@@ -3,7 +3,8 @@ use Rattle.std.proofs.Common.{◌≡◌, ℕ, ◌<◌, ◌≤◌, Bool, true, fa
 use Rattle.std.specs.Prelude.{◌==◌, slice_index}
 use Rattle.std.specs.List.{All, IsDistinct}
 use Rattle.std.proofs.lemmas.List.{length-drop}
-use Rattle.morph_base.specs.declared.limits.TheConstants.{MAX, LATEST}
+use Rattle.morph_base.specs.declared.limits.TheConstants.{MAX}
+use Rattle.morph_base.specs.Limits.{latest_time}
 use Rattle.morph_base.specs.declared.key.Key.{Key}
 use Rattle.morph_base.specs.declared.key.Layout.{Layout}
 use Rattle.morph_base.specs.declared.operation.Func.TheVariants.{Add, Sub, MoveIn}
@@ -34,7 +35,7 @@ abbrev ReadsIn : (size : ℕ) → Op → Type 0
 ReadsIn size op = All (InLayout (ledger_layout size)) (reads op)
 
 -- a deposit is valid where its numbers are in range
-deposit_is_valid : (size ts acct ast a b : ℕ) → 0 < ts → ts ≤ LATEST → acct < size → ast < size → a ≤ MAX → b ≤ MAX
+deposit_is_valid : (size ts acct ast a b : ℕ) → 0 < ts → ts ≤ latest_time → acct < size → ast < size → a ≤ MAX → b ≤ MAX
     → IsTransaction (deposit ts acct ast a b) × HasKeysIn (ledger_layout size) (deposit ts acct ast a b)
 unfolding IsDistinct
 deposit_is_valid size ts acct ast a b start end inside inside' small small' = (
@@ -56,7 +57,7 @@ deposit_is_valid size ts acct ast a b start end inside inside' small small' = (
 )
 
 -- so is a transfer whose accounts and assets differ
-transfer_is_valid : (size ts src dst asrc adst a b : ℕ) → 0 < ts → ts ≤ LATEST → src < size → dst < size → asrc < size → adst < size → a ≤ MAX → b ≤ MAX
+transfer_is_valid : (size ts src dst asrc adst a b : ℕ) → 0 < ts → ts ≤ latest_time → src < size → dst < size → asrc < size → adst < size → a ≤ MAX → b ≤ MAX
     → (src == dst) ≡ false → (asrc == adst) ≡ false
     → IsTransaction (moving ts src dst asrc adst a b) × HasKeysIn (ledger_layout size) (moving ts src dst asrc adst a b)
 unfolding IsDistinct

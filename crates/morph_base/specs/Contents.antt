@@ -1,5 +1,5 @@
 -- What contracts see of a `List`: its items, and the room that its memory has for more of them.
-use Rattle.std.specs.Prelude.{ℕ, List, ◌++◌, length, take, drop, refl}
+use Rattle.std.specs.Prelude.{ℕ, slice_set, List, ◌++◌, length, take, drop, refl}
 use Rattle.std.specs.Coded.{Coded, code_by, coded×, coded_ℕ, coded_list}
 
 -- the items in order, and the number of pushes that no want of memory can refuse
@@ -17,3 +17,7 @@ contents_code {T} code =
 abbrev pub with_items : {T : Type 0} → Contents T → List T → Contents T
 with_items c items =
     record { items = take (length c.items) (items ++ drop (length items) c.items); room = c.room }
+
+-- the contents with another item at place i, when a loan of that one has ended
+abbrev pub with_item : {T : Type 0} → Contents T → ℕ → T → Contents T
+with_item c i item = record { items = slice_set c.items i item; room = c.room }

@@ -1,5 +1,5 @@
--- The limits that no later version raises. They are definitions of their own: the constants of the code are checked
--- against them. MAX, READS, PARAMS, EVENT_OPS and EVENTS are one constant each, for code and definitions alike.
+-- Limits that the definitions own: the constants of the code are checked against them. MAX, READS, PARAMS, EVENT_OPS and EVENTS
+-- stand in src/limits.rt alone, one constant each for code and definitions, so that each can be raised in one place.
 use Rattle.std.specs.Prelude.{ℕ}
 
 -- the greatest time of an event, 10^12

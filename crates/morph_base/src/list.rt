@@ -26,7 +26,7 @@ impl<T> Model for List<T> {
 }
 
 impl<T> List<T> {
-    ghost use Rattle.morph_base.specs.Contents.{with_items};
+    ghost use Rattle.morph_base.specs.Contents.{with_item, with_items};
     ghost use Rattle.morph_base.specs.contracts.list.List.{the_row};
 
     /// An empty list that takes no memory.
@@ -91,6 +91,15 @@ impl<T> List<T> {
         ensures at { (d : T) → result.now ≡ slice_index_or self.now.items i d }
     {
         &self.vec[i]
+    }
+
+    /// Lends the item at place `i` for change.
+    pub fn get_mut(&mut self, i: usize) -> &mut T
+        requires { i < length self.old.items }
+        ensures* lends { sem 𝓛 (Lends (the_row T.row) T.row self.entry result (with_item self.old i)) }
+        ensures item { (d : T) → result.now ≡ slice_index_or self.old.items i d }
+    {
+        &mut self.vec[i]
     }
 
     /// Puts `item` at place `i`, in place of the item there, which is dropped.
@@ -168,7 +177,8 @@ mod tests {
         list.push(9)?;
         assert_eq!(rt; list.as_slice(), [7, 8, 9].as_slice());
         assert_eq!(rt; *list.get(1), 8);
-        list.set(1, 6);
+        list.set(1, 5);
+        *list.get_mut(1) += 1;
         list.as_mut_slice().reverse();
         let same = List::from_slice(rt.alloc(), &[9, 6, 7])?;
         assert_eq!(rt; list.as_slice(), same.as_slice());

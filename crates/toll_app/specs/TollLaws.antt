@@ -3,7 +3,8 @@ use Rattle.std.proofs.Common.{◌≡◌, ℕ, ◌+◌, ◌*◌, ◌<◌, ◌≤�
 use Rattle.std.specs.Prelude.{slice_index}
 use Rattle.std.specs.List.{All, IsDistinct}
 use Rattle.std.proofs.lemmas.List.{length-drop}
-use Rattle.morph_base.specs.declared.limits.TheConstants.{MAX, LATEST}
+use Rattle.morph_base.specs.declared.limits.TheConstants.{MAX}
+use Rattle.morph_base.specs.Limits.{latest_time}
 use Rattle.morph_base.specs.declared.key.Key.{Key}
 use Rattle.morph_base.specs.declared.key.Layout.{Layout}
 use Rattle.morph_base.specs.declared.operation.Func.TheVariants.{Blend, Set, Enter, Charge}
@@ -34,7 +35,7 @@ abbrev ReadsIn : (size : ℕ) → Op → Type 0
 ReadsIn size op = All (IsIn size) (reads op)
 
 -- a report is valid where its numbers are in range
-report_is_valid : (size ts vehicle segment speed : ℕ) → 0 < ts → ts ≤ LATEST → vehicle < size → segment < size → segment < MAX → speed ≤ 100
+report_is_valid : (size ts vehicle segment speed : ℕ) → 0 < ts → ts ≤ latest_time → vehicle < size → segment < size → segment < MAX → speed ≤ 100
     → IsTransaction (report ts vehicle segment speed) × HasKeysIn (toll_layout size) (report ts vehicle segment speed)
 unfolding IsDistinct
 report_is_valid size ts vehicle segment speed start end inside inside' small slow =

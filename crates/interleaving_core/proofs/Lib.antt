@@ -14,3 +14,6 @@ pub mod Storing
 pub mod Shown
 pub mod Places
 pub mod Deposit
+pub mod Bounds
+pub mod Stale
+pub mod Committed

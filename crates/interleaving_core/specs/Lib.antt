@@ -4,3 +4,4 @@ pub mod Soundness
 pub mod Growth
 pub mod Schedules
 pub mod Stored
+pub mod Counts

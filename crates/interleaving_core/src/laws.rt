@@ -2,10 +2,12 @@
 //!
 //! They hold for every valid plan and every cap below [`ATTEMPTS`](morph_base::ATTEMPTS), whatever the order of steps and
 //! however many workers make them. A crate above cites the lemmas behind them, which stand in `proofs/`.
-ghost use Rattle.std.specs.Prelude.{◌≡◌, ℕ, ◌<◌, ◌≤◌, Bool, List, Some, count_by};
+ghost use Rattle.std.specs.Prelude.{◌≡◌, ℕ, ◌+◌, ◌*◌, ◌<◌, ◌≤◌, Bool, List, ◌++◌, Some, count_by, sum_by};
 ghost use Rattle.morph_base.specs.declared.plan.Plan.{Plan};
 ghost use Rattle.morph_base.specs.Limits.{most_attempts};
 ghost use Rattle.morph_base.specs.Plans.{IsPlan, op_count};
+ghost use Rattle.morph_base.specs.Graphs.{below};
+ghost use Rattle.morph_base.specs.Guesses.{stale_count};
 ghost use Rattle.morph_base.specs.Words.{IsWord};
 ghost use Rattle.interleaving_core.specs.declared.event.CoreEvent.{CoreEvent};
 ghost use Rattle.interleaving_core.specs.declared.entry.Held.{Held};
@@ -13,6 +15,7 @@ ghost use Rattle.interleaving_core.specs.Core.{Core, start, IsSettledIn, value_i
 ghost use Rattle.interleaving_core.specs.Steps.{May, after, Run};
 ghost use Rattle.interleaving_core.specs.Soundness.{IsSound};
 ghost use Rattle.interleaving_core.specs.Growth.{Grows};
+ghost use Rattle.interleaving_core.specs.Counts.{rises_at, shown_now, is_committed, evaluated, spreads, rolled, IsExplored, AreAgreed};
 ghost use Rattle.interleaving_core.specs.Schedules.{RestsOnAborted, IsFold, IsSettledOnce, HasFewAttempts, TellsSteps, settles};
 
 /// The start is sound; a step that may be made keeps a sound state sound, and loses nothing that was seen before it.
@@ -56,4 +59,30 @@ pub fn sound_states()
     ensures attempts { (p : Plan) (cap : ℕ) (c : Core) → IsPlan p → IsSound p cap c → HasFewAttempts p cap c }
     ensures words { (p : Plan) (cap : ℕ) (c : Core) (o : ℕ) → IsSound p cap c → o < op_count p → IsWord (c.word o) }
     ensures one_claim { (p : Plan) (cap s t : ℕ) (c : Core) (g h : Held) → IsSound p cap c → c.claim s ≡ Some g → c.claim t ≡ Some h → g.op ≡ h.op → s ≡ t }
+{}
+
+/// What every list of steps counts: an operation's attempt is one more than its spreads and rollbacks. There are at most cap
+/// of these for each operation, at most cap + 1 evaluations and spreads, and no spread where the cap is 1. The evaluations are
+/// the rollbacks, and one for each operation whose present attempt was shown; so there is one for each operation that was
+/// settled in a committed event.
+pub fn counts()
+    ensures attempts { (p : Plan) (cap o : ℕ) (es : List CoreEvent) (c : Core) → Run p cap es c → (c.word o).attempt ≡ 1 + count_by (rises_at o) es }
+    ensures few_raised { (p : Plan) (cap : ℕ) (es : List CoreEvent) (c : Core) → IsPlan p → cap < ATTEMPTS → Run p cap es c
+        → spreads es + rolled es ≤ cap * op_count p }
+    ensures few_shown { (p : Plan) (cap : ℕ) (es : List CoreEvent) (c : Core) → IsPlan p → cap < ATTEMPTS → Run p cap es c
+        → evaluated es + spreads es ≤ (cap + 1) * op_count p }
+    ensures none_spread { (p : Plan) (es : List CoreEvent) (c : Core) → IsPlan p → Run p 1 es c → spreads es ≡ 0 }
+    ensures shown { (p : Plan) (cap : ℕ) (es : List CoreEvent) (c : Core) → IsPlan p → cap < ATTEMPTS → Run p cap es c
+        → evaluated es ≡ rolled es + sum_by (shown_now c) (below (op_count p)) }
+    ensures committed { (p : Plan) (cap : ℕ) (es : List CoreEvent) (c : Core) → IsPlan p → cap < ATTEMPTS → Run p cap es c
+        → count_by (λ o. is_committed (c.word o).state) (below (op_count p)) ≤ evaluated es }
+{}
+
+/// Where all operations were evaluated once at attempt 1 by first steps `fs`, later steps `es` roll back as many as have a source
+/// whose guess is not its value, if at the end those still at attempt 1 have the fold's values of their sources as records.
+///
+/// So one worker that settles the events in order counts as many rollbacks as there are wrong guesses.
+pub fn stale_guesses_are_rolled_back()
+    ensures { (p : Plan) (es fs : List CoreEvent) (c : Core) → IsPlan p → Run p 1 (es ++ fs) c
+        → ((b : Core) → Run p 1 fs b → IsExplored p b) → AreAgreed p c → rolled (es ++ fs) ≡ stale_count p }
 {}

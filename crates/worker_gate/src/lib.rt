@@ -7,8 +7,10 @@
 
 mod gate;
 mod job;
+mod meet_gate;
 #[cfg(test)]
 mod tests;
 
 pub use gate::{FreeGate, Gate};
 pub use job::{Job, run_all};
+pub use meet_gate::MeetGate;

@@ -11,9 +11,9 @@ ghost use Rattle.morph_cli.specs.Settings.{AreInRange, settings_of};
 ghost use Rattle.morph_cli.specs.Status.{note_at, status_of, IsStatus, IsMadeStatus};
 ghost use Rattle.morph_cli.specs.Tallies.{no_tally, RunTold, CallTold, IsBalanced};
 
-use crate::ended::{Ended, USAGE, USAGE_STATUS, note_of, status};
+use crate::ended::{Ended, USAGE_STATUS, note_of, status};
 use crate::fault::Fault;
-use crate::note::write_note;
+use crate::note::{write_note, write_usage};
 use crate::run::{Finish, run};
 use crate::settings::{App, Generated, Settings};
 use crate::tally::Tally;
@@ -168,7 +168,7 @@ pub fn morph<R: Threads + Sync, S: Source, K: Sink, N: Sink, G: Gate>(
 {
     let mut tally = Tally::new();
     let Some(settings) = settings(words) else {
-        write_note(notes, USAGE);
+        write_usage(notes);
         return Ended {
             status: USAGE_STATUS,
             tally,

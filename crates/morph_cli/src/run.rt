@@ -1,10 +1,13 @@
-ghost use Rattle.std.specs.Prelude.{◌≡◌, ℕ, ◌≤◌, ◌⊎◌, option_map, IfSome, IsErrOf, IsTrue};
+ghost use Rattle.std.specs.Prelude.{◌≡◌, ℕ, [], ◌≤◌, ◌⊎◌, option_map, IfSome, IsErrOf, IsTrue};
 ghost use Rattle.event_reader.specs.Accepted.{accepted_within};
 ghost use Rattle.event_reader.specs.declared.limits.TheConstants.{INPUT_BYTES};
+ghost use Rattle.morph_base.specs.States.{opening_state};
+ghost use Rattle.morph_base.specs.Flat.{contents};
+ghost use Rattle.event_reader.specs.Reader.{new_reader};
 ghost use Rattle.morph_io.specs.Told.{HasRisen};
 ghost use Rattle.morph_cli.specs.Apps.{telling_by};
 ghost use Rattle.morph_cli.specs.Outputs.{outputs_of};
-ghost use Rattle.morph_cli.specs.Runs.{EndsSo};
+ghost use Rattle.morph_cli.specs.Runs.{EndsSo, layout_of};
 ghost use Rattle.morph_cli.specs.Settings.{AreInRange};
 ghost use Rattle.morph_cli.specs.Status.{status_of};
 ghost use Rattle.morph_cli.specs.Tallies.{no_tally, RunTold};
@@ -65,20 +68,68 @@ pub fn run<R: Threads + Sync, A: EventApp + Copy, S: Source, K: Sink, N: Sink, G
     let mut engine = Engine::new(alloc, layout)?;
     let mut reader = BatchReader::new(alloc, app, settings.size, INPUT_BYTES)?;
     let mut out = Out::new(alloc)?;
+    run_batches(
+        rt,
+        alloc,
+        app,
+        settings,
+        &mut engine,
+        &mut reader,
+        &mut out,
+        source,
+        sink,
+        notes,
+        tally,
+        gate,
+    )
+}
+
+/// Runs an application from the opening state over what the reader reads, batch by batch.
+fn run_batches<R: Threads + Sync, A: EventApp + Copy, S: Source, K: Sink, N: Sink, G: Gate>(
+    rt: &R,
+    alloc: Global,
+    app: A,
+    settings: Settings,
+    engine: &mut Engine,
+    reader: &mut BatchReader<A>,
+    out: &mut Out,
+    source: &mut S,
+    sink: &mut K,
+    notes: &mut N,
+    tally: &mut Tally,
+    gate: &G,
+) -> Result<Finish, Fault>
+    requires settings { AreInRange settings }
+    requires tally { tally.old ≡ no_tally }
+    requires reader { reader.old ≡ new_reader app settings.size INPUT_BYTES }
+    requires layout { engine.old.layout ≡ layout_of (A.table_count app) settings.size }
+    requires opening { contents engine.old ≡ opening_state }
+    requires empty { out.old ≡ [] }
+    ensures ends { IfSome (S.left source.old) (λ input. EndsSo (A.event_of app settings.size)
+        (telling_by settings.generated (A.table_count app) settings.size (A.name_of app)) INPUT_BYTES input (S.left source.new) (K.written sink.old) result (K.written sink.new)) }
+    ensures told { RunTold (telling_by settings.generated (A.table_count app) settings.size (A.name_of app))
+        (option_map (accepted_within (A.event_of app settings.size) INPUT_BYTES) (S.left source.old)) settings.notes settings.workers
+        (status_of result) tally.new (outputs_of (K.written sink.old) (N.written notes.old)) (outputs_of (K.written sink.new) (N.written notes.new)) }
+    ensures source_faults { S.faults source.old ≤ S.faults source.new }
+    ensures sink_faults { K.faults sink.old ≤ K.faults sink.new }
+    ensures notes_faults { N.faults notes.old ≤ N.faults notes.new }
+    ensures read { IsErrOf result Fault.Read → HasRisen (S.faults source.old) (S.faults source.new) }
+    ensures write { IsErrOf result Fault.Write → HasRisen (K.faults sink.old) (K.faults sink.new) ⊎ (IsTrue settings.notes × HasRisen (N.faults notes.old) (N.faults notes.new)) }
+{
     'batches: loop {
         match reader.next_batch(alloc, source)? {
             Next::Batch(batch) => {
-                let end = run_batch(rt, alloc, &mut engine, &batch, settings.workers, gate)?;
+                let end = run_batch(rt, alloc, engine, &batch, settings.workers, gate)?;
                 tally.add(&end);
-                tell_batch(&mut out, sink, notes, &settings, tally.batches, &end)?;
+                tell_batch(out, sink, notes, &settings, tally.batches, &end)?;
             }
             Next::End => {
                 let values = engine.state();
-                tell_closing(&mut out, sink, notes, &app, &settings, values, tally)?;
+                tell_closing(out, sink, notes, &app, &settings, values, tally)?;
                 return Ok(Finish::Complete);
             }
             Next::Refused { line, cause } => {
-                tell_refused(&mut out, sink, notes, &settings, line, cause, tally)?;
+                tell_refused(out, sink, notes, &settings, line, cause, tally)?;
                 return Ok(Finish::Refused);
             }
         }

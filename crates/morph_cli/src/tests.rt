@@ -82,10 +82,22 @@ fn run_with<R: Threads + Sync>(
     alloc: Global,
     words: &[&[u8]],
     source: &mut MemSource,
+    sink: MemSink,
+) -> Result<Ran, OutOfMemory> {
+    let notes = sink_of(alloc, 1000, &[], &[])?;
+    run_noted(rt, alloc, words, source, sink, notes)
+}
+
+/// Runs the program with these words and these notes, and tells what it left.
+fn run_noted<R: Threads + Sync>(
+    rt: &R,
+    alloc: Global,
+    words: &[&[u8]],
+    source: &mut MemSource,
     mut sink: MemSink,
+    mut notes: MemSink,
 ) -> Result<Ran, OutOfMemory> {
     let words = words_of(alloc, words)?;
-    let mut notes = sink_of(alloc, 1000, &[], &[])?;
     let ended = ended(rt, alloc, words.as_slice(), source, &mut sink, &mut notes);
     Ok(Ran {
         status: ended.status,

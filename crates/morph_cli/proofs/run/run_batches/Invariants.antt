@@ -2,7 +2,7 @@ use Rattle.std.proofs.Common.{◌+◌, ◌-◌, ◌≤◌}
 use Rattle.event_reader.specs.declared.limits.TheConstants.{INPUT_BYTES}
 use Rattle.morph_cli.specs.Outputs.{outputs_of}
 use Rattle.morph_cli.proofs.Between.{Between, course_of}
-use Rattle.morph_cli.proofs.run.run.Given as goal
+use Rattle.morph_cli.proofs.run.run_batches.Given as goal
 
 abbrev pub invariant-batches : goal.invariant-batches
 invariant-batches g l = record {

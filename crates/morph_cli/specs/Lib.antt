@@ -2,6 +2,7 @@ pub mod Text
 pub mod Faults
 pub mod Runs
 pub mod Settings
+pub mod NoSettings
 pub mod Status
 pub mod Headline
 pub mod Apps

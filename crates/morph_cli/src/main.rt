@@ -10,6 +10,7 @@ mod batch;
 mod ended;
 mod fault;
 mod morph;
+mod names;
 mod note;
 mod notes;
 mod report;

@@ -9,6 +9,7 @@
 mod batch;
 mod ended;
 mod fault;
+mod job;
 mod morph;
 mod names;
 mod note;

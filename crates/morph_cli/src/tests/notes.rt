@@ -1,5 +1,5 @@
 //! What stands in the notes where they are on.
-use super::{FOUR_EVENTS, Ran, run_noted, sink_of, source_of};
+use super::{FOUR, FOUR_EVENTS, Ran, run_noted, sink_of, source_of};
 use morph_base::OutOfMemory;
 use std::alloc::Global;
 use std::test::Fail;
@@ -36,7 +36,7 @@ fn notes_and_their_faults(rt: HostRuntime) -> Result<(), Fail> {
             &[],
             (
                 0,
-                b"1 C 100 5\n2 A\n3 C 40 0 60 5\n4 C 0 0 60 5\nacct 0 40\nacct 2 60\nasset 2 5\ncommitted 3 aborted 1\n",
+                FOUR,
                 b"batch 1: events 4 ops 14 levels 4 op strata lazy\ntally: evaluated 16 spread 0 rolled 2 left 0 handed 0 stolen 0\nsettled 0 14\n",
             ),
         ),
@@ -53,10 +53,10 @@ fn notes_and_their_faults(rt: HostRuntime) -> Result<(), Fail> {
         ),
         (
             &[b"app=ledger", b"notes=off"],
-            b"",
+            FOUR_EVENTS,
             &[],
             &[],
-            (0, b"committed 0 aborted 0\n", b""),
+            (0, FOUR, b""),
         ),
         (
             &[b"workers=2", b"size=5"],

@@ -24,36 +24,36 @@ use Rattle.morph_cli.proofs.run.run.Goals as goal
 
 pub returns-in_err-engine-clause-ends : goal.returns-in_err-engine-clause-ends
 returns-in_err-engine-clause-ends g c =
-    ends_at_once (course_of g.A.EventApp.event_of (g.A.EventApp.table_count c.args.app) (g.A.EventApp.name_of c.args.app) c.args.app c.args.settings INPUT_BYTES (g.S.Source.left c.args.source.now)
+    ends_at_once (course_of g.A.EventApp.event_of (g.A.EventApp.table_count c.args.job.now.app) (g.A.EventApp.name_of c.args.job.now.app) c.args.job.now.app c.args.job.now.settings INPUT_BYTES (g.S.Source.left c.args.source.now)
     (outputs_of (g.K.Sink.written c.args.sink.now) (g.N.Sink.written c.args.notes.now))) (g.S.Source.left c.args.source.now) c.args.tally.now
     (error_is c.from_residual.result OutOfMemory c.from_residual.ensures.1) c.requires.tally
 
 pub returns-in_err-engine-clause-told : goal.returns-in_err-engine-clause-told
 returns-in_err-engine-clause-told g c =
-    told_at_once (course_of g.A.EventApp.event_of (g.A.EventApp.table_count c.args.app) (g.A.EventApp.name_of c.args.app) c.args.app c.args.settings INPUT_BYTES (g.S.Source.left c.args.source.now)
+    told_at_once (course_of g.A.EventApp.event_of (g.A.EventApp.table_count c.args.job.now.app) (g.A.EventApp.name_of c.args.job.now.app) c.args.job.now.app c.args.job.now.settings INPUT_BYTES (g.S.Source.left c.args.source.now)
     (outputs_of (g.K.Sink.written c.args.sink.now) (g.N.Sink.written c.args.notes.now))) c.args.tally.now
     (error_is c.from_residual.result OutOfMemory c.from_residual.ensures.1) c.requires.tally
 
 pub returns-in_err-reader-clause-ends : goal.returns-in_err-reader-clause-ends
 returns-in_err-reader-clause-ends g c =
-    ends_at_once (course_of g.A.EventApp.event_of (g.A.EventApp.table_count c.args.app) (g.A.EventApp.name_of c.args.app) c.args.app c.args.settings INPUT_BYTES (g.S.Source.left c.args.source.now)
+    ends_at_once (course_of g.A.EventApp.event_of (g.A.EventApp.table_count c.args.job.now.app) (g.A.EventApp.name_of c.args.job.now.app) c.args.job.now.app c.args.job.now.settings INPUT_BYTES (g.S.Source.left c.args.source.now)
     (outputs_of (g.K.Sink.written c.args.sink.now) (g.N.Sink.written c.args.notes.now))) (g.S.Source.left c.args.source.now) c.args.tally.now
     (error_is c.from_residual-in_err-reader.result OutOfMemory c.from_residual-in_err-reader.ensures.1) c.requires.tally
 
 pub returns-in_err-reader-clause-told : goal.returns-in_err-reader-clause-told
 returns-in_err-reader-clause-told g c =
-    told_at_once (course_of g.A.EventApp.event_of (g.A.EventApp.table_count c.args.app) (g.A.EventApp.name_of c.args.app) c.args.app c.args.settings INPUT_BYTES (g.S.Source.left c.args.source.now)
+    told_at_once (course_of g.A.EventApp.event_of (g.A.EventApp.table_count c.args.job.now.app) (g.A.EventApp.name_of c.args.job.now.app) c.args.job.now.app c.args.job.now.settings INPUT_BYTES (g.S.Source.left c.args.source.now)
     (outputs_of (g.K.Sink.written c.args.sink.now) (g.N.Sink.written c.args.notes.now))) c.args.tally.now
     (error_is c.from_residual-in_err-reader.result OutOfMemory c.from_residual-in_err-reader.ensures.1) c.requires.tally
 
 pub returns-in_err-out-clause-ends : goal.returns-in_err-out-clause-ends
 returns-in_err-out-clause-ends g c =
-    ends_at_once (course_of g.A.EventApp.event_of (g.A.EventApp.table_count c.args.app) (g.A.EventApp.name_of c.args.app) c.args.app c.args.settings INPUT_BYTES (g.S.Source.left c.args.source.now)
+    ends_at_once (course_of g.A.EventApp.event_of (g.A.EventApp.table_count c.args.job.now.app) (g.A.EventApp.name_of c.args.job.now.app) c.args.job.now.app c.args.job.now.settings INPUT_BYTES (g.S.Source.left c.args.source.now)
     (outputs_of (g.K.Sink.written c.args.sink.now) (g.N.Sink.written c.args.notes.now))) (g.S.Source.left c.args.source.now) c.args.tally.now
     (error_is c.from_residual-in_err-out.result OutOfMemory c.from_residual-in_err-out.ensures.1) c.requires.tally
 
 pub returns-in_err-out-clause-told : goal.returns-in_err-out-clause-told
 returns-in_err-out-clause-told g c =
-    told_at_once (course_of g.A.EventApp.event_of (g.A.EventApp.table_count c.args.app) (g.A.EventApp.name_of c.args.app) c.args.app c.args.settings INPUT_BYTES (g.S.Source.left c.args.source.now)
+    told_at_once (course_of g.A.EventApp.event_of (g.A.EventApp.table_count c.args.job.now.app) (g.A.EventApp.name_of c.args.job.now.app) c.args.job.now.app c.args.job.now.settings INPUT_BYTES (g.S.Source.left c.args.source.now)
     (outputs_of (g.K.Sink.written c.args.sink.now) (g.N.Sink.written c.args.notes.now))) c.args.tally.now
     (error_is c.from_residual-in_err-out.result OutOfMemory c.from_residual-in_err-out.ensures.1) c.requires.tally

@@ -35,9 +35,9 @@ closing_last s name values kept tally layout same is =
 pub batches-init : goal.batches-init
 batches-init g c =
     record {
-      run = between_start (course_of g.A.EventApp.event_of (g.A.EventApp.table_count c.args.app) (g.A.EventApp.name_of c.args.app) c.args.app c.args.settings INPUT_BYTES (g.S.Source.left c.args.source.now)
+      run = between_start (course_of g.A.EventApp.event_of (g.A.EventApp.table_count c.args.job.now.app) (g.A.EventApp.name_of c.args.job.now.app) c.args.job.now.app c.args.job.now.settings INPUT_BYTES (g.S.Source.left c.args.source.now)
           (outputs_of (g.K.Sink.written c.args.sink.now) (g.N.Sink.written c.args.notes.now)))
-          c.args.reader.now c.args.engine.now c.args.tally.now c.args.out.now (layout_of (g.A.EventApp.table_count c.args.app) c.args.settings.size) c.requires.reader c.requires.layout
+          c.args.reader.now c.args.engine.now c.args.tally.now c.args.out.now (layout_of (g.A.EventApp.table_count c.args.job.now.app) c.args.job.now.settings.size) c.requires.reader c.requires.layout
           refl c.requires.opening c.requires.empty c.requires.tally;
       source_faults = omega arith;
       sink_faults = omega arith;
@@ -112,7 +112,7 @@ returns-in_err-tell_batch-in-Batch-clause-ends g c =
     let valid = rw c.in-Batch.is at c.in_ok-batch.ensures.valid in
     let answers = rw c.in-Batch.is at c.in_ok-batch.ensures.answers in
     ends_in_batch (g.S.Source.left c.next_batch.new.source) (outputs_of (g.K.Sink.written c.tell_batch.new.sink) (g.N.Sink.written c.tell_batch.new.notes)) c.next_batch.new.self c.in-Batch.batch
-    (settled_fates c.in_ok-end-in-Batch.end.plan c.in_ok-end-in-Batch.end.settled) (noted c.args.settings.notes (batch_note c.add.new.self.batches c.in_ok-end-in-Batch.end.plan))
+    (settled_fates c.in_ok-end-in-Batch.end.plan c.in_ok-end-in-Batch.end.settled) (noted c.args.job.now.settings.notes (batch_note c.add.new.self.batches c.in_ok-end-in-Batch.end.plan))
     (error_is c.from_residual-in_err-tell_batch-in-Batch.result Write c.from_residual-in_err-tell_batch-in-Batch.ensures.1)
     c.batches.invariant.run answers valid.0 c.in_ok-end-in-Batch.ensures.fates c.in_err-tell_batch-in-Batch.ensures.told
 
@@ -161,36 +161,36 @@ pub returns-in-End-clause-ends : goal.returns-in-End-clause-ends
 returns-in-End-clause-ends g c =
     let answers = rw c.in-End.is at c.in_ok-batch.ensures.answers in
     ends_complete (g.S.Source.left c.next_batch.new.source) (outputs_of (g.K.Sink.written c.tell_closing.new.sink) (g.N.Sink.written c.tell_closing.new.notes))
-    (closing_of c.args.settings (g.A.EventApp.name_of c.args.app) c.state-values.result.now c.batches.tally)
-    (noted c.args.settings.notes (closing_notes c.args.settings.workers c.batches.tally)) c.batches.invariant.run.goes answers
-    (closing_last c.args.settings (g.A.EventApp.name_of c.args.app) c.state-values.result.now c.batches.engine c.batches.tally _ c.state-values.ensures c.batches.invariant.run.layout) c.in_ok-tell_closing-in-End.ensures.told
+    (closing_of c.args.job.now.settings (g.A.EventApp.name_of c.args.job.now.app) c.state-values.result.now c.batches.tally)
+    (noted c.args.job.now.settings.notes (closing_notes c.args.job.now.settings.workers c.batches.tally)) c.batches.invariant.run.goes answers
+    (closing_last c.args.job.now.settings (g.A.EventApp.name_of c.args.job.now.app) c.state-values.result.now c.batches.engine c.batches.tally _ c.state-values.ensures c.batches.invariant.run.layout) c.in_ok-tell_closing-in-End.ensures.told
 
 pub returns-in-End-clause-told : goal.returns-in-End-clause-told
 returns-in-End-clause-told g c =
     let answers = rw c.in-End.is at c.in_ok-batch.ensures.answers in
     told_at_end (outputs_of (g.K.Sink.written c.tell_closing.new.sink) (g.N.Sink.written c.tell_closing.new.notes)) 0 Ended
-    (closing_of c.args.settings (g.A.EventApp.name_of c.args.app) c.state-values.result.now c.batches.tally)
+    (closing_of c.args.job.now.settings (g.A.EventApp.name_of c.args.job.now.app) c.state-values.result.now c.batches.tally)
     (inl refl) (λ is. absurd (cc)) c.batches.invariant.run.goes answers
-    (closing_last c.args.settings (g.A.EventApp.name_of c.args.app) c.state-values.result.now c.batches.engine c.batches.tally _ c.state-values.ensures c.batches.invariant.run.layout) c.in_ok-tell_closing-in-End.ensures.told
+    (closing_last c.args.job.now.settings (g.A.EventApp.name_of c.args.job.now.app) c.state-values.result.now c.batches.engine c.batches.tally _ c.state-values.ensures c.batches.invariant.run.layout) c.in_ok-tell_closing-in-End.ensures.told
 
 pub returns-in_err-tell_closing-in-End-clause-ends : goal.returns-in_err-tell_closing-in-End-clause-ends
 returns-in_err-tell_closing-in-End-clause-ends g c =
     let answers = rw c.in-End.is at c.in_ok-batch.ensures.answers in
     ends_cut (g.S.Source.left c.next_batch.new.source) (outputs_of (g.K.Sink.written c.tell_closing.new.sink) (g.N.Sink.written c.tell_closing.new.notes)) Ended
-    (closing_of c.args.settings (g.A.EventApp.name_of c.args.app) c.state-values.result.now c.batches.tally)
+    (closing_of c.args.job.now.settings (g.A.EventApp.name_of c.args.job.now.app) c.state-values.result.now c.batches.tally)
     (error_is c.from_residual-in_err-tell_closing-in-End.result Write c.from_residual-in_err-tell_closing-in-End.ensures.1) c.batches.invariant.run.goes answers
-    (closing_last c.args.settings (g.A.EventApp.name_of c.args.app) c.state-values.result.now c.batches.engine c.batches.tally _ c.state-values.ensures c.batches.invariant.run.layout)
+    (closing_last c.args.job.now.settings (g.A.EventApp.name_of c.args.job.now.app) c.state-values.result.now c.batches.engine c.batches.tally _ c.state-values.ensures c.batches.invariant.run.layout)
     (cut_text (outputs_of (g.K.Sink.written c.batches.sink) (g.N.Sink.written c.batches.notes))
-    (closing_of c.args.settings (g.A.EventApp.name_of c.args.app) c.state-values.result.now c.batches.tally)
-    (noted c.args.settings.notes (closing_notes c.args.settings.workers c.batches.tally)) (outputs_of (g.K.Sink.written c.tell_closing.new.sink) (g.N.Sink.written c.tell_closing.new.notes)) c.in_err-tell_closing-in-End.ensures.told)
+    (closing_of c.args.job.now.settings (g.A.EventApp.name_of c.args.job.now.app) c.state-values.result.now c.batches.tally)
+    (noted c.args.job.now.settings.notes (closing_notes c.args.job.now.settings.workers c.batches.tally)) (outputs_of (g.K.Sink.written c.tell_closing.new.sink) (g.N.Sink.written c.tell_closing.new.notes)) c.in_err-tell_closing-in-End.ensures.told)
 
 pub returns-in_err-tell_closing-in-End-clause-told : goal.returns-in_err-tell_closing-in-End-clause-told
 returns-in_err-tell_closing-in-End-clause-told g c =
     let answers = rw c.in-End.is at c.in_ok-batch.ensures.answers in
     told_cut_at_end (outputs_of (g.K.Sink.written c.tell_closing.new.sink) (g.N.Sink.written c.tell_closing.new.notes)) Ended
-    (closing_of c.args.settings (g.A.EventApp.name_of c.args.app) c.state-values.result.now c.batches.tally)
+    (closing_of c.args.job.now.settings (g.A.EventApp.name_of c.args.job.now.app) c.state-values.result.now c.batches.tally)
     (error_is c.from_residual-in_err-tell_closing-in-End.result Write c.from_residual-in_err-tell_closing-in-End.ensures.1) (λ is. absurd (cc)) c.batches.invariant.run.goes answers
-    (closing_last c.args.settings (g.A.EventApp.name_of c.args.app) c.state-values.result.now c.batches.engine c.batches.tally _ c.state-values.ensures c.batches.invariant.run.layout) c.in_err-tell_closing-in-End.ensures.told
+    (closing_last c.args.job.now.settings (g.A.EventApp.name_of c.args.job.now.app) c.state-values.result.now c.batches.engine c.batches.tally _ c.state-values.ensures c.batches.invariant.run.layout) c.in_err-tell_closing-in-End.ensures.told
 
 pub returns-in_err-tell_closing-in-End-clause-write : goal.returns-in_err-tell_closing-in-End-clause-write
 returns-in_err-tell_closing-in-End-clause-write g c is =
@@ -202,7 +202,7 @@ returns-in-Refused-clause-ends g c =
     let answers = rw c.in-Refused.is at c.in_ok-batch.ensures.answers in
     ends_refused (g.S.Source.left c.next_batch.new.source) (outputs_of (g.K.Sink.written c.tell_refused.new.sink) (g.N.Sink.written c.tell_refused.new.notes)) c.in-Refused.line c.in-Refused.cause
     (refused_text c.in-Refused.line c.in-Refused.cause)
-    (noted c.args.settings.notes (closing_notes c.args.settings.workers c.batches.tally)) c.batches.invariant.run.goes answers
+    (noted c.args.job.now.settings.notes (closing_notes c.args.job.now.settings.workers c.batches.tally)) c.batches.invariant.run.goes answers
     refl c.in_ok-tell_refused-in-Refused.ensures.told
 
 pub returns-in-Refused-clause-told : goal.returns-in-Refused-clause-told
@@ -222,7 +222,7 @@ returns-in_err-tell_refused-in-Refused-clause-ends g c =
     refl
     (cut_text (outputs_of (g.K.Sink.written c.batches.sink) (g.N.Sink.written c.batches.notes))
     (refused_text c.in-Refused.line c.in-Refused.cause)
-    (noted c.args.settings.notes (closing_notes c.args.settings.workers c.batches.tally)) (outputs_of (g.K.Sink.written c.tell_refused.new.sink) (g.N.Sink.written c.tell_refused.new.notes)) c.in_err-tell_refused-in-Refused.ensures.told)
+    (noted c.args.job.now.settings.notes (closing_notes c.args.job.now.settings.workers c.batches.tally)) (outputs_of (g.K.Sink.written c.tell_refused.new.sink) (g.N.Sink.written c.tell_refused.new.notes)) c.in_err-tell_refused-in-Refused.ensures.told)
 
 pub returns-in_err-tell_refused-in-Refused-clause-told : goal.returns-in_err-tell_refused-in-Refused-clause-told
 returns-in_err-tell_refused-in-Refused-clause-told g c =

@@ -6,7 +6,7 @@ use Rattle.morph_cli.proofs.run.run_batches.Given as goal
 
 abbrev pub invariant-batches : goal.invariant-batches
 invariant-batches g l = record {
-  run : Between (course_of g.A.EventApp.event_of (g.A.EventApp.table_count l.app) (g.A.EventApp.name_of l.app) l.app l.settings INPUT_BYTES (g.S.Source.left l.initial.source)
+  run : Between (course_of g.A.EventApp.event_of (g.A.EventApp.table_count l.job.app) (g.A.EventApp.name_of l.job.app) l.job.app l.job.settings INPUT_BYTES (g.S.Source.left l.initial.source)
       (outputs_of (g.K.Sink.written l.initial.sink) (g.N.Sink.written l.initial.notes)))
       (g.S.Source.left l.source) (outputs_of (g.K.Sink.written l.sink) (g.N.Sink.written l.notes)) l.reader l.engine l.tally l.out;
   source_faults : g.S.Source.faults l.initial.source ≤ g.S.Source.faults l.source;

@@ -11,9 +11,10 @@ pub struct Host<'a, R, G> {
     pub gate: &'a G,
 }
 
-/// What a run is to do: an application, by the settings.
-#[derive(Clone, Copy, Debug, PartialEq, Eq)]
-pub struct Job<A> {
+/// What a run is to do: an application, by the settings, with what the host has.
+#[derive(Drop)]
+pub struct Job<'a, A, R, G> {
+    pub host: &'a Host<'a, R, G>,
     pub app: A,
     pub settings: Settings,
 }

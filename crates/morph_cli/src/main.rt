@@ -14,6 +14,7 @@ mod morph;
 mod names;
 mod note;
 mod notes;
+mod progress;
 mod report;
 mod run;
 mod settings;

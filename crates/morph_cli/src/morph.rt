@@ -31,8 +31,7 @@ use worker_gate::Gate;
 
 /// Runs an application over the input that the settings ask for: the source's, or one that the program makes.
 fn run_over<R: Threads + Sync, A: EventApp + Copy, S: Source, K: Sink, N: Sink, G: Gate>(
-    host: &Host<'_, R, G>,
-    job: &Job<A>,
+    job: &Job<'_, A, R, G>,
     source: &mut S,
     sink: &mut K,
     notes: &mut N,
@@ -58,15 +57,14 @@ fn run_over<R: Threads + Sync, A: EventApp + Copy, S: Source, K: Sink, N: Sink, 
         ⊎ (IsTrue job.now.settings.notes × HasRisen (N.faults notes.old) (N.faults notes.new)) }
 {
     match job.settings.generated {
-        None => run(host, job, source, sink, notes, tally),
-        Some(generated) => run_made(host, job, generated, sink, notes, tally),
+        None => run(job, source, sink, notes, tally),
+        Some(generated) => run_made(job, generated, sink, notes, tally),
     }
 }
 
 /// Runs an application over an input that the program makes.
 fn run_made<R: Threads + Sync, A: EventApp + Copy, K: Sink, N: Sink, G: Gate>(
-    host: &Host<'_, R, G>,
-    job: &Job<A>,
+    job: &Job<'_, A, R, G>,
     generated: Generated,
     sink: &mut K,
     notes: &mut N,
@@ -93,7 +91,7 @@ fn run_made<R: Threads + Sync, A: EventApp + Copy, K: Sink, N: Sink, G: Gate>(
 {
     let size = job.settings.size;
     let mut source = GenSource::new(job.app, generated.seed, generated.events, size);
-    run(host, job, &mut source, sink, notes, tally)
+    run(job, &mut source, sink, notes, tally)
 }
 
 /// Runs the application that the settings name.
@@ -124,24 +122,27 @@ fn run_app<R: Threads + Sync, S: Source, K: Sink, N: Sink, G: Gate>(
     match settings.app {
         App::Ledger => {
             let job = Job {
+                host,
                 app: Ledger,
                 settings,
             };
-            run_over(host, &job, source, sink, notes, tally)
+            run_over(&job, source, sink, notes, tally)
         }
         App::Grep => {
             let job = Job {
+                host,
                 app: Grep,
                 settings,
             };
-            run_over(host, &job, source, sink, notes, tally)
+            run_over(&job, source, sink, notes, tally)
         }
         App::Toll => {
             let job = Job {
+                host,
                 app: Toll,
                 settings,
             };
-            run_over(host, &job, source, sink, notes, tally)
+            run_over(&job, source, sink, notes, tally)
         }
     }
 }

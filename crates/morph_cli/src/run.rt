@@ -14,13 +14,12 @@ ghost use Rattle.morph_cli.specs.Tallies.{no_tally, RunTold};
 
 use crate::batch::run_batch;
 use crate::fault::Fault;
-use crate::job::{Host, Job};
+use crate::job::Job;
+use crate::progress::Progress;
 use crate::tally::Tally;
 use crate::tell::{Refusal, tell_batch, tell_closing, tell_refused};
-use event_reader::{BatchReader, EventApp, INPUT_BYTES, Next};
-use morph_base::Layout;
-use morph_engine::Engine;
-use morph_io::{Out, Sink, Source};
+use event_reader::{EventApp, Next};
+use morph_io::{Sink, Source};
 use std::thread::Threads;
 use worker_gate::Gate;
 
@@ -37,8 +36,7 @@ pub enum Finish {
 /// are counted in the tally, also those of a run that is cut off, and where the notes are on each is told there once it is
 /// written, and the tally at the end.
 pub fn run<R: Threads + Sync, A: EventApp + Copy, S: Source, K: Sink, N: Sink, G: Gate>(
-    host: &Host<'_, R, G>,
-    job: &Job<A>,
+    job: &Job<'_, A, R, G>,
     source: &mut S,
     sink: &mut K,
     notes: &mut N,
@@ -63,34 +61,14 @@ pub fn run<R: Threads + Sync, A: EventApp + Copy, S: Source, K: Sink, N: Sink, G
     ensures write { IsErrOf result Fault.Write → HasRisen (K.faults sink.old) (K.faults sink.new)
         ⊎ (IsTrue job.now.settings.notes × HasRisen (N.faults notes.old) (N.faults notes.new)) }
 {
-    let size = job.settings.size;
-    let layout = Layout {
-        tables: job.app.tables(),
-        size,
-    };
-    let mut engine = Engine::new(host.alloc, layout)?;
-    let mut reader = BatchReader::new(host.alloc, job.app, size, INPUT_BYTES)?;
-    let mut out = Out::new(host.alloc)?;
-    run_batches(
-        host,
-        job,
-        &mut engine,
-        &mut reader,
-        &mut out,
-        source,
-        sink,
-        notes,
-        tally,
-    )
+    let mut progress = Progress::new(job)?;
+    run_batches(job, &mut progress, source, sink, notes, tally)
 }
 
 /// Runs an application from the opening state over what the reader reads, batch by batch.
 fn run_batches<R: Threads + Sync, A: EventApp + Copy, S: Source, K: Sink, N: Sink, G: Gate>(
-    host: &Host<'_, R, G>,
-    job: &Job<A>,
-    engine: &mut Engine,
-    reader: &mut BatchReader<A>,
-    out: &mut Out,
+    job: &Job<'_, A, R, G>,
+    progress: &mut Progress<A>,
     source: &mut S,
     sink: &mut K,
     notes: &mut N,
@@ -98,10 +76,10 @@ fn run_batches<R: Threads + Sync, A: EventApp + Copy, S: Source, K: Sink, N: Sin
 ) -> Result<Finish, Fault>
     requires settings { AreInRange job.now.settings }
     requires tally { tally.old ≡ no_tally }
-    requires reader { reader.old ≡ new_reader job.now.app job.now.settings.size INPUT_BYTES }
-    requires layout { engine.old.layout ≡ layout_of (A.table_count job.now.app) job.now.settings.size }
-    requires opening { contents engine.old ≡ opening_state }
-    requires empty { out.old ≡ [] }
+    requires reader { progress.old.reader ≡ new_reader job.now.app job.now.settings.size INPUT_BYTES }
+    requires layout { progress.old.engine.layout ≡ layout_of (A.table_count job.now.app) job.now.settings.size }
+    requires opening { contents progress.old.engine ≡ opening_state }
+    requires empty { progress.old.out ≡ [] }
     ensures ends { let app = job.now.app in let settings = job.now.settings in
         IfSome (S.left source.old) (λ input. EndsSo (A.event_of app settings.size)
         (telling_for settings (A.table_count app) (A.name_of app)) INPUT_BYTES input
@@ -120,24 +98,32 @@ fn run_batches<R: Threads + Sync, A: EventApp + Copy, S: Source, K: Sink, N: Sin
         ⊎ (IsTrue job.now.settings.notes × HasRisen (N.faults notes.old) (N.faults notes.new)) }
 {
     'batches: loop {
-        match reader.next_batch(host.alloc, source)? {
+        match progress.reader.next_batch(job.host.alloc, source)? {
             Next::Batch(batch) => {
-                let end = run_batch(host, engine, &batch, job.settings.workers)?;
+                let end = run_batch(job.host, &mut progress.engine, &batch, job.settings.workers)?;
                 tally.add(&end);
-                tell_batch(out, sink, notes, &job.settings, tally.batches, &end)?;
-            }
-            Next::End => {
-                let values = engine.state();
-                tell_closing(out, sink, notes, job, values, tally)?;
-                return Ok(Finish::Complete);
-            }
-            Next::Refused { line, cause } => {
-                tell_refused(
-                    out,
+                tell_batch(
+                    &mut progress.out,
                     sink,
                     notes,
                     &job.settings,
-                    &Refusal { line, cause },
+                    tally.batches,
+                    &end,
+                )?;
+            }
+            Next::End => {
+                let values = progress.engine.state();
+                tell_closing(&mut progress.out, sink, notes, job, values, tally)?;
+                return Ok(Finish::Complete);
+            }
+            Next::Refused { line, cause } => {
+                let refusal = Refusal { line, cause };
+                tell_refused(
+                    &mut progress.out,
+                    sink,
+                    notes,
+                    &job.settings,
+                    &refusal,
                     tally,
                 )?;
                 return Ok(Finish::Refused);

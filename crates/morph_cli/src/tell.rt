@@ -54,11 +54,11 @@ pub fn tell_batch<K: Sink, N: Sink>(
 }
 
 /// Tells the end of the input: the closing text to the sink, and behind it the tally to the notes, where these are on.
-pub fn tell_closing<A: EventApp, K: Sink, N: Sink>(
+pub fn tell_closing<A: EventApp, R, G, K: Sink, N: Sink>(
     out: &mut Out,
     sink: &mut K,
     notes: &mut N,
-    job: &Job<A>,
+    job: &Job<'_, A, R, G>,
     values: &State,
     tally: &Tally,
 ) -> Result<(), WriteFailed>

@@ -37,7 +37,7 @@ batches-init g c =
     record {
       run = between_start (course_of g.A.EventApp.event_of (g.A.EventApp.table_count c.args.job.now.app) (g.A.EventApp.name_of c.args.job.now.app) c.args.job.now.app c.args.job.now.settings INPUT_BYTES (g.S.Source.left c.args.source.now)
           (outputs_of (g.K.Sink.written c.args.sink.now) (g.N.Sink.written c.args.notes.now)))
-          c.args.reader.now c.args.engine.now c.args.tally.now c.args.out.now (layout_of (g.A.EventApp.table_count c.args.job.now.app) c.args.job.now.settings.size) c.requires.reader c.requires.layout
+          c.args.progress.now.reader c.args.progress.now.engine c.args.tally.now c.args.progress.now.out (layout_of (g.A.EventApp.table_count c.args.job.now.app) c.args.job.now.settings.size) c.requires.reader c.requires.layout
           refl c.requires.opening c.requires.empty c.requires.tally;
       source_faults = omega arith;
       sink_faults = omega arith;
@@ -73,14 +73,14 @@ pub add-requires-clause-events : goal.add-requires-clause-events
 add-requires-clause-events g c =
     let room = tally_few c.batches.invariant.run in
     let counted = rw c.in-Batch.is at c.in_ok-batch.ensures.counted in
-    let many = fates-many (contents c.batches.engine) c.in-Batch.batch (settled_fates c.in_ok-end-in-Batch.end.plan c.in_ok-end-in-Batch.end.settled) c.in_ok-end-in-Batch.ensures.fates in
+    let many = fates-many (contents c.batches.progress.engine) c.in-Batch.batch (settled_fates c.in_ok-end-in-Batch.end.plan c.in_ok-end-in-Batch.end.settled) c.in_ok-end-in-Batch.ensures.fates in
     let events = length-settled_fates c.in_ok-end-in-Batch.end.plan c.in_ok-end-in-Batch.end.settled in
     omega (arith, room.1, many, events, counted, c.in_ok-batch.ensures.bound, c.batches.invariant.run.limit_is, c.in_ok-batch.ensures.same.2)
 
 pub add-requires-clause-counts : goal.add-requires-clause-counts
 add-requires-clause-counts g c =
     let counted = rw c.in-Batch.is at c.in_ok-batch.ensures.counted in
-    let many = fates-many (contents c.batches.engine) c.in-Batch.batch (settled_fates c.in_ok-end-in-Batch.end.plan c.in_ok-end-in-Batch.end.settled) c.in_ok-end-in-Batch.ensures.fates in
+    let many = fates-many (contents c.batches.progress.engine) c.in-Batch.batch (settled_fates c.in_ok-end-in-Batch.end.plan c.in_ok-end-in-Batch.end.settled) c.in_ok-end-in-Batch.ensures.fates in
     let events = length-settled_fates c.in_ok-end-in-Batch.end.plan c.in_ok-end-in-Batch.end.settled in
     omega (arith, many, events, counted, c.batches.invariant.run.counted, c.in_ok-batch.ensures.bound, c.batches.invariant.run.limit_is, c.in_ok-batch.ensures.same.2)
 
@@ -163,7 +163,7 @@ returns-in-End-clause-ends g c =
     ends_complete (g.S.Source.left c.next_batch.new.source) (outputs_of (g.K.Sink.written c.tell_closing.new.sink) (g.N.Sink.written c.tell_closing.new.notes))
     (closing_of c.args.job.now.settings (g.A.EventApp.name_of c.args.job.now.app) c.state-values.result.now c.batches.tally)
     (noted c.args.job.now.settings.notes (closing_notes c.args.job.now.settings.workers c.batches.tally)) c.batches.invariant.run.goes answers
-    (closing_last c.args.job.now.settings (g.A.EventApp.name_of c.args.job.now.app) c.state-values.result.now c.batches.engine c.batches.tally _ c.state-values.ensures c.batches.invariant.run.layout) c.in_ok-tell_closing-in-End.ensures.told
+    (closing_last c.args.job.now.settings (g.A.EventApp.name_of c.args.job.now.app) c.state-values.result.now c.batches.progress.engine c.batches.tally _ c.state-values.ensures c.batches.invariant.run.layout) c.in_ok-tell_closing-in-End.ensures.told
 
 pub returns-in-End-clause-told : goal.returns-in-End-clause-told
 returns-in-End-clause-told g c =
@@ -171,7 +171,7 @@ returns-in-End-clause-told g c =
     told_at_end (outputs_of (g.K.Sink.written c.tell_closing.new.sink) (g.N.Sink.written c.tell_closing.new.notes)) 0 Ended
     (closing_of c.args.job.now.settings (g.A.EventApp.name_of c.args.job.now.app) c.state-values.result.now c.batches.tally)
     (inl refl) (λ is. absurd (cc)) c.batches.invariant.run.goes answers
-    (closing_last c.args.job.now.settings (g.A.EventApp.name_of c.args.job.now.app) c.state-values.result.now c.batches.engine c.batches.tally _ c.state-values.ensures c.batches.invariant.run.layout) c.in_ok-tell_closing-in-End.ensures.told
+    (closing_last c.args.job.now.settings (g.A.EventApp.name_of c.args.job.now.app) c.state-values.result.now c.batches.progress.engine c.batches.tally _ c.state-values.ensures c.batches.invariant.run.layout) c.in_ok-tell_closing-in-End.ensures.told
 
 pub returns-in_err-tell_closing-in-End-clause-ends : goal.returns-in_err-tell_closing-in-End-clause-ends
 returns-in_err-tell_closing-in-End-clause-ends g c =
@@ -179,7 +179,7 @@ returns-in_err-tell_closing-in-End-clause-ends g c =
     ends_cut (g.S.Source.left c.next_batch.new.source) (outputs_of (g.K.Sink.written c.tell_closing.new.sink) (g.N.Sink.written c.tell_closing.new.notes)) Ended
     (closing_of c.args.job.now.settings (g.A.EventApp.name_of c.args.job.now.app) c.state-values.result.now c.batches.tally)
     (error_is c.from_residual-in_err-tell_closing-in-End.result Write c.from_residual-in_err-tell_closing-in-End.ensures.1) c.batches.invariant.run.goes answers
-    (closing_last c.args.job.now.settings (g.A.EventApp.name_of c.args.job.now.app) c.state-values.result.now c.batches.engine c.batches.tally _ c.state-values.ensures c.batches.invariant.run.layout)
+    (closing_last c.args.job.now.settings (g.A.EventApp.name_of c.args.job.now.app) c.state-values.result.now c.batches.progress.engine c.batches.tally _ c.state-values.ensures c.batches.invariant.run.layout)
     (cut_text (outputs_of (g.K.Sink.written c.batches.sink) (g.N.Sink.written c.batches.notes))
     (closing_of c.args.job.now.settings (g.A.EventApp.name_of c.args.job.now.app) c.state-values.result.now c.batches.tally)
     (noted c.args.job.now.settings.notes (closing_notes c.args.job.now.settings.workers c.batches.tally)) (outputs_of (g.K.Sink.written c.tell_closing.new.sink) (g.N.Sink.written c.tell_closing.new.notes)) c.in_err-tell_closing-in-End.ensures.told)
@@ -190,7 +190,7 @@ returns-in_err-tell_closing-in-End-clause-told g c =
     told_cut_at_end (outputs_of (g.K.Sink.written c.tell_closing.new.sink) (g.N.Sink.written c.tell_closing.new.notes)) Ended
     (closing_of c.args.job.now.settings (g.A.EventApp.name_of c.args.job.now.app) c.state-values.result.now c.batches.tally)
     (error_is c.from_residual-in_err-tell_closing-in-End.result Write c.from_residual-in_err-tell_closing-in-End.ensures.1) (λ is. absurd (cc)) c.batches.invariant.run.goes answers
-    (closing_last c.args.job.now.settings (g.A.EventApp.name_of c.args.job.now.app) c.state-values.result.now c.batches.engine c.batches.tally _ c.state-values.ensures c.batches.invariant.run.layout) c.in_err-tell_closing-in-End.ensures.told
+    (closing_last c.args.job.now.settings (g.A.EventApp.name_of c.args.job.now.app) c.state-values.result.now c.batches.progress.engine c.batches.tally _ c.state-values.ensures c.batches.invariant.run.layout) c.in_err-tell_closing-in-End.ensures.told
 
 pub returns-in_err-tell_closing-in-End-clause-write : goal.returns-in_err-tell_closing-in-End-clause-write
 returns-in_err-tell_closing-in-End-clause-write g c is =

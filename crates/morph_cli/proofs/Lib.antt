@@ -13,3 +13,4 @@ pub mod Noting
 pub mod Turns
 pub mod WordLaws
 pub mod NoSettingsLaws
+pub mod Starting

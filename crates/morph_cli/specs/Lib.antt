@@ -1,6 +1,7 @@
 pub mod Text
 pub mod Faults
 pub mod Runs
+pub mod Words
 pub mod Settings
 pub mod NoSettings
 pub mod Status

@@ -27,6 +27,8 @@ const FOUR_EVENTS: &[u8] = b"D 1 0 0 100 5\nX 2 0 1 0 1 60 6\nX 3 0 1 0 1 60 5\n
 const FOUR: &[u8] =
     b"1 C 100 5\n2 A\n3 C 40 0 60 5\n4 C 0 0 60 5\nacct 0 40\nacct 2 60\nasset 2 5\ncommitted 3 aborted 1\n";
 
+const NOTHING: &[u8] = b"";
+
 /// What a run left.
 #[derive(Drop)]
 struct Ran {
@@ -137,10 +139,8 @@ fn expect(
 ) -> Result<(), Fail> {
     for (input, status, text) in runs {
         let ran = run_words(rt, rt.alloc(), words, input)?;
-        assert_eq!(rt;
-            (ran.status, ran.sink.bytes(), ran.notes.bytes()),
-            (*status, *text, b"".as_slice())
-        );
+        let wanted: (u8, &[u8], &[u8]) = (*status, text, NOTHING);
+        assert_eq!(rt; (ran.status, ran.sink.bytes(), ran.notes.bytes()), wanted);
     }
     Ok(())
 }

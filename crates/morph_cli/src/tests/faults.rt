@@ -1,10 +1,14 @@
 //! Refused words, and failing reads and writes.
-use super::{LEDGER, Ran, run_with, sink_of, source_of};
+use super::{LEDGER, NOTHING, Ran, run_with, sink_of, source_of};
 use morph_base::OutOfMemory;
 use morph_io::Source;
 use std::alloc::Global;
+use std::process::Abort;
 use std::test::Fail;
 use std::thread::Threads;
+
+/// What stands in the notes where the words are no settings.
+const USAGE: &[u8] = b"usage: morph app=ledger|grep|toll [name=value ...]\n";
 
 /// Runs the program with these words on one line, and tells what it left and how many bytes of the line.
 fn run_unread<R: Threads + Sync>(
@@ -17,6 +21,22 @@ fn run_unread<R: Threads + Sync>(
     let mut rest = [0; 4];
     let left = source.read(&mut rest).unwrap_or(0);
     Ok((ran, left))
+}
+
+/// Runs the program with each of these words, and expects that nothing but the usage is written, and nothing read.
+fn expect_usage(
+    rt: &(impl Threads + Sync + Abort + Alloc<A = Global>),
+    refused: &[&[&[u8]]],
+) -> Result<(), Fail> {
+    for words in refused {
+        let (ran, left) = run_unread(rt, rt.alloc(), words)?;
+        let wanted = (2, NOTHING, USAGE, 2);
+        assert_eq!(rt;
+            (ran.status, ran.sink.bytes(), ran.notes.bytes(), left),
+            wanted
+        );
+    }
+    Ok(())
 }
 
 #[test]
@@ -41,15 +61,7 @@ fn words_that_are_no_settings(rt: HostRuntime) -> Result<(), Fail> {
         &[b"app=ledger", b"workers=2", b"workers=2"],
         &[b"app=ledger", b"plan=auto", b"unit=op"],
     ];
-    let usage = b"usage: morph app=ledger|grep|toll [name=value ...]\n".as_slice();
-    for words in refused {
-        let (ran, left) = run_unread(&rt, rt.alloc(), words)?;
-        assert_eq!(rt;
-            (ran.status, ran.sink.bytes(), ran.notes.bytes(), left),
-            (2, b"".as_slice(), usage, 2)
-        );
-    }
-    Ok(())
+    expect_usage(&rt, &refused)
 }
 
 /// Which calls of the source and of the sink fail, and how many bytes each takes at most.

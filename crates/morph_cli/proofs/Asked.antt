@@ -3,12 +3,13 @@ use Rattle.std.proofs.Common.{◌≡◌, ℕ, ◌+◌, ◌<◌, true, false, Lis
 use Rattle.std.proofs.lemmas.Bool.{cond-true, cond-false}
 use Rattle.std.proofs.lemmas.List.{drop_more}
 use Rattle.morph_base.specs.declared.list.List.{List as Items}
-use Rattle.morph_cli.specs.Settings.{has_name, value_under}
+use Rattle.morph_cli.specs.declared.names.Name.{Name}
+use Rattle.morph_cli.specs.Settings.{has_name, value_in, value_under}
 
 abbrev items_of : Items ℕ → List ℕ
 items_of word = word.items
 
-module _ (name : List ℕ) (words : List (Items ℕ)) (i : ℕ) (word : Items ℕ) (lt : i < length words) (is : word ≡ get_or words i word) where
+module _ (name : Name) (words : List (Items ℕ)) (i : ℕ) (word : Items ℕ) (lt : i < length words) (is : word ≡ get_or words i word) where
   -- the words that are left begin with this one
   one_more : value_under name (map items_of (drop i words)) ≡ value_under name (word.items ∷ map items_of (drop (i + 1) words))
   one_more =
@@ -16,7 +17,7 @@ module _ (name : List ℕ) (words : List (Items ℕ)) (i : ℕ) (word : Items �
       ∙ ap (λ w. value_under name (items_of w ∷ map items_of (drop (i + 1) words))) (sym is)
 
   -- it has the name
-  pub value_here : has_name name word.items ≡ true → value_under name (map items_of (drop i words)) ≡ Some (drop (length name) word.items)
+  pub value_here : has_name name word.items ≡ true → value_under name (map items_of (drop i words)) ≡ Some (value_in name word.items)
   unfolding value_under
   value_here has = one_more ∙ cond-true (has_name name word.items) _ _ has
 

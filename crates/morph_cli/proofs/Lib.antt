@@ -11,3 +11,6 @@ pub mod Making
 pub mod Tallying
 pub mod Noting
 pub mod Turns
+pub mod WordLaws
+pub mod NoSettingsLaws
+pub mod Starting

@@ -29,6 +29,9 @@ report_of s = report_by s.generated
 abbrev pub telling_by : Option Generated → (tables size : ℕ) → (ℕ → List ℕ) → Telling
 telling_by generated tables size name = record { report = report_by generated; layout = record { tables = tables; size = size }; name = name }
 
+abbrev pub telling_for : Settings → (tables : ℕ) → (ℕ → List ℕ) → Telling
+telling_for s tables name = telling_by s.generated tables s.size name
+
 -- the input: what the source has left, or a text that the program makes
 abbrev pub input_by : Option Generated → (text : (seed events : ℕ) → List ℕ) → Option (List ℕ) → Option (List ℕ)
 input_by None text left = left

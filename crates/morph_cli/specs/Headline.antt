@@ -7,6 +7,10 @@ use Rattle.event_reader.specs.Accepted.{Ended, RefusedAt, CutOff, accepted, acce
 use Rattle.morph_cli.specs.Text.{Telling, event_lines, whole_text}
 use Rattle.morph_cli.specs.Runs.{AppendsBatches, AppendsClosed}
 
+-- the most bytes of an input
+abbrev pub input_limit : ℕ
+input_limit = 1073741824
+
 -- over an input, where at most `limit` bytes of it are read: by the status, what the input is and what was appended to the
 -- sink. The whole text is that of applying the events one transaction at a time, in the order of time, to a plain map
 pub record Headline (meaning : Meaning) (telling : Telling) (limit : ℕ) (input : List ℕ) (left old new : Option (List ℕ)) (status : ℕ) : Type 0 where

@@ -1,7 +1,9 @@
 pub mod Text
 pub mod Faults
 pub mod Runs
+pub mod Words
 pub mod Settings
+pub mod NoSettings
 pub mod Status
 pub mod Headline
 pub mod Apps

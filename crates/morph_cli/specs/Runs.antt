@@ -1,5 +1,6 @@
 -- What a run comes to: by what is read, where it ends, and what stands in the sink.
 use Rattle.std.specs.Prelude.{◌≡◌, ℕ, List, ◌++◌, Option, Some, Result, Ok, Err}
+use Rattle.morph_base.specs.declared.key.Layout.{Layout}
 use Rattle.morph_base.specs.Transactions.{Transaction}
 use Rattle.morph_io.specs.Told.{behind, AppendsPrefix}
 use Rattle.event_reader.specs.declared.cause.Cause.{Cause}
@@ -11,6 +12,10 @@ use Rattle.morph_cli.specs.declared.fault.Fault.{Fault}
 use Rattle.morph_cli.specs.declared.fault.Fault.TheVariants.{Read, Write, OutOfMemory, TooLong}
 use Rattle.morph_cli.specs.declared.report.Report.{Report}
 use Rattle.morph_cli.specs.Text.{Telling, event_lines, whole_text}
+
+-- tables of so many ids each
+abbrev pub layout_of : (tables size : ℕ) → Layout
+layout_of tables size = record { tables = tables; size = size }
 
 -- what is told of the events of some first ones of the batches, whole, was appended
 pub record AppendsBatches (report : Report) (batches : List (List Transaction)) (old new : Option (List ℕ)) : Type 0 where

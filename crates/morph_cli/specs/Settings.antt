@@ -1,41 +1,66 @@
--- The settings that words ask for. A word is `name=value`; a name is written here with its `=`.
-use Rattle.std.specs.Prelude.{ℕ, ◌≤◌, ◌&&◌, ◌||◌, Bool, true, false, nat_le, List, [], ◌∷◌, codes, count_by, drop, length, take, Option, Some, None, if◌then◌else◌, is_some, IfSome}
-use Rattle.std.specs.List.{list_all}
+-- The settings that words ask for. A word is `name=value`, and is split at its first `=`.
+use Rattle.std.specs.Prelude.{ℕ, ◌+◌, ◌==◌, ◌≤◌, ◌&&◌, ◌||◌, Bool, true, false, nat_le, List, [], ◌∷◌, codes, count_by, drop, length, Option, Some, None, if◌then◌else◌, is_some, IfSome}
+use Rattle.std.specs.List.{list_all, list_any}
 use Rattle.std.specs.Str.{bytes_eq}
-use Rattle.morph_base.specs.declared.limits.TheConstants.{WORKERS}
-use Rattle.event_reader.specs.declared.number.Number.{Number}
-use Rattle.event_reader.specs.declared.number.Number.TheVariants.{Value, TooGreat, NotNumber}
 use Rattle.event_reader.specs.declared.ranges.Range.{Range}
-use Rattle.event_reader.specs.Numbers.{is_in, number_of}
+use Rattle.event_reader.specs.Numbers.{is_in, is_number, value_of}
 use Rattle.morph_cli.specs.declared.settings.Settings.{Settings}
 use Rattle.morph_cli.specs.declared.settings.Generated.{Generated}
 use Rattle.morph_cli.specs.declared.settings.App.{App}
 use Rattle.morph_cli.specs.declared.settings.App.TheVariants.{Ledger, Grep, Toll}
-use Rattle.morph_cli.specs.declared.settings.TheConstants.{DEFAULT_WORKERS, DEFAULT_SIZE, DEFAULT_SEED, DEFAULT_EVENTS, GREATEST_SIZE, GREATEST_SEED, GREATEST_EVENTS}
+use Rattle.morph_cli.specs.declared.names.Name.{Name}
+use Rattle.morph_cli.specs.declared.names.Name.TheVariants.{App as AppName, Own, Workers, Size, Seed, Events, Notes}
 use Rattle.morph_cli.specs.declared.words.Input.{Input}
 
--- whether a word has a name
-abbrev pub has_name : (name word : List ℕ) → Bool
-has_name name word = bytes_eq (take (length name) word) name
+-- the names that there are
+abbrev pub text_of : Name → List ℕ
+text_of AppName = codes "app"
+text_of Own = codes "self"
+text_of Workers = codes "workers"
+text_of Size = codes "size"
+text_of Seed = codes "seed"
+text_of Events = codes "events"
+text_of Notes = codes "notes"
 
--- whether it has a name that there is
+abbrev pub all_names : List Name
+all_names = AppName ∷ Own ∷ Workers ∷ Size ∷ Seed ∷ Events ∷ Notes ∷ []
+
+-- whether a word has an `=`, and its name, which stands before the first one
+abbrev pub has_equals : List ℕ → Bool
+has_equals word = list_any (λ byte. byte == 61) word
+
+abbrev pub name_of : List ℕ → List ℕ
+name_of [] = []
+name_of (byte ∷ bytes) = if byte == 61 then [] else byte ∷ name_of bytes
+
+-- whether a word is `name=value` with this name
+abbrev pub has_name : Name → (word : List ℕ) → Bool
+has_name name word = has_equals word && bytes_eq (name_of word) (text_of name)
+
+-- the value in a word with this name
+abbrev pub value_in : Name → (word : List ℕ) → List ℕ
+value_in name word = drop (length (text_of name) + 1) word
+
+-- whether a word has a name that there is
 abbrev pub is_known : List ℕ → Bool
-is_known word = has_name (codes "app=") word || has_name (codes "self=") word || has_name (codes "workers=") word || has_name (codes "size=") word
-    || has_name (codes "seed=") word || has_name (codes "events=") word || has_name (codes "notes=") word
+is_known word = list_any (λ name. has_name name word) all_names
 
 -- whether at most one of the words has a name
-abbrev pub is_once : List (List ℕ) → (name : List ℕ) → Bool
+abbrev pub is_once : List (List ℕ) → Name → Bool
 is_once words name = nat_le (count_by (has_name name) words) 1
 
 -- whether no name is given twice
 abbrev pub are_once : List (List ℕ) → Bool
-are_once words = is_once words (codes "app=") && is_once words (codes "self=") && is_once words (codes "workers=") && is_once words (codes "size=")
-    && is_once words (codes "seed=") && is_once words (codes "events=") && is_once words (codes "notes=")
+are_once words = list_all (is_once words) all_names
 
 -- the value that words give under a name
-unfoldable pub value_under : (name : List ℕ) → List (List ℕ) → Option (List ℕ)
+unfoldable pub value_under : Name → List (List ℕ) → Option (List ℕ)
 value_under name [] = None
-value_under name (word ∷ words) = if has_name name word then Some (drop (length name) word) else value_under name words
+value_under name (word ∷ words) = if has_name name word then Some (value_in name word) else value_under name words
+
+-- whether words give a name
+abbrev pub is_given : Name → List (List ℕ) → Bool
+is_given name words = is_some (value_under name words)
 
 -- the application of a name
 abbrev pub app_in : List ℕ → Option App
@@ -44,14 +69,28 @@ app_in value =
     else (if bytes_eq value (codes "grep") then Some Grep
     else (if bytes_eq value (codes "toll") then Some Toll else None))
 
--- the number in a range that a value says
-abbrev pub in_range : Range → Number → Option ℕ
-in_range range (Value n) = if is_in range n then Some n else None
-in_range range TooGreat = None
-in_range range NotNumber = None
+-- the numbers of workers, of ids in a table, of a seed and of events
+abbrev pub from_to : (least greatest : ℕ) → Range
+from_to least greatest = record { least = least; greatest = greatest }
+
+abbrev pub worker_counts : Range
+worker_counts = from_to 1 16
+
+abbrev pub sizes : Range
+sizes = from_to 1 1000000
+
+abbrev pub seeds : Range
+seeds = from_to 0 1000000000000
+
+abbrev pub event_counts : Range
+event_counts = from_to 0 1000000
+
+-- the number in a range that a value says: decimal digits, of which the first is no 0 unless it is the only one
+abbrev pub says_in : Range → List ℕ → Bool
+says_in range value = is_number value && is_in range (value_of value)
 
 abbrev pub number_in : Range → List ℕ → Option ℕ
-number_in range value = in_range range (number_of value)
+number_in range value = if says_in range value then Some (value_of value) else None
 
 -- what is given under a name: an application, which may be missing; a number, or another one where it is missing. None where
 -- the value is not one of the name's
@@ -63,14 +102,14 @@ abbrev pub app_given : Option (List ℕ) → Option (Option App)
 app_given None = Some None
 app_given (Some value) = some_app (app_in value)
 
-abbrev pub app_under : (name : List ℕ) → List (List ℕ) → Option (Option App)
+abbrev pub app_under : Name → List (List ℕ) → Option (Option App)
 app_under name words = app_given (value_under name words)
 
 abbrev pub number_given : Range → (other : ℕ) → Option (List ℕ) → Option ℕ
 number_given range other None = Some other
 number_given range other (Some value) = number_in range value
 
-abbrev pub number_under : (name : List ℕ) → Range → (other : ℕ) → List (List ℕ) → Option ℕ
+abbrev pub number_under : Name → Range → (other : ℕ) → List (List ℕ) → Option ℕ
 number_under name range other words = number_given range other (value_under name words)
 
 -- whether a value says on or off
@@ -82,16 +121,13 @@ abbrev pub switch_given : Option (List ℕ) → Option Bool
 switch_given None = Some false
 switch_given (Some value) = switch_in value
 
-abbrev pub switch_under : (name : List ℕ) → List (List ℕ) → Option Bool
+abbrev pub switch_under : Name → List (List ℕ) → Option Bool
 switch_under name words = switch_given (value_under name words)
-
-abbrev pub from_to : (least greatest : ℕ) → Range
-from_to least greatest = record { least = least; greatest = greatest }
 
 -- an input that is read, where no seed and no number of events is given
 abbrev pub read_input : App → List (List ℕ) → Option Input
 read_input app words =
-    if is_some (value_under (codes "seed=") words) || is_some (value_under (codes "events=") words) then None
+    if is_given Seed words || is_given Events words then None
     else Some (record { app = app; generated = None })
 
 -- an input that the program makes
@@ -102,7 +138,7 @@ made_of app None events = None
 
 abbrev pub made_input : App → List (List ℕ) → Option Input
 made_input app words =
-    made_of app (number_under (codes "seed=") (from_to 0 GREATEST_SEED) DEFAULT_SEED words) (number_under (codes "events=") (from_to 0 GREATEST_EVENTS) DEFAULT_EVENTS words)
+    made_of app (number_under Seed seeds 1 words) (number_under Events event_counts 1000 words)
 
 -- exactly one of `app` and `self` is given
 abbrev pub input_by : List (List ℕ) → (app self : Option (Option App)) → Option Input
@@ -114,7 +150,7 @@ input_by words (Some app) None = None
 input_by words None self = None
 
 abbrev pub input_of : List (List ℕ) → Option Input
-input_of words = input_by words (app_under (codes "app=") words) (app_under (codes "self=") words)
+input_of words = input_by words (app_under AppName words) (app_under Own words)
 
 abbrev pub settings_by : Option Input → (workers size : Option ℕ) → (notes : Option Bool) → Option Settings
 settings_by (Some input) (Some workers) (Some size) (Some notes) =
@@ -128,18 +164,17 @@ settings_by None workers size notes = None
 abbrev pub settings_of : List (List ℕ) → Option Settings
 settings_of words =
     if list_all is_known words && are_once words
-    then settings_by (input_of words) (number_under (codes "workers=") (from_to 1 WORKERS) DEFAULT_WORKERS words)
-    (number_under (codes "size=") (from_to 1 GREATEST_SIZE) DEFAULT_SIZE words) (switch_under (codes "notes=") words)
+    then settings_by (input_of words) (number_under Workers worker_counts 1 words) (number_under Size sizes 10000 words) (switch_under Notes words)
     else None
 
 -- the numbers of an input that the program makes are in their ranges
 abbrev pub AreFew : Option Generated → Type 0
-AreFew generated = IfSome generated (λ g. (g.seed ≤ GREATEST_SEED) × (g.events ≤ GREATEST_EVENTS))
+AreFew generated = IfSome generated (λ g. (g.seed ≤ seeds.greatest) × (g.events ≤ event_counts.greatest))
 
 -- the numbers of settings are in their ranges
 pub record AreInRange (s : Settings) : Type 0 where
   pub some_workers : 1 ≤ s.workers
-  pub few_workers : s.workers ≤ WORKERS
+  pub few_workers : s.workers ≤ worker_counts.greatest
   pub some_ids : 1 ≤ s.size
-  pub few_ids : s.size ≤ GREATEST_SIZE
+  pub few_ids : s.size ≤ sizes.greatest
   pub generated : AreFew s.generated

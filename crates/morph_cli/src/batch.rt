@@ -9,9 +9,9 @@ ghost use Rattle.morph_base.specs.Guesses.{stale_count};
 ghost use Rattle.morph_engine.specs.Fates.{settled_fates};
 ghost use Rattle.morph_cli.specs.Tallies.{IsMadeOf};
 
+use crate::job::Host;
 use morph_base::{Abort, Batch, Explore, OutOfMemory, Strategy, Unit};
 use morph_engine::{BatchEnd, Engine};
-use std::alloc::Global;
 use std::thread::Threads;
 use worker_gate::Gate;
 
@@ -24,12 +24,10 @@ const STRATEGY: Strategy = Strategy {
 
 /// Makes the plan of a batch and runs it on the engine with so many workers. Where memory is refused the engine stays.
 pub fn run_batch<R: Threads + Sync, G: Gate>(
-    rt: &R,
-    alloc: Global,
+    host: &Host<'_, R, G>,
     engine: &mut Engine,
     batch: &Batch,
     workers: u32,
-    gate: &G,
 ) -> Result<BatchEnd, OutOfMemory>
     requires some_workers { 1 ≤ workers }
     requires few_workers { workers ≤ WORKERS }
@@ -44,6 +42,6 @@ pub fn run_batch<R: Threads + Sync, G: Gate>(
     ensures rolled { IfOk result (λ end. end.rolled ≡ stale_count end.plan) }
     ensures refused { OnErr result (engine.new ≡ engine.old) }
 {
-    let plan = engine.plan(alloc, batch)?;
-    engine.run_batch(rt, alloc, plan, &STRATEGY, workers, gate)
+    let plan = engine.plan(host.alloc, batch)?;
+    engine.run_batch(host.rt, host.alloc, plan, &STRATEGY, workers, host.gate)
 }

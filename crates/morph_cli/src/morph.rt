@@ -3,17 +3,18 @@ ghost use Rattle.morph_io.specs.Told.{behind, HasRisen, AppendsPrefix};
 ghost use Rattle.event_reader.specs.declared.limits.TheConstants.{INPUT_BYTES};
 ghost use Rattle.event_reader.specs.Accepted.{accepted, accepted_within};
 ghost use Rattle.event_reader.specs.GeneratedText.{generated_text};
-ghost use Rattle.morph_cli.specs.Apps.{input_by, input_of, left_by, meaning_of, telling_by, telling_of};
-ghost use Rattle.morph_cli.specs.Headline.{Headline, Completes};
+ghost use Rattle.morph_cli.specs.Apps.{input_by, input_of, left_by, meaning_of, telling_for, telling_of};
+ghost use Rattle.morph_cli.specs.Headline.{Headline, Completes, input_limit};
 ghost use Rattle.morph_cli.specs.Outputs.{outputs_of};
 ghost use Rattle.morph_cli.specs.Runs.{EndsSo, EndsMade};
 ghost use Rattle.morph_cli.specs.Settings.{AreInRange, settings_of};
 ghost use Rattle.morph_cli.specs.Status.{note_at, status_of, IsStatus, IsMadeStatus};
 ghost use Rattle.morph_cli.specs.Tallies.{no_tally, RunTold, CallTold, IsBalanced};
 
-use crate::ended::{Ended, USAGE, USAGE_STATUS, note_of, status};
+use crate::ended::{Ended, USAGE_STATUS, note_of, status};
 use crate::fault::Fault;
-use crate::note::write_note;
+use crate::job::{Host, Job};
+use crate::note::{write_note, write_usage};
 use crate::run::{Finish, run};
 use crate::settings::{App, Generated, Settings};
 use crate::tally::Tally;
@@ -30,103 +31,119 @@ use worker_gate::Gate;
 
 /// Runs an application over the input that the settings ask for: the source's, or one that the program makes.
 fn run_over<R: Threads + Sync, A: EventApp + Copy, S: Source, K: Sink, N: Sink, G: Gate>(
-    rt: &R,
-    alloc: Global,
-    app: A,
-    settings: Settings,
+    job: &Job<'_, A, R, G>,
     source: &mut S,
     sink: &mut K,
     notes: &mut N,
     tally: &mut Tally,
-    gate: &G,
 ) -> Result<Finish, Fault>
-    requires settings { AreInRange settings }
+    requires settings { AreInRange job.now.settings }
     requires tally { tally.old ≡ no_tally }
-    ensures ends { IfSome (input_by settings.generated (generated_text (A.generated app settings.size)) (S.left source.old)) (λ input.
-        EndsSo (A.event_of app settings.size) (telling_by settings.generated (A.table_count app) settings.size (A.name_of app))
-        INPUT_BYTES input (left_by settings.generated (S.left source.new)) (K.written sink.old) result (K.written sink.new)) }
-    ensures told { RunTold (telling_by settings.generated (A.table_count app) settings.size (A.name_of app))
-        (option_map (accepted_within (A.event_of app settings.size) INPUT_BYTES) (input_by settings.generated (generated_text (A.generated app settings.size)) (S.left source.old)))
-        settings.notes settings.workers (status_of result) tally.new (outputs_of (K.written sink.old) (N.written notes.old)) (outputs_of (K.written sink.new) (N.written notes.new)) }
+    ensures ends { let app = job.now.app in let settings = job.now.settings in
+        IfSome (input_by settings.generated (generated_text (A.generated app settings.size)) (S.left source.old)) (λ input.
+        EndsSo (A.event_of app settings.size) (telling_for settings (A.table_count app) (A.name_of app)) INPUT_BYTES input
+        (left_by settings.generated (S.left source.new)) (K.written sink.old) result (K.written sink.new)) }
+    ensures told { let app = job.now.app in let settings = job.now.settings in
+        RunTold (telling_for settings (A.table_count app) (A.name_of app))
+        (option_map (accepted_within (A.event_of app settings.size) INPUT_BYTES)
+        (input_by settings.generated (generated_text (A.generated app settings.size)) (S.left source.old)))
+        settings.notes settings.workers (status_of result) tally.new
+        (outputs_of (K.written sink.old) (N.written notes.old))
+        (outputs_of (K.written sink.new) (N.written notes.new)) }
     ensures notes_faults { N.faults notes.old ≤ N.faults notes.new }
-    ensures made { IsSome settings.generated → (source.new ≡ source.old) × EndsMade result }
+    ensures made { IsSome job.now.settings.generated → (source.new ≡ source.old) × EndsMade result }
     ensures read { IsErrOf result Fault.Read → HasRisen (S.faults source.old) (S.faults source.new) }
-    ensures write { IsErrOf result Fault.Write → HasRisen (K.faults sink.old) (K.faults sink.new) ⊎ (IsTrue settings.notes × HasRisen (N.faults notes.old) (N.faults notes.new)) }
+    ensures write { IsErrOf result Fault.Write → HasRisen (K.faults sink.old) (K.faults sink.new)
+        ⊎ (IsTrue job.now.settings.notes × HasRisen (N.faults notes.old) (N.faults notes.new)) }
 {
-    match settings.generated {
-        None => run(rt, alloc, app, settings, source, sink, notes, tally, gate),
-        Some(generated) => run_made(
-            rt, alloc, app, settings, generated, sink, notes, tally, gate,
-        ),
+    match job.settings.generated {
+        None => run(job, source, sink, notes, tally),
+        Some(generated) => run_made(job, generated, sink, notes, tally),
     }
 }
 
 /// Runs an application over an input that the program makes.
 fn run_made<R: Threads + Sync, A: EventApp + Copy, K: Sink, N: Sink, G: Gate>(
-    rt: &R,
-    alloc: Global,
-    app: A,
-    settings: Settings,
+    job: &Job<'_, A, R, G>,
     generated: Generated,
     sink: &mut K,
     notes: &mut N,
     tally: &mut Tally,
-    gate: &G,
 ) -> Result<Finish, Fault>
-    requires settings { AreInRange settings }
-    requires generated { settings.generated ≡ Some generated }
+    requires settings { AreInRange job.now.settings }
+    requires generated { job.now.settings.generated ≡ Some generated }
     requires tally { tally.old ≡ no_tally }
-    ensures ends { EndsSo (A.event_of app settings.size) (telling_by settings.generated (A.table_count app) settings.size (A.name_of app))
-        INPUT_BYTES (generated_text (A.generated app settings.size) generated.seed generated.events) None (K.written sink.old) result (K.written sink.new) }
-    ensures told { RunTold (telling_by settings.generated (A.table_count app) settings.size (A.name_of app))
-        (option_map (accepted_within (A.event_of app settings.size) INPUT_BYTES) (Some (generated_text (A.generated app settings.size) generated.seed generated.events)))
-        settings.notes settings.workers (status_of result) tally.new (outputs_of (K.written sink.old) (N.written notes.old)) (outputs_of (K.written sink.new) (N.written notes.new)) }
+    ensures ends { let app = job.now.app in let settings = job.now.settings in
+        EndsSo (A.event_of app settings.size) (telling_for settings (A.table_count app) (A.name_of app)) INPUT_BYTES
+        (generated_text (A.generated app settings.size) generated.seed generated.events)
+        None (K.written sink.old) result (K.written sink.new) }
+    ensures told { let app = job.now.app in let settings = job.now.settings in
+        RunTold (telling_for settings (A.table_count app) (A.name_of app))
+        (option_map (accepted_within (A.event_of app settings.size) INPUT_BYTES)
+        (Some (generated_text (A.generated app settings.size) generated.seed generated.events)))
+        settings.notes settings.workers (status_of result) tally.new
+        (outputs_of (K.written sink.old) (N.written notes.old))
+        (outputs_of (K.written sink.new) (N.written notes.new)) }
     ensures notes_faults { N.faults notes.old ≤ N.faults notes.new }
     ensures made { EndsMade result }
-    ensures write { IsErrOf result Fault.Write → HasRisen (K.faults sink.old) (K.faults sink.new) ⊎ (IsTrue settings.notes × HasRisen (N.faults notes.old) (N.faults notes.new)) }
+    ensures write { IsErrOf result Fault.Write → HasRisen (K.faults sink.old) (K.faults sink.new)
+        ⊎ (IsTrue job.now.settings.notes × HasRisen (N.faults notes.old) (N.faults notes.new)) }
 {
-    let mut source = GenSource::new(app, generated.seed, generated.events, settings.size);
-    run(
-        rt,
-        alloc,
-        app,
-        settings,
-        &mut source,
-        sink,
-        notes,
-        tally,
-        gate,
-    )
+    let size = job.settings.size;
+    let mut source = GenSource::new(job.app, generated.seed, generated.events, size);
+    run(job, &mut source, sink, notes, tally)
 }
 
 /// Runs the application that the settings name.
 fn run_app<R: Threads + Sync, S: Source, K: Sink, N: Sink, G: Gate>(
-    rt: &R,
-    alloc: Global,
+    host: &Host<'_, R, G>,
     settings: Settings,
     source: &mut S,
     sink: &mut K,
     notes: &mut N,
     tally: &mut Tally,
-    gate: &G,
 ) -> Result<Finish, Fault>
     requires settings { AreInRange settings }
     requires tally { tally.old ≡ no_tally }
-    ensures ends { IfSome (input_of settings (S.left source.old)) (λ input. EndsSo (meaning_of settings) (telling_of settings)
-        INPUT_BYTES input (left_by settings.generated (S.left source.new)) (K.written sink.old) result (K.written sink.new)) }
-    ensures told { RunTold (telling_of settings) (option_map (accepted_within (meaning_of settings) INPUT_BYTES) (input_of settings (S.left source.old)))
-        settings.notes settings.workers (status_of result) tally.new (outputs_of (K.written sink.old) (N.written notes.old)) (outputs_of (K.written sink.new) (N.written notes.new)) }
+    ensures ends { IfSome (input_of settings (S.left source.old)) (λ input.
+        EndsSo (meaning_of settings) (telling_of settings) INPUT_BYTES input
+        (left_by settings.generated (S.left source.new)) (K.written sink.old) result (K.written sink.new)) }
+    ensures told { RunTold (telling_of settings)
+        (option_map (accepted_within (meaning_of settings) INPUT_BYTES) (input_of settings (S.left source.old)))
+        settings.notes settings.workers (status_of result) tally.new
+        (outputs_of (K.written sink.old) (N.written notes.old))
+        (outputs_of (K.written sink.new) (N.written notes.new)) }
     ensures notes_faults { N.faults notes.old ≤ N.faults notes.new }
     ensures made { IsSome settings.generated → (source.new ≡ source.old) × EndsMade result }
     ensures read { IsErrOf result Fault.Read → HasRisen (S.faults source.old) (S.faults source.new) }
-    ensures write { IsErrOf result Fault.Write → HasRisen (K.faults sink.old) (K.faults sink.new) ⊎ (IsTrue settings.notes × HasRisen (N.faults notes.old) (N.faults notes.new)) }
+    ensures write { IsErrOf result Fault.Write → HasRisen (K.faults sink.old) (K.faults sink.new)
+        ⊎ (IsTrue settings.notes × HasRisen (N.faults notes.old) (N.faults notes.new)) }
 {
     match settings.app {
-        App::Ledger => run_over(
-            rt, alloc, Ledger, settings, source, sink, notes, tally, gate,
-        ),
-        App::Grep => run_over(rt, alloc, Grep, settings, source, sink, notes, tally, gate),
-        App::Toll => run_over(rt, alloc, Toll, settings, source, sink, notes, tally, gate),
+        App::Ledger => {
+            let job = Job {
+                host,
+                app: Ledger,
+                settings,
+            };
+            run_over(&job, source, sink, notes, tally)
+        }
+        App::Grep => {
+            let job = Job {
+                host,
+                app: Grep,
+                settings,
+            };
+            run_over(&job, source, sink, notes, tally)
+        }
+        App::Toll => {
+            let job = Job {
+                host,
+                app: Toll,
+                settings,
+            };
+            run_over(&job, source, sink, notes, tally)
+        }
     }
 }
 
@@ -134,8 +151,8 @@ fn run_app<R: Threads + Sync, S: Source, K: Sink, N: Sink, G: Gate>(
 /// that it makes itself, writes the text to the sink, and the last line to the notes where there is one.
 ///
 /// The text is that of applying the events one transaction at a time, in the order of time within each batch, to a map
-/// that is zero everywhere, for every number of workers and whatever the gate holds. The statuses are those of [`Ended`]. A fault of writing the last line of the notes changes
-/// nothing.
+/// that is zero everywhere, for every number of workers and whatever the gate holds. The statuses are
+/// those of [`Ended`]. A fault of writing the last line of the notes changes nothing.
 pub fn morph<R: Threads + Sync, S: Source, K: Sink, N: Sink, G: Gate>(
     rt: &R,
     alloc: Global,
@@ -145,36 +162,49 @@ pub fn morph<R: Threads + Sync, S: Source, K: Sink, N: Sink, G: Gate>(
     notes: &mut N,
     gate: &G,
 ) -> Ended
-    ensures usage { (result.status ≡ 2 → settings_of (map (λ word. word.items) words.now) ≡ None) × (settings_of (map (λ word. word.items) words.now) ≡ None → result.status ≡ 2) }
+    ensures usage { let asked = settings_of (map (λ word. word.items) words.now) in
+        (result.status ≡ 2 → asked ≡ None) × (asked ≡ None → result.status ≡ 2) }
     ensures untouched { result.status ≡ 2 → (source.new ≡ source.old) × (sink.new ≡ sink.old) }
-    ensures headline { IfSome (settings_of (map (λ word. word.items) words.now)) (λ s. IfSome (input_of s (S.left source.old)) (λ input.
-        Headline (meaning_of s) (telling_of s) INPUT_BYTES input (left_by s.generated (S.left source.new)) (K.written sink.old) (K.written sink.new) result.status)) }
-    ensures completes { (HasRisen (S.faults source.old) (S.faults source.new) → ⊥) → (HasRisen (K.faults sink.old) (K.faults sink.new) → ⊥)
-        → IfSome (settings_of (map (λ word. word.items) words.now)) (λ s. (IsTrue s.notes → HasRisen (N.faults notes.old) (N.faults notes.new) → ⊥) → IfSome (input_of s (S.left source.old)) (λ input.
-        Completes (meaning_of s) INPUT_BYTES input result.status)) }
+    ensures headline { IfSome (settings_of (map (λ word. word.items) words.now)) (λ s.
+        IfSome (input_of s (S.left source.old)) (λ input. Headline (meaning_of s) (telling_of s) input_limit input
+        (left_by s.generated (S.left source.new)) (K.written sink.old) (K.written sink.new) result.status)) }
+    ensures completes { (HasRisen (S.faults source.old) (S.faults source.new) → ⊥)
+        → (HasRisen (K.faults sink.old) (K.faults sink.new) → ⊥)
+        → IfSome (settings_of (map (λ word. word.items) words.now)) (λ s.
+        (IsTrue s.notes → HasRisen (N.faults notes.old) (N.faults notes.new) → ⊥)
+        → IfSome (input_of s (S.left source.old)) (λ input.
+        Completes (meaning_of s) input_limit input result.status)) }
 
     // An input that the program makes is not read from the source, and none of its lines is refused.
-    ensures made { IfSome (settings_of (map (λ word. word.items) words.now)) (λ s. IsSome s.generated → (source.new ≡ source.old) × IsMadeStatus result.status) }
+    ensures made { IfSome (settings_of (map (λ word. word.items) words.now)) (λ s.
+        IsSome s.generated → (source.new ≡ source.old) × IsMadeStatus result.status) }
     ensures read { result.status ≡ 4 → HasRisen (S.faults source.old) (S.faults source.new) }
-    ensures write { IfSome (settings_of (map (λ word. word.items) words.now)) (λ s. result.status ≡ 5 →
-        HasRisen (K.faults sink.old) (K.faults sink.new) ⊎ (IsTrue s.notes × HasRisen (N.faults notes.old) (N.faults notes.new))) }
+    ensures write { IfSome (settings_of (map (λ word. word.items) words.now)) (λ s. result.status ≡ 5
+        → HasRisen (K.faults sink.old) (K.faults sink.new)
+        ⊎ (IsTrue s.notes × HasRisen (N.faults notes.old) (N.faults notes.new))) }
     ensures statuses { IsStatus result.status }
-    ensures told { IfSome (settings_of (map (λ word. word.items) words.now)) (λ s.
-        CallTold (telling_of s) (option_map (accepted (meaning_of s)) (input_of s (S.left source.old))) s.notes s.workers result.status result.tally
-        (outputs_of (K.written sink.old) (N.written notes.old)) (outputs_of (K.written sink.new) (N.written notes.new)) (HasRisen (N.faults notes.old) (N.faults notes.new))) }
+    ensures told { IfSome (settings_of (map (λ word. word.items) words.now)) (λ s. CallTold (telling_of s)
+        (option_map (accepted (meaning_of s)) (input_of s (S.left source.old)))
+        s.notes s.workers result.status result.tally
+        (outputs_of (K.written sink.old) (N.written notes.old))
+        (outputs_of (K.written sink.new) (N.written notes.new))
+        (HasRisen (N.faults notes.old) (N.faults notes.new))) }
     ensures balanced { IsBalanced result.tally }
-    ensures note { result.status ≡ 2 → AppendsPrefix (N.written notes.old) (note_at result.status) (N.written notes.new) }
-    ensures whole_note { result.status ≡ 2 → (HasRisen (N.faults notes.old) (N.faults notes.new) → ⊥) → N.written notes.new ≡ behind (N.written notes.old) (note_at result.status) }
+    ensures note { result.status ≡ 2
+        → AppendsPrefix (N.written notes.old) (note_at result.status) (N.written notes.new) }
+    ensures whole_note { result.status ≡ 2 → (HasRisen (N.faults notes.old) (N.faults notes.new) → ⊥)
+        → N.written notes.new ≡ behind (N.written notes.old) (note_at result.status) }
 {
     let mut tally = Tally::new();
     let Some(settings) = settings(words) else {
-        write_note(notes, USAGE);
+        write_usage(notes);
         return Ended {
             status: USAGE_STATUS,
             tally,
         };
     };
-    let end = run_app(rt, alloc, settings, source, sink, notes, &mut tally, gate);
+    let host = Host { rt, alloc, gate };
+    let end = run_app(&host, settings, source, sink, notes, &mut tally);
     write_note(notes, note_of(&end));
     Ended {
         status: status(&end),

@@ -10,6 +10,7 @@ ghost use Rattle.morph_cli.specs.Notes.{noted, batch_note, closing_notes};
 ghost use Rattle.morph_cli.specs.Outputs.{outputs_of, Tells};
 ghost use Rattle.morph_cli.specs.Text.{told_lines, told_values, counts_line, refused_text};
 
+use crate::job::Job;
 use crate::notes::{note_batch, note_tally};
 use crate::settings::Settings;
 use crate::tally::Tally;
@@ -18,6 +19,13 @@ use event_reader::{Cause, EventApp};
 use morph_engine::BatchEnd;
 use morph_io::{Out, Sink, WriteFailed};
 use version_table::State;
+
+/// A refused line: its number, counted from 1, and the cause.
+#[derive(Clone, Copy, Debug, PartialEq, Eq)]
+pub struct Refusal {
+    pub line: u64,
+    pub cause: Cause,
+}
 
 /// Tells a batch that was run: its lines to the sink, and behind them its line to the notes, where these are on.
 pub fn tell_batch<K: Sink, N: Sink>(
@@ -31,40 +39,47 @@ pub fn tell_batch<K: Sink, N: Sink>(
     requires empty { out.old ≡ [] }
     requires plan { IsPlan end.now.plan }
     requires settled { IsSettledOf end.now.plan end.now.settled }
-    ensures told { Tells result (outputs_of (K.written sink.old) (N.written notes.old)) (told_lines (report_of settings.now) (settled_fates end.now.plan end.now.settled))
-        (noted settings.now.notes (batch_note number end.now.plan)) (outputs_of (K.written sink.new) (N.written notes.new)) }
+    ensures told { Tells result (outputs_of (K.written sink.old) (N.written notes.old))
+        (told_lines (report_of settings.now) (settled_fates end.now.plan end.now.settled))
+        (noted settings.now.notes (batch_note number end.now.plan))
+        (outputs_of (K.written sink.new) (N.written notes.new)) }
     ensures empty { OnOk result (out.new ≡ []) }
     ensures sink_faults { K.faults sink.old ≤ K.faults sink.new }
     ensures notes_faults { N.faults notes.old ≤ N.faults notes.new }
-    ensures cause { OnErr result (HasRisen (K.faults sink.old) (K.faults sink.new) ⊎ (IsTrue settings.now.notes × HasRisen (N.faults notes.old) (N.faults notes.new))) }
+    ensures cause { OnErr result (HasRisen (K.faults sink.old) (K.faults sink.new)
+        ⊎ (IsTrue settings.now.notes × HasRisen (N.faults notes.old) (N.faults notes.new))) }
 {
     write_events(out, sink, settings.report(), end)?;
     note_batch(notes, settings.notes, number, &end.plan)
 }
 
 /// Tells the end of the input: the closing text to the sink, and behind it the tally to the notes, where these are on.
-pub fn tell_closing<A: EventApp, K: Sink, N: Sink>(
+pub fn tell_closing<A: EventApp, R, G, K: Sink, N: Sink>(
     out: &mut Out,
     sink: &mut K,
     notes: &mut N,
-    app: &A,
-    settings: &Settings,
+    job: &Job<'_, A, R, G>,
     values: &State,
     tally: &Tally,
 ) -> Result<(), WriteFailed>
     requires empty { out.old ≡ [] }
-    requires tables { values.now.layout.tables ≡ A.table_count app.now }
+    requires tables { values.now.layout.tables ≡ A.table_count job.now.app }
     requires few_ids { values.now.layout.size ≤ GREATEST_SIZE }
-    requires few { settings.now.workers ≤ WORKERS }
+    requires few { job.now.settings.workers ≤ WORKERS }
     requires all { length tally.now.settled_by ≡ 17 }
-    ensures told { Tells result (outputs_of (K.written sink.old) (N.written notes.old))
-        (told_values (report_of settings.now) values.now.layout (A.name_of app.now) (contents values.now) ++ counts_line tally.now.committed tally.now.aborted)
-        (noted settings.now.notes (closing_notes settings.now.workers tally.now)) (outputs_of (K.written sink.new) (N.written notes.new)) }
+    ensures told { let settings = job.now.settings in
+        Tells result (outputs_of (K.written sink.old) (N.written notes.old))
+        (told_values (report_of settings) values.now.layout (A.name_of job.now.app) (contents values.now)
+        ++ counts_line tally.now.committed tally.now.aborted)
+        (noted settings.notes (closing_notes settings.workers tally.now))
+        (outputs_of (K.written sink.new) (N.written notes.new)) }
     ensures sink_faults { K.faults sink.old ≤ K.faults sink.new }
     ensures notes_faults { N.faults notes.old ≤ N.faults notes.new }
-    ensures cause { OnErr result (HasRisen (K.faults sink.old) (K.faults sink.new) ⊎ (IsTrue settings.now.notes × HasRisen (N.faults notes.old) (N.faults notes.new))) }
+    ensures cause { OnErr result (HasRisen (K.faults sink.old) (K.faults sink.new)
+        ⊎ (IsTrue job.now.settings.notes × HasRisen (N.faults notes.old) (N.faults notes.new))) }
 {
-    write_closing(out, sink, app, settings.report(), values, tally)?;
+    let settings = &job.settings;
+    write_closing(out, sink, &job.app, settings.report(), values, tally)?;
     note_tally(notes, settings.notes, settings.workers, tally)
 }
 
@@ -74,19 +89,21 @@ pub fn tell_refused<K: Sink, N: Sink>(
     sink: &mut K,
     notes: &mut N,
     settings: &Settings,
-    number: u64,
-    cause: Cause,
+    refusal: &Refusal,
     tally: &Tally,
 ) -> Result<(), WriteFailed>
     requires empty { out.old ≡ [] }
     requires few { settings.now.workers ≤ WORKERS }
     requires all { length tally.now.settled_by ≡ 17 }
-    ensures told { Tells result (outputs_of (K.written sink.old) (N.written notes.old)) (refused_text number cause)
-        (noted settings.now.notes (closing_notes settings.now.workers tally.now)) (outputs_of (K.written sink.new) (N.written notes.new)) }
+    ensures told { Tells result (outputs_of (K.written sink.old) (N.written notes.old))
+        (refused_text refusal.now.line refusal.now.cause)
+        (noted settings.now.notes (closing_notes settings.now.workers tally.now))
+        (outputs_of (K.written sink.new) (N.written notes.new)) }
     ensures sink_faults { K.faults sink.old ≤ K.faults sink.new }
     ensures notes_faults { N.faults notes.old ≤ N.faults notes.new }
-    ensures cause { OnErr result (HasRisen (K.faults sink.old) (K.faults sink.new) ⊎ (IsTrue settings.now.notes × HasRisen (N.faults notes.old) (N.faults notes.new))) }
+    ensures cause { OnErr result (HasRisen (K.faults sink.old) (K.faults sink.new)
+        ⊎ (IsTrue settings.now.notes × HasRisen (N.faults notes.old) (N.faults notes.new))) }
 {
-    write_refused(out, sink, number, cause)?;
+    write_refused(out, sink, refusal.line, refusal.cause)?;
     note_tally(notes, settings.notes, settings.workers, tally)
 }

@@ -2,6 +2,7 @@
 mod apps;
 mod faults;
 mod inputs;
+mod lines;
 mod notes;
 mod tallies;
 
@@ -21,6 +22,12 @@ const LEDGER: &[&[u8]] = &[b"app=ledger"];
 
 /// A deposit and three transfers: the first asks for too much of an asset, and the second was tried on what it left.
 const FOUR_EVENTS: &[u8] = b"D 1 0 0 100 5\nX 2 0 1 0 1 60 6\nX 3 0 1 0 1 60 5\nX 4 1 2 1 2 60 5\n";
+
+/// Their text.
+const FOUR: &[u8] =
+    b"1 C 100 5\n2 A\n3 C 40 0 60 5\n4 C 0 0 60 5\nacct 0 40\nacct 2 60\nasset 2 5\ncommitted 3 aborted 1\n";
+
+const NOTHING: &[u8] = b"";
 
 /// What a run left.
 #[derive(Drop)]
@@ -76,16 +83,16 @@ fn ended<R: Threads + Sync, S: Source, K: Sink, N: Sink>(
     morph(rt, alloc, words, source, sink, notes, &FreeGate)
 }
 
-/// Runs the program with these words, and tells what it left.
-fn run_with<R: Threads + Sync>(
+/// Runs the program with these words, sink and notes, and tells what it left.
+fn run_noted<R: Threads + Sync>(
     rt: &R,
     alloc: Global,
     words: &[&[u8]],
     source: &mut MemSource,
     mut sink: MemSink,
+    mut notes: MemSink,
 ) -> Result<Ran, OutOfMemory> {
     let words = words_of(alloc, words)?;
-    let mut notes = sink_of(alloc, 1000, &[], &[])?;
     let ended = ended(rt, alloc, words.as_slice(), source, &mut sink, &mut notes);
     Ok(Ran {
         status: ended.status,
@@ -93,6 +100,18 @@ fn run_with<R: Threads + Sync>(
         sink,
         notes,
     })
+}
+
+/// Runs the program with these words and this sink, and with notes that take all.
+fn run_with<R: Threads + Sync>(
+    rt: &R,
+    alloc: Global,
+    words: &[&[u8]],
+    source: &mut MemSource,
+    sink: MemSink,
+) -> Result<Ran, OutOfMemory> {
+    let notes = sink_of(alloc, 1000, &[], &[])?;
+    run_noted(rt, alloc, words, source, sink, notes)
 }
 
 /// Runs the program with these words on an input that comes in pieces of a thousand bytes.
@@ -120,9 +139,8 @@ fn expect(
 ) -> Result<(), Fail> {
     for (input, status, text) in runs {
         let ran = run_words(rt, rt.alloc(), words, input)?;
-        assert_eq!(rt; ran.status, *status);
-        assert_eq!(rt; ran.sink.bytes(), *text);
-        assert_eq!(rt; ran.notes.bytes(), b"".as_slice());
+        let wanted: (u8, &[u8], &[u8]) = (*status, text, NOTHING);
+        assert_eq!(rt; (ran.status, ran.sink.bytes(), ran.notes.bytes()), wanted);
     }
     Ok(())
 }

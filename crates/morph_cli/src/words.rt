@@ -1,8 +1,10 @@
-ghost use Rattle.std.specs.Prelude.{◌≡◌, ◌<◌, ◌≤◌, ◌^◌, map, count_by, length, MatchOption, IfSome};
+ghost use Rattle.std.specs.Prelude.{◌≡◌, ◌<◌, ◌≤◌, ◌^◌, map, count_by, length, true, false, MatchOption, IfSome};
 ghost use Rattle.std.specs.List.{list_all};
 ghost use Rattle.event_reader.specs.declared.limits.TheConstants.{GREATEST_NUMBER};
-ghost use Rattle.morph_cli.specs.Settings.{has_name, is_known, is_once, are_once, value_under, app_in, app_under, number_in, number_under, switch_in, switch_under, input_of, read_input, made_input, AreFew, AreInRange, settings_of};
+ghost use Rattle.morph_cli.specs.Settings.{has_name, value_in, is_known, is_once, are_once, value_under, is_given, app_in, app_under, number_in, number_under, switch_in, switch_under, input_of, read_input, made_input, AreFew, AreInRange, settings_of};
+ghost use Rattle.morph_cli.specs.NoSettings.{NoSettings};
 
+use crate::names::{NAMES, Name};
 use crate::settings::{
     App, DEFAULT_EVENTS, DEFAULT_SEED, DEFAULT_SIZE, DEFAULT_WORKERS, GREATEST_EVENTS,
     GREATEST_SEED, GREATEST_SIZE, Generated, Settings,
@@ -32,24 +34,25 @@ const EVENTS: Range = Range {
     greatest: GREATEST_EVENTS,
 };
 
-/// Whether a word has a name, which is written here with its `=`.
-fn has_name(name: &[u8], word: &[u8]) -> bool
-    ensures { result ≡ has_name name.now word.now }
+/// The value in a word that has this name.
+fn value_in<'a>(name: Name, word: &'a [u8]) -> Option<&'a [u8]>
+    ensures { MatchOption result (has_name name word.now ≡ false) (λ value. (has_name name word.now ≡ true) × (value.now ≡ value_in name word.now)) }
 {
-    word.strip_prefix(name).is_some()
+    word.strip_prefix(name.text())
+}
+
+/// Whether a word has this name.
+fn has_name(name: Name, word: &[u8]) -> bool
+    ensures { result ≡ has_name name word.now }
+{
+    value_in(name, word).is_some()
 }
 
 /// Whether a word has a name that there is.
 fn is_known(word: &[u8]) -> bool
     ensures { result ≡ is_known word.now }
 {
-    has_name(b"app=", word)
-        || has_name(b"self=", word)
-        || has_name(b"workers=", word)
-        || has_name(b"size=", word)
-        || has_name(b"seed=", word)
-        || has_name(b"events=", word)
-        || has_name(b"notes=", word)
+    NAMES.iter().any(|name| has_name(*name, word))
 }
 
 /// Whether all words have names that there are.
@@ -65,8 +68,8 @@ fn are_known(words: &[List<u8>]) -> bool
 }
 
 /// Whether at most one of the words has this name.
-fn is_once(words: &[List<u8>], name: &[u8]) -> bool
-    ensures { result ≡ is_once (map (λ word. word.items) words.now) name.now }
+fn is_once(words: &[List<u8>], name: Name) -> bool
+    ensures { result ≡ is_once (map (λ word. word.items) words.now) name }
 {
     let mut count: usize = 0;
     for word in words {
@@ -81,26 +84,27 @@ fn is_once(words: &[List<u8>], name: &[u8]) -> bool
 fn are_once(words: &[List<u8>]) -> bool
     ensures { result ≡ are_once (map (λ word. word.items) words.now) }
 {
-    is_once(words, b"app=")
-        && is_once(words, b"self=")
-        && is_once(words, b"workers=")
-        && is_once(words, b"size=")
-        && is_once(words, b"seed=")
-        && is_once(words, b"events=")
-        && is_once(words, b"notes=")
+    NAMES.iter().all(|name| is_once(words, *name))
 }
 
 /// The value that is given under a name.
-fn value_under<'a>(words: &'a [List<u8>], name: &[u8]) -> Option<&'a [u8]>
-    ensures { MatchOption result (value_under name.now (map (λ word. word.items) words.now) ≡ None)
-        (λ value. value_under name.now (map (λ word. word.items) words.now) ≡ Some value.now) }
+fn value_under<'a>(words: &'a [List<u8>], name: Name) -> Option<&'a [u8]>
+    ensures { MatchOption result (value_under name (map (λ word. word.items) words.now) ≡ None)
+        (λ value. value_under name (map (λ word. word.items) words.now) ≡ Some value.now) }
 {
     for word in words {
-        if let Some(value) = word.as_slice().strip_prefix(name) {
+        if let Some(value) = value_in(name, word.as_slice()) {
             return Some(value);
         }
     }
     None
+}
+
+/// Whether one of the words has this name.
+fn is_given(words: &[List<u8>], name: Name) -> bool
+    ensures { result ≡ is_given name (map (λ word. word.items) words.now) }
+{
+    value_under(words, name).is_some()
 }
 
 /// The application of this name.
@@ -119,8 +123,8 @@ fn app_of(value: &[u8]) -> Option<App>
 }
 
 /// The application that is given under a name; the inner answer is none where the name is not given.
-fn app_under(words: &[List<u8>], name: &[u8]) -> Option<Option<App>>
-    ensures { result ≡ app_under name.now (map (λ word. word.items) words.now) }
+fn app_under(words: &[List<u8>], name: Name) -> Option<Option<App>>
+    ensures { result ≡ app_under name (map (λ word. word.items) words.now) }
 {
     match value_under(words, name) {
         Some(value) => Some(Some(app_of(value)?)),
@@ -130,6 +134,7 @@ fn app_under(words: &[List<u8>], name: &[u8]) -> Option<Option<App>>
 
 /// The number that a value says, where it is in the range.
 fn number_in(value: &[u8], range: Range) -> Option<u64>
+    requires { range.greatest ≤ GREATEST_NUMBER }
     ensures says { result ≡ number_in range value.now }
     ensures fits { IfSome result (λ n. (range.least ≤ n) × (n ≤ range.greatest)) }
 {
@@ -140,9 +145,10 @@ fn number_in(value: &[u8], range: Range) -> Option<u64>
 }
 
 /// The number that is given under a name, or the other one where the name is not given.
-fn number_under(words: &[List<u8>], name: &[u8], range: Range, other: u64) -> Option<u64>
+fn number_under(words: &[List<u8>], name: Name, range: Range, other: u64) -> Option<u64>
+    requires range { range.greatest ≤ GREATEST_NUMBER }
     requires other { (range.least ≤ other) × (other ≤ range.greatest) }
-    ensures says { result ≡ number_under name.now range other (map (λ word. word.items) words.now) }
+    ensures says { result ≡ number_under name range other (map (λ word. word.items) words.now) }
     ensures fits { IfSome result (λ n. (range.least ≤ n) × (n ≤ range.greatest)) }
 {
     match value_under(words, name) {
@@ -165,8 +171,8 @@ fn switch_of(value: &[u8]) -> Option<bool>
 }
 
 /// What is switched under a name; off where the name is not given.
-fn switch_under(words: &[List<u8>], name: &[u8]) -> Option<bool>
-    ensures { result ≡ switch_under name.now (map (λ word. word.items) words.now) }
+fn switch_under(words: &[List<u8>], name: Name) -> Option<bool>
+    ensures { result ≡ switch_under name (map (λ word. word.items) words.now) }
 {
     match value_under(words, name) {
         Some(value) => switch_of(value),
@@ -186,7 +192,7 @@ fn input_of(words: &[List<u8>]) -> Option<Input>
     ensures says { result ≡ input_of (map (λ word. word.items) words.now) }
     ensures fits { IfSome result (λ input. AreFew input.generated) }
 {
-    match (app_under(words, b"app=")?, app_under(words, b"self=")?) {
+    match (app_under(words, Name::App)?, app_under(words, Name::Own)?) {
         (Some(app), None) => read_input(words, app),
         (None, Some(app)) => made_input(words, app),
         _ => None,
@@ -198,7 +204,7 @@ fn read_input(words: &[List<u8>], app: App) -> Option<Input>
     ensures says { result ≡ read_input app (map (λ word. word.items) words.now) }
     ensures fits { IfSome result (λ input. AreFew input.generated) }
 {
-    if value_under(words, b"seed=").is_some() || value_under(words, b"events=").is_some() {
+    if is_given(words, Name::Seed) || is_given(words, Name::Events) {
         return None;
     }
     Some(Input {
@@ -212,8 +218,8 @@ fn made_input(words: &[List<u8>], app: App) -> Option<Input>
     ensures says { result ≡ made_input app (map (λ word. word.items) words.now) }
     ensures fits { IfSome result (λ input. AreFew input.generated) }
 {
-    let seed = number_under(words, b"seed=", SEEDS, DEFAULT_SEED)?;
-    let events = number_under(words, b"events=", EVENTS, DEFAULT_EVENTS)?;
+    let seed = number_under(words, Name::Seed, SEEDS, DEFAULT_SEED)?;
+    let events = number_under(words, Name::Events, EVENTS, DEFAULT_EVENTS)?;
     Some(Input {
         app,
         generated: Some(Generated { seed, events }),
@@ -226,15 +232,17 @@ fn made_input(words: &[List<u8>], app: App) -> Option<Input>
 /// name's, not exactly one of `app` and `self` is given, or `seed` or `events` is given without `self`.
 pub fn settings(words: &[List<u8>]) -> Option<Settings>
     ensures asked { result ≡ settings_of (map (λ word. word.items) words.now) }
+    ensures none { (result ≡ None → NoSettings (map (λ word. word.items) words.now))
+        × (NoSettings (map (λ word. word.items) words.now) → result ≡ None) }
     ensures fits { IfSome result AreInRange }
 {
     if !are_known(words) || !are_once(words) {
         return None;
     }
     let input = input_of(words)?;
-    let workers = number_under(words, b"workers=", WORKER_COUNTS, DEFAULT_WORKERS)?;
-    let size = number_under(words, b"size=", SIZES, DEFAULT_SIZE)?;
-    let notes = switch_under(words, b"notes=")?;
+    let workers = number_under(words, Name::Workers, WORKER_COUNTS, DEFAULT_WORKERS)?;
+    let size = number_under(words, Name::Size, SIZES, DEFAULT_SIZE)?;
+    let notes = switch_under(words, Name::Notes)?;
     Some(Settings {
         app: input.app,
         workers: workers as u32,

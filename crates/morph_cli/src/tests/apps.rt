@@ -1,7 +1,7 @@
 //! Runs of the applications of cells and of tolls, and of inputs that the program makes.
+use super::lines::{Part, append, append_lines, lines, number_behind};
 use super::{expect, run_words};
 use morph_base::{List, OutOfMemory};
-use morph_io::LineBuf;
 use std::alloc::Global;
 use std::test::Fail;
 
@@ -36,60 +36,69 @@ fn speeds_are_averaged(rt: HostRuntime) -> Result<(), Fail> {
 
 /// Lines of so many reports of a speed of 10 on segment 0, each of another vehicle, at the times from 1 on.
 fn reports(alloc: Global, count: u64) -> Result<List<u8>, OutOfMemory> {
-    let mut input = List::new(alloc);
-    let mut line = LineBuf::new();
-    for time in 1..=count {
-        line.clear();
-        line.word(b"T ");
-        line.number(time);
-        line.word(b" ");
-        line.number(time - 1);
-        line.word(b" 0 10\n");
-        for byte in line.bytes() {
-            input.push(*byte)?;
-        }
-    }
-    Ok(input)
+    let parts = [
+        Part::Text(b"T "),
+        Part::Number,
+        Part::Text(b" "),
+        Part::Before,
+        Part::Text(b" 0 10"),
+    ];
+    lines(alloc, count, &parts)
 }
 
-/// Whether some bytes stand in others.
-fn has(bytes: &[u8], wanted: &[u8]) -> bool {
-    bytes
-        .windows(wanted.len().max(1))
-        .any(|part| part == wanted)
+/// The text of 52 such reports: the last one finds more than 50 on its segment.
+fn tolled_text(alloc: Global) -> Result<List<u8>, OutOfMemory> {
+    let event = [
+        Part::Number,
+        Part::Text(b" C 1000 1 "),
+        Part::Number,
+        Part::Text(b" 0"),
+    ];
+    let mut text = lines(alloc, 51, &event)?;
+    append(&mut text, b"52 C 1000 1 52 2\nspd 0 1000\n")?;
+    append_lines(
+        &mut text,
+        52,
+        &[Part::Text(b"at "), Part::Before, Part::Text(b" 1")],
+    )?;
+    append(&mut text, b"cnt 0 52\nbill 51 2\ncommitted 52 aborted 0\n")?;
+    Ok(text)
 }
 
 #[test]
-fn a_full_segment_is_tolled_up_to_the_limit(rt: HostRuntime) -> Result<(), Fail> {
-    let runs: [(u64, &[&[u8]]); 2] = [
+fn the_52nd_on_a_segment_is_tolled(rt: HostRuntime) -> Result<(), Fail> {
+    let input = reports(rt.alloc(), 52)?;
+    let text = tolled_text(rt.alloc())?;
+    expect(
+        &rt,
+        &[b"app=toll"],
+        &[(input.as_slice(), 0, text.as_slice())],
+    )
+}
+
+/// The lines of the last two events, and the last line.
+#[test]
+fn a_bill_has_a_limit(rt: HostRuntime) -> Result<(), Fail> {
+    let input = reports(rt.alloc(), 759)?;
+    let ran = run_words(
+        &rt,
+        rt.alloc(),
+        &[b"app=toll", b"size=1000"],
+        input.as_slice(),
+    )?;
+    let has = |part: &[u8]| ran
+        .sink
+        .bytes()
+        .windows(part.len().max(1))
+        .any(|found| found == part);
+    assert_eq!(rt;
         (
-            52,
-            &[
-                b"\n51 C 1000 1 51 0\n52 C 1000 1 52 2\nspd 0 1000\nat 0 1\n",
-                b"\nat 51 1\ncnt 0 52\nbill 51 2\ncommitted 52 aborted 0\n",
-            ],
+            ran.status,
+            has(b"\n758 C 1000 1 758 999698\n759 A\nspd 0 1000\n"),
+            ran.sink.bytes().ends_with(b"\ncommitted 758 aborted 1\n")
         ),
-        (
-            759,
-            &[
-                b"\n758 C 1000 1 758 999698\n759 A\n",
-                b"\ncommitted 758 aborted 1\n",
-            ],
-        ),
-    ];
-    for (count, parts) in runs {
-        let input = reports(rt.alloc(), count)?;
-        let ran = run_words(
-            &rt,
-            rt.alloc(),
-            &[b"app=toll", b"size=1000"],
-            input.as_slice(),
-        )?;
-        assert_eq!(rt; ran.status, 0);
-        for part in parts {
-            assert!(rt; has(ran.sink.bytes(), part));
-        }
-    }
+        (0, true, true)
+    );
     Ok(())
 }
 
@@ -106,34 +115,22 @@ fn a_made_input_is_told_by_sums(rt: HostRuntime) -> Result<(), Fail> {
     )
 }
 
-/// The sum of the two counts in the last line of a text, which are behind `committed ` and ` aborted `.
-fn counted(text: &[u8]) -> u64 {
-    let mut sum: u64 = 0;
-    let mut number: u64 = 0;
-    let line = text
-        .split(|byte| *byte == b'\n')
-        .rev()
-        .nth(1)
-        .unwrap_or(b"");
-    for byte in line {
-        if byte.is_ascii_digit() {
-            number = number
-                .wrapping_mul(10)
-                .wrapping_add(u64::from(*byte - b'0'));
-        } else {
-            sum = sum.wrapping_add(number);
-            number = 0;
-        }
+/// The sum of the numbers in the last line of a text that is two lines of totals and a last line, and nothing else.
+fn counted(text: &[u8]) -> Option<u64> {
+    let (_, text) = number_behind(text, b"acct total ")?;
+    let (_, text) = number_behind(text, b"\nasset total ")?;
+    let (committed, text) = number_behind(text, b"\ncommitted ")?;
+    let (aborted, text) = number_behind(text, b" aborted ")?;
+    if text != b"\n".as_slice() {
+        return None;
     }
-    sum.wrapping_add(number)
+    committed.checked_add(aborted)
 }
 
 /// With a million ids most operations of a batch are on the first level, which is enough of them for several threads.
 #[test]
 fn workers_do_not_change_the_answer(rt: HostRuntime) -> Result<(), Fail> {
     for size in [b"size=10000".as_slice(), b"size=1000000"] {
-        let made: [&[u8]; 4] = [b"self=ledger", b"seed=7", b"events=20000", size];
-        let one = run_words(&rt, rt.alloc(), &made, b"")?;
         let made: [&[u8]; 5] = [
             b"self=ledger",
             b"seed=7",
@@ -141,10 +138,10 @@ fn workers_do_not_change_the_answer(rt: HostRuntime) -> Result<(), Fail> {
             size,
             b"workers=4",
         ];
+        let one = run_words(&rt, rt.alloc(), &made[..4], b"")?;
         let four = run_words(&rt, rt.alloc(), &made, b"")?;
-        assert_eq!(rt; (one.status, four.status), (0, 0));
-        assert_eq!(rt; one.sink.bytes(), four.sink.bytes());
-        assert_eq!(rt; counted(one.sink.bytes()), 20_000);
+        assert_eq!(rt; (one.status, counted(one.sink.bytes())), (0, Some(20_000)));
+        assert_eq!(rt; (four.status, four.sink.bytes()), (0, one.sink.bytes()));
     }
     Ok(())
 }

@@ -1,96 +1,133 @@
 //! Refused words, and failing reads and writes.
-use super::{LEDGER, run_with, sink_of, source_of};
+use super::{LEDGER, NOTHING, Ran, run_with, sink_of, source_of};
+use morph_base::OutOfMemory;
 use morph_io::Source;
 use std::alloc::Global;
 use std::process::Abort;
 use std::test::Fail;
 use std::thread::Threads;
 
-/// Runs the program with these words, and expects that nothing but the usage is written, and nothing read.
+/// What stands in the notes where the words are no settings.
+const USAGE: &[u8] = b"usage: morph app=ledger|grep|toll [name=value ...]\n";
+
+/// Runs the program with these words on one line, and tells what it left and how many bytes of the line.
+fn run_unread<R: Threads + Sync>(
+    rt: &R,
+    alloc: Global,
+    words: &[&[u8]],
+) -> Result<(Ran, usize), OutOfMemory> {
+    let mut source = source_of(alloc, b"P\n", 50, &[])?;
+    let ran = run_with(rt, alloc, words, &mut source, sink_of(alloc, 50, &[], &[])?)?;
+    let mut rest = [0; 4];
+    let left = source.read(&mut rest).unwrap_or(0);
+    Ok((ran, left))
+}
+
+/// Runs the program with each of these words, and expects that nothing but the usage is written, and nothing read.
 fn expect_usage(
     rt: &(impl Threads + Sync + Abort + Alloc<A = Global>),
-    words: &[&[u8]],
+    refused: &[&[&[u8]]],
 ) -> Result<(), Fail> {
-    let alloc = rt.alloc();
-    let mut source = source_of(alloc, b"P", 50, &[])?;
-    let ran = run_with(rt, alloc, words, &mut source, sink_of(alloc, 50, &[], &[])?)?;
-    assert_eq!(rt; ran.status, 2);
-    assert_eq!(rt; ran.sink.bytes(), b"".as_slice());
-    assert_eq!(rt;
-        ran.notes.bytes(),
-        b"usage: morph app=ledger|grep|toll [name=value ...]\n".as_slice()
-    );
-    let mut rest = [0; 4];
-    assert_eq!(rt; source.read(&mut rest), Ok(1));
+    for words in refused {
+        let (ran, left) = run_unread(rt, rt.alloc(), words)?;
+        let wanted = (2, NOTHING, USAGE, 2);
+        assert_eq!(rt;
+            (ran.status, ran.sink.bytes(), ran.notes.bytes(), left),
+            wanted
+        );
+    }
     Ok(())
 }
 
 #[test]
 fn words_that_are_no_settings(rt: HostRuntime) -> Result<(), Fail> {
-    expect_usage(&rt, &[])?;
-    for words in [
-        [b"app=".as_slice(), b"size=1"],
-        [b"app=ledger", b"colour=1"],
-        [b"app=ledger", b"workers"],
-        [b"app=ledger", b"workers=0"],
-        [b"app=ledger", b"workers=17"],
-        [b"app=ledger", b"size=0"],
-        [b"app=ledger", b"size=1000001"],
-        [b"app=ledger", b"size=07"],
-        [b"app=ledger", b"app=ledger"],
-        [b"app=ledger", b"self=ledger"],
-        [b"app=ledger", b"seed=1"],
-        [b"app=ledger", b"events=1"],
-        [b"self=ledger", b"events=1000001"],
-        [b"self=ledger", b"seed=1000000000001"],
-        [b"workers=2", b"size=5"],
-    ] {
-        expect_usage(&rt, &words)?;
+    let refused: [&[&[u8]]; 18] = [
+        &[],
+        &[b"app=", b"size=1"],
+        &[b"app=ledger", b"colour=1"],
+        &[b"app=ledger", b"workers"],
+        &[b"app=ledger", b"workers=0"],
+        &[b"app=ledger", b"workers=17"],
+        &[b"app=ledger", b"size=0"],
+        &[b"app=ledger", b"size=1000001"],
+        &[b"app=ledger", b"size=07"],
+        &[b"app=ledger", b"app=ledger"],
+        &[b"app=ledger", b"self=ledger"],
+        &[b"app=ledger", b"seed=1"],
+        &[b"app=ledger", b"events=1"],
+        &[b"self=ledger", b"events=1000001"],
+        &[b"self=ledger", b"seed=1000000000001"],
+        &[b"workers=2", b"size=5"],
+        &[b"app=ledger", b"workers=2", b"workers=2"],
+        &[b"app=ledger", b"plan=auto", b"unit=op"],
+    ];
+    expect_usage(&rt, &refused)
+}
+
+/// Which calls of the source and of the sink fail, and how many bytes each takes at most.
+#[derive(Clone, Copy)]
+struct Faults {
+    piece: usize,
+    reads: &'static [u64],
+    taken: usize,
+    writes: &'static [u64],
+    stalls: &'static [u64],
+}
+
+/// Runs the ledger on an input with these faults.
+fn run_failing<R: Threads + Sync>(
+    rt: &R,
+    alloc: Global,
+    input: &[u8],
+    faults: &Faults,
+) -> Result<Ran, OutOfMemory> {
+    let mut source = source_of(alloc, input, faults.piece, faults.reads)?;
+    let sink = sink_of(alloc, faults.taken, faults.writes, faults.stalls)?;
+    run_with(rt, alloc, LEDGER, &mut source, sink)
+}
+
+#[test]
+fn a_read_or_a_write_fails(rt: HostRuntime) -> Result<(), Fail> {
+    let two: &[u8] = b"D 1 0 0 1 1\nP\nD 2 0 0 1 1\n";
+    let one: &[u8] = b"D 1 0 0 100 5\n";
+    let runs: [(&[u8], Faults, (u8, &[u8], &[u8])); 3] = [
+        (
+            two,
+            Faults {
+                piece: 14,
+                reads: &[2],
+                taken: 50,
+                writes: &[],
+                stalls: &[],
+            },
+            (4, b"1 C 1 1\n", b"morph: read failed\n"),
+        ),
+        (
+            one,
+            Faults {
+                piece: 50,
+                reads: &[],
+                taken: 3,
+                writes: &[2],
+                stalls: &[],
+            },
+            (5, b"1 C", b"morph: write failed\n"),
+        ),
+        (
+            one,
+            Faults {
+                piece: 50,
+                reads: &[],
+                taken: 3,
+                writes: &[],
+                stalls: &[2],
+            },
+            (5, b"1 C", b"morph: write failed\n"),
+        ),
+    ];
+    for (input, faults, left) in runs {
+        let ran = run_failing(&rt, rt.alloc(), input, &faults)?;
+        assert_eq!(rt; (ran.status, ran.sink.bytes(), ran.notes.bytes()), left);
     }
-    expect_usage(&rt, &[b"app=ledger", b"workers=2", b"workers=2"])?;
-    expect_usage(&rt, &[b"app=ledger", b"plan=auto", b"unit=op"])
-}
-
-#[test]
-fn a_read_fails(rt: HostRuntime) -> Result<(), Fail> {
-    let alloc = rt.alloc();
-    let mut source = source_of(alloc, b"D 1 0 0 1 1\nP\nD 2 0 0 1 1\n", 14, &[2])?;
-    let ran = run_with(
-        &rt,
-        alloc,
-        LEDGER,
-        &mut source,
-        sink_of(alloc, 50, &[], &[])?,
-    )?;
-    assert_eq!(rt; ran.status, 4);
-    assert_eq!(rt; ran.sink.bytes(), b"1 C 1 1\n".as_slice());
-    assert_eq!(rt; ran.notes.bytes(), b"morph: read failed\n".as_slice());
     Ok(())
-}
-
-/// Runs the ledger on one deposit, into a sink whose second call is to fail, and expects its first three bytes.
-fn expect_front(
-    rt: &(impl Threads + Sync + Abort + Alloc<A = Global>),
-    fail: &[u64],
-    stall: &[u64],
-) -> Result<(), Fail> {
-    let alloc = rt.alloc();
-    let mut source = source_of(alloc, b"D 1 0 0 100 5\n", 50, &[])?;
-    let ran = run_with(
-        rt,
-        alloc,
-        LEDGER,
-        &mut source,
-        sink_of(alloc, 3, fail, stall)?,
-    )?;
-    assert_eq!(rt; ran.status, 5);
-    assert_eq!(rt; ran.sink.bytes(), b"1 C".as_slice());
-    assert_eq!(rt; ran.notes.bytes(), b"morph: write failed\n".as_slice());
-    Ok(())
-}
-
-#[test]
-fn a_write_fails_or_takes_nothing(rt: HostRuntime) -> Result<(), Fail> {
-    expect_front(&rt, &[2], &[])?;
-    expect_front(&rt, &[], &[2])
 }

@@ -1,25 +1,9 @@
 //! Whole inputs, each with its text and its status.
-use super::{LEDGER, expect, run_words};
+use super::lines::{Part, append, lines};
+use super::{FOUR, FOUR_EVENTS, LEDGER, expect};
 use morph_base::{List, OutOfMemory};
-use morph_io::LineBuf;
 use std::alloc::Global;
 use std::test::Fail;
-
-/// The text of the four events of a deposit and three transfers, of which the first asks for too much of an asset.
-const FOUR: &[u8] =
-    b"1 C 100 5\n2 A\n3 C 40 0 60 5\n4 C 0 0 60 5\nacct 0 40\nacct 2 60\nasset 2 5\ncommitted 3 aborted 1\n";
-
-#[test]
-fn inputs_without_events(rt: HostRuntime) -> Result<(), Fail> {
-    expect(
-        &rt,
-        LEDGER,
-        &[
-            (b"", 0, b"committed 0 aborted 0\n"),
-            (b"P\nP\nP\n", 0, b"committed 0 aborted 0\n"),
-        ],
-    )
-}
 
 #[test]
 fn events_commit_or_abort(rt: HostRuntime) -> Result<(), Fail> {
@@ -27,6 +11,8 @@ fn events_commit_or_abort(rt: HostRuntime) -> Result<(), Fail> {
         &rt,
         LEDGER,
         &[
+            (b"", 0, b"committed 0 aborted 0\n"),
+            (b"P\nP\nP\n", 0, b"committed 0 aborted 0\n"),
             (
                 b"D 1 0 0 100 5\n",
                 0,
@@ -53,11 +39,7 @@ fn order_of_arrival_and_workers_do_not_matter(rt: HostRuntime) -> Result<(), Fai
             &rt,
             &[b"app=ledger", workers],
             &[
-                (
-                    b"D 1 0 0 100 5\nX 2 0 1 0 1 60 6\nX 3 0 1 0 1 60 5\nX 4 1 2 1 2 60 5\n",
-                    0,
-                    FOUR,
-                ),
+                (FOUR_EVENTS, 0, FOUR),
                 (
                     b"X 4 1 2 1 2 60 5\nX 3 0 1 0 1 60 5\nX 2 0 1 0 1 60 6\nD 1 0 0 100 5\n",
                     0,
@@ -70,7 +52,9 @@ fn order_of_arrival_and_workers_do_not_matter(rt: HostRuntime) -> Result<(), Fai
 }
 
 #[test]
-fn refused_by_time_or_place(rt: HostRuntime) -> Result<(), Fail> {
+fn lines_are_refused(rt: HostRuntime) -> Result<(), Fail> {
+    let range = b"refused line 1: range\n";
+    let form = b"refused line 1: form\n";
     expect(
         &rt,
         LEDGER,
@@ -87,18 +71,6 @@ fn refused_by_time_or_place(rt: HostRuntime) -> Result<(), Fail> {
                 3,
                 b"1 C 1 1\nrefused line 3: form\n",
             ),
-        ],
-    )
-}
-
-#[test]
-fn refused_by_range_or_form(rt: HostRuntime) -> Result<(), Fail> {
-    let range = b"refused line 1: range\n";
-    let form = b"refused line 1: form\n";
-    expect(
-        &rt,
-        LEDGER,
-        &[
             (b"D 1 0 0 1000000000001 0\n", 3, range),
             (b"D 0 0 0 1 1\n", 3, range),
             (b"D 1 10000 0 1 1\n", 3, range),
@@ -125,15 +97,10 @@ fn comments_and_last_lines(rt: HostRuntime) -> Result<(), Fail> {
     )
 }
 
-/// A line of so many bytes that is a comment, with a CR and an LF behind, and a deposit.
+/// A comment of so many bytes with a CR and an LF behind, and a deposit.
 fn comment_of(alloc: Global, bytes: usize) -> Result<List<u8>, OutOfMemory> {
-    let mut input = List::new(alloc);
-    for _ in 0..bytes {
-        input.push(b'#')?;
-    }
-    for byte in b"\r\nD 1 0 0 100 5\n" {
-        input.push(*byte)?;
-    }
+    let mut input = List::filled(alloc, bytes, b'#')?;
+    append(&mut input, b"\r\nD 1 0 0 100 5\n")?;
     Ok(input)
 }
 
@@ -149,40 +116,39 @@ fn a_comment_has_at_most_a_thousand_bytes(rt: HostRuntime) -> Result<(), Fail> {
     ];
     for (bytes, status, text) in runs {
         let input = comment_of(rt.alloc(), bytes)?;
-        let ran = run_words(&rt, rt.alloc(), LEDGER, input.as_slice())?;
-        assert_eq!(rt; ran.status, status);
-        assert_eq!(rt; ran.sink.bytes(), text);
+        expect(&rt, LEDGER, &[(input.as_slice(), status, text)])?;
     }
     Ok(())
 }
 
 /// Lines of so many deposits of 1 on account 0, at the times from 1 on.
 fn deposits(alloc: Global, count: u64) -> Result<List<u8>, OutOfMemory> {
-    let mut input = List::new(alloc);
-    let mut line = LineBuf::new();
-    for time in 1..=count {
-        line.clear();
-        line.word(b"D ");
-        line.number(time);
-        line.word(b" 0 0 1 0\n");
-        for byte in line.bytes() {
-            input.push(*byte)?;
-        }
-    }
-    Ok(input)
+    let parts = [Part::Text(b"D "), Part::Number, Part::Text(b" 0 0 1 0")];
+    lines(alloc, count, &parts)
+}
+
+/// The text of 10,240 of them.
+fn deposited_text(alloc: Global) -> Result<List<u8>, OutOfMemory> {
+    let parts = [
+        Part::Number,
+        Part::Text(b" C "),
+        Part::Number,
+        Part::Text(b" 0"),
+    ];
+    let mut text = lines(alloc, 10_240, &parts)?;
+    append(&mut text, b"acct 0 10240\ncommitted 10240 aborted 0\n")?;
+    Ok(text)
 }
 
 #[test]
 fn a_batch_has_at_most_10240_events(rt: HostRuntime) -> Result<(), Fail> {
-    let input = deposits(rt.alloc(), 10_240)?;
-    let ran = run_words(&rt, rt.alloc(), LEDGER, input.as_slice())?;
-    let end = b"10240 C 10240 0\nacct 0 10240\ncommitted 10240 aborted 0\n";
-    assert_eq!(rt; ran.status, 0);
-    assert!(rt; ran.sink.bytes().ends_with(end));
-
-    let input = deposits(rt.alloc(), 10_241)?;
-    let ran = run_words(&rt, rt.alloc(), LEDGER, input.as_slice())?;
-    assert_eq!(rt; ran.status, 3);
-    assert_eq!(rt; ran.sink.bytes(), b"refused line 10241: full\n".as_slice());
-    Ok(())
+    let full = deposits(rt.alloc(), 10_240)?;
+    let text = deposited_text(rt.alloc())?;
+    expect(&rt, LEDGER, &[(full.as_slice(), 0, text.as_slice())])?;
+    let more = deposits(rt.alloc(), 10_241)?;
+    expect(
+        &rt,
+        LEDGER,
+        &[(more.as_slice(), 3, b"refused line 10241: full\n")],
+    )
 }

@@ -17,17 +17,17 @@ returns-clause-headline g c =
 pub returns-clause-completes : goal.returns-clause-completes
 returns-clause-completes g c no_read no_write =
     completes_asked (settings_of (map (λ word. word.items) c.args.words.now)) c.in-Some.settings (g.S.Source.left c.args.source.now) (g.S.Source.left c.run_app-end.new.source)
-    (g.K.Sink.written c.args.sink.now) (g.K.Sink.written c.run_app-end.new.sink) c.run_app-end.result c.status.result (HasRisen (g.N.Sink.faults c.args.notes.now) (g.N.Sink.faults c.write_note-2.new.notes))
+    (g.K.Sink.written c.args.sink.now) (g.K.Sink.written c.run_app-end.new.sink) c.run_app-end.result c.status.result (HasRisen (g.N.Sink.faults c.args.notes.now) (g.N.Sink.faults c.write_note.new.notes))
     (sym c.in-Some.ensures.asked) c.status.ensures c.run_app-end.ensures.ends (λ is. no_read (c.run_app-end.ensures.read is))
     (λ no_note is. by_cause no_write no_note (c.run_app-end.ensures.write is))
   where
     by_cause : (HasRisen (g.K.Sink.faults c.args.sink.now) (g.K.Sink.faults c.run_app-end.new.sink) → ⊥)
-        → (IsTrue c.in-Some.settings.notes → HasRisen (g.N.Sink.faults c.args.notes.now) (g.N.Sink.faults c.write_note-2.new.notes) → ⊥)
+        → (IsTrue c.in-Some.settings.notes → HasRisen (g.N.Sink.faults c.args.notes.now) (g.N.Sink.faults c.write_note.new.notes) → ⊥)
         → HasRisen (g.K.Sink.faults c.args.sink.now) (g.K.Sink.faults c.run_app-end.new.sink)
         ⊎ (IsTrue c.in-Some.settings.notes × HasRisen (g.N.Sink.faults c.args.notes.now) (g.N.Sink.faults c.run_app-end.new.notes)) → ⊥
     by_cause no_write no_note (inl risen) = no_write risen
     by_cause no_write no_note (inr risen) =
-        no_note risen.0 (risen_before (g.N.Sink.faults c.args.notes.now) (g.N.Sink.faults c.run_app-end.new.notes) (g.N.Sink.faults c.write_note-2.new.notes) c.write_note-2.ensures.never_falls risen.1)
+        no_note risen.0 (risen_before (g.N.Sink.faults c.args.notes.now) (g.N.Sink.faults c.run_app-end.new.notes) (g.N.Sink.faults c.write_note.new.notes) c.write_note.ensures.never_falls risen.1)
 
 pub returns-clause-made : goal.returns-clause-made
 returns-clause-made g c =
@@ -39,12 +39,12 @@ returns-clause-told g c =
     told_asked (settings_of (map (λ word. word.items) c.args.words.now)) c.in-Some.settings (g.S.Source.left c.args.source.now) (g.S.Source.left c.run_app-end.new.source)
     c.run_app-end.result c.status.result c.run_app-end.new.tally
     (outputs_of (g.K.Sink.written c.args.sink.now) (g.N.Sink.written c.args.notes.now)) (outputs_of (g.K.Sink.written c.run_app-end.new.sink) (g.N.Sink.written c.run_app-end.new.notes))
-    (g.N.Sink.written c.write_note-2.new.notes)
-    (g.N.Sink.faults c.args.notes.now) (g.N.Sink.faults c.run_app-end.new.notes) (g.N.Sink.faults c.write_note-2.new.notes) (sym c.in-Some.ensures.asked) c.status.ensures
+    (g.N.Sink.written c.write_note.new.notes)
+    (g.N.Sink.faults c.args.notes.now) (g.N.Sink.faults c.run_app-end.new.notes) (g.N.Sink.faults c.write_note.new.notes) (sym c.in-Some.ensures.asked) c.status.ensures
     c.run_app-end.ensures.ends c.run_app-end.ensures.told
-    (subst (λ l. AppendsPrefix (g.N.Sink.written c.run_app-end.new.notes) l (g.N.Sink.written c.write_note-2.new.notes)) c.note_of.ensures c.write_note-2.ensures.prefix)
-    (λ none. c.write_note-2.ensures.whole none ∙ ap (behind (g.N.Sink.written c.run_app-end.new.notes)) c.note_of.ensures)
-    c.run_app-end.ensures.notes_faults c.write_note-2.ensures.never_falls
+    (subst (λ l. AppendsPrefix (g.N.Sink.written c.run_app-end.new.notes) l (g.N.Sink.written c.write_note.new.notes)) c.note_of.ensures c.write_note.ensures.prefix)
+    (λ none. c.write_note.ensures.whole none ∙ ap (behind (g.N.Sink.written c.run_app-end.new.notes)) c.note_of.ensures)
+    c.run_app-end.ensures.notes_faults c.write_note.ensures.never_falls
 
 pub returns-clause-balanced : goal.returns-clause-balanced
 returns-clause-balanced g c =
@@ -53,5 +53,5 @@ returns-clause-balanced g c =
 pub returns-clause-write : goal.returns-clause-write
 returns-clause-write g c =
     write_asked (settings_of (map (λ word. word.items) c.args.words.now)) c.in-Some.settings c.run_app-end.result c.status.result (HasRisen (g.K.Sink.faults c.args.sink.now) (g.K.Sink.faults c.run_app-end.new.sink))
-    (g.N.Sink.faults c.args.notes.now) (g.N.Sink.faults c.run_app-end.new.notes) (g.N.Sink.faults c.write_note-2.new.notes) (sym c.in-Some.ensures.asked) c.status.ensures
-    c.run_app-end.ensures.write c.write_note-2.ensures.never_falls
+    (g.N.Sink.faults c.args.notes.now) (g.N.Sink.faults c.run_app-end.new.notes) (g.N.Sink.faults c.write_note.new.notes) (sym c.in-Some.ensures.asked) c.status.ensures
+    c.run_app-end.ensures.write c.write_note.ensures.never_falls

@@ -1,0 +1,238 @@
+use Rattle.std.proofs.Common.{◌≡◌, ℕ, ◌++◌, List, inl, inr, refl, ap, ◌∙◌, arith, length}
+use Rattle.event_reader.specs.declared.limits.TheConstants.{INPUT_BYTES}
+use Rattle.event_reader.specs.Accepted.{Ended, RefusedAt}
+use Rattle.morph_base.specs.declared.key.Layout.{Layout}
+use Rattle.morph_base.specs.Flat.{Kept, contents}
+use Rattle.morph_base.proofs.NumberLaws.{op_count-small}
+use Rattle.morph_engine.specs.Fates.{settled_fates}
+use Rattle.morph_cli.specs.declared.fault.Fault.TheVariants.{Write, OutOfMemory}
+use Rattle.morph_cli.specs.declared.settings.Settings.{Settings}
+use Rattle.morph_cli.specs.declared.tally.Tally.{Tally}
+use Rattle.morph_cli.specs.Apps.{report_of}
+use Rattle.morph_cli.specs.Faults.{fault_of}
+use Rattle.morph_cli.specs.Notes.{noted, batch_note, closing_notes}
+use Rattle.morph_cli.specs.Outputs.{outputs_of}
+use Rattle.morph_cli.specs.Runs.{layout_of}
+use Rattle.morph_cli.specs.Text.{told_values, refused_text, counts_line}
+use Rattle.morph_cli.proofs.Between.{course_of, error_is, fates-many, between_start, between_batch, tally_few, ends_at_once, told_at_once, ends_fault, told_fault, ends_in_batch, told_cut_in_batch}
+use Rattle.morph_cli.proofs.Ending.{ends_memory, ends_complete, ends_refused, ends_cut, told_short, told_at_end, told_cut_at_end}
+use Rattle.morph_cli.proofs.Noting.{risen_in_part}
+use Rattle.morph_cli.proofs.Tallying.{few_stale, length-settled_fates}
+use Rattle.morph_cli.proofs.Turns.{cut_text}
+use Rattle.morph_cli.proofs.run.run_batches.Goals as goal
+
+-- the closing text of some values, and that it stands at the end
+abbrev closing_of : Settings → (name : ℕ → List ℕ) → Kept → Tally → List ℕ
+closing_of s name values tally = told_values (report_of s) values.layout name (contents values) ++ counts_line tally.committed tally.aborted
+
+closing_last : (s : Settings) (name : ℕ → List ℕ) (values kept : Kept) (tally : Tally) (layout : Layout) → values ≡ kept → kept.layout ≡ layout →
+    closing_of s name values tally ≡ told_values (report_of s) layout name (contents kept) ++ counts_line tally.committed tally.aborted
+closing_last s name values kept tally layout same is =
+    ap (λ v. closing_of s name v tally) same ∙ ap (λ l. told_values (report_of s) l name (contents kept) ++ counts_line tally.committed tally.aborted) is
+
+-- ---- between two batches
+
+pub batches-init : goal.batches-init
+batches-init g c =
+    record {
+      run = between_start (course_of g.A.EventApp.event_of (g.A.EventApp.table_count c.args.job.now.app) (g.A.EventApp.name_of c.args.job.now.app) c.args.job.now.app c.args.job.now.settings INPUT_BYTES (g.S.Source.left c.args.source.now)
+          (outputs_of (g.K.Sink.written c.args.sink.now) (g.N.Sink.written c.args.notes.now)))
+          c.args.progress.now.reader c.args.progress.now.engine c.args.tally.now c.args.progress.now.out (layout_of (g.A.EventApp.table_count c.args.job.now.app) c.args.job.now.settings.size) c.requires.reader c.requires.layout
+          refl c.requires.opening c.requires.empty c.requires.tally;
+      source_faults = omega arith;
+      sink_faults = omega arith;
+      notes_faults = omega arith;
+    }
+
+pub returns-in_err-batch-clause-ends : goal.returns-in_err-batch-clause-ends
+returns-in_err-batch-clause-ends g c =
+    ends_fault (g.S.Source.left c.next_batch.new.source) c.next_batch.new.self c.in_err-batch.field-0.0
+    (error_is c.from_residual.result (fault_of c.in_err-batch.field-0.0) c.from_residual.ensures.1)
+    c.batches.invariant.run c.in_err-batch.ensures.answers c.in_err-batch.ensures.shows c.in_err-batch.ensures.asked
+
+pub returns-in_err-batch-clause-told : goal.returns-in_err-batch-clause-told
+returns-in_err-batch-clause-told g c =
+    told_fault c.in_err-batch.field-0.0
+    (error_is c.from_residual.result (fault_of c.in_err-batch.field-0.0) c.from_residual.ensures.1) c.batches.invariant.run
+
+-- ---- a batch
+
+pub returns-in_err-end-in-Batch-clause-ends : goal.returns-in_err-end-in-Batch-clause-ends
+returns-in_err-end-in-Batch-clause-ends g c =
+    ends_memory (g.S.Source.left c.next_batch.new.source)
+    (error_is c.from_residual-in_err-end-in-Batch.result OutOfMemory c.from_residual-in_err-end-in-Batch.ensures.1) c.batches.invariant.run.goes
+
+pub returns-in_err-end-in-Batch-clause-told : goal.returns-in_err-end-in-Batch-clause-told
+returns-in_err-end-in-Batch-clause-told g c =
+    told_short OutOfMemory (error_is c.from_residual-in_err-end-in-Batch.result OutOfMemory c.from_residual-in_err-end-in-Batch.ensures.1) (λ is. absurd (cc)) c.batches.invariant.run.goes
+
+pub add-requires-clause-batches : goal.add-requires-clause-batches
+add-requires-clause-batches g c = let room = tally_few c.batches.invariant.run in omega (arith, room.0)
+
+pub add-requires-clause-events : goal.add-requires-clause-events
+add-requires-clause-events g c =
+    let room = tally_few c.batches.invariant.run in
+    let counted = rw c.in-Batch.is at c.in_ok-batch.ensures.counted in
+    let many = fates-many (contents c.batches.progress.engine) c.in-Batch.batch (settled_fates c.in_ok-end-in-Batch.end.plan c.in_ok-end-in-Batch.end.settled) c.in_ok-end-in-Batch.ensures.fates in
+    let events = length-settled_fates c.in_ok-end-in-Batch.end.plan c.in_ok-end-in-Batch.end.settled in
+    omega (arith, room.1, many, events, counted, c.in_ok-batch.ensures.bound, c.batches.invariant.run.limit_is, c.in_ok-batch.ensures.same.2)
+
+pub add-requires-clause-counts : goal.add-requires-clause-counts
+add-requires-clause-counts g c =
+    let counted = rw c.in-Batch.is at c.in_ok-batch.ensures.counted in
+    let many = fates-many (contents c.batches.progress.engine) c.in-Batch.batch (settled_fates c.in_ok-end-in-Batch.end.plan c.in_ok-end-in-Batch.end.settled) c.in_ok-end-in-Batch.ensures.fates in
+    let events = length-settled_fates c.in_ok-end-in-Batch.end.plan c.in_ok-end-in-Batch.end.settled in
+    omega (arith, many, events, counted, c.batches.invariant.run.counted, c.in_ok-batch.ensures.bound, c.batches.invariant.run.limit_is, c.in_ok-batch.ensures.same.2)
+
+pub add-requires-clause-ops : goal.add-requires-clause-ops
+add-requires-clause-ops g c =
+    let room = tally_few c.batches.invariant.run in
+    let few = op_count-small c.in_ok-end-in-Batch.end.plan c.in_ok-end-in-Batch.ensures.made.valid.plan in
+    omega (arith, room.2, few)
+
+pub add-requires-clause-evaluated : goal.add-requires-clause-evaluated
+add-requires-clause-evaluated g c =
+    let room = tally_few c.batches.invariant.run in
+    let few = op_count-small c.in_ok-end-in-Batch.end.plan c.in_ok-end-in-Batch.ensures.made.valid.plan in
+    let stale = few_stale c.in_ok-end-in-Batch.end.plan in
+    omega (arith, room.4, few, stale, c.in_ok-end-in-Batch.ensures.evaluated, c.in_ok-end-in-Batch.ensures.rolled)
+
+pub add-requires-clause-rolled : goal.add-requires-clause-rolled
+add-requires-clause-rolled g c =
+    let room = tally_few c.batches.invariant.run in
+    let few = op_count-small c.in_ok-end-in-Batch.end.plan c.in_ok-end-in-Batch.ensures.made.valid.plan in
+    let stale = few_stale c.in_ok-end-in-Batch.end.plan in
+    omega (arith, room.3, few, stale, c.in_ok-end-in-Batch.ensures.rolled)
+
+pub tell_batch-requires-clause-plan : goal.tell_batch-requires-clause-plan
+tell_batch-requires-clause-plan g c = c.in_ok-end-in-Batch.ensures.made.valid.plan
+
+pub returns-in_err-tell_batch-in-Batch-clause-ends : goal.returns-in_err-tell_batch-in-Batch-clause-ends
+returns-in_err-tell_batch-in-Batch-clause-ends g c =
+    let valid = rw c.in-Batch.is at c.in_ok-batch.ensures.valid in
+    let answers = rw c.in-Batch.is at c.in_ok-batch.ensures.answers in
+    ends_in_batch (g.S.Source.left c.next_batch.new.source) (outputs_of (g.K.Sink.written c.tell_batch.new.sink) (g.N.Sink.written c.tell_batch.new.notes)) c.next_batch.new.self c.in-Batch.batch
+    (settled_fates c.in_ok-end-in-Batch.end.plan c.in_ok-end-in-Batch.end.settled) (noted c.args.job.now.settings.notes (batch_note c.add.new.self.batches c.in_ok-end-in-Batch.end.plan))
+    (error_is c.from_residual-in_err-tell_batch-in-Batch.result Write c.from_residual-in_err-tell_batch-in-Batch.ensures.1)
+    c.batches.invariant.run answers valid.0 c.in_ok-end-in-Batch.ensures.fates c.in_err-tell_batch-in-Batch.ensures.told
+
+pub returns-in_err-tell_batch-in-Batch-clause-told : goal.returns-in_err-tell_batch-in-Batch-clause-told
+returns-in_err-tell_batch-in-Batch-clause-told g c =
+    let valid = rw c.in-Batch.is at c.in_ok-batch.ensures.valid in
+    let answers = rw c.in-Batch.is at c.in_ok-batch.ensures.answers in
+    told_cut_in_batch (g.S.Source.left c.next_batch.new.source) (outputs_of (g.K.Sink.written c.tell_batch.new.sink) (g.N.Sink.written c.tell_batch.new.notes)) c.next_batch.new.self c.in-Batch.batch
+    (settled_fates c.in_ok-end-in-Batch.end.plan c.in_ok-end-in-Batch.end.settled) c.in_ok-end-in-Batch.end.plan c.in_ok-end-in-Batch.end.evaluated c.in_ok-end-in-Batch.end.rolled
+    (error_is c.from_residual-in_err-tell_batch-in-Batch.result Write c.from_residual-in_err-tell_batch-in-Batch.ensures.1)
+    c.batches.invariant.run answers valid.0 c.in_ok-end-in-Batch.ensures.fates c.add.ensures c.in_ok-end-in-Batch.ensures.evaluated c.in_ok-end-in-Batch.ensures.rolled
+    c.in_ok-end-in-Batch.ensures.made c.in_err-tell_batch-in-Batch.ensures.told
+
+pub returns-in_err-tell_batch-in-Batch-clause-write : goal.returns-in_err-tell_batch-in-Batch-clause-write
+returns-in_err-tell_batch-in-Batch-clause-write g c is =
+    risen_in_part (g.K.Sink.faults c.args.sink.now) (g.K.Sink.faults c.batches.sink) (g.K.Sink.faults c.tell_batch.new.sink) (g.N.Sink.faults c.args.notes.now) (g.N.Sink.faults c.batches.notes) (g.N.Sink.faults c.tell_batch.new.notes)
+    c.batches.invariant.sink_faults c.in_err-tell_batch-in-Batch.ensures.sink_faults c.batches.invariant.notes_faults c.in_err-tell_batch-in-Batch.ensures.notes_faults c.in_err-tell_batch-in-Batch.ensures.cause
+
+pub batches-preserved : goal.batches-preserved
+batches-preserved g c =
+    let valid = rw c.in-Batch.is at c.in_ok-batch.ensures.valid in
+    let answers = rw c.in-Batch.is at c.in_ok-batch.ensures.answers in
+    let shows = rw c.in-Batch.is at c.in_ok-batch.ensures.shows in
+    let counted = rw c.in-Batch.is at c.in_ok-batch.ensures.counted in
+    let live = rw c.in-Batch.is at c.in_ok-batch.ensures.goes_on in
+    record {
+      run = between_batch c.in-Batch.batch (settled_fates c.in_ok-end-in-Batch.end.plan c.in_ok-end-in-Batch.end.settled) c.in_ok-end-in-Batch.end.plan c.in_ok-end-in-Batch.end.evaluated c.in_ok-end-in-Batch.end.rolled
+          c.batches.invariant.run answers shows valid.0 counted c.in_ok-batch.ensures.bound
+          c.in_ok-batch.ensures.same c.in_ok-batch.ensures.at_end c.in_ok-batch.ensures.unended live c.in_ok-end-in-Batch.ensures.layout
+          c.in_ok-end-in-Batch.ensures.state c.in_ok-end-in-Batch.ensures.fates c.in_ok-tell_batch-in-Batch.ensures.told c.in_ok-tell_batch-in-Batch.ensures.empty
+          c.add.ensures c.in_ok-end-in-Batch.ensures.evaluated c.in_ok-end-in-Batch.ensures.rolled c.in_ok-end-in-Batch.ensures.made;
+      source_faults = omega (arith, c.batches.invariant.source_faults, c.in_ok-batch.ensures.never_falls);
+      sink_faults = omega (arith, c.batches.invariant.sink_faults, c.in_ok-tell_batch-in-Batch.ensures.sink_faults);
+      notes_faults = omega (arith, c.batches.invariant.notes_faults, c.in_ok-tell_batch-in-Batch.ensures.notes_faults);
+    }
+
+-- ---- the end
+
+pub tell_closing-requires-clause-all : goal.tell_closing-requires-clause-all
+tell_closing-requires-clause-all g c = ap length c.batches.invariant.run.goes.tallied.counts.settled_by
+
+pub tell_refused-requires-clause-all : goal.tell_refused-requires-clause-all
+tell_refused-requires-clause-all g c = ap length c.batches.invariant.run.goes.tallied.counts.settled_by
+
+pub returns-in-End-clause-ends : goal.returns-in-End-clause-ends
+returns-in-End-clause-ends g c =
+    let answers = rw c.in-End.is at c.in_ok-batch.ensures.answers in
+    ends_complete (g.S.Source.left c.next_batch.new.source) (outputs_of (g.K.Sink.written c.tell_closing.new.sink) (g.N.Sink.written c.tell_closing.new.notes))
+    (closing_of c.args.job.now.settings (g.A.EventApp.name_of c.args.job.now.app) c.state-values.result.now c.batches.tally)
+    (noted c.args.job.now.settings.notes (closing_notes c.args.job.now.settings.workers c.batches.tally)) c.batches.invariant.run.goes answers
+    (closing_last c.args.job.now.settings (g.A.EventApp.name_of c.args.job.now.app) c.state-values.result.now c.batches.progress.engine c.batches.tally _ c.state-values.ensures c.batches.invariant.run.layout) c.in_ok-tell_closing-in-End.ensures.told
+
+pub returns-in-End-clause-told : goal.returns-in-End-clause-told
+returns-in-End-clause-told g c =
+    let answers = rw c.in-End.is at c.in_ok-batch.ensures.answers in
+    told_at_end (outputs_of (g.K.Sink.written c.tell_closing.new.sink) (g.N.Sink.written c.tell_closing.new.notes)) 0 Ended
+    (closing_of c.args.job.now.settings (g.A.EventApp.name_of c.args.job.now.app) c.state-values.result.now c.batches.tally)
+    (inl refl) (λ is. absurd (cc)) c.batches.invariant.run.goes answers
+    (closing_last c.args.job.now.settings (g.A.EventApp.name_of c.args.job.now.app) c.state-values.result.now c.batches.progress.engine c.batches.tally _ c.state-values.ensures c.batches.invariant.run.layout) c.in_ok-tell_closing-in-End.ensures.told
+
+pub returns-in_err-tell_closing-in-End-clause-ends : goal.returns-in_err-tell_closing-in-End-clause-ends
+returns-in_err-tell_closing-in-End-clause-ends g c =
+    let answers = rw c.in-End.is at c.in_ok-batch.ensures.answers in
+    ends_cut (g.S.Source.left c.next_batch.new.source) (outputs_of (g.K.Sink.written c.tell_closing.new.sink) (g.N.Sink.written c.tell_closing.new.notes)) Ended
+    (closing_of c.args.job.now.settings (g.A.EventApp.name_of c.args.job.now.app) c.state-values.result.now c.batches.tally)
+    (error_is c.from_residual-in_err-tell_closing-in-End.result Write c.from_residual-in_err-tell_closing-in-End.ensures.1) c.batches.invariant.run.goes answers
+    (closing_last c.args.job.now.settings (g.A.EventApp.name_of c.args.job.now.app) c.state-values.result.now c.batches.progress.engine c.batches.tally _ c.state-values.ensures c.batches.invariant.run.layout)
+    (cut_text (outputs_of (g.K.Sink.written c.batches.sink) (g.N.Sink.written c.batches.notes))
+    (closing_of c.args.job.now.settings (g.A.EventApp.name_of c.args.job.now.app) c.state-values.result.now c.batches.tally)
+    (noted c.args.job.now.settings.notes (closing_notes c.args.job.now.settings.workers c.batches.tally)) (outputs_of (g.K.Sink.written c.tell_closing.new.sink) (g.N.Sink.written c.tell_closing.new.notes)) c.in_err-tell_closing-in-End.ensures.told)
+
+pub returns-in_err-tell_closing-in-End-clause-told : goal.returns-in_err-tell_closing-in-End-clause-told
+returns-in_err-tell_closing-in-End-clause-told g c =
+    let answers = rw c.in-End.is at c.in_ok-batch.ensures.answers in
+    told_cut_at_end (outputs_of (g.K.Sink.written c.tell_closing.new.sink) (g.N.Sink.written c.tell_closing.new.notes)) Ended
+    (closing_of c.args.job.now.settings (g.A.EventApp.name_of c.args.job.now.app) c.state-values.result.now c.batches.tally)
+    (error_is c.from_residual-in_err-tell_closing-in-End.result Write c.from_residual-in_err-tell_closing-in-End.ensures.1) (λ is. absurd (cc)) c.batches.invariant.run.goes answers
+    (closing_last c.args.job.now.settings (g.A.EventApp.name_of c.args.job.now.app) c.state-values.result.now c.batches.progress.engine c.batches.tally _ c.state-values.ensures c.batches.invariant.run.layout) c.in_err-tell_closing-in-End.ensures.told
+
+pub returns-in_err-tell_closing-in-End-clause-write : goal.returns-in_err-tell_closing-in-End-clause-write
+returns-in_err-tell_closing-in-End-clause-write g c is =
+    risen_in_part (g.K.Sink.faults c.args.sink.now) (g.K.Sink.faults c.batches.sink) (g.K.Sink.faults c.tell_closing.new.sink) (g.N.Sink.faults c.args.notes.now) (g.N.Sink.faults c.batches.notes) (g.N.Sink.faults c.tell_closing.new.notes)
+    c.batches.invariant.sink_faults c.in_err-tell_closing-in-End.ensures.sink_faults c.batches.invariant.notes_faults c.in_err-tell_closing-in-End.ensures.notes_faults c.in_err-tell_closing-in-End.ensures.cause
+
+pub returns-in-Refused-clause-ends : goal.returns-in-Refused-clause-ends
+returns-in-Refused-clause-ends g c =
+    let answers = rw c.in-Refused.is at c.in_ok-batch.ensures.answers in
+    ends_refused (g.S.Source.left c.next_batch.new.source) (outputs_of (g.K.Sink.written c.tell_refused.new.sink) (g.N.Sink.written c.tell_refused.new.notes)) c.in-Refused.line c.in-Refused.cause
+    (refused_text c.in-Refused.line c.in-Refused.cause)
+    (noted c.args.job.now.settings.notes (closing_notes c.args.job.now.settings.workers c.batches.tally)) c.batches.invariant.run.goes answers
+    refl c.in_ok-tell_refused-in-Refused.ensures.told
+
+pub returns-in-Refused-clause-told : goal.returns-in-Refused-clause-told
+returns-in-Refused-clause-told g c =
+    let answers = rw c.in-Refused.is at c.in_ok-batch.ensures.answers in
+    told_at_end (outputs_of (g.K.Sink.written c.tell_refused.new.sink) (g.N.Sink.written c.tell_refused.new.notes)) 3 (RefusedAt c.in-Refused.line c.in-Refused.cause)
+    (refused_text c.in-Refused.line c.in-Refused.cause)
+    (inr refl) (λ is. absurd (cc)) c.batches.invariant.run.goes answers
+    refl c.in_ok-tell_refused-in-Refused.ensures.told
+
+pub returns-in_err-tell_refused-in-Refused-clause-ends : goal.returns-in_err-tell_refused-in-Refused-clause-ends
+returns-in_err-tell_refused-in-Refused-clause-ends g c =
+    let answers = rw c.in-Refused.is at c.in_ok-batch.ensures.answers in
+    ends_cut (g.S.Source.left c.next_batch.new.source) (outputs_of (g.K.Sink.written c.tell_refused.new.sink) (g.N.Sink.written c.tell_refused.new.notes)) (RefusedAt c.in-Refused.line c.in-Refused.cause)
+    (refused_text c.in-Refused.line c.in-Refused.cause)
+    (error_is c.from_residual-in_err-tell_refused-in-Refused.result Write c.from_residual-in_err-tell_refused-in-Refused.ensures.1) c.batches.invariant.run.goes answers
+    refl
+    (cut_text (outputs_of (g.K.Sink.written c.batches.sink) (g.N.Sink.written c.batches.notes))
+    (refused_text c.in-Refused.line c.in-Refused.cause)
+    (noted c.args.job.now.settings.notes (closing_notes c.args.job.now.settings.workers c.batches.tally)) (outputs_of (g.K.Sink.written c.tell_refused.new.sink) (g.N.Sink.written c.tell_refused.new.notes)) c.in_err-tell_refused-in-Refused.ensures.told)
+
+pub returns-in_err-tell_refused-in-Refused-clause-told : goal.returns-in_err-tell_refused-in-Refused-clause-told
+returns-in_err-tell_refused-in-Refused-clause-told g c =
+    let answers = rw c.in-Refused.is at c.in_ok-batch.ensures.answers in
+    told_cut_at_end (outputs_of (g.K.Sink.written c.tell_refused.new.sink) (g.N.Sink.written c.tell_refused.new.notes)) (RefusedAt c.in-Refused.line c.in-Refused.cause)
+    (refused_text c.in-Refused.line c.in-Refused.cause)
+    (error_is c.from_residual-in_err-tell_refused-in-Refused.result Write c.from_residual-in_err-tell_refused-in-Refused.ensures.1) (λ is. absurd (cc)) c.batches.invariant.run.goes answers
+    refl c.in_err-tell_refused-in-Refused.ensures.told
+
+pub returns-in_err-tell_refused-in-Refused-clause-write : goal.returns-in_err-tell_refused-in-Refused-clause-write
+returns-in_err-tell_refused-in-Refused-clause-write g c is =
+    risen_in_part (g.K.Sink.faults c.args.sink.now) (g.K.Sink.faults c.batches.sink) (g.K.Sink.faults c.tell_refused.new.sink) (g.N.Sink.faults c.args.notes.now) (g.N.Sink.faults c.batches.notes) (g.N.Sink.faults c.tell_refused.new.notes)
+    c.batches.invariant.sink_faults c.in_err-tell_refused-in-Refused.ensures.sink_faults c.batches.invariant.notes_faults c.in_err-tell_refused-in-Refused.ensures.notes_faults c.in_err-tell_refused-in-Refused.ensures.cause

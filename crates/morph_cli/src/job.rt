@@ -1,0 +1,20 @@
+use crate::settings::Settings;
+use std::alloc::Global;
+
+/// What a run has to work with, whatever it runs.
+#[derive(Drop)]
+pub struct Host<'a, R, G> {
+    /// What starts threads.
+    pub rt: &'a R,
+    pub alloc: Global,
+    /// What may hold the workers of a batch.
+    pub gate: &'a G,
+}
+
+/// What a run is to do: an application, by the settings, with what the host has.
+#[derive(Drop)]
+pub struct Job<'a, A, R, G> {
+    pub host: &'a Host<'a, R, G>,
+    pub app: A,
+    pub settings: Settings,
+}

@@ -14,3 +14,4 @@ pub mod Storing
 pub mod Shown
 pub mod Places
 pub mod Deposit
+pub mod Sighting

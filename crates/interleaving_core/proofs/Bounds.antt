@@ -5,7 +5,7 @@ use Rattle.std.proofs.lemmas.Bool.{false≢true, cases_eq, cases_lt, cases_Bool,
 use Rattle.std.proofs.lemmas.List.Sums.{sum_by-cons, sum_by_push, length-filter}
 use Rattle.std.proofs.Math.Nat.{mul_comm}
 use Rattle.std.proofs.lemmas.List.Elements.{Contains-get_or, All-filter, filter_passes, All-get_or}
-use Rattle.morph_base.specs.declared.word.TheConstants.{ATTEMPTS}
+use Rattle.morph_base.specs.Limits.{most_attempts}
 use Rattle.morph_base.specs.declared.plan.Plan.{Plan}
 use Rattle.morph_base.specs.declared.word.OpState.{OpState}
 use Rattle.morph_base.specs.declared.word.OpState.TheVariants.{Blocked, Ready, Claimed, Executed, Failed, Spread, Settled, SettledAborted}
@@ -83,7 +83,7 @@ run_attempts p cap (e ∷ es) c run o =
 -- ---- in a run
 
 -- each event of a run could be made from a sound state
-pub run_event : (p : Plan) (cap : ℕ) → IsPlan p → cap < ATTEMPTS → (Q : CoreEvent → Type 0) → ((b : Core) (e : CoreEvent) → IsSound p cap b → May p cap b e → Q e) → (es : List CoreEvent) (c : Core)
+pub run_event : (p : Plan) (cap : ℕ) → IsPlan p → cap < most_attempts → (Q : CoreEvent → Type 0) → ((b : Core) (e : CoreEvent) → IsSound p cap b → May p cap b e → Q e) → (es : List CoreEvent) (c : Core)
     → Run p cap es c → (e : CoreEvent) → Contains es e → Q e
 run_event p cap valid small Q each [] c run e inside = absurd (not-suc-le-zero inside.1)
 run_event p cap valid small Q each (f ∷ es) c run e inside = at inside.0 inside.1 inside.2 (λ k lt is. run_event p cap valid small Q each es run.0 run.1 e (k, lt, is))
@@ -146,7 +146,7 @@ count_shows es = count_sum shows is_finish is_spread at es
     at (Decide i committed) = refl
     at (Settle o t) = refl
 
-module _ (p : Plan) (cap : ℕ) (valid : IsPlan p) (small : cap < ATTEMPTS) (es : List CoreEvent) (c : Core) (run : Run p cap es c) where
+module _ (p : Plan) (cap : ℕ) (valid : IsPlan p) (small : cap < most_attempts) (es : List CoreEvent) (c : Core) (run : Run p cap es c) where
   sound : IsSound p cap c
   sound = run_sound p cap valid small es c run
 
@@ -324,7 +324,7 @@ balanced-after p cap b s (Settle i t) may o is k own = at (b.decision (event_of 
     at (Some true) = balanced_same b i o _ refl is
     at (Some false) = balanced_same b i o _ refl is
 
-pub run_balanced : (p : Plan) (cap : ℕ) → IsPlan p → cap < ATTEMPTS → (es : List CoreEvent) (c : Core) → Run p cap es c → (o : ℕ) → Balanced c o
+pub run_balanced : (p : Plan) (cap : ℕ) → IsPlan p → cap < most_attempts → (es : List CoreEvent) (c : Core) → Run p cap es c → (o : ℕ) → Balanced c o
 run_balanced p cap valid small [] c run o = subst (λ (d : Core). Balanced d o) (sym run) refl
 run_balanced p cap valid small (e ∷ es) c run o =
     subst (λ (d : Core). Balanced d o) (sym run.3)
@@ -393,7 +393,7 @@ count_classes {X} q f n (x ∷ xs) range =
     at true lt = sum_one (f x) n (lt refl)
     at false lt = sum_none n
 
-module _ (p : Plan) (cap : ℕ) (valid : IsPlan p) (small : cap < ATTEMPTS) (es : List CoreEvent) (c : Core) (run : Run p cap es c) where
+module _ (p : Plan) (cap : ℕ) (valid : IsPlan p) (small : cap < most_attempts) (es : List CoreEvent) (c : Core) (run : Run p cap es c) where
   -- all entries, operation by operation
   entries_sum : sum_by (λ o. entries_of o c.published) (below (op_count p)) ≡ length c.published
   entries_sum =

@@ -2,7 +2,7 @@
 use Rattle.std.proofs.Common.{◌≡◌, ℕ, suc, zero, ◌<◌, ◌≤◌, true, false, cond, eqb, List, ap, arith, refl}
 use Rattle.std.specs.Prelude.{◌&&◌, ◌==◌, count_by, sum_by}
 use Rattle.std.proofs.lemmas.Bool.{and_from, eq-eqb}
-use Rattle.morph_base.specs.declared.word.TheConstants.{ATTEMPTS}
+use Rattle.morph_base.specs.Limits.{most_attempts}
 use Rattle.morph_base.specs.declared.plan.Plan.{Plan}
 use Rattle.morph_base.specs.declared.word.OpState.{OpState}
 use Rattle.morph_base.specs.declared.word.OpState.TheVariants.{Blocked, Ready, Claimed, Executed, Failed, Spread, Settled, SettledAborted}
@@ -23,7 +23,7 @@ sum_most f g (suc n) few =
     let rest = sum_most f g n (λ k lt. few k (omega arith)) in let here = few n (omega arith) in let one = sum_below f n in let two = sum_below g n in omega arith
 
 -- each operation that was settled in a committed event was evaluated
-pub settled-evaluated : (p : Plan) (cap : ℕ) → IsPlan p → cap < ATTEMPTS → (es : List CoreEvent) (c : Core) → Run p cap es c
+pub settled-evaluated : (p : Plan) (cap : ℕ) → IsPlan p → cap < most_attempts → (es : List CoreEvent) (c : Core) → Run p cap es c
     → count_by (λ o. is_committed (c.word o).state) (below (op_count p)) ≤ evaluated es
 settled-evaluated p cap valid small es c run =
     let sound : IsSound p cap c = run_sound p cap valid small es c run in

@@ -13,7 +13,7 @@ pub mod Machine
 pub mod Storing
 pub mod Shown
 pub mod Places
-pub mod Deposit
 pub mod Bounds
 pub mod Stale
 pub mod Committed
+pub mod Sighting

@@ -7,7 +7,7 @@ use Rattle.std.proofs.lemmas.Option.{same_Some, none-some}
 use Rattle.std.proofs.lemmas.List.Sums.{sum_by-cons}
 use Rattle.std.proofs.lemmas.List.Folds.{list_any_at, list_any_none}
 use Rattle.std.proofs.lemmas.List.Elements.{All-from_get_or}
-use Rattle.morph_base.specs.declared.word.TheConstants.{ATTEMPTS}
+use Rattle.morph_base.specs.Limits.{most_attempts}
 use Rattle.morph_base.specs.declared.plan.Plan.{Plan}
 use Rattle.morph_base.specs.declared.plan.Origin.{Origin}
 use Rattle.morph_base.specs.declared.plan.Origin.TheVariants.{Base, Op as Written}
@@ -154,7 +154,7 @@ pub run_split : (p : Plan) (cap : ℕ) (es fs : List CoreEvent) (c : Core) → R
 run_split p cap [] fs c run = (c, run, refl)
 run_split p cap (e ∷ es) fs c run = let rest = run_split p cap es fs run.0 run.1 in (rest.0, rest.1, (run.0, rest.2, run.2, run.3))
 
-pub one_small : 1 < ATTEMPTS
+pub one_small : 1 < most_attempts
 one_small = omega arith
 
 module _ (p : Plan) (valid : IsPlan p) (b : Core) (begun : IsSound p 1 b) (explored : IsExplored p b) where

@@ -4,4 +4,5 @@ pub mod Soundness
 pub mod Growth
 pub mod Schedules
 pub mod Stored
+pub mod Sightings
 pub mod Counts

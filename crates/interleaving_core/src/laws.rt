@@ -67,14 +67,14 @@ pub fn sound_states()
 /// settled in a committed event.
 pub fn counts()
     ensures attempts { (p : Plan) (cap o : ℕ) (es : List CoreEvent) (c : Core) → Run p cap es c → (c.word o).attempt ≡ 1 + count_by (rises_at o) es }
-    ensures few_raised { (p : Plan) (cap : ℕ) (es : List CoreEvent) (c : Core) → IsPlan p → cap < ATTEMPTS → Run p cap es c
+    ensures few_raised { (p : Plan) (cap : ℕ) (es : List CoreEvent) (c : Core) → IsPlan p → cap < most_attempts → Run p cap es c
         → spreads es + rolled es ≤ cap * op_count p }
-    ensures few_shown { (p : Plan) (cap : ℕ) (es : List CoreEvent) (c : Core) → IsPlan p → cap < ATTEMPTS → Run p cap es c
+    ensures few_shown { (p : Plan) (cap : ℕ) (es : List CoreEvent) (c : Core) → IsPlan p → cap < most_attempts → Run p cap es c
         → evaluated es + spreads es ≤ (cap + 1) * op_count p }
     ensures none_spread { (p : Plan) (es : List CoreEvent) (c : Core) → IsPlan p → Run p 1 es c → spreads es ≡ 0 }
-    ensures shown { (p : Plan) (cap : ℕ) (es : List CoreEvent) (c : Core) → IsPlan p → cap < ATTEMPTS → Run p cap es c
+    ensures shown { (p : Plan) (cap : ℕ) (es : List CoreEvent) (c : Core) → IsPlan p → cap < most_attempts → Run p cap es c
         → evaluated es ≡ rolled es + sum_by (shown_now c) (below (op_count p)) }
-    ensures committed { (p : Plan) (cap : ℕ) (es : List CoreEvent) (c : Core) → IsPlan p → cap < ATTEMPTS → Run p cap es c
+    ensures committed { (p : Plan) (cap : ℕ) (es : List CoreEvent) (c : Core) → IsPlan p → cap < most_attempts → Run p cap es c
         → count_by (λ o. is_committed (c.word o).state) (below (op_count p)) ≤ evaluated es }
 {}
 

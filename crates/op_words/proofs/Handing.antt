@@ -1,0 +1,170 @@
+-- A hand stays one of its board's.
+use Rattle.std.proofs.Common.{◌≡◌, ◌≢◌, ◌⊎◌, ℕ, zero, suc, ◌+◌, ◌-◌, ◌^◌, ◌<◌, ◌≤◌, List, [], ◌∷◌, ◌++◌, length, refl, sym, ap, ◌∙◌, subst, inl, inr, arith, Option, Some, None}
+use Rattle.std.specs.Prelude.{Contains, Bool, cond, min, count_by}
+use Rattle.std.proofs.lemmas.Option.{none-some}
+use Rattle.std.proofs.lemmas.List.Sums.{sum_by-append, sum_by-cons}
+use Rattle.std.proofs.lemmas.List.Elements.{Contains-append_left}
+use Rattle.std.specs.declared.snapshot.Snapshot.{Snapshot}
+use Rattle.morph_base.specs.declared.limits.TheConstants.{WORKERS}
+use Rattle.morph_base.specs.declared.word.TheConstants.{ATTEMPTS}
+use Rattle.morph_base.specs.declared.plan.Plan.{Plan}
+use Rattle.interleaving_core.specs.declared.event.CoreEvent.{CoreEvent}
+use Rattle.interleaving_core.specs.Counts.{is_finish, is_spread, is_roll, evaluated, spreads, rolled}
+use Rattle.interleaving_core.specs.Core.{blocked, start}
+use Rattle.interleaving_core.specs.Steps.{IsWorker}
+use Rattle.morph_base.specs.Plans.{IsPlan}
+use Rattle.op_words.specs.declared.answers.Counts.{Counts}
+use Rattle.op_words.specs.declared.board.Board.{Board}
+use Rattle.op_words.specs.declared.board.Hand.{Hand}
+use Rattle.op_words.specs.declared.board.Holding.{Holding}
+use Rattle.op_words.specs.declared.trail.View.{View}
+use Rattle.op_words.specs.Views.{IsLone, parent, child, merged}
+use Rattle.op_words.specs.Plays.{Sat, IsTold}
+use Rattle.op_words.specs.Rule.{first_view}
+use Rattle.op_words.specs.Hands.{plan_of, cap_of, view_in, view_of, held_of, up_to, counts_of, Fits, IsHandOf}
+use Rattle.op_words.proofs.Rows.{not_inside}
+use Rattle.op_words.proofs.Trailing.{last-none}
+
+-- what the hand keeps while it runs is what view u says
+pub record IsKept (g : Hand) (u : View) : Type 0 where
+  pub worker : IsWorker u.tag
+  pub counted : u.tag ≡ 1 → 1 ≤ u.made
+  pub tag : g.tag ≡ u.tag
+  pub made : g.made ≡ u.made
+  pub held : held_of g.held ≡ u.claim
+  pub fits : (k : Holding) → g.held ≡ Some k → Fits k
+  pub counts : g.counts ≡ counts_of u.events
+
+pub kept : {b : Board} {h : Hand} → IsHandOf b h → IsKept h (view_of h)
+kept is = record { worker = is.worker; counted = is.counted; tag = is.tag; made = is.made; held = is.held; fits = is.fits; counts = is.counts }
+
+-- after a step to view u
+pub still : (b : Board) (h g : Hand) (u : View) → IsHandOf b h → g.seat.table_id ≡ h.seat.table_id → g.seat.me ≡ (Some u, []) → u.plan ≡ (view_of h).plan → u.cap ≡ (view_of h).cap
+    → IsKept g u → IsTold u → IsHandOf b g
+still b h g u is table me plan cap keeps told =
+    let same : view_of g ≡ u = ap (λ (m : Sat). view_in m.0) me in
+    record {
+      table = table ∙ is.table;
+      seat = me ∙ ap (λ (v : View). (Some v, [])) (sym same);
+      plan = ap (λ (v : View). v.plan.value) same ∙ ap (λ s. s.value) plan ∙ is.plan;
+      cap = ap (λ (v : View). v.cap) same ∙ cap ∙ is.cap;
+      valid = is.valid;
+      small = is.small;
+      worker = subst (λ (v : View). IsWorker v.tag) (sym same) keeps.worker;
+      counted = subst (λ (v : View). v.tag ≡ 1 → 1 ≤ v.made) (sym same) keeps.counted;
+      tag = keeps.tag ∙ sym (ap (λ (v : View). v.tag) same);
+      made = keeps.made ∙ sym (ap (λ (v : View). v.made) same);
+      held = keeps.held ∙ sym (ap (λ (v : View). v.claim) same);
+      fits = keeps.fits;
+      counts = keeps.counts ∙ sym (ap (λ (v : View). counts_of v.events) same);
+      told = subst IsTold (sym same) told;
+    }
+
+-- ---- hands made and joined
+
+pub parent_kept : (h g : Hand) → IsKept h (view_of h) → (view_of h).tag ≡ 1 → g.tag ≡ h.tag → g.made ≡ h.made + 1 → g.held ≡ h.held → g.counts ≡ h.counts → IsKept g (parent (view_of h))
+parent_kept h g is root tag made held counts = record {
+  worker = is.worker;
+  counted = λ e. omega arith;
+  tag = tag ∙ is.tag;
+  made = made ∙ ap (λ (n : ℕ). n + 1) is.made;
+  held = ap held_of held ∙ is.held;
+  fits = λ k e. is.fits k (sym held ∙ e);
+  counts = counts ∙ is.counts;
+}
+
+pub parent_told : (v : View) → (v.tag ≡ 1 → 1 ≤ v.made) → IsTold v → IsTold (parent v)
+parent_told v counted told = record {
+  agree = told.agree;
+  noted = record { each = told.noted.each };
+  done = λ lone. let some = counted lone.root in let more = lone.alone in absurd (omega (arith, some, more));
+}
+
+pub child_told : (v : View) → IsTold v → IsTold (child v)
+child_told v told = record {
+  agree = told.agree;
+  noted = record { each = λ t inside. absurd (not_inside t inside) };
+  done = λ lone. let none = lone.alone in absurd (omega (arith, none));
+}
+
+-- ---- counts
+
+capped : (a b : ℕ) → min (min a (2 ^ 64 - 1) + min b (2 ^ 64 - 1)) (2 ^ 64 - 1) ≡ min (a + b) (2 ^ 64 - 1)
+capped a b = omega arith
+
+same_counts : (a b : Counts) → a.evaluated ≡ b.evaluated → a.spread ≡ b.spread → a.rolled ≡ b.rolled → a ≡ b
+same_counts a b first second third =
+    ap (λ n. record a { evaluated = n }) first ∙ ap (λ n. record b { spread = n; rolled = a.rolled }) second ∙ ap (λ n. record b { rolled = n }) third
+
+pub counts_append : (k a b : Counts) (es fs : List CoreEvent) → a ≡ counts_of es → b ≡ counts_of fs
+    → k.evaluated ≡ min (a.evaluated + b.evaluated) (2 ^ 64 - 1) → k.spread ≡ min (a.spread + b.spread) (2 ^ 64 - 1) → k.rolled ≡ min (a.rolled + b.rolled) (2 ^ 64 - 1)
+    → k ≡ counts_of (es ++ fs)
+counts_append k a b es fs first second e s r =
+    same_counts k (counts_of (es ++ fs)) (part (λ (c : Counts). c.evaluated) is_finish e refl refl) (part (λ (c : Counts). c.spread) is_spread s refl refl) (part (λ (c : Counts). c.rolled) is_roll r refl refl)
+  where
+    part : (f : Counts → ℕ) (q : CoreEvent → Bool) {n : ℕ} → n ≡ min (f a + f b) (2 ^ 64 - 1) → f (counts_of es) ≡ up_to (count_by q es) → f (counts_of fs) ≡ up_to (count_by q fs) → n ≡ up_to (count_by q (es ++ fs))
+    part f q is one two =
+        is ∙ ap (λ (z : ℕ × ℕ). min (z.0 + z.1) (2 ^ 64 - 1)) (λ i. ((ap f first ∙ one) i, (ap f second ∙ two) i)) ∙ capped (count_by q es) (count_by q fs)
+        ∙ ap up_to (sym (sum_by-append (λ x. cond (q x) 1 0) es fs))
+
+pub joined_kept : (h o g : Hand) → IsKept h (view_of h) → IsKept o (view_of o) → g.tag ≡ h.tag → g.made ≡ h.made → g.held ≡ h.held
+    → g.counts.evaluated ≡ min (h.counts.evaluated + o.counts.evaluated) (2 ^ 64 - 1) → g.counts.spread ≡ min (h.counts.spread + o.counts.spread) (2 ^ 64 - 1)
+    → g.counts.rolled ≡ min (h.counts.rolled + o.counts.rolled) (2 ^ 64 - 1) → IsKept g (merged (view_of h) (view_of o))
+joined_kept h o g is its tag made held e s r = record {
+  worker = is.worker;
+  counted = is.counted;
+  tag = tag ∙ is.tag;
+  made = made ∙ is.made;
+  held = ap held_of held ∙ is.held;
+  fits = λ k same. is.fits k (sym held ∙ same);
+  counts = counts_append g.counts h.counts o.counts (view_of h).events (view_of o).events is.counts its.counts e s r;
+}
+
+-- ---- new hands
+
+pub child_hand : (b : Board) (h g : Hand) → IsHandOf b h → (view_of h).tag ≡ 1 → (view_of h).made < WORKERS → g.seat.table_id ≡ h.seat.table_id → g.seat.me ≡ (Some (child (view_of h)), [])
+    → g.tag ≡ h.made + 1 → g.made ≡ 0 → g.held ≡ None → g.counts ≡ counts_of [] → IsHandOf b g
+child_hand b h g is root few table me tag made held counts =
+    still b h g (child (view_of h)) is table me refl refl
+    (record {
+      worker = record { first = omega arith; last = omega (arith, few) };
+      counted = λ e. absurd (is_one e);
+      tag = tag ∙ ap (λ (n : ℕ). n + 1) is.made;
+      made = made;
+      held = ap held_of held;
+      fits = λ k e. absurd (none-some k (sym held ∙ e));
+      counts = counts;
+    })
+    (child_told (view_of h) is.told)
+  where
+    is_one : (view_of h).made + 1 ≡ 1 → ⊥
+    is_one e = let some = is.counted root in omega (arith, e, some)
+
+pub first_told : (plan : Snapshot Plan) (cap : ℕ) → IsTold (first_view plan cap)
+first_told plan cap = record {
+  agree = λ m n inside other same one two. absurd (not_inside m inside);
+  noted = record { each = λ t inside. absurd (not_inside t inside) };
+  done = λ lone. record { core = start; run = refl; present = record { each = λ o lt. sym (last-none o (blocked 1)) } };
+}
+
+pub first_hand : (b : Board) (g : Hand) → g.seat.table_id ≡ b.table.shared.table_id → g.seat.me ≡ (Some (first_view b.table.shared.key.plan b.table.shared.key.cap), [])
+    → IsPlan (plan_of b) → cap_of b < ATTEMPTS → g.tag ≡ 1 → g.made ≡ 1 → g.held ≡ None → g.counts ≡ counts_of [] → IsHandOf b g
+first_hand b g table me valid small tag made held counts =
+    let u : View = first_view b.table.shared.key.plan b.table.shared.key.cap in
+    let same : view_of g ≡ u = ap (λ (m : Sat). view_in m.0) me in
+    record {
+      table = table;
+      seat = me ∙ ap (λ (v : View). (Some v, [])) (sym same);
+      plan = ap (λ (v : View). v.plan.value) same;
+      cap = ap (λ (v : View). v.cap) same;
+      valid = valid;
+      small = small;
+      worker = subst (λ (v : View). IsWorker v.tag) (sym same) (record { first = omega arith; last = omega arith });
+      counted = subst (λ (v : View). v.tag ≡ 1 → 1 ≤ v.made) (sym same) (λ e. omega arith);
+      tag = tag ∙ sym (ap (λ (v : View). v.tag) same);
+      made = made ∙ sym (ap (λ (v : View). v.made) same);
+      held = ap held_of held ∙ sym (ap (λ (v : View). v.claim) same);
+      fits = λ k e. absurd (none-some k (sym held ∙ e));
+      counts = counts ∙ sym (ap (λ (v : View). counts_of v.events) same);
+      told = subst IsTold (sym same) (first_told b.table.shared.key.plan b.table.shared.key.cap);
+    }

@@ -1,0 +1,12 @@
+pub mod Trailing
+pub mod Rows
+pub mod Knowing
+pub mod Moving
+pub mod Telling
+pub mod Laying
+pub mod Loading
+pub mod Splitting
+pub mod Joining
+pub mod Opening
+pub mod Adding
+pub mod Handing

@@ -1,0 +1,110 @@
+-- The board and its hands, as contracts see them.
+use Rattle.std.specs.Prelude.{◌≡◌, ℕ, ◌-◌, ◌^◌, ◌≤◌, ◌<◌, List, [], length, take, min, All, Option, Some, None}
+use Rattle.morph_base.specs.declared.limits.TheConstants.{MAX, READS}
+use Rattle.morph_base.specs.declared.word.TheConstants.{ATTEMPTS}
+use Rattle.morph_base.specs.declared.word.OpWord.{OpWord}
+use Rattle.morph_base.specs.declared.plan.Plan.{Plan}
+use Rattle.morph_base.specs.Plans.{IsPlan}
+use Rattle.interleaving_core.specs.declared.entry.Held.{Held}
+use Rattle.interleaving_core.specs.declared.event.CoreEvent.{CoreEvent}
+use Rattle.interleaving_core.specs.Counts.{evaluated, spreads, rolled}
+use Rattle.interleaving_core.specs.Steps.{IsWorker}
+use Rattle.op_words.specs.declared.answers.Counts.{Counts}
+use Rattle.op_words.specs.declared.trail.View.{View}
+use Rattle.op_words.specs.declared.board.Board.{Board}
+use Rattle.op_words.specs.declared.board.Hand.{Hand}
+use Rattle.op_words.specs.declared.board.Holding.{Holding}
+use Rattle.op_words.specs.Plays.{IsTold}
+
+-- the plan of a board, its cap, and how many counters it has
+abbrev pub plan_of : Board → Plan
+plan_of b = b.table.shared.key.plan.value
+
+abbrev pub cap_of : Board → ℕ
+cap_of b = b.table.shared.key.cap
+
+abbrev pub counters_of : Board → ℕ
+counters_of b = b.table.shared.key.counters
+
+-- a view that says nothing, which no hand has
+abbrev pub no_plan : Plan
+no_plan =
+    record {
+      events = record { items = []; room = 0 };
+      ops = record { items = []; room = 0 };
+      dependents = record { items = []; room = 0 };
+      op_levels = record { items = []; room = 0 };
+      event_levels = record { items = []; room = 0 };
+      edges = record { temporal = 0; parametric = 0; logical = 0 };
+    }
+
+abbrev pub no_view : View
+no_view =
+    record {
+      plan = record { marker = record {}; value = no_plan };
+      cap = 0;
+      tag = 0;
+      made = 0;
+      room = 0;
+      claim = None;
+      published = [];
+      notes = [];
+      records = [];
+      decisions = [];
+      trail = [];
+      places = [];
+      events = [];
+      settlings = [];
+      joined = [];
+    }
+
+abbrev pub view_in : Option View → View
+view_in None = no_view
+view_in (Some v) = v
+
+-- what contracts see of a hand
+abbrev pub view_of : Hand → View
+view_of h = view_in h.seat.me.0
+
+-- ---- what a hand keeps while it runs
+
+abbrev pub held_of : Option Holding → Option Held
+held_of None = None
+held_of (Some k) = Some (record { op = k.op; attempt = k.attempt; values = take k.count k.values })
+
+-- what is held has a value for each place that was fetched
+pub record Fits (k : Holding) : Type 0 where
+  pub count : k.count ≤ READS
+  pub len : length k.values ≡ READS
+  pub small : All (λ x. x ≤ MAX) (take k.count k.values)
+
+-- a number that stops at the greatest one
+abbrev pub up_to : ℕ → ℕ
+up_to n = min n (2 ^ 64 - 1)
+
+abbrev pub counts_of : List CoreEvent → Counts
+counts_of es = record { evaluated = up_to (evaluated es); spread = up_to (spreads es); rolled = up_to (rolled es) }
+
+-- the operation that is held, if there is one
+abbrev pub op_held : Option Held → Option ℕ
+op_held None = None
+op_held (Some h) = Some h.op
+
+-- the hand is one of this board's: one that `new`, `split` and other calls of it lead to
+pub record IsHandOf (b : Board) (h : Hand) : Type 0 where
+  pub table : h.seat.table_id ≡ b.table.shared.table_id
+  pub seat : h.seat.me ≡ (Some (view_of h), [])
+  pub plan : (view_of h).plan.value ≡ plan_of b
+  pub cap : (view_of h).cap ≡ cap_of b
+  pub valid : IsPlan (plan_of b)
+  pub small : cap_of b < ATTEMPTS
+  pub worker : IsWorker (view_of h).tag
+  pub counted : (view_of h).tag ≡ 1 → 1 ≤ (view_of h).made
+  pub tag : h.tag ≡ (view_of h).tag
+  pub made : h.made ≡ (view_of h).made
+  pub held : held_of h.held ≡ (view_of h).claim
+  pub fits : (k : Holding) → h.held ≡ Some k → Fits k
+  pub counts : h.counts ≡ counts_of (view_of h).events
+  -- settled words that it saw are one for each operation, it noted its trail, and where it is the only hand ever made, its own
+  -- steps lead to a state whose words are the ones that it last loaded or left
+  pub told : IsTold (view_of h)

@@ -1,0 +1,9 @@
+pub mod Trails
+pub mod Views
+pub mod Evidence
+pub mod Calls
+pub mod Layout
+pub mod Rule
+pub mod Plays
+pub mod Hands
+pub mod Stepping

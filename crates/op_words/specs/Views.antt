@@ -1,0 +1,208 @@
+-- What a hand's view says, and what a call or a step makes of it.
+use Rattle.std.specs.Prelude.{◌≡◌, ◌≢◌, ℕ, ◌+◌, ◌≤◌, ◌<◌, ◌⊎◌, Bool, true, false, List, [], ◌∷◌, ◌++◌, length, Contains, Option, Some, None, slice_index}
+use Rattle.morph_base.specs.declared.plan.Plan.{Plan}
+use Rattle.morph_base.specs.declared.plan.Origin.{Origin}
+use Rattle.morph_base.specs.declared.plan.Origin.TheVariants.{Base, Op as Written}
+use Rattle.morph_base.specs.declared.word.OpWord.{OpWord}
+use Rattle.morph_base.specs.Plans.{op_count}
+use Rattle.morph_base.specs.Words.{is_idle, is_settled}
+use Rattle.interleaving_core.specs.declared.entry.Entry.{Entry}
+use Rattle.interleaving_core.specs.declared.entry.Held.{Held}
+use Rattle.interleaving_core.specs.declared.entry.Settling.{Settling}
+use Rattle.interleaving_core.specs.declared.event.CoreEvent.{CoreEvent}
+use Rattle.interleaving_core.specs.declared.event.CoreEvent.TheVariants.{Ready as ReadyStep, Claim, Fetch, Finish, GiveBack}
+use Rattle.interleaving_core.specs.Core.{Core, blocked, ready, claimed, entry_of, places}
+use Rattle.interleaving_core.specs.Steps.{Run}
+use Rattle.op_words.specs.declared.trail.Item.{Item}
+use Rattle.op_words.specs.declared.trail.RecordSeen.{RecordSeen}
+use Rattle.op_words.specs.declared.trail.DecisionSeen.{DecisionSeen}
+use Rattle.op_words.specs.declared.trail.Joined.{Joined}
+use Rattle.op_words.specs.declared.trail.View.{View}
+use Rattle.op_words.specs.Trails.{loaded, left, last_word, IsSteady, IsCalm}
+
+-- ---- what a view says
+
+-- it has a settled word of the operation
+pub record IsSettledSeen (v : View) (o : ℕ) : Type 0 where
+  pub note : Item
+  pub inside : Contains v.notes note
+  pub op_is : note.op ≡ o
+  pub settled : is_settled note.word.state ≡ true
+
+-- it has a settled word of the source, with value x
+pub record IsSeenAs (v : View) (s x : ℕ) : Type 0 where
+  pub seen : IsSettledSeen v s
+  pub value_is : seen.note.word.value ≡ x
+
+abbrev pub IsSourceSeen : View → Origin → ℕ → Type 0
+IsSourceSeen v (Base b) x = b ≡ x
+IsSourceSeen v (Written s) x = IsSeenAs v s x
+
+abbrev pub IsRecordSeen : View → ℕ → ℕ → OpWord → ℕ → Type 0
+IsRecordSeen v o j w x = Contains v.records (record { op = o; place = j; value = x; word = w })
+
+-- the records of the operation under word w are xs
+pub record HasRecordsSeen (p : Plan) (v : View) (o : ℕ) (w : OpWord) (xs : List ℕ) : Type 0 where
+  pub len : length xs ≡ places p o
+  pub each : (j : ℕ) → j < places p o → IsRecordSeen v o j w (slice_index xs j)
+
+-- the root is the only hand made
+pub record IsLone (v : View) : Type 0 where
+  pub root : v.tag ≡ 1
+  pub alone : v.made ≡ 1
+
+-- the hand holds the operation at this attempt, with these values; it does not hold it
+abbrev pub Holds : View → ℕ → ℕ → List ℕ → Type 0
+Holds v o a xs = v.claim ≡ Some (record { op = o; attempt = a; values = xs })
+
+abbrev pub IsApart : View → ℕ → Type 0
+IsApart v o = (h : Held) → v.claim ≡ Some h → h.op ≢ o
+
+-- settled words of one operation that it saw are one word
+abbrev pub Agrees : View → Type 0
+Agrees v = (m n : Item) → Contains v.notes m → Contains v.notes n → m.op ≡ n.op → is_settled m.word.state ≡ true → is_settled n.word.state ≡ true → m.word ≡ n.word
+
+-- a hand between two calls
+pub record IsAtRest (v : View) : Type 0 where
+  pub free : v.claim ≡ None
+  pub agree : Agrees v
+
+-- what the hand loaded or left it has noted
+pub record IsTrailNoted (v : View) : Type 0 where
+  pub each : (t : Item) → Contains v.trail t → Contains v.notes t
+
+-- a trail has a settled word of the operation that its hand left there
+pub record HasSettled (xs : List Item) (o : ℕ) : Type 0 where
+  pub word : OpWord
+  pub inside : Contains xs (left o word)
+  pub settled : is_settled word.state ≡ true
+
+-- the settling stands in the trail of the hand that made it: its own, or that of a hand that was joined
+pub record IsJoinedTrail (v : View) (x : Settling) : Type 0 where
+  pub of_tag : Joined
+  pub inside : Contains v.joined of_tag
+  pub tag_is : of_tag.tag ≡ x.by
+  pub settled : HasSettled of_tag.trail x.op
+
+abbrev pub IsBooked : View → Settling → Type 0
+IsBooked v x = ((v.tag ≡ x.by) × HasSettled v.trail x.op) ⊎ IsJoinedTrail v x
+
+-- the words that a lone root knows last are the present ones, all others being as at the start
+pub record IsPresent (p : Plan) (c : Core) (v : View) : Type 0 where
+  pub each : (o : ℕ) → o < op_count p → c.word o ≡ last_word o (blocked 1) v.trail
+
+-- and its own steps lead to the present state
+pub record IsDone (v : View) : Type 0 where
+  pub core : Core
+  pub run : Run v.plan.value v.cap v.events core
+  pub present : IsPresent v.plan.value core v
+
+-- the word is no older than what the hand saw or made of the operation: attempts rise, a settled word stays, and an attempt
+-- that it showed has its value
+pub record IsFresh (v : View) (o : ℕ) (w : OpWord) : Type 0 where
+  pub attempt : (n : Item) → Contains v.notes n → n.op ≡ o → n.word.attempt ≤ w.attempt
+  pub settled : (n : Item) → Contains v.notes n → n.op ≡ o → is_settled n.word.state ≡ true → w ≡ n.word
+  pub made : (e : Entry) → Contains v.published e → e.op ≡ o → (e.attempt < w.attempt) ⊎ ((e.attempt ≡ w.attempt) × (is_idle w.state ≡ false))
+
+-- ---- what loads and steps make of a view
+
+-- the words xs were loaded
+abbrev pub looking : List Item → View → View
+looking xs v = record v { notes = v.notes ++ xs; trail = v.trail ++ xs }
+
+abbrev pub looked : ℕ → OpWord → View → View
+looked o w v = looking (loaded o w ∷ []) v
+
+-- the word w was left on operation o by the step e
+abbrev pub leaving : ℕ → OpWord → CoreEvent → View → View
+leaving o w e v = record v { notes = v.notes ++ left o w ∷ []; trail = v.trail ++ left o w ∷ []; events = e ∷ v.events }
+
+-- it was made ready at attempt a; claimed
+abbrev pub making : ℕ → ℕ → View → View
+making o a v = leaving o (ready a) (ReadyStep o) v
+
+abbrev pub claiming : ℕ → ℕ → View → View
+claiming o a v = record (leaving o (claimed a v.tag) (Claim o v.tag) v) { claim = Some (record { op = o; attempt = a; values = [] }) }
+
+-- the next place of what is held got the value x
+abbrev pub fetching : Held → ℕ → View → View
+fetching h x v = record v { claim = Some (record { op = h.op; attempt = h.attempt; values = h.values ++ x ∷ [] }); events = Fetch h.op (length h.values) v.tag x ∷ v.events }
+
+-- the values xs as records of the operation under word w, from place k on
+unfoldable pub records_from : ℕ → ℕ → OpWord → List ℕ → List RecordSeen
+records_from k o w [] = []
+records_from k o w (x ∷ xs) = record { op = o; place = k; value = x; word = w } ∷ records_from (k + 1) o w xs
+
+-- it was finished with word w on the values xs, and let go; it was given back
+abbrev pub finishing : ℕ → OpWord → List ℕ → View → View
+finishing o w xs v =
+    record (leaving o w (Finish o v.tag) v) { claim = None; published = v.published ++ entry_of o w ∷ []; records = v.records ++ records_from 0 o w xs }
+
+abbrev pub giving_back : ℕ → ℕ → View → View
+giving_back o a v = record (leaving o (blocked a) (GiveBack o v.tag) v) { claim = None }
+
+-- a hand was made: what the root has after it, and the new hand's view
+abbrev pub parent : View → View
+parent v = record v { made = v.made + 1 }
+
+abbrev pub child : View → View
+child v =
+    record {
+      plan = v.plan;
+      cap = v.cap;
+      tag = v.made + 1;
+      made = 0;
+      room = 0;
+      claim = None;
+      published = [];
+      notes = v.notes;
+      records = [];
+      decisions = v.decisions;
+      trail = [];
+      places = [];
+      events = [];
+      settlings = [];
+      joined = [];
+    }
+
+-- a hand was joined: the root has its lists, and its trail and its places by its tag
+abbrev pub joined_of : View → Joined
+joined_of w = record { tag = w.tag; trail = w.trail; places = w.places }
+
+abbrev pub merged : View → View → View
+merged v w =
+    record v {
+      published = v.published ++ w.published;
+      notes = v.notes ++ w.notes;
+      records = v.records ++ w.records;
+      decisions = v.decisions ++ w.decisions;
+      events = v.events ++ w.events;
+      settlings = v.settlings ++ w.settlings;
+      joined = v.joined ++ joined_of w ∷ [];
+    }
+
+-- ---- what a call adds to a view
+
+-- the words xs, and perhaps more in its lists
+pub record Adds (v u : View) (xs : List Item) : Type 0 where
+  pub trail : u.trail ≡ v.trail ++ xs
+  pub notes : u.notes ≡ v.notes ++ xs
+  pub records : (r : RecordSeen) → Contains v.records r → Contains u.records r
+  pub decisions : (d : DecisionSeen) → Contains v.decisions d → Contains u.decisions d
+  pub published : (e : Entry) → Contains v.published e → Contains u.published e
+  pub settlings : (x : Settling) → Contains v.settlings x → Contains u.settlings x
+  pub tag : u.tag ≡ v.tag
+  pub made : u.made ≡ v.made
+  pub room : u.room ≡ v.room
+  pub joined : u.joined ≡ v.joined
+  -- it took no number from a counter; its steps, the last one first
+  pub places : u.places ≡ v.places
+  pub events : (es : List CoreEvent) × (u.events ≡ es ++ v.events)
+  pub agree : Agrees u
+  pub steady : IsSteady v.tag v.notes xs
+  pub calm : IsLone v → IsCalm v.trail xs
+
+-- and the hand holds nothing afterwards
+pub record Goes (v u : View) (xs : List Item) : Type 0 where
+  pub adds : Adds v u xs
+  pub free : u.claim ≡ None

@@ -1,0 +1,110 @@
+//! The rule of the table, and what each kind of step tells.
+use crate::trail::View;
+use atomic_table::{Join, Play, Split, TableRule};
+use morph_base::Plan;
+use std::snapshot::Snapshot;
+
+/// What the table is told once.
+#[derive(Drop)]
+pub struct Known {
+    pub plan: Snapshot<Plan>,
+    pub cap: u8,
+    pub counters: u32,
+}
+
+pub struct Rule;
+
+impl TableRule<(), Option<View>, Known> for Rule {
+    ghost use Rattle.op_words.specs.Rule.{Lawful, first_view};
+    ghost use Rattle.std.specs.Prelude.{Some};
+
+    ghost holds = { λ k. Lawful k.plan.value k.cap k.counters };
+
+    ghost first = { λ k. Some (first_view k.plan k.cap) };
+}
+
+/// A load of an operation's word.
+pub(crate) struct Look;
+
+impl Play<(), Option<View>> for Look {
+    ghost use Rattle.op_words.specs.Plays.{looks};
+
+    ghost then = { looks };
+}
+
+/// A load that the view does not note.
+pub(crate) struct Tell;
+
+impl Play<(), Option<View>> for Tell {
+    ghost use Rattle.op_words.specs.Plays.{tells};
+
+    ghost then = { tells };
+}
+
+/// The exchange of blocked to ready.
+pub(crate) struct Make;
+
+impl Play<(), Option<View>> for Make {
+    ghost use Rattle.op_words.specs.Plays.{makes};
+
+    ghost then = { makes };
+}
+
+/// The exchange of ready to claimed.
+pub(crate) struct Claim;
+
+impl Play<(), Option<View>> for Claim {
+    ghost use Rattle.op_words.specs.Plays.{claims};
+
+    ghost then = { claims };
+}
+
+/// The store of a record.
+pub(crate) struct Keep;
+
+impl Play<(), Option<View>> for Keep {
+    ghost use Rattle.op_words.specs.Plays.{keeps};
+
+    ghost then = { keeps };
+}
+
+/// The end of a claim, executed or failed.
+pub(crate) struct End;
+
+impl Play<(), Option<View>> for End {
+    ghost use Rattle.op_words.specs.Plays.{ends};
+
+    ghost then = { ends };
+}
+
+/// The end of a claim, blocked again.
+pub(crate) struct Give;
+
+impl Play<(), Option<View>> for Give {
+    ghost use Rattle.op_words.specs.Plays.{gives};
+
+    ghost then = { gives };
+}
+
+/// A hand more.
+pub(crate) struct Part;
+
+impl Split<Option<View>> for Part {
+    ghost use Rattle.op_words.specs.Plays.{staying, going};
+
+    ghost left = { staying };
+
+    ghost right = { going };
+}
+
+/// A hand less.
+pub(crate) struct Merge;
+
+impl Join<Option<View>> for Merge {
+    ghost use Rattle.op_words.specs.Plays.{both};
+    ghost use Rattle.std.specs.Prelude.{None};
+
+    ghost both = { both };
+
+    ghost spent = { None };
+}

@@ -1,0 +1,77 @@
+//! What contracts see of a hand: no value of these types but the small ones is ever made.
+use interleaving_core::{CoreEvent, Entry, Held, Settling};
+use morph_base::{OpWord, Plan};
+use std::collections::LinkedList;
+use std::snapshot::Snapshot;
+
+/// A word of an operation that a hand loaded, or left there by its own step.
+#[derive(Clone, Copy, Debug, PartialEq, Eq)]
+pub struct Item {
+    pub op: u32,
+    pub word: OpWord,
+    /// Whether the hand left it.
+    pub own: bool,
+}
+
+/// The value of a record that a hand loaded or stored while the word of the operation that it saw last was `word`.
+#[derive(Clone, Copy, Debug, PartialEq, Eq)]
+pub struct RecordSeen {
+    pub op: u32,
+    pub place: u8,
+    pub value: u64,
+    pub word: OpWord,
+}
+
+/// A decision that a hand loaded or made.
+#[derive(Clone, Copy, Debug, PartialEq, Eq)]
+pub struct DecisionSeen {
+    pub event: u32,
+    pub committed: bool,
+}
+
+/// A number that a hand took from a counter.
+#[derive(Clone, Copy, Debug, PartialEq, Eq)]
+pub struct Place {
+    pub counter: u32,
+    pub number: u64,
+}
+
+/// What a joined hand left: its trail, and the numbers that it took, by its tag.
+#[derive(Drop)]
+pub struct Joined {
+    pub tag: u64,
+    pub trail: LinkedList<Item>,
+    pub places: LinkedList<Place>,
+}
+
+/// What contracts see of a hand. No value of it is made.
+#[derive(Drop)]
+pub struct View {
+    /// The plan of its board, and the cap.
+    pub plan: Snapshot<Plan>,
+    pub cap: u8,
+    /// Its number, from 1 on; the root has 1.
+    pub tag: u64,
+    /// Of the root, how many hands were made, itself counted; of each other hand 0.
+    pub made: u64,
+    /// A number that no call of this crate changes: 0 in every new hand.
+    pub room: u64,
+    /// What it holds.
+    pub claim: Option<Held>,
+    /// The values that it showed.
+    pub published: LinkedList<Entry>,
+    /// The words, records and decisions that it saw or made, in order; those of hands joined into it too.
+    pub notes: LinkedList<Item>,
+    pub records: LinkedList<RecordSeen>,
+    pub decisions: LinkedList<DecisionSeen>,
+    /// The words that it loaded or left itself, in order.
+    pub trail: LinkedList<Item>,
+    /// The numbers that it took from counters.
+    pub places: LinkedList<Place>,
+    /// Its steps of the machine, the last one first.
+    pub events: LinkedList<CoreEvent>,
+    /// The operations that it settled.
+    pub settlings: LinkedList<Settling>,
+    /// What the hands that were joined into it left.
+    pub joined: LinkedList<Joined>,
+}

@@ -1,0 +1,74 @@
+//! The numbers that stand in the board's row of words.
+ghost use Rattle.std.specs.Prelude.{◌≡◌, ◌≤◌, IfOk, Some};
+ghost use Rattle.morph_base.specs.declared.limits.TheConstants.{MAX};
+ghost use Rattle.morph_base.specs.declared.word.TheConstants.{ATTEMPTS};
+ghost use Rattle.morph_base.specs.Plans.{IsPlan};
+ghost use Rattle.interleaving_core.specs.Core.{blocked as blocked_at, ready as ready_at, claimed as claimed_at};
+ghost use Rattle.op_words.specs.Layout.{packed_record, AreFirst};
+
+use morph_base::{OpState, OpWord, Plan, READS};
+use std::alloc::{AllocError, Global};
+
+/// What the level word has where no level was lowered to: the greatest u32.
+const NO_LEVEL: u64 = 4_294_967_295;
+
+/// The words at the start: each operation is blocked at attempt 1, and nothing is recorded, decided or counted.
+pub(crate) fn first_words(alloc: Global, plan: &Plan, counters: u32) -> Result<Vec<u64>, AllocError>
+    requires plan { IsPlan plan.now }
+    ensures { IfOk result (λ ws. AreFirst plan.now counters ws.items) }
+{
+    let ops = plan.ops.len();
+    let level = ops + ops * READS + plan.events.len();
+    let len = level + 1 + counters as usize;
+    let mut words = Vec::with_capacity(alloc, len)?;
+    words.resize(ops, blocked(1).pack())?;
+    words.resize(level, 0)?;
+    words.push(NO_LEVEL)?;
+    words.resize(len, 0)?;
+    Ok(words)
+}
+
+/// Blocked at an attempt.
+pub(crate) fn blocked(attempt: u8) -> OpWord
+    ensures { result ≡ blocked_at attempt }
+{
+    OpWord {
+        value: 0,
+        attempt,
+        state: OpState::Blocked,
+        by: 0,
+    }
+}
+
+/// Ready at an attempt.
+pub(crate) fn ready(attempt: u8) -> OpWord
+    ensures { result ≡ ready_at attempt }
+{
+    OpWord {
+        value: 0,
+        attempt,
+        state: OpState::Ready,
+        by: 0,
+    }
+}
+
+/// Claimed at an attempt by the hand of this tag.
+pub(crate) fn claimed(attempt: u8, by: u8) -> OpWord
+    ensures { result ≡ claimed_at attempt by }
+{
+    OpWord {
+        value: 0,
+        attempt,
+        state: OpState::Claimed,
+        by,
+    }
+}
+
+/// A record as one number: bits 0 to 39 are its value, bits 40 to 43 the attempt that recorded it, and bit 44 is 1.
+pub(crate) fn pack_record(value: u64, attempt: u8) -> u64
+    requires value { value ≤ MAX }
+    requires attempt { (1 ≤ attempt) × (attempt ≤ ATTEMPTS) }
+    ensures { result ≡ packed_record (Some (record { value = value; attempt = attempt })) }
+{
+    ready(attempt).pack() + value
+}

@@ -10,3 +10,7 @@ pub mod Joining
 pub mod Opening
 pub mod Adding
 pub mod Handing
+pub mod Leaving
+pub mod Claiming
+pub mod Seeking
+pub mod Making

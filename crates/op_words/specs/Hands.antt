@@ -72,8 +72,10 @@ abbrev pub held_of : Option Holding → Option Held
 held_of None = None
 held_of (Some k) = Some (record { op = k.op; attempt = k.attempt; values = take k.count k.values })
 
--- what is held has a value for each place that was fetched
+-- what is held is at one of the attempts, and has a value for each place that was fetched
 pub record Fits (k : Holding) : Type 0 where
+  pub first : 1 ≤ k.attempt
+  pub last : k.attempt ≤ ATTEMPTS
   pub count : k.count ≤ READS
   pub len : length k.values ≡ READS
   pub small : All (λ x. x ≤ MAX) (take k.count k.values)

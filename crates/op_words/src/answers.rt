@@ -48,6 +48,13 @@ pub struct Counts {
     pub rolled: u64,
 }
 
+/// A source that has no value yet, with its word.
+#[derive(Clone, Copy, Debug, PartialEq, Eq)]
+pub(crate) struct Stop {
+    pub(crate) source: u32,
+    pub(crate) word: OpWord,
+}
+
 impl Counts {
     pub(crate) fn none() -> Counts
         ensures { result ≡ record { evaluated = 0; spread = 0; rolled = 0 } }

@@ -10,6 +10,7 @@ use std::alloc::Global;
 
 mod calls;
 mod hands;
+mod sources;
 mod steps;
 
 /// The words of a plan's operations, their records and decisions, a level word and some counters, which several hands change

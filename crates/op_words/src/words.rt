@@ -1,5 +1,5 @@
 //! The numbers that stand in the board's row of words.
-ghost use Rattle.std.specs.Prelude.{◌≡◌, ◌≤◌, IfOk, Some};
+ghost use Rattle.std.specs.Prelude.{◌≡◌, ◌≤◌, ◌↔◌, IfOk, IsTrue, Some};
 ghost use Rattle.morph_base.specs.declared.limits.TheConstants.{MAX};
 ghost use Rattle.morph_base.specs.declared.word.TheConstants.{ATTEMPTS};
 ghost use Rattle.morph_base.specs.Plans.{IsPlan};
@@ -26,6 +26,13 @@ pub(crate) fn first_words(alloc: Global, plan: &Plan, counters: u32) -> Result<V
     words.push(NO_LEVEL)?;
     words.resize(len, 0)?;
     Ok(words)
+}
+
+/// Whether a word is in a state.
+pub(crate) fn is_in(word: OpWord, state: OpState) -> bool
+    ensures { IsTrue result ↔ (word.state ≡ state) }
+{
+    word.state == state
 }
 
 /// Blocked at an attempt.

@@ -42,7 +42,7 @@ module _ {p : Plan} {cap counters : ℕ} (s : Seats) (lawful : Lawful p cap coun
   own_claim : lawful.core.claim v.tag ≡ v.claim
   own_claim = ap lawful.core.claim knows.tag ∙ knows.claim
 
-  not_own : (t : ℕ) → t ≢ i + 1 → t ≢ v.tag
+  pub not_own : (t : ℕ) → t ≢ i + 1 → t ≢ v.tag
   not_own t other same = other (same ∙ knows.tag)
 
   -- ---- ready

@@ -13,6 +13,7 @@ use Rattle.morph_base.specs.Words.{IsWord, packed}
 use Rattle.morph_base.proofs.WordLaws.{one_word}
 use Rattle.interleaving_core.specs.declared.entry.Held.{Held}
 use Rattle.interleaving_core.specs.declared.event.CoreEvent.{CoreEvent}
+use Rattle.interleaving_core.specs.declared.event.CoreEvent.TheVariants.{Finish}
 use Rattle.interleaving_core.specs.Counts.{is_finish, is_spread, is_roll, evaluated, spreads, rolled}
 use Rattle.interleaving_core.specs.Core.{blocked, start}
 use Rattle.interleaving_core.specs.Steps.{IsWorker}
@@ -24,7 +25,7 @@ use Rattle.op_words.specs.declared.board.Holding.{Holding}
 use Rattle.op_words.specs.declared.trail.Item.{Item}
 use Rattle.op_words.specs.declared.trail.View.{View}
 use Rattle.op_words.specs.Trails.{left}
-use Rattle.op_words.specs.Views.{IsLone, Holds, looked, parent, child, merged}
+use Rattle.op_words.specs.Views.{IsLone, Holds, looked, finishing, parent, child, merged}
 use Rattle.op_words.specs.Plays.{Sat, IsTold, Looks, Leaves, Swaps}
 use Rattle.op_words.specs.Stepping.{Looked, Left}
 use Rattle.op_words.specs.Rule.{first_view}
@@ -262,3 +263,26 @@ held_parts h k o a xs is some holds =
 -- so it holds it as it keeps it
 pub holds_kept : (h : Hand) (k : Holding) (o a : ℕ) (xs : List ℕ) → IsKept h (view_of h) → h.held ≡ Some k → Holds (view_of h) o a xs → Holds (view_of h) o k.attempt xs
 holds_kept h k o a xs is some holds = holds ∙ ap (λ (n : ℕ). Some (record { op = o; attempt = n; values = xs })) (sym (held_parts h k o a xs is some holds).1)
+
+-- the end of a claim counts one evaluation more
+pub counts_finish : (k a : Counts) (o t : ℕ) (es : List CoreEvent) → a ≡ counts_of es
+    → k.evaluated ≡ min (a.evaluated + 1) (2 ^ 64 - 1) → k.spread ≡ min (a.spread + 0) (2 ^ 64 - 1) → k.rolled ≡ min (a.rolled + 0) (2 ^ 64 - 1) → k ≡ counts_of (Finish o t ∷ es)
+counts_finish k a o t es is e s r =
+    counts_append k (record { evaluated = 1; spread = 0; rolled = 0 }) a (Finish o t ∷ []) es refl is (e ∙ swap a.evaluated 1) (s ∙ swap a.spread 0) (r ∙ swap a.rolled 0)
+  where
+    swap : (m n : ℕ) → min (m + n) (2 ^ 64 - 1) ≡ min (n + m) (2 ^ 64 - 1)
+    swap m n = omega arith
+
+-- a hand that let go what it held
+pub kept_end : (h g : Hand) (o : ℕ) (w : OpWord) (xs : List ℕ) → IsKept h (view_of h) → g.tag ≡ h.tag → g.made ≡ h.made → g.held ≡ None
+    → g.counts.evaluated ≡ min (h.counts.evaluated + 1) (2 ^ 64 - 1) → g.counts.spread ≡ min (h.counts.spread + 0) (2 ^ 64 - 1) → g.counts.rolled ≡ min (h.counts.rolled + 0) (2 ^ 64 - 1)
+    → IsKept g (finishing o w xs (view_of h))
+kept_end h g o w xs is tag made held e s r = record {
+  worker = is.worker;
+  counted = is.counted;
+  tag = tag ∙ is.tag;
+  made = made ∙ is.made;
+  held = ap held_of held;
+  fits = λ k same. absurd (none-some k (sym held ∙ same));
+  counts = counts_finish g.counts h.counts o (view_of h).tag (view_of h).events is.counts e s r;
+}

@@ -14,3 +14,7 @@ pub mod Leaving
 pub mod Claiming
 pub mod Seeking
 pub mod Making
+pub mod Finishing
+pub mod Keeping
+pub mod Storing
+pub mod Fetching

@@ -1,17 +1,18 @@
 -- What the single steps of a hand come to.
-use Rattle.std.specs.Prelude.{◌≡◌, ◌≢◌, ℕ, ◌<◌, true, false, List, Contains, Option, Some, None}
+use Rattle.std.specs.Prelude.{◌≡◌, ◌≢◌, ℕ, ◌+◌, ◌<◌, true, false, List, Contains, Option, Some, None}
 use Rattle.morph_base.specs.declared.plan.Plan.{Plan}
-use Rattle.morph_base.specs.declared.plan.Origin.TheVariants.{Op as Written}
+use Rattle.morph_base.specs.declared.plan.Origin.{Origin}
+use Rattle.morph_base.specs.declared.plan.Origin.TheVariants.{Base, Op as Written}
 use Rattle.morph_base.specs.declared.word.OpWord.{OpWord}
 use Rattle.morph_base.specs.Plans.{origin_at}
-use Rattle.morph_base.specs.Words.{is_idle, packed}
+use Rattle.morph_base.specs.Words.{is_idle, is_settled, packed}
 use Rattle.op_words.specs.declared.answers.Stop.{Stop}
 use Rattle.op_words.specs.declared.board.Board.{Board}
 use Rattle.op_words.specs.declared.board.Hand.{Hand}
 use Rattle.op_words.specs.declared.trail.Item.{Item}
 use Rattle.op_words.specs.declared.trail.View.{View}
 use Rattle.op_words.specs.Trails.{loaded, left, IsSourceOf}
-use Rattle.op_words.specs.Views.{Adds, looking, looked}
+use Rattle.op_words.specs.Views.{Adds, looking, looked, fetching}
 use Rattle.op_words.specs.Calls.{Elsewhere}
 use Rattle.op_words.specs.Plays.{Looks, Leaves}
 use Rattle.op_words.specs.Hands.{view_of, IsHandOf}
@@ -76,3 +77,23 @@ pub record IsSoughtUpTo (b : Board) (p : Plan) (o j : ℕ) (h g : Hand) : Type 0
   pub words : List Item
   pub row : IsRow b o h g words
   pub values : (k : ℕ) → k < j → HasValueAt p o k words
+
+-- ---- the next place of what is held
+
+-- the value is one that the hand may read at a place with this source, at attempt a: a base stands for itself; a word of an
+-- operation that it loaded has a value, and at the last attempt it is settled
+pub record IsSeenUsable (v : View) (cap a s x : ℕ) : Type 0 where
+  pub word : OpWord
+  pub inside : Contains v.notes (loaded s word)
+  pub shown : is_idle word.state ≡ false
+  pub at_last : a ≡ cap + 1 → is_settled word.state ≡ true
+  pub value_is : word.value ≡ x
+
+abbrev pub IsUsable : View → ℕ → ℕ → Origin → ℕ → Type 0
+IsUsable v cap a (Base b) x = b ≡ x
+IsUsable v cap a (Written s) x = IsSeenUsable v cap a s x
+
+-- the place got the value
+pub record Kept (b : Board) (o a : ℕ) (xs : List ℕ) (x : ℕ) (h g : Hand) : Type 0 where
+  pub hand : IsHandOf b g
+  pub view : view_of g ≡ fetching (record { op = o; attempt = a; values = xs }) x (view_of h)

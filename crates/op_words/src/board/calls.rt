@@ -1,19 +1,22 @@
 //! The calls of the board. Each is made of the single steps of `steps`.
-ghost use Rattle.std.specs.Prelude.{◌≡◌, ℕ, ◌<◌, List, None, IfOk};
+ghost use Rattle.std.specs.Prelude.{◌≡◌, ℕ, ◌+◌, ◌<◌, ◌↔◌, List, length, None, IfOk, IsTrue};
 ghost use Rattle.morph_base.specs.declared.limits.TheConstants.{WORKERS};
 ghost use Rattle.morph_base.specs.declared.word.TheConstants.{ATTEMPTS};
-ghost use Rattle.morph_base.specs.Plans.{IsPlan, op_count};
+ghost use Rattle.morph_base.specs.Plans.{IsPlan, op_count, origin_at};
+ghost use Rattle.morph_base.specs.declared.plan.Origin.TheVariants.{Op as Written};
+ghost use Rattle.interleaving_core.specs.Core.{places};
 ghost use Rattle.op_words.specs.Views.{Holds, IsFresh, looked, parent, child, merged};
-ghost use Rattle.op_words.specs.Calls.{PeekDoes, MakeDoes, ClaimDoes, GiveBackDoes};
+ghost use Rattle.op_words.specs.Calls.{PeekDoes, MakeDoes, ClaimDoes, FetchDoes, FinishDoes, GiveBackDoes};
 ghost use Rattle.op_words.specs.Rule.{first_view};
 ghost use Rattle.op_words.specs.Hands.{plan_of, cap_of, counters_of, view_of, IsHandOf};
 
 use super::{Board, Hand};
-use crate::answers::{Claimed, Counts, Readied};
+use crate::answers::{Claimed, Counts, Fetched, Outcome, Readied};
+use crate::places::origin_of;
 use crate::rule::{Known, Merge, Part};
-use crate::words::{first_words, is_in};
+use crate::words::{first_words, is_in, is_usable};
 use atomic_table::Table;
-use morph_base::{OpState, OpWord, OutOfMemory, Plan};
+use morph_base::{OpState, OpWord, Origin, OutOfMemory, Plan};
 use std::alloc::Global;
 use std::snapshot::Snapshot;
 
@@ -149,6 +152,75 @@ impl Board {
             },
             Some(word) => Claimed::Not { word },
         }
+    }
+
+    /// Gets the value of the next place of the operation that the hand holds, and records it.
+    ///
+    /// A value that is not settled is read too, but at the last attempt.
+    pub fn fetch(&self, hand: &mut Hand, plan: &Plan, op: u32, j: u8) -> Fetched
+        requires hand { IsHandOf self.now hand.old }
+        requires plan { plan.now ≡ plan_of self.now }
+        requires in_range { op < op_count plan.now }
+        requires in_places { j < places plan.now op }
+        requires held { (a : ℕ) × (xs : List ℕ) × Holds (view_of hand.old) op a xs × (length xs ≡ j) }
+        ensures hand { IsHandOf self.now hand.new }
+        ensures does { FetchDoes plan.now (cap_of self.now) op (view_of hand.old) (view_of hand.new) j result }
+    {
+        match origin_of(plan, op, j) {
+            Origin::Base(value) => {
+                self.keep(hand, plan, value);
+                Fetched::Value(value)
+            }
+            Origin::Op(source) => self.read(hand, plan, op, j, source),
+        }
+    }
+
+    /// The same, where the source is an operation: its word is loaded, and its value taken where it may be.
+    fn read(&self, hand: &mut Hand, plan: &Plan, op: u32, j: u8, source: u32) -> Fetched
+        requires hand { IsHandOf self.now hand.old }
+        requires plan { plan.now ≡ plan_of self.now }
+        requires in_range { op < op_count plan.now }
+        requires in_places { j < places plan.now op }
+        requires held { (a : ℕ) × (xs : List ℕ) × Holds (view_of hand.old) op a xs × (length xs ≡ j) }
+        requires source { origin_at plan.now op j ≡ Written source }
+        ensures hand { IsHandOf self.now hand.new }
+        ensures does { FetchDoes plan.now (cap_of self.now) op (view_of hand.old) (view_of hand.new) j result }
+    {
+        let word = self.look(hand, source);
+        let Some(holding) = hand.held else {
+            unreachable!()
+        };
+        if !is_usable(word, self.is_last(holding.attempt)) {
+            return Fetched::Unready { source, word };
+        }
+        self.keep(hand, plan, word.value);
+        Fetched::Value(word.value)
+    }
+
+    /// Whether the attempt is the last one, at which only settled values are read.
+    fn is_last(&self, attempt: u8) -> bool
+        requires { cap_of self.now < ATTEMPTS }
+        ensures { IsTrue result ↔ (attempt ≡ cap_of self.now + 1) }
+    {
+        attempt == self.cap + 1
+    }
+
+    /// Finishes the operation that the hand holds, all of whose places were fetched: it is executed with what its function gives,
+    /// or failed with the value of its target. The hand holds none afterwards.
+    pub fn finish(&self, hand: &mut Hand, plan: &Plan, op: u32) -> Outcome
+        requires hand { IsHandOf self.now hand.old }
+        requires plan { plan.now ≡ plan_of self.now }
+        requires in_range { op < op_count plan.now }
+        requires held { (a : ℕ) × (xs : List ℕ) × Holds (view_of hand.old) op a xs × (length xs ≡ places plan.now op) }
+        ensures hand { IsHandOf self.now hand.new }
+        ensures does { FinishDoes plan.now (cap_of self.now) op (view_of hand.old) (view_of hand.new) result }
+    {
+        let Some(holding) = hand.held else {
+            unreachable!()
+        };
+        let answer = holding.answer(plan);
+        self.end(hand, op, holding.word(answer));
+        Outcome::of(answer)
     }
 
     /// Gives back the operation that the hand holds: it is blocked again, at the same attempt. The hand holds none afterwards.

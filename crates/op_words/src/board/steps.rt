@@ -1,21 +1,23 @@
 //! The single steps of a hand on the table.
-ghost use Rattle.std.specs.Prelude.{◌≡◌, ℕ, ◌<◌, List, Some, None};
-ghost use Rattle.morph_base.specs.Plans.{op_count};
+ghost use Rattle.std.specs.Prelude.{◌≡◌, ℕ, ◌≤◌, ◌<◌, List, length, Some, None};
+ghost use Rattle.morph_base.specs.declared.limits.TheConstants.{MAX};
+ghost use Rattle.morph_base.specs.Plans.{op_at, op_count, origin_at};
 ghost use Rattle.morph_base.specs.Words.{IsWord};
-ghost use Rattle.interleaving_core.specs.Core.{blocked as blocked_at, ready as ready_at, claimed as claimed_at};
+ghost use Rattle.interleaving_core.specs.Core.{blocked as blocked_at, ready as ready_at, claimed as claimed_at, finished, places};
 ghost use Rattle.op_words.specs.declared.trail.View.{View as V};
 ghost use Rattle.op_words.specs.Trails.{left};
-ghost use Rattle.op_words.specs.Views.{Holds, making, claiming, giving_back};
+ghost use Rattle.op_words.specs.Views.{Holds, making, claiming, finishing, giving_back};
 ghost use Rattle.op_words.specs.Plays.{IsTold};
-ghost use Rattle.op_words.specs.Stepping.{Looked, Left, Swapped};
-ghost use Rattle.op_words.specs.Hands.{plan_of, view_of, IsHandOf};
+ghost use Rattle.op_words.specs.Stepping.{IsUsable, Kept, Looked, Left, Swapped};
+ghost use Rattle.op_words.specs.Hands.{plan_of, cap_of, view_of, IsHandOf};
 
 use super::{Board, Hand, Holding};
-use crate::rule::{Claim, Give, Look, Make, Tell};
+use crate::answers::Counts;
+use crate::rule::{Claim, End, Give, Keep, Look, Make, Tell};
 use crate::trail::View;
-use crate::words::{blocked, claimed, ready};
+use crate::words::{blocked, claimed, pack_record, ready};
 use atomic_table::Seat;
-use morph_base::{OpWord, READS};
+use morph_base::{OpWord, Plan, READS};
 
 impl Board {
     /// A load of an operation's word.
@@ -104,5 +106,44 @@ impl Board {
             .shared
             .store::<Give>(&mut hand.seat, op as usize, word);
         hand.held = None;
+    }
+
+    /// The store of a record: the next place of the operation that the hand holds gets the value.
+    pub(super) fn keep(&self, hand: &mut Hand, plan: &Plan, value: u64)
+        requires hand { IsHandOf self.now hand.old }
+        requires plan { plan.now ≡ plan_of self.now }
+        requires value { value ≤ MAX }
+        requires held { (o a : ℕ) × (xs : List ℕ) × Holds (view_of hand.old) o a xs × (o < op_count plan.now) × (length xs < places plan.now o) × IsUsable (view_of hand.old) (cap_of self.now) a (origin_at plan.now o (length xs)) value }
+        ensures { (o a : ℕ) (xs : List ℕ) → Holds (view_of hand.old) o a xs → Kept self.now o a xs value hand.old hand.new }
+    {
+        let Some(holding) = hand.held else {
+            unreachable!()
+        };
+        let place = holding.op as usize * READS + holding.count as usize;
+        let record = pack_record(value, holding.attempt);
+        self.table
+            .shared
+            .store::<Keep>(&mut hand.seat, plan.ops.len() + place, record);
+        hand.held = Some(holding.with(value));
+    }
+
+    /// Claimed becomes executed or failed, by the hand that holds the operation: nobody else changes its word meanwhile.
+    pub(super) fn end(&self, hand: &mut Hand, op: u32, word: OpWord)
+        requires hand { IsHandOf self.now hand.old }
+        requires in_range { op < op_count (plan_of self.now) }
+        requires held { (a : ℕ) × (xs : List ℕ) × Holds (view_of hand.old) op a xs × (length xs ≡ places (plan_of self.now) op) × (word ≡ finished (op_at (plan_of self.now) op).op a xs) }
+        requires word { IsWord word }
+        ensures { (a : ℕ) (xs : List ℕ) → Holds (view_of hand.old) op a xs → Left self.now hand.old hand.new (finishing op word xs (view_of hand.old)) (left op word) }
+    {
+        let n = word.pack();
+        self.table
+            .shared
+            .store::<End>(&mut hand.seat, op as usize, n);
+        hand.held = None;
+        hand.counts = hand.counts.and(Counts {
+            evaluated: 1,
+            spread: 0,
+            rolled: 0,
+        });
     }
 }

@@ -1,14 +1,19 @@
 -- A hand stays one of its board's.
-use Rattle.std.proofs.Common.{◌≡◌, ◌≢◌, ◌⊎◌, ℕ, zero, suc, ◌+◌, ◌-◌, ◌^◌, ◌<◌, ◌≤◌, List, [], ◌∷◌, ◌++◌, length, refl, sym, ap, ◌∙◌, subst, inl, inr, arith, Option, Some, None}
-use Rattle.std.specs.Prelude.{Contains, Bool, cond, min, count_by}
-use Rattle.std.proofs.lemmas.Option.{none-some}
+use Rattle.std.proofs.Common.{◌≡◌, ◌≢◌, ◌⊎◌, ℕ, zero, suc, ◌+◌, ◌-◌, ◌^◌, ◌<◌, ◌≤◌, Bool, true, false, List, [], ◌∷◌, ◌++◌, length, refl, sym, ap, ◌∙◌, subst, inl, inr, arith, Option, Some, None, zero-add, take}
+use Rattle.std.specs.Prelude.{Contains, cond, min, count_by}
+use Rattle.std.proofs.lemmas.Option.{none-some, same_Some}
 use Rattle.std.proofs.lemmas.List.Sums.{sum_by-append, sum_by-cons}
 use Rattle.std.proofs.lemmas.List.Elements.{Contains-append_left}
 use Rattle.std.specs.declared.snapshot.Snapshot.{Snapshot}
 use Rattle.morph_base.specs.declared.limits.TheConstants.{WORKERS}
 use Rattle.morph_base.specs.declared.word.TheConstants.{ATTEMPTS}
 use Rattle.morph_base.specs.declared.plan.Plan.{Plan}
+use Rattle.morph_base.specs.declared.word.OpWord.{OpWord}
+use Rattle.morph_base.specs.Words.{IsWord, packed}
+use Rattle.morph_base.proofs.WordLaws.{one_word}
+use Rattle.interleaving_core.specs.declared.entry.Held.{Held}
 use Rattle.interleaving_core.specs.declared.event.CoreEvent.{CoreEvent}
+use Rattle.interleaving_core.specs.declared.event.CoreEvent.TheVariants.{Finish}
 use Rattle.interleaving_core.specs.Counts.{is_finish, is_spread, is_roll, evaluated, spreads, rolled}
 use Rattle.interleaving_core.specs.Core.{blocked, start}
 use Rattle.interleaving_core.specs.Steps.{IsWorker}
@@ -17,9 +22,12 @@ use Rattle.op_words.specs.declared.answers.Counts.{Counts}
 use Rattle.op_words.specs.declared.board.Board.{Board}
 use Rattle.op_words.specs.declared.board.Hand.{Hand}
 use Rattle.op_words.specs.declared.board.Holding.{Holding}
+use Rattle.op_words.specs.declared.trail.Item.{Item}
 use Rattle.op_words.specs.declared.trail.View.{View}
-use Rattle.op_words.specs.Views.{IsLone, parent, child, merged}
-use Rattle.op_words.specs.Plays.{Sat, IsTold}
+use Rattle.op_words.specs.Trails.{left}
+use Rattle.op_words.specs.Views.{IsLone, Holds, looked, finishing, parent, child, merged}
+use Rattle.op_words.specs.Plays.{Sat, IsTold, Looks, Leaves, Swaps}
+use Rattle.op_words.specs.Stepping.{Looked, Left}
 use Rattle.op_words.specs.Rule.{first_view}
 use Rattle.op_words.specs.Hands.{plan_of, cap_of, view_in, view_of, held_of, up_to, counts_of, Fits, IsHandOf}
 use Rattle.op_words.proofs.Rows.{not_inside}
@@ -168,3 +176,113 @@ first_hand b g table me valid small tag made held counts =
       counts = counts ∙ sym (ap (λ (v : View). counts_of v.events) same);
       told = subst IsTold (sym same) (first_told b.table.shared.key.plan b.table.shared.key.cap);
     }
+
+-- ---- steps
+
+-- a step that evaluates, spreads and rolls back nothing
+pub counts_quiet : (e : CoreEvent) (es : List CoreEvent) → is_finish e ≡ false → is_spread e ≡ false → is_roll e ≡ false → counts_of (e ∷ es) ≡ counts_of es
+counts_quiet e es f s r = same_counts (counts_of (e ∷ es)) (counts_of es) (ap up_to (none is_finish f)) (ap up_to (none is_spread s)) (ap up_to (none is_roll r))
+  where
+    none : (q : CoreEvent → Bool) → q e ≡ false → count_by q (e ∷ es) ≡ count_by q es
+    none q is = sum_by-cons (λ x. cond (q x) 1 0) e es ∙ ap (λ b. cond b 1 0 + count_by q es) is ∙ zero-add (count_by q es)
+
+-- a hand that holds what it held, after a load
+pub kept_looked : (h g : Hand) (o : ℕ) (w : OpWord) → IsKept h (view_of h) → g.tag ≡ h.tag → g.made ≡ h.made → g.held ≡ h.held → g.counts ≡ h.counts → IsKept g (looked o w (view_of h))
+kept_looked h g o w is tag made held counts = record {
+  worker = is.worker;
+  counted = is.counted;
+  tag = tag ∙ is.tag;
+  made = made ∙ is.made;
+  held = ap held_of held ∙ is.held;
+  fits = λ k e. is.fits k (sym held ∙ e);
+  counts = counts ∙ is.counts;
+}
+
+-- and after a quiet step, with what it holds then
+pub kept_step : (h g : Hand) (u : View) (e : CoreEvent) → IsKept h (view_of h) → g.tag ≡ h.tag → g.made ≡ h.made → g.counts ≡ h.counts
+    → u.tag ≡ (view_of h).tag → u.made ≡ (view_of h).made → u.events ≡ e ∷ (view_of h).events → is_finish e ≡ false → is_spread e ≡ false → is_roll e ≡ false
+    → held_of g.held ≡ u.claim → ((k : Holding) → g.held ≡ Some k → Fits k) → IsKept g u
+kept_step h g u e is tag made counts same_tag same_made events f s r held fits = record {
+  worker = subst IsWorker (sym same_tag) is.worker;
+  counted = λ root. subst (λ n. 1 ≤ n) (sym same_made) (is.counted (sym same_tag ∙ root));
+  tag = tag ∙ is.tag ∙ sym same_tag;
+  made = made ∙ is.made ∙ sym same_made;
+  held = held;
+  fits = fits;
+  counts = counts ∙ is.counts ∙ sym (ap counts_of events ∙ counts_quiet e (view_of h).events f s r);
+}
+
+module _ (b : Board) (h g : Hand) (is : IsHandOf b h) (table : g.seat.table_id ≡ h.seat.table_id) where
+  -- what a seat shows after a step
+  me_after : {u : View} → g.seat.me ≡ (Some u, h.seat.me.1) → g.seat.me ≡ (Some u, [])
+  me_after {u} me = me ∙ ap (λ (m : Sat). (Some u, m.1)) is.seat
+
+  pub left_hand : (u : View) (t : Item) → g.seat.me ≡ (Some u, h.seat.me.1) → u.plan ≡ (view_of h).plan → u.cap ≡ (view_of h).cap → IsKept g u → Leaves (view_of h) u t → Left b h g u t
+  left_hand u t me plan cap keeps tells = record { hand = still b h g u is table (me_after me) plan cap keeps tells.told; view = ap (λ (m : Sat). view_in m.0) (me_after me); tells = tells }
+
+  module _ (o n first : ℕ) (u : View) (w : OpWord) (swaps : Swaps o n first (view_of h) u w h.seat.me g.seat.me) where
+    pub swap_left : n ≡ first → u.plan ≡ (view_of h).plan → u.cap ≡ (view_of h).cap → IsKept g u → Left b h g u (left o w)
+    swap_left same plan cap keeps =
+        elim swaps [
+          | inl done ↦ left_hand u (left o w) done.1 plan cap keeps done.2
+          | inr missed ↦ absurd (missed.0 same)
+        ]
+
+    -- the word that was found in its place
+    pub swap_word : n ≢ first → (z : OpWord) × IsWord z × (packed z ≡ n)
+    swap_word other =
+        elim swaps [
+          | inl done ↦ absurd (other done.0)
+          | inr missed ↦ (missed.1, missed.3.is_word, sym missed.3.found)
+        ]
+
+    pub swap_found : n ≢ first → (z expected : OpWord) → IsWord z → packed z ≡ n → first ≡ packed expected
+        → g.tag ≡ h.tag → g.made ≡ h.made → g.held ≡ h.held → g.counts ≡ h.counts → (z ≢ expected) × Looked b o h g z
+    swap_found other z expected is_word n_is first_is tag made held counts =
+        elim swaps [
+          | inl done ↦ absurd (other done.0)
+          | inr missed ↦
+              let same : missed.1 ≡ z = one_word missed.1 z missed.3.is_word is_word (sym missed.3.found ∙ sym n_is) in
+              let me : g.seat.me ≡ (Some (looked o z (view_of h)), []) = me_after (missed.2 ∙ ap (λ (x : OpWord). (Some (looked o x (view_of h)), h.seat.me.1)) same) in
+              let tells : Looks o (packed z) (view_of h) z = subst (λ (y : ℕ × OpWord). Looks o y.0 (view_of h) y.1) (λ i. (sym n_is i, same i)) missed.3 in (
+                (λ e. other (sym n_is ∙ ap packed e ∙ sym first_is)),
+                record {
+                  hand = still b h g (looked o z (view_of h)) is table me refl refl (kept_looked h g o z (kept is) tag made held counts) tells.told;
+                  view = ap (λ (m : Sat). view_in m.0) me;
+                  tells = tells;
+                },
+              )
+        ]
+
+-- what a hand keeps of an operation that it holds
+pub held_parts : (h : Hand) (k : Holding) (o a : ℕ) (xs : List ℕ) → IsKept h (view_of h) → h.held ≡ Some k → Holds (view_of h) o a xs → (k.op ≡ o) × (k.attempt ≡ a) × (take k.count k.values ≡ xs)
+held_parts h k o a xs is some holds =
+    let same = same_Some (record { op = k.op; attempt = k.attempt; values = take k.count k.values }) (record { op = o; attempt = a; values = xs }) (ap held_of (sym some) ∙ is.held ∙ holds) in
+    (ap (λ (x : Held). x.op) same, ap (λ (x : Held). x.attempt) same, ap (λ (x : Held). x.values) same)
+
+-- so it holds it as it keeps it
+pub holds_kept : (h : Hand) (k : Holding) (o a : ℕ) (xs : List ℕ) → IsKept h (view_of h) → h.held ≡ Some k → Holds (view_of h) o a xs → Holds (view_of h) o k.attempt xs
+holds_kept h k o a xs is some holds = holds ∙ ap (λ (n : ℕ). Some (record { op = o; attempt = n; values = xs })) (sym (held_parts h k o a xs is some holds).1)
+
+-- the end of a claim counts one evaluation more
+pub counts_finish : (k a : Counts) (o t : ℕ) (es : List CoreEvent) → a ≡ counts_of es
+    → k.evaluated ≡ min (a.evaluated + 1) (2 ^ 64 - 1) → k.spread ≡ min (a.spread + 0) (2 ^ 64 - 1) → k.rolled ≡ min (a.rolled + 0) (2 ^ 64 - 1) → k ≡ counts_of (Finish o t ∷ es)
+counts_finish k a o t es is e s r =
+    counts_append k (record { evaluated = 1; spread = 0; rolled = 0 }) a (Finish o t ∷ []) es refl is (e ∙ swap a.evaluated 1) (s ∙ swap a.spread 0) (r ∙ swap a.rolled 0)
+  where
+    swap : (m n : ℕ) → min (m + n) (2 ^ 64 - 1) ≡ min (n + m) (2 ^ 64 - 1)
+    swap m n = omega arith
+
+-- a hand that let go what it held
+pub kept_end : (h g : Hand) (o : ℕ) (w : OpWord) (xs : List ℕ) → IsKept h (view_of h) → g.tag ≡ h.tag → g.made ≡ h.made → g.held ≡ None
+    → g.counts.evaluated ≡ min (h.counts.evaluated + 1) (2 ^ 64 - 1) → g.counts.spread ≡ min (h.counts.spread + 0) (2 ^ 64 - 1) → g.counts.rolled ≡ min (h.counts.rolled + 0) (2 ^ 64 - 1)
+    → IsKept g (finishing o w xs (view_of h))
+kept_end h g o w xs is tag made held e s r = record {
+  worker = is.worker;
+  counted = is.counted;
+  tag = tag ∙ is.tag;
+  made = made ∙ is.made;
+  held = ap held_of held;
+  fits = λ k same. absurd (none-some k (sym held ∙ same));
+  counts = counts_finish g.counts h.counts o (view_of h).tag (view_of h).events is.counts e s r;
+}

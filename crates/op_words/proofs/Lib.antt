@@ -10,3 +10,11 @@ pub mod Joining
 pub mod Opening
 pub mod Adding
 pub mod Handing
+pub mod Leaving
+pub mod Claiming
+pub mod Seeking
+pub mod Making
+pub mod Finishing
+pub mod Keeping
+pub mod Storing
+pub mod Fetching

@@ -17,7 +17,7 @@ use Rattle.op_words.specs.Trails.{loaded, left, last_word, HasLast, IsDisturbed,
 word_of : ℕ → ℕ → OpState → ℕ → OpWord
 word_of value attempt state by = record { value = value; attempt = attempt; state = state; by = by }
 
-same_parts : (a b : OpWord) → a.value ≡ b.value → a.attempt ≡ b.attempt → a.by ≡ b.by → a.state ≡ b.state → a ≡ b
+pub same_parts : (a b : OpWord) → a.value ≡ b.value → a.attempt ≡ b.attempt → a.by ≡ b.by → a.state ≡ b.state → a ≡ b
 unfolding word_of
 same_parts a b value attempt by state =
     ap (λ x. word_of x a.attempt a.state a.by) value ∙ ap (λ x. word_of b.value x a.state a.by) attempt ∙ ap (λ x. word_of b.value b.attempt x a.by) state

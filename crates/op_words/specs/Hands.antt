@@ -68,15 +68,21 @@ view_of h = view_in h.seat.me.0
 
 -- ---- what a hand keeps while it runs
 
+-- the values that were fetched
+abbrev pub fetched_of : Holding → List ℕ
+fetched_of k = take k.count k.values
+
 abbrev pub held_of : Option Holding → Option Held
 held_of None = None
-held_of (Some k) = Some (record { op = k.op; attempt = k.attempt; values = take k.count k.values })
+held_of (Some k) = Some (record { op = k.op; attempt = k.attempt; values = fetched_of k })
 
--- what is held has a value for each place that was fetched
+-- what is held is at one of the attempts, and has a value for each place that was fetched
 pub record Fits (k : Holding) : Type 0 where
+  pub first : 1 ≤ k.attempt
+  pub last : k.attempt ≤ ATTEMPTS
   pub count : k.count ≤ READS
   pub len : length k.values ≡ READS
-  pub small : All (λ x. x ≤ MAX) (take k.count k.values)
+  pub small : All (λ x. x ≤ MAX) (fetched_of k)
 
 -- a number that stops at the greatest one
 abbrev pub up_to : ℕ → ℕ

@@ -1,4 +1,5 @@
 ghost use Rattle.std.specs.Prelude.{◌≡◌, ◌+◌, ◌-◌, ◌^◌, min};
+ghost use Rattle.op_words.specs.Calls.{answer_of};
 
 use morph_base::OpWord;
 
@@ -46,6 +47,25 @@ pub struct Counts {
     pub evaluated: u64,
     pub spread: u64,
     pub rolled: u64,
+}
+
+/// A source that has no value yet, with its word.
+#[derive(Clone, Copy, Debug, PartialEq, Eq)]
+pub(crate) struct Stop {
+    pub(crate) source: u32,
+    pub(crate) word: OpWord,
+}
+
+impl Outcome {
+    /// That of an operation with this answer of its function.
+    pub(crate) fn of(answer: Option<u64>) -> Outcome
+        ensures { result ≡ answer_of answer }
+    {
+        match answer {
+            Some(value) => Outcome::Executed(value),
+            None => Outcome::Failed,
+        }
+    }
 }
 
 impl Counts {

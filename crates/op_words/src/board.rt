@@ -10,7 +10,9 @@ use std::alloc::Global;
 
 mod calls;
 mod hands;
+mod sources;
 mod steps;
+mod values;
 
 /// The words of a plan's operations, their records and decisions, a level word and some counters, which several hands change
 /// at once, each by single steps.

@@ -1,8 +1,9 @@
 //! The numbers that stand in the board's row of words.
-ghost use Rattle.std.specs.Prelude.{◌≡◌, ◌≤◌, IfOk, Some};
+ghost use Rattle.std.specs.Prelude.{◌≡◌, ◌≤◌, ◌↔◌, ◌⊎◌, true, false, IfOk, IsTrue, Some};
 ghost use Rattle.morph_base.specs.declared.limits.TheConstants.{MAX};
 ghost use Rattle.morph_base.specs.declared.word.TheConstants.{ATTEMPTS};
 ghost use Rattle.morph_base.specs.Plans.{IsPlan};
+ghost use Rattle.morph_base.specs.Words.{is_idle, is_settled};
 ghost use Rattle.interleaving_core.specs.Core.{blocked as blocked_at, ready as ready_at, claimed as claimed_at};
 ghost use Rattle.op_words.specs.Layout.{packed_record, AreFirst};
 
@@ -26,6 +27,25 @@ pub(crate) fn first_words(alloc: Global, plan: &Plan, counters: u32) -> Result<V
     words.push(NO_LEVEL)?;
     words.resize(len, 0)?;
     Ok(words)
+}
+
+/// Whether a word is in a state.
+pub(crate) fn is_in(word: OpWord, state: OpState) -> bool
+    ensures { IsTrue result ↔ (word.state ≡ state) }
+{
+    word.state == state
+}
+
+/// Whether the value of a word may be read: there is one, and at the last attempt it is settled.
+pub(crate) fn is_usable(word: OpWord, at_last: bool) -> bool
+    ensures usable { IsTrue result → (is_idle word.state ≡ false) × (at_last ≡ true → is_settled word.state ≡ true) }
+    ensures unusable { result ≡ false → (is_settled word.state ≡ false) × ((is_idle word.state ≡ true) ⊎ (at_last ≡ true)) }
+{
+    if at_last {
+        word.state.is_settled()
+    } else {
+        !word.state.is_idle()
+    }
 }
 
 /// Blocked at an attempt.

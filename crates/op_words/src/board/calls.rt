@@ -1,19 +1,22 @@
 //! The calls of the board. Each is made of the single steps of `steps`.
-ghost use Rattle.std.specs.Prelude.{◌≡◌, ◌<◌, None, IfOk};
+ghost use Rattle.std.specs.Prelude.{◌≡◌, ℕ, ◌+◌, ◌<◌, ◌↔◌, List, length, None, IfOk, IsTrue};
 ghost use Rattle.morph_base.specs.declared.limits.TheConstants.{WORKERS};
 ghost use Rattle.morph_base.specs.declared.word.TheConstants.{ATTEMPTS};
-ghost use Rattle.morph_base.specs.Plans.{IsPlan, op_count};
-ghost use Rattle.op_words.specs.Views.{IsFresh, looked, parent, child, merged};
-ghost use Rattle.op_words.specs.Calls.{PeekDoes};
+ghost use Rattle.morph_base.specs.Plans.{IsPlan, op_count, origin_at};
+ghost use Rattle.morph_base.specs.declared.plan.Origin.TheVariants.{Op as Written};
+ghost use Rattle.interleaving_core.specs.Core.{places};
+ghost use Rattle.op_words.specs.Views.{Holds, IsFresh, looked, parent, child, merged};
+ghost use Rattle.op_words.specs.Calls.{PeekDoes, MakeDoes, ClaimDoes, FetchDoes, FinishDoes, GiveBackDoes};
 ghost use Rattle.op_words.specs.Rule.{first_view};
 ghost use Rattle.op_words.specs.Hands.{plan_of, cap_of, counters_of, view_of, IsHandOf};
 
 use super::{Board, Hand};
-use crate::answers::Counts;
+use crate::answers::{Claimed, Counts, Fetched, Outcome, Readied};
+use crate::places::origin_of;
 use crate::rule::{Known, Merge, Part};
-use crate::words::first_words;
+use crate::words::{first_words, is_in, is_usable};
 use atomic_table::Table;
-use morph_base::{OpWord, OutOfMemory, Plan};
+use morph_base::{OpState, OpWord, Origin, OutOfMemory, Plan};
 use std::alloc::Global;
 use std::snapshot::Snapshot;
 
@@ -100,5 +103,138 @@ impl Board {
         self.table.shared.join_seat::<Merge>(&mut root.seat, seat);
         root.counts = root.counts.and(counts);
         self.tell(&mut root.seat);
+    }
+
+    /// Makes a blocked operation ready, where each of its sources has a value.
+    ///
+    /// It loads the operation's word and then, as long as nothing stops it, those of its sources, place by place. Last comes
+    /// the exchange.
+    pub fn ready(&self, hand: &mut Hand, plan: &Plan, op: u32) -> Readied
+        requires hand { IsHandOf self.now hand.old }
+        requires plan { plan.now ≡ plan_of self.now }
+        requires in_range { op < op_count plan.now }
+        requires free { (view_of hand.old).claim ≡ None }
+        ensures hand { IsHandOf self.now hand.new }
+        ensures does { MakeDoes plan.now (cap_of self.now) op (view_of hand.old) (view_of hand.new) result }
+    {
+        let word = self.look(hand, op);
+        if !is_in(word, OpState::Blocked) {
+            return Readied::Not { at: op, word };
+        }
+        if let Some(idle) = self.idle_source(hand, plan, op) {
+            return Readied::Not {
+                at: idle.source,
+                word: idle.word,
+            };
+        }
+        match self.make(hand, op, word.attempt) {
+            None => Readied::Made,
+            Some(word) => Readied::Not { at: op, word },
+        }
+    }
+
+    /// Claims a ready operation, for a hand that holds none.
+    pub fn claim(&self, hand: &mut Hand, plan: &Plan, op: u32) -> Claimed
+        requires hand { IsHandOf self.now hand.old }
+        requires plan { plan.now ≡ plan_of self.now }
+        requires in_range { op < op_count plan.now }
+        requires free { (view_of hand.old).claim ≡ None }
+        ensures hand { IsHandOf self.now hand.new }
+        ensures does { ClaimDoes plan.now (cap_of self.now) op (view_of hand.old) (view_of hand.new) result }
+    {
+        let word = self.look(hand, op);
+        if !is_in(word, OpState::Ready) {
+            return Claimed::Not { word };
+        }
+        match self.hold(hand, op, word.attempt) {
+            None => Claimed::Held {
+                attempt: word.attempt,
+            },
+            Some(word) => Claimed::Not { word },
+        }
+    }
+
+    /// Gets the value of the next place of the operation that the hand holds, and records it.
+    ///
+    /// A value that is not settled is read too, but at the last attempt.
+    pub fn fetch(&self, hand: &mut Hand, plan: &Plan, op: u32, j: u8) -> Fetched
+        requires hand { IsHandOf self.now hand.old }
+        requires plan { plan.now ≡ plan_of self.now }
+        requires in_range { op < op_count plan.now }
+        requires in_places { j < places plan.now op }
+        requires held { (a : ℕ) × (xs : List ℕ) × Holds (view_of hand.old) op a xs × (length xs ≡ j) }
+        ensures hand { IsHandOf self.now hand.new }
+        ensures does { FetchDoes plan.now (cap_of self.now) op (view_of hand.old) (view_of hand.new) j result }
+    {
+        match origin_of(plan, op, j) {
+            Origin::Base(value) => {
+                self.keep(hand, plan, value);
+                Fetched::Value(value)
+            }
+            Origin::Op(source) => self.read(hand, plan, op, j, source),
+        }
+    }
+
+    /// The same, where the source is an operation: its word is loaded, and its value taken where it may be.
+    fn read(&self, hand: &mut Hand, plan: &Plan, op: u32, j: u8, source: u32) -> Fetched
+        requires hand { IsHandOf self.now hand.old }
+        requires plan { plan.now ≡ plan_of self.now }
+        requires in_range { op < op_count plan.now }
+        requires in_places { j < places plan.now op }
+        requires held { (a : ℕ) × (xs : List ℕ) × Holds (view_of hand.old) op a xs × (length xs ≡ j) }
+        requires source { origin_at plan.now op j ≡ Written source }
+        ensures hand { IsHandOf self.now hand.new }
+        ensures does { FetchDoes plan.now (cap_of self.now) op (view_of hand.old) (view_of hand.new) j result }
+    {
+        let word = self.look(hand, source);
+        let Some(holding) = hand.held else {
+            unreachable!()
+        };
+        if !is_usable(word, self.is_last(holding.attempt)) {
+            return Fetched::Unready { source, word };
+        }
+        self.keep(hand, plan, word.value);
+        Fetched::Value(word.value)
+    }
+
+    /// Whether the attempt is the last one, at which only settled values are read.
+    fn is_last(&self, attempt: u8) -> bool
+        requires { cap_of self.now < ATTEMPTS }
+        ensures { IsTrue result ↔ (attempt ≡ cap_of self.now + 1) }
+    {
+        attempt == self.cap + 1
+    }
+
+    /// Finishes the operation that the hand holds, all of whose places were fetched: it is executed with what its function gives,
+    /// or failed with the value of its target. The hand holds none afterwards.
+    pub fn finish(&self, hand: &mut Hand, plan: &Plan, op: u32) -> Outcome
+        requires hand { IsHandOf self.now hand.old }
+        requires plan { plan.now ≡ plan_of self.now }
+        requires in_range { op < op_count plan.now }
+        requires held { (a : ℕ) × (xs : List ℕ) × Holds (view_of hand.old) op a xs × (length xs ≡ places plan.now op) }
+        ensures hand { IsHandOf self.now hand.new }
+        ensures does { FinishDoes plan.now (cap_of self.now) op (view_of hand.old) (view_of hand.new) result }
+    {
+        let Some(holding) = hand.held else {
+            unreachable!()
+        };
+        let answer = holding.answer(plan);
+        self.end(hand, op, holding.word(answer));
+        Outcome::of(answer)
+    }
+
+    /// Gives back the operation that the hand holds: it is blocked again, at the same attempt. The hand holds none afterwards.
+    pub fn give_back(&self, hand: &mut Hand, plan: &Plan, op: u32)
+        requires hand { IsHandOf self.now hand.old }
+        requires plan { plan.now ≡ plan_of self.now }
+        requires in_range { op < op_count plan.now }
+        requires held { (a : ℕ) × (xs : List ℕ) × Holds (view_of hand.old) op a xs }
+        ensures hand { IsHandOf self.now hand.new }
+        ensures does { GiveBackDoes plan.now (cap_of self.now) op (view_of hand.old) (view_of hand.new) }
+    {
+        let Some(holding) = hand.held else {
+            unreachable!()
+        };
+        self.give(hand, op, holding.attempt);
     }
 }

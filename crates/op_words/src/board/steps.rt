@@ -1,16 +1,23 @@
 //! The single steps of a hand on the table.
-ghost use Rattle.std.specs.Prelude.{◌≡◌, ◌<◌, Some};
-ghost use Rattle.morph_base.specs.Plans.{op_count};
+ghost use Rattle.std.specs.Prelude.{◌≡◌, ℕ, ◌≤◌, ◌<◌, List, length, Some, None};
+ghost use Rattle.morph_base.specs.declared.limits.TheConstants.{MAX};
+ghost use Rattle.morph_base.specs.Plans.{op_at, op_count, origin_at};
+ghost use Rattle.morph_base.specs.Words.{IsWord};
+ghost use Rattle.interleaving_core.specs.Core.{blocked as blocked_at, ready as ready_at, claimed as claimed_at, finished, places};
 ghost use Rattle.op_words.specs.declared.trail.View.{View as V};
+ghost use Rattle.op_words.specs.Trails.{left};
+ghost use Rattle.op_words.specs.Views.{Holds, making, claiming, finishing, giving_back};
 ghost use Rattle.op_words.specs.Plays.{IsTold};
-ghost use Rattle.op_words.specs.Stepping.{Looked};
-ghost use Rattle.op_words.specs.Hands.{plan_of, IsHandOf};
+ghost use Rattle.op_words.specs.Stepping.{IsUsable, Kept, Looked, Left, Swapped};
+ghost use Rattle.op_words.specs.Hands.{plan_of, cap_of, view_of, IsHandOf};
 
-use super::{Board, Hand};
-use crate::rule::{Look, Tell};
+use super::{Board, Hand, Holding};
+use crate::answers::Counts;
+use crate::rule::{Claim, End, Give, Keep, Look, Make, Tell};
 use crate::trail::View;
+use crate::words::{blocked, claimed, pack_record, ready};
 use atomic_table::Seat;
-use morph_base::OpWord;
+use morph_base::{OpWord, Plan, READS};
 
 impl Board {
     /// A load of an operation's word.
@@ -35,5 +42,108 @@ impl Board {
         ensures told { (v : V) → seat.old.me.0 ≡ Some v → IsTold v }
     {
         self.table.shared.load::<Tell>(seat, 0);
+    }
+
+    /// The exchange of blocked to ready; the word that was found, where it was another.
+    pub(super) fn make(&self, hand: &mut Hand, op: u32, attempt: u8) -> Option<OpWord>
+        requires hand { IsHandOf self.now hand.old }
+        requires in_range { op < op_count (plan_of self.now) }
+        requires word { IsWord (blocked_at attempt) }
+        ensures { Swapped self.now op hand.old hand.new (blocked_at attempt) (making op attempt (view_of hand.old)) (ready_at attempt) result }
+    {
+        let (first, new) = (blocked(attempt).pack(), ready(attempt).pack());
+        let found = self
+            .table
+            .shared
+            .compare_exchange::<Make>(&mut hand.seat, op as usize, first, new);
+        if found == first {
+            return None;
+        }
+        let Some(word) = OpWord::unpack(found) else {
+            unreachable!()
+        };
+        Some(word)
+    }
+
+    /// The exchange of ready to claimed, by a hand that holds nothing; the word that was found, where it was another.
+    pub(super) fn hold(&self, hand: &mut Hand, op: u32, attempt: u8) -> Option<OpWord>
+        requires hand { IsHandOf self.now hand.old }
+        requires in_range { op < op_count (plan_of self.now) }
+        requires word { IsWord (ready_at attempt) }
+        requires free { (view_of hand.old).claim ≡ None }
+        ensures { Swapped self.now op hand.old hand.new (ready_at attempt) (claiming op attempt (view_of hand.old)) (claimed_at attempt (view_of hand.old).tag) result }
+    {
+        let (first, new) = (ready(attempt).pack(), claimed(attempt, hand.tag).pack());
+        let found = self
+            .table
+            .shared
+            .compare_exchange::<Claim>(&mut hand.seat, op as usize, first, new);
+        if found == first {
+            hand.held = Some(Holding {
+                op,
+                attempt,
+                count: 0,
+                values: [0; READS],
+            });
+            return None;
+        }
+        let Some(word) = OpWord::unpack(found) else {
+            unreachable!()
+        };
+        Some(word)
+    }
+
+    /// Claimed becomes blocked, by the hand that holds the operation: nobody else changes its word meanwhile.
+    pub(super) fn give(&self, hand: &mut Hand, op: u32, attempt: u8)
+        requires hand { IsHandOf self.now hand.old }
+        requires in_range { op < op_count (plan_of self.now) }
+        requires held { (xs : List ℕ) × Holds (view_of hand.old) op attempt xs }
+        requires word { IsWord (blocked_at attempt) }
+        ensures { Left self.now hand.old hand.new (giving_back op attempt (view_of hand.old)) (left op (blocked_at attempt)) }
+    {
+        let word = blocked(attempt).pack();
+        self.table
+            .shared
+            .store::<Give>(&mut hand.seat, op as usize, word);
+        hand.held = None;
+    }
+
+    /// The store of a record: the next place of the operation that the hand holds gets the value.
+    pub(super) fn keep(&self, hand: &mut Hand, plan: &Plan, value: u64)
+        requires hand { IsHandOf self.now hand.old }
+        requires plan { plan.now ≡ plan_of self.now }
+        requires value { value ≤ MAX }
+        requires held { (o a : ℕ) × (xs : List ℕ) × Holds (view_of hand.old) o a xs × (o < op_count plan.now) × (length xs < places plan.now o) × IsUsable (view_of hand.old) (cap_of self.now) a (origin_at plan.now o (length xs)) value }
+        ensures { (o a : ℕ) (xs : List ℕ) → Holds (view_of hand.old) o a xs → Kept self.now o a xs value hand.old hand.new }
+    {
+        let Some(holding) = hand.held else {
+            unreachable!()
+        };
+        let place = holding.op as usize * READS + holding.count as usize;
+        let record = pack_record(value, holding.attempt);
+        self.table
+            .shared
+            .store::<Keep>(&mut hand.seat, plan.ops.len() + place, record);
+        hand.held = Some(holding.with(value));
+    }
+
+    /// Claimed becomes executed or failed, by the hand that holds the operation: nobody else changes its word meanwhile.
+    pub(super) fn end(&self, hand: &mut Hand, op: u32, word: OpWord)
+        requires hand { IsHandOf self.now hand.old }
+        requires in_range { op < op_count (plan_of self.now) }
+        requires held { (a : ℕ) × (xs : List ℕ) × Holds (view_of hand.old) op a xs × (length xs ≡ places (plan_of self.now) op) × (word ≡ finished (op_at (plan_of self.now) op).op a xs) }
+        requires word { IsWord word }
+        ensures { (a : ℕ) (xs : List ℕ) → Holds (view_of hand.old) op a xs → Left self.now hand.old hand.new (finishing op word xs (view_of hand.old)) (left op word) }
+    {
+        let n = word.pack();
+        self.table
+            .shared
+            .store::<End>(&mut hand.seat, op as usize, n);
+        hand.held = None;
+        hand.counts = hand.counts.and(Counts {
+            evaluated: 1,
+            spread: 0,
+            rolled: 0,
+        });
     }
 }

@@ -1,0 +1,57 @@
+use Rattle.std.proofs.Common.{rules, ◌≡◌, ◌<◌, ◌≤◌, ℕ, ap, arith, sym, subst, refl, Some, ◌∙◌, List, length}
+use mathlib.Core.Option.{none}
+use Rattle.std.proofs.lemmas.Option.{same_Some}
+use Rattle.atomic_table.specs.Table.{Allows, step}
+use Rattle.morph_base.specs.declared.limits.TheConstants.{READS}
+use Rattle.morph_base.specs.declared.plan.Plan.{Plan}
+use Rattle.morph_base.specs.Plans.{IsPlan, op_count, origin_at}
+use Rattle.morph_base.proofs.NumberLaws.{op_count-small}
+use Rattle.interleaving_core.specs.declared.entry.Held.{Held}
+use Rattle.interleaving_core.specs.Core.{places}
+use Rattle.op_words.specs.Layout.{record_index, packed_record}
+use Rattle.op_words.specs.Plays.{Sat, keeps}
+use Rattle.op_words.specs.Rule.{Lawful}
+use Rattle.op_words.specs.Stepping.{IsUsable}
+use Rattle.op_words.specs.Hands.{plan_of, cap_of, counters_of, view_of}
+use Rattle.op_words.proofs.Keeping.{allows_keep}
+use Rattle.op_words.proofs.Handing.{kept, held_parts}
+use Rattle.op_words.proofs.Storing.{places_few, index_is, kept_hand}
+use Rattle.op_words.proofs.Laying.{record_below}
+use Rattle.op_words.proofs.board.Board.keep.Goals as goal
+
+pub overflow_add-len : goal.overflow_add-len
+overflow_add-len c =
+    let h = c.requires.hand in let q = c.requires.held in let n = c.args.self.now.sized in
+    let index = index_is c.args.self.now c.args.hand.now h c.in-Some.holding c.in-Some.is q.0 q.1 q.2 q.3 c.args.plan.now c.len.result c.requires.plan c.len.ensures in
+    let few = places_few c.args.plan.now q.0 (subst IsPlan (sym c.requires.plan) h.valid) q.4 in let below = q.5 in let lt = q.4 in
+    let small = op_count-small (plan_of c.args.self.now) h.valid in let same = ap op_count c.requires.plan in
+    omega (arith, index, few, below, lt, small, same)
+
+pub store-requires : goal.store-requires
+store-requires c =
+    let h = c.requires.hand in let q = c.requires.held in let n = c.args.self.now.sized in
+    let b = c.args.self.now in let seat = c.args.hand.now.seat in let p : Plan = plan_of b in
+    let index = index_is b c.args.hand.now h c.in-Some.holding c.in-Some.is q.0 q.1 q.2 q.3 c.args.plan.now c.len.result c.requires.plan c.len.ensures in
+    let attempt = (held_parts c.args.hand.now c.in-Some.holding q.0 q.1 q.2 (kept h) c.in-Some.is q.3).1 in
+    let number : packed_record (Some (record { value = c.args.value; attempt = q.1 })) ≡ c.pack_record-record.result =
+    sym (c.pack_record-record.ensures ∙ ap (λ (a : ℕ). packed_record (Some (record { value = c.args.value; attempt = a }))) attempt) in
+    let lt : q.0 < op_count p = subst (λ (r : Plan). q.0 < op_count r) c.requires.plan q.4 in
+    let below : length q.2 < places p q.0 = subst (λ (r : Plan). length q.2 < places r q.0) c.requires.plan q.5 in
+    let usable : IsUsable (view_of c.args.hand.now) (cap_of b) q.1 (origin_at p q.0 (length q.2)) c.args.value = subst (λ (r : Plan). IsUsable (view_of c.args.hand.now) (cap_of b) q.1 (origin_at r q.0 (length q.2)) c.args.value) c.requires.plan q.6 in
+    let most = places_few p q.0 h.valid lt in
+    let few : length q.2 < READS = omega (arith, most, below) in (
+      h.table,
+      omega (arith, index, few, lt, n),
+      subst (λ (z : ℕ × ℕ). Allows (Lawful (plan_of b) (cap_of b) (counters_of b)) b.table.shared.table_id.slots seat.id seat.me z.0 (λ (m : ℕ). z.1) (λ (m : ℕ). keeps (step b.table.shared.table_id.slots z.0 z.1 0 none) seat.me z.1))
+          (λ i. (sym index i, number i))
+          (allows_keep _ _ _ (view_of c.args.hand.now) (ap (λ (m : Sat). m.0) h.seat) (record { op = q.0; attempt = q.1; values = q.2 }) q.3 below few c.args.value usable),
+    )
+
+pub returns : goal.returns
+returns c = λ o a xs holds.
+    let h = c.requires.hand in
+    let attempt = (held_parts c.args.hand.now c.in-Some.holding o a xs (kept h) c.in-Some.is holds).1 in
+    let done = c.store.ensures.2 (view_of c.args.hand.now) (ap (λ (m : Sat). m.0) h.seat) (record { op = o; attempt = a; values = xs }) holds c.args.value
+    (c.pack_record-record.ensures ∙ ap (λ (n : ℕ). packed_record (Some (record { value = c.args.value; attempt = n }))) attempt) in
+    kept_hand c.args.self.now c.args.hand.now h c.in-Some.holding c.in-Some.is o a xs holds _ c.with.result c.args.value c.store.ensures.0 done.0 done.1 refl refl refl refl
+    c.with.ensures.op c.with.ensures.attempt c.with.ensures.values c.with.ensures.fits

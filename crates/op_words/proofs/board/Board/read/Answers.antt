@@ -1,0 +1,57 @@
+use Rattle.std.proofs.Common.{rules, ◌≡◌, ◌⊎◌, ◌∙◌, sym, subst, ap, ℕ, ◌<◌, ◌+◌, inl, inr, true, length}
+use Rattle.morph_base.specs.declared.plan.Origin.TheVariants.{Op as Written}
+use Rattle.morph_base.specs.Plans.{IsPlan, op_count, origin_at}
+use Rattle.morph_base.specs.Words.{is_idle, is_settled}
+use Rattle.interleaving_core.specs.Core.{places}
+use Rattle.op_words.specs.Hands.{cap_of, view_of}
+use Rattle.op_words.specs.Stepping.{IsUsable}
+use Rattle.op_words.proofs.Seeking.{source_other}
+use Rattle.op_words.proofs.Handing.{kept, held_parts}
+use Rattle.op_words.proofs.Fetching.{still_holds, source_usable, fetched_source, unfetched_source}
+use Rattle.op_words.proofs.board.Board.read.Goals as goal
+
+pub returns-then-not-is_usable-clause-does : goal.returns-then-not-is_usable-clause-does
+returns-then-not-is_usable-clause-does c =
+    let q = c.requires.held in let is = c.requires.source in let b = c.args.self.now in let p = c.args.plan.now in let o = c.args.op in
+    let h = c.args.hand.now in let g = c.look-word.new.hand in
+    let other = (source_other p o c.args.j c.args.source (subst IsPlan (sym c.requires.plan) c.requires.hand.valid) c.requires.in_range c.requires.in_places is).1 in
+    let holds = still_holds b p (cap_of b) o c.args.j h g c.args.source c.look-word.result other is c.look-word.ensures q.0 q.1 q.2 q.0 q.1 q.2 in
+    let attempt = (held_parts g c.in-Some.holding o q.0 q.1 (kept c.look-word.ensures.hand) c.in-Some.is holds).1 in
+    let not = c.is_usable.ensures.unusable c.if-not-is_usable.true in
+    unfetched_source b p (cap_of b) o c.args.j h g c.args.source c.look-word.result other is c.look-word.ensures q.0 q.1 q.2 c.requires.in_places not.0
+    (elim not.1 [ inl idle ↦ inl idle | inr last ↦ inr (sym attempt ∙ c.is_last.ensures.0 last) ])
+
+pub keep-requires-clause-held : goal.keep-requires-clause-held
+keep-requires-clause-held c =
+    let q = c.requires.held in let is = c.requires.source in let b = c.args.self.now in let p = c.args.plan.now in let o = c.args.op in
+    let h = c.args.hand.now in let g = c.look-word.new.hand in
+    let other = (source_other p o c.args.j c.args.source (subst IsPlan (sym c.requires.plan) c.requires.hand.valid) c.requires.in_range c.requires.in_places is).1 in
+    let holds = still_holds b p (cap_of b) o c.args.j h g c.args.source c.look-word.result other is c.look-word.ensures q.0 q.1 q.2 q.0 q.1 q.2 in
+    let attempt = (held_parts g c.in-Some.holding o q.0 q.1 (kept c.look-word.ensures.hand) c.in-Some.is holds).1 in
+    let ok = c.is_usable.ensures.usable c.if-not-is_usable.false in
+    let usable = source_usable b p (cap_of b) o c.args.j h g c.args.source c.look-word.result other is c.look-word.ensures q.0 q.1 q.2 ok.0 (λ at. ok.1 (c.is_last.ensures.1 (attempt ∙ at))) in (
+      o,
+      q.0,
+      q.1,
+      holds,
+      c.requires.in_range,
+      subst (λ (n : ℕ). n < places p o) (sym q.3) c.requires.in_places,
+      subst (λ (n : ℕ). IsUsable (view_of g) (cap_of b) q.0 (origin_at p o n) c.look-word.result.value) (sym q.3) usable,
+    )
+
+pub returns-clause-hand : goal.returns-clause-hand
+returns-clause-hand c =
+    let q = c.requires.held in
+    (c.keep.ensures c.args.op q.0 q.1
+    (ap (λ v. v.claim) c.look-word.ensures.view ∙ q.2)).hand
+
+pub returns-clause-does : goal.returns-clause-does
+returns-clause-does c =
+    let q = c.requires.held in let is = c.requires.source in let b = c.args.self.now in let p = c.args.plan.now in let o = c.args.op in
+    let h = c.args.hand.now in let g = c.look-word.new.hand in
+    let other = (source_other p o c.args.j c.args.source (subst IsPlan (sym c.requires.plan) c.requires.hand.valid) c.requires.in_range c.requires.in_places is).1 in
+    let holds = still_holds b p (cap_of b) o c.args.j h g c.args.source c.look-word.result other is c.look-word.ensures q.0 q.1 q.2 q.0 q.1 q.2 in
+    let attempt = (held_parts g c.in-Some.holding o q.0 q.1 (kept c.look-word.ensures.hand) c.in-Some.is holds).1 in
+    let ok = c.is_usable.ensures.usable c.if-not-is_usable.false in
+    fetched_source b p (cap_of b) o c.args.j h g c.args.source c.look-word.result other is c.look-word.ensures q.0 q.1 q.2 c.keep.new.hand ok.0 (λ at. ok.1 (c.is_last.ensures.1 (attempt ∙ at)))
+    (λ n zs held. c.keep.ensures o n zs held)

@@ -1,0 +1,51 @@
+//! The sources of an operation, loaded place by place.
+ghost use Rattle.std.specs.Prelude.{◌≡◌, ◌<◌, None};
+ghost use Rattle.morph_base.specs.Plans.{op_count};
+ghost use Rattle.interleaving_core.specs.Core.{places};
+ghost use Rattle.op_words.specs.Stepping.{Sought, SoughtAt};
+ghost use Rattle.op_words.specs.Hands.{plan_of, view_of, IsHandOf};
+
+use super::{Board, Hand};
+use crate::answers::Stop;
+use crate::places::{origin_of, places_of};
+use morph_base::{Origin, Plan};
+
+impl Board {
+    /// Loads the sources of an operation, place by place, up to the first that has no value.
+    pub(super) fn idle_source(&self, hand: &mut Hand, plan: &Plan, op: u32) -> Option<Stop>
+        requires hand { IsHandOf self.now hand.old }
+        requires plan { plan.now ≡ plan_of self.now }
+        requires in_range { op < op_count plan.now }
+        requires free { (view_of hand.old).claim ≡ None }
+        ensures { Sought self.now plan.now op hand.old hand.new result }
+    {
+        for j in 0..places_of(plan, op) {
+            if let Some(stop) = self.idle_at(hand, plan, op, j) {
+                return Some(stop);
+            }
+        }
+        None
+    }
+
+    /// Loads the source at a place, if it is an operation, and gives it where it has no value.
+    fn idle_at(&self, hand: &mut Hand, plan: &Plan, op: u32, j: u8) -> Option<Stop>
+        requires hand { IsHandOf self.now hand.old }
+        requires plan { plan.now ≡ plan_of self.now }
+        requires in_range { op < op_count plan.now }
+        requires in_places { j < places plan.now op }
+        requires free { (view_of hand.old).claim ≡ None }
+        ensures { SoughtAt self.now plan.now op j hand.old hand.new result }
+    {
+        match origin_of(plan, op, j) {
+            Origin::Base(_) => None,
+            Origin::Op(source) => {
+                let word = self.look(hand, source);
+                if word.state.is_idle() {
+                    Some(Stop { source, word })
+                } else {
+                    None
+                }
+            }
+        }
+    }
+}

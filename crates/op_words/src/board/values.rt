@@ -1,0 +1,65 @@
+ghost use Rattle.std.specs.Prelude.{◌≡◌, ◌+◌, ◌≤◌, ◌<◌, ◌∷◌, ◌++◌, [], take, IfSome};
+ghost use Rattle.morph_base.specs.declared.limits.TheConstants.{MAX, READS};
+ghost use Rattle.morph_base.specs.Functions.{value_of};
+ghost use Rattle.morph_base.specs.Plans.{IsPlan, op_at, op_count};
+ghost use Rattle.morph_base.specs.Words.{IsWord};
+ghost use Rattle.interleaving_core.specs.Core.{ended, places};
+ghost use Rattle.op_words.specs.Hands.{Fits, fetched_of};
+
+use super::Holding;
+use morph_base::{OpState, OpWord, Plan, eval};
+
+impl Holding {
+    /// With the value of the next place.
+    pub(super) fn with(self, value: u64) -> Holding
+        requires fits { Fits self }
+        requires few { self.count < READS }
+        requires value { value ≤ MAX }
+        ensures op { result.op ≡ self.op }
+        ensures attempt { result.attempt ≡ self.attempt }
+        ensures values { fetched_of result ≡ fetched_of self ++ value ∷ [] }
+        ensures fits { Fits result }
+    {
+        let mut more = self;
+        more.values[self.count as usize] = value;
+        more.count += 1;
+        more
+    }
+
+    /// What the operation's function makes of the values of all its places.
+    pub(super) fn answer(&self, plan: &Plan) -> Option<u64>
+        requires plan { IsPlan plan.now }
+        requires in_range { self.now.op < op_count plan.now }
+        requires fits { Fits self.now }
+        requires all { self.now.count ≡ places plan.now self.now.op }
+        ensures value { result ≡ value_of (op_at plan.now self.now.op).op (fetched_of self.now) }
+        ensures small { IfSome result (λ x. x ≤ MAX) }
+    {
+        let values = &self.values[..self.count as usize];
+        eval(&plan.ops.get(self.op as usize).op, values)
+    }
+
+    /// The word that the operation is left with: executed with the answer, or failed with the value of its target.
+    pub(super) fn word(&self, answer: Option<u64>) -> OpWord
+        requires fits { Fits self.now }
+        requires some { 0 < self.now.count }
+        requires small { IfSome answer (λ x. x ≤ MAX) }
+        ensures word { result ≡ ended self.now.attempt (fetched_of self.now) answer }
+        ensures in_range { IsWord result }
+    {
+        match answer {
+            Some(value) => OpWord {
+                value,
+                attempt: self.attempt,
+                state: OpState::Executed,
+                by: 0,
+            },
+            None => OpWord {
+                value: self.values[0],
+                attempt: self.attempt,
+                state: OpState::Failed,
+                by: 0,
+            },
+        }
+    }
+}

@@ -4,6 +4,7 @@ use Rattle.std.specs.Prelude.{IsTrue, IsErrAnd, IsErrOf}
 use Rattle.std.proofs.Math.ListN.{length-map}
 use Rattle.std.proofs.lemmas.Bool.{false≢true}
 use Rattle.std.proofs.lemmas.List.Sorted.{length_permutation}
+use Rattle.morph_base.specs.declared.limits.TheConstants.{EVENT_OPS, EVENTS}
 use Rattle.morph_base.specs.declared.key.Layout.{Layout}
 use Rattle.morph_base.specs.declared.event.Batch.{Batch as TheBatch}
 use Rattle.morph_base.specs.declared.plan.Plan.{Plan}
@@ -113,7 +114,8 @@ module _ {App : Type 0} where
 
   -- the numbers of the tally are far below what they can hold
   pub tally_few : {c : Course App} {left : Option (List ℕ)} {new : Outputs} {r : ReaderView App} {values : Kept} {tally : Tally} {out : List ℕ} → Between c left new r values tally out →
-      (tally.batches ≤ c.limit + 1) × (tally.events ≤ c.limit + 1) × (tally.ops ≤ 40960 * (c.limit + 1)) × (tally.rolled ≤ 40960 * (c.limit + 1)) × (tally.evaluated ≤ 81920 * (c.limit + 1))
+      (tally.batches ≤ c.limit + 1) × (tally.events ≤ c.limit + 1) × (tally.ops ≤ EVENT_OPS * EVENTS * (c.limit + 1)) × (tally.rolled ≤ EVENT_OPS * EVENTS * (c.limit + 1))
+      × (tally.evaluated ≤ 2 * EVENT_OPS * EVENTS * (c.limit + 1))
   tally_few {c} {left} {new} {r} {values} {tally} {out} b =
       let t = b.goes.tallied in
       let events = t.counts.events in

@@ -1,8 +1,8 @@
 -- Words ask for no settings exactly where one of the causes holds.
-use Rattle.std.proofs.Common.{◌≡◌, ℕ, ◌<◌, ◌≤◌, ◌⊎◌, inl, inr, Bool, true, false, List, [], ◌∷◌, Option, Some, None, refl, ap, sym, ◌∙◌, subst, lit<}
+use Rattle.std.proofs.Common.{◌≡◌, ℕ, ◌⊎◌, inl, inr, Bool, true, false, List, [], ◌∷◌, Option, Some, None, refl, ap, sym, ◌∙◌, subst, lit<}
 use Rattle.std.specs.Prelude.{◌&&◌, ◌||◌, count_by, is_some, if◌then◌else◌}
-use Rattle.std.specs.List.{list_all, list_any}
-use Rattle.std.proofs.lemmas.Bool.{cases_Bool, and_cases, and_left, and_right, cond-true, cond-false, leb-false, lt-leb, true≢false, false≢true}
+use Rattle.std.specs.List.{list_all}
+use Rattle.std.proofs.lemmas.Bool.{cases_Bool, and_cases, and_left, and_right, cond-true, cond-false, leb-false, lt-leb, true≢false}
 use Rattle.std.proofs.lemmas.List.Folds.{list_all_at}
 use Rattle.event_reader.specs.Numbers.{value_of}
 use Rattle.event_reader.specs.declared.ranges.Range.{Range}
@@ -11,7 +11,7 @@ use Rattle.morph_cli.specs.declared.names.Name.TheVariants.{App as AppName, Own,
 use Rattle.morph_cli.specs.declared.settings.App.{App}
 use Rattle.morph_cli.specs.declared.settings.Settings.{Settings}
 use Rattle.morph_cli.specs.declared.words.Input.{Input}
-use Rattle.morph_cli.specs.Settings.{all_names, has_equals, name_of, has_name, is_known, is_once, are_once, value_under, is_given, app_in, some_app, app_given, app_under, number_given, number_under, number_in, says_in, switch_in, switch_given, switch_under, worker_counts, sizes, seeds, event_counts, read_input, made_of, made_input, input_by, input_of, settings_by, settings_of}
+use Rattle.morph_cli.specs.Settings.{all_names, has_equals, name_of, has_name, is_known, is_once, are_once, value_under, is_given, app_in, some_app, app_given, app_under, number_given, number_under, says_in, switch_in, switch_given, switch_under, worker_counts, sizes, seeds, event_counts, read_input, made_of, made_input, input_by, input_of, settings_by, settings_of}
 use Rattle.morph_cli.specs.NoSettings.{is_name, is_value_of, NoSettings, no_equals, unknown_name, given_twice, other_value, both_inputs, no_input, made_alone}
 
 -- ---- the names

@@ -1,5 +1,5 @@
 -- What is said of the program, from what is said of the call.
-use Rattle.std.proofs.Common.{◌≡◌, ◌⊎◌, inl, inr, ℕ, List, [], Option, Some, None, Result, Ok, Err, refl, ap, sym, ◌∙◌, subst}
+use Rattle.std.proofs.Common.{◌≡◌, ◌⊎◌, inl, ℕ, List, [], Option, Some, None, Result, Ok, Err, refl, ap, sym, ◌∙◌, subst}
 use Rattle.std.specs.Prelude.{IfSome, IfOk}
 use Rattle.morph_io.specs.Told.{behind, behind_nil}
 use Rattle.event_reader.specs.Accepted.{accepted_within}

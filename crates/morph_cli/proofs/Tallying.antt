@@ -5,6 +5,7 @@ use Rattle.std.proofs.lemmas.List.{length-append}
 use Rattle.std.proofs.lemmas.Simd.{map-map}
 use Rattle.std.proofs.lemmas.List.FromFn.{length-range_with_len, length-map-range_with_len, fill_by_all}
 use Rattle.std.proofs.lemmas.List.Sums.{sum-map, sum_by-cons, sum_by-append, sum_by_push, sum_by-le-sum_by, count_by-le-length}
+use Rattle.morph_base.specs.declared.limits.TheConstants.{EVENT_OPS, EVENTS}
 use Rattle.morph_base.specs.declared.plan.Plan.{Plan}
 use Rattle.morph_base.specs.declared.plan.Settled.{Settled}
 use Rattle.morph_base.specs.Transactions.{Transaction, by_time}
@@ -26,7 +27,7 @@ pub record Tallied (done : List (List Transaction)) (plans : List Plan) (t : Tal
   pub ran : AreRunFrom opening_state done plans
   pub counts : IsTallyOf done plans t
   pub few_batches : t.batches ≤ t.events
-  pub few_ops : t.ops ≤ 40960 * t.batches
+  pub few_ops : t.ops ≤ EVENT_OPS * EVENTS * t.batches
   pub few_rolled : t.rolled ≤ t.ops
 
 pub few_stale : (p : Plan) → stale_count p ≤ op_count p
@@ -83,7 +84,7 @@ pub tallied_more : (done : List (List Transaction)) (plans : List Plan) (t t' : 
     Tallied (done ++ batch ∷ []) (plans ++ p ∷ []) t'
 tallied_more done plans t t' batch p fs so_far adds made told some =
     let counts = so_far.counts in
-    let few_ops : op_count p ≤ 40960 = op_count-small p made.valid.plan in
+    let few_ops : op_count p ≤ EVENT_OPS * EVENTS = op_count-small p made.valid.plan in
     let few_rolled : stale_count p ≤ op_count p = few_stale p in
     record {
       ran = ran_more opening_state done plans batch p so_far.ran made;

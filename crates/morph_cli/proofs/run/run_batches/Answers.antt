@@ -14,7 +14,7 @@ use Rattle.morph_cli.specs.Notes.{noted, batch_note, closing_notes}
 use Rattle.morph_cli.specs.Outputs.{outputs_of}
 use Rattle.morph_cli.specs.Runs.{layout_of}
 use Rattle.morph_cli.specs.Text.{told_values, refused_text, counts_line}
-use Rattle.morph_cli.proofs.Between.{course_of, error_is, fates-many, between_start, between_batch, tally_few, ends_at_once, told_at_once, ends_fault, told_fault, ends_in_batch, told_cut_in_batch}
+use Rattle.morph_cli.proofs.Between.{course_of, error_is, fates-many, between_start, between_batch, tally_few, ends_fault, told_fault, ends_in_batch, told_cut_in_batch}
 use Rattle.morph_cli.proofs.Ending.{ends_memory, ends_complete, ends_refused, ends_cut, told_short, told_at_end, told_cut_at_end}
 use Rattle.morph_cli.proofs.Noting.{risen_in_part}
 use Rattle.morph_cli.proofs.Tallying.{few_stale, length-settled_fates}

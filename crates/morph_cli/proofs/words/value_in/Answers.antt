@@ -1,4 +1,3 @@
-use Rattle.std.proofs.Common.{ℕ, List}
 use Rattle.morph_cli.proofs.WordLaws.{stripped}
 use Rattle.morph_cli.proofs.words.value_in.Goals as goal
 

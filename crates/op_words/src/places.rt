@@ -14,7 +14,7 @@ pub fn places_of(plan: &Plan, op: u32) -> u8
     ensures few { result ≤ READS }
     ensures some { 0 < result }
 {
-    plan.ops.get(op as usize).op.n_params + 1
+    plan.ops.get(op as usize).places() as u8
 }
 
 /// Where a place of an operation gets its value.

@@ -1,0 +1,118 @@
+-- What calls of the board add to a view, one after another.
+use Rattle.std.proofs.Common.{◌≡◌, ◌≢◌, ◌⊎◌, ℕ, zero, suc, ◌+◌, ◌<◌, ◌≤◌, Bool, true, false, List, [], ◌∷◌, ◌++◌, length, get_or, refl, sym, ap, ◌∙◌, subst, inl, inr, arith, append_assoc, not-suc-le-zero, zero-lt-suc, length-append, cond, Option, Some, None}
+use Rattle.std.specs.Prelude.{Contains, slice_index}
+use Rattle.std.proofs.lemmas.Bool.{false≢true, cases_eq}
+use Rattle.std.proofs.lemmas.List.Sums.{sum_by-append}
+use Rattle.std.proofs.Math.ListN.{get_or-append}
+use Rattle.std.proofs.Math.Seq.{get_or-append_seam}
+use Rattle.std.proofs.lemmas.List.Elements.{Contains-append_left, Contains-append_right, Contains-append_cases}
+use Rattle.morph_base.specs.declared.plan.Plan.{Plan}
+use Rattle.morph_base.specs.declared.plan.Origin.{Origin}
+use Rattle.morph_base.specs.declared.plan.Origin.TheVariants.{Base, Op as Written}
+use Rattle.morph_base.specs.declared.word.OpWord.{OpWord}
+use Rattle.morph_base.specs.declared.word.OpState.{OpState}
+use Rattle.morph_base.specs.declared.word.OpState.TheVariants.{Blocked, Ready, Claimed, Executed, Failed, Spread, Settled, SettledAborted}
+use Rattle.morph_base.specs.Plans.{origin_at}
+use Rattle.morph_base.specs.Words.{is_settled, is_idle}
+use Rattle.interleaving_core.specs.declared.event.CoreEvent.{CoreEvent}
+use Rattle.interleaving_core.specs.Core.{blocked, ready, claimed, places, has_run}
+use Rattle.interleaving_core.specs.Counts.{evaluated, is_finish}
+use Rattle.op_words.specs.declared.trail.Item.{Item}
+use Rattle.op_words.specs.declared.trail.View.{View}
+use Rattle.op_words.specs.declared.answers.Fetched.TheVariants.{Value, Unready}
+use Rattle.op_words.specs.declared.answers.Claimed.TheVariants.{Held as HeldAt, Not as Unheld}
+use Rattle.op_words.specs.declared.answers.Readied.TheVariants.{Made, Not as Unmade}
+use Rattle.op_words.specs.declared.answers.Outcome.{Outcome}
+use Rattle.op_words.specs.Trails.{loaded, left, HasLast, IsDisturbed, IsReached, IsSourceOf, IsSteadyAt, IsSteady, IsCalmAt, IsCalm, OwnOn, OwnOpen, NoneOwn}
+use Rattle.op_words.specs.Views.{IsLone, Agrees, Adds, Goes, Holds}
+use Rattle.op_words.specs.Calls.{Elsewhere, IsRead, PeekDoes, MakeDoes, ClaimDoes, FetchDoes, FinishDoes, GiveBackDoes}
+use Rattle.op_words.proofs.Trailing.{append_none, along_none, along-append, along_contains, cases_word, last_later, one_last, last-one, stays_or, disturbed_later, disturbed_more}
+use Rattle.op_eval.specs.declared.answers.Evaluation.TheVariants.{Evaluated, Blocked as BlockedOn, Busy as BusyAt, Already}
+use Rattle.op_eval.specs.Evaluations.{EvaluationDoes, IsEvaluatingSoFar, SoFar, IsFetchedUpTo, IsStopped}
+
+pub adds_then : {v u w : View} {xs ys : List Item} → Adds v u xs → Adds u w ys → Adds v w (xs ++ ys)
+adds_then {v} {u} {w} {xs} {ys} first second = record {
+  trail = second.trail ∙ ap (λ zs. zs ++ ys) first.trail ∙ append_assoc v.trail xs ys;
+  notes = second.notes ∙ ap (λ zs. zs ++ ys) first.notes ∙ append_assoc v.notes xs ys;
+  records = λ r there. second.records r (first.records r there);
+  decisions = λ d there. second.decisions d (first.decisions d there);
+  published = λ e there. second.published e (first.published e there);
+  settlings = λ x there. second.settlings x (first.settlings x there);
+  tag = second.tag ∙ first.tag;
+  made = second.made ∙ first.made;
+  room = second.room ∙ first.room;
+  joined = second.joined ∙ first.joined;
+  places = second.places ∙ first.places;
+  events = (second.events.0 ++ first.events.0, second.events.1 ∙ ap (λ es. second.events.0 ++ es) first.events.1 ∙ sym (append_assoc second.events.0 first.events.0 v.events));
+  agree = second.agree;
+  steady = along-append (IsSteadyAt v.tag) v.notes xs ys first.steady (subst (λ zs. IsSteady v.tag zs ys) first.notes (subst (λ t. IsSteady t u.notes ys) first.tag second.steady));
+  calm = λ lone. along-append IsCalmAt v.trail xs ys (first.calm lone) (subst (λ zs. IsCalm zs ys) first.trail (second.calm (record { root = first.tag ∙ lone.root; alone = first.made ∙ lone.alone })));
+}
+
+pub goes_then : {v u w : View} {xs ys : List Item} → Goes v u xs → Goes u w ys → Goes v w (xs ++ ys)
+goes_then first second = record { adds = adds_then first.adds second.adds; free = second.free }
+
+pub adds_none : (v : View) → Agrees v → Adds v v []
+adds_none v agrees = record {
+  trail = sym (append_none v.trail);
+  notes = sym (append_none v.notes);
+  records = λ r there. there;
+  decisions = λ d there. there;
+  published = λ e there. there;
+  settlings = λ x there. there;
+  tag = refl;
+  made = refl;
+  room = refl;
+  joined = refl;
+  places = refl;
+  events = ([], refl);
+  agree = agrees;
+  steady = along_none (IsSteadyAt v.tag) v.notes;
+  calm = λ lone. along_none IsCalmAt v.trail;
+}
+
+-- operations that were evaluated stay so
+pub evaluated_more : (v u : View) → (es : List CoreEvent) × (u.events ≡ es ++ v.events) → evaluated v.events ≤ evaluated u.events
+evaluated_more v u more =
+    let e : evaluated u.events ≡ evaluated more.0 + evaluated v.events = ap evaluated more.1 ∙ sum_by-append (λ x. cond (is_finish x) 1 0) more.0 v.events in
+    omega arith
+
+-- a claimed word that was loaded is another hand's
+pub claimed_other : {v u : View} {xs : List Item} → Adds v u xs → {o : ℕ} {w : OpWord} → Contains xs (loaded o w) → w.state ≡ Claimed → w.by ≢ v.tag
+claimed_other {v} {u} {xs} adds {o} {w} found claimed =
+    let at = along_contains (IsSteadyAt v.tag) v.notes xs adds.steady (loaded o w) found in at.3.claimed refl claimed
+
+-- ---- items
+
+pub one_is_last : (t : Item) → HasLast t.op (t ∷ []) t.word
+one_is_last t = record { is = λ d. last-one t.op d t refl }
+
+pub one_none : (t : Item) → t.own ≡ false → NoneOwn (t ∷ [])
+one_none t own x found = at found.0 found.1 found.2
+  where
+    at : (k : ℕ) → k < 1 → get_or (t ∷ []) k x ≡ x → x.own ≡ false
+    at zero lt is = sym (ap (λ (y : Item). y.own) is) ∙ own
+    at (suc k) lt is = absurd (omega arith)
+
+-- nobody of this hand changed o in ys, and it was found with another word than before it
+pub found_other : {o : ℕ} {a b : OpWord} (xs ys : List Item) → HasLast o xs a → HasLast o ys b → a ≢ b → NoneOwn ys → IsDisturbed o (xs ++ ys)
+found_other {o} {a} {b} xs ys known found differs none =
+    elim (stays_or xs ys known (λ t inside same. none t inside)) [
+      | inl last ↦ absurd (differs (one_last last (last_later xs found)))
+      | inr is ↦ is
+    ]
+
+pub own_append : {o : ℕ} (xs ys : List Item) → OwnOn o xs → OwnOn o ys → OwnOn o (xs ++ ys)
+own_append {o} xs ys first second t inside is = elim (Contains-append_cases xs ys t inside) [ inl found ↦ first t found is | inr found ↦ second t found is ]
+
+pub none_own : {o : ℕ} (xs : List Item) → NoneOwn xs → OwnOn o xs
+none_own xs none t inside is = absurd (false≢true (sym (none t inside) ∙ is))
+
+pub open_append : (xs ys : List Item) → OwnOpen xs → OwnOpen ys → OwnOpen (xs ++ ys)
+open_append xs ys first second t inside is = elim (Contains-append_cases xs ys t inside) [ inl found ↦ first t found is | inr found ↦ second t found is ]
+
+pub none_open : (xs : List Item) → NoneOwn xs → OwnOpen xs
+none_open xs none t inside is = absurd (false≢true (sym (none t inside) ∙ is))
+
+pub far_then : {o : ℕ} {start v u : View} {ys xs : List Item} → SoFar o start v ys → Goes v u xs → OwnOn o xs → OwnOpen xs → SoFar o start u (ys ++ xs)
+far_then {o} {start} {v} {u} {ys} {xs} far goes own open_own = record { goes = goes_then far.goes goes; own = own_append ys xs far.own own; open_own = open_append ys xs far.open_own open_own }

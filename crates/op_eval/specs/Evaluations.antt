@@ -1,0 +1,133 @@
+-- What evaluating an operation tells: of each answer its cause, by the words that were loaded and left in the call.
+use Rattle.std.specs.Prelude.{◌≡◌, ◌≢◌, ℕ, ◌+◌, ◌<◌, ◌≤◌, ◌⊎◌, true, false, List, [], ◌∷◌, ◌++◌, length, Contains, Option, Some, None, slice_index}
+use Rattle.morph_base.specs.declared.plan.Plan.{Plan}
+use Rattle.morph_base.specs.declared.word.OpState.TheVariants.{Claimed}
+use Rattle.morph_base.specs.declared.word.OpWord.{OpWord}
+use Rattle.morph_base.specs.Functions.{value_of}
+use Rattle.morph_base.specs.Plans.{op_at, op_count, origin_at}
+use Rattle.morph_base.specs.Words.{is_idle, is_settled}
+use Rattle.interleaving_core.specs.Core.{blocked, claimed, entry_of, finished, has_run, places}
+use Rattle.interleaving_core.specs.Counts.{evaluated}
+use Rattle.op_words.specs.declared.answers.Outcome.{Outcome}
+use Rattle.op_words.specs.declared.trail.Item.{Item}
+use Rattle.op_words.specs.declared.trail.View.{View}
+use Rattle.op_words.specs.Trails.{loaded, left, HasLast, IsDisturbed, IsReached, IsSourceOf, OwnOn, OwnOpen}
+use Rattle.op_words.specs.Views.{Adds, Goes, Holds, HasRecordsSeen}
+use Rattle.op_words.specs.Calls.{answer_of, Elsewhere, IsRead, IsSourceOpen}
+use Rattle.op_eval.specs.declared.answers.Evaluation.{Evaluation}
+use Rattle.op_eval.specs.declared.answers.Evaluation.TheVariants.{Evaluated, Blocked as BlockedOn, Busy as BusyAt, Already}
+use Rattle.op_eval.specs.declared.evaluating.Stopped.{Stopped}
+use Rattle.op_eval.specs.declared.runner.Runner.{Runner}
+use Rattle.op_eval.specs.Running.{hand_view, counted}
+
+module _ (p : Plan) (cap o : ℕ) (v u : View) (xs : List Item) where
+  -- evaluated: it was found idle, and left as what its function makes of the values that were loaded of its sources. `first`
+  -- is the word that the call loaded first
+  pub record IsEvaluated (first : OpWord) (attempt : ℕ) (r : Outcome) : Type 0 where
+    pub word : OpWord
+    pub last : HasLast o xs word
+    pub ran : has_run word.state ≡ true
+    pub seen : Contains xs (left o word)
+    pub attempt_is : word.attempt ≡ attempt
+    pub began : is_idle first.state ≡ true
+    pub kept : (attempt ≡ first.attempt) ⊎ IsDisturbed o xs
+    pub values : List ℕ
+    pub word_is : word ≡ finished (op_at p o).op attempt values
+    pub outcome_is : r ≡ answer_of (value_of (op_at p o).op values)
+    pub shown : Contains u.published (entry_of o word)
+    pub finished_more : evaluated v.events < evaluated u.events
+    pub records : HasRecordsSeen p u o word values
+    pub read : (j : ℕ) → j < places p o → IsRead xs (origin_at p o j) (slice_index values j)
+
+  -- a source has no value, or at the last attempt is not settled
+  pub record IsBlocked (first : OpWord) (at : ℕ) (w : OpWord) : Type 0 where
+    pub began : is_idle first.state ≡ true
+    pub source : IsSourceOpen p cap o v u xs at w
+    pub other : at ≢ o
+    -- the claim was given back, or never made
+    pub back : (z : OpWord) → HasLast o xs z → (z ≡ blocked first.attempt) ⊎ IsDisturbed o xs
+    pub cause : (is_idle w.state ≡ true) ⊎ ((first.attempt ≡ cap + 1) ⊎ IsDisturbed o xs)
+    pub at_last : (is_idle w.state ≡ true) ⊎ Contains xs (left o (claimed (cap + 1) v.tag))
+
+  -- it was seen claimed by another hand, or another hand changed it during the call
+  pub record IsBusy (first : OpWord) (w : OpWord) : Type 0 where
+    pub began : is_idle first.state ≡ true
+    pub last : HasLast o xs w
+    pub seen : Contains xs (loaded o w)
+    pub cause : (w.state ≡ Claimed) ⊎ IsDisturbed o xs
+    pub by_another : w.state ≡ Claimed → w.by ≢ v.tag
+
+  -- its word, as it was loaded first and alone, was evaluated or settled
+  pub record IsAlready (w : OpWord) : Type 0 where
+    pub only : xs ≡ loaded o w ∷ []
+    pub there : is_idle w.state ≡ false
+
+  abbrev pub EvaluationTells : OpWord → Evaluation → Type 0
+  EvaluationTells first (Evaluated attempt r) = IsEvaluated first attempt r
+  EvaluationTells first (BlockedOn source w) = IsBlocked first source w
+  EvaluationTells first (BusyAt w) = IsBusy first w
+  EvaluationTells first (Already w) = IsAlready w
+
+-- the call adds the words to the view. Its own steps are on this operation alone, and settle nothing
+pub record EvaluationDoes (p : Plan) (cap o : ℕ) (v u : View) (r : Evaluation) : Type 0 where
+  pub words : List Item
+  pub goes : Goes v u words
+  pub own : OwnOn o words
+  pub open_own : OwnOpen words
+  pub first : OpWord
+  pub rest : List Item
+  pub begins : words ≡ loaded o first ∷ rest
+  pub tells : EvaluationTells p cap o v u words first r
+  pub reached : IsReached p o words
+
+-- what it makes of a runner: its view, the count of its answers, and nothing else
+pub record Tries (p : Plan) (cap o : ℕ) (before after : Runner) (r : Evaluation) : Type 0 where
+  pub in_range : o < op_count p
+  pub does : EvaluationDoes p cap o (hand_view before) (hand_view after) r
+  pub counts : after.answers ≡ counted r before.answers
+  pub kept : after.kept ≡ before.kept
+
+-- ---- on the way
+
+-- own steps so far are on operation o alone, and settle nothing
+pub record SoFar (o : ℕ) (start v : View) (xs : List Item) : Type 0 where
+  pub goes : Goes start v xs
+  pub own : OwnOn o xs
+  pub open_own : OwnOpen xs
+
+-- it began with a load of an idle word, and the last word is w, at that attempt where nothing was disturbed
+pub record IsEvaluatingSoFar (o : ℕ) (start v : View) (xs : List Item) (w : OpWord) : Type 0 where
+  pub far : SoFar o start v xs
+  pub first : OpWord
+  pub rest : List Item
+  pub begins : xs ≡ loaded o first ∷ rest
+  pub began : is_idle first.state ≡ true
+  pub last : HasLast o xs w
+  pub kept : (w.attempt ≡ first.attempt) ⊎ IsDisturbed o xs
+
+-- the values fetched so far, each as it was loaded since the claim
+pub record IsFetchedUpTo (p : Plan) (o a j : ℕ) (v u : View) : Type 0 where
+  pub words : List Item
+  pub adds : Adds v u words
+  pub elsewhere : Elsewhere o words
+  pub values : List ℕ
+  pub holds : Holds u o a values
+  pub count : length values ≡ j
+  pub read : (k : ℕ) → k < j → IsRead words (origin_at p o k) (slice_index values k)
+
+-- a source stopped it
+pub record IsStopped (p : Plan) (cap o a : ℕ) (v u : View) (at : ℕ) (w : OpWord) : Type 0 where
+  pub words : List Item
+  pub adds : Adds v u words
+  pub elsewhere : Elsewhere o words
+  pub values : List ℕ
+  pub holds : Holds u o a values
+  pub source : IsSourceOf p o at
+  pub inside : Contains words (loaded at w)
+  pub settled : is_settled w.state ≡ false
+  pub cause : (is_idle w.state ≡ true) ⊎ (a ≡ cap + 1)
+
+-- all places were fetched, or a source stopped it
+abbrev pub FetchAllTells : Plan → ℕ → ℕ → ℕ → View → View → Option Stopped → Type 0
+FetchAllTells p cap o a v u None = IsFetchedUpTo p o a (places p o) v u
+FetchAllTells p cap o a v u (Some s) = IsStopped p cap o a v u s.source s.word

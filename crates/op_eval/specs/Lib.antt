@@ -1,0 +1,4 @@
+pub mod Evaluations
+pub mod Running
+pub mod Gathering
+pub mod Lending

@@ -1,0 +1,65 @@
+use morph_base::OpWord;
+use op_words::Outcome;
+
+/// What became of an operation that a runner tried to evaluate.
+#[derive(Clone, Copy, Debug, PartialEq, Eq)]
+pub enum Evaluation {
+    /// It was evaluated at this attempt.
+    Evaluated { attempt: u8, outcome: Outcome },
+    /// The named source, as its word was loaded here, had no value; at the last attempt it was not settled.
+    Blocked { source: u32, word: OpWord },
+    /// Another hand holds the operation, or changed it during the call; the word is the one that shows it.
+    Busy { word: OpWord },
+    /// It was evaluated or settled before.
+    Already { word: OpWord },
+}
+
+/// How often each answer of `evaluate` came to a runner. Each number stops at the greatest u64.
+#[derive(Clone, Copy, Debug, PartialEq, Eq)]
+pub struct Answers {
+    pub evaluated: u64,
+    pub blocked: u64,
+    pub busy: u64,
+    pub already: u64,
+}
+
+impl Answers {
+    ghost use Rattle.std.specs.Prelude.{◌≡◌};
+    ghost use Rattle.op_eval.specs.Running.{no_answers, counted};
+
+    /// No answers yet.
+    pub(crate) fn none() -> Answers
+        ensures { result ≡ no_answers }
+    {
+        Answers {
+            evaluated: 0,
+            blocked: 0,
+            busy: 0,
+            already: 0,
+        }
+    }
+
+    /// Counts one more answer.
+    pub(crate) fn count(&mut self, answer: Evaluation)
+        ensures { self.new ≡ counted answer self.old }
+    {
+        match answer {
+            Evaluation::Evaluated { .. } => self.evaluated = self.evaluated.saturating_add(1),
+            Evaluation::Blocked { .. } => self.blocked = self.blocked.saturating_add(1),
+            Evaluation::Busy { .. } => self.busy = self.busy.saturating_add(1),
+            Evaluation::Already { .. } => self.already = self.already.saturating_add(1),
+        }
+    }
+}
+
+/// Why an event was not settled by the worker that tried it.
+#[derive(Clone, Copy, Debug, PartialEq, Eq)]
+pub struct Left {
+    pub event: u32,
+    /// The operation whose word stood in the way, one of the event or one of their sources.
+    pub at: u32,
+    /// That word, as the worker saw it.
+    pub word: OpWord,
+    /// Whether another hand was at work there.
+    pub busy: bool,
+}

@@ -1,0 +1,132 @@
+ghost use Rattle.std.specs.Prelude.{◌≡◌, ℕ, ◌<◌, ◌≤◌, List, [], None};
+ghost use Rattle.morph_base.specs.declared.word.OpState.TheVariants.{Ready, Blocked};
+ghost use Rattle.morph_base.specs.declared.word.OpWord.{OpWord as Word};
+ghost use Rattle.morph_base.specs.Plans.{op_count};
+ghost use Rattle.interleaving_core.specs.Core.{places};
+ghost use Rattle.op_words.specs.declared.trail.Item.{Item};
+ghost use Rattle.op_words.specs.declared.trail.View.{View};
+ghost use Rattle.op_words.specs.Hands.{plan_of, cap_of, view_of, IsHandOf};
+ghost use Rattle.op_words.specs.Views.{Agrees, Holds};
+ghost use Rattle.op_eval.specs.Evaluations.{EvaluationDoes, FetchAllTells, IsEvaluatingSoFar, Tries};
+ghost use Rattle.op_eval.specs.Running.{hand_view};
+
+use crate::answers::Evaluation;
+use crate::runner::Runner;
+use morph_base::{OpState, OpWord, Plan};
+use op_words::{Board, Claimed, Fetched, Hand, Readied, places_of};
+
+/// The source that stopped an evaluation, with its word.
+#[derive(Clone, Copy, Debug, PartialEq, Eq)]
+pub(crate) struct Stopped {
+    pub(crate) source: u32,
+    pub(crate) word: OpWord,
+}
+
+/// Fetches all places of the operation that the hand holds, or up to the first source that stops it.
+fn fetch_all(board: &Board, hand: &mut Hand, plan: &Plan, op: u32) -> Option<Stopped>
+    requires hand { IsHandOf board.now hand.old }
+    requires plan { plan.now ≡ plan_of board.now }
+    requires in_range { op < op_count plan.now }
+    requires held { (a : ℕ) × Holds (view_of hand.old) op a [] }
+    ensures hand { IsHandOf board.now hand.new }
+    ensures does { (a : ℕ) → Holds (view_of hand.old) op a []
+        → FetchAllTells plan.now (cap_of board.now) op a (view_of hand.old) (view_of hand.new) result }
+{
+    for j in 0..places_of(plan, op) {
+        match board.fetch(hand, plan, op, j) {
+            Fetched::Value(_) => {}
+            Fetched::Unready { source, word } => return Some(Stopped { source, word }),
+        }
+    }
+    None
+}
+
+/// Claims an operation that was found or made ready, fetches its places and finishes it, or gives it back where a source stops
+/// that.
+fn hold(board: &Board, hand: &mut Hand, plan: &Plan, op: u32) -> Evaluation
+    requires hand { IsHandOf board.now hand.old }
+    requires plan { plan.now ≡ plan_of board.now }
+    requires in_range { op < op_count plan.now }
+    requires free { (view_of hand.old).claim ≡ None }
+    ensures hand { IsHandOf board.now hand.new }
+    ensures does { (start : View) (xs : List Item) (w : Word) → IsEvaluatingSoFar op start (view_of hand.old) xs w → w.state ≡ Ready
+        → EvaluationDoes plan.now (cap_of board.now) op start (view_of hand.new) result }
+{
+    match board.claim(hand, plan, op) {
+        Claimed::Not { word } => Evaluation::Busy { word },
+        Claimed::Held { attempt } => match fetch_all(board, hand, plan, op) {
+            None => {
+                let outcome = board.finish(hand, plan, op);
+                Evaluation::Evaluated { attempt, outcome }
+            }
+            Some(Stopped { source, word }) => {
+                board.give_back(hand, plan, op);
+                Evaluation::Blocked { source, word }
+            }
+        },
+    }
+}
+
+/// Makes an operation ready that was found blocked, and goes on.
+fn make(board: &Board, hand: &mut Hand, plan: &Plan, op: u32) -> Evaluation
+    requires hand { IsHandOf board.now hand.old }
+    requires plan { plan.now ≡ plan_of board.now }
+    requires in_range { op < op_count plan.now }
+    requires free { (view_of hand.old).claim ≡ None }
+    ensures hand { IsHandOf board.now hand.new }
+    ensures does { (start : View) (xs : List Item) (w : Word) → IsEvaluatingSoFar op start (view_of hand.old) xs w → w.state ≡ Blocked
+        → EvaluationDoes plan.now (cap_of board.now) op start (view_of hand.new) result }
+{
+    match board.ready(hand, plan, op) {
+        Readied::Made => hold(board, hand, plan, op),
+        Readied::Not { at, word } => {
+            if at == op {
+                Evaluation::Busy { word }
+            } else {
+                Evaluation::Blocked { source: at, word }
+            }
+        }
+    }
+}
+
+/// Loads an operation's word, and evaluates it where it is idle.
+fn evaluate_by(board: &Board, hand: &mut Hand, plan: &Plan, op: u32) -> Evaluation
+    requires hand { IsHandOf board.now hand.old }
+    requires plan { plan.now ≡ plan_of board.now }
+    requires in_range { op < op_count plan.now }
+    requires free { (view_of hand.old).claim ≡ None }
+    ensures hand { IsHandOf board.now hand.new }
+    ensures does { EvaluationDoes plan.now (cap_of board.now) op (view_of hand.old) (view_of hand.new) result }
+{
+    let word = board.peek(hand, plan, op);
+    match word.state {
+        OpState::Blocked => make(board, hand, plan, op),
+        OpState::Ready => hold(board, hand, plan, op),
+        OpState::Claimed => Evaluation::Busy { word },
+        OpState::Executed => Evaluation::Already { word },
+        OpState::Failed => Evaluation::Already { word },
+        OpState::Spread => Evaluation::Already { word },
+        OpState::Settled => Evaluation::Already { word },
+        OpState::SettledAborted => Evaluation::Already { word },
+    }
+}
+
+/// Evaluates an operation: it is made ready where it is blocked, claimed, its places are fetched in order, and it is finished.
+/// Where a source stops that, the claim is given back.
+///
+/// [`Evaluation::Blocked`] comes only where the named source, as its word was loaded here, was neither evaluated nor settled, or
+/// not settled at the last attempt; [`Evaluation::Busy`] only where the operation was seen claimed by another hand or was changed
+/// by one during the call; [`Evaluation::Already`] exactly where the word loaded first was evaluated or settled. The runner holds
+/// nothing before and after. The answer is counted in the runner's `answers`. The call takes no memory and waits for nobody.
+pub fn evaluate(board: &Board, runner: &mut Runner, plan: &Plan, op: u32) -> Evaluation
+    requires hand { IsHandOf board.now runner.old.hand }
+    requires plan { plan.now ≡ plan_of board.now }
+    requires in_range { op < op_count plan.now }
+    requires free { (hand_view runner.old).claim ≡ None }
+    ensures hand { IsHandOf board.now runner.new.hand }
+    ensures does { Tries plan.now (cap_of board.now) op runner.old runner.new result }
+{
+    let answer = evaluate_by(board, &mut runner.hand, plan, op);
+    runner.answers.count(answer);
+    answer
+}

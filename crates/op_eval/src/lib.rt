@@ -1,0 +1,26 @@
+//! Evaluating operations on the shared board, by runners: a worker's hand, what it was answered, and what it left.
+//!
+//! [`evaluate`] takes a runner's way through one operation: it is made ready where it is blocked, claimed, its places are fetched
+//! in order, and it is finished; where a source stops that, the claim is given back. The answer names the cause, with the
+//! word that shows it, and the runner counts it. [`Runners`] are the runners of a board: one for the root and one for each
+//! hand that is split off for a worker.
+//!
+//! ```text
+//! let (board, root) = Board::new(alloc, &plan, 1, 0)?;
+//! let mut runners = Runners::new(alloc, &board, root, 4, plan.events.len() as u32)?;
+//! let answer = evaluate(&board, runners.runner(1), &plan, 0);
+//! let (root, left) = runners.gather(&board);
+//! ```
+//!
+//! Below it stand `op_words`, the board, `interleaving_core`, whose words its contracts cite, and `morph_base`.
+#![tactic(auto)]
+
+mod answers;
+mod evaluating;
+mod runner;
+mod runners;
+
+pub use answers::{Answers, Evaluation, Left};
+pub use evaluating::evaluate;
+pub use runner::Runner;
+pub use runners::Runners;

@@ -10,3 +10,5 @@ pub mod Joining
 pub mod Opening
 pub mod Adding
 pub mod Handing
+pub mod Sizes
+pub mod Taking

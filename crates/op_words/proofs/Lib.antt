@@ -18,3 +18,5 @@ pub mod Finishing
 pub mod Keeping
 pub mod Storing
 pub mod Fetching
+pub mod Sizes
+pub mod Taking

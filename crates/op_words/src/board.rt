@@ -1,5 +1,5 @@
 ghost use Rattle.std.specs.Prelude.{◌≡◌, ◌+◌};
-ghost use Rattle.op_words.specs.Layout.{counter_base};
+ghost use Rattle.op_words.specs.Layout.{counter_base, level_index};
 
 use crate::answers::Counts;
 use crate::rule::{Known, Rule};
@@ -9,6 +9,7 @@ use morph_base::READS;
 use std::alloc::Global;
 
 mod calls;
+mod counters;
 mod hands;
 mod sources;
 mod steps;
@@ -31,8 +32,11 @@ pub struct Board {
     table: Table<(), Option<View>, Known, Rule, Global>,
     /// The last attempt at which values that are not settled may be read.
     cap: u8,
+    /// The place of the level word; the counters stand behind it.
+    level: usize,
     ghost sized: { table.shared.table_id.words ≡ counter_base table.shared.key.plan.value + table.shared.key.counters },
     ghost capped: { cap ≡ table.shared.key.cap },
+    ghost leveled: { level ≡ level_index table.shared.key.plan.value },
 }
 
 /// One who steps on a board: a thread's right to change it, and what it holds.

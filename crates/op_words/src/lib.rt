@@ -4,6 +4,7 @@
 
 mod answers;
 mod board;
+mod counting;
 mod places;
 mod rule;
 mod trail;

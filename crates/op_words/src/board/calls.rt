@@ -40,6 +40,7 @@ impl Board {
         ensures view { IfOk result (λ r. view_of r.1 ≡ first_view r.0.table.shared.key.plan cap) }
     {
         let words = first_words(alloc, plan, counters)?;
+        let level = words.len() - counters as usize - 1;
         let known = Known {
             plan: Snapshot::of(plan),
             cap,
@@ -53,7 +54,7 @@ impl Board {
             held: None,
             counts: Counts::none(),
         };
-        Ok((Board { table, cap }, root))
+        Ok((Board { table, cap, level }, root))
     }
 
     /// Loads the word of an operation. It is no older than what the hand saw or made of it.

@@ -1,0 +1,64 @@
+//! Counters, of which each number goes to one hand, and the level word.
+ghost use Rattle.std.specs.Prelude.{◌≡◌, ◌<◌};
+ghost use Rattle.op_words.specs.Counting.{taking, times, Takes};
+ghost use Rattle.op_words.specs.Rule.{most_taken};
+ghost use Rattle.op_words.specs.Hands.{plan_of, counters_of, view_of, IsHandOf};
+
+use super::{Board, Hand};
+use crate::counting::{Pass, Take};
+
+/// What the level word is before any level was put there.
+const NO_LEVEL: u32 = u32::MAX;
+
+impl Board {
+    /// Takes the next number of a counter. Each number below the counter goes to one hand.
+    ///
+    /// A hand takes fewer than 2^59 numbers from a counter, so that sixteen hands never reach its end.
+    pub fn take(&self, hand: &mut Hand, counter: u32) -> u64
+        requires hand { IsHandOf self.now hand.old }
+        requires in_range { counter < counters_of self.now }
+        requires few { times counter (view_of hand.old).places < most_taken }
+        ensures hand { IsHandOf self.now hand.new }
+        ensures view { view_of hand.new ≡ taking counter result (view_of hand.old) }
+        ensures takes { Takes counter result (view_of hand.old) }
+    {
+        let word = self.level + 1 + counter as usize;
+        self.table.shared.fetch_add::<Take>(&mut hand.seat, word, 1)
+    }
+
+    /// Puts a level into the level word, where it is lower than the one there.
+    pub fn lower(&self, hand: &mut Hand, level: u32)
+        requires hand { IsHandOf self.now hand.old }
+        ensures hand { IsHandOf self.now hand.new }
+        ensures view { view_of hand.new ≡ view_of hand.old }
+    {
+        self.table
+            .shared
+            .fetch_min::<Pass>(&mut hand.seat, self.level, u64::from(level));
+    }
+
+    /// The level in the level word.
+    pub fn level(&self, hand: &mut Hand) -> u32
+        requires hand { IsHandOf self.now hand.old }
+        ensures hand { IsHandOf self.now hand.new }
+        ensures view { view_of hand.new ≡ view_of hand.old }
+    {
+        let level = self
+            .table
+            .shared
+            .load::<Pass>(&mut hand.seat, self.level);
+        level.min(u64::from(NO_LEVEL)) as u32
+    }
+
+    /// Empties the level word between two passes, while the board is lent to nobody else: the level there is then the greatest.
+    pub fn reset_level(&mut self, root: &mut Hand)
+        requires hand { IsHandOf self.old root.old }
+        ensures hand { IsHandOf self.new root.new }
+        ensures view { view_of root.new ≡ view_of root.old }
+        ensures plan { plan_of self.new ≡ plan_of self.old }
+    {
+        self.table
+            .shared
+            .store::<Pass>(&mut root.seat, self.level, u64::from(NO_LEVEL));
+    }
+}

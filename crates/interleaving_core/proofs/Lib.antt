@@ -15,3 +15,4 @@ pub mod Shown
 pub mod Places
 pub mod Deposit
 pub mod Sighting
+pub mod Ordering

@@ -18,3 +18,4 @@ pub mod Finishing
 pub mod Keeping
 pub mod Storing
 pub mod Fetching
+pub mod Holding

@@ -7,3 +7,4 @@ pub mod Rule
 pub mod Plays
 pub mod Hands
 pub mod Stepping
+pub mod Kinds

@@ -4,6 +4,7 @@
 
 mod answers;
 mod board;
+pub mod laws;
 mod places;
 mod rule;
 mod trail;

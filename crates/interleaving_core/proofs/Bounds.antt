@@ -1,10 +1,10 @@
 -- Bounds on what a run counts.
 use Rattle.std.proofs.Common.{◌≡◌, ◌≢◌, ◌⊎◌, ℕ, zero, suc, ◌+◌, ◌*◌, ◌<◌, ◌≤◌, Bool, true, false, cond, ◌&&◌, eqb, List, [], ◌∷◌, ◌++◌, length, get_or, refl, sym, ap, ◌∙◌, subst, inl, inr, arith, Option, Some, None, not-suc-le-zero, add-one, zero-lt-suc, suc-le-suc}
-use Rattle.std.specs.Prelude.{Contains, All, count_by, sum_by, filter, ◌==◌, ◌||◌}
+use Rattle.std.specs.Prelude.{Contains, All, count_by, sum_by, filter, ◌==◌}
 use Rattle.std.proofs.lemmas.Bool.{false≢true, cases_eq, cases_lt, cases_Bool, eq-eqb, ne_eqb, eqb-true, and_from, and_parts}
 use Rattle.std.proofs.lemmas.List.Sums.{sum_by-cons, sum_by_push, length-filter}
 use Rattle.std.proofs.Math.Nat.{mul_comm}
-use Rattle.std.proofs.lemmas.List.Elements.{Contains-get_or, All-filter, filter_passes, All-get_or}
+use Rattle.std.proofs.lemmas.List.Elements.{Contains-get_or, All-filter, filter_passes}
 use Rattle.morph_base.specs.Limits.{most_attempts}
 use Rattle.morph_base.specs.declared.plan.Plan.{Plan}
 use Rattle.morph_base.specs.declared.word.OpState.{OpState}
@@ -18,11 +18,11 @@ use Rattle.morph_base.proofs.LevelLaws.{below_more}
 use Rattle.interleaving_core.specs.declared.entry.Entry.{Entry}
 use Rattle.interleaving_core.specs.declared.event.CoreEvent.{CoreEvent}
 use Rattle.interleaving_core.specs.declared.event.CoreEvent.TheVariants.{Ready as ReadyStep, Claim, Fetch, Finish, GiveBack, Spread as SpreadStep, RollBack, Decide, Settle}
-use Rattle.interleaving_core.specs.Core.{Core, start, put, fetched, is_shown, ended, entries_at, entry_of}
+use Rattle.interleaving_core.specs.Core.{Core, put, fetched, is_shown, ended, entries_at, entry_of}
 use Rattle.interleaving_core.specs.Steps.{May, after, settling, end_of, spread_of, Run}
 use Rattle.interleaving_core.specs.Soundness.{IsSound, IsSoundAt}
 use Rattle.interleaving_core.specs.Schedules.{TellsSteps, shows}
-use Rattle.interleaving_core.proofs.Basics.{put_here, put_else, count_more, count_none, count_some, entries-more_else, entries-more_at, entries-more_other, entries-none}
+use Rattle.interleaving_core.proofs.Basics.{put_here, put_else, count_more, count_none, count_some, entries-more_else, entries-more_at, entries-none}
 use Rattle.interleaving_core.proofs.Counting.{length-classes, count_by-filter}
 use Rattle.interleaving_core.proofs.Machine.{run_sound, few_attempts, run_tells}
 use Rattle.interleaving_core.specs.Counts.{op_of, is_finish, is_spread, is_roll, rises, rises_at, shown_now, evaluated, spreads, rolled}

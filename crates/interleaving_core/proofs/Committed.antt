@@ -1,5 +1,5 @@
 -- Each operation that was settled in a committed event was evaluated.
-use Rattle.std.proofs.Common.{◌≡◌, ℕ, suc, zero, ◌<◌, ◌≤◌, true, false, cond, eqb, List, ap, arith, refl}
+use Rattle.std.proofs.Common.{◌≡◌, ℕ, suc, zero, ◌<◌, ◌≤◌, false, cond, eqb, List, ap, arith, refl}
 use Rattle.std.specs.Prelude.{◌&&◌, ◌==◌, count_by, sum_by}
 use Rattle.std.proofs.lemmas.Bool.{and_from, eq-eqb}
 use Rattle.morph_base.specs.Limits.{most_attempts}

@@ -17,3 +17,4 @@ pub mod Bounds
 pub mod Stale
 pub mod Committed
 pub mod Sighting
+pub mod Ordering

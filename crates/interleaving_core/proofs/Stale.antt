@@ -1,9 +1,7 @@
 -- How many operations are rolled back where exploration ended before any settling, and nothing is spread.
-use Rattle.std.proofs.Common.{◌≡◌, ◌≢◌, ◌⊎◌, ℕ, zero, suc, ◌+◌, ◌<◌, ◌≤◌, Bool, true, false, cond, not, ◌&&◌, eqb, List, [], ◌∷◌, ◌++◌, length, get_or, refl, sym, ap, ◌∙◌, subst, inl, inr, arith, Option, Some, None, map, take, get_or-take, length-take, not-suc-le-zero, suc-le-suc, zero-lt-suc}
-use Rattle.std.specs.Prelude.{Contains, count_by, slice_index, ◌==◌, unwrap_or, cond as if_then}
-use Rattle.std.specs.List.{list_any}
-use Rattle.std.proofs.lemmas.Bool.{false≢true, cases_eq, cases_Bool, eq-eqb, ne_eqb, eqb-true, and_from, and_parts}
-use Rattle.std.proofs.lemmas.Option.{same_Some, none-some}
+use Rattle.std.proofs.Common.{◌≡◌, ◌≢◌, ◌⊎◌, ℕ, zero, suc, ◌+◌, ◌<◌, ◌≤◌, Bool, true, false, cond, not, ◌&&◌, eqb, List, [], ◌∷◌, ◌++◌, length, get_or, refl, sym, ap, ◌∙◌, subst, inl, inr, arith, Option, Some, None, map, take, get_or-take, length-take, not-suc-le-zero, zero-lt-suc}
+use Rattle.std.specs.Prelude.{Contains, count_by, slice_index, ◌==◌, unwrap_or}
+use Rattle.std.proofs.lemmas.Bool.{false≢true, eq-eqb, ne_eqb, eqb-true, and_from, and_parts}
 use Rattle.std.proofs.lemmas.List.Sums.{sum_by-cons}
 use Rattle.std.proofs.lemmas.List.Folds.{list_any_at, list_any_none}
 use Rattle.std.proofs.lemmas.List.Elements.{All-from_get_or}
@@ -26,7 +24,7 @@ use Rattle.interleaving_core.specs.declared.entry.Record.{Record}
 use Rattle.interleaving_core.specs.declared.entry.Entry.{Entry}
 use Rattle.interleaving_core.specs.declared.event.CoreEvent.{CoreEvent}
 use Rattle.interleaving_core.specs.declared.event.CoreEvent.TheVariants.{Ready as ReadyStep, Claim, Fetch, Finish, GiveBack, Spread as SpreadStep, RollBack, Decide, Settle}
-use Rattle.interleaving_core.specs.Core.{Core, ended, executed, failed, finished, entry_of, entries_at, has_run, is_shown, places, IsSettledIn, value_in, IsVersion, HasShown}
+use Rattle.interleaving_core.specs.Core.{Core, ended, entry_of, has_run, is_shown, places, IsSettledIn, value_in, IsVersion}
 use Rattle.interleaving_core.specs.Steps.{May, MayRollBack, after, Run}
 use Rattle.interleaving_core.specs.Soundness.{IsSound, IsSoundAt, HasRecords}
 use Rattle.interleaving_core.specs.Growth.{Grows}

@@ -3,7 +3,7 @@ use Rattle.std.specs.Prelude.{◌≡◌, ℕ, ◌<◌, ◌==◌, ◌&&◌, ◌||
 use Rattle.morph_base.specs.declared.plan.Plan.{Plan}
 use Rattle.morph_base.specs.declared.word.OpState.{OpState}
 use Rattle.morph_base.specs.declared.word.OpState.TheVariants.{Blocked, Ready, Claimed, Executed, Failed, Spread, Settled, SettledAborted}
-use Rattle.morph_base.specs.Plans.{op_count, origin_at, final}
+use Rattle.morph_base.specs.Plans.{op_count, final}
 use Rattle.morph_base.specs.Clean.{source}
 use Rattle.interleaving_core.specs.declared.entry.Record.{Record}
 use Rattle.interleaving_core.specs.declared.event.CoreEvent.{CoreEvent}

@@ -6,3 +6,4 @@ pub mod Schedules
 pub mod Stored
 pub mod Sightings
 pub mod Counts
+pub mod Orders

@@ -2,7 +2,7 @@
 //!
 //! They hold for every valid plan and every cap below [`ATTEMPTS`](morph_base::ATTEMPTS), whatever the order of steps and
 //! however many workers make them. A crate above cites the lemmas behind them, which stand in `proofs/`.
-ghost use Rattle.std.specs.Prelude.{◌≡◌, ℕ, ◌+◌, ◌*◌, ◌<◌, ◌≤◌, Bool, List, ◌++◌, Some, count_by, sum_by};
+ghost use Rattle.std.specs.Prelude.{◌≡◌, ℕ, ◌+◌, ◌*◌, ◌<◌, ◌≤◌, Bool, List, ◌++◌, reverse, Some, count_by, sum_by};
 ghost use Rattle.morph_base.specs.declared.plan.Plan.{Plan};
 ghost use Rattle.morph_base.specs.Limits.{most_attempts};
 ghost use Rattle.morph_base.specs.Plans.{IsPlan, op_count};
@@ -16,6 +16,9 @@ ghost use Rattle.interleaving_core.specs.Steps.{May, after, Run};
 ghost use Rattle.interleaving_core.specs.Soundness.{IsSound};
 ghost use Rattle.interleaving_core.specs.Growth.{Grows};
 ghost use Rattle.interleaving_core.specs.Counts.{rises_at, shown_now, is_committed, evaluated, spreads, rolled, IsExplored, AreAgreed};
+ghost use Rattle.interleaving_core.specs.Orders.{Leads};
+ghost use Rattle.interleaving_core.specs.Sightings.{IsNoted, IsRecordNoted};
+ghost use Rattle.morph_base.specs.declared.word.OpWord.{OpWord};
 ghost use Rattle.interleaving_core.specs.Schedules.{RestsOnAborted, IsFold, IsSettledOnce, HasFewAttempts, TellsSteps, settles};
 
 /// The start is sound; a step that may be made keeps a sound state sound, and loses nothing that was seen before it.
@@ -85,4 +88,19 @@ pub fn counts()
 pub fn stale_guesses_are_rolled_back()
     ensures { (p : Plan) (es fs : List CoreEvent) (c : Core) → IsPlan p → Run p 1 (es ++ fs) c
         → ((b : Core) → Run p 1 fs b → IsExplored p b) → AreAgreed p c → rolled (es ++ fs) ≡ stale_count p }
+{}
+
+/// A list of steps tells the state that it leads to. It can be read in the order in which the steps are made: from the start,
+/// and on from the state after other steps.
+pub fn steps_in_order()
+    ensures same { (p : Plan) (cap : ℕ) (es : List CoreEvent) (c d : Core) → Run p cap es c → Run p cap es d → c ≡ d }
+    ensures reversed { (p : Plan) (cap : ℕ) (es : List CoreEvent) (c : Core) → Run p cap es c → Leads p cap start (reverse es) c }
+    ensures appended { (p : Plan) (cap : ℕ) (es fs : List CoreEvent) (b c : Core) → Run p cap es b → Leads p cap b fs c → Run p cap (reverse fs ++ es) c }
+{}
+
+/// What a worker saw of a word, and of a record under a word, stays true as the state grows; and the present word may be seen.
+pub fn sightings()
+    ensures words { (p : Plan) (c d : Core) (o : ℕ) (w : OpWord) → Grows p c d → IsNoted c o w → IsNoted d o w }
+    ensures records { (p : Plan) (c d : Core) (o j x : ℕ) (w : OpWord) → Grows p c d → o < op_count p → IsRecordNoted c o j x w → IsRecordNoted d o j x w }
+    ensures present { (p : Plan) (cap : ℕ) (c : Core) (o : ℕ) → IsSound p cap c → o < op_count p → IsNoted c o (c.word o) }
 {}

@@ -1,34 +1,20 @@
 -- What calls of the board add to a view, one after another.
-use Rattle.std.proofs.Common.{◌≡◌, ◌≢◌, ◌⊎◌, ℕ, zero, suc, ◌+◌, ◌<◌, ◌≤◌, Bool, true, false, List, [], ◌∷◌, ◌++◌, length, get_or, refl, sym, ap, ◌∙◌, subst, inl, inr, arith, append_assoc, not-suc-le-zero, zero-lt-suc, length-append, cond, Option, Some, None}
-use Rattle.std.specs.Prelude.{Contains, slice_index}
-use Rattle.std.proofs.lemmas.Bool.{false≢true, cases_eq}
+use Rattle.std.proofs.Common.{◌≡◌, ◌≢◌, ℕ, zero, suc, ◌+◌, ◌<◌, ◌≤◌, false, List, [], ◌∷◌, ◌++◌, get_or, refl, sym, ap, ◌∙◌, subst, inl, inr, arith, append_assoc, cond}
+use Rattle.std.specs.Prelude.{Contains}
+use Rattle.std.proofs.lemmas.Bool.{false≢true}
 use Rattle.std.proofs.lemmas.List.Sums.{sum_by-append}
-use Rattle.std.proofs.Math.ListN.{get_or-append}
-use Rattle.std.proofs.Math.Seq.{get_or-append_seam}
-use Rattle.std.proofs.lemmas.List.Elements.{Contains-append_left, Contains-append_right, Contains-append_cases}
-use Rattle.morph_base.specs.declared.plan.Plan.{Plan}
-use Rattle.morph_base.specs.declared.plan.Origin.{Origin}
-use Rattle.morph_base.specs.declared.plan.Origin.TheVariants.{Base, Op as Written}
+use Rattle.std.proofs.lemmas.List.Elements.{Contains-append_cases}
 use Rattle.morph_base.specs.declared.word.OpWord.{OpWord}
-use Rattle.morph_base.specs.declared.word.OpState.{OpState}
-use Rattle.morph_base.specs.declared.word.OpState.TheVariants.{Blocked, Ready, Claimed, Executed, Failed, Spread, Settled, SettledAborted}
-use Rattle.morph_base.specs.Plans.{origin_at}
-use Rattle.morph_base.specs.Words.{is_settled, is_idle}
+use Rattle.morph_base.specs.declared.word.OpState.TheVariants.{Claimed}
 use Rattle.interleaving_core.specs.declared.event.CoreEvent.{CoreEvent}
-use Rattle.interleaving_core.specs.Core.{blocked, ready, claimed, places, has_run}
+use Rattle.interleaving_core.specs.Core.{claimed}
 use Rattle.interleaving_core.specs.Counts.{evaluated, is_finish}
 use Rattle.op_words.specs.declared.trail.Item.{Item}
 use Rattle.op_words.specs.declared.trail.View.{View}
-use Rattle.op_words.specs.declared.answers.Fetched.TheVariants.{Value, Unready}
-use Rattle.op_words.specs.declared.answers.Claimed.TheVariants.{Held as HeldAt, Not as Unheld}
-use Rattle.op_words.specs.declared.answers.Readied.TheVariants.{Made, Not as Unmade}
-use Rattle.op_words.specs.declared.answers.Outcome.{Outcome}
-use Rattle.op_words.specs.Trails.{loaded, left, HasLast, IsDisturbed, IsReached, IsSourceOf, IsSteadyAt, IsSteady, IsCalmAt, IsCalm, OwnOn, OwnOpen, NoneOwn}
-use Rattle.op_words.specs.Views.{IsLone, Agrees, Adds, Goes, Holds}
-use Rattle.op_words.specs.Calls.{Elsewhere, IsRead, PeekDoes, MakeDoes, ClaimDoes, FetchDoes, FinishDoes, GiveBackDoes}
-use Rattle.op_words.proofs.Trailing.{append_none, along_none, along-append, along_contains, cases_word, last_later, one_last, last-one, stays_or, disturbed_later, disturbed_more}
-use Rattle.op_eval.specs.declared.answers.Evaluation.TheVariants.{Evaluated, Blocked as BlockedOn, Busy as BusyAt, Already}
-use Rattle.op_eval.specs.Evaluations.{EvaluationDoes, IsEvaluatingSoFar, SoFar, IsFetchedUpTo, IsStopped}
+use Rattle.op_words.specs.Trails.{loaded, HasLast, IsDisturbed, IsSteadyAt, IsSteady, IsCalmAt, IsCalm, OwnOn, OwnOpen, NoneOwn}
+use Rattle.op_words.specs.Views.{Agrees, Adds, Goes}
+use Rattle.op_words.proofs.Trailing.{append_none, along_none, along-append, along_contains, last_later, one_last, last-one, stays_or}
+use Rattle.op_eval.specs.Evaluations.{SoFar}
 
 pub adds_then : {v u w : View} {xs ys : List Item} → Adds v u xs → Adds u w ys → Adds v w (xs ++ ys)
 adds_then {v} {u} {w} {xs} {ys} first second = record {

@@ -1,9 +1,7 @@
 -- Runners: their views, and what their answers count.
-use Rattle.std.specs.Prelude.{◌≡◌, ◌≢◌, ℕ, ◌+◌, ◌-◌, ◌^◌, ◌<◌, ◌≤◌, min, List, [], length, slice_index_or}
-use Rattle.morph_base.specs.declared.plan.Plan.{Plan}
-use Rattle.op_words.specs.declared.board.Board.{Board}
+use Rattle.std.specs.Prelude.{ℕ, ◌+◌, ◌-◌, ◌^◌, min}
 use Rattle.op_words.specs.declared.trail.View.{View}
-use Rattle.op_words.specs.Hands.{view_of, IsHandOf}
+use Rattle.op_words.specs.Hands.{view_of}
 use Rattle.op_eval.specs.declared.answers.Answers.{Answers}
 use Rattle.op_eval.specs.declared.answers.Evaluation.{Evaluation}
 use Rattle.op_eval.specs.declared.answers.Evaluation.TheVariants.{Evaluated, Blocked, Busy, Already}

@@ -20,3 +20,4 @@ pub mod Storing
 pub mod Fetching
 pub mod Sizes
 pub mod Taking
+pub mod Holding

@@ -1,34 +1,28 @@
 -- An addition to a counter keeps the rule, and so does any step on the level word.
-use Rattle.std.proofs.Common.{◌≡◌, ◌≢◌, ◌⊎◌, ℕ, zero, suc, ◌+◌, ◌*◌, ◌%◌, ◌^◌, ◌<◌, ◌≤◌, Bool, true, false, eqb, cond, List, [], ◌∷◌, ◌++◌, length, get_or, set, refl, sym, ap, ◌∙◌, subst, inl, inr, arith, Option, Some, None, length-set, get_or-set_same, eq-eqb, ne_eqb}
+use Rattle.std.proofs.Common.{◌≡◌, ◌≢◌, ℕ, suc, ◌+◌, ◌*◌, ◌%◌, ◌^◌, ◌<◌, ◌≤◌, eqb, cond, List, [], ◌∷◌, ◌++◌, length, set, refl, sym, ap, ◌∙◌, subst, inl, inr, arith, Option, Some, None, length-set, get_or-set_same, eq-eqb, ne_eqb}
 use Rattle.std.specs.Prelude.{Contains, slice_index, sum_by}
 use Rattle.std.specs.List.{range_with_len}
 use Rattle.std.proofs.lemmas.Bool.{cases_eq, cases_lt, cond-true, cond-false}
 use Rattle.std.proofs.lemmas.Option.{same_Some}
-use Rattle.std.proofs.lemmas.List.Sums.{sum_by-cons, sum_by_push}
+use Rattle.std.proofs.lemmas.List.Sums.{sum_by_push}
 use mathlib.Core.Option.{some, none}
 use lib.ListN.{get_elem?}
 use Rattle.atomic_table.specs.Table.{step, keeps, Allows}
-use Rattle.atomic_table.proofs.Lists.{set_here}
-use Rattle.morph_base.specs.declared.limits.TheConstants.{READS}
 use Rattle.morph_base.specs.declared.plan.Plan.{Plan}
-use Rattle.morph_base.specs.Plans.{op_count, event_count}
-use Rattle.interleaving_core.specs.Core.{Core}
 use Rattle.op_words.specs.declared.trail.Joined.{Joined}
 use Rattle.op_words.specs.declared.trail.Place.{Place}
 use Rattle.op_words.specs.declared.trail.View.{View}
-use Rattle.op_words.specs.Views.{IsLone}
 use Rattle.op_words.specs.Layout.{Shows, record_index, decision_base, level_index, counter_base}
 use Rattle.op_words.specs.Rule.{Seats, live, tags, taken, of_counter, of_joined, one, most_taken, HasNumbers, Knows, Lawful}
 use Rattle.op_words.specs.declared.board.Hand.{Hand}
 use Rattle.op_words.specs.Hands.{view_of, held_of}
 use Rattle.op_words.specs.Plays.{Sat, IsTold}
 use Rattle.op_words.specs.Counting.{place, taking, times, Takes, takes, passes}
-use Rattle.op_words.proofs.Rows.{sum_set, sum_has, set_apart, set_same}
+use Rattle.op_words.proofs.Rows.{sum_set, sum_has, set_apart}
 use Rattle.op_words.proofs.Sizes.{sum_most, sum_inside, single_sum, sum_ones, none_left, sum_below, range_size, sum_above}
 use Rattle.op_words.proofs.Handing.{IsKept}
 use Rattle.op_words.proofs.Moving.{with_view, moved}
 use Rattle.op_words.proofs.Telling.{lone_single}
-use Rattle.op_words.proofs.Loading.{view_here}
 
 here_counts : (k : ℕ) (h : ℕ → ℕ) (n : ℕ) → of_counter k h (place k n) ≡ h n
 here_counts k h n = cond-true (eqb k k) (h n) 0 (eq-eqb k k refl)
@@ -197,8 +191,7 @@ module _ {p : Plan} {cap counters : ℕ} where
       → Allows (Lawful p cap counters) slots id me (counter_base p + k) (λ n. (n + 1) % 2 ^ 64) (takes (step slots (counter_base p + k) 1 0 none) me)
   allows_take slots id me k v is below few s lawful homes at small =
       let there : get_elem? s.views id ≡ some (Some v) = at ∙ ap some is in
-      let m : ℕ = slice_index s.words (counter_base p + k) in
-      (
+      let m : ℕ = slice_index s.words (counter_base p + k) in (
         Some (taking k m v),
         keeps,
         tt,

@@ -8,3 +8,4 @@ pub mod Plays
 pub mod Hands
 pub mod Stepping
 pub mod Counting
+pub mod Kinds

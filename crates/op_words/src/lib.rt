@@ -5,6 +5,7 @@
 mod answers;
 mod board;
 mod counting;
+pub mod laws;
 mod places;
 mod rule;
 mod trail;

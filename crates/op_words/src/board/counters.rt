@@ -43,10 +43,7 @@ impl Board {
         ensures hand { IsHandOf self.now hand.new }
         ensures view { view_of hand.new ≡ view_of hand.old }
     {
-        let level = self
-            .table
-            .shared
-            .load::<Pass>(&mut hand.seat, self.level);
+        let level = self.table.shared.load::<Pass>(&mut hand.seat, self.level);
         level.min(u64::from(NO_LEVEL)) as u32
     }
 

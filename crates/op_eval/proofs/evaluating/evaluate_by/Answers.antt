@@ -1,4 +1,4 @@
-use Rattle.std.proofs.Common.{ap, refl, ◌∙◌}
+use Rattle.std.proofs.Common.{ap}
 use Rattle.morph_base.specs.Words.{is_idle}
 use Rattle.op_eval.proofs.Holding.{begun, already, busy_first}
 use Rattle.op_eval.proofs.evaluating.evaluate_by.Goals as goal

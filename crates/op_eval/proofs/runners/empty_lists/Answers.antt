@@ -1,2 +1,0 @@
-use Rattle.std.proofs.Common.{arith}
-use Rattle.op_eval.proofs.runners.empty_lists.Goals as goal

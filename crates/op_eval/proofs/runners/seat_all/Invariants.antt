@@ -1,4 +1,4 @@
-use Rattle.std.specs.Prelude.{◌≡◌, ◌+◌, ◌-◌, ◌<◌, ◌≤◌, length}
+use Rattle.std.specs.Prelude.{◌≡◌, ◌+◌, ◌-◌, length}
 use Rattle.op_words.specs.Hands.{view_of}
 use Rattle.op_eval.proofs.Seating.{IsSeating, AreBegun}
 use Rattle.op_eval.proofs.runners.seat_all.Given as goal

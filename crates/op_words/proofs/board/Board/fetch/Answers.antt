@@ -1,4 +1,4 @@
-use Rattle.std.proofs.Common.{rules, ◌≡◌, ◌∙◌, sym, subst, ℕ}
+use Rattle.std.proofs.Common.{◌∙◌, sym, subst}
 use Rattle.std.proofs.Common.{le_trans}
 use Rattle.morph_base.specs.Plans.{IsPlan}
 use Rattle.morph_base.proofs.BoundLaws.{high_of-small}

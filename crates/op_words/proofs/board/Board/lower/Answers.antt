@@ -1,4 +1,4 @@
-use Rattle.std.proofs.Common.{◌<◌, ap, arith, subst, sym, ℕ, min}
+use Rattle.std.proofs.Common.{ap, arith, subst, sym, ℕ, min}
 use mathlib.Core.Option.{none}
 use Rattle.atomic_table.specs.Table.{Allows, step}
 use Rattle.op_words.specs.Counting.{passes}

@@ -1,0 +1,91 @@
+-- What the table is before and after each kind of step of a hand, and what that is to the machine.
+use Rattle.std.specs.Prelude.{◌≡◌, ◌≢◌, ℕ, ◌<◌, List, [], ◌∷◌, ◌++◌, length, Some, None, slice_set}
+use mathlib.Core.Option.{some}
+use lib.ListN.{get_elem?}
+use Rattle.morph_base.specs.Limits.{most_workers}
+use Rattle.morph_base.specs.declared.plan.Plan.{Plan}
+use Rattle.morph_base.specs.Plans.{op_count, origin_at}
+use Rattle.morph_base.specs.Words.{packed}
+use Rattle.interleaving_core.specs.declared.entry.Held.{Held}
+use Rattle.interleaving_core.specs.declared.event.CoreEvent.{CoreEvent}
+use Rattle.interleaving_core.specs.declared.event.CoreEvent.TheVariants.{Ready as ReadyStep, Claim, Fetch, Finish, GiveBack}
+use Rattle.interleaving_core.specs.Core.{blocked, ready, claimed, places}
+use Rattle.op_words.specs.declared.trail.View.{View}
+use Rattle.op_words.specs.Views.{looked, making, claiming, fetching, finishing, giving_back, parent, child, merged}
+use Rattle.op_words.specs.Layout.{record_index, packed_record}
+use Rattle.op_words.specs.Rule.{Seats, Lawful, Stays, Steps}
+use Rattle.op_words.specs.Plays.{end_of}
+use Rattle.op_words.specs.Stepping.{IsUsable}
+
+-- a state of the table, and a seat with its view, whose hand makes the next step
+pub record Moment (p : Plan) (cap counters : ℕ) : Type 0 where
+  pub table : Seats
+  pub lawful : Lawful p cap counters table
+  pub seat : ℕ
+  pub view : View
+  pub there : get_elem? table.views seat ≡ some (Some view)
+
+-- the table with other words, where this seat has another view
+abbrev pub turned : Seats → ℕ → List ℕ → View → Seats
+turned s i ws u = record { words = ws; homes = s.homes; views = slice_set s.views i (Some u) }
+
+module _ (p : Plan) (cap counters : ℕ) (m : Moment p cap counters) where
+  -- the table after it leaves the machine as it was; it is step e of the machine
+  abbrev pub IsNone : Seats → Type 0
+  IsNone t = Stays p cap counters m.table m.lawful t
+
+  abbrev pub IsStep : CoreEvent → Seats → Type 0
+  IsStep e t = Steps p cap counters m.table m.lawful t e
+
+  -- a load, and an exchange that finds another word than it expects
+  abbrev pub Loads : Type 0
+  Loads = (o : ℕ) → o < op_count p → IsNone (turned m.table m.seat m.table.words (looked o (m.lawful.core.word o) m.view))
+
+  -- an exchange of blocked to ready
+  abbrev pub Makes : Type 0
+  Makes =
+      (o a : ℕ) → o < op_count p → m.lawful.core.word o ≡ blocked a
+      → IsStep (ReadyStep o) (turned m.table m.seat (slice_set m.table.words o (packed (ready a))) (making o a m.view))
+
+  -- an exchange of ready to claimed
+  abbrev pub Claims : Type 0
+  Claims =
+      (o a : ℕ) → o < op_count p → m.view.claim ≡ None → m.lawful.core.word o ≡ ready a
+      → IsStep (Claim o m.view.tag) (turned m.table m.seat (slice_set m.table.words o (packed (claimed a m.view.tag))) (claiming o a m.view))
+
+  -- a store of a record
+  abbrev pub Records : Type 0
+  Records =
+      (h : Held) (x : ℕ) → m.view.claim ≡ Some h → length h.values < places p h.op → IsUsable m.view cap h.attempt (origin_at p h.op (length h.values)) x
+      → IsStep (Fetch h.op (length h.values) m.view.tag x)
+      (turned m.table m.seat (slice_set m.table.words (record_index p h.op (length h.values)) (packed_record (Some (record { value = x; attempt = h.attempt })))) (fetching h x m.view))
+
+  -- claimed becomes executed or failed
+  abbrev pub Finishes : Type 0
+  Finishes =
+      (h : Held) → m.view.claim ≡ Some h → length h.values ≡ places p h.op
+      → IsStep (Finish h.op m.view.tag) (turned m.table m.seat (slice_set m.table.words h.op (packed (end_of m.view h))) (finishing h.op (end_of m.view h) h.values m.view))
+
+  -- claimed becomes blocked
+  abbrev pub GivesBack : Type 0
+  GivesBack =
+      (h : Held) → m.view.claim ≡ Some h
+      → IsStep (GiveBack h.op m.view.tag) (turned m.table m.seat (slice_set m.table.words h.op (packed (blocked h.attempt))) (giving_back h.op h.attempt m.view))
+
+  -- the root makes a hand
+  abbrev pub MakesHand : Type 0
+  MakesHand =
+      m.view.tag ≡ 1 → m.view.made < most_workers
+      → IsNone (record { words = m.table.words; homes = m.table.homes; views = slice_set m.table.views m.seat (Some (parent m.view)) ++ Some (child m.view) ∷ [] })
+
+  -- a hand that holds nothing is joined into the root
+  abbrev pub Joins : Type 0
+  Joins =
+      (o : ℕ) (w : View) → get_elem? m.table.views o ≡ some (Some w) → o ≢ m.seat → m.view.tag ≡ 1 → w.claim ≡ None
+      → IsNone (record { words = m.table.words; homes = m.table.homes; views = slice_set (slice_set m.table.views m.seat (Some (merged m.view w))) o None })
+
+-- of two seats of one table at most one holds an operation
+abbrev pub HoldsAlone : Plan → ℕ → ℕ → Type 0
+HoldsAlone p cap counters =
+    (s : Seats) (lawful : Lawful p cap counters s) (i j : ℕ) (v w : View) (h k : Held) → get_elem? s.views i ≡ some (Some v) → get_elem? s.views j ≡ some (Some w)
+    → v.claim ≡ Some h → w.claim ≡ Some k → h.op ≡ k.op → i ≡ j

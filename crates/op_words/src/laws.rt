@@ -1,0 +1,27 @@
+//! The laws of the board, as the contracts of functions that do nothing.
+//!
+//! The rule of the table has the state of the machine that the words show, and the steps that led to it. Each atomic step of a
+//! hand keeps the rule, and says what becomes of that state.
+ghost use Rattle.std.specs.Prelude.{ℕ};
+ghost use Rattle.morph_base.specs.declared.plan.Plan.{Plan};
+ghost use Rattle.op_words.specs.Kinds.{Moment, Loads, Makes, Claims, Records, Finishes, GivesBack, MakesHand, Joins, HoldsAlone};
+
+/// Each atomic step is a step of the machine, or leaves its state as it was.
+///
+/// An exchange is a step of the machine where it finds the word that it expects; else it is a load. A load changes nothing but
+/// what its hand has noted; neither does a hand that is made or joined.
+pub fn each_step()
+    ensures loads { (p : Plan) (cap counters : ℕ) (m : Moment p cap counters) → Loads p cap counters m }
+    ensures ready { (p : Plan) (cap counters : ℕ) (m : Moment p cap counters) → Makes p cap counters m }
+    ensures claims { (p : Plan) (cap counters : ℕ) (m : Moment p cap counters) → Claims p cap counters m }
+    ensures records { (p : Plan) (cap counters : ℕ) (m : Moment p cap counters) → Records p cap counters m }
+    ensures finishes { (p : Plan) (cap counters : ℕ) (m : Moment p cap counters) → Finishes p cap counters m }
+    ensures gives_back { (p : Plan) (cap counters : ℕ) (m : Moment p cap counters) → GivesBack p cap counters m }
+    ensures makes_hand { (p : Plan) (cap counters : ℕ) (m : Moment p cap counters) → MakesHand p cap counters m }
+    ensures joins { (p : Plan) (cap counters : ℕ) (m : Moment p cap counters) → Joins p cap counters m }
+{}
+
+/// An operation is held by at most one hand at a time.
+pub fn one_holder()
+    ensures { (p : Plan) (cap counters : ℕ) → HoldsAlone p cap counters }
+{}

@@ -4,10 +4,10 @@ use Rattle.std.specs.Prelude.{IfSome, IfOk}
 use Rattle.morph_io.specs.Told.{behind, behind_nil}
 use Rattle.event_reader.specs.Accepted.{accepted_within}
 use Rattle.morph_cli.specs.declared.fault.Fault.TheVariants.{OutOfMemory}
-use Rattle.morph_cli.specs.declared.settings.Settings.{Settings}
+use Rattle.run_text.specs.declared.choices.Settings.{Settings}
 use Rattle.morph_cli.specs.Apps.{input_of, left_by, meaning_of, telling_of}
 use Rattle.morph_cli.specs.Headline.{Headline, input_limit}
-use Rattle.morph_cli.specs.Settings.{settings_of}
+use Rattle.run_text.specs.Settings.{settings_of}
 use Rattle.morph_cli.proofs.Headlines.{headline}
 use Rattle.morph_cli.proofs.Running.{nothing_told}
 

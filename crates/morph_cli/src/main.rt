@@ -3,7 +3,7 @@
 //!
 //! [`morph::morph`] does all that the program does, over a source, a sink and notes of any kind; [`program::program`] gives
 //! it the words of the program's arguments, and `main` gives that the standard streams. It stands on the applications, as `ledger_app`, on `event_reader`, which cuts the input into
-//! batches, on `morph_engine`, which runs them, and on `morph_io`, which reads and writes.
+//! batches, on `morph_engine`, which runs them, and on `morph_io`, which reads and writes; the settings and the text are `run_text`'s.
 #![tactic(auto)]
 
 mod batch;
@@ -11,22 +11,13 @@ mod ended;
 mod fault;
 mod job;
 mod morph;
-mod names;
 mod note;
-mod notes;
 mod program;
 mod progress;
-mod report;
 mod run;
-mod settings;
-mod tally;
 mod tell;
 #[cfg(test)]
 mod tests;
-mod text;
-mod totals;
-mod words;
-mod writing;
 
 use crate::program::program;
 use morph_base::OutOfMemory;

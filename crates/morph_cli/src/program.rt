@@ -3,7 +3,7 @@ ghost use Rattle.std.specs.Process.{exit_status};
 ghost use Rattle.morph_io.specs.Told.{HasRisen};
 ghost use Rattle.morph_cli.specs.Apps.{input_of, left_by, meaning_of, telling_of};
 ghost use Rattle.morph_cli.specs.Headline.{Headline, input_limit};
-ghost use Rattle.morph_cli.specs.Settings.{settings_of};
+ghost use Rattle.run_text.specs.Settings.{settings_of};
 ghost use Rattle.morph_cli.specs.Status.{IsStatus};
 ghost use Rattle.morph_cli.specs.Words.{words_behind};
 

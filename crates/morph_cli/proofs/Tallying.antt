@@ -1,23 +1,20 @@
 -- The tally of the batches that were run: one batch more, and at each end of a run.
-use Rattle.std.proofs.Common.{map, get_or, Bool, true, false, ◌-◌, ◌≡◌, ℕ, ◌+◌, ◌*◌, ◌<◌, ◌≤◌, List, [], ◌∷◌, ◌++◌, length, sum, sum_by, refl, ap, sym, subst, ◌∙◌, arith, cond}
-use Rattle.std.specs.Prelude.{not, count_by}
+use Rattle.std.proofs.Common.{◌≡◌, ℕ, ◌+◌, ◌*◌, ◌<◌, ◌≤◌, List, [], ◌∷◌, ◌++◌, length, sum, sum_by, refl, ap, sym, subst, ◌∙◌, arith, cond}
+use Rattle.std.specs.Prelude.{not}
 use Rattle.std.proofs.lemmas.List.{length-append}
-use Rattle.std.proofs.lemmas.Simd.{map-map}
-use Rattle.std.proofs.lemmas.List.FromFn.{length-range_with_len, length-map-range_with_len, fill_by_all}
-use Rattle.std.proofs.lemmas.List.Sums.{sum-map, sum_by-cons, sum_by-append, sum_by_push, sum_by-le-sum_by, count_by-le-length}
+use Rattle.std.proofs.lemmas.List.FromFn.{length-range_with_len}
+use Rattle.std.proofs.lemmas.List.Sums.{sum_by-append, sum_by_push, sum_by-le-sum_by, count_by-le-length}
 use Rattle.morph_base.specs.declared.limits.TheConstants.{EVENT_OPS, EVENTS}
 use Rattle.morph_base.specs.declared.plan.Plan.{Plan}
-use Rattle.morph_base.specs.declared.plan.Settled.{Settled}
 use Rattle.morph_base.specs.Transactions.{Transaction, by_time}
 use Rattle.morph_base.specs.States.{State, opening_state, after_all}
 use Rattle.morph_base.specs.Outcomes.{Fate}
-use Rattle.morph_base.specs.Plans.{IsSettledOf, event_count, op_count}
+use Rattle.morph_base.specs.Plans.{op_count}
 use Rattle.morph_base.specs.Graphs.{below}
 use Rattle.morph_base.specs.Guesses.{is_stale, stale_count}
 use Rattle.morph_base.proofs.NumberLaws.{op_count-small}
 use Rattle.morph_base.proofs.PlainLaws.{fates-nil}
 use Rattle.morph_base.proofs.StateLaws.{after_all-append, after_all-nil}
-use Rattle.morph_engine.specs.Fates.{settled_fate, settled_fates}
 use Rattle.run_text.specs.declared.tally.Tally.{Tally}
 use Rattle.run_text.specs.Text.{in_order, run_state, run_fates, committed_in, aborted_in}
 use Rattle.morph_cli.specs.Tallies.{IsMadeOf, AreRunFrom, IsTallyOf, IsBalanced}

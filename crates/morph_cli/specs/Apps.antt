@@ -10,8 +10,6 @@ use Rattle.grep_app.specs.GrepDraws.{grep_drawn}
 use Rattle.toll_app.specs.Toll.{toll_event}
 use Rattle.toll_app.specs.TollDraws.{toll_drawn}
 use Rattle.run_text.specs.Reports.{report_by}
-use Rattle.run_text.specs.declared.report.Report.{Report}
-use Rattle.run_text.specs.declared.report.Report.TheVariants.{Whole, Summary}
 use Rattle.run_text.specs.declared.choices.Settings.{Settings}
 use Rattle.run_text.specs.declared.choices.Generated.{Generated}
 use Rattle.run_text.specs.declared.choices.App.{App}

@@ -1,11 +1,10 @@
 -- What was done in a run: the plans of the batches that were run, and the numbers that are told of them.
-use Rattle.std.specs.Prelude.{◌≡◌, ℕ, Bool, ◌+◌, ◌*◌, ◌≤◌, ◌⊎◌, List, [], ◌∷◌, ◌++◌, length, replicate, sum, sum_by, Option, IfSome}
+use Rattle.std.specs.Prelude.{◌≡◌, ℕ, Bool, ◌+◌, ◌*◌, ◌≤◌, ◌⊎◌, List, [], ◌∷◌, ◌++◌, length, sum, sum_by, Option, IfSome}
 use Rattle.morph_base.specs.declared.plan.Plan.{Plan}
 use Rattle.morph_base.specs.Transactions.{Transaction, by_time}
 use Rattle.morph_base.specs.States.{State, opening_state, after_all}
 use Rattle.morph_base.specs.Plans.{HasBases, op_count, transactions}
 use Rattle.morph_base.specs.Graphs.{IsValidPlan}
-use Rattle.morph_base.specs.Outcomes.{Fate}
 use Rattle.morph_base.specs.Guesses.{stale_count}
 use Rattle.event_reader.specs.Accepted.{Accepted}
 use Rattle.run_text.specs.Counts.{settled_by_first}

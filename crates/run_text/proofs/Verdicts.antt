@@ -1,26 +1,16 @@
 -- What became of the events of a batch, counted.
-use Rattle.std.proofs.Common.{map, get_or, Bool, true, false, ◌-◌, ◌≡◌, ℕ, ◌+◌, ◌*◌, ◌<◌, ◌≤◌, List, [], ◌∷◌, ◌++◌, length, sum, sum_by, refl, ap, sym, subst, ◌∙◌, arith, cond}
+use Rattle.std.proofs.Common.{map, get_or, Bool, true, false, ◌-◌, ◌≡◌, ◌+◌, ◌≤◌, List, [], ◌∷◌, length, sum, refl, ap, sym, ◌∙◌, arith, cond}
 use Rattle.std.specs.Prelude.{not, count_by}
-use Rattle.std.proofs.lemmas.List.{length-append}
 use Rattle.std.proofs.lemmas.Simd.{map-map}
-use Rattle.std.proofs.lemmas.List.FromFn.{length-range_with_len, length-map-range_with_len, fill_by_all}
-use Rattle.std.proofs.lemmas.List.Sums.{sum-map, sum_by-cons, sum_by-append, sum_by_push, sum_by-le-sum_by, count_by-le-length}
-use Rattle.morph_base.specs.declared.limits.TheConstants.{EVENT_OPS, EVENTS}
+use Rattle.std.proofs.lemmas.List.FromFn.{length-map-range_with_len, fill_by_all}
+use Rattle.std.proofs.lemmas.List.Sums.{sum-map, sum_by-cons, count_by-le-length}
 use Rattle.morph_base.specs.declared.plan.Plan.{Plan}
 use Rattle.morph_base.specs.declared.plan.Settled.{Settled}
-use Rattle.morph_base.specs.Transactions.{Transaction, by_time}
-use Rattle.morph_base.specs.States.{State, opening_state, after_all}
 use Rattle.morph_base.specs.Outcomes.{Fate}
-use Rattle.morph_base.specs.Plans.{IsSettledOf, event_count, op_count}
+use Rattle.morph_base.specs.Plans.{IsSettledOf, event_count}
 use Rattle.morph_base.specs.Graphs.{below}
-use Rattle.morph_base.specs.Guesses.{is_stale, stale_count}
-use Rattle.morph_base.proofs.NumberLaws.{op_count-small}
-use Rattle.morph_base.proofs.PlainLaws.{fates-nil}
-use Rattle.morph_base.proofs.StateLaws.{after_all-append, after_all-nil}
 use Rattle.morph_engine.specs.Fates.{settled_fate, settled_fates}
-use Rattle.run_text.specs.declared.tally.Tally.{Tally}
-use Rattle.run_text.specs.Text.{in_order, run_state, run_fates, committed_in, aborted_in}
-use Rattle.run_text.specs.Counts.{Adds, no_tally, settled_by_first}
+use Rattle.run_text.specs.Text.{committed_in, aborted_in}
 
 -- how many pass a test, of images
 count_by-map : {X Y : Type 0} (test : Y → Bool) (f : X → Y) (xs : List X) → count_by test (map f xs) ≡ count_by (λ x. test (f x)) xs

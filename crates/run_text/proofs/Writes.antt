@@ -1,5 +1,5 @@
 -- Writes that follow others, and writes that are left out.
-use Rattle.std.proofs.Common.{◌≡◌, ℕ, Bool, true, false, List, [], ◌++◌, Option, ap, sym, ◌∙◌, append_assoc}
+use Rattle.std.proofs.Common.{◌≡◌, ℕ, Bool, false, List, ◌++◌, Option, ap, sym, ◌∙◌, append_assoc}
 use Rattle.morph_io.specs.Told.{behind, behind_nil, behind_behind, AppendsPrefix}
 use Rattle.run_text.specs.Notes.{noted}
 

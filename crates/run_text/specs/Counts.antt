@@ -1,5 +1,5 @@
 -- What is counted of the batches of a run, one batch at a time.
-use Rattle.std.specs.Prelude.{◌≡◌, ℕ, ◌+◌, List, [], ◌∷◌, length, replicate}
+use Rattle.std.specs.Prelude.{◌≡◌, ℕ, ◌+◌, List, ◌∷◌, length, replicate}
 use Rattle.morph_base.specs.declared.plan.Plan.{Plan}
 use Rattle.morph_base.specs.Plans.{op_count}
 use Rattle.morph_base.specs.Outcomes.{Fate}

@@ -6,12 +6,12 @@ use Rattle.morph_cli.specs.declared.fault.Fault.{Fault}
 use Rattle.morph_cli.specs.declared.fault.Fault.TheVariants.{Read, Write, OutOfMemory, TooLong}
 use Rattle.morph_cli.specs.declared.run.Finish.{Finish}
 use Rattle.morph_cli.specs.declared.run.Finish.TheVariants.{Complete, Refused}
-use Rattle.morph_cli.specs.declared.settings.Settings.{Settings}
+use Rattle.run_text.specs.declared.choices.Settings.{Settings}
 use Rattle.morph_cli.specs.Apps.{input_of, left_by, meaning_of, telling_of}
 use Rattle.morph_cli.specs.Runs.{EndsSo, EndsMade}
 use Rattle.morph_cli.specs.Status.{note_at, status_of, IsMadeStatus}
 use Rattle.event_reader.specs.Accepted.{accepted, accepted_within}
-use Rattle.morph_cli.specs.declared.tally.Tally.{Tally}
+use Rattle.run_text.specs.declared.tally.Tally.{Tally}
 use Rattle.morph_cli.specs.Outputs.{Outputs, outputs_of}
 use Rattle.morph_cli.specs.Tallies.{RunTold, CallTold}
 use Rattle.morph_io.specs.Told.{behind, HasRisen, AppendsPrefix}

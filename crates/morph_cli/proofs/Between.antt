@@ -23,18 +23,19 @@ use Rattle.event_reader.specs.declared.answers.Next.{Next}
 use Rattle.event_reader.specs.declared.answers.Next.TheVariants.{Batch}
 use Rattle.event_reader.specs.Steps.{Meaning}
 use Rattle.event_reader.specs.Reader.{ReaderView, new_reader, accepted_by, Takes, AnswersNext, ShowsNext, ShowsBatch}
-use Rattle.morph_cli.specs.declared.tally.Tally.{Tally}
+use Rattle.run_text.specs.declared.tally.Tally.{Tally}
 use Rattle.morph_cli.specs.declared.fault.Fault.{Fault}
 use Rattle.morph_cli.specs.declared.fault.Fault.TheVariants.{Write, OutOfMemory as RunMemory}
 use Rattle.morph_cli.specs.declared.run.Finish.{Finish}
 use Rattle.morph_cli.specs.Faults.{fault_of}
-use Rattle.morph_cli.specs.Text.{told_lines}
-use Rattle.morph_cli.specs.Tallies.{Adds, IsMadeOf, no_tally}
-use Rattle.morph_cli.specs.Notes.{noted, batch_note}
+use Rattle.run_text.specs.Text.{told_lines}
+use Rattle.run_text.specs.Counts.{Adds, no_tally}
+use Rattle.morph_cli.specs.Tallies.{IsMadeOf}
+use Rattle.run_text.specs.Notes.{noted, batch_note}
 use Rattle.morph_cli.specs.Outputs.{Outputs, with_both, IsCutIn}
 use Rattle.morph_cli.specs.Status.{status_of}
 use Rattle.morph_cli.specs.Apps.{telling_by}
-use Rattle.morph_cli.specs.declared.settings.Settings.{Settings}
+use Rattle.run_text.specs.declared.choices.Settings.{Settings}
 use Rattle.morph_cli.proofs.Turns.{cut_text}
 use Rattle.morph_cli.proofs.Ending.{Course, Goes, Ends, IsTold, meaning_in, goes_start, goes_batch, ends_read, ends_long, ends_memory, ends_batch_cut, told_short, told_in_batch}
 

@@ -15,17 +15,18 @@ use Rattle.event_reader.specs.Lines.{front, within}
 use Rattle.event_reader.specs.Accepted.{Accepted, Ending, Ended, RefusedAt, CutOff, with_batch, accepted_within}
 use Rattle.event_reader.specs.declared.answers.Next.TheVariants.{Batch}
 use Rattle.event_reader.specs.Reader.{ReaderView, new_reader, accepted_by, accepted_after, accepted_next, Takes, ShowsBatch}
-use Rattle.morph_cli.specs.declared.tally.Tally.{Tally}
+use Rattle.run_text.specs.declared.tally.Tally.{Tally}
 use Rattle.morph_cli.specs.declared.fault.Fault.{Fault}
 use Rattle.morph_cli.specs.declared.fault.Fault.TheVariants.{Read, Write, OutOfMemory, TooLong}
 use Rattle.morph_cli.specs.declared.run.Finish.{Finish}
 use Rattle.morph_cli.specs.declared.run.Finish.TheVariants.{Complete, Refused}
-use Rattle.morph_cli.specs.Notes.{noted, batch_note, batch_notes, closing_notes}
+use Rattle.run_text.specs.Notes.{noted, batch_note, batch_notes, closing_notes}
 use Rattle.morph_cli.specs.Outputs.{Outputs, with_both, with_batches, IsCutIn, IsAtLast}
 use Rattle.morph_cli.specs.Runs.{EndsSo}
 use Rattle.morph_cli.specs.Status.{status_of}
-use Rattle.morph_cli.specs.Tallies.{Adds, IsMadeOf, RunTold, no_tally}
-use Rattle.morph_cli.specs.Text.{Telling, event_lines, told_lines, run_state, end_text}
+use Rattle.run_text.specs.Counts.{Adds, no_tally}
+use Rattle.morph_cli.specs.Tallies.{IsMadeOf, RunTold}
+use Rattle.run_text.specs.Text.{Telling, event_lines, told_lines, run_state, end_text}
 use Rattle.morph_cli.proofs.Noting.{IsNoted, noted_nothing, noted_more, number_is}
 use Rattle.morph_cli.proofs.Running.{RunsOn, IsLast, fronts, runs_start, runs_batch, runs_ended, runs_done, runs_cut, runs_short, runs_cut_in_batch, whole_more, told_more, last_is}
 use Rattle.morph_cli.proofs.Taking.{TakesOn, takes_start, takes_batch, takes_failed}

@@ -10,12 +10,12 @@ use Rattle.morph_cli.specs.declared.fault.Fault.{Fault}
 use Rattle.morph_cli.specs.declared.fault.Fault.TheVariants.{Read, Write, OutOfMemory, TooLong}
 use Rattle.morph_cli.specs.declared.run.Finish.{Finish}
 use Rattle.morph_cli.specs.declared.run.Finish.TheVariants.{Complete, Refused}
-use Rattle.morph_cli.specs.Text.{Telling, event_lines, end_text, whole_text}
+use Rattle.run_text.specs.Text.{Telling, event_lines, end_text, whole_text}
 use Rattle.morph_cli.specs.Runs.{EndsSo}
 use Rattle.morph_cli.specs.Status.{status_of}
 use Rattle.morph_cli.specs.Headline.{Headline, Completes}
-use Rattle.morph_cli.specs.declared.tally.Tally.{Tally}
-use Rattle.morph_cli.specs.Notes.{noted, closing_notes}
+use Rattle.run_text.specs.declared.tally.Tally.{Tally}
+use Rattle.run_text.specs.Notes.{noted, closing_notes}
 use Rattle.morph_cli.specs.Outputs.{Outputs, with_batches, IsCutIn, IsCutInBatch, IsAtLast}
 use Rattle.morph_cli.specs.Tallies.{RunTold}
 use Rattle.morph_cli.proofs.Running.{event_lines-front}

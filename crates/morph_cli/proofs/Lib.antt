@@ -1,16 +1,11 @@
-pub mod Pieces
 pub mod Running
 pub mod Taking
 pub mod Ending
 pub mod Between
 pub mod Headlines
 pub mod Answering
-pub mod Asked
-pub mod Summing
 pub mod Making
 pub mod Tallying
 pub mod Noting
 pub mod Turns
-pub mod WordLaws
-pub mod NoSettingsLaws
 pub mod Starting

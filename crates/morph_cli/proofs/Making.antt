@@ -8,15 +8,15 @@ use Rattle.morph_cli.specs.declared.fault.Fault.{Fault}
 use Rattle.morph_cli.specs.declared.fault.Fault.TheVariants.{Read, Write, OutOfMemory, TooLong}
 use Rattle.morph_cli.specs.declared.run.Finish.{Finish}
 use Rattle.morph_cli.specs.declared.run.Finish.TheVariants.{Complete, Refused}
-use Rattle.morph_cli.specs.declared.settings.App.{App}
-use Rattle.morph_cli.specs.declared.settings.Generated.{Generated}
-use Rattle.morph_cli.specs.declared.settings.Settings.{Settings}
+use Rattle.run_text.specs.declared.choices.App.{App}
+use Rattle.run_text.specs.declared.choices.Generated.{Generated}
+use Rattle.run_text.specs.declared.choices.Settings.{Settings}
 use Rattle.morph_cli.specs.Apps.{drawn_in, event_in, input_by, left_by, name_in, tables_in, telling_by}
 use Rattle.morph_cli.specs.Runs.{EndsSo, EndsMade}
-use Rattle.morph_cli.specs.declared.tally.Tally.{Tally}
+use Rattle.run_text.specs.declared.tally.Tally.{Tally}
 use Rattle.morph_cli.specs.Outputs.{Outputs}
 use Rattle.morph_cli.specs.Tallies.{RunTold}
-use Rattle.morph_cli.specs.Text.{Telling}
+use Rattle.run_text.specs.Text.{Telling}
 
 module _ (meaning : Meaning) (telling : Telling) (limit : ℕ) (input : List ℕ) (left left' old new : Option (List ℕ)) where
   -- what is left of the input matters where reading fails alone

@@ -5,8 +5,8 @@ use Rattle.morph_base.specs.declared.plan.Plan.{Plan}
 use Rattle.morph_base.specs.Transactions.{Transaction, by_time}
 use Rattle.morph_base.specs.States.{State, after_all}
 use Rattle.morph_io.specs.Told.{behind, behind_nil, behind_behind, HasRisen, AppendsPrefix}
-use Rattle.morph_cli.specs.declared.tally.Tally.{Tally}
-use Rattle.morph_cli.specs.Notes.{noted, batch_note, batch_notes}
+use Rattle.run_text.specs.declared.tally.Tally.{Tally}
+use Rattle.run_text.specs.Notes.{noted, batch_note, batch_notes}
 use Rattle.morph_cli.specs.Tallies.{AreRunFrom}
 use Rattle.morph_cli.proofs.Tallying.{Tallied}
 
@@ -36,10 +36,6 @@ nothing false = refl
 
 pub noted_nothing : (on : Bool) (old : Option (List ℕ)) → IsNoted on [] old old
 noted_nothing on old = sym (behind_nil old) ∙ ap (behind old) (nothing on)
-
--- where they are off nothing is written
-pub unwritten : (on : Bool) (told : Option (List ℕ)) (text : List ℕ) → on ≡ false → told ≡ behind told (noted on text)
-unwritten on told text off = sym (behind_nil told) ∙ ap (λ (o : Bool). behind told (noted o text)) (sym off)
 
 one_more : (on : Bool) (plans : List Plan) (p : Plan) (number : ℕ) → number ≡ length plans + 1 →
     noted on (batch_notes 1 plans) ++ noted on (batch_note number p) ≡ noted on (batch_notes 1 (plans ++ p ∷ []))

@@ -11,10 +11,11 @@ use Rattle.morph_base.proofs.PlainLaws.{fates-nil}
 use Rattle.morph_io.specs.Told.{behind, behind_nil, behind_behind, AppendsPrefix}
 use Rattle.morph_io.proofs.Putting.{prefix_more}
 use Rattle.event_reader.specs.Accepted.{Accepted, Ending, Ended, RefusedAt, CutOff, with_batch}
-use Rattle.morph_cli.specs.declared.tally.Tally.{Tally}
-use Rattle.morph_cli.specs.declared.report.Report.{Report}
-use Rattle.morph_cli.specs.declared.report.Report.TheVariants.{Whole, Summary}
-use Rattle.morph_cli.specs.Text.{Telling, in_order, run_state, run_fates, event_lines, told_lines, event_line, committed_in, aborted_in, told_values, counts_line, closing_text, end_text, whole_text, refused_text}
+use Rattle.run_text.proofs.Writes.{prefix_after}
+use Rattle.run_text.specs.declared.tally.Tally.{Tally}
+use Rattle.run_text.specs.declared.report.Report.{Report}
+use Rattle.run_text.specs.declared.report.Report.TheVariants.{Whole, Summary}
+use Rattle.run_text.specs.Text.{Telling, in_order, run_state, run_fates, event_lines, told_lines, event_line, committed_in, aborted_in, told_values, counts_line, closing_text, end_text, whole_text, refused_text}
 use Rattle.morph_cli.specs.Runs.{AppendsBatches}
 
 -- batches that were done, in front of those that are still to come
@@ -123,15 +124,6 @@ runs_batch telling before now next old new newer s t tally tally' done batch tol
       committed = committed ∙ ap (λ n. n + committed_in told) runs.committed ∙ sym (sum_by-append (λ (f : Fate). cond f.committed 1 0) (run_fates done) told) ∙ ap committed_in all_told;
       aborted = aborted ∙ ap (λ n. n + aborted_in told) runs.aborted ∙ sym (sum_by-append (λ (f : Fate). cond (not f.committed) 1 0) (run_fates done) told) ∙ ap aborted_in all_told;
     }
-
--- a prefix of what comes after some bytes
-pub prefix_after : (old new newer : Option (List ℕ)) (front text : List ℕ) → new ≡ behind old front → AppendsPrefix new text newer → AppendsPrefix old (front ++ text) newer
-prefix_after old new newer front text appended cut = record {
-  done = front ++ cut.done;
-  rest = cut.rest;
-  parts = ap (λ l. front ++ l) cut.parts ∙ sym (append_assoc front cut.done cut.rest);
-  appended = cut.appended ∙ ap (λ w. behind w cut.done) appended ∙ behind_behind old front cut.done;
-}
 
 -- what is told of the whole input, where something is told of what is still to come
 told_of : (all : Accepted) (now : Option Accepted) (done : List (List Transaction)) → Some all ≡ option_map (fronts done) now →

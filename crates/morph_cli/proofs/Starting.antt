@@ -1,13 +1,13 @@
 -- What is said of the program, from what is said of the call.
-use Rattle.std.proofs.Common.{◌≡◌, ◌⊎◌, inl, ℕ, List, [], Option, Some, None, Result, Ok, Err, refl, ap, sym, ◌∙◌, subst}
-use Rattle.std.specs.Prelude.{IfSome, IfOk}
+use Rattle.std.proofs.Common.{◌≡◌, ◌⊎◌, inl, inr, ℕ, List, [], Option, Some, None, Result, Ok, Err, refl, ap, sym, ◌∙◌, subst, arith}
+use Rattle.std.specs.Prelude.{IfSome, IfOk, IsTrue}
 use Rattle.morph_io.specs.Told.{behind, behind_nil}
 use Rattle.event_reader.specs.Accepted.{accepted_within}
 use Rattle.morph_cli.specs.declared.fault.Fault.TheVariants.{OutOfMemory}
-use Rattle.morph_cli.specs.declared.settings.Settings.{Settings}
+use Rattle.run_text.specs.declared.choices.Settings.{Settings}
 use Rattle.morph_cli.specs.Apps.{input_of, left_by, meaning_of, telling_of}
 use Rattle.morph_cli.specs.Headline.{Headline, input_limit}
-use Rattle.morph_cli.specs.Settings.{settings_of}
+use Rattle.run_text.specs.Settings.{settings_of}
 use Rattle.morph_cli.proofs.Headlines.{headline}
 use Rattle.morph_cli.proofs.Running.{nothing_told}
 
@@ -50,3 +50,13 @@ no_memory words told old status is = by_settings (settings_of words)
     by_settings : (o : Option Settings) → IfSome o (λ s. IfSome (input_of s told) (λ input. Headline (meaning_of s) (telling_of s) input_limit input (left_by s.generated told) old old status))
     by_settings None = tt
     by_settings (Some s) = by_input s (input_of s told)
+
+-- a write failed, whatever the settings say of the notes
+pub write_along : (asked : Option Settings) (status status' : ℕ) (Sunk Noted : Type 0) → status' ≡ status → (asked ≡ None → status ≡ 2) →
+    IfSome asked (λ s. status ≡ 5 → Sunk ⊎ (IsTrue s.notes × Noted)) → status' ≡ 5 → Sunk ⊎ Noted
+write_along None status status' Sunk Noted is usage cause five = let two = usage refl in absurd (omega (arith, is, two, five))
+write_along (Some s) status status' Sunk Noted is usage cause five = by_cause (cause (sym is ∙ five))
+  where
+    by_cause : Sunk ⊎ (IsTrue s.notes × Noted) → Sunk ⊎ Noted
+    by_cause (inl sunk) = inl sunk
+    by_cause (inr noted) = inr noted.1

@@ -8,7 +8,7 @@ use Rattle.event_reader.specs.Steps.{Meaning}
 use Rattle.event_reader.specs.Accepted.{Accepted, CutOff, accepted_from, closed_batches}
 use Rattle.event_reader.specs.declared.answers.Next.TheVariants.{Batch}
 use Rattle.event_reader.specs.Reader.{LinesView, new_lines, accepted_next, Takes, ShowsBatch}
-use Rattle.morph_cli.specs.Text.{Telling, event_lines}
+use Rattle.run_text.specs.Text.{Telling, event_lines}
 use Rattle.morph_cli.specs.Runs.{AppendsClosed}
 use Rattle.morph_cli.proofs.Running.{fronts, with_batch-fronts}
 

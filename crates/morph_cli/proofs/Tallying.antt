@@ -1,26 +1,24 @@
 -- The tally of the batches that were run: one batch more, and at each end of a run.
-use Rattle.std.proofs.Common.{map, get_or, Bool, true, false, ◌-◌, ◌≡◌, ℕ, ◌+◌, ◌*◌, ◌<◌, ◌≤◌, List, [], ◌∷◌, ◌++◌, length, sum, sum_by, refl, ap, sym, subst, ◌∙◌, arith, cond}
-use Rattle.std.specs.Prelude.{not, count_by}
+use Rattle.std.proofs.Common.{◌≡◌, ℕ, ◌+◌, ◌*◌, ◌<◌, ◌≤◌, List, [], ◌∷◌, ◌++◌, length, sum, sum_by, refl, ap, sym, subst, ◌∙◌, arith, cond}
+use Rattle.std.specs.Prelude.{not}
 use Rattle.std.proofs.lemmas.List.{length-append}
-use Rattle.std.proofs.lemmas.Simd.{map-map}
-use Rattle.std.proofs.lemmas.List.FromFn.{length-range_with_len, length-map-range_with_len, fill_by_all}
-use Rattle.std.proofs.lemmas.List.Sums.{sum-map, sum_by-cons, sum_by-append, sum_by_push, sum_by-le-sum_by, count_by-le-length}
+use Rattle.std.proofs.lemmas.List.FromFn.{length-range_with_len}
+use Rattle.std.proofs.lemmas.List.Sums.{sum_by-append, sum_by_push, sum_by-le-sum_by, count_by-le-length}
 use Rattle.morph_base.specs.declared.limits.TheConstants.{EVENT_OPS, EVENTS}
 use Rattle.morph_base.specs.declared.plan.Plan.{Plan}
-use Rattle.morph_base.specs.declared.plan.Settled.{Settled}
 use Rattle.morph_base.specs.Transactions.{Transaction, by_time}
 use Rattle.morph_base.specs.States.{State, opening_state, after_all}
 use Rattle.morph_base.specs.Outcomes.{Fate}
-use Rattle.morph_base.specs.Plans.{IsSettledOf, event_count, op_count}
+use Rattle.morph_base.specs.Plans.{op_count}
 use Rattle.morph_base.specs.Graphs.{below}
 use Rattle.morph_base.specs.Guesses.{is_stale, stale_count}
 use Rattle.morph_base.proofs.NumberLaws.{op_count-small}
 use Rattle.morph_base.proofs.PlainLaws.{fates-nil}
 use Rattle.morph_base.proofs.StateLaws.{after_all-append, after_all-nil}
-use Rattle.morph_engine.specs.Fates.{settled_fate, settled_fates}
-use Rattle.morph_cli.specs.declared.tally.Tally.{Tally}
-use Rattle.morph_cli.specs.Text.{in_order, run_state, run_fates, committed_in, aborted_in}
-use Rattle.morph_cli.specs.Tallies.{IsMadeOf, AreRunFrom, IsTallyOf, Adds, IsBalanced, no_tally, settled_by_first}
+use Rattle.run_text.specs.declared.tally.Tally.{Tally}
+use Rattle.run_text.specs.Text.{in_order, run_state, run_fates, committed_in, aborted_in}
+use Rattle.morph_cli.specs.Tallies.{IsMadeOf, AreRunFrom, IsTallyOf, IsBalanced}
+use Rattle.run_text.specs.Counts.{Adds, no_tally, settled_by_first}
 
 -- between two batches: the plans of those that were done, and their tally with the bounds of its numbers
 pub record Tallied (done : List (List Transaction)) (plans : List Plan) (t : Tally) : Type 0 where
@@ -107,45 +105,6 @@ tallied_more done plans t t' batch p fs so_far adds made told some =
       few_ops = let before = so_far.few_ops in let now = adds.batches in let ops = adds.ops in omega (arith, before, now, ops, few_ops);
       few_rolled = let before = so_far.few_rolled in let now = adds.rolled_more in let ops = adds.ops in omega (arith, before, now, ops, few_rolled);
     }
-
--- how many pass a test, of images
-count_by-map : {X Y : Type 0} (test : Y → Bool) (f : X → Y) (xs : List X) → count_by test (map f xs) ≡ count_by (λ x. test (f x)) xs
-count_by-map test f xs =
-    sym (sum-map (λ y. cond (test y) 1 0) (map f xs)) ∙ ap sum (map-map (λ y. cond (test y) 1 0) f xs) ∙ sum-map (λ x. cond (test (f x)) 1 0) xs
-
--- each verdict commits or aborts
-verdicts-both : (vs : List Bool) → count_by (λ v. v) vs + count_by not vs ≡ length vs
-verdicts-both [] = refl
-verdicts-both (true ∷ vs) =
-    let rest = verdicts-both vs in
-    omega (arith, rest, sum_by-cons (λ v. cond v 1 0) true vs, sum_by-cons (λ v. cond (not v) 1 0) true vs)
-verdicts-both (false ∷ vs) =
-    let rest = verdicts-both vs in
-    omega (arith, rest, sum_by-cons (λ v. cond v 1 0) false vs, sum_by-cons (λ v. cond (not v) 1 0) false vs)
-
--- what was settled of a plan has as many commits and aborts as its verdicts
-verdicts-are : (p : Plan) (r : Settled) → IsSettledOf p r → map (λ i. get_or r.committed.items i false) (below (event_count p)) ≡ r.committed.items
-verdicts-are p r settled = sym (fill_by_all (λ i. get_or r.committed.items i false) r.committed.items (event_count p) false settled.verdicts (λ k lt. refl))
-
-pub committed-settled : (p : Plan) (r : Settled) → IsSettledOf p r → committed_in (settled_fates p r) ≡ count_by (λ v. v) r.committed.items
-committed-settled p r settled =
-    count_by-map (λ (f : Fate). f.committed) (settled_fate p r) (below (event_count p))
-    ∙ sym (count_by-map (λ v. v) (λ i. get_or r.committed.items i false) (below (event_count p))) ∙ ap (count_by (λ v. v)) (verdicts-are p r settled)
-
-pub aborted-settled : (p : Plan) (r : Settled) → IsSettledOf p r → aborted_in (settled_fates p r) ≡ event_count p - count_by (λ v. v) r.committed.items
-aborted-settled p r settled =
-    let both = verdicts-both r.committed.items in
-    let all = settled.verdicts in
-    let negative : aborted_in (settled_fates p r) ≡ count_by not r.committed.items =
-    count_by-map (λ (f : Fate). not f.committed) (settled_fate p r) (below (event_count p))
-    ∙ sym (count_by-map not (λ i. get_or r.committed.items i false) (below (event_count p))) ∙ ap (count_by not) (verdicts-are p r settled) in
-    omega (arith, both, all, negative)
-
-pub few_committed : (p : Plan) (r : Settled) → IsSettledOf p r → count_by (λ v. v) r.committed.items ≤ event_count p
-few_committed p r settled = let all = settled.verdicts in omega (arith, all, count_by-le-length (λ (v : Bool). v) r.committed.items)
-
-pub length-settled_fates : (p : Plan) (r : Settled) → length (settled_fates p r) ≡ event_count p
-length-settled_fates p r = length-map-range_with_len (settled_fate p r) 0 (event_count p)
 
 -- the numbers of a tally go together
 all_settled : (ops : ℕ) → sum (settled_by_first ops) ≡ ops

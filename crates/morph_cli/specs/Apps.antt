@@ -9,21 +9,12 @@ use Rattle.grep_app.specs.Grep.{grep_event}
 use Rattle.grep_app.specs.GrepDraws.{grep_drawn}
 use Rattle.toll_app.specs.Toll.{toll_event}
 use Rattle.toll_app.specs.TollDraws.{toll_drawn}
-use Rattle.morph_cli.specs.declared.report.Report.{Report}
-use Rattle.morph_cli.specs.declared.report.Report.TheVariants.{Whole, Summary}
-use Rattle.morph_cli.specs.declared.settings.Settings.{Settings}
-use Rattle.morph_cli.specs.declared.settings.Generated.{Generated}
-use Rattle.morph_cli.specs.declared.settings.App.{App}
-use Rattle.morph_cli.specs.declared.settings.App.TheVariants.{Ledger, Grep, Toll}
-use Rattle.morph_cli.specs.Text.{Telling}
-
--- a summary where the program makes the input itself
-abbrev pub report_by : Option Generated → Report
-report_by None = Whole
-report_by (Some g) = Summary
-
-abbrev pub report_of : Settings → Report
-report_of s = report_by s.generated
+use Rattle.run_text.specs.Reports.{report_by}
+use Rattle.run_text.specs.declared.choices.Settings.{Settings}
+use Rattle.run_text.specs.declared.choices.Generated.{Generated}
+use Rattle.run_text.specs.declared.choices.App.{App}
+use Rattle.run_text.specs.declared.choices.App.TheVariants.{Ledger, Grep, Toll}
+use Rattle.run_text.specs.Text.{Telling}
 
 -- how a run is told, where tables have so many ids and these names
 abbrev pub telling_by : Option Generated → (tables size : ℕ) → (ℕ → List ℕ) → Telling

@@ -4,7 +4,7 @@ use Rattle.morph_io.specs.Told.{behind, AppendsPrefix}
 use Rattle.event_reader.specs.declared.cause.Cause.{Cause}
 use Rattle.event_reader.specs.Steps.{Meaning}
 use Rattle.event_reader.specs.Accepted.{Ended, RefusedAt, CutOff, accepted, accepted_within, closed_batches}
-use Rattle.morph_cli.specs.Text.{Telling, event_lines, whole_text}
+use Rattle.run_text.specs.Text.{Telling, event_lines, whole_text}
 use Rattle.morph_cli.specs.Runs.{AppendsBatches, AppendsClosed}
 
 -- the most bytes of an input

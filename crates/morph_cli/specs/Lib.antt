@@ -1,12 +1,8 @@
-pub mod Text
 pub mod Faults
 pub mod Runs
 pub mod Words
-pub mod Settings
-pub mod NoSettings
 pub mod Status
 pub mod Headline
 pub mod Apps
 pub mod Tallies
-pub mod Notes
 pub mod Outputs

@@ -6,9 +6,9 @@ use Rattle.morph_base.specs.Transactions.{Transaction, by_time}
 use Rattle.morph_base.specs.Outcomes.{fates}
 use Rattle.morph_io.specs.Told.{behind, AppendsPrefix}
 use Rattle.event_reader.specs.Accepted.{Accepted, Ending, CutOff}
-use Rattle.morph_cli.specs.declared.report.Report.{Report}
-use Rattle.morph_cli.specs.Text.{event_lines, told_lines, run_state}
-use Rattle.morph_cli.specs.Notes.{noted, batch_note, batch_notes}
+use Rattle.run_text.specs.declared.report.Report.{Report}
+use Rattle.run_text.specs.Text.{event_lines, told_lines, run_state}
+use Rattle.run_text.specs.Notes.{noted, batch_note, batch_notes}
 
 -- what the sink and the notes tell of the bytes that were written to them
 pub record Outputs : Type 0 where

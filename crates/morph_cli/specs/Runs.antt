@@ -10,8 +10,8 @@ use Rattle.morph_cli.specs.declared.run.Finish.{Finish}
 use Rattle.morph_cli.specs.declared.run.Finish.TheVariants.{Complete, Refused}
 use Rattle.morph_cli.specs.declared.fault.Fault.{Fault}
 use Rattle.morph_cli.specs.declared.fault.Fault.TheVariants.{Read, Write, OutOfMemory, TooLong}
-use Rattle.morph_cli.specs.declared.report.Report.{Report}
-use Rattle.morph_cli.specs.Text.{Telling, event_lines, whole_text}
+use Rattle.run_text.specs.declared.report.Report.{Report}
+use Rattle.run_text.specs.Text.{Telling, event_lines, whole_text}
 
 -- tables of so many ids each
 abbrev pub layout_of : (tables size : ℕ) → Layout

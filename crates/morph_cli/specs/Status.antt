@@ -4,7 +4,7 @@ use Rattle.morph_cli.specs.declared.fault.Fault.{Fault}
 use Rattle.morph_cli.specs.declared.fault.Fault.TheVariants.{Read, Write, OutOfMemory, TooLong}
 use Rattle.morph_cli.specs.declared.run.Finish.{Finish}
 use Rattle.morph_cli.specs.declared.run.Finish.TheVariants.{Complete, Refused}
-use Rattle.morph_cli.specs.Text.{line}
+use Rattle.run_text.specs.Text.{line}
 
 -- the status of a run
 abbrev pub status_of : Result Finish Fault → ℕ

@@ -1,19 +1,19 @@
 -- What was done in a run: the plans of the batches that were run, and the numbers that are told of them.
-use Rattle.std.specs.Prelude.{◌≡◌, ℕ, Bool, ◌+◌, ◌*◌, ◌≤◌, ◌⊎◌, List, [], ◌∷◌, ◌++◌, length, replicate, sum, sum_by, Option, IfSome}
+use Rattle.std.specs.Prelude.{◌≡◌, ℕ, Bool, ◌+◌, ◌*◌, ◌≤◌, ◌⊎◌, List, [], ◌∷◌, ◌++◌, length, sum, sum_by, Option, IfSome}
 use Rattle.morph_base.specs.declared.plan.Plan.{Plan}
 use Rattle.morph_base.specs.Transactions.{Transaction, by_time}
 use Rattle.morph_base.specs.States.{State, opening_state, after_all}
 use Rattle.morph_base.specs.Plans.{HasBases, op_count, transactions}
 use Rattle.morph_base.specs.Graphs.{IsValidPlan}
-use Rattle.morph_base.specs.Outcomes.{Fate}
 use Rattle.morph_base.specs.Guesses.{stale_count}
 use Rattle.event_reader.specs.Accepted.{Accepted}
-use Rattle.morph_cli.specs.declared.tally.Tally.{Tally}
+use Rattle.run_text.specs.Counts.{settled_by_first}
+use Rattle.run_text.specs.declared.tally.Tally.{Tally}
 use Rattle.morph_io.specs.Told.{behind, AppendsPrefix}
-use Rattle.morph_cli.specs.Notes.{noted, closing_notes}
+use Rattle.run_text.specs.Notes.{noted, closing_notes}
 use Rattle.morph_cli.specs.Outputs.{Outputs, with_both, with_batches, IsCutIn, IsCutInBatch, IsAtLast}
 use Rattle.morph_cli.specs.Status.{note_at}
-use Rattle.morph_cli.specs.Text.{Telling, run_fates, committed_in, aborted_in, end_text}
+use Rattle.run_text.specs.Text.{Telling, run_fates, committed_in, aborted_in, end_text}
 
 -- a valid plan of the events of a batch, from the state before it
 pub record IsMadeOf (s : State) (batch : List Transaction) (p : Plan) : Type 0 where
@@ -27,43 +27,6 @@ AreRunFrom s [] [] = Unit {0}
 AreRunFrom s [] (p ∷ ps) = ⊥
 AreRunFrom s (batch ∷ batches) [] = ⊥
 AreRunFrom s (batch ∷ batches) (p ∷ ps) = IsMadeOf s batch p × AreRunFrom (after_all s (by_time batch)) batches ps
-
--- the first worker settled so many operations, and nobody else any
-abbrev pub settled_by_first : (ops : ℕ) → List ℕ
-settled_by_first ops = 0 ∷ ops ∷ replicate 15 0
-
--- the tally of a run of no batch
-abbrev pub no_tally : Tally
-no_tally = record {
-  batches = 0;
-  events = 0;
-  committed = 0;
-  aborted = 0;
-  ops = 0;
-  evaluated = 0;
-  spread = 0;
-  rolled = 0;
-  settled_by = settled_by_first 0;
-  left = 0;
-  handed = 0;
-  stolen = 0;
-}
-
--- a batch was counted: its plan, how many evaluations it took, how many operations were rolled back, and what became of its events
-pub record Adds (old new : Tally) (p : Plan) (evaluated rolled : ℕ) (fs : List Fate) : Type 0 where
-  pub batches : new.batches ≡ old.batches + 1
-  pub events : new.events ≡ old.events + length fs
-  pub committed : new.committed ≡ old.committed + committed_in fs
-  pub aborted : new.aborted ≡ old.aborted + aborted_in fs
-  pub both : new.committed + new.aborted ≡ old.committed + old.aborted + length fs
-  pub ops : new.ops ≡ old.ops + op_count p
-  pub evaluated_more : new.evaluated ≡ old.evaluated + evaluated
-  pub rolled_more : new.rolled ≡ old.rolled + rolled
-  pub settled_by : new.settled_by ≡ settled_by_first new.ops
-  pub spread : new.spread ≡ old.spread
-  pub left : new.left ≡ old.left
-  pub handed : new.handed ≡ old.handed
-  pub stolen : new.stolen ≡ old.stolen
 
 -- the tally of batches that were run by these plans, all with lazy abort and all settled by the first worker
 pub record IsTallyOf (done : List (List Transaction)) (plans : List Plan) (t : Tally) : Type 0 where

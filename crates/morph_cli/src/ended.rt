@@ -3,7 +3,7 @@ ghost use Rattle.morph_cli.specs.Status.{status_of, note_at};
 
 use crate::fault::Fault;
 use crate::run::Finish;
-use crate::tally::Tally;
+use run_text::Tally;
 
 /// How the program ends.
 #[derive(Clone, Copy, Debug, PartialEq, Eq)]

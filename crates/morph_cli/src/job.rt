@@ -1,4 +1,4 @@
-use crate::settings::Settings;
+use run_text::Settings;
 use std::alloc::Global;
 
 /// What a run has to work with, whatever it runs.

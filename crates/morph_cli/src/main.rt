@@ -2,7 +2,8 @@
 //! of them on standard output.
 //!
 //! [`morph::morph`] does all that the program does, over a source, a sink and notes of any kind; [`program::program`] gives
-//! it the words of the program's arguments, and `main` gives that the standard streams. It stands on the applications, as `ledger_app`, on `event_reader`, which cuts the input into
+//! it the words of the program's arguments, and `main` gives that the standard streams. It stands on `run_text`, which reads
+//! the words and writes the lines, on the applications, as `ledger_app`, on `event_reader`, which cuts the input into
 //! batches, on `morph_engine`, which runs them, and on `morph_io`, which reads and writes.
 #![tactic(auto)]
 
@@ -11,22 +12,13 @@ mod ended;
 mod fault;
 mod job;
 mod morph;
-mod names;
 mod note;
-mod notes;
 mod program;
 mod progress;
-mod report;
 mod run;
-mod settings;
-mod tally;
 mod tell;
 #[cfg(test)]
 mod tests;
-mod text;
-mod totals;
-mod words;
-mod writing;
 
 use crate::program::program;
 use morph_base::OutOfMemory;

@@ -7,23 +7,22 @@ ghost use Rattle.morph_cli.specs.Apps.{input_by, input_of, left_by, meaning_of, 
 ghost use Rattle.morph_cli.specs.Headline.{Headline, Completes, input_limit};
 ghost use Rattle.morph_cli.specs.Outputs.{outputs_of};
 ghost use Rattle.morph_cli.specs.Runs.{EndsSo, EndsMade};
-ghost use Rattle.morph_cli.specs.Settings.{AreInRange, settings_of};
+ghost use Rattle.run_text.specs.Settings.{AreInRange, settings_of};
 ghost use Rattle.morph_cli.specs.Status.{note_at, status_of, IsStatus, IsMadeStatus};
-ghost use Rattle.morph_cli.specs.Tallies.{no_tally, RunTold, CallTold, IsBalanced};
+ghost use Rattle.run_text.specs.Counts.{no_tally};
+ghost use Rattle.morph_cli.specs.Tallies.{RunTold, CallTold, IsBalanced};
 
 use crate::ended::{Ended, USAGE_STATUS, note_of, status};
 use crate::fault::Fault;
 use crate::job::{Host, Job};
 use crate::note::{write_note, write_usage};
 use crate::run::{Finish, run};
-use crate::settings::{App, Generated, Settings};
-use crate::tally::Tally;
-use crate::words::settings;
 use event_reader::{EventApp, GenSource};
 use grep_app::Grep;
 use ledger_app::Ledger;
 use morph_base::List;
 use morph_io::{Sink, Source};
+use run_text::{App, Generated, Settings, Tally, settings};
 use std::alloc::Global;
 use std::thread::Threads;
 use toll_app::Toll;

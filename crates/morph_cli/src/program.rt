@@ -3,7 +3,7 @@ ghost use Rattle.std.specs.Process.{exit_status};
 ghost use Rattle.morph_io.specs.Told.{HasRisen};
 ghost use Rattle.morph_cli.specs.Apps.{input_of, left_by, meaning_of, telling_of};
 ghost use Rattle.morph_cli.specs.Headline.{Headline, input_limit};
-ghost use Rattle.morph_cli.specs.Settings.{settings_of};
+ghost use Rattle.run_text.specs.Settings.{settings_of};
 ghost use Rattle.morph_cli.specs.Status.{IsStatus};
 ghost use Rattle.morph_cli.specs.Words.{words_behind};
 
@@ -60,6 +60,8 @@ pub fn program<R: Threads + Sync, S: Source, K: Sink, N: Sink>(
         IfSome (input_of s (S.left source.old)) (λ input. Headline (meaning_of s) (telling_of s) input_limit input
         (left_by s.generated (S.left source.new)) (K.written sink.old) (K.written sink.new) (exit_status result)))) }
     ensures read { exit_status result ≡ 4 → HasRisen (S.faults source.old) (S.faults source.new) }
+    ensures write { exit_status result ≡ 5
+        → HasRisen (K.faults sink.old) (K.faults sink.new) ⊎ HasRisen (N.faults notes.old) (N.faults notes.new) }
     ensures statuses { IsStatus (exit_status result) }
     ensures memory { OnErr args (exit_status result ≡ 6) }
 {

@@ -4,7 +4,7 @@ ghost use Rattle.event_reader.specs.Reader.{new_reader};
 ghost use Rattle.morph_base.specs.Flat.{contents};
 ghost use Rattle.morph_base.specs.States.{opening_state};
 ghost use Rattle.morph_cli.specs.Runs.{layout_of};
-ghost use Rattle.morph_cli.specs.Settings.{AreInRange};
+ghost use Rattle.run_text.specs.Settings.{AreInRange};
 
 use crate::job::Job;
 use event_reader::{BatchReader, EventApp, INPUT_BYTES};

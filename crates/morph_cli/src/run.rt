@@ -8,18 +8,19 @@ ghost use Rattle.morph_io.specs.Told.{HasRisen};
 ghost use Rattle.morph_cli.specs.Apps.{telling_for};
 ghost use Rattle.morph_cli.specs.Outputs.{outputs_of};
 ghost use Rattle.morph_cli.specs.Runs.{EndsSo, layout_of};
-ghost use Rattle.morph_cli.specs.Settings.{AreInRange};
+ghost use Rattle.run_text.specs.Settings.{AreInRange};
 ghost use Rattle.morph_cli.specs.Status.{status_of};
-ghost use Rattle.morph_cli.specs.Tallies.{no_tally, RunTold};
+ghost use Rattle.run_text.specs.Counts.{no_tally};
+ghost use Rattle.morph_cli.specs.Tallies.{RunTold};
 
 use crate::batch::run_batch;
 use crate::fault::Fault;
 use crate::job::Job;
 use crate::progress::Progress;
-use crate::tally::Tally;
 use crate::tell::{Refusal, tell_batch, tell_closing, tell_refused};
 use event_reader::{EventApp, Next};
 use morph_io::{Sink, Source};
+use run_text::Tally;
 use std::thread::Threads;
 use worker_gate::Gate;
 

@@ -4,20 +4,19 @@ ghost use Rattle.morph_base.specs.Flat.{contents};
 ghost use Rattle.morph_base.specs.Plans.{IsPlan, IsSettledOf};
 ghost use Rattle.morph_engine.specs.Fates.{settled_fates};
 ghost use Rattle.morph_io.specs.Told.{HasRisen};
-ghost use Rattle.morph_cli.specs.declared.settings.TheConstants.{GREATEST_SIZE};
-ghost use Rattle.morph_cli.specs.Apps.{report_of};
-ghost use Rattle.morph_cli.specs.Notes.{noted, batch_note, closing_notes};
+ghost use Rattle.run_text.specs.declared.choices.TheConstants.{GREATEST_SIZE};
+ghost use Rattle.run_text.specs.Reports.{report_of};
+ghost use Rattle.run_text.specs.Notes.{noted, batch_note, closing_notes};
 ghost use Rattle.morph_cli.specs.Outputs.{outputs_of, Tells};
-ghost use Rattle.morph_cli.specs.Text.{told_lines, told_values, counts_line, refused_text};
+ghost use Rattle.run_text.specs.Text.{told_lines, told_values, counts_line, refused_text};
 
 use crate::job::Job;
-use crate::notes::{note_batch, note_tally};
-use crate::settings::Settings;
-use crate::tally::Tally;
-use crate::writing::{write_closing, write_events, write_refused};
 use event_reader::{Cause, EventApp};
 use morph_engine::BatchEnd;
 use morph_io::{Out, Sink, WriteFailed};
+use run_text::{
+    Settings, Tally, note_batch, note_tally, write_closing, write_events, write_refused,
+};
 use version_table::State;
 
 /// A refused line: its number, counted from 1, and the cause.

@@ -8,9 +8,9 @@ mod tallies;
 
 use crate::ended::Ended;
 use crate::morph::morph;
-use crate::tally::Tally;
 use morph_base::{List, OutOfMemory};
 use morph_io::{MemSink, MemSource, Sink, Source};
+use run_text::Tally;
 use std::alloc::Global;
 use std::process::Abort;
 use std::test::Fail;

@@ -1,6 +1,6 @@
 //! What is counted of the batches that were run.
 use super::{FOUR_EVENTS, LEDGER, run_words};
-use crate::tally::Tally;
+use run_text::Tally;
 use std::test::Fail;
 
 /// The batches, the events with how many committed and aborted, the operations, how often these were evaluated and rolled

@@ -5,7 +5,7 @@ use Rattle.morph_io.specs.Told.{behind, HasRisen, AppendsPrefix}
 use Rattle.morph_cli.proofs.Noting.{risen_before}
 use Rattle.morph_cli.proofs.Tallying.{balanced}
 use Rattle.morph_cli.specs.Outputs.{outputs_of}
-use Rattle.morph_cli.specs.Settings.{settings_of}
+use Rattle.run_text.specs.Settings.{settings_of}
 use Rattle.morph_cli.proofs.Answering.{headline_asked, completes_asked, made_asked, told_asked, write_asked}
 use Rattle.morph_cli.proofs.morph.morph.Goals as goal
 

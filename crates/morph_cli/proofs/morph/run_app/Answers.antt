@@ -1,5 +1,5 @@
 use Rattle.event_reader.specs.declared.limits.TheConstants.{INPUT_BYTES}
-use Rattle.morph_cli.specs.declared.settings.App.TheVariants.{Ledger, Grep, Toll}
+use Rattle.run_text.specs.declared.choices.App.TheVariants.{Ledger, Grep, Toll}
 use Rattle.morph_cli.specs.Outputs.{outputs_of}
 use Rattle.morph_cli.specs.Status.{status_of}
 use Rattle.morph_cli.proofs.Making.{in_app, told_in_app}

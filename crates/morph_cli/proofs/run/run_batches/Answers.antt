@@ -6,18 +6,19 @@ use Rattle.morph_base.specs.Flat.{Kept, contents}
 use Rattle.morph_base.proofs.NumberLaws.{op_count-small}
 use Rattle.morph_engine.specs.Fates.{settled_fates}
 use Rattle.morph_cli.specs.declared.fault.Fault.TheVariants.{Write, OutOfMemory}
-use Rattle.morph_cli.specs.declared.settings.Settings.{Settings}
-use Rattle.morph_cli.specs.declared.tally.Tally.{Tally}
-use Rattle.morph_cli.specs.Apps.{report_of}
+use Rattle.run_text.specs.declared.choices.Settings.{Settings}
+use Rattle.run_text.specs.declared.tally.Tally.{Tally}
+use Rattle.run_text.specs.Reports.{report_of}
 use Rattle.morph_cli.specs.Faults.{fault_of}
-use Rattle.morph_cli.specs.Notes.{noted, batch_note, closing_notes}
+use Rattle.run_text.specs.Notes.{noted, batch_note, closing_notes}
 use Rattle.morph_cli.specs.Outputs.{outputs_of}
 use Rattle.morph_cli.specs.Runs.{layout_of}
-use Rattle.morph_cli.specs.Text.{told_values, refused_text, counts_line}
+use Rattle.run_text.specs.Text.{told_values, refused_text, counts_line}
 use Rattle.morph_cli.proofs.Between.{course_of, error_is, fates-many, between_start, between_batch, tally_few, ends_fault, told_fault, ends_in_batch, told_cut_in_batch}
 use Rattle.morph_cli.proofs.Ending.{ends_memory, ends_complete, ends_refused, ends_cut, told_short, told_at_end, told_cut_at_end}
 use Rattle.morph_cli.proofs.Noting.{risen_in_part}
-use Rattle.morph_cli.proofs.Tallying.{few_stale, length-settled_fates}
+use Rattle.morph_cli.proofs.Tallying.{few_stale}
+use Rattle.run_text.proofs.Verdicts.{length-settled_fates}
 use Rattle.morph_cli.proofs.Turns.{cut_text}
 use Rattle.morph_cli.proofs.run.run_batches.Goals as goal
 

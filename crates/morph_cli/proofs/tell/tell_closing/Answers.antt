@@ -1,9 +1,9 @@
 use Rattle.std.proofs.Common.{◌++◌, ap, subst, ◌∙◌}
 use Rattle.morph_io.specs.Told.{behind, AppendsPrefix}
 use Rattle.morph_base.specs.Flat.{contents}
-use Rattle.morph_cli.specs.Apps.{report_of}
-use Rattle.morph_cli.specs.Notes.{noted, closing_notes}
-use Rattle.morph_cli.specs.Text.{told_values, counts_line}
+use Rattle.run_text.specs.Reports.{report_of}
+use Rattle.run_text.specs.Notes.{noted, closing_notes}
+use Rattle.run_text.specs.Text.{told_values, counts_line}
 use Rattle.morph_cli.proofs.Turns.{tells_behind, tells_cut}
 use Rattle.morph_cli.proofs.tell.tell_closing.Goals as goal
 

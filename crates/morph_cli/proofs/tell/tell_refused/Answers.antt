@@ -1,5 +1,5 @@
-use Rattle.morph_cli.specs.Notes.{noted, closing_notes}
-use Rattle.morph_cli.specs.Text.{refused_text}
+use Rattle.run_text.specs.Notes.{noted, closing_notes}
+use Rattle.run_text.specs.Text.{refused_text}
 use Rattle.morph_cli.proofs.Turns.{tells_behind, tells_cut}
 use Rattle.morph_cli.proofs.tell.tell_refused.Goals as goal
 

@@ -1,6 +1,0 @@
-use Rattle.morph_cli.specs.Notes.{batch_note}
-use Rattle.morph_cli.proofs.Noting.{unwritten}
-use Rattle.morph_cli.proofs.notes.note_batch.Goals as goal
-
-pub returns-then-not-on-clause-written : goal.returns-then-not-on-clause-written
-returns-then-not-on-clause-written g c = unwritten c.args.on (g.N.Sink.written c.args.notes.now) (batch_note c.args.number c.args.plan.now) c.if-not-on.true

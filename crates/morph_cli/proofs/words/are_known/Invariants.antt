@@ -1,7 +1,0 @@
-use Rattle.std.proofs.Common.{◌≡◌, true, take}
-use Rattle.std.specs.List.{list_all}
-use Rattle.morph_cli.specs.Settings.{is_known}
-use Rattle.morph_cli.proofs.words.are_known.Given as goal
-
-abbrev pub invariant-loop-word : goal.invariant-loop-word
-invariant-loop-word l = list_all (λ word. is_known word.items) (take l.word-index l.words) ≡ true

@@ -1,0 +1,7 @@
+pub mod Pieces
+pub mod Summing
+pub mod Writes
+pub mod Verdicts
+pub mod Asked
+pub mod WordLaws
+pub mod NoSettingsLaws

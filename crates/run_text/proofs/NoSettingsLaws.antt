@@ -1,0 +1,300 @@
+-- Words ask for no settings exactly where one of the causes holds.
+use Rattle.std.proofs.Common.{◌≡◌, ℕ, ◌⊎◌, inl, inr, Bool, true, false, List, [], ◌∷◌, Option, Some, None, refl, ap, sym, ◌∙◌, subst, lit<}
+use Rattle.std.specs.Prelude.{◌&&◌, ◌||◌, count_by, is_some, if◌then◌else◌}
+use Rattle.std.specs.List.{list_all}
+use Rattle.std.proofs.lemmas.Bool.{cases_Bool, and_cases, and_left, and_right, cond-true, cond-false, leb-false, lt-leb, true≢false}
+use Rattle.std.proofs.lemmas.List.Folds.{list_all_at}
+use Rattle.event_reader.specs.Numbers.{value_of}
+use Rattle.event_reader.specs.declared.ranges.Range.{Range}
+use Rattle.run_text.specs.declared.names.Name.{Name}
+use Rattle.run_text.specs.declared.names.Name.TheVariants.{App as AppName, Own, Workers, Size, Seed, Events, Notes}
+use Rattle.run_text.specs.declared.choices.App.{App}
+use Rattle.run_text.specs.declared.choices.Settings.{Settings}
+use Rattle.run_text.specs.declared.words.Input.{Input}
+use Rattle.run_text.specs.Settings.{all_names, has_equals, name_of, has_name, is_known, is_once, are_once, value_under, is_given, app_in, some_app, app_given, app_under, number_given, number_under, says_in, switch_in, switch_given, switch_under, worker_counts, sizes, seeds, event_counts, read_input, made_of, made_input, input_by, input_of, settings_by, settings_of}
+use Rattle.run_text.specs.NoSettings.{is_name, is_value_of, NoSettings, no_equals, unknown_name, given_twice, other_value, both_inputs, no_input, made_alone}
+
+-- ---- the names
+
+-- a word has a name that there is where it has an `=`, and what stands before it is such a name
+by_any : (any a b c d e f g : Bool) →
+    ((any && a) || ((any && b) || ((any && c) || ((any && d) || ((any && e) || ((any && f) || ((any && g) || false)))))))
+    ≡ (any && (a || (b || (c || (d || (e || (f || (g || false))))))))
+by_any true a b c d e f g = refl
+by_any false a b c d e f g = refl
+
+known_by : (word : List ℕ) → is_known word ≡ (has_equals word && is_name (name_of word))
+known_by word = by_any (has_equals word) _ _ _ _ _ _ _
+
+exchange : (a b c d : Bool) → ((a && b) && (c && d)) ≡ ((a && c) && (b && d))
+exchange true true c d = refl
+exchange true false true d = refl
+exchange true false false d = refl
+exchange false b c d = refl
+
+all_known : (words : List (List ℕ)) → list_all is_known words ≡ (list_all has_equals words && list_all (λ word. is_name (name_of word)) words)
+all_known [] = refl
+all_known (word ∷ words) =
+    ap (λ k. is_known word && k) (all_known words)
+    ∙ ap (λ k. k && (list_all has_equals words && list_all (λ word. is_name (name_of word)) words)) (known_by word)
+    ∙ exchange (has_equals word) (is_name (name_of word)) (list_all has_equals words) (list_all (λ word. is_name (name_of word)) words)
+
+first_false : (test : Name → Bool) (names : List Name) → list_all test names ≡ false → (name : Name) × (test name ≡ false)
+first_false test [] is = absurd (true≢false is)
+first_false test (name ∷ names) is = by_case (and_cases (test name) (list_all test names) is) (λ h. first_false test names h)
+  where
+    by_case : (test name ≡ false) ⊎ (list_all test names ≡ false) → (list_all test names ≡ false → (name : Name) × (test name ≡ false)) → (name : Name) × (test name ≡ false)
+    by_case (inl here) later = (name, here)
+    by_case (inr there) later = later there
+
+all_false : (test : Name → Bool) (name : Name) → test name ≡ false → list_all test all_names ≡ false
+all_false test AppName is = list_all_at test all_names 0 AppName (lit< tt) is
+all_false test Own is = list_all_at test all_names 1 Own (lit< tt) is
+all_false test Workers is = list_all_at test all_names 2 Workers (lit< tt) is
+all_false test Size is = list_all_at test all_names 3 Size (lit< tt) is
+all_false test Seed is = list_all_at test all_names 4 Seed (lit< tt) is
+all_false test Events is = list_all_at test all_names 5 Events (lit< tt) is
+all_false test Notes is = list_all_at test all_names 6 Notes (lit< tt) is
+
+-- ---- the values
+
+-- a value that is none is not given
+abbrev IsOther : Name → Option (List ℕ) → Type 0
+IsOther name given = (value : List ℕ) × (given ≡ Some value) × (is_value_of name value ≡ false)
+
+nothing : {X : Type 0} (o : Option X) → is_some o ≡ false → o ≡ None
+nothing None is = refl
+nothing (Some x) is = absurd (true≢false is)
+
+something : {X : Type 0} (o : Option X) → o ≡ None → is_some o ≡ false
+something o is = ap is_some is
+
+number_none : (range : Range) (other : ℕ) (given : Option (List ℕ)) → number_given range other given ≡ None →
+    (value : List ℕ) × (given ≡ Some value) × (says_in range value ≡ false)
+number_none range other None is = absurd (cc)
+number_none range other (Some value) is = (value, refl, by_test (value_of value) (says_in range value) is)
+  where
+    by_test : (n : ℕ) (t : Bool) → (if t then Some n else None) ≡ None → t ≡ false
+    by_test n true is = absurd (cc)
+    by_test n false is = refl
+
+number_out : (range : Range) (other : ℕ) (given : Option (List ℕ)) (value : List ℕ) → given ≡ Some value → says_in range value ≡ false → number_given range other given ≡ None
+number_out range other given value is out = ap (number_given range other) is ∙ cond-false (says_in range value) _ _ out
+
+switch_none : (given : Option (List ℕ)) → switch_given given ≡ None → (value : List ℕ) × (given ≡ Some value) × (is_some (switch_in value) ≡ false)
+switch_none None is = absurd (cc)
+switch_none (Some value) is = (value, refl, something (switch_in value) is)
+
+-- an application is given with a value that is none, or not, or it is one
+data Given (given : Option (List ℕ)) : Type 0 where
+  given_other : (value : List ℕ) → given ≡ Some value → is_some (app_in value) ≡ false → app_given given ≡ None → Given given
+  not_given : is_some given ≡ false → app_given given ≡ Some None → Given given
+  given_one : (app : App) → is_some given ≡ true → app_given given ≡ Some (Some app) → Given given
+
+given_cases : (given : Option (List ℕ)) → Given given
+given_cases None = not_given refl refl
+given_cases (Some value) = by_app (app_in value) refl
+  where
+    by_app : (o : Option App) → app_in value ≡ o → Given (Some value)
+    by_app None is = given_other value refl (something (app_in value) is) (ap some_app is)
+    by_app (Some app) is = given_one app refl (ap some_app is)
+
+-- ---- a cause, and no settings
+
+abbrev rest_of : List (List ℕ) → Option Settings
+rest_of words =
+    settings_by (input_of words) (number_under Workers worker_counts 1 words) (number_under Size sizes 10000 words) (switch_under Notes words)
+
+by_rest : (words : List (List ℕ)) → rest_of words ≡ None → settings_of words ≡ None
+by_rest words is = by_test (list_all is_known words && are_once words)
+  where
+    by_test : (t : Bool) → (if t then rest_of words else None) ≡ None
+    by_test true = is
+    by_test false = refl
+
+no_workers : (i : Option Input) (w s : Option ℕ) (n : Option Bool) → w ≡ None → settings_by i w s n ≡ None
+no_workers None w s n is = refl
+no_workers (Some i) w s n is = ap (λ w. settings_by (Some i) w s n) is
+
+no_size : (i : Option Input) (w s : Option ℕ) (n : Option Bool) → s ≡ None → settings_by i w s n ≡ None
+no_size None w s n is = refl
+no_size (Some i) None s n is = refl
+no_size (Some i) (Some w) s n is = ap (λ s. settings_by (Some i) (Some w) s n) is
+
+no_notes : (i : Option Input) (w s : Option ℕ) (n : Option Bool) → n ≡ None → settings_by i w s n ≡ None
+no_notes None w s n is = refl
+no_notes (Some i) None s n is = refl
+no_notes (Some i) (Some w) None n is = refl
+no_notes (Some i) (Some w) (Some s) n is = ap (settings_by (Some i) (Some w) (Some s)) is
+
+by_input : (words : List (List ℕ)) → input_of words ≡ None → settings_of words ≡ None
+by_input words is =
+    by_rest words (ap (λ i. settings_by i (number_under Workers worker_counts 1 words) (number_under Size sizes 10000 words) (switch_under Notes words)) is)
+
+no_app : (words : List (List ℕ)) (a b : Option (Option App)) → a ≡ None → input_by words a b ≡ None
+no_app words a b is = ap (λ a. input_by words a b) is
+
+no_own : (words : List (List ℕ)) (a b : Option (Option App)) → b ≡ None → input_by words a b ≡ None
+no_own words None b is = refl
+no_own words (Some None) b is = ap (input_by words (Some None)) is
+no_own words (Some (Some app)) b is = ap (input_by words (Some (Some app))) is
+
+module _ (words : List (List ℕ)) where
+  -- a seed or a number of events is given, which makes no input
+  no_made : (a b : Option (Option App)) → (is_given Seed words || is_given Events words) ≡ true → ((app : App) → made_input app words ≡ None) → input_by words a b ≡ None
+  no_made None b given none = refl
+  no_made (Some None) None given none = refl
+  no_made (Some None) (Some None) given none = refl
+  no_made (Some None) (Some (Some app)) given none = none app
+  no_made (Some (Some app)) None given none = refl
+  no_made (Some (Some app)) (Some None) given none = cond-true (is_given Seed words || is_given Events words) _ _ given
+  no_made (Some (Some app)) (Some (Some own)) given none = refl
+
+  no_seed : (app : App) → number_under Seed seeds 1 words ≡ None → made_input app words ≡ None
+  no_seed app is = ap (λ n. made_of app n (number_under Events event_counts 1000 words)) is
+
+  no_events : (app : App) → number_under Events event_counts 1000 words ≡ None → made_input app words ≡ None
+  no_events app is = ap (made_of app (number_under Seed seeds 1 words)) is ∙ by_seed (number_under Seed seeds 1 words)
+    where
+      by_seed : (n : Option ℕ) → made_of app n None ≡ None
+      by_seed None = refl
+      by_seed (Some n) = refl
+
+  other_none : (name : Name) (value : List ℕ) → value_under name words ≡ Some value → is_value_of name value ≡ false → settings_of words ≡ None
+  other_none AppName value is other =
+      by_input words (no_app words (app_under AppName words) (app_under Own words) (ap app_given is ∙ ap some_app (nothing (app_in value) other)))
+  other_none Own value is other =
+      by_input words (no_own words (app_under AppName words) (app_under Own words) (ap app_given is ∙ ap some_app (nothing (app_in value) other)))
+  other_none Workers value is other =
+      by_rest words (no_workers (input_of words) _ _ _ (number_out worker_counts 1 (value_under Workers words) value is other))
+  other_none Size value is other =
+      by_rest words (no_size (input_of words) (number_under Workers worker_counts 1 words) _ _ (number_out sizes 10000 (value_under Size words) value is other))
+  other_none Seed value is other =
+      by_input words (no_made (app_under AppName words) (app_under Own words) (ap (λ o. is_some o || is_given Events words) is)
+      (λ app. no_seed app (number_out seeds 1 (value_under Seed words) value is other)))
+  other_none Events value is other =
+      by_input words (no_made (app_under AppName words) (app_under Own words) (ap (λ o. is_given Seed words || is_some o) is ∙ or_true (is_given Seed words))
+      (λ app. no_events app (number_out event_counts 1000 (value_under Events words) value is other)))
+    where
+      or_true : (b : Bool) → (b || true) ≡ true
+      or_true true = refl
+      or_true false = refl
+  other_none Notes value is other =
+      by_rest words (no_notes (input_of words) (number_under Workers worker_counts 1 words) (number_under Size sizes 10000 words) _
+      (ap switch_given is ∙ nothing (switch_in value) other))
+
+  along : (a b a' b' : Option (Option App)) → a ≡ a' → b ≡ b' → input_by words a b ≡ None → input_by words a' b' ≡ None
+  along a b a' b' first second none =
+      subst (λ b. input_by words a' b ≡ None) second (subst (λ a. input_by words a b ≡ None) first none)
+
+  both_none : is_given AppName words ≡ true → is_given Own words ≡ true → input_of words ≡ None
+  both_none app own = by_both (given_cases (value_under AppName words)) (given_cases (value_under Own words))
+    where
+      by_both : Given (value_under AppName words) → Given (value_under Own words) → input_of words ≡ None
+      by_both (given_other v here other none) second = no_app words (app_under AppName words) (app_under Own words) none
+      by_both (not_given lacks a) second = absurd (true≢false (sym app ∙ lacks))
+      by_both (given_one x has a) (given_other v here other none) = no_own words (app_under AppName words) (app_under Own words) none
+      by_both (given_one x has a) (not_given lacks b) = absurd (true≢false (sym own ∙ lacks))
+      by_both (given_one x has a) (given_one y has' b) = along (Some (Some x)) (Some (Some y)) (app_under AppName words) (app_under Own words) (sym a) (sym b) refl
+
+  alone_none : (is_given Seed words || is_given Events words) ≡ true → is_given Own words ≡ false → input_of words ≡ None
+  alone_none given own =
+      along (app_under AppName words) (Some None) (app_under AppName words) (app_under Own words) refl (sym (ap app_given (nothing (value_under Own words) own)))
+      (by_app (app_under AppName words))
+    where
+      by_app : (a : Option (Option App)) → input_by words a (Some None) ≡ None
+      by_app None = refl
+      by_app (Some None) = refl
+      by_app (Some (Some app)) = cond-true (is_given Seed words || is_given Events words) _ _ given
+
+  neither_none : is_given AppName words ≡ false → is_given Own words ≡ false → input_of words ≡ None
+  neither_none app own =
+      along (Some None) (Some None) (app_under AppName words) (app_under Own words) (sym (ap app_given (nothing (value_under AppName words) app)))
+      (sym (ap app_given (nothing (value_under Own words) own))) refl
+
+  by_names : (list_all is_known words && are_once words) ≡ false → settings_of words ≡ None
+  by_names is = cond-false (list_all is_known words && are_once words) _ _ is
+
+  pub none_by : NoSettings words → settings_of words ≡ None
+  none_by (no_equals is) =
+      by_names (and_left _ _ (all_known words ∙ and_left _ _ is))
+  none_by (unknown_name is) =
+      by_names (and_left _ _ (all_known words ∙ and_right _ _ is))
+  none_by (given_twice name twice) =
+      by_names (and_right _ _ (all_false (is_once words) name (lt-leb (count_by (has_name name) words) 1 twice)))
+  none_by (other_value name value is other) = other_none name value is other
+  none_by (both_inputs app own) = by_input words (both_none app own)
+  none_by (no_input app own) = by_input words (neither_none app own)
+  none_by (made_alone given own) = by_input words (alone_none given own)
+
+  -- ---- no settings, and a cause
+
+  missing : (i : Option Input) (w s : Option ℕ) (n : Option Bool) → settings_by i w s n ≡ None → (i ≡ None) ⊎ ((w ≡ None) ⊎ ((s ≡ None) ⊎ (n ≡ None)))
+  missing None w s n is = inl refl
+  missing (Some i) None s n is = inr (inl refl)
+  missing (Some i) (Some w) None n is = inr (inr (inl refl))
+  missing (Some i) (Some w) (Some s) None is = inr (inr (inr refl))
+  missing (Some i) (Some w) (Some s) (Some n) is = absurd (cc)
+
+  made_missing : (app : App) (seed events : Option ℕ) → made_of app seed events ≡ None → (seed ≡ None) ⊎ (events ≡ None)
+  made_missing app None events is = inl refl
+  made_missing app (Some seed) None is = inr refl
+  made_missing app (Some seed) (Some events) is = absurd (cc)
+
+  cause_made : (app : App) → made_input app words ≡ None → NoSettings words
+  cause_made app is = by_part (made_missing app (number_under Seed seeds 1 words) (number_under Events event_counts 1000 words) is)
+    where
+      by_part : (number_under Seed seeds 1 words ≡ None) ⊎ (number_under Events event_counts 1000 words ≡ None) → NoSettings words
+      by_part (inl seed) = let m = number_none seeds 1 (value_under Seed words) seed in other_value Seed m.0 m.1 m.2
+      by_part (inr events) = let m = number_none event_counts 1000 (value_under Events words) events in other_value Events m.0 m.1 m.2
+
+  cause_read : (app : App) → read_input app words ≡ None → (is_given Seed words || is_given Events words) ≡ true
+  cause_read app is = by_test (record { app = app; generated = None }) (is_given Seed words || is_given Events words) is
+    where
+      by_test : (i : Input) (t : Bool) → (if t then None else Some i) ≡ None → t ≡ true
+      by_test i true is = refl
+      by_test i false is = absurd (cc)
+
+  cause_input : input_of words ≡ None → NoSettings words
+  cause_input is = by_both (given_cases (value_under AppName words)) (given_cases (value_under Own words))
+    where
+      by_both : Given (value_under AppName words) → Given (value_under Own words) → NoSettings words
+      by_both (given_other v here other none) second = other_value AppName v here other
+      by_both (not_given lacks a) (given_other v here other none) = other_value Own v here other
+      by_both (not_given lacks a) (not_given lacks' b) = no_input lacks lacks'
+      by_both (not_given lacks a) (given_one app has b) = cause_made app (along (app_under AppName words) (app_under Own words) (Some None) (Some (Some app)) a b is)
+      by_both (given_one app has a) (given_other v here other none) = other_value Own v here other
+      by_both (given_one app has a) (not_given lacks b) =
+          made_alone (cause_read app (along (app_under AppName words) (app_under Own words) (Some (Some app)) (Some None) a b is)) lacks
+      by_both (given_one app has a) (given_one own has' b) = both_inputs has has'
+
+  cause_rest : (input_of words ≡ None) ⊎ ((number_under Workers worker_counts 1 words ≡ None) ⊎ ((number_under Size sizes 10000 words ≡ None) ⊎ (switch_under Notes words ≡ None)))
+      → NoSettings words
+  cause_rest (inl input) = cause_input input
+  cause_rest (inr (inl workers)) = let m = number_none worker_counts 1 (value_under Workers words) workers in other_value Workers m.0 m.1 m.2
+  cause_rest (inr (inr (inl size))) = let m = number_none sizes 10000 (value_under Size words) size in other_value Size m.0 m.1 m.2
+  cause_rest (inr (inr (inr notes))) = let m = switch_none (value_under Notes words) notes in other_value Notes m.0 m.1 m.2
+
+  cause_known : (list_all has_equals words ≡ false) ⊎ (list_all (λ word. is_name (name_of word)) words ≡ false) → NoSettings words
+  cause_known (inl lacks) = no_equals lacks
+  cause_known (inr unknown) = unknown_name unknown
+
+  cause_names : (list_all is_known words ≡ false) ⊎ (are_once words ≡ false) → NoSettings words
+  cause_names (inl unknown) =
+      cause_known (and_cases (list_all has_equals words) (list_all (λ word. is_name (name_of word)) words) (sym (all_known words) ∙ unknown))
+  cause_names (inr twice) =
+      let found = first_false (is_once words) all_names twice in
+      given_twice found.0 (leb-false (count_by (has_name found.0) words) 1 found.1)
+
+  pub cause_of : settings_of words ≡ None → NoSettings words
+  cause_of is = by_tests (cases_Bool (list_all is_known words && are_once words))
+    where
+      by_tests : ((list_all is_known words && are_once words) ≡ true) ⊎ ((list_all is_known words && are_once words) ≡ false) → NoSettings words
+      by_tests (inl named) =
+          cause_rest (missing (input_of words) (number_under Workers worker_counts 1 words) (number_under Size sizes 10000 words) (switch_under Notes words)
+          (sym (cond-true (list_all is_known words && are_once words) (rest_of words) None named) ∙ is))
+      by_tests (inr unnamed) = cause_names (and_cases (list_all is_known words) (are_once words) unnamed)
+
+  -- both, of an answer that is what the words ask for
+  pub none_asked : (asked : Option Settings) → asked ≡ settings_of words → (asked ≡ None → NoSettings words) × (NoSettings words → asked ≡ None)
+  none_asked asked is = ((λ none. cause_of (sym is ∙ none)), (λ cause. is ∙ none_by cause))

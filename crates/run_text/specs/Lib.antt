@@ -1,0 +1,6 @@
+pub mod Text
+pub mod Reports
+pub mod Counts
+pub mod Notes
+pub mod Settings
+pub mod NoSettings

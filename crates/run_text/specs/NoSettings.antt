@@ -1,0 +1,36 @@
+-- Why words ask for no settings: the list of the causes.
+use Rattle.std.specs.Prelude.{◌≡◌, ℕ, ◌≤◌, ◌||◌, Bool, true, false, List, count_by, Some, is_some}
+use Rattle.std.specs.List.{list_all, list_any}
+use Rattle.std.specs.Str.{bytes_eq}
+use Rattle.run_text.specs.declared.names.Name.{Name}
+use Rattle.run_text.specs.declared.names.Name.TheVariants.{App, Own, Workers, Size, Seed, Events, Notes}
+use Rattle.run_text.specs.Settings.{text_of, all_names, has_equals, name_of, has_name, value_under, is_given, app_in, switch_in, says_in, worker_counts, sizes, seeds, event_counts}
+
+-- whether bytes are a name that there is
+abbrev pub is_name : List ℕ → Bool
+is_name bytes = list_any (λ name. bytes_eq bytes (text_of name)) all_names
+
+-- whether a value is one of a name's
+abbrev pub is_value_of : Name → (value : List ℕ) → Bool
+is_value_of App value = is_some (app_in value)
+is_value_of Own value = is_some (app_in value)
+is_value_of Workers value = says_in worker_counts value
+is_value_of Size value = says_in sizes value
+is_value_of Seed value = says_in seeds value
+is_value_of Events value = says_in event_counts value
+is_value_of Notes value = is_some (switch_in value)
+
+pub data NoSettings (words : List (List ℕ)) : Type 0 where
+  -- a word has no `=`
+  no_equals : list_all has_equals words ≡ false → NoSettings words
+  -- the name of a word is none that there is
+  unknown_name : list_all (λ word. is_name (name_of word)) words ≡ false → NoSettings words
+  -- a name is given twice
+  given_twice : (name : Name) → 2 ≤ count_by (has_name name) words → NoSettings words
+  -- a value is not one of its name's
+  other_value : (name : Name) (value : List ℕ) → value_under name words ≡ Some value → is_value_of name value ≡ false → NoSettings words
+  -- both of `app` and `self` are given, or neither
+  both_inputs : is_given App words ≡ true → is_given Own words ≡ true → NoSettings words
+  no_input : is_given App words ≡ false → is_given Own words ≡ false → NoSettings words
+  -- a seed or a number of events is given without `self`
+  made_alone : (is_given Seed words || is_given Events words) ≡ true → is_given Own words ≡ false → NoSettings words

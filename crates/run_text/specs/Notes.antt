@@ -1,0 +1,41 @@
+-- The text of the notes where they are on: a line for each batch that was run, and at the end the tally.
+use Rattle.std.specs.Prelude.{ℕ, ◌+◌, Bool, true, false, List, [], ◌∷◌, ◌++◌, codes, length, take}
+use Rattle.std.specs.List.{flat_map}
+use Rattle.morph_base.specs.declared.plan.Plan.{Plan}
+use Rattle.morph_base.specs.Plans.{event_count, op_count}
+use Rattle.run_text.specs.declared.tally.Tally.{Tally}
+use Rattle.run_text.specs.Text.{line, after_space}
+
+-- how many levels of operations a plan has
+abbrev pub level_count : Plan → ℕ
+level_count p = length p.op_levels.items
+
+-- the line of a batch: its number, what its plan counts, and how it was scheduled
+unfoldable pub batch_note : (number : ℕ) → Plan → List ℕ
+batch_note number p =
+    line (codes "batch" ++ after_space number ++ codes ": events" ++ after_space (event_count p) ++ codes " ops" ++ after_space (op_count p)
+    ++ codes " levels" ++ after_space (level_count p) ++ codes " op strata lazy")
+
+-- the lines of batches, numbered from `number` on
+unfoldable pub batch_notes : (number : ℕ) → List Plan → List ℕ
+batch_notes number [] = []
+batch_notes number (p ∷ ps) = batch_note number p ++ batch_notes (number + 1) ps
+
+-- the line of the tally
+unfoldable pub tally_note : Tally → List ℕ
+tally_note t =
+    line (codes "tally: evaluated" ++ after_space t.evaluated ++ codes " spread" ++ after_space t.spread ++ codes " rolled" ++ after_space t.rolled
+    ++ codes " left" ++ after_space t.left ++ codes " handed" ++ after_space t.handed ++ codes " stolen" ++ after_space t.stolen)
+
+-- how many operations were settled by the plain finish and by each of the workers
+unfoldable pub settled_note : (workers : ℕ) → Tally → List ℕ
+settled_note workers t = line (codes "settled" ++ flat_map after_space (take (workers + 1) t.settled_by))
+
+-- both lines
+abbrev pub closing_notes : (workers : ℕ) → Tally → List ℕ
+closing_notes workers t = tally_note t ++ settled_note workers t
+
+-- what stands in the notes where they are on; else nothing
+abbrev pub noted : (on : Bool) → List ℕ → List ℕ
+noted true text = text
+noted false text = []

@@ -1,0 +1,180 @@
+-- The settings that words ask for. A word is `name=value`, and is split at its first `=`.
+use Rattle.std.specs.Prelude.{ℕ, ◌+◌, ◌==◌, ◌≤◌, ◌&&◌, ◌||◌, Bool, true, false, nat_le, List, [], ◌∷◌, codes, count_by, drop, length, Option, Some, None, if◌then◌else◌, is_some, IfSome}
+use Rattle.std.specs.List.{list_all, list_any}
+use Rattle.std.specs.Str.{bytes_eq}
+use Rattle.event_reader.specs.declared.ranges.Range.{Range}
+use Rattle.event_reader.specs.Numbers.{is_in, is_number, value_of}
+use Rattle.run_text.specs.declared.choices.Settings.{Settings}
+use Rattle.run_text.specs.declared.choices.Generated.{Generated}
+use Rattle.run_text.specs.declared.choices.App.{App}
+use Rattle.run_text.specs.declared.choices.App.TheVariants.{Ledger, Grep, Toll}
+use Rattle.run_text.specs.declared.names.Name.{Name}
+use Rattle.run_text.specs.declared.names.Name.TheVariants.{App as AppName, Own, Workers, Size, Seed, Events, Notes}
+use Rattle.run_text.specs.declared.words.Input.{Input}
+
+-- the names that there are
+abbrev pub text_of : Name → List ℕ
+text_of AppName = codes "app"
+text_of Own = codes "self"
+text_of Workers = codes "workers"
+text_of Size = codes "size"
+text_of Seed = codes "seed"
+text_of Events = codes "events"
+text_of Notes = codes "notes"
+
+abbrev pub all_names : List Name
+all_names = AppName ∷ Own ∷ Workers ∷ Size ∷ Seed ∷ Events ∷ Notes ∷ []
+
+-- whether a word has an `=`, and its name, which stands before the first one
+abbrev pub has_equals : List ℕ → Bool
+has_equals word = list_any (λ byte. byte == 61) word
+
+abbrev pub name_of : List ℕ → List ℕ
+name_of [] = []
+name_of (byte ∷ bytes) = if byte == 61 then [] else byte ∷ name_of bytes
+
+-- whether a word is `name=value` with this name
+abbrev pub has_name : Name → (word : List ℕ) → Bool
+has_name name word = has_equals word && bytes_eq (name_of word) (text_of name)
+
+-- the value in a word with this name
+abbrev pub value_in : Name → (word : List ℕ) → List ℕ
+value_in name word = drop (length (text_of name) + 1) word
+
+-- whether a word has a name that there is
+abbrev pub is_known : List ℕ → Bool
+is_known word = list_any (λ name. has_name name word) all_names
+
+-- whether at most one of the words has a name
+abbrev pub is_once : List (List ℕ) → Name → Bool
+is_once words name = nat_le (count_by (has_name name) words) 1
+
+-- whether no name is given twice
+abbrev pub are_once : List (List ℕ) → Bool
+are_once words = list_all (is_once words) all_names
+
+-- the value that words give under a name
+unfoldable pub value_under : Name → List (List ℕ) → Option (List ℕ)
+value_under name [] = None
+value_under name (word ∷ words) = if has_name name word then Some (value_in name word) else value_under name words
+
+-- whether words give a name
+abbrev pub is_given : Name → List (List ℕ) → Bool
+is_given name words = is_some (value_under name words)
+
+-- the application of a name
+abbrev pub app_in : List ℕ → Option App
+app_in value =
+    if bytes_eq value (codes "ledger") then Some Ledger
+    else (if bytes_eq value (codes "grep") then Some Grep
+    else (if bytes_eq value (codes "toll") then Some Toll else None))
+
+-- the numbers of workers, of ids in a table, of a seed and of events
+abbrev pub from_to : (least greatest : ℕ) → Range
+from_to least greatest = record { least = least; greatest = greatest }
+
+abbrev pub worker_counts : Range
+worker_counts = from_to 1 16
+
+abbrev pub sizes : Range
+sizes = from_to 1 1000000
+
+abbrev pub seeds : Range
+seeds = from_to 0 1000000000000
+
+abbrev pub event_counts : Range
+event_counts = from_to 0 1000000
+
+-- the number in a range that a value says: decimal digits, of which the first is no 0 unless it is the only one
+abbrev pub says_in : Range → List ℕ → Bool
+says_in range value = is_number value && is_in range (value_of value)
+
+abbrev pub number_in : Range → List ℕ → Option ℕ
+number_in range value = if says_in range value then Some (value_of value) else None
+
+-- what is given under a name: an application, which may be missing; a number, or another one where it is missing. None where
+-- the value is not one of the name's
+abbrev pub some_app : Option App → Option (Option App)
+some_app None = None
+some_app (Some app) = Some (Some app)
+
+abbrev pub app_given : Option (List ℕ) → Option (Option App)
+app_given None = Some None
+app_given (Some value) = some_app (app_in value)
+
+abbrev pub app_under : Name → List (List ℕ) → Option (Option App)
+app_under name words = app_given (value_under name words)
+
+abbrev pub number_given : Range → (other : ℕ) → Option (List ℕ) → Option ℕ
+number_given range other None = Some other
+number_given range other (Some value) = number_in range value
+
+abbrev pub number_under : Name → Range → (other : ℕ) → List (List ℕ) → Option ℕ
+number_under name range other words = number_given range other (value_under name words)
+
+-- whether a value says on or off
+abbrev pub switch_in : List ℕ → Option Bool
+switch_in value = if bytes_eq value (codes "on") then Some true else (if bytes_eq value (codes "off") then Some false else None)
+
+-- what is switched under a name, off where it is missing
+abbrev pub switch_given : Option (List ℕ) → Option Bool
+switch_given None = Some false
+switch_given (Some value) = switch_in value
+
+abbrev pub switch_under : Name → List (List ℕ) → Option Bool
+switch_under name words = switch_given (value_under name words)
+
+-- an input that is read, where no seed and no number of events is given
+abbrev pub read_input : App → List (List ℕ) → Option Input
+read_input app words =
+    if is_given Seed words || is_given Events words then None
+    else Some (record { app = app; generated = None })
+
+-- an input that the program makes
+abbrev pub made_of : App → (seed events : Option ℕ) → Option Input
+made_of app (Some seed) (Some events) = Some (record { app = app; generated = Some (record { seed = seed; events = events }) })
+made_of app (Some seed) None = None
+made_of app None events = None
+
+abbrev pub made_input : App → List (List ℕ) → Option Input
+made_input app words =
+    made_of app (number_under Seed seeds 1 words) (number_under Events event_counts 1000 words)
+
+-- exactly one of `app` and `self` is given
+abbrev pub input_by : List (List ℕ) → (app self : Option (Option App)) → Option Input
+input_by words (Some (Some app)) (Some None) = read_input app words
+input_by words (Some None) (Some (Some app)) = made_input app words
+input_by words (Some (Some app)) (Some (Some app')) = None
+input_by words (Some None) (Some None) = None
+input_by words (Some app) None = None
+input_by words None self = None
+
+abbrev pub input_of : List (List ℕ) → Option Input
+input_of words = input_by words (app_under AppName words) (app_under Own words)
+
+abbrev pub settings_by : Option Input → (workers size : Option ℕ) → (notes : Option Bool) → Option Settings
+settings_by (Some input) (Some workers) (Some size) (Some notes) =
+    Some (record { app = input.app; workers = workers; size = size; notes = notes; generated = input.generated })
+settings_by (Some input) (Some workers) (Some size) None = None
+settings_by (Some input) (Some workers) None notes = None
+settings_by (Some input) None size notes = None
+settings_by None workers size notes = None
+
+-- the settings: every word has a name that there is, no name is given twice, and each value is one of its name's
+abbrev pub settings_of : List (List ℕ) → Option Settings
+settings_of words =
+    if list_all is_known words && are_once words
+    then settings_by (input_of words) (number_under Workers worker_counts 1 words) (number_under Size sizes 10000 words) (switch_under Notes words)
+    else None
+
+-- the numbers of an input that the program makes are in their ranges
+abbrev pub AreFew : Option Generated → Type 0
+AreFew generated = IfSome generated (λ g. (g.seed ≤ seeds.greatest) × (g.events ≤ event_counts.greatest))
+
+-- the numbers of settings are in their ranges
+pub record AreInRange (s : Settings) : Type 0 where
+  pub some_workers : 1 ≤ s.workers
+  pub few_workers : s.workers ≤ worker_counts.greatest
+  pub some_ids : 1 ≤ s.size
+  pub few_ids : s.size ≤ sizes.greatest
+  pub generated : AreFew s.generated

@@ -1,0 +1,70 @@
+ghost use Rattle.std.specs.Prelude.{◌≡◌};
+ghost use Rattle.run_text.specs.Reports.{report_of};
+
+use crate::report::Report;
+
+/// The application of a run.
+#[derive(Clone, Copy, Debug, PartialEq, Eq)]
+pub enum App {
+    /// Accounts and assets: deposits and transfers.
+    Ledger,
+    /// Cells that are set, or that get the sum of others.
+    Grep,
+    /// Position reports of vehicles, and the tolls that they are charged.
+    Toll,
+}
+
+/// An input that the program makes itself.
+#[derive(Clone, Copy, Debug, PartialEq, Eq)]
+pub struct Generated {
+    /// Where the generator begins: 0 to 10^12.
+    pub seed: u64,
+    /// How many events it makes: 0 to 1,000,000.
+    pub events: u64,
+}
+
+/// What the words of the program ask for.
+#[derive(Clone, Copy, Debug, PartialEq, Eq)]
+pub struct Settings {
+    pub app: App,
+    /// How many workers evaluate a batch: 1 to 16.
+    pub workers: u32,
+    /// The number of ids in each table: 1 to 1,000,000.
+    pub size: u32,
+    /// Whether the notes tell of each batch, and at the end the tally.
+    pub notes: bool,
+    /// The input where the program makes it itself; none where it reads one.
+    pub generated: Option<Generated>,
+}
+
+impl Settings {
+    /// What a run tells: a summary where the program makes the input itself.
+    pub fn report(&self) -> Report
+        ensures { result ≡ report_of self.now }
+    {
+        match self.generated {
+            None => Report::Whole,
+            Some(_) => Report::Summary,
+        }
+    }
+}
+
+/// The number of workers where the words say none.
+pub const DEFAULT_WORKERS: u64 = 1;
+
+/// The number of ids in each table where the words say none.
+pub const DEFAULT_SIZE: u64 = 10_000;
+
+/// Where the generator begins, and how many events it makes, where the words say nothing of it.
+pub const DEFAULT_SEED: u64 = 1;
+
+pub const DEFAULT_EVENTS: u64 = 1_000;
+
+/// The greatest number of ids in a table.
+pub const GREATEST_SIZE: u64 = 1_000_000;
+
+/// The greatest seed.
+pub const GREATEST_SEED: u64 = 1_000_000_000_000;
+
+/// The most events that a generator makes.
+pub const GREATEST_EVENTS: u64 = 1_000_000;

@@ -1,0 +1,24 @@
+//! What the words of the program ask for, and what a run writes: the lines of events, of values and of counts, the notes, and
+//! the tally that they tell.
+//!
+//! It stands on `event_reader` for numbers and names of tables, on `morph_engine` for the batches that were run, on
+//! `version_table` for their values and on `morph_io` for what is written. [`settings()`] reads the words; the writing functions
+//! take a sink that bytes go to, and their contracts say which bytes these are.
+#![tactic(auto)]
+
+mod choices;
+mod names;
+mod notes;
+mod report;
+mod tally;
+mod text;
+mod totals;
+mod words;
+mod writing;
+
+pub use choices::{App, GREATEST_SIZE, Generated, Settings};
+pub use notes::{note_batch, note_tally};
+pub use report::Report;
+pub use tally::Tally;
+pub use words::settings;
+pub use writing::{write_closing, write_events, write_refused};

@@ -1,0 +1,49 @@
+ghost use Rattle.std.specs.Prelude.{◌≡◌, [], ◌∷◌, ◌++◌};
+ghost use Rattle.run_text.specs.Settings.{text_of};
+
+/// The names of the settings.
+#[derive(Clone, Copy, Debug, PartialEq, Eq)]
+pub enum Name {
+    /// The application whose events are read.
+    App,
+    /// The application whose events the program makes itself.
+    Own,
+    /// How many workers evaluate a batch.
+    Workers,
+    /// The number of ids in each table.
+    Size,
+    /// Where the generator begins.
+    Seed,
+    /// How many events it makes.
+    Events,
+    /// Whether there are notes.
+    Notes,
+}
+
+/// All names, each once.
+pub const NAMES: [Name; 7] = [
+    Name::App,
+    Name::Own,
+    Name::Workers,
+    Name::Size,
+    Name::Seed,
+    Name::Events,
+    Name::Notes,
+];
+
+impl Name {
+    /// The name as it stands at the front of a word, with its `=`.
+    pub fn text(self) -> &'static [u8]
+        ensures { result.now ≡ text_of self ++ 61 ∷ [] }
+    {
+        match self {
+            Name::App => b"app=",
+            Name::Own => b"self=",
+            Name::Workers => b"workers=",
+            Name::Size => b"size=",
+            Name::Seed => b"seed=",
+            Name::Events => b"events=",
+            Name::Notes => b"notes=",
+        }
+    }
+}

@@ -1,0 +1,118 @@
+ghost use Rattle.std.specs.Prelude.{◌≡◌, ◌+◌, ◌≤◌, length, IsTrue, OnOk, OnErr};
+ghost use Rattle.morph_base.specs.declared.limits.TheConstants.{WORKERS};
+ghost use Rattle.morph_io.specs.Told.{behind, HasRisen, AppendsPrefix};
+ghost use Rattle.run_text.specs.Notes.{noted, batch_note, tally_note, settled_note, closing_notes};
+
+use crate::tally::Tally;
+use crate::text::put_numbers;
+use morph_base::Plan;
+use morph_io::{LineBuf, Sink, WriteFailed, write_all};
+
+/// Writes the line of a batch to the notes, where they are on.
+pub fn note_batch<N: Sink>(
+    notes: &mut N,
+    on: bool,
+    number: u64,
+    plan: &Plan,
+) -> Result<(), WriteFailed>
+    ensures written { OnOk result (N.written notes.new ≡ behind (N.written notes.old) (noted on (batch_note number plan.now))) }
+    ensures prefix { OnErr result (AppendsPrefix (N.written notes.old) (noted on (batch_note number plan.now)) (N.written notes.new)) }
+    ensures never_falls { N.faults notes.old ≤ N.faults notes.new }
+    ensures cause { OnErr result (IsTrue on × HasRisen (N.faults notes.old) (N.faults notes.new)) }
+{
+    if !on {
+        return Ok(());
+    }
+    let line = batch_line(number, plan);
+    write_all(notes, line.bytes())
+}
+
+/// Writes the lines of the tally to the notes, where they are on: of what was settled by the plain finish and by each of so
+/// many workers.
+pub fn note_tally<N: Sink>(
+    notes: &mut N,
+    on: bool,
+    workers: u32,
+    tally: &Tally,
+) -> Result<(), WriteFailed>
+    requires few { workers ≤ WORKERS }
+    requires all { length tally.now.settled_by ≡ 17 }
+    ensures written { OnOk result (N.written notes.new ≡ behind (N.written notes.old) (noted on (closing_notes workers tally.now))) }
+    ensures prefix { OnErr result (AppendsPrefix (N.written notes.old) (noted on (closing_notes workers tally.now)) (N.written notes.new)) }
+    ensures never_falls { N.faults notes.old ≤ N.faults notes.new }
+    ensures cause { OnErr result (IsTrue on × HasRisen (N.faults notes.old) (N.faults notes.new)) }
+{
+    if !on {
+        return Ok(());
+    }
+    write_tally(notes, workers, tally)
+}
+
+/// Writes the lines of the tally.
+fn write_tally<N: Sink>(notes: &mut N, workers: u32, tally: &Tally) -> Result<(), WriteFailed>
+    requires few { workers ≤ WORKERS }
+    requires all { length tally.now.settled_by ≡ 17 }
+    ensures written { OnOk result (N.written notes.new ≡ behind (N.written notes.old) (closing_notes workers tally.now)) }
+    ensures prefix { OnErr result (AppendsPrefix (N.written notes.old) (closing_notes workers tally.now) (N.written notes.new)) }
+    ensures never_falls { N.faults notes.old ≤ N.faults notes.new }
+    ensures cause { OnErr result (HasRisen (N.faults notes.old) (N.faults notes.new)) }
+{
+    let first = tally_line(tally);
+    write_all(notes, first.bytes())?;
+    let second = settled_line(workers, tally);
+    write_all(notes, second.bytes())
+}
+
+/// The line of a batch.
+#[tactic(auto, unfolding(crate::specs::Notes::batch_note))]
+fn batch_line(number: u64, plan: &Plan) -> LineBuf
+    ensures { result ≡ batch_note number plan.now }
+{
+    let mut line = LineBuf::new();
+    line.word(b"batch ");
+    line.number(number);
+    line.word(b": events ");
+    line.number(plan.events.len() as u64);
+    line.word(b" ops ");
+    line.number(plan.ops.len() as u64);
+    line.word(b" levels ");
+    line.number(plan.op_levels.len() as u64);
+    line.word(b" op strata lazy\n");
+    line
+}
+
+/// The line of the tally.
+#[tactic(auto, unfolding(crate::specs::Notes::tally_note))]
+fn tally_line(tally: &Tally) -> LineBuf
+    ensures { result ≡ tally_note tally.now }
+{
+    let mut line = LineBuf::new();
+    line.word(b"tally: evaluated ");
+    line.number(tally.evaluated);
+    line.word(b" spread ");
+    line.number(tally.spread);
+    line.word(b" rolled ");
+    line.number(tally.rolled);
+    line.word(b" left ");
+    line.number(tally.left);
+    line.word(b" handed ");
+    line.number(tally.handed);
+    line.word(b" stolen ");
+    line.number(tally.stolen);
+    line.word(b"\n");
+    line
+}
+
+/// The line of what was settled by the plain finish and by each of so many workers.
+#[tactic(auto, unfolding(crate::specs::Notes::settled_note))]
+fn settled_line(workers: u32, tally: &Tally) -> LineBuf
+    requires few { workers ≤ WORKERS }
+    requires all { length tally.now.settled_by ≡ 17 }
+    ensures { result ≡ settled_note workers tally.now }
+{
+    let mut line = LineBuf::new();
+    line.word(b"settled");
+    put_numbers(&tally.settled_by[..workers as usize + 1], &mut line);
+    line.word(b"\n");
+    line
+}

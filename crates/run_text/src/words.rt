@@ -1,0 +1,253 @@
+ghost use Rattle.std.specs.Prelude.{◌≡◌, ◌<◌, ◌≤◌, ◌^◌, map, count_by, length, true, false, MatchOption, IfSome};
+ghost use Rattle.std.specs.List.{list_all};
+ghost use Rattle.event_reader.specs.declared.limits.TheConstants.{GREATEST_NUMBER};
+ghost use Rattle.run_text.specs.Settings.{has_name, value_in, is_known, is_once, are_once, value_under, is_given, app_in, app_under, number_in, number_under, switch_in, switch_under, input_of, read_input, made_input, AreFew, AreInRange, settings_of};
+ghost use Rattle.run_text.specs.NoSettings.{NoSettings};
+
+use crate::choices::{
+    App, DEFAULT_EVENTS, DEFAULT_SEED, DEFAULT_SIZE, DEFAULT_WORKERS, GREATEST_EVENTS,
+    GREATEST_SEED, GREATEST_SIZE, Generated, Settings,
+};
+use crate::names::{NAMES, Name};
+use event_reader::{Number, Range, read_number};
+use morph_base::{List, WORKERS};
+
+/// The numbers of workers.
+const WORKER_COUNTS: Range = Range {
+    least: 1,
+    greatest: WORKERS as u64,
+};
+
+/// The numbers of ids in a table.
+const SIZES: Range = Range {
+    least: 1,
+    greatest: GREATEST_SIZE,
+};
+
+const SEEDS: Range = Range {
+    least: 0,
+    greatest: GREATEST_SEED,
+};
+
+const EVENTS: Range = Range {
+    least: 0,
+    greatest: GREATEST_EVENTS,
+};
+
+/// The value in a word that has this name.
+fn value_in<'a>(name: Name, word: &'a [u8]) -> Option<&'a [u8]>
+    ensures { MatchOption result (has_name name word.now ≡ false) (λ value. (has_name name word.now ≡ true) × (value.now ≡ value_in name word.now)) }
+{
+    word.strip_prefix(name.text())
+}
+
+/// Whether a word has this name.
+fn has_name(name: Name, word: &[u8]) -> bool
+    ensures { result ≡ has_name name word.now }
+{
+    value_in(name, word).is_some()
+}
+
+/// Whether a word has a name that there is.
+fn is_known(word: &[u8]) -> bool
+    ensures { result ≡ is_known word.now }
+{
+    NAMES.iter().any(|name| has_name(*name, word))
+}
+
+/// Whether all words have names that there are.
+fn are_known(words: &[List<u8>]) -> bool
+    ensures { result ≡ list_all is_known (map (λ word. word.items) words.now) }
+{
+    for word in words {
+        if !is_known(word.as_slice()) {
+            return false;
+        }
+    }
+    true
+}
+
+/// Whether at most one of the words has this name.
+fn is_once(words: &[List<u8>], name: Name) -> bool
+    ensures { result ≡ is_once (map (λ word. word.items) words.now) name }
+{
+    let mut count: usize = 0;
+    for word in words {
+        if has_name(name, word.as_slice()) {
+            count += 1;
+        }
+    }
+    count <= 1
+}
+
+/// Whether no name is given twice.
+fn are_once(words: &[List<u8>]) -> bool
+    ensures { result ≡ are_once (map (λ word. word.items) words.now) }
+{
+    NAMES.iter().all(|name| is_once(words, *name))
+}
+
+/// The value that is given under a name.
+fn value_under<'a>(words: &'a [List<u8>], name: Name) -> Option<&'a [u8]>
+    ensures { MatchOption result (value_under name (map (λ word. word.items) words.now) ≡ None)
+        (λ value. value_under name (map (λ word. word.items) words.now) ≡ Some value.now) }
+{
+    for word in words {
+        if let Some(value) = value_in(name, word.as_slice()) {
+            return Some(value);
+        }
+    }
+    None
+}
+
+/// Whether one of the words has this name.
+fn is_given(words: &[List<u8>], name: Name) -> bool
+    ensures { result ≡ is_given name (map (λ word. word.items) words.now) }
+{
+    value_under(words, name).is_some()
+}
+
+/// The application of this name.
+fn app_of(value: &[u8]) -> Option<App>
+    ensures { result ≡ app_in value.now }
+{
+    if value == b"ledger".as_slice() {
+        Some(App::Ledger)
+    } else if value == b"grep".as_slice() {
+        Some(App::Grep)
+    } else if value == b"toll".as_slice() {
+        Some(App::Toll)
+    } else {
+        None
+    }
+}
+
+/// The application that is given under a name; the inner answer is none where the name is not given.
+fn app_under(words: &[List<u8>], name: Name) -> Option<Option<App>>
+    ensures { result ≡ app_under name (map (λ word. word.items) words.now) }
+{
+    match value_under(words, name) {
+        Some(value) => Some(Some(app_of(value)?)),
+        None => Some(None),
+    }
+}
+
+/// The number that a value says, where it is in the range.
+fn number_in(value: &[u8], range: Range) -> Option<u64>
+    requires { range.greatest ≤ GREATEST_NUMBER }
+    ensures says { result ≡ number_in range value.now }
+    ensures fits { IfSome result (λ n. (range.least ≤ n) × (n ≤ range.greatest)) }
+{
+    match read_number(value) {
+        Number::Value(n) if range.contains(n) => Some(n),
+        _ => None,
+    }
+}
+
+/// The number that is given under a name, or the other one where the name is not given.
+fn number_under(words: &[List<u8>], name: Name, range: Range, other: u64) -> Option<u64>
+    requires range { range.greatest ≤ GREATEST_NUMBER }
+    requires other { (range.least ≤ other) × (other ≤ range.greatest) }
+    ensures says { result ≡ number_under name range other (map (λ word. word.items) words.now) }
+    ensures fits { IfSome result (λ n. (range.least ≤ n) × (n ≤ range.greatest)) }
+{
+    match value_under(words, name) {
+        Some(value) => number_in(value, range),
+        None => Some(other),
+    }
+}
+
+/// Whether a value says on or off.
+fn switch_of(value: &[u8]) -> Option<bool>
+    ensures { result ≡ switch_in value.now }
+{
+    if value == b"on".as_slice() {
+        Some(true)
+    } else if value == b"off".as_slice() {
+        Some(false)
+    } else {
+        None
+    }
+}
+
+/// What is switched under a name; off where the name is not given.
+fn switch_under(words: &[List<u8>], name: Name) -> Option<bool>
+    ensures { result ≡ switch_under name (map (λ word. word.items) words.now) }
+{
+    match value_under(words, name) {
+        Some(value) => switch_of(value),
+        None => Some(false),
+    }
+}
+
+/// An application, and the input that the program makes for it, if it makes one.
+#[derive(Clone, Copy, Debug, PartialEq, Eq)]
+struct Input {
+    app: App,
+    generated: Option<Generated>,
+}
+
+/// The application and the input: exactly one of `app` and `self` is given, and a seed and a number of events with `self` alone.
+fn input_of(words: &[List<u8>]) -> Option<Input>
+    ensures says { result ≡ input_of (map (λ word. word.items) words.now) }
+    ensures fits { IfSome result (λ input. AreFew input.generated) }
+{
+    match (app_under(words, Name::App)?, app_under(words, Name::Own)?) {
+        (Some(app), None) => read_input(words, app),
+        (None, Some(app)) => made_input(words, app),
+        _ => None,
+    }
+}
+
+/// An input that is read: no seed and no number of events is given.
+fn read_input(words: &[List<u8>], app: App) -> Option<Input>
+    ensures says { result ≡ read_input app (map (λ word. word.items) words.now) }
+    ensures fits { IfSome result (λ input. AreFew input.generated) }
+{
+    if is_given(words, Name::Seed) || is_given(words, Name::Events) {
+        return None;
+    }
+    Some(Input {
+        app,
+        generated: None,
+    })
+}
+
+/// An input that the program makes.
+fn made_input(words: &[List<u8>], app: App) -> Option<Input>
+    ensures says { result ≡ made_input app (map (λ word. word.items) words.now) }
+    ensures fits { IfSome result (λ input. AreFew input.generated) }
+{
+    let seed = number_under(words, Name::Seed, SEEDS, DEFAULT_SEED)?;
+    let events = number_under(words, Name::Events, EVENTS, DEFAULT_EVENTS)?;
+    Some(Input {
+        app,
+        generated: Some(Generated { seed, events }),
+    })
+}
+
+/// The settings that the words ask for, or `None` where they ask for none.
+///
+/// They ask for none where a word is not `name=value` with one of the names, a name is given twice, a value is not one of its
+/// name's, not exactly one of `app` and `self` is given, or `seed` or `events` is given without `self`.
+pub fn settings(words: &[List<u8>]) -> Option<Settings>
+    ensures asked { result ≡ settings_of (map (λ word. word.items) words.now) }
+    ensures none { (result ≡ None → NoSettings (map (λ word. word.items) words.now))
+        × (NoSettings (map (λ word. word.items) words.now) → result ≡ None) }
+    ensures fits { IfSome result AreInRange }
+{
+    if !are_known(words) || !are_once(words) {
+        return None;
+    }
+    let input = input_of(words)?;
+    let workers = number_under(words, Name::Workers, WORKER_COUNTS, DEFAULT_WORKERS)?;
+    let size = number_under(words, Name::Size, SIZES, DEFAULT_SIZE)?;
+    let notes = switch_under(words, Name::Notes)?;
+    Some(Settings {
+        app: input.app,
+        workers: workers as u32,
+        size: size as u32,
+        notes,
+        generated: input.generated,
+    })
+}

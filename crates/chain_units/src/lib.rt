@@ -17,8 +17,6 @@ mod cutting;
 mod grouping;
 pub mod laws;
 mod places;
-#[cfg(test)]
-mod tests;
 
 pub use cutting::units;
 pub use grouping::Units;

@@ -8,8 +8,6 @@
 mod choice;
 mod counting;
 mod counts;
-#[cfg(test)]
-mod tests;
 
 pub use choice::choose;
 pub use counting::profile;

@@ -1,5 +1,5 @@
 ghost use Rattle.std.specs.Prelude.{◌≡◌, ◌+◌, ◌≤◌, IfOk, OnOk, OnErr};
-ghost use Rattle.morph_base.specs.declared.limits.TheConstants.{WORKERS};
+ghost use Rattle.morph_base.specs.Limits.{most_workers};
 ghost use Rattle.morph_base.specs.Flat.{contents};
 ghost use Rattle.morph_base.specs.States.{opening_state};
 ghost use Rattle.morph_base.specs.Transactions.{IsBatch, BatchKeysIn};
@@ -104,7 +104,7 @@ impl Engine {
         requires explore { strategy.now.explore ≡ Explore.Strata }
         requires abort { strategy.now.abort ≡ Abort.Lazy }
         requires some { 1 ≤ workers }
-        requires few { workers ≤ WORKERS }
+        requires few { workers ≤ most_workers }
         ensures state { OnOk result (contents self.new ≡ state_at plan (contents self.old) (event_count plan)) }
         ensures layout { self.new.layout ≡ self.old.layout }
         ensures plan { IfOk result (λ end. end.plan ≡ plan) }

@@ -9,8 +9,6 @@
 mod engine;
 mod levels;
 mod parts;
-#[cfg(test)]
-mod tests;
 mod tries;
 
 pub use engine::{BatchEnd, Engine};

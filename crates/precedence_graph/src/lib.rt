@@ -13,8 +13,6 @@ mod levels;
 mod links;
 mod operations;
 mod sources;
-#[cfg(test)]
-mod tests;
 mod transactions;
 mod writers;
 

@@ -5,8 +5,6 @@
 #![tactic(auto)]
 
 mod splitting;
-#[cfg(test)]
-mod tests;
 mod txns;
 
 pub use splitting::split;

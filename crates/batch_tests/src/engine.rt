@@ -1,0 +1,109 @@
+//! The four events run on a new engine, in any order of arrival and by any number of workers.
+ghost use Rattle.std.specs.Prelude.{◌≤◌};
+ghost use Rattle.morph_base.specs.Limits.{most_workers};
+ghost use Rattle.morph_base.specs.Transactions.{IsBatch, BatchKeysIn};
+
+use crate::four_events::{ACCOUNTS, ASSETS, LAYOUT, batch_of};
+use morph_base::{Abort, Batch, Explore, Key, OutOfMemory, Strategy, Unit, Values, WORKERS, plain};
+use morph_engine::{BatchEnd, Engine};
+use std::alloc::Global;
+use std::test::Fail;
+use std::thread::Threads;
+use version_table::State;
+use worker_gate::FreeGate;
+
+const STRATEGY: Strategy = Strategy {
+    unit: Unit::Op,
+    explore: Explore::Strata,
+    abort: Abort::Lazy,
+};
+
+/// What a batch came to: the verdicts, how much was evaluated and rolled back, whether the state is that of the fold, and the
+/// values of accounts 0 to 2 and assets 0 to 2.
+#[derive(Drop)]
+struct Ran {
+    committed: Vec<bool>,
+    counts: (u64, u64),
+    is_fold: bool,
+    values: Vec<Option<u64>>,
+}
+
+/// Whether a state has the values of a fold in all ids of a table.
+fn has_values(state: &State, values: &Values, table: u8) -> bool {
+    (0..LAYOUT.size).all(|id| {
+        let key = Key::of(table, id);
+        state.layout().contains(key)
+            && values.layout().contains(key)
+            && state.get(key) == values.get(key)
+    })
+}
+
+/// The values of the first ids of both tables.
+fn first_values(alloc: Global, state: &State) -> Result<Vec<Option<u64>>, OutOfMemory> {
+    let mut values = Vec::new(alloc);
+    for table in [ACCOUNTS, ASSETS] {
+        for id in 0..3 {
+            let key = Key::of(table, id);
+            values.push(if state.layout().contains(key) {
+                Some(state.get(key))
+            } else {
+                None
+            })?;
+        }
+    }
+    Ok(values)
+}
+
+/// Runs a batch on a new engine, and folds it.
+fn run<R: Threads + Sync>(
+    rt: &R,
+    alloc: Global,
+    batch: &Batch,
+    workers: u32,
+) -> Result<Ran, OutOfMemory>
+    requires batch { IsBatch batch.now }
+    requires keys { BatchKeysIn LAYOUT batch.now }
+    requires some { 1 ≤ workers }
+    requires few { workers ≤ most_workers }
+{
+    let mut engine = Engine::new(alloc, LAYOUT)?;
+    let plan = engine.plan(alloc, batch)?;
+    let end = engine.run_batch(rt, alloc, plan, &STRATEGY, workers, &FreeGate)?;
+    let mut folded = Values::new(alloc, LAYOUT)?;
+    let _outcomes = plain::fold(alloc, &mut folded, batch)?;
+    told(alloc, engine.state(), &end, &folded)
+}
+
+/// What a batch came to, as the tests compare it.
+fn told(alloc: Global, state: &State, end: &BatchEnd, folded: &Values) -> Result<Ran, OutOfMemory> {
+    Ok(Ran {
+        committed: Vec::from_slice(alloc, end.settled.committed.as_slice())?,
+        counts: (end.evaluated, end.rolled),
+        is_fold: (0..LAYOUT.tables).all(|table| has_values(state, folded, table)),
+        values: first_values(alloc, state)?,
+    })
+}
+
+#[test]
+fn four_events_by_any_workers(rt: HostRuntime) -> Result<(), Fail> {
+    let values = [Some(40), Some(0), Some(60), Some(0), Some(0), Some(5)];
+    for (times, workers) in [([1, 2, 3, 4], 1), ([4, 3, 2, 1], 2), ([2, 4, 1, 3], 16)] {
+        let batch = batch_of(rt.alloc(), &times)?;
+        assert!(rt; batch.is_valid() && batch.has_keys_in(LAYOUT));
+        let ran = run(&rt, rt.alloc(), &batch, workers)?;
+        let got = (
+            ran.committed.as_slice(),
+            ran.counts,
+            ran.is_fold,
+            ran.values.as_slice(),
+        );
+        let want = (
+            [true, false, true, true].as_slice(),
+            (16, 2),
+            true,
+            values.as_slice(),
+        );
+        assert_eq!(rt; got, want, "{times:?} by {workers}");
+    }
+    Ok(())
+}

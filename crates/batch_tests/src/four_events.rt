@@ -1,0 +1,77 @@
+//! The four events of these tests, and their plan.
+ghost use Rattle.std.specs.Prelude.{IfOk};
+ghost use Rattle.morph_base.specs.Graphs.{IsValidPlan};
+ghost use Rattle.morph_base.specs.Plans.{PlanKeysIn};
+
+use morph_base::{Batch, Event, Func, Key, Layout, List, Op, OutOfMemory, Plan};
+use morph_engine::Engine;
+use std::alloc::Global;
+use std::process::Abort;
+
+/// The table of accounts.
+pub const ACCOUNTS: u8 = 0;
+
+/// The table of assets.
+pub const ASSETS: u8 = 1;
+
+/// Accounts and assets.
+pub const LAYOUT: Layout = Layout {
+    tables: 2,
+    size: 10_000,
+};
+
+/// A transfer of money and assets.
+fn transfer(
+    alloc: Global,
+    from: u32,
+    to: u32,
+    money: u64,
+    assets: u64,
+) -> Result<List<Op>, OutOfMemory> {
+    let (account, asset) = (Key::of(ACCOUNTS, from), Key::of(ASSETS, from));
+    List::from_slice(
+        alloc,
+        &[
+            Op::new(Func::Sub, account, &[], money),
+            Op::new(Func::Sub, asset, &[], assets),
+            Op::new(Func::MoveIn, Key::of(ACCOUNTS, to), &[account], money),
+            Op::new(Func::MoveIn, Key::of(ASSETS, to), &[asset], assets),
+        ],
+    )
+}
+
+/// The operations of the event at a time.
+fn ops_at(alloc: Global, ts: u64) -> Result<List<Op>, OutOfMemory> {
+    match ts {
+        1 => List::from_slice(
+            alloc,
+            &[
+                Op::new(Func::Add, Key::of(ACCOUNTS, 0), &[], 100),
+                Op::new(Func::Add, Key::of(ASSETS, 0), &[], 5),
+            ],
+        ),
+        2 => transfer(alloc, 0, 1, 60, 6),
+        3 => transfer(alloc, 0, 1, 60, 5),
+        _ => transfer(alloc, 1, 2, 60, 5),
+    }
+}
+
+/// The events at these times, in this order of arrival.
+pub fn batch_of(alloc: Global, times: &[u64]) -> Result<Batch, OutOfMemory> {
+    let mut events = List::new(alloc);
+    for ts in times {
+        let ops = ops_at(alloc, *ts)?;
+        events.push(Event { ts: *ts, ops })?;
+    }
+    Ok(Batch { events })
+}
+
+/// The plan of the four events.
+pub fn plan(rt: &impl Abort, alloc: Global) -> Result<Plan, OutOfMemory>
+    ensures plan { IfOk result IsValidPlan }
+    ensures keys { IfOk result (λ plan. PlanKeysIn plan LAYOUT) }
+{
+    let batch = batch_of(alloc, &[1, 2, 3, 4])?;
+    assert!(rt; batch.is_valid() && batch.has_keys_in(LAYOUT));
+    Engine::new(alloc, LAYOUT)?.plan(alloc, &batch)
+}

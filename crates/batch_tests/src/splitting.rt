@@ -1,0 +1,68 @@
+use crate::four_events::batch_of;
+use morph_base::OutOfMemory;
+use std::alloc::Global;
+use std::process::Abort;
+use std::test::Fail;
+use txn_splitter::{Txns, split};
+
+/// Of each event the time, its first operation and how many it has.
+const EVENTS: [(u64, u32, u32); 4] = [(1, 0, 2), (2, 2, 4), (3, 6, 4), (4, 10, 4)];
+
+/// Of each operation the event, the target and the constant.
+const OPS: [(u32, u8, u32, u64); 14] = [
+    (0, 0, 0, 100),
+    (0, 1, 0, 5),
+    (1, 0, 0, 60),
+    (1, 1, 0, 6),
+    (1, 0, 1, 60),
+    (1, 1, 1, 6),
+    (2, 0, 0, 60),
+    (2, 1, 0, 5),
+    (2, 0, 1, 60),
+    (2, 1, 1, 5),
+    (3, 0, 1, 60),
+    (3, 1, 1, 5),
+    (3, 0, 2, 60),
+    (3, 1, 2, 5),
+];
+
+/// The transactions of the events in this order of arrival.
+fn txns_of(rt: &impl Abort, alloc: Global, times: &[u64]) -> Result<Txns, OutOfMemory> {
+    let batch = batch_of(alloc, times)?;
+    assert!(rt; batch.is_valid());
+    split(alloc, &batch)
+}
+
+fn events_of(alloc: Global, txns: &Txns) -> Result<Vec<(u64, u32, u32)>, OutOfMemory> {
+    let mut rows = Vec::new(alloc);
+    for event in txns.events.as_slice() {
+        rows.push((event.ts, event.first, event.count))?;
+    }
+    Ok(rows)
+}
+
+fn ops_of(alloc: Global, txns: &Txns) -> Result<Vec<(u32, u8, u32, u64)>, OutOfMemory> {
+    let mut rows = Vec::new(alloc);
+    for (op, event) in txns.ops.as_slice().iter().zip(txns.event_of.as_slice()) {
+        rows.push((*event, op.key.table, op.key.id, op.c))?;
+    }
+    Ok(rows)
+}
+
+/// Compares the events and operations of transactions with those above.
+fn check(rt: &impl Abort, alloc: Global, txns: &Txns) -> Result<(), OutOfMemory> {
+    let events = events_of(alloc, txns)?;
+    assert_eq!(rt; events.as_slice(), EVENTS.as_slice());
+    let ops = ops_of(alloc, txns)?;
+    assert_eq!(rt; ops.as_slice(), OPS.as_slice());
+    Ok(())
+}
+
+#[test]
+fn order_of_arrival_does_not_matter(rt: HostRuntime) -> Result<(), Fail> {
+    for times in [[1, 2, 3, 4], [4, 3, 2, 1]] {
+        let txns = txns_of(&rt, rt.alloc(), &times)?;
+        check(&rt, rt.alloc(), &txns)?;
+    }
+    Ok(())
+}

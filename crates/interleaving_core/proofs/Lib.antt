@@ -10,9 +10,9 @@ pub mod Deciding
 pub mod Settlement
 pub mod Counting
 pub mod Machine
+pub mod Sighting
+pub mod Ordering
 pub mod Storing
 pub mod Shown
 pub mod Places
 pub mod Deposit
-pub mod Sighting
-pub mod Ordering

@@ -1,9 +1,13 @@
 -- The place of a record, as the code computes it from what the hand keeps.
-use Rattle.std.proofs.Common.{◌≡◌, ℕ, suc, ◌+◌, ◌*◌, ◌<◌, ◌≤◌, List, [], ◌∷◌, ◌++◌, length, take, refl, sym, ap, ◌∙◌, subst, arith, Option, Some, None}
+use Rattle.std.proofs.Common.{◌≡◌, ℕ, suc, ◌+◌, ◌*◌, ◌<◌, ◌≤◌, List, [], ◌∷◌, ◌++◌, length, take, refl, sym, ap, ◌∙◌, subst, arith, Option, Some, None, zero-le}
 use Rattle.std.proofs.lemmas.List.{length-take-le, length-take}
 use Rattle.std.proofs.lemmas.Option.{same_Some}
 use Rattle.morph_base.specs.declared.limits.TheConstants.{MAX, READS}
+use Rattle.morph_base.specs.declared.plan.Origin.{Origin}
+use Rattle.morph_base.specs.declared.plan.Origin.TheVariants.{Base}
 use Rattle.morph_base.specs.declared.plan.Plan.{Plan}
+use Rattle.morph_base.specs.Clean.{from}
+use Rattle.morph_base.proofs.BoundLaws.{source-small}
 use Rattle.morph_base.specs.Plans.{IsPlan, op_count, op_at, origin_at}
 use Rattle.interleaving_core.specs.Core.{places}
 use Rattle.interleaving_core.specs.declared.entry.Held.{Held}
@@ -56,3 +60,7 @@ module _ (b : Board) (h : Hand) (is : IsHandOf b h) (k : Holding) (some : h.held
             (kept_step h g u _ (kept is) tag made counts refl refl refl refl refl refl claim (λ n same. subst Fits (same_Some m n (sym held ∙ same)) fits)) told;
         view = ap (λ (y : Sat). view_in y.0) me_now;
       }
+
+-- a base is a value
+pub base_small : (p : Plan) (o j x : ℕ) → IsPlan p → o < op_count p → j < places p o → origin_at p o j ≡ Base x → x ≤ MAX
+base_small p o j x valid lt below is = subst (λ (q : Origin). from (λ t. 0) q ≤ MAX) is (source-small p (λ t. 0) o j valid lt below (λ t before. zero-le))

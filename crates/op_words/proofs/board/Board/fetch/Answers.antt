@@ -1,6 +1,11 @@
 use Rattle.std.proofs.Common.{rules, ◌≡◌, ◌∙◌, sym, subst, ℕ}
+use Rattle.morph_base.specs.Plans.{IsPlan}
+use Rattle.op_words.proofs.Storing.{base_small}
 use Rattle.op_words.proofs.Fetching.{fetched_base}
 use Rattle.op_words.proofs.board.Board.fetch.Goals as goal
+
+pub keep-requires-clause-value : goal.keep-requires-clause-value
+keep-requires-clause-value c = base_small c.args.plan.now c.args.op c.args.j c.in-Base.value (subst IsPlan (sym c.requires.plan) c.requires.hand.valid) c.requires.in_range c.requires.in_places (sym c.origin_of.ensures ∙ c.in-Base.is)
 
 pub returns-in-Base-clause-hand : goal.returns-in-Base-clause-hand
 returns-in-Base-clause-hand c = let q = c.requires.held in (c.keep.ensures c.args.op q.0 q.1 q.2).hand

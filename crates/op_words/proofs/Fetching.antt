@@ -173,6 +173,7 @@ module _ (b : Board) (p : Plan) (cap o : ℕ) (h g : Hand) (w : OpWord) (a : ℕ
   finish_does r answer = record {
     words = left o w ∷ [];
     adds = let step = did a xs holds in subst (λ (u : View). Adds (view_of h) u (left o w ∷ [])) (sym step.view) (adds_finishing (view_of h) o w xs step.tells);
+    free = ap (λ (v : View). v.claim) (did a xs holds).view;
     tells = λ n ys held.
         let same = same_Some (held_at o a xs) (held_at o n ys) (sym holds ∙ held) in
         let step = did n ys held in

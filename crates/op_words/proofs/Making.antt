@@ -314,6 +314,7 @@ module _ (b : Board) (p : Plan) (cap o a : ℕ) (h g : Hand) (zs : List ℕ) (ho
   gave_back step = record {
     words = left o (blocked a) ∷ [];
     adds = subst (λ (u : View). Adds (view_of h) u (left o (blocked a) ∷ [])) (sym step.view) (adds_giving (view_of h) o a step.tells);
+    free = ap (λ (v : View). v.claim) step.view;
     tells = λ n ys held.
         let same : a ≡ n = ap (λ (k : Held). k.attempt) (same_Some (held_at o a zs) (held_at o n ys) (sym holds ∙ held)) in
         record {

@@ -196,9 +196,11 @@ module _ (p : Plan) (cap o : ℕ) (v u : View) where
   pub record FinishDoes (r : Outcome) : Type 0 where
     pub words : List Item
     pub adds : Adds v u words
+    pub free : u.claim ≡ None
     pub tells : (a : ℕ) (ys : List ℕ) → Holds v o a ys → IsFinished p cap o v u words a ys r
 
   pub record GiveBackDoes : Type 0 where
     pub words : List Item
     pub adds : Adds v u words
+    pub free : u.claim ≡ None
     pub tells : (a : ℕ) (ys : List ℕ) → Holds v o a ys → IsGivenBack p cap o v u words a

@@ -4,6 +4,7 @@ ghost use Rattle.morph_base.specs.declared.limits.TheConstants.{WORKERS};
 ghost use Rattle.morph_base.specs.declared.word.TheConstants.{ATTEMPTS};
 ghost use Rattle.morph_base.specs.Plans.{IsPlan, op_count, origin_at};
 ghost use Rattle.morph_base.specs.declared.plan.Origin.TheVariants.{Op as Written};
+ghost use Rattle.morph_base.specs.Words.{IsWord};
 ghost use Rattle.interleaving_core.specs.Core.{places};
 ghost use Rattle.op_words.specs.Views.{Holds, IsFresh, looked, parent, child, merged};
 ghost use Rattle.op_words.specs.Calls.{PeekDoes, MakeDoes, ClaimDoes, FetchDoes, FinishDoes, GiveBackDoes};
@@ -64,6 +65,7 @@ impl Board {
         requires in_range { op < op_count plan.now }
         ensures hand { IsHandOf self.now hand.new }
         ensures view { view_of hand.new ≡ looked op result (view_of hand.old) }
+        ensures word { IsWord result }
         ensures fresh { IsFresh (view_of hand.old) op result }
         ensures does { (view_of hand.old).claim ≡ None → PeekDoes plan.now (cap_of self.now) op (view_of hand.old) (view_of hand.new) result }
     {

@@ -1,0 +1,215 @@
+//! A hand's way through an operation, alone and beside another hand.
+ghost use Rattle.std.specs.Prelude.{◌≡◌, ◌<◌, None};
+ghost use Rattle.morph_base.specs.Plans.{op_count};
+ghost use Rattle.op_words.specs.Hands.{plan_of as plan_in, view_of, IsHandOf};
+
+use crate::plans::plan_of;
+use morph_base::{OpState, OpWord, Plan};
+use op_words::{Board, Claimed, Counts, Fetched, Hand, Outcome, Readied, places_of};
+use std::test::Fail;
+
+/// What the calls of one way through an operation answered, as far as it came.
+#[derive(Clone, Copy, Debug, PartialEq, Eq)]
+struct Way {
+    readied: Readied,
+    claimed: Option<Claimed>,
+    fetched: Option<Fetched>,
+    outcome: Option<Outcome>,
+}
+
+/// Makes an operation ready that reads one place, claims it, fetches the place and finishes it.
+fn evaluate(board: &Board, hand: &mut Hand, plan: &Plan, op: u32) -> Way
+    requires hand { IsHandOf board.now hand.old }
+    requires plan { plan.now ≡ plan_in board.now }
+    requires in_range { op < op_count plan.now }
+    requires free { (view_of hand.old).claim ≡ None }
+    ensures hand { IsHandOf board.now hand.new }
+    ensures free { (view_of hand.new).claim ≡ None }
+{
+    let readied = board.ready(hand, plan, op);
+    let mut way = Way {
+        readied,
+        claimed: None,
+        fetched: None,
+        outcome: None,
+    };
+    if places_of(plan, op) != 1 {
+        return way;
+    }
+    let claimed = board.claim(hand, plan, op);
+    way.claimed = Some(claimed);
+    if let Claimed::Not { .. } = claimed {
+        return way;
+    }
+    let fetched = board.fetch(hand, plan, op, 0);
+    way.fetched = Some(fetched);
+    match fetched {
+        Fetched::Value(_) => way.outcome = Some(board.finish(hand, plan, op)),
+        Fetched::Unready { .. } => board.give_back(hand, plan, op),
+    }
+    way
+}
+
+/// Blocked at attempt 1.
+const BLOCKED: u64 = 0x0000_0100_0000_0000;
+
+fn word(state: OpState, value: u64, by: u8) -> OpWord {
+    OpWord {
+        value,
+        attempt: 1,
+        state,
+        by,
+    }
+}
+
+/// A way to its end, with the value that was read.
+fn whole(read: u64, outcome: Outcome) -> Way {
+    Way {
+        readied: Readied::Made,
+        claimed: Some(Claimed::Held { attempt: 1 }),
+        fetched: Some(Fetched::Value(read)),
+        outcome: Some(outcome),
+    }
+}
+
+/// Whether the hand's ways are as the rows say, one after another. A row has an operation, its way and its packed word
+/// afterwards.
+fn held(board: &Board, hand: &mut Hand, plan: &Plan, rows: &[(u32, Way, u64)]) -> bool
+    requires hand { IsHandOf board.now hand.old }
+    requires plan { plan.now ≡ plan_in board.now }
+    requires free { (view_of hand.old).claim ≡ None }
+    ensures hand { IsHandOf board.now hand.new }
+    ensures free { (view_of hand.new).claim ≡ None }
+{
+    for (op, way, packed) in rows {
+        if *op as usize >= plan.ops.len() {
+            return false;
+        }
+        let went = evaluate(board, hand, plan, *op);
+        let after = board.peek(hand, plan, *op).pack();
+        if went != *way || after != *packed {
+            return false;
+        }
+    }
+    true
+}
+
+/// The operations of the first two events that read one place: what is read, the outcome, and the packed word.
+#[test]
+fn one_hand_evaluates(rt: HostRuntime) -> Result<(), Fail> {
+    let plan = plan_of(&rt, rt.alloc(), 4)?;
+    assert!(rt; plan.ops.len() == 14);
+    let (board, mut root) = Board::new(rt.alloc(), &plan, 1, 4)?;
+    assert_eq!(rt; (root.tag(), root.held()), (1, None));
+    assert_eq!(rt; board.peek(&mut root, &plan, 0).pack(), BLOCKED);
+    let blocked = word(OpState::Blocked, 0, 0);
+    let not = Readied::Not {
+        at: 0,
+        word: blocked,
+    };
+    assert_eq!(rt; board.ready(&mut root, &plan, 2), not);
+    let rows = [
+        (0, whole(0, Outcome::Executed(100)), 0x0000_3100_0000_0064),
+        (1, whole(0, Outcome::Executed(5)), 0x0000_3100_0000_0005),
+        (2, whole(100, Outcome::Executed(40)), 0x0000_3100_0000_0028),
+        (3, whole(5, Outcome::Failed), 0x0000_4100_0000_0005),
+    ];
+    assert!(rt; held(&board, &mut root, &plan, &rows));
+    let counts = Counts {
+        evaluated: 4,
+        spread: 0,
+        rolled: 0,
+    };
+    assert_eq!(rt; root.counts(), counts);
+    Ok(())
+}
+
+/// Claims an operation, and gives it back at once.
+fn touch(board: &Board, hand: &mut Hand, plan: &Plan, op: u32) -> Claimed
+    requires hand { IsHandOf board.now hand.old }
+    requires plan { plan.now ≡ plan_in board.now }
+    requires in_range { op < op_count plan.now }
+    requires free { (view_of hand.old).claim ≡ None }
+    ensures hand { IsHandOf board.now hand.new }
+    ensures free { (view_of hand.new).claim ≡ None }
+{
+    let claimed = board.claim(hand, plan, op);
+    match claimed {
+        Claimed::Not { .. } => {}
+        Claimed::Held { .. } => board.give_back(hand, plan, op),
+    }
+    claimed
+}
+
+/// What one hand holds, and what the other meets there meanwhile; `None` where the one holds nothing.
+fn meet(
+    board: &Board,
+    one: &mut Hand,
+    other: &mut Hand,
+    plan: &Plan,
+    op: u32,
+) -> Option<(Option<u32>, Readied, Claimed)>
+    requires one { IsHandOf board.now one.old }
+    requires other { IsHandOf board.now other.old }
+    requires plan { plan.now ≡ plan_in board.now }
+    requires in_range { op < op_count plan.now }
+    requires one_free { (view_of one.old).claim ≡ None }
+    requires other_free { (view_of other.old).claim ≡ None }
+    ensures one { IsHandOf board.now one.new }
+    ensures other { IsHandOf board.now other.new }
+    ensures tag { (view_of one.new).tag ≡ (view_of one.old).tag }
+    ensures one_free { (view_of one.new).claim ≡ None }
+    ensures other_free { (view_of other.new).claim ≡ None }
+{
+    match board.claim(one, plan, op) {
+        Claimed::Not { .. } => None,
+        Claimed::Held { .. } => {
+            let held = one.held();
+            let readied = board.ready(other, plan, op);
+            let claimed = touch(board, other, plan, op);
+            board.give_back(one, plan, op);
+            Some((held, readied, claimed))
+        }
+    }
+}
+
+/// Two hands on the one deposit: what one holds the other finds claimed; after it was given back the other evaluates it.
+#[test]
+fn two_hands_meet(rt: HostRuntime) -> Result<(), Fail> {
+    let plan = plan_of(&rt, rt.alloc(), 1)?;
+    assert!(rt; plan.ops.len() == 2);
+    let (board, mut root) = Board::new(rt.alloc(), &plan, 1, 0)?;
+    let mut other = board.split(&mut root);
+    assert_eq!(rt; (root.tag(), other.tag()), (1, 2));
+    assert_eq!(rt; board.ready(&mut root, &plan, 0), Readied::Made);
+    let claimed = word(OpState::Claimed, 0, 1);
+    let met = (
+        Some(0),
+        Readied::Not {
+            at: 0,
+            word: claimed,
+        },
+        Claimed::Not { word: claimed },
+    );
+    assert_eq!(rt; meet(&board, &mut root, &mut other, &plan, 0), Some(met));
+    assert_eq!(rt; (root.held(), other.held()), (None, None));
+    assert_eq!(rt; board.peek(&mut other, &plan, 0).pack(), BLOCKED);
+    let way = evaluate(&board, &mut other, &plan, 0);
+    assert_eq!(rt; way, whole(0, Outcome::Executed(100)));
+    assert_eq!(rt; (root.counts().evaluated, other.counts().evaluated), (0, 1));
+    board.join(&mut root, other);
+    assert_eq!(rt; root.counts().evaluated, 1);
+    Ok(())
+}
+
+/// Whether threads may share the one, and take the other along.
+fn crosses<S: Sync, T: Send>(_shared: &S, _taken: &T) {}
+
+#[test]
+fn hands_cross_threads(rt: HostRuntime) -> Result<(), Fail> {
+    let plan = plan_of(&rt, rt.alloc(), 1)?;
+    let (board, root) = Board::new(rt.alloc(), &plan, 7, 1)?;
+    crosses(&board, &root);
+    assert_eq!(rt; root.held(), None);
+    Ok(())
+}

@@ -21,7 +21,7 @@ pub const LAYOUT: Layout = Layout {
 };
 
 /// A transfer of money and assets.
-fn transfer(
+pub fn transfer(
     alloc: Global,
     from: u32,
     to: u32,
@@ -66,12 +66,27 @@ pub fn batch_of(alloc: Global, times: &[u64]) -> Result<Batch, OutOfMemory> {
     Ok(Batch { events })
 }
 
+/// The plan of a batch.
+pub fn plan_for(rt: &impl Abort, alloc: Global, batch: &Batch) -> Result<Plan, OutOfMemory>
+    ensures plan { IfOk result IsValidPlan }
+    ensures keys { IfOk result (λ plan. PlanKeysIn plan LAYOUT) }
+{
+    assert!(rt; batch.is_valid() && batch.has_keys_in(LAYOUT));
+    Engine::new(alloc, LAYOUT)?.plan(alloc, batch)
+}
+
+/// The plan of the events at these times.
+pub fn plan_at(rt: &impl Abort, alloc: Global, times: &[u64]) -> Result<Plan, OutOfMemory>
+    ensures plan { IfOk result IsValidPlan }
+    ensures keys { IfOk result (λ plan. PlanKeysIn plan LAYOUT) }
+{
+    plan_for(rt, alloc, &batch_of(alloc, times)?)
+}
+
 /// The plan of the four events.
 pub fn plan(rt: &impl Abort, alloc: Global) -> Result<Plan, OutOfMemory>
     ensures plan { IfOk result IsValidPlan }
     ensures keys { IfOk result (λ plan. PlanKeysIn plan LAYOUT) }
 {
-    let batch = batch_of(alloc, &[1, 2, 3, 4])?;
-    assert!(rt; batch.is_valid() && batch.has_keys_in(LAYOUT));
-    Engine::new(alloc, LAYOUT)?.plan(alloc, &batch)
+    plan_at(rt, alloc, &[1, 2, 3, 4])
 }

@@ -1,4 +1,4 @@
-//! Tests of the crates that plan, try and settle a batch, over their public calls alone.
+//! Tests of the crates that plan, try and settle a batch, and of the board that workers share, over their public calls alone.
 //!
 //! They stand together, so that none of these crates is proved again with its tests, and so that all of them are tried on
 //! the same four events: 100 and 5 are paid in on account 0 and asset 0; then 60 and 6 are to go from there to account and
@@ -8,15 +8,23 @@
 #[cfg(test)]
 mod attempts;
 #[cfg(test)]
+mod board;
+#[cfg(test)]
 mod choices;
 #[cfg(test)]
 mod engine;
 #[cfg(test)]
+mod evaluations;
+#[cfg(test)]
 mod four_events;
+#[cfg(test)]
+mod many_events;
 #[cfg(test)]
 mod graph;
 #[cfg(test)]
 mod machine;
+#[cfg(test)]
+mod runners;
 #[cfg(test)]
 mod splitting;
 #[cfg(test)]

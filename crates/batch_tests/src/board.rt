@@ -1,9 +1,9 @@
 //! A hand's way through an operation, alone and beside another hand.
 ghost use Rattle.std.specs.Prelude.{◌≡◌, ◌<◌, None};
 ghost use Rattle.morph_base.specs.Plans.{op_count};
-ghost use Rattle.op_words.specs.Hands.{plan_of as plan_in, view_of, IsHandOf};
+ghost use Rattle.op_words.specs.Hands.{plan_of, view_of, IsHandOf};
 
-use crate::plans::plan_of;
+use crate::four_events::{plan, plan_at};
 use morph_base::{OpState, OpWord, Plan};
 use op_words::{Board, Claimed, Counts, Fetched, Hand, Outcome, Readied, places_of};
 use std::test::Fail;
@@ -20,7 +20,7 @@ struct Way {
 /// Makes an operation ready that reads one place, claims it, fetches the place and finishes it.
 fn evaluate(board: &Board, hand: &mut Hand, plan: &Plan, op: u32) -> Way
     requires hand { IsHandOf board.now hand.old }
-    requires plan { plan.now ≡ plan_in board.now }
+    requires plan { plan.now ≡ plan_of board.now }
     requires in_range { op < op_count plan.now }
     requires free { (view_of hand.old).claim ≡ None }
     ensures hand { IsHandOf board.now hand.new }
@@ -76,7 +76,7 @@ fn whole(read: u64, outcome: Outcome) -> Way {
 /// afterwards.
 fn held(board: &Board, hand: &mut Hand, plan: &Plan, rows: &[(u32, Way, u64)]) -> bool
     requires hand { IsHandOf board.now hand.old }
-    requires plan { plan.now ≡ plan_in board.now }
+    requires plan { plan.now ≡ plan_of board.now }
     requires free { (view_of hand.old).claim ≡ None }
     ensures hand { IsHandOf board.now hand.new }
     ensures free { (view_of hand.new).claim ≡ None }
@@ -97,7 +97,7 @@ fn held(board: &Board, hand: &mut Hand, plan: &Plan, rows: &[(u32, Way, u64)]) -
 /// The operations of the first two events that read one place: what is read, the outcome, and the packed word.
 #[test]
 fn one_hand_evaluates(rt: HostRuntime) -> Result<(), Fail> {
-    let plan = plan_of(&rt, rt.alloc(), 4)?;
+    let plan = plan(&rt, rt.alloc())?;
     assert!(rt; plan.ops.len() == 14);
     let (board, mut root) = Board::new(rt.alloc(), &plan, 1, 4)?;
     assert_eq!(rt; (root.tag(), root.held()), (1, None));
@@ -127,7 +127,7 @@ fn one_hand_evaluates(rt: HostRuntime) -> Result<(), Fail> {
 /// Claims an operation, and gives it back at once.
 fn touch(board: &Board, hand: &mut Hand, plan: &Plan, op: u32) -> Claimed
     requires hand { IsHandOf board.now hand.old }
-    requires plan { plan.now ≡ plan_in board.now }
+    requires plan { plan.now ≡ plan_of board.now }
     requires in_range { op < op_count plan.now }
     requires free { (view_of hand.old).claim ≡ None }
     ensures hand { IsHandOf board.now hand.new }
@@ -151,7 +151,7 @@ fn meet(
 ) -> Option<(Option<u32>, Readied, Claimed)>
     requires one { IsHandOf board.now one.old }
     requires other { IsHandOf board.now other.old }
-    requires plan { plan.now ≡ plan_in board.now }
+    requires plan { plan.now ≡ plan_of board.now }
     requires in_range { op < op_count plan.now }
     requires one_free { (view_of one.old).claim ≡ None }
     requires other_free { (view_of other.old).claim ≡ None }
@@ -176,7 +176,7 @@ fn meet(
 /// Two hands on the one deposit: what one holds the other finds claimed; after it was given back the other evaluates it.
 #[test]
 fn two_hands_meet(rt: HostRuntime) -> Result<(), Fail> {
-    let plan = plan_of(&rt, rt.alloc(), 1)?;
+    let plan = plan_at(&rt, rt.alloc(), &[1])?;
     assert!(rt; plan.ops.len() == 2);
     let (board, mut root) = Board::new(rt.alloc(), &plan, 1, 0)?;
     let mut other = board.split(&mut root);
@@ -207,7 +207,7 @@ fn crosses<S: Sync, T: Send>(_shared: &S, _taken: &T) {}
 
 #[test]
 fn hands_cross_threads(rt: HostRuntime) -> Result<(), Fail> {
-    let plan = plan_of(&rt, rt.alloc(), 1)?;
+    let plan = plan_at(&rt, rt.alloc(), &[1])?;
     let (board, root) = Board::new(rt.alloc(), &plan, 7, 1)?;
     crosses(&board, &root);
     assert_eq!(rt; root.held(), None);

@@ -1,18 +1,14 @@
 -- What steps add to a view, one after another.
-use Rattle.std.proofs.Common.{◌≡◌, ◌≢◌, ◌⊎◌, ℕ, zero, suc, ◌+◌, ◌<◌, ◌≤◌, Bool, true, false, List, [], ◌∷◌, ◌++◌, length, refl, sym, ap, ◌∙◌, subst, inl, inr, arith, append_assoc, Option, Some, None}
-use Rattle.std.specs.Prelude.{Contains}
+use Rattle.std.proofs.Common.{◌≡◌, ℕ, List, [], ◌∷◌, ◌++◌, refl, sym, ap, ◌∙◌, subst, arith, append_assoc, None}
 use Rattle.std.proofs.lemmas.Bool.{false≢true}
-use Rattle.std.proofs.lemmas.List.Elements.{Contains-append_left, Contains-append_right, Contains-append_cases}
 use Rattle.std.proofs.lemmas.Option.{none-some}
 use Rattle.morph_base.specs.declared.plan.Plan.{Plan}
 use Rattle.morph_base.specs.declared.word.OpWord.{OpWord}
-use Rattle.interleaving_core.specs.declared.entry.Held.{Held}
-use Rattle.interleaving_core.specs.declared.event.CoreEvent.{CoreEvent}
 use Rattle.op_words.specs.declared.trail.Item.{Item}
 use Rattle.op_words.specs.declared.trail.View.{View}
 use Rattle.op_words.specs.Trails.{loaded, left, last_word, HasLast, Along, IsSteadyAt, IsSteady, IsCalmAt, IsCalm, NoneOwn}
-use Rattle.op_words.specs.Views.{Agrees, IsApart, IsLone, Adds, Goes, looking, looked}
-use Rattle.op_words.specs.Plays.{IsTold, Looks, Leaves}
+use Rattle.op_words.specs.Views.{Agrees, IsApart, IsLone, Adds, Goes, looked}
+use Rattle.op_words.specs.Plays.{Looks}
 use Rattle.op_words.specs.Calls.{PeekDoes}
 use Rattle.op_words.proofs.Rows.{no_more, one_inside}
 use Rattle.op_words.proofs.Trailing.{last-one, along_none, along-append}

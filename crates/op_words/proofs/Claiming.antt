@@ -1,18 +1,16 @@
 -- The steps on an operation: it is made ready, claimed, finished or given back.
-use Rattle.std.proofs.Common.{◌≡◌, ◌≢◌, ◌⊎◌, ℕ, zero, suc, ◌+◌, ◌<◌, ◌≤◌, Bool, true, false, List, [], ◌∷◌, ◌++◌, length, get_or, set, refl, sym, ap, ◌∙◌, subst, inl, inr, arith, Option, Some, None}
-use Rattle.std.specs.Prelude.{Contains, slice_index, ◌==◌}
+use Rattle.std.proofs.Common.{◌≡◌, ◌≢◌, ℕ, ◌+◌, ◌<◌, [], length, set, refl, sym, ap, ◌∙◌, subst, inl, arith, Some, None}
+use Rattle.std.specs.Prelude.{slice_index, ◌==◌}
 use Rattle.std.proofs.lemmas.Option.{same_Some}
 use mathlib.Core.Option.{some, none}
 use lib.ListN.{get_elem?}
 use prog.Atomic.{either}
 use Rattle.atomic_table.specs.Table.{step, keeps, Allows}
-use Rattle.morph_base.specs.declared.limits.TheConstants.{WORKERS}
 use Rattle.morph_base.specs.declared.plan.Plan.{Plan}
 use Rattle.morph_base.specs.declared.word.OpWord.{OpWord}
 use Rattle.morph_base.specs.Words.{IsWord, packed}
 use Rattle.morph_base.specs.Plans.{op_count}
 use Rattle.interleaving_core.specs.declared.entry.Held.{Held}
-use Rattle.interleaving_core.specs.declared.event.CoreEvent.{CoreEvent}
 use Rattle.interleaving_core.specs.declared.event.CoreEvent.TheVariants.{Ready as ReadyStep, Claim, GiveBack}
 use Rattle.interleaving_core.specs.Core.{Core, blocked, ready, claimed, put}
 use Rattle.interleaving_core.specs.Steps.{IsWorker, IsClaimedBy, May, after}
@@ -24,8 +22,7 @@ use Rattle.op_words.specs.Views.{making, claiming, giving_back}
 use Rattle.op_words.specs.Rule.{Seats, Knows, Lawful, Steps}
 use Rattle.op_words.specs.Plays.{Sat, Leaves, Swaps, makes, claims, gives}
 use Rattle.op_words.proofs.Rows.{here_long, no_more}
-use Rattle.op_words.proofs.Moving.{with_view, Advances}
-use Rattle.op_words.proofs.Knowing.{HasMore}
+use Rattle.op_words.proofs.Moving.{with_view}
 use Rattle.op_words.proofs.Leaving.{IsLeft, left_steps, left_so, swapped}
 
 module _ {p : Plan} {cap counters : ℕ} (s : Seats) (lawful : Lawful p cap counters s) (i : ℕ) (v : View) (at : get_elem? s.views i ≡ some (Some v)) where

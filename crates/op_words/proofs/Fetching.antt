@@ -1,5 +1,5 @@
 -- What `fetch` and `finish` tell, from what their steps told.
-use Rattle.std.proofs.Common.{◌≡◌, ◌≢◌, ◌⊎◌, ℕ, zero, suc, ◌+◌, ◌<◌, ◌≤◌, Bool, true, false, cond, List, [], ◌∷◌, ◌++◌, length, refl, sym, ap, ◌∙◌, subst, inl, inr, arith, Option, Some, None}
+use Rattle.std.proofs.Common.{◌≡◌, ◌≢◌, ◌⊎◌, ℕ, ◌+◌, ◌<◌, true, false, cond, List, [], ◌∷◌, length, refl, sym, ap, ◌∙◌, subst, inl, inr, arith, Option, Some, None}
 use Rattle.std.specs.Prelude.{Contains, slice_index}
 use Rattle.std.proofs.lemmas.Option.{same_Some}
 use Rattle.std.proofs.lemmas.List.Sums.{sum_by-cons}
@@ -12,7 +12,6 @@ use Rattle.morph_base.specs.Functions.{value_of}
 use Rattle.morph_base.specs.Plans.{op_at, origin_at}
 use Rattle.morph_base.specs.Words.{is_idle, is_settled}
 use Rattle.interleaving_core.specs.declared.entry.Held.{Held}
-use Rattle.interleaving_core.specs.declared.event.CoreEvent.{CoreEvent}
 use Rattle.interleaving_core.specs.declared.event.CoreEvent.TheVariants.{Finish}
 use Rattle.interleaving_core.specs.Core.{ended, finished, entry_of, has_run, places}
 use Rattle.interleaving_core.specs.Counts.{is_finish, evaluated}
@@ -22,8 +21,8 @@ use Rattle.op_words.specs.declared.board.Board.{Board}
 use Rattle.op_words.specs.declared.board.Hand.{Hand}
 use Rattle.op_words.specs.declared.trail.Item.{Item}
 use Rattle.op_words.specs.declared.trail.View.{View}
-use Rattle.op_words.specs.Trails.{loaded, left, IsSourceOf, IsSteadyAt, IsCalmAt}
-use Rattle.op_words.specs.Views.{Agrees, Adds, Holds, IsApart, records_from, looking, looked, fetching, finishing}
+use Rattle.op_words.specs.Trails.{loaded, left, IsSteadyAt, IsCalmAt}
+use Rattle.op_words.specs.Views.{Agrees, Adds, Holds, IsApart, records_from, fetching, finishing}
 use Rattle.op_words.specs.Calls.{Elsewhere, IsRead, IsTaken, FetchDoes, FinishDoes, answer_of, outcome_of}
 use Rattle.op_words.specs.Plays.{Leaves}
 use Rattle.op_words.specs.Hands.{view_of}

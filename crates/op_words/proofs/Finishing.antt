@@ -1,8 +1,8 @@
 -- The end of a claim: an operation is finished on all values that were fetched for it.
-use Rattle.std.proofs.Common.{◌≡◌, ◌≢◌, ◌⊎◌, ℕ, zero, suc, ◌+◌, ◌<◌, ◌≤◌, Bool, true, false, List, [], ◌∷◌, ◌++◌, length, get_or, set, refl, sym, ap, ◌∙◌, subst, inl, inr, arith, Option, Some, None, suc-le-suc, zero-lt-suc}
+use Rattle.std.proofs.Common.{◌≡◌, ℕ, zero, suc, ◌+◌, ◌<◌, List, [], ◌∷◌, ◌++◌, length, get_or, set, refl, sym, ap, ◌∙◌, subst, inl, inr, arith, Option, Some, None, suc-le-suc, zero-lt-suc}
 use Rattle.std.specs.Prelude.{Contains, slice_index}
 use Rattle.std.proofs.lemmas.Option.{same_Some}
-use Rattle.std.proofs.lemmas.List.Elements.{Contains-append_left, Contains-append_right, Contains-append_cases}
+use Rattle.std.proofs.lemmas.List.Elements.{Contains-append_cases}
 use mathlib.Core.Option.{some, none}
 use lib.ListN.{get_elem?}
 use Rattle.atomic_table.specs.Table.{step, keeps, Allows}
@@ -11,12 +11,11 @@ use Rattle.morph_base.specs.declared.word.OpWord.{OpWord}
 use Rattle.morph_base.specs.Words.{packed}
 use Rattle.morph_base.specs.Plans.{op_count, op_at}
 use Rattle.interleaving_core.specs.declared.entry.Held.{Held}
-use Rattle.interleaving_core.specs.declared.event.CoreEvent.{CoreEvent}
 use Rattle.interleaving_core.specs.declared.event.CoreEvent.TheVariants.{Finish}
 use Rattle.interleaving_core.specs.Core.{Core, entry_of, fetched, finished, places, put}
 use Rattle.interleaving_core.specs.Sightings.{IsNoted, IsRecordNoted}
 use Rattle.interleaving_core.specs.Steps.{May, after, end_of as core_end}
-use Rattle.interleaving_core.proofs.Basics.{put_here, put_else}
+use Rattle.interleaving_core.proofs.Basics.{put_else}
 use Rattle.op_words.specs.declared.trail.RecordSeen.{RecordSeen}
 use Rattle.op_words.specs.declared.trail.View.{View}
 use Rattle.op_words.specs.Trails.{left}
@@ -24,8 +23,7 @@ use Rattle.op_words.specs.Views.{records_from, finishing}
 use Rattle.op_words.specs.Rule.{Seats, Knows, Lawful, Steps}
 use Rattle.op_words.specs.Plays.{Sat, Leaves, end_of, ends}
 use Rattle.op_words.proofs.Rows.{no_more, not_inside}
-use Rattle.op_words.proofs.Moving.{with_view, Advances}
-use Rattle.op_words.proofs.Knowing.{HasMore}
+use Rattle.op_words.proofs.Moving.{with_view}
 use Rattle.op_words.proofs.Leaving.{IsLeft, left_steps, left_so}
 use Rattle.op_words.proofs.Claiming.{sound_claim, held_now, attempt_now, claimed_now, let_go, not_own}
 

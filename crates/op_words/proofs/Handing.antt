@@ -1,9 +1,8 @@
 -- A hand stays one of its board's.
-use Rattle.std.proofs.Common.{◌≡◌, ◌≢◌, ◌⊎◌, ℕ, zero, suc, ◌+◌, ◌-◌, ◌^◌, ◌<◌, ◌≤◌, Bool, true, false, List, [], ◌∷◌, ◌++◌, length, refl, sym, ap, ◌∙◌, subst, inl, inr, arith, Option, Some, None, zero-add, take}
-use Rattle.std.specs.Prelude.{Contains, cond, min, count_by}
+use Rattle.std.proofs.Common.{◌≡◌, ◌≢◌, ℕ, ◌+◌, ◌-◌, ◌^◌, ◌<◌, ◌≤◌, Bool, false, List, [], ◌∷◌, ◌++◌, refl, sym, ap, ◌∙◌, subst, inl, inr, arith, Some, None, zero-add, take}
+use Rattle.std.specs.Prelude.{cond, min, count_by}
 use Rattle.std.proofs.lemmas.Option.{none-some, same_Some}
 use Rattle.std.proofs.lemmas.List.Sums.{sum_by-append, sum_by-cons}
-use Rattle.std.proofs.lemmas.List.Elements.{Contains-append_left}
 use Rattle.std.specs.declared.snapshot.Snapshot.{Snapshot}
 use Rattle.morph_base.specs.declared.limits.TheConstants.{WORKERS}
 use Rattle.morph_base.specs.declared.word.TheConstants.{ATTEMPTS}
@@ -14,7 +13,7 @@ use Rattle.morph_base.proofs.WordLaws.{one_word}
 use Rattle.interleaving_core.specs.declared.entry.Held.{Held}
 use Rattle.interleaving_core.specs.declared.event.CoreEvent.{CoreEvent}
 use Rattle.interleaving_core.specs.declared.event.CoreEvent.TheVariants.{Finish}
-use Rattle.interleaving_core.specs.Counts.{is_finish, is_spread, is_roll, evaluated, spreads, rolled}
+use Rattle.interleaving_core.specs.Counts.{is_finish, is_spread, is_roll}
 use Rattle.interleaving_core.specs.Core.{blocked, start}
 use Rattle.interleaving_core.specs.Steps.{IsWorker}
 use Rattle.morph_base.specs.Plans.{IsPlan}
@@ -25,7 +24,7 @@ use Rattle.op_words.specs.declared.board.Holding.{Holding}
 use Rattle.op_words.specs.declared.trail.Item.{Item}
 use Rattle.op_words.specs.declared.trail.View.{View}
 use Rattle.op_words.specs.Trails.{left}
-use Rattle.op_words.specs.Views.{IsLone, Holds, looked, finishing, parent, child, merged}
+use Rattle.op_words.specs.Views.{Holds, looked, finishing, parent, child, merged}
 use Rattle.op_words.specs.Plays.{Sat, IsTold, Looks, Leaves, Swaps}
 use Rattle.op_words.specs.Stepping.{Looked, Left}
 use Rattle.op_words.specs.Rule.{first_view}

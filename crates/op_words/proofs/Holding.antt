@@ -1,8 +1,7 @@
 -- An operation is held by one hand at most.
-use Rattle.std.proofs.Common.{◌≡◌, ℕ, ◌+◌, sym, ap, ◌∙◌, arith, Option, Some}
+use Rattle.std.proofs.Common.{◌≡◌, ℕ, sym, ap, ◌∙◌, arith}
 use Rattle.morph_base.specs.declared.plan.Plan.{Plan}
 use Rattle.morph_base.specs.declared.word.OpWord.{OpWord}
-use Rattle.interleaving_core.specs.declared.entry.Held.{Held}
 use Rattle.op_words.specs.Kinds.{HoldsAlone}
 use Rattle.op_words.proofs.Claiming.{sound_claim}
 

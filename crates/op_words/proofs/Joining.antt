@@ -1,5 +1,5 @@
 -- A hand is joined into the root.
-use Rattle.std.proofs.Common.{◌≡◌, ◌≢◌, ◌⊎◌, ℕ, zero, suc, ◌+◌, ◌*◌, ◌<◌, ◌≤◌, List, [], ◌∷◌, ◌++◌, length, set, refl, sym, ap, ◌∙◌, subst, inl, inr, arith, Option, Some, None, length-set, length-append}
+use Rattle.std.proofs.Common.{◌≡◌, ◌≢◌, ◌⊎◌, ℕ, ◌+◌, ◌<◌, ◌≤◌, List, [], ◌∷◌, ◌++◌, length, set, refl, sym, ap, ◌∙◌, subst, inl, inr, arith, Option, Some, None, length-set, length-append}
 use Rattle.std.specs.Prelude.{Contains, sum_by}
 use Rattle.std.specs.List.{range_with_len}
 use Rattle.std.proofs.lemmas.Option.{same_Some, none-some}
@@ -12,7 +12,6 @@ use Rattle.atomic_table.proofs.Lists.{at_set, set_else}
 use Rattle.morph_base.specs.declared.limits.TheConstants.{WORKERS}
 use Rattle.morph_base.specs.declared.plan.Plan.{Plan}
 use Rattle.interleaving_core.specs.declared.entry.Settling.{Settling}
-use Rattle.interleaving_core.specs.Core.{Core}
 use Rattle.op_words.specs.declared.trail.Joined.{Joined}
 use Rattle.op_words.specs.declared.trail.View.{View}
 use Rattle.op_words.specs.Views.{IsBooked, joined_of, merged}

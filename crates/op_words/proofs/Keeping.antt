@@ -1,6 +1,5 @@
 -- The store of a record: the next place of an operation that is held gets a version of its source.
-use Rattle.std.proofs.Common.{◌≡◌, ◌≢◌, ◌⊎◌, ℕ, zero, suc, ◌+◌, ◌*◌, ◌<◌, ◌≤◌, Bool, true, false, List, [], ◌∷◌, ◌++◌, length, get_or, set, refl, sym, ap, ◌∙◌, subst, inl, inr, arith, Option, Some, None}
-use Rattle.std.specs.Prelude.{Contains, slice_index}
+use Rattle.std.proofs.Common.{◌≡◌, ◌⊎◌, ℕ, ◌+◌, ◌<◌, true, false, List, [], ◌∷◌, ◌++◌, length, set, refl, sym, ap, ◌∙◌, subst, inl, inr, arith, Option, Some}
 use Rattle.std.proofs.lemmas.Bool.{false≢true}
 use Rattle.std.proofs.lemmas.Option.{same_Some}
 use mathlib.Core.Option.{some, none}
@@ -13,19 +12,18 @@ use Rattle.morph_base.specs.declared.plan.Origin.TheVariants.{Base, Op as Writte
 use Rattle.morph_base.specs.declared.word.OpState.{OpState}
 use Rattle.morph_base.specs.declared.word.OpState.TheVariants.{Blocked, Ready, Claimed, Executed, Failed, Spread, Settled, SettledAborted}
 use Rattle.morph_base.specs.declared.word.OpWord.{OpWord}
-use Rattle.morph_base.specs.Plans.{IsPlan, op_count, origin_at}
-use Rattle.morph_base.specs.Words.{is_idle, is_settled, packed}
+use Rattle.morph_base.specs.Plans.{op_count, origin_at}
+use Rattle.morph_base.specs.Words.{is_idle, is_settled}
 use Rattle.interleaving_core.specs.declared.entry.Held.{Held}
 use Rattle.interleaving_core.specs.declared.entry.Record.{Record}
-use Rattle.interleaving_core.specs.declared.event.CoreEvent.{CoreEvent}
 use Rattle.interleaving_core.specs.declared.event.CoreEvent.TheVariants.{Fetch}
-use Rattle.interleaving_core.specs.Core.{Core, ready, fetched, is_shown, entry_of, places, put, IsSettledAs, IsVersion}
+use Rattle.interleaving_core.specs.Core.{Core, fetched, is_shown, entry_of, places, put, IsSettledAs, IsVersion}
 use Rattle.interleaving_core.specs.Sightings.{IsNoted}
 use Rattle.interleaving_core.specs.Steps.{May, after}
 use Rattle.interleaving_core.proofs.Basics.{put_here, put_else}
 use Rattle.op_words.specs.declared.trail.View.{View}
 use Rattle.op_words.specs.Trails.{loaded}
-use Rattle.op_words.specs.Views.{IsPresent, fetching}
+use Rattle.op_words.specs.Views.{fetching}
 use Rattle.op_words.specs.Layout.{record_index, packed_record}
 use Rattle.op_words.specs.Rule.{Seats, Knows, Lawful, Steps}
 use Rattle.op_words.specs.Plays.{Sat, IsTold, keeps}

@@ -1,9 +1,8 @@
 -- What hands know stays true as the state grows, and with words more.
-use Rattle.std.proofs.Common.{◌≡◌, ◌≢◌, ◌⊎◌, ℕ, ◌+◌, ◌*◌, ◌<◌, ◌≤◌, Bool, true, List, [], ◌∷◌, ◌++◌, length, refl, sym, ap, ◌∙◌, subst, inl, inr, arith, Option, Some, None}
+use Rattle.std.proofs.Common.{◌≡◌, ◌⊎◌, ℕ, ◌+◌, ◌*◌, ◌<◌, ◌≤◌, List, ◌++◌, length, refl, sym, ap, ◌∙◌, subst, inl, inr, arith}
 use Rattle.std.specs.Prelude.{Contains, sum_by}
 use Rattle.std.proofs.lemmas.List.Elements.{Contains-append_left, Contains-append_right, Contains-append_cases}
 use Rattle.morph_base.specs.declared.plan.Plan.{Plan}
-use Rattle.morph_base.specs.declared.word.OpWord.{OpWord}
 use Rattle.morph_base.specs.Plans.{op_count}
 use Rattle.interleaving_core.specs.declared.entry.Settling.{Settling}
 use Rattle.interleaving_core.specs.Core.{Core}
@@ -14,10 +13,9 @@ use Rattle.op_words.specs.declared.trail.Item.{Item}
 use Rattle.op_words.specs.declared.trail.Joined.{Joined}
 use Rattle.op_words.specs.declared.trail.Place.{Place}
 use Rattle.op_words.specs.declared.trail.RecordSeen.{RecordSeen}
-use Rattle.op_words.specs.declared.trail.DecisionSeen.{DecisionSeen}
 use Rattle.op_words.specs.declared.trail.View.{View}
 use Rattle.op_words.specs.Trails.{left}
-use Rattle.op_words.specs.Views.{HasSettled, IsBooked, IsJoinedTrail}
+use Rattle.op_words.specs.Views.{IsBooked}
 use Rattle.op_words.specs.Evidence.{AreNoted}
 use Rattle.op_words.specs.Rule.{Knows, of_counter, of_joined, one, most_taken}
 

@@ -1,5 +1,5 @@
 -- One word of the row changes, in the table as in the machine.
-use Rattle.std.proofs.Common.{◌≡◌, ◌≢◌, ◌⊎◌, ℕ, ◌+◌, ◌*◌, ◌<◌, ◌≤◌, List, length, get_or, set, refl, sym, ap, ◌∙◌, subst, inl, inr, arith, Option, Some, None, length-set, get_or-set_same}
+use Rattle.std.proofs.Common.{◌≡◌, ◌≢◌, ◌⊎◌, ℕ, ◌+◌, ◌<◌, List, length, get_or, set, sym, ap, ◌∙◌, subst, inl, inr, arith, Option, length-set, get_or-set_same}
 use Rattle.std.specs.Prelude.{sum_by}
 use Rattle.std.specs.List.{range_with_len}
 use Rattle.std.proofs.lemmas.Bool.{cases_eq}
@@ -7,12 +7,12 @@ use Rattle.morph_base.specs.declared.limits.TheConstants.{READS}
 use Rattle.morph_base.specs.declared.plan.Plan.{Plan}
 use Rattle.morph_base.specs.declared.word.OpWord.{OpWord}
 use Rattle.morph_base.specs.Words.{packed}
-use Rattle.morph_base.specs.Plans.{op_count, event_count}
+use Rattle.morph_base.specs.Plans.{op_count}
 use Rattle.interleaving_core.specs.declared.entry.Record.{Record}
 use Rattle.interleaving_core.specs.Core.{Core, put}
 use Rattle.interleaving_core.proofs.Basics.{put_here, put_else}
 use Rattle.op_words.specs.declared.trail.View.{View}
-use Rattle.op_words.specs.Layout.{Shows, record_index, decision_base, level_index, counter_base, packed_record, packed_decision}
+use Rattle.op_words.specs.Layout.{Shows, record_index, decision_base, counter_base, packed_record, packed_decision}
 use Rattle.op_words.specs.Rule.{HasNumbers}
 use Rattle.op_words.proofs.Rows.{set_apart}
 

@@ -1,5 +1,5 @@
 -- A step of the machine that leaves another word on an operation.
-use Rattle.std.proofs.Common.{◌≡◌, ◌≢◌, ◌⊎◌, ℕ, zero, suc, ◌+◌, ◌<◌, ◌≤◌, Bool, true, false, List, [], ◌∷◌, ◌++◌, length, set, refl, sym, ap, ◌∙◌, subst, inl, inr, arith, Option, Some, None}
+use Rattle.std.proofs.Common.{◌≡◌, ◌≢◌, ◌⊎◌, ℕ, ◌+◌, ◌<◌, Bool, [], ◌∷◌, length, set, refl, sym, ap, ◌∙◌, subst, inl, inr, Some}
 use Rattle.std.specs.Prelude.{Contains, slice_index, ◌==◌}
 use Rattle.std.proofs.lemmas.Bool.{cases_Bool, false≢true, eqb-true, eqb-false}
 use Rattle.std.proofs.lemmas.List.Elements.{Contains-append_left}
@@ -23,9 +23,9 @@ use Rattle.op_words.specs.declared.trail.Item.{Item}
 use Rattle.op_words.specs.declared.trail.RecordSeen.{RecordSeen}
 use Rattle.op_words.specs.declared.trail.View.{View}
 use Rattle.op_words.specs.Trails.{left, IsSteadyAt}
-use Rattle.op_words.specs.Views.{IsPresent, looked}
+use Rattle.op_words.specs.Views.{looked}
 use Rattle.op_words.specs.Rule.{Seats, Knows, Lawful, Steps}
-use Rattle.op_words.specs.Plays.{Sat, Looks, Leaves, Swaps}
+use Rattle.op_words.specs.Plays.{Sat, Leaves, Swaps}
 use Rattle.op_words.proofs.Rows.{one_inside}
 use Rattle.op_words.proofs.Knowing.{HasMore, knows_more}
 use Rattle.op_words.proofs.Moving.{with_view, Advances, advanced, grown, root_before}

@@ -1,12 +1,11 @@
 -- A load keeps the rule.
-use Rattle.std.proofs.Common.{◌≡◌, ◌≢◌, ◌⊎◌, ℕ, zero, suc, ◌+◌, ◌<◌, ◌≤◌, Bool, true, false, List, [], ◌∷◌, ◌++◌, length, get_or, set, refl, sym, ap, ◌∙◌, subst, inl, inr, arith, Option, Some, None, length-set}
-use Rattle.std.specs.Prelude.{Contains, slice_index}
+use Rattle.std.proofs.Common.{◌≡◌, ◌≢◌, ℕ, ◌<◌, List, [], ◌∷◌, ◌++◌, length, get_or, set, refl, sym, ap, ◌∙◌, subst, inl, inr, Option, Some}
+use Rattle.std.specs.Prelude.{slice_index}
 use Rattle.std.proofs.lemmas.Bool.{cases_eq}
 use Rattle.std.proofs.lemmas.Option.{same_Some}
-use Rattle.std.proofs.lemmas.List.Elements.{Contains-append_left}
 use mathlib.Core.Option.{some, none}
 use lib.ListN.{get_elem?}
-use Rattle.atomic_table.specs.Table.{State, Me, step, keeps, stepped, Allows}
+use Rattle.atomic_table.specs.Table.{step, keeps, Allows}
 use Rattle.atomic_table.proofs.Lists.{set_here}
 use Rattle.morph_base.specs.declared.plan.Plan.{Plan}
 use Rattle.morph_base.specs.declared.word.OpWord.{OpWord}
@@ -16,10 +15,9 @@ use Rattle.interleaving_core.specs.Sightings.{IsNoted}
 use Rattle.interleaving_core.proofs.Sighting.{present_noted}
 use Rattle.op_words.specs.declared.trail.Item.{Item}
 use Rattle.op_words.specs.declared.trail.View.{View}
-use Rattle.op_words.specs.Trails.{loaded, left, last_word}
+use Rattle.op_words.specs.Trails.{loaded, last_word}
 use Rattle.op_words.specs.Views.{IsPresent, looked}
-use Rattle.op_words.specs.Layout.{counter_base, level_index}
-use Rattle.op_words.specs.Rule.{Seats, taken, Knows, HasNumbers, Lawful, Stays}
+use Rattle.op_words.specs.Rule.{Seats, taken, Knows, Lawful, Stays}
 use Rattle.op_words.specs.Plays.{Sat, IsTold, Looks, looks, tells}
 use Rattle.op_words.proofs.Trailing.{last-none, last-append, last-one, last-skip}
 use Rattle.op_words.proofs.Rows.{set_same, one_inside, here_long}

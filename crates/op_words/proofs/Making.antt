@@ -1,10 +1,9 @@
 -- What `ready` and `claim` tell, from what their steps told.
-use Rattle.std.proofs.Common.{◌≡◌, ◌≢◌, ◌⊎◌, ℕ, zero, suc, ◌+◌, ◌<◌, ◌≤◌, Bool, true, false, List, [], ◌∷◌, ◌++◌, length, refl, sym, ap, ◌∙◌, subst, inl, inr, arith, append_assoc, suc-le-suc, Option, Some, None}
+use Rattle.std.proofs.Common.{◌≡◌, ◌≢◌, ℕ, suc, true, false, List, [], ◌∷◌, ◌++◌, refl, sym, ap, ◌∙◌, subst, inl, inr, arith, suc-le-suc, None}
 use Rattle.std.specs.Prelude.{Contains}
 use Rattle.std.proofs.lemmas.Bool.{false≢true}
 use Rattle.std.proofs.lemmas.List.Elements.{Contains-append_left, Contains-append_right, Contains-append_cases}
 use Rattle.morph_base.specs.declared.plan.Plan.{Plan}
-use Rattle.morph_base.specs.declared.word.OpState.{OpState}
 use Rattle.morph_base.specs.declared.word.OpState.TheVariants.{Blocked, Ready}
 use Rattle.morph_base.specs.declared.word.OpWord.{OpWord}
 use Rattle.morph_base.specs.Words.{IsWord, is_idle, is_settled, has_worker}
@@ -20,15 +19,15 @@ use Rattle.op_words.specs.declared.board.Hand.{Hand}
 use Rattle.op_words.specs.declared.trail.Item.{Item}
 use Rattle.op_words.specs.declared.trail.View.{View}
 use Rattle.op_words.specs.Trails.{loaded, left, last_word, HasLast, IsDisturbed, IsSourceOf, IsSteadyAt, IsCalmAt, OwnOn, OwnOpen, NoneOwn}
-use Rattle.op_words.specs.Views.{Adds, Goes, IsApart, looking, looked, Holds, leaving, making, claiming, giving_back}
-use Rattle.op_words.specs.Calls.{Elsewhere, IsUnmade, MakeTells, MakeDoes, ClaimDoes, GiveBackDoes}
-use Rattle.op_words.specs.Plays.{Looks, Leaves}
-use Rattle.op_words.specs.Hands.{cap_of, view_of}
-use Rattle.op_words.specs.Stepping.{Looked, Left, IsRow, Sought}
+use Rattle.op_words.specs.Views.{Adds, looking, looked, Holds, leaving, making, claiming, giving_back}
+use Rattle.op_words.specs.Calls.{Elsewhere, MakeDoes, ClaimDoes, GiveBackDoes}
+use Rattle.op_words.specs.Plays.{Leaves}
+use Rattle.op_words.specs.Hands.{view_of}
+use Rattle.op_words.specs.Stepping.{Looked, Left, IsRow}
 use Rattle.op_words.proofs.Rows.{one_inside}
-use Rattle.op_words.proofs.Trailing.{same_parts, last-none, last-append, last-one, last-skip, last_later}
+use Rattle.op_words.proofs.Trailing.{same_parts, last-none, last-append, last-skip, last_later}
 use Rattle.op_words.proofs.Adding.{adds_then, adds_look, along_one, calm_left, free_apart, last_one, none_one}
-use Rattle.op_words.proofs.Seeking.{looking-then, row_then, source_other}
+use Rattle.op_words.proofs.Seeking.{looking-then}
 
 -- a word that is blocked, or ready, is bare
 pub bare_blocked : (w : OpWord) → IsWord w → w.state ≡ Blocked → w ≡ blocked w.attempt

@@ -1,21 +1,20 @@
 -- The table at the start meets the rule.
-use Rattle.std.proofs.Common.{◌≡◌, ◌≢◌, ◌⊎◌, ℕ, zero, suc, ◌+◌, ◌*◌, ◌<◌, ◌≤◌, List, [], ◌∷◌, ◌++◌, length, refl, sym, ap, ◌∙◌, subst, inl, inr, arith, Option, Some, None}
-use Rattle.std.specs.Prelude.{Contains, slice_index, sum_by}
+use Rattle.std.proofs.Common.{◌≡◌, ℕ, zero, suc, ◌+◌, ◌<◌, List, [], ◌∷◌, refl, sym, ap, subst, arith, Some}
+use Rattle.std.specs.Prelude.{sum_by}
 use Rattle.std.specs.declared.snapshot.Snapshot.{Snapshot}
 use Rattle.std.proofs.lemmas.Option.{same_Some}
 use mathlib.Core.Option.{some, some-injective, some-ne-none}
 use lib.ListN.{get_elem?}
 use Rattle.atomic_table.specs.Table.{opening}
-use Rattle.morph_base.specs.declared.limits.TheConstants.{READS}
 use Rattle.morph_base.specs.declared.word.TheConstants.{ATTEMPTS}
 use Rattle.morph_base.specs.declared.plan.Plan.{Plan}
 use Rattle.morph_base.specs.Graphs.{below}
-use Rattle.morph_base.specs.Plans.{IsPlan, op_count, event_count}
+use Rattle.morph_base.specs.Plans.{IsPlan}
 use Rattle.interleaving_core.specs.Core.{start, blocked}
 use Rattle.interleaving_core.proofs.Machine.{start_sound}
 use Rattle.op_words.specs.declared.trail.View.{View}
 use Rattle.op_words.specs.Views.{IsPresent}
-use Rattle.op_words.specs.Layout.{Shows, AreFirst, record_index, decision_base, counter_base}
+use Rattle.op_words.specs.Layout.{Shows, AreFirst, record_index, decision_base}
 use Rattle.op_words.specs.Rule.{Knows, first_view, Lawful}
 use Rattle.op_words.proofs.Rows.{not_inside}
 use Rattle.op_words.proofs.Trailing.{last-none}

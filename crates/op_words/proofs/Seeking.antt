@@ -1,10 +1,9 @@
 -- The sources of an operation are loaded, place by place.
-use Rattle.std.proofs.Common.{◌≡◌, ◌≢◌, ◌⊎◌, ℕ, zero, suc, ◌+◌, ◌<◌, ◌≤◌, Bool, true, false, List, [], ◌∷◌, ◌++◌, length, refl, sym, ap, ◌∙◌, subst, inl, inr, arith, append_assoc, Option, Some, None}
+use Rattle.std.proofs.Common.{◌≡◌, ◌≢◌, ℕ, ◌+◌, ◌<◌, true, false, List, [], ◌∷◌, ◌++◌, refl, sym, ap, ◌∙◌, subst, inl, inr, arith, append_assoc, Some, None}
 use Rattle.std.specs.Prelude.{Contains}
 use Rattle.std.proofs.lemmas.Bool.{cases_lt}
 use Rattle.std.proofs.lemmas.List.Elements.{Contains-append_left, Contains-append_right, Contains-append_cases}
 use Rattle.morph_base.specs.declared.plan.Plan.{Plan}
-use Rattle.morph_base.specs.declared.plan.Origin.{Origin}
 use Rattle.morph_base.specs.declared.plan.Origin.TheVariants.{Base, Op as Written}
 use Rattle.morph_base.specs.declared.word.OpWord.{OpWord}
 use Rattle.morph_base.specs.Plans.{IsPlan, op_count, origin_at}
@@ -16,13 +15,13 @@ use Rattle.op_words.specs.declared.board.Board.{Board}
 use Rattle.op_words.specs.declared.board.Hand.{Hand}
 use Rattle.op_words.specs.declared.trail.Item.{Item}
 use Rattle.op_words.specs.declared.trail.View.{View}
-use Rattle.op_words.specs.Trails.{loaded, HasLast, IsSourceOf}
-use Rattle.op_words.specs.Views.{IsApart, Adds, looking, looked}
+use Rattle.op_words.specs.Trails.{loaded}
+use Rattle.op_words.specs.Views.{IsApart, Adds, looking}
 use Rattle.op_words.specs.Calls.{Elsewhere}
 use Rattle.op_words.specs.Hands.{view_of, IsHandOf}
-use Rattle.op_words.specs.Stepping.{Looked, IsRow, HasValueAt, IsIdleAt, SoughtAt, Sought, IsSoughtUpTo}
+use Rattle.op_words.specs.Stepping.{Looked, IsRow, SoughtAt, Sought, IsSoughtUpTo}
 use Rattle.op_words.proofs.Rows.{no_more, not_inside, one_inside}
-use Rattle.op_words.proofs.Adding.{adds_none, adds_then, adds_look, free_apart}
+use Rattle.op_words.proofs.Adding.{adds_none, adds_then, adds_look}
 
 -- ---- words more
 

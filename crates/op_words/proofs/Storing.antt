@@ -1,5 +1,5 @@
 -- The place of a record, as the code computes it from what the hand keeps.
-use Rattle.std.proofs.Common.{◌≡◌, ℕ, suc, ◌+◌, ◌*◌, ◌<◌, ◌≤◌, List, [], ◌∷◌, ◌++◌, length, take, refl, sym, ap, ◌∙◌, subst, arith, Option, Some, None, zero-le}
+use Rattle.std.proofs.Common.{◌≡◌, ℕ, ◌+◌, ◌*◌, ◌<◌, ◌≤◌, List, [], ◌∷◌, ◌++◌, length, refl, sym, ap, ◌∙◌, subst, arith, Some, zero-le}
 use Rattle.std.proofs.lemmas.List.{length-take-le, length-take}
 use Rattle.std.proofs.lemmas.Option.{same_Some}
 use Rattle.morph_base.specs.declared.limits.TheConstants.{MAX, READS}
@@ -10,7 +10,6 @@ use Rattle.morph_base.specs.Clean.{from}
 use Rattle.morph_base.proofs.BoundLaws.{source-small}
 use Rattle.morph_base.specs.Plans.{IsPlan, op_count, op_at, origin_at}
 use Rattle.interleaving_core.specs.Core.{places}
-use Rattle.interleaving_core.specs.declared.entry.Held.{Held}
 use Rattle.op_words.specs.declared.board.Board.{Board}
 use Rattle.op_words.specs.declared.board.Hand.{Hand}
 use Rattle.op_words.specs.declared.board.Holding.{Holding}

@@ -1,25 +1,25 @@
 -- What the table tells of a view, in each lawful state.
-use Rattle.std.proofs.Common.{◌≡◌, ◌≢◌, ◌⊎◌, ℕ, zero, suc, ◌+◌, ◌<◌, ◌≤◌, Bool, true, false, cond, eqb, ◌&&◌, List, [], ◌∷◌, ◌++◌, length, get_or, set, refl, sym, ap, ◌∙◌, subst, inl, inr, arith, Option, Some, None}
-use Rattle.std.specs.Prelude.{Contains, sum_by, slice_index, ◌==◌}
+use Rattle.std.proofs.Common.{◌≡◌, ◌≢◌, ◌⊎◌, ℕ, zero, suc, ◌+◌, ◌<◌, ◌≤◌, false, cond, eqb, ◌&&◌, List, length, refl, sym, ap, ◌∙◌, subst, inl, inr, arith, Some}
+use Rattle.std.specs.Prelude.{Contains, sum_by, ◌==◌}
 use Rattle.std.proofs.lemmas.Bool.{cases_Bool, cases_lt, eq-eqb, and_from}
-use Rattle.std.proofs.lemmas.Option.{none-some, same_Some}
+use Rattle.std.proofs.lemmas.Option.{none-some}
 use mathlib.Core.Option.{some}
 use lib.ListN.{get_elem?}
 use Rattle.morph_base.specs.declared.plan.Plan.{Plan}
 use Rattle.morph_base.specs.declared.word.OpState.TheVariants.{Claimed}
 use Rattle.morph_base.specs.declared.word.OpWord.{OpWord}
 use Rattle.morph_base.specs.Plans.{op_count}
-use Rattle.morph_base.specs.Words.{is_idle, is_settled}
+use Rattle.morph_base.specs.Words.{is_idle}
 use Rattle.interleaving_core.specs.declared.entry.Entry.{Entry}
 use Rattle.interleaving_core.specs.declared.entry.Held.{Held}
-use Rattle.interleaving_core.specs.Core.{Core, blocked, entries_at}
+use Rattle.interleaving_core.specs.Core.{entries_at}
 use Rattle.interleaving_core.specs.Steps.{Run}
 use Rattle.interleaving_core.specs.Soundness.{IsSoundAt}
 use Rattle.interleaving_core.proofs.Basics.{count_some, entries-none}
 use Rattle.op_words.specs.declared.trail.Item.{Item}
 use Rattle.op_words.specs.declared.trail.View.{View}
-use Rattle.op_words.specs.Trails.{loaded, last_word, IsSteadyAt, IsCalmAt}
-use Rattle.op_words.specs.Views.{Agrees, IsApart, IsDone, IsFresh, IsLone, IsPresent, IsTrailNoted}
+use Rattle.op_words.specs.Trails.{loaded, IsSteadyAt, IsCalmAt}
+use Rattle.op_words.specs.Views.{Agrees, IsApart, IsFresh, IsLone, IsPresent}
 use Rattle.op_words.specs.Rule.{Seats, live, Knows, Lawful}
 use Rattle.op_words.specs.Plays.{IsTold}
 use Rattle.op_words.proofs.Rows.{sum_has}

@@ -1,8 +1,8 @@
 -- Laws of trails.
-use Rattle.std.proofs.Common.{◌≡◌, ◌≢◌, ◌⊎◌, ℕ, zero, suc, ◌+◌, ◌<◌, ◌≤◌, Bool, true, false, cond, eqb, List, [], ◌∷◌, ◌++◌, length, get_or, refl, sym, ap, ◌∙◌, subst, inl, inr, arith, append_assoc, zero-lt-suc, suc-le-suc}
+use Rattle.std.proofs.Common.{◌≡◌, ◌≢◌, ◌⊎◌, ℕ, zero, suc, ◌<◌, Bool, true, false, eqb, List, [], ◌∷◌, ◌++◌, length, get_or, refl, sym, ap, ◌∙◌, subst, inl, inr, arith, append_assoc, zero-lt-suc, suc-le-suc}
 use Rattle.std.specs.Prelude.{Contains, ◌==◌, if◌then◌else◌}
-use Rattle.std.proofs.lemmas.Bool.{cases_Bool, cases_eq, eq-eqb, ne_eqb, eqb-true, eqb-false, cond-true, cond-false, false≢true}
-use Rattle.std.proofs.lemmas.List.Elements.{Contains-append_left, Contains-append_right, Contains-append_cases, Contains-push, Contains-push_cases}
+use Rattle.std.proofs.lemmas.Bool.{cases_eq, eq-eqb, ne_eqb, cond-true, cond-false, false≢true}
+use Rattle.std.proofs.lemmas.List.Elements.{Contains-append_left, Contains-append_right, Contains-push_cases}
 use Rattle.morph_base.specs.declared.plan.Plan.{Plan}
 use Rattle.morph_base.specs.declared.word.OpState.{OpState}
 use Rattle.morph_base.specs.declared.word.OpWord.{OpWord}
@@ -10,7 +10,7 @@ use Rattle.morph_base.specs.Words.{is_settled, code_of}
 use Rattle.morph_base.proofs.WordLaws.{one_state}
 use Rattle.interleaving_core.specs.Core.{blocked}
 use Rattle.op_words.specs.declared.trail.Item.{Item}
-use Rattle.op_words.specs.Trails.{loaded, left, last_word, HasLast, IsDisturbed, IsShaken, IsReached, Along, IsSteadyAt, IsSteady, IsCalmAt, IsCalm, OwnOn, OwnOpen, NoneOwn}
+use Rattle.op_words.specs.Trails.{loaded, last_word, HasLast, IsDisturbed, IsReached, Along, IsSteady, IsCalmAt, IsCalm, OwnOpen}
 
 -- ---- words are equal or not
 

@@ -1,5 +1,5 @@
 -- What the calls of the board tell: of each answer its cause, by the words that were loaded and left in the call.
-use Rattle.std.specs.Prelude.{◌≡◌, ◌≢◌, ℕ, ◌+◌, ◌<◌, ◌⊎◌, Bool, true, false, List, [], ◌∷◌, ◌++◌, length, Contains, Option, Some, None, if◌then◌else◌, slice_index}
+use Rattle.std.specs.Prelude.{◌≡◌, ◌≢◌, ℕ, ◌+◌, ◌⊎◌, true, false, List, [], ◌∷◌, ◌++◌, Contains, Option, Some, None, if◌then◌else◌}
 use Rattle.morph_base.specs.declared.plan.Plan.{Plan}
 use Rattle.morph_base.specs.declared.plan.Origin.{Origin}
 use Rattle.morph_base.specs.declared.plan.Origin.TheVariants.{Base, Op as Written}
@@ -7,9 +7,8 @@ use Rattle.morph_base.specs.declared.word.OpState.TheVariants.{Blocked, Ready}
 use Rattle.morph_base.specs.declared.word.OpWord.{OpWord}
 use Rattle.morph_base.specs.Functions.{value_of}
 use Rattle.morph_base.specs.Plans.{op_at, origin_at}
-use Rattle.morph_base.specs.Words.{IsWord, is_idle, is_settled}
-use Rattle.interleaving_core.specs.declared.entry.Held.{Held}
-use Rattle.interleaving_core.specs.Core.{blocked, ready, claimed, finished, entry_of, has_run, is_failed, places}
+use Rattle.morph_base.specs.Words.{is_idle, is_settled}
+use Rattle.interleaving_core.specs.Core.{blocked, ready, claimed, finished, entry_of, has_run, is_failed}
 use Rattle.interleaving_core.specs.Counts.{evaluated}
 use Rattle.op_words.specs.declared.trail.Item.{Item}
 use Rattle.op_words.specs.declared.trail.View.{View}
@@ -22,7 +21,7 @@ use Rattle.op_words.specs.declared.answers.Fetched.TheVariants.{Value, Unready}
 use Rattle.op_words.specs.declared.answers.Outcome.{Outcome}
 use Rattle.op_words.specs.declared.answers.Outcome.TheVariants.{Executed as ExecutedTo, Failed as HasFailed}
 use Rattle.op_words.specs.Trails.{loaded, left, HasLast, IsDisturbed, IsSourceOf, OwnOn, OwnOpen, NoneOwn}
-use Rattle.op_words.specs.Views.{HasRecordsSeen, Holds, IsFresh, Adds, Goes, looking, looked, making, claiming, fetching, finishing, giving_back}
+use Rattle.op_words.specs.Views.{HasRecordsSeen, Holds, Adds, Goes, looking, looked, making, claiming, fetching, finishing, giving_back}
 
 module _ (xs : List Item) where
   -- the value of a source as it was loaded in the call

@@ -1,5 +1,5 @@
 -- What the notes of a hand say of the state of the machine, now and after every step.
-use Rattle.std.specs.Prelude.{◌≡◌, ℕ, ◌<◌, Contains, Some}
+use Rattle.std.specs.Prelude.{◌≡◌, ◌<◌, Contains, Some}
 use Rattle.morph_base.specs.declared.plan.Plan.{Plan}
 use Rattle.morph_base.specs.Plans.{op_count}
 use Rattle.interleaving_core.specs.Core.{Core}

@@ -2,7 +2,6 @@
 use Rattle.std.specs.Prelude.{◌≡◌, ℕ, ◌-◌, ◌^◌, ◌≤◌, ◌<◌, List, [], length, take, min, All, Option, Some, None}
 use Rattle.morph_base.specs.declared.limits.TheConstants.{MAX, READS}
 use Rattle.morph_base.specs.declared.word.TheConstants.{ATTEMPTS}
-use Rattle.morph_base.specs.declared.word.OpWord.{OpWord}
 use Rattle.morph_base.specs.declared.plan.Plan.{Plan}
 use Rattle.morph_base.specs.Plans.{IsPlan}
 use Rattle.interleaving_core.specs.declared.entry.Held.{Held}

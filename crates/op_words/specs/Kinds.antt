@@ -1,8 +1,8 @@
 -- What the table is before and after each kind of step of a hand, and what that is to the machine.
-use Rattle.std.specs.Prelude.{◌≡◌, ◌≢◌, ℕ, ◌+◌, ◌<◌, List, [], ◌∷◌, ◌++◌, length, Option, Some, None, slice_set}
+use Rattle.std.specs.Prelude.{◌≡◌, ◌≢◌, ℕ, ◌<◌, List, [], ◌∷◌, ◌++◌, length, Some, None, slice_set}
 use mathlib.Core.Option.{some}
 use lib.ListN.{get_elem?}
-use Rattle.morph_base.specs.declared.limits.TheConstants.{READS, WORKERS}
+use Rattle.morph_base.specs.declared.limits.TheConstants.{WORKERS}
 use Rattle.morph_base.specs.declared.plan.Plan.{Plan}
 use Rattle.morph_base.specs.Plans.{op_count, origin_at}
 use Rattle.morph_base.specs.Words.{packed}

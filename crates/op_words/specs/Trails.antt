@@ -1,8 +1,8 @@
 -- Trails: the words that a hand loaded or left, in order.
-use Rattle.std.specs.Prelude.{◌≡◌, ◌≢◌, ℕ, ◌<◌, ◌≤◌, ◌+◌, ◌⊎◌, Bool, true, false, if◌then◌else◌, ◌==◌, List, [], ◌∷◌, ◌++◌, length, Contains}
+use Rattle.std.specs.Prelude.{◌≡◌, ◌≢◌, ℕ, ◌<◌, ◌≤◌, ◌⊎◌, true, false, if◌then◌else◌, ◌==◌, List, [], ◌∷◌, ◌++◌, Contains}
 use Rattle.morph_base.specs.declared.plan.Plan.{Plan}
-use Rattle.morph_base.specs.declared.plan.Origin.TheVariants.{Base, Op as Written}
-use Rattle.morph_base.specs.declared.word.OpState.TheVariants.{Blocked, Claimed}
+use Rattle.morph_base.specs.declared.plan.Origin.TheVariants.{Op as Written}
+use Rattle.morph_base.specs.declared.word.OpState.TheVariants.{Claimed}
 use Rattle.morph_base.specs.declared.word.OpWord.{OpWord}
 use Rattle.morph_base.specs.Plans.{InEvent, origin_at}
 use Rattle.morph_base.specs.Words.{is_idle, is_settled}

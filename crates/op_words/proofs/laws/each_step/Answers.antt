@@ -1,5 +1,4 @@
-use Rattle.std.proofs.Common.{◌≡◌, ◌<◌, ◌≤◌, arith}
-use Rattle.op_words.specs.Views.{looked, making}
+use Rattle.std.proofs.Common.{arith}
 use Rattle.op_words.proofs.Loading.{looked_stays}
 use Rattle.op_words.proofs.Claiming.{made_steps, claimed_steps, given_steps, sound_claim}
 use Rattle.op_words.proofs.Keeping.{kept_steps}

@@ -1,6 +1,4 @@
-use Rattle.std.proofs.Common.{rules, ◌≤◌, arith}
-use Rattle.morph_base.specs.declared.limits.TheConstants.{READS, EVENT_OPS, EVENTS}
-use Rattle.morph_base.specs.Plans.{op_count, event_count}
+use Rattle.std.proofs.Common.{arith}
 use Rattle.morph_base.proofs.NumberLaws.{op_count-small}
 use Rattle.op_words.proofs.words.first_words.Goals as goal
 

@@ -1,4 +1,4 @@
-use Rattle.std.proofs.Common.{rules, sym, ◌∙◌}
+use Rattle.std.proofs.Common.{sym, ◌∙◌}
 use Rattle.std.proofs.lemmas.Bool.{false≢true}
 use Rattle.op_words.proofs.Making.{not_ready, held_now, found_held}
 use Rattle.op_words.proofs.board.Board.claim.Goals as goal

@@ -1,4 +1,4 @@
-use Rattle.std.proofs.Common.{rules, ◌≡◌, ◌<◌, ℕ, ap, arith, sym, subst, refl, Some, ◌∙◌, List}
+use Rattle.std.proofs.Common.{◌≡◌, ℕ, ap, arith, sym, subst, refl, Some, ◌∙◌, List}
 use mathlib.Core.Option.{none}
 use Rattle.std.proofs.lemmas.Option.{same_Some}
 use Rattle.atomic_table.specs.Table.{Allows, step}
@@ -12,7 +12,6 @@ use Rattle.op_words.specs.Plays.{Sat, Leaves, ends, end_of}
 use Rattle.op_words.specs.Rule.{Lawful}
 use Rattle.op_words.specs.Views.{finishing}
 use Rattle.op_words.specs.Trails.{left}
-use Rattle.op_words.specs.Stepping.{Left}
 use Rattle.op_words.specs.Hands.{plan_of, cap_of, counters_of, view_of}
 use Rattle.op_words.proofs.Finishing.{allows_end}
 use Rattle.op_words.proofs.Handing.{kept, kept_end, left_hand}

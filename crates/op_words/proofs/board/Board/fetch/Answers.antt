@@ -1,4 +1,4 @@
-use Rattle.std.proofs.Common.{rules, ◌≡◌, ◌∙◌, sym, subst, ℕ}
+use Rattle.std.proofs.Common.{◌∙◌, sym, subst}
 use Rattle.morph_base.specs.Plans.{IsPlan}
 use Rattle.op_words.proofs.Storing.{base_small}
 use Rattle.op_words.proofs.Fetching.{fetched_base}

@@ -1,4 +1,4 @@
-use Rattle.std.proofs.Common.{rules, ◌≡◌, ◌∙◌, sym, subst, ap, ℕ, List}
+use Rattle.std.proofs.Common.{◌≡◌, ◌∙◌, ap, ℕ, List}
 use Rattle.morph_base.specs.Functions.{value_of}
 use Rattle.morph_base.specs.Plans.{op_at}
 use Rattle.interleaving_core.specs.Core.{ended, finished}

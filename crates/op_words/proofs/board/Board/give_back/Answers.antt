@@ -1,4 +1,3 @@
-use Rattle.std.proofs.Common.{rules}
 use Rattle.op_words.proofs.Handing.{kept, holds_kept}
 use Rattle.op_words.proofs.Making.{gave_back}
 use Rattle.op_words.proofs.board.Board.give_back.Goals as goal

@@ -1,4 +1,4 @@
-use Rattle.std.proofs.Common.{rules, ◌≡◌, ◌∙◌, sym, ap, subst}
+use Rattle.std.proofs.Common.{◌∙◌, sym, subst}
 use Rattle.morph_base.specs.Plans.{IsPlan}
 use Rattle.op_words.specs.Hands.{view_of}
 use Rattle.op_words.proofs.Adding.{free_apart}

@@ -1,4 +1,4 @@
-use Rattle.std.proofs.Common.{rules, ◌<◌, ap, arith, refl, sym, Some, ◌∙◌, List}
+use Rattle.std.proofs.Common.{ap, arith, refl, ◌∙◌}
 use Rattle.std.specs.Prelude.{Option}
 use Rattle.op_words.specs.Plays.{Sat, both}
 use Rattle.op_words.specs.Views.{merged}

@@ -1,14 +1,12 @@
-use Rattle.std.proofs.Common.{rules, ◌≡◌, ◌<◌, ◌≤◌, ℕ, ap, arith, sym, subst, refl, Some, ◌∙◌, List, length}
+use Rattle.std.proofs.Common.{◌≡◌, ◌<◌, ℕ, ap, arith, sym, subst, refl, Some, ◌∙◌, length}
 use mathlib.Core.Option.{none}
-use Rattle.std.proofs.lemmas.Option.{same_Some}
 use Rattle.atomic_table.specs.Table.{Allows, step}
 use Rattle.morph_base.specs.declared.limits.TheConstants.{READS}
 use Rattle.morph_base.specs.declared.plan.Plan.{Plan}
 use Rattle.morph_base.specs.Plans.{IsPlan, op_count, origin_at}
 use Rattle.morph_base.proofs.NumberLaws.{op_count-small}
-use Rattle.interleaving_core.specs.declared.entry.Held.{Held}
 use Rattle.interleaving_core.specs.Core.{places}
-use Rattle.op_words.specs.Layout.{record_index, packed_record}
+use Rattle.op_words.specs.Layout.{packed_record}
 use Rattle.op_words.specs.Plays.{Sat, keeps}
 use Rattle.op_words.specs.Rule.{Lawful}
 use Rattle.op_words.specs.Stepping.{IsUsable}
@@ -16,7 +14,6 @@ use Rattle.op_words.specs.Hands.{plan_of, cap_of, counters_of, view_of}
 use Rattle.op_words.proofs.Keeping.{allows_keep}
 use Rattle.op_words.proofs.Handing.{kept, held_parts}
 use Rattle.op_words.proofs.Storing.{places_few, index_is, kept_hand}
-use Rattle.op_words.proofs.Laying.{record_below}
 use Rattle.op_words.proofs.board.Board.keep.Goals as goal
 
 pub overflow_add-len : goal.overflow_add-len

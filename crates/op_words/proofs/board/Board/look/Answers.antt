@@ -1,4 +1,4 @@
-use Rattle.std.proofs.Common.{rules, ◌<◌, ap, arith}
+use Rattle.std.proofs.Common.{ap, arith}
 use Rattle.op_words.specs.Plays.{Sat}
 use Rattle.op_words.proofs.Loading.{allows_look}
 use Rattle.op_words.proofs.board.Board.look.Goals as goal

@@ -1,4 +1,4 @@
-use Rattle.std.proofs.Common.{rules, sym, subst}
+use Rattle.std.proofs.Common.{sym, subst}
 use Rattle.op_words.specs.declared.trail.View.{View}
 use Rattle.op_words.specs.Calls.{PeekDoes}
 use Rattle.op_words.specs.Hands.{cap_of, view_of}

@@ -1,7 +1,5 @@
-use Rattle.std.proofs.Common.{rules, ◌≡◌, ◌⊎◌, ◌∙◌, sym, subst, ap, ℕ, ◌<◌, ◌+◌, inl, inr, true, length}
-use Rattle.morph_base.specs.declared.plan.Origin.TheVariants.{Op as Written}
-use Rattle.morph_base.specs.Plans.{IsPlan, op_count, origin_at}
-use Rattle.morph_base.specs.Words.{is_idle, is_settled}
+use Rattle.std.proofs.Common.{◌∙◌, sym, subst, ap, ℕ, ◌<◌, inl, inr}
+use Rattle.morph_base.specs.Plans.{IsPlan, origin_at}
 use Rattle.interleaving_core.specs.Core.{places}
 use Rattle.op_words.specs.Hands.{cap_of, view_of}
 use Rattle.op_words.specs.Stepping.{IsUsable}

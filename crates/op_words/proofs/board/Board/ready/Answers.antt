@@ -1,8 +1,6 @@
-use Rattle.std.proofs.Common.{rules, sym, ◌∙◌, subst}
+use Rattle.std.proofs.Common.{sym, ◌∙◌, subst}
 use Rattle.std.proofs.lemmas.Bool.{false≢true}
-use Rattle.std.specs.Prelude.{Option}
 use Rattle.morph_base.specs.Plans.{IsPlan}
-use Rattle.op_words.specs.declared.answers.Stop.{Stop}
 use Rattle.op_words.specs.Stepping.{SoughtTells}
 use Rattle.op_words.proofs.Making.{not_blocked, source_idle, made_ready, found_another}
 use Rattle.op_words.proofs.Seeking.{source_other}

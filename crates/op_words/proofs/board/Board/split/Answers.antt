@@ -1,6 +1,6 @@
-use Rattle.std.proofs.Common.{rules, ◌<◌, ap, arith, refl, Some, None, ◌∙◌, []}
+use Rattle.std.proofs.Common.{ap, arith, refl, ◌∙◌, []}
 use Rattle.op_words.specs.Plays.{Sat, staying, going}
-use Rattle.op_words.specs.Views.{parent, child}
+use Rattle.op_words.specs.Views.{parent}
 use Rattle.op_words.specs.Hands.{view_of}
 use Rattle.op_words.proofs.Handing.{still, kept, parent_kept, parent_told, child_hand}
 use Rattle.op_words.proofs.Splitting.{allows_split}

@@ -1,5 +1,4 @@
-use Rattle.std.proofs.Common.{rules, ◌<◌, ap, arith, sym, ◌∙◌}
-use Rattle.op_words.specs.Plays.{Sat}
+use Rattle.std.proofs.Common.{arith}
 use Rattle.op_words.proofs.Loading.{allows_tell}
 use Rattle.op_words.proofs.board.Board.tell.Goals as goal
 

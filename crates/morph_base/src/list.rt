@@ -167,35 +167,60 @@ mod tests {
     use super::*;
     use std::test::Fail;
 
-    #[test]
-    fn keeps_items_in_order(rt: HostRuntime) -> Result<(), Fail> {
-        let mut list = List::with_room(rt.alloc(), 2)?;
-        assert!(rt; list.is_empty());
+    /// Three items, put in each way.
+    fn three(alloc: Global) -> Result<List<u64>, OutOfMemory> {
+        let mut list = List::with_room(alloc, 2)?;
         list.push(7)?;
-        assert_eq!(rt; list.len(), 1);
         list.add(8);
         list.push(9)?;
+        Ok(list)
+    }
+
+    #[test]
+    fn keeps_items_in_order(rt: HostRuntime) -> Result<(), Fail> {
+        let list = three(rt.alloc())?;
         assert_eq!(rt; list.as_slice(), [7, 8, 9].as_slice());
-        assert_eq!(rt; *list.get(1), 8);
-        list.set(1, 5);
-        *list.get_mut(1) += 1;
-        list.as_mut_slice().reverse();
-        let same = List::from_slice(rt.alloc(), &[9, 6, 7])?;
+        assert_eq!(rt; (list.len(), list.is_empty()), (3, false));
+        let same = List::from_slice(rt.alloc(), &[7, 8, 9])?;
         assert_eq!(rt; list.as_slice(), same.as_slice());
-        for item in [Some(7), Some(6), Some(9), None] {
-            assert_eq!(rt; list.pop(), item);
+        Ok(())
+    }
+
+    #[test]
+    fn changes_items_in_place(rt: HostRuntime) -> Result<(), Fail> {
+        let mut list = three(rt.alloc())?;
+        let at_1 = if list.len() > 1 { *list.get(1) } else { 0 };
+        assert_eq!(rt; at_1, 8);
+        if list.len() > 1 {
+            list.set(1, 5);
+            *list.get_mut(1) += 1;
         }
-        let empty: List<u64> = List::new(rt.alloc());
-        assert_eq!(rt; list.as_slice(), empty.as_slice());
-        list.push(5)?;
-        if list.pop().is_some() {
+        list.as_mut_slice().reverse();
+        assert_eq!(rt; list.as_slice(), [9, 6, 7].as_slice());
+        Ok(())
+    }
+
+    #[test]
+    fn gives_room_for_what_it_pops(rt: HostRuntime) -> Result<(), Fail> {
+        let mut list = three(rt.alloc())?;
+        let last = list.pop();
+        assert_eq!(rt; last, Some(9));
+        if last.is_some() {
             list.add(4);
         }
-        assert_eq!(rt; list.as_slice(), [4].as_slice());
-        assert_eq!(rt;
-            List::filled(rt.alloc(), 2, 5)?.as_slice(),
-            [5, 5].as_slice()
-        );
+        assert_eq!(rt; list.as_slice(), [7, 8, 4].as_slice());
+        for item in [Some(4), Some(8), Some(7), None] {
+            assert_eq!(rt; list.pop(), item);
+        }
+        Ok(())
+    }
+
+    #[test]
+    fn begins_empty_or_filled(rt: HostRuntime) -> Result<(), Fail> {
+        let empty: List<u64> = List::new(rt.alloc());
+        assert!(rt; empty.is_empty());
+        let filled = List::filled(rt.alloc(), 2, 5)?;
+        assert_eq!(rt; filled.as_slice(), [5, 5].as_slice());
         Ok(())
     }
 }

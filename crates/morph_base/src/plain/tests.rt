@@ -161,24 +161,38 @@ struct Worked<'a> {
     kept: &'a [(u8, u32, u64)],
 }
 
-/// Runs a worked batch in order of arrival and in the reverse order, which come to the same.
-fn check(rt: &impl Abort, alloc: Global, worked: &Worked<'_>) -> Result<(), Fail> {
-    for reverse in [false, true] {
-        let (outcomes, values) = run(rt, alloc, worked.layout, worked.entries, reverse)?;
-        assert_eq!(rt; outcomes.len(), worked.fates.len(), "{}", worked.name);
-        for (outcome, (ts, after)) in outcomes.as_slice().iter().zip(worked.fates) {
-            assert!(rt;
-                has_fate(outcome, *ts, *after),
-                "{}: {outcome:?}",
-                worked.name
-            );
-        }
-        assert_eq!(rt;
-            kept(alloc, &values)?.as_slice(),
-            worked.kept,
-            "{}",
-            worked.name
-        );
+/// Whether the events have the fates of a worked batch.
+fn have_fates(outcomes: &[Outcome], fates: &[(u64, &[u64])]) -> bool {
+    outcomes.len() == fates.len()
+        && outcomes
+            .iter()
+            .zip(fates)
+            .all(|(outcome, (ts, after))| has_fate(outcome, *ts, *after))
+}
+
+/// Runs a worked batch in order of arrival, or in the reverse order, which comes to the same.
+fn check(
+    rt: &impl Abort,
+    alloc: Global,
+    worked: &Worked<'_>,
+    reverse: bool,
+) -> Result<(), OutOfMemory> {
+    let (outcomes, values) = run(rt, alloc, worked.layout, worked.entries, reverse)?;
+    assert!(rt;
+        have_fates(outcomes.as_slice(), worked.fates),
+        "{}",
+        worked.name
+    );
+    let kept = kept(alloc, &values)?;
+    assert_eq!(rt; kept.as_slice(), worked.kept, "{}", worked.name);
+    Ok(())
+}
+
+/// Runs worked batches in both orders of arrival.
+fn check_all(rt: &impl Abort, alloc: Global, batches: &[Worked<'_>]) -> Result<(), OutOfMemory> {
+    for worked in batches {
+        check(rt, alloc, worked, false)?;
+        check(rt, alloc, worked, true)?;
     }
     Ok(())
 }
@@ -246,10 +260,7 @@ fn ledger_batches(rt: HostRuntime) -> Result<(), Fail> {
             kept: &[(0, 0, MAX)],
         },
     ];
-    for batch in &batches {
-        check(&rt, rt.alloc(), batch)?;
-    }
-    Ok(())
+    Ok(check_all(&rt, rt.alloc(), &batches)?)
 }
 
 #[test]
@@ -303,10 +314,7 @@ fn cell_and_toll_batches(rt: HostRuntime) -> Result<(), Fail> {
             kept: &[(0, 0, 1087), (1, 3, 1), (2, 0, 1)],
         },
     ];
-    for batch in &batches {
-        check(&rt, rt.alloc(), batch)?;
-    }
-    Ok(())
+    Ok(check_all(&rt, rt.alloc(), &batches)?)
 }
 
 /// So many vehicles, each reported once in one segment, all at 10 miles per hour.

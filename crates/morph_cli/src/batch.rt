@@ -35,8 +35,10 @@ pub fn run_batch<R: Threads + Sync, G: Gate>(
     requires keys { BatchKeysIn engine.old.layout batch.now }
     ensures layout { engine.new.layout ≡ engine.old.layout }
     ensures state { OnOk result (contents engine.new ≡ fold_batch batch.now (contents engine.old)) }
-    ensures fates { IfOk result (λ end. settled_fates end.plan end.settled ≡ fates (contents engine.old) (by_time (transactions_of batch.now))) }
-    ensures made { IfOk result (λ end. IsMadeOf (contents engine.old) (transactions_of batch.now) end.plan) }
+    ensures fates { IfOk result (λ end. settled_fates end.plan end.settled
+        ≡ fates (contents engine.old) (by_time (transactions_of batch.now))) }
+    ensures made { IfOk result (λ end.
+        IsMadeOf (contents engine.old) (transactions_of batch.now) end.plan) }
     ensures settled { IfOk result (λ end. IsSettledOf end.plan end.settled) }
     ensures evaluated { IfOk result (λ end. end.evaluated ≡ op_count end.plan + end.rolled) }
     ensures rolled { IfOk result (λ end. end.rolled ≡ stale_count end.plan) }

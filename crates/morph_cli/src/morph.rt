@@ -39,13 +39,17 @@ fn run_over<R: Threads + Sync, A: EventApp + Copy, S: Source, K: Sink, N: Sink, 
     requires settings { AreInRange job.now.settings }
     requires tally { tally.old ≡ no_tally }
     ensures ends { let app = job.now.app in let settings = job.now.settings in
-        IfSome (input_by settings.generated (generated_text (A.generated app settings.size)) (S.left source.old)) (λ input.
-        EndsSo (A.event_of app settings.size) (telling_for settings (A.table_count app) (A.name_of app)) INPUT_BYTES input
-        (left_by settings.generated (S.left source.new)) (K.written sink.old) result (K.written sink.new)) }
+        let text = generated_text (A.generated app settings.size) in
+        IfSome (input_by settings.generated text (S.left source.old)) (λ input.
+        EndsSo (A.event_of app settings.size)
+        (telling_for settings (A.table_count app) (A.name_of app)) INPUT_BYTES input
+        (left_by settings.generated (S.left source.new))
+        (K.written sink.old) result (K.written sink.new)) }
     ensures told { let app = job.now.app in let settings = job.now.settings in
         RunTold (telling_for settings (A.table_count app) (A.name_of app))
         (option_map (accepted_within (A.event_of app settings.size) INPUT_BYTES)
-        (input_by settings.generated (generated_text (A.generated app settings.size)) (S.left source.old)))
+        (input_by settings.generated (generated_text (A.generated app settings.size))
+        (S.left source.old)))
         settings.notes settings.workers (status_of result) tally.new
         (outputs_of (K.written sink.old) (N.written notes.old))
         (outputs_of (K.written sink.new) (N.written notes.new)) }
@@ -73,7 +77,8 @@ fn run_made<R: Threads + Sync, A: EventApp + Copy, K: Sink, N: Sink, G: Gate>(
     requires generated { job.now.settings.generated ≡ Some generated }
     requires tally { tally.old ≡ no_tally }
     ensures ends { let app = job.now.app in let settings = job.now.settings in
-        EndsSo (A.event_of app settings.size) (telling_for settings (A.table_count app) (A.name_of app)) INPUT_BYTES
+        EndsSo (A.event_of app settings.size)
+        (telling_for settings (A.table_count app) (A.name_of app)) INPUT_BYTES
         (generated_text (A.generated app settings.size) generated.seed generated.events)
         None (K.written sink.old) result (K.written sink.new) }
     ensures told { let app = job.now.app in let settings = job.now.settings in
@@ -106,9 +111,11 @@ fn run_app<R: Threads + Sync, S: Source, K: Sink, N: Sink, G: Gate>(
     requires tally { tally.old ≡ no_tally }
     ensures ends { IfSome (input_of settings (S.left source.old)) (λ input.
         EndsSo (meaning_of settings) (telling_of settings) INPUT_BYTES input
-        (left_by settings.generated (S.left source.new)) (K.written sink.old) result (K.written sink.new)) }
+        (left_by settings.generated (S.left source.new))
+        (K.written sink.old) result (K.written sink.new)) }
     ensures told { RunTold (telling_of settings)
-        (option_map (accepted_within (meaning_of settings) INPUT_BYTES) (input_of settings (S.left source.old)))
+        (option_map (accepted_within (meaning_of settings) INPUT_BYTES)
+        (input_of settings (S.left source.old)))
         settings.notes settings.workers (status_of result) tally.new
         (outputs_of (K.written sink.old) (N.written notes.old))
         (outputs_of (K.written sink.new) (N.written notes.new)) }
@@ -165,8 +172,10 @@ pub fn morph<R: Threads + Sync, S: Source, K: Sink, N: Sink, G: Gate>(
         (result.status ≡ 2 → asked ≡ None) × (asked ≡ None → result.status ≡ 2) }
     ensures untouched { result.status ≡ 2 → (source.new ≡ source.old) × (sink.new ≡ sink.old) }
     ensures headline { IfSome (settings_of (map (λ word. word.items) words.now)) (λ s.
-        IfSome (input_of s (S.left source.old)) (λ input. Headline (meaning_of s) (telling_of s) input_limit input
-        (left_by s.generated (S.left source.new)) (K.written sink.old) (K.written sink.new) result.status)) }
+        IfSome (input_of s (S.left source.old)) (λ input.
+        Headline (meaning_of s) (telling_of s) input_limit input
+        (left_by s.generated (S.left source.new))
+        (K.written sink.old) (K.written sink.new) result.status)) }
     ensures completes { (HasRisen (S.faults source.old) (S.faults source.new) → ⊥)
         → (HasRisen (K.faults sink.old) (K.faults sink.new) → ⊥)
         → IfSome (settings_of (map (λ word. word.items) words.now)) (λ s.
@@ -178,11 +187,12 @@ pub fn morph<R: Threads + Sync, S: Source, K: Sink, N: Sink, G: Gate>(
     ensures made { IfSome (settings_of (map (λ word. word.items) words.now)) (λ s.
         IsSome s.generated → (source.new ≡ source.old) × IsMadeStatus result.status) }
     ensures read { result.status ≡ 4 → HasRisen (S.faults source.old) (S.faults source.new) }
-    ensures write { IfSome (settings_of (map (λ word. word.items) words.now)) (λ s. result.status ≡ 5
-        → HasRisen (K.faults sink.old) (K.faults sink.new)
+    ensures write { IfSome (settings_of (map (λ word. word.items) words.now)) (λ s.
+        result.status ≡ 5 → HasRisen (K.faults sink.old) (K.faults sink.new)
         ⊎ (IsTrue s.notes × HasRisen (N.faults notes.old) (N.faults notes.new))) }
     ensures statuses { IsStatus result.status }
-    ensures told { IfSome (settings_of (map (λ word. word.items) words.now)) (λ s. CallTold (telling_of s)
+    ensures told { IfSome (settings_of (map (λ word. word.items) words.now)) (λ s.
+        CallTold (telling_of s)
         (option_map (accepted (meaning_of s)) (input_of s (S.left source.old)))
         s.notes s.workers result.status result.tally
         (outputs_of (K.written sink.old) (N.written notes.old))
@@ -191,7 +201,8 @@ pub fn morph<R: Threads + Sync, S: Source, K: Sink, N: Sink, G: Gate>(
     ensures balanced { IsBalanced result.tally }
     ensures note { result.status ≡ 2
         → AppendsPrefix (N.written notes.old) (note_at result.status) (N.written notes.new) }
-    ensures whole_note { result.status ≡ 2 → (HasRisen (N.faults notes.old) (N.faults notes.new) → ⊥)
+    ensures whole_note { result.status ≡ 2
+        → (HasRisen (N.faults notes.old) (N.faults notes.new) → ⊥)
         → N.written notes.new ≡ behind (N.written notes.old) (note_at result.status) }
 {
     let mut tally = Tally::new();

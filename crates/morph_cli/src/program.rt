@@ -57,11 +57,14 @@ pub fn program<R: Threads + Sync, S: Source, K: Sink, N: Sink>(
         (exit_status result ≡ 2 → asked ≡ None)
         × (asked ≡ None → (exit_status result ≡ 2) ⊎ (exit_status result ≡ 6))) }
     ensures headline { IfOk args (λ args. IfSome (settings_of (words_behind args.items)) (λ s.
-        IfSome (input_of s (S.left source.old)) (λ input. Headline (meaning_of s) (telling_of s) input_limit input
-        (left_by s.generated (S.left source.new)) (K.written sink.old) (K.written sink.new) (exit_status result)))) }
+        IfSome (input_of s (S.left source.old)) (λ input.
+        Headline (meaning_of s) (telling_of s) input_limit input
+        (left_by s.generated (S.left source.new))
+        (K.written sink.old) (K.written sink.new) (exit_status result)))) }
     ensures read { exit_status result ≡ 4 → HasRisen (S.faults source.old) (S.faults source.new) }
     ensures write { exit_status result ≡ 5
-        → HasRisen (K.faults sink.old) (K.faults sink.new) ⊎ HasRisen (N.faults notes.old) (N.faults notes.new) }
+        → HasRisen (K.faults sink.old) (K.faults sink.new)
+        ⊎ HasRisen (N.faults notes.old) (N.faults notes.new) }
     ensures statuses { IsStatus (exit_status result) }
     ensures memory { OnErr args (exit_status result ≡ 6) }
 {

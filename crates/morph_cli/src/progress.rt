@@ -24,8 +24,10 @@ impl<A: EventApp + Copy> Progress<A> {
     /// That of a run which has not begun.
     pub fn new<R, G>(job: &Job<'_, A, R, G>) -> Result<Self, OutOfMemory>
         requires { AreInRange job.now.settings }
-        ensures reader { IfOk result (λ new. new.reader ≡ new_reader job.now.app job.now.settings.size INPUT_BYTES) }
-        ensures layout { IfOk result (λ new. new.engine.layout ≡ layout_of (A.table_count job.now.app) job.now.settings.size) }
+        ensures reader { IfOk result (λ new.
+            new.reader ≡ new_reader job.now.app job.now.settings.size INPUT_BYTES) }
+        ensures layout { IfOk result (λ new.
+            new.engine.layout ≡ layout_of (A.table_count job.now.app) job.now.settings.size) }
         ensures opening { IfOk result (λ new. contents new.engine ≡ opening_state) }
         ensures empty { IfOk result (λ new. new.out ≡ []) }
     {

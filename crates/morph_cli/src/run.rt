@@ -51,7 +51,8 @@ pub fn run<R: Threads + Sync, A: EventApp + Copy, S: Source, K: Sink, N: Sink, G
         (S.left source.new) (K.written sink.old) result (K.written sink.new)) }
     ensures told { let app = job.now.app in let settings = job.now.settings in
         RunTold (telling_for settings (A.table_count app) (A.name_of app))
-        (option_map (accepted_within (A.event_of app settings.size) INPUT_BYTES) (S.left source.old))
+        (option_map (accepted_within (A.event_of app settings.size) INPUT_BYTES)
+        (S.left source.old))
         settings.notes settings.workers (status_of result) tally.new
         (outputs_of (K.written sink.old) (N.written notes.old))
         (outputs_of (K.written sink.new) (N.written notes.new)) }
@@ -78,7 +79,8 @@ fn run_batches<R: Threads + Sync, A: EventApp + Copy, S: Source, K: Sink, N: Sin
     requires settings { AreInRange job.now.settings }
     requires tally { tally.old ≡ no_tally }
     requires reader { progress.old.reader ≡ new_reader job.now.app job.now.settings.size INPUT_BYTES }
-    requires layout { progress.old.engine.layout ≡ layout_of (A.table_count job.now.app) job.now.settings.size }
+    requires layout { progress.old.engine.layout
+        ≡ layout_of (A.table_count job.now.app) job.now.settings.size }
     requires opening { contents progress.old.engine ≡ opening_state }
     requires empty { progress.old.out ≡ [] }
     ensures ends { let app = job.now.app in let settings = job.now.settings in
@@ -87,7 +89,8 @@ fn run_batches<R: Threads + Sync, A: EventApp + Copy, S: Source, K: Sink, N: Sin
         (S.left source.new) (K.written sink.old) result (K.written sink.new)) }
     ensures told { let app = job.now.app in let settings = job.now.settings in
         RunTold (telling_for settings (A.table_count app) (A.name_of app))
-        (option_map (accepted_within (A.event_of app settings.size) INPUT_BYTES) (S.left source.old))
+        (option_map (accepted_within (A.event_of app settings.size) INPUT_BYTES)
+        (S.left source.old))
         settings.notes settings.workers (status_of result) tally.new
         (outputs_of (K.written sink.old) (N.written notes.old))
         (outputs_of (K.written sink.new) (N.written notes.new)) }

@@ -68,8 +68,8 @@ pub fn tell_closing<A: EventApp, R, G, K: Sink, N: Sink>(
     requires all { length tally.now.settled_by ≡ 17 }
     ensures told { let settings = job.now.settings in
         Tells result (outputs_of (K.written sink.old) (N.written notes.old))
-        (told_values (report_of settings) values.now.layout (A.name_of job.now.app) (contents values.now)
-        ++ counts_line tally.now.committed tally.now.aborted)
+        (told_values (report_of settings) values.now.layout (A.name_of job.now.app)
+        (contents values.now) ++ counts_line tally.now.committed tally.now.aborted)
         (noted settings.notes (closing_notes settings.workers tally.now))
         (outputs_of (K.written sink.new) (N.written notes.new)) }
     ensures sink_faults { K.faults sink.old ≤ K.faults sink.new }

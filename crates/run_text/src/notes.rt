@@ -15,8 +15,10 @@ pub fn note_batch<N: Sink>(
     number: u64,
     plan: &Plan,
 ) -> Result<(), WriteFailed>
-    ensures written { OnOk result (N.written notes.new ≡ behind (N.written notes.old) (noted on (batch_note number plan.now))) }
-    ensures prefix { OnErr result (AppendsPrefix (N.written notes.old) (noted on (batch_note number plan.now)) (N.written notes.new)) }
+    ensures written { OnOk result (N.written notes.new ≡ behind (N.written notes.old)
+        (noted on (batch_note number plan.now))) }
+    ensures prefix { OnErr result (AppendsPrefix (N.written notes.old)
+        (noted on (batch_note number plan.now)) (N.written notes.new)) }
     ensures never_falls { N.faults notes.old ≤ N.faults notes.new }
     ensures cause { OnErr result (IsTrue on × HasRisen (N.faults notes.old) (N.faults notes.new)) }
 {
@@ -37,8 +39,10 @@ pub fn note_tally<N: Sink>(
 ) -> Result<(), WriteFailed>
     requires few { workers ≤ WORKERS }
     requires all { length tally.now.settled_by ≡ 17 }
-    ensures written { OnOk result (N.written notes.new ≡ behind (N.written notes.old) (noted on (closing_notes workers tally.now))) }
-    ensures prefix { OnErr result (AppendsPrefix (N.written notes.old) (noted on (closing_notes workers tally.now)) (N.written notes.new)) }
+    ensures written { OnOk result (N.written notes.new ≡ behind (N.written notes.old)
+        (noted on (closing_notes workers tally.now))) }
+    ensures prefix { OnErr result (AppendsPrefix (N.written notes.old)
+        (noted on (closing_notes workers tally.now)) (N.written notes.new)) }
     ensures never_falls { N.faults notes.old ≤ N.faults notes.new }
     ensures cause { OnErr result (IsTrue on × HasRisen (N.faults notes.old) (N.faults notes.new)) }
 {
@@ -52,8 +56,10 @@ pub fn note_tally<N: Sink>(
 fn write_tally<N: Sink>(notes: &mut N, workers: u32, tally: &Tally) -> Result<(), WriteFailed>
     requires few { workers ≤ WORKERS }
     requires all { length tally.now.settled_by ≡ 17 }
-    ensures written { OnOk result (N.written notes.new ≡ behind (N.written notes.old) (closing_notes workers tally.now)) }
-    ensures prefix { OnErr result (AppendsPrefix (N.written notes.old) (closing_notes workers tally.now) (N.written notes.new)) }
+    ensures written { OnOk result (N.written notes.new ≡ behind (N.written notes.old)
+        (closing_notes workers tally.now)) }
+    ensures prefix { OnErr result (AppendsPrefix (N.written notes.old)
+        (closing_notes workers tally.now) (N.written notes.new)) }
     ensures never_falls { N.faults notes.old ≤ N.faults notes.new }
     ensures cause { OnErr result (HasRisen (N.faults notes.old) (N.faults notes.new)) }
 {

@@ -61,7 +61,8 @@ impl Tally {
         requires ops { self.old.ops + op_count end.now.plan < 2 ^ 64 }
         requires evaluated { self.old.evaluated + end.now.evaluated < 2 ^ 64 }
         requires rolled { self.old.rolled + end.now.rolled < 2 ^ 64 }
-        ensures { Adds self.old self.new end.now.plan end.now.evaluated end.now.rolled (settled_fates end.now.plan end.now.settled) }
+        ensures { Adds self.old self.new end.now.plan end.now.evaluated end.now.rolled
+            (settled_fates end.now.plan end.now.settled) }
     {
         let events = end.plan.events.len();
         let committed = commits(end.settled.committed.as_slice());

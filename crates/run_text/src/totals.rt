@@ -34,8 +34,12 @@ fn put_total<K: Sink>(
     requires table { table < values.now.layout.tables }
     requires few_ids { values.now.layout.size ≤ GREATEST_SIZE }
     requires short { length name.now ≤ NAME_BYTES }
-    ensures puts { OnOk result (Puts (K.written sink.old) out.old (total_line name.now (contents values.now) table values.now.layout.size) (K.written sink.new) out.new) }
-    ensures prefix { OnErr result (AppendsPrefix (K.written sink.old) (out.old ++ total_line name.now (contents values.now) table values.now.layout.size) (K.written sink.new)) }
+    ensures puts { OnOk result (Puts (K.written sink.old) out.old
+        (total_line name.now (contents values.now) table values.now.layout.size)
+        (K.written sink.new) out.new) }
+    ensures prefix { OnErr result (AppendsPrefix (K.written sink.old)
+        (out.old ++ total_line name.now (contents values.now) table values.now.layout.size)
+        (K.written sink.new)) }
     ensures never_falls { K.faults sink.old ≤ K.faults sink.new }
     ensures cause { OnErr result (HasRisen (K.faults sink.old) (K.faults sink.new)) }
 {
@@ -56,9 +60,12 @@ pub fn put_totals<A: EventApp, K: Sink>(
 ) -> Result<(), WriteFailed>
     requires tables { values.now.layout.tables ≡ A.table_count app.now }
     requires few_ids { values.now.layout.size ≤ GREATEST_SIZE }
-    ensures puts { OnOk result (Puts (K.written sink.old) out.old (total_lines values.now.layout (A.name_of app.now) (contents values.now)) (K.written sink.new) out.new) }
+    ensures puts { OnOk result (Puts (K.written sink.old) out.old
+        (total_lines values.now.layout (A.name_of app.now) (contents values.now))
+        (K.written sink.new) out.new) }
     ensures prefix { OnErr result (AppendsPrefix (K.written sink.old)
-        (out.old ++ total_lines values.now.layout (A.name_of app.now) (contents values.now)) (K.written sink.new)) }
+        (out.old ++ total_lines values.now.layout (A.name_of app.now) (contents values.now))
+        (K.written sink.new)) }
     ensures never_falls { K.faults sink.old ≤ K.faults sink.new }
     ensures cause { OnErr result (HasRisen (K.faults sink.old) (K.faults sink.new)) }
 {

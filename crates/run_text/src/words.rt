@@ -36,7 +36,8 @@ const EVENTS: Range = Range {
 
 /// The value in a word that has this name.
 fn value_in<'a>(name: Name, word: &'a [u8]) -> Option<&'a [u8]>
-    ensures { MatchOption result (has_name name word.now ≡ false) (λ value. (has_name name word.now ≡ true) × (value.now ≡ value_in name word.now)) }
+    ensures { MatchOption result (has_name name word.now ≡ false)
+        (λ value. (has_name name word.now ≡ true) × (value.now ≡ value_in name word.now)) }
 {
     word.strip_prefix(name.text())
 }

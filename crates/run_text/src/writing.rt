@@ -27,8 +27,10 @@ pub fn write_events<K: Sink>(
     requires empty { out.old ≡ [] }
     requires plan { IsPlan end.now.plan }
     requires settled { IsSettledOf end.now.plan end.now.settled }
-    ensures written { OnOk result (K.written sink.new ≡ behind (K.written sink.old) (told_lines report (settled_fates end.now.plan end.now.settled))) }
-    ensures prefix { OnErr result (AppendsPrefix (K.written sink.old) (told_lines report (settled_fates end.now.plan end.now.settled)) (K.written sink.new)) }
+    ensures written { OnOk result (K.written sink.new ≡ behind (K.written sink.old)
+        (told_lines report (settled_fates end.now.plan end.now.settled))) }
+    ensures prefix { OnErr result (AppendsPrefix (K.written sink.old)
+        (told_lines report (settled_fates end.now.plan end.now.settled)) (K.written sink.new)) }
     ensures empty { OnOk result (out.new ≡ []) }
     ensures never_falls { K.faults sink.old ≤ K.faults sink.new }
     ensures cause { OnErr result (HasRisen (K.faults sink.old) (K.faults sink.new)) }
@@ -44,8 +46,10 @@ fn write_lines<K: Sink>(out: &mut Out, sink: &mut K, end: &BatchEnd) -> Result<(
     requires empty { out.old ≡ [] }
     requires plan { IsPlan end.now.plan }
     requires settled { IsSettledOf end.now.plan end.now.settled }
-    ensures written { OnOk result (K.written sink.new ≡ behind (K.written sink.old) (lines_of (settled_fates end.now.plan end.now.settled))) }
-    ensures prefix { OnErr result (AppendsPrefix (K.written sink.old) (lines_of (settled_fates end.now.plan end.now.settled)) (K.written sink.new)) }
+    ensures written { OnOk result (K.written sink.new ≡ behind (K.written sink.old)
+        (lines_of (settled_fates end.now.plan end.now.settled))) }
+    ensures prefix { OnErr result (AppendsPrefix (K.written sink.old)
+        (lines_of (settled_fates end.now.plan end.now.settled)) (K.written sink.new)) }
     ensures empty { OnOk result (out.new ≡ []) }
     ensures never_falls { K.faults sink.old ≤ K.faults sink.new }
     ensures cause { OnErr result (HasRisen (K.faults sink.old) (K.faults sink.new)) }
@@ -67,9 +71,11 @@ pub fn write_closing<A: EventApp, K: Sink>(
     requires tables { values.now.layout.tables ≡ A.table_count app.now }
     requires few_ids { values.now.layout.size ≤ GREATEST_SIZE }
     ensures written { OnOk result (K.written sink.new
-        ≡ behind (K.written sink.old) (told_values report values.now.layout (A.name_of app.now) (contents values.now) ++ counts_line tally.now.committed tally.now.aborted)) }
+        ≡ behind (K.written sink.old) (told_values report values.now.layout (A.name_of app.now)
+        (contents values.now) ++ counts_line tally.now.committed tally.now.aborted)) }
     ensures prefix { OnErr result (AppendsPrefix (K.written sink.old)
-        (told_values report values.now.layout (A.name_of app.now) (contents values.now) ++ counts_line tally.now.committed tally.now.aborted) (K.written sink.new)) }
+        (told_values report values.now.layout (A.name_of app.now) (contents values.now)
+        ++ counts_line tally.now.committed tally.now.aborted) (K.written sink.new)) }
     ensures never_falls { K.faults sink.old ≤ K.faults sink.new }
     ensures cause { OnErr result (HasRisen (K.faults sink.old) (K.faults sink.new)) }
 {
@@ -86,8 +92,10 @@ pub fn write_refused<K: Sink>(
     cause: Cause,
 ) -> Result<(), WriteFailed>
     requires empty { out.old ≡ [] }
-    ensures written { OnOk result (K.written sink.new ≡ behind (K.written sink.old) (refused_text number cause)) }
-    ensures prefix { OnErr result (AppendsPrefix (K.written sink.old) (refused_text number cause) (K.written sink.new)) }
+    ensures written { OnOk result (K.written sink.new ≡ behind (K.written sink.old)
+        (refused_text number cause)) }
+    ensures prefix { OnErr result (AppendsPrefix (K.written sink.old) (refused_text number cause)
+        (K.written sink.new)) }
     ensures never_falls { K.faults sink.old ≤ K.faults sink.new }
     ensures cause { OnErr result (HasRisen (K.faults sink.old) (K.faults sink.new)) }
 {
@@ -120,8 +128,10 @@ fn put_events<K: Sink>(
 ) -> Result<(), WriteFailed>
     requires plan { IsPlan plan.now }
     requires settled { IsSettledOf plan.now settled.now }
-    ensures puts { OnOk result (Puts (K.written sink.old) out.old (lines_of (settled_fates plan.now settled.now)) (K.written sink.new) out.new) }
-    ensures prefix { OnErr result (AppendsPrefix (K.written sink.old) (out.old ++ lines_of (settled_fates plan.now settled.now)) (K.written sink.new)) }
+    ensures puts { OnOk result (Puts (K.written sink.old) out.old
+        (lines_of (settled_fates plan.now settled.now)) (K.written sink.new) out.new) }
+    ensures prefix { OnErr result (AppendsPrefix (K.written sink.old)
+        (out.old ++ lines_of (settled_fates plan.now settled.now)) (K.written sink.new)) }
     ensures never_falls { K.faults sink.old ≤ K.faults sink.new }
     ensures cause { OnErr result (HasRisen (K.faults sink.old) (K.faults sink.new)) }
 {
@@ -144,8 +154,10 @@ fn put_value<K: Sink>(
     value: u64,
 ) -> Result<(), WriteFailed>
     requires short { length name.now ≤ NAME_BYTES }
-    ensures puts { OnOk result (Puts (K.written sink.old) out.old (value_line name.now id value) (K.written sink.new) out.new) }
-    ensures prefix { OnErr result (AppendsPrefix (K.written sink.old) (out.old ++ value_line name.now id value) (K.written sink.new)) }
+    ensures puts { OnOk result (Puts (K.written sink.old) out.old (value_line name.now id value)
+        (K.written sink.new) out.new) }
+    ensures prefix { OnErr result (AppendsPrefix (K.written sink.old)
+        (out.old ++ value_line name.now id value) (K.written sink.new)) }
     ensures never_falls { K.faults sink.old ≤ K.faults sink.new }
     ensures cause { OnErr result (HasRisen (K.faults sink.old) (K.faults sink.new)) }
 {
@@ -172,8 +184,12 @@ fn put_table<K: Sink>(
 ) -> Result<(), WriteFailed>
     requires table { table < values.now.layout.tables }
     requires short { length name.now ≤ NAME_BYTES }
-    ensures puts { OnOk result (Puts (K.written sink.old) out.old (table_lines name.now (contents values.now) table values.now.layout.size) (K.written sink.new) out.new) }
-    ensures prefix { OnErr result (AppendsPrefix (K.written sink.old) (out.old ++ table_lines name.now (contents values.now) table values.now.layout.size) (K.written sink.new)) }
+    ensures puts { OnOk result (Puts (K.written sink.old) out.old
+        (table_lines name.now (contents values.now) table values.now.layout.size)
+        (K.written sink.new) out.new) }
+    ensures prefix { OnErr result (AppendsPrefix (K.written sink.old)
+        (out.old ++ table_lines name.now (contents values.now) table values.now.layout.size)
+        (K.written sink.new)) }
     ensures never_falls { K.faults sink.old ≤ K.faults sink.new }
     ensures cause { OnErr result (HasRisen (K.faults sink.old) (K.faults sink.new)) }
 {
@@ -192,9 +208,12 @@ fn put_values<A: EventApp, K: Sink>(
     values: &State,
 ) -> Result<(), WriteFailed>
     requires tables { values.now.layout.tables ≡ A.table_count app.now }
-    ensures puts { OnOk result (Puts (K.written sink.old) out.old (value_lines values.now.layout (A.name_of app.now) (contents values.now)) (K.written sink.new) out.new) }
+    ensures puts { OnOk result (Puts (K.written sink.old) out.old
+        (value_lines values.now.layout (A.name_of app.now) (contents values.now))
+        (K.written sink.new) out.new) }
     ensures prefix { OnErr result (AppendsPrefix (K.written sink.old)
-        (out.old ++ value_lines values.now.layout (A.name_of app.now) (contents values.now)) (K.written sink.new)) }
+        (out.old ++ value_lines values.now.layout (A.name_of app.now) (contents values.now))
+        (K.written sink.new)) }
     ensures never_falls { K.faults sink.old ≤ K.faults sink.new }
     ensures cause { OnErr result (HasRisen (K.faults sink.old) (K.faults sink.new)) }
 {
@@ -214,9 +233,12 @@ fn put_told_values<A: EventApp, K: Sink>(
 ) -> Result<(), WriteFailed>
     requires tables { values.now.layout.tables ≡ A.table_count app.now }
     requires few_ids { values.now.layout.size ≤ GREATEST_SIZE }
-    ensures puts { OnOk result (Puts (K.written sink.old) out.old (told_values report values.now.layout (A.name_of app.now) (contents values.now)) (K.written sink.new) out.new) }
+    ensures puts { OnOk result (Puts (K.written sink.old) out.old
+        (told_values report values.now.layout (A.name_of app.now) (contents values.now))
+        (K.written sink.new) out.new) }
     ensures prefix { OnErr result (AppendsPrefix (K.written sink.old)
-        (out.old ++ told_values report values.now.layout (A.name_of app.now) (contents values.now)) (K.written sink.new)) }
+        (out.old ++ told_values report values.now.layout (A.name_of app.now) (contents values.now))
+        (K.written sink.new)) }
     ensures never_falls { K.faults sink.old ≤ K.faults sink.new }
     ensures cause { OnErr result (HasRisen (K.faults sink.old) (K.faults sink.new)) }
 {
@@ -228,8 +250,10 @@ fn put_told_values<A: EventApp, K: Sink>(
 
 /// Puts the line of the counts.
 fn put_counts<K: Sink>(out: &mut Out, sink: &mut K, tally: &Tally) -> Result<(), WriteFailed>
-    ensures puts { OnOk result (Puts (K.written sink.old) out.old (counts_line tally.now.committed tally.now.aborted) (K.written sink.new) out.new) }
-    ensures prefix { OnErr result (AppendsPrefix (K.written sink.old) (out.old ++ counts_line tally.now.committed tally.now.aborted) (K.written sink.new)) }
+    ensures puts { OnOk result (Puts (K.written sink.old) out.old
+        (counts_line tally.now.committed tally.now.aborted) (K.written sink.new) out.new) }
+    ensures prefix { OnErr result (AppendsPrefix (K.written sink.old)
+        (out.old ++ counts_line tally.now.committed tally.now.aborted) (K.written sink.new)) }
     ensures never_falls { K.faults sink.old ≤ K.faults sink.new }
     ensures cause { OnErr result (HasRisen (K.faults sink.old) (K.faults sink.new)) }
 {
@@ -249,8 +273,10 @@ fn put_refused<K: Sink>(
     number: u64,
     cause: Cause,
 ) -> Result<(), WriteFailed>
-    ensures puts { OnOk result (Puts (K.written sink.old) out.old (refused_text number cause) (K.written sink.new) out.new) }
-    ensures prefix { OnErr result (AppendsPrefix (K.written sink.old) (out.old ++ refused_text number cause) (K.written sink.new)) }
+    ensures puts { OnOk result (Puts (K.written sink.old) out.old (refused_text number cause)
+        (K.written sink.new) out.new) }
+    ensures prefix { OnErr result (AppendsPrefix (K.written sink.old)
+        (out.old ++ refused_text number cause) (K.written sink.new)) }
     ensures never_falls { K.faults sink.old ≤ K.faults sink.new }
     ensures cause { OnErr result (HasRisen (K.faults sink.old) (K.faults sink.new)) }
 {

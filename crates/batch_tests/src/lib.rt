@@ -18,11 +18,11 @@ mod evaluations;
 #[cfg(test)]
 mod four_events;
 #[cfg(test)]
-mod many_events;
-#[cfg(test)]
 mod graph;
 #[cfg(test)]
 mod machine;
+#[cfg(test)]
+mod many_events;
 #[cfg(test)]
 mod runners;
 #[cfg(test)]

@@ -35,7 +35,14 @@ impl Job<Runner> for Level<'_> {
             return;
         }
         let mine = runner.hand.tag() as usize % self.workers.max(1);
-        for (i, op) in self.plan.op_levels.get(self.level).as_slice().iter().enumerate() {
+        for (i, op) in self
+            .plan
+            .op_levels
+            .get(self.level)
+            .as_slice()
+            .iter()
+            .enumerate()
+        {
             if i % self.workers.max(1) == mine && (*op as usize) < self.plan.ops.len() {
                 let _ = evaluate(self.board, runner, self.plan, *op);
             }

@@ -192,11 +192,11 @@ mod tests {
         let at_1 = if list.len() > 1 { *list.get(1) } else { 0 };
         assert_eq!(rt; at_1, 8);
         if list.len() > 1 {
-            list.set(1, 5);
-            *list.get_mut(1) += 1;
+            list.set(0, 5);
+            *list.get_mut(1) = 6;
         }
         list.as_mut_slice().reverse();
-        assert_eq!(rt; list.as_slice(), [9, 6, 7].as_slice());
+        assert_eq!(rt; list.as_slice(), [9, 6, 5].as_slice());
         Ok(())
     }
 

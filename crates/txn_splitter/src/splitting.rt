@@ -17,7 +17,8 @@ pub fn split(alloc: Global, batch: &Batch) -> Result<Txns, OutOfMemory>
 {
     let order = batch.by_time(alloc)?;
     let mut events = List::with_room(alloc, order.len())?;
-    let count = op_count(batch.events.as_slice());
+    let arrived = batch.events.as_slice();
+    let count = op_count(arrived);
     let mut ops = List::with_room(alloc, count)?;
     let mut event_of = List::with_room(alloc, count)?;
     for event in &order {

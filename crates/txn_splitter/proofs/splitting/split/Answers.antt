@@ -18,7 +18,7 @@ op_count-count-requires-clause-each c =
     let events : List Event = c.args.batch.now.events.items in
     let few : All (λ e. length e.ops.items ≤ EVENT_OPS) events =
     All-weaker (λ e. IsTransaction (transaction_of e)) (λ e. length e.ops.items ≤ EVENT_OPS) (λ e is. is.few) events (All-from_map IsTransaction transaction_of events c.requires.valid) in
-    subst (All (λ e. length e.ops.items ≤ EVENT_OPS)) (sym c.as_slice.ensures) few
+    subst (All (λ e. length e.ops.items ≤ EVENT_OPS)) (sym c.as_slice-arrived.ensures) few
 
 pub loop-event-init : goal.loop-event-init
 loop-event-init c = record {

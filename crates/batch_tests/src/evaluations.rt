@@ -5,7 +5,7 @@ ghost use Rattle.op_eval.specs.Running.{hand_view};
 
 use crate::four_events::plan;
 use morph_base::{OpState, OpWord, Plan};
-use op_eval::{Answers, Evaluation, Runner, Runners, evaluate};
+use op_eval::{Evaluation, Runner, Runners, evaluate};
 use op_words::{Board, Outcome};
 use std::test::Fail;
 

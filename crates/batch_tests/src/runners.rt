@@ -1,5 +1,5 @@
 //! Runners that evaluate a batch of many events side by side, level by level.
-ghost use Rattle.std.specs.Prelude.{◌≡◌, ◌×◌, ◌≤◌, None};
+ghost use Rattle.std.specs.Prelude.{◌≡◌, ◌≤◌};
 ghost use Rattle.morph_base.specs.Limits.{most_workers};
 ghost use Rattle.morph_base.specs.Plans.{IsPlan};
 ghost use Rattle.op_words.specs.Hands.{plan_of, IsHandOf};
@@ -8,7 +8,7 @@ ghost use Rattle.batch_tests.specs.Resting.{IsAtRest, StaysAtRest};
 
 use crate::many_events::{EVENTS, plan};
 use morph_base::{OpState, OutOfMemory, Plan};
-use op_eval::{Answers, Evaluation, Runner, Runners, evaluate};
+use op_eval::{Runner, Runners, evaluate};
 use op_words::{Board, Hand};
 use std::alloc::Global;
 use std::test::Fail;

@@ -69,11 +69,12 @@ fn one_runner_evaluates(rt: HostRuntime) -> Result<(), Fail> {
         (2, first(Outcome::Executed(40))),
         (3, first(Outcome::Failed)),
     ];
-    let unlike = first_unlike(&board, runners.runner(1), &plan, &rows);
+    assert!(rt; plan.ops.len() == 14);
+    let runner = runners.runner(1);
+    let unlike = first_unlike(&board, runner, &plan, &rows);
     assert_eq!(rt; unlike, None);
-    let (mut root, _left) = runners.gather(&board);
-    let failed = board.peek(&mut root, &plan, 3);
+    let failed = board.peek(&mut runner.hand, &plan, 3);
     assert_eq!(rt; failed, word(OpState::Failed, 5));
-    assert_eq!(rt; root.counts().evaluated, 4);
+    assert_eq!(rt; runner.hand.counts().evaluated, 4);
     Ok(())
 }

@@ -119,6 +119,19 @@ seated b v n k events root rs all lists now next kept many is are last empty who
     at zero d some less = absurd (omega (arith, some))
     at (suc j) d some less = is.others j d (omega (arith, less, many)) ∙ ap (λ m. child (raised m v)) (let same : j ≡ suc j - 1 = omega arith in same)
 
+-- new runners hold nothing, where the root held nothing
+pub new_at_rest : (b : Board) (v : View) (n events : ℕ) (rs : List Runner) → 0 < n → v.tag ≡ 1 → v.claim ≡ None → AreNew b v n events rs → AreAtRest b rs
+new_at_rest b v n events rs some first free are = record {
+  some = let many = are.len in omega (arith, many, some);
+  hands = are.hands;
+  free = at;
+  root = λ d. ap (λ (u : View). u.tag) (are.root d) ∙ first;
+}
+  where
+    at : (k : ℕ) (d : Runner) → k < length rs → (hand_view (get_or rs k d)).claim ≡ None
+    at zero d lt = ap (λ (u : View). u.claim) (are.root d) ∙ free
+    at (suc k) d lt = ap (λ (u : View). u.claim) (are.others (suc k) d (omega arith) (let many = are.len in omega (arith, many, lt)))
+
 -- a list whose last item is brought to the front
 pub to_front : (xs : List Runner) (x : Runner) (whole : List Runner) → whole ≡ xs ++ x ∷ [] → drop (length whole - 1) whole ++ take (length whole - 1) whole ≡ x ∷ xs
 to_front xs x whole is = ap (λ ys. drop (length ys - 1) ys ++ take (length ys - 1) ys) is ∙ at (length (xs ++ x ∷ []) - 1) (omega (arith, length-append xs (x ∷ [])))

@@ -116,6 +116,7 @@ impl Runners {
         ensures places { IfOk result HasPlaces }
         ensures full { IfOk result (λ runners. spare runners ≡ 0) }
         ensures new { IfOk result (λ runners. AreNew board.now (view_of root) workers events (runners_of runners)) }
+        ensures rest { IfOk result (λ runners. (view_of root).claim ≡ None → AreAtRest board.now (runners_of runners)) }
     {
         let mut runners = List::with_room(alloc, workers as usize)?;
         let mut left = empty_lists(alloc, workers as usize, events as usize)?;

@@ -5,7 +5,6 @@ use Rattle.std.proofs.lemmas.List.{set-append_right, map_more, length-map, lengt
 use Rattle.morph_base.specs.declared.key.Key.{Key}
 use Rattle.morph_base.specs.declared.plan.Origin.{Origin}
 use Rattle.morph_base.specs.declared.plan.Origin.TheVariants.{Base}
-use Rattle.morph_base.specs.Operations.{no_key}
 
 put_first : (k m i : ℕ) (x : Origin) → k ≡ suc m → i ≡ 0 → slice_set (replicate k (Base 0)) i x ≡ x ∷ replicate m (Base 0)
 put_first k m i x more first = rw (more, first) refl

@@ -1,8 +1,8 @@
-use Rattle.std.proofs.Common.{◌≡◌, ℕ, ◌+◌, ◌*◌, ◌≤◌, List, All, length, take, sum_by, subst, sym, arith}
+use Rattle.std.proofs.Common.{ℕ, ◌*◌, ◌≤◌, List, length, take, sum_by, subst, sym, arith}
 use Rattle.std.proofs.lemmas.List.{length-take}
 use Rattle.std.proofs.lemmas.List.Elements.{All-take}
 use Rattle.std.proofs.lemmas.List.Sums.{sum_by-le}
-use Rattle.morph_base.specs.declared.limits.TheConstants.{EVENT_OPS, EVENTS}
+use Rattle.morph_base.specs.declared.limits.TheConstants.{EVENT_OPS}
 use Rattle.morph_base.specs.declared.event.Event.{Event}
 use Rattle.txn_splitter.proofs.splitting.op_count.Goals as goal
 

@@ -1,6 +1,7 @@
 use Rattle.std.proofs.Common.{subst, arith}
 use Rattle.op_words.specs.Hands.{view_of}
 use Rattle.op_eval.specs.Gathering.{AreNew}
+use Rattle.op_eval.proofs.Seating.{new_at_rest}
 use Rattle.op_eval.proofs.runners.Runners.new.Goals as goal
 
 pub returns-clause-places : goal.returns-clause-places
@@ -15,3 +16,7 @@ pub returns-clause-new : goal.returns-clause-new
 returns-clause-new c =
     subst (λ n. AreNew c.args.board.now (view_of c.args.root) n c.args.events c.seat_all.new.runners.items) c.in_ok-left.ensures.len
     (c.seat_all.ensures.new c.args.events c.in_ok-left.ensures.empty)
+
+pub returns-clause-rest : goal.returns-clause-rest
+returns-clause-rest c free =
+    new_at_rest c.args.board.now (view_of c.args.root) c.args.workers c.args.events _ c.requires.some c.requires.tag free (returns-clause-new c)

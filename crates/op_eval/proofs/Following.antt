@@ -1,5 +1,5 @@
 -- What calls of the board add to a view, one after another.
-use Rattle.std.proofs.Common.{◌≡◌, ◌≢◌, ℕ, zero, suc, ◌+◌, ◌<◌, ◌≤◌, false, List, [], ◌∷◌, ◌++◌, get_or, refl, sym, ap, ◌∙◌, subst, inl, inr, arith, append_assoc, cond}
+use Rattle.std.proofs.Common.{◌≡◌, ◌≢◌, ℕ, zero, suc, ◌+◌, ◌<◌, ◌≤◌, false, List, [], ◌∷◌, ◌++◌, get_or, refl, sym, ap, ◌∙◌, inl, inr, arith, cond}
 use Rattle.std.specs.Prelude.{Contains}
 use Rattle.std.proofs.lemmas.Bool.{false≢true}
 use Rattle.std.proofs.lemmas.List.Sums.{sum_by-append}
@@ -11,51 +11,11 @@ use Rattle.interleaving_core.specs.Core.{claimed}
 use Rattle.interleaving_core.specs.Counts.{evaluated, is_finish}
 use Rattle.op_words.specs.declared.trail.Item.{Item}
 use Rattle.op_words.specs.declared.trail.View.{View}
-use Rattle.op_words.specs.Trails.{loaded, HasLast, IsDisturbed, IsSteadyAt, IsSteady, IsCalmAt, IsCalm, OwnOn, OwnOpen, NoneOwn}
-use Rattle.op_words.specs.Views.{Agrees, Adds, Goes}
-use Rattle.op_words.proofs.Trailing.{append_none, along_none, along-append, along_contains, last_later, one_last, last-one, stays_or}
+use Rattle.op_words.specs.Trails.{loaded, HasLast, IsDisturbed, IsSteadyAt, OwnOn, OwnOpen, NoneOwn}
+use Rattle.op_words.specs.Views.{Adds, Goes}
+use Rattle.op_words.proofs.Trailing.{along_contains, last_later, one_last, last-one, stays_or}
+use Rattle.op_words.proofs.Adding.{goes_then}
 use Rattle.op_eval.specs.Evaluations.{SoFar}
-
-pub adds_then : {v u w : View} {xs ys : List Item} → Adds v u xs → Adds u w ys → Adds v w (xs ++ ys)
-adds_then {v} {u} {w} {xs} {ys} first second = record {
-  trail = second.trail ∙ ap (λ zs. zs ++ ys) first.trail ∙ append_assoc v.trail xs ys;
-  notes = second.notes ∙ ap (λ zs. zs ++ ys) first.notes ∙ append_assoc v.notes xs ys;
-  records = λ r there. second.records r (first.records r there);
-  decisions = λ d there. second.decisions d (first.decisions d there);
-  published = λ e there. second.published e (first.published e there);
-  settlings = λ x there. second.settlings x (first.settlings x there);
-  tag = second.tag ∙ first.tag;
-  made = second.made ∙ first.made;
-  room = second.room ∙ first.room;
-  joined = second.joined ∙ first.joined;
-  places = second.places ∙ first.places;
-  events = (second.events.0 ++ first.events.0, second.events.1 ∙ ap (λ es. second.events.0 ++ es) first.events.1 ∙ sym (append_assoc second.events.0 first.events.0 v.events));
-  agree = second.agree;
-  steady = along-append (IsSteadyAt v.tag) v.notes xs ys first.steady (subst (λ zs. IsSteady v.tag zs ys) first.notes (subst (λ t. IsSteady t u.notes ys) first.tag second.steady));
-  calm = λ lone. along-append IsCalmAt v.trail xs ys (first.calm lone) (subst (λ zs. IsCalm zs ys) first.trail (second.calm (record { root = first.tag ∙ lone.root; alone = first.made ∙ lone.alone })));
-}
-
-pub goes_then : {v u w : View} {xs ys : List Item} → Goes v u xs → Goes u w ys → Goes v w (xs ++ ys)
-goes_then first second = record { adds = adds_then first.adds second.adds; free = second.free }
-
-pub adds_none : (v : View) → Agrees v → Adds v v []
-adds_none v agrees = record {
-  trail = sym (append_none v.trail);
-  notes = sym (append_none v.notes);
-  records = λ r there. there;
-  decisions = λ d there. there;
-  published = λ e there. there;
-  settlings = λ x there. there;
-  tag = refl;
-  made = refl;
-  room = refl;
-  joined = refl;
-  places = refl;
-  events = ([], refl);
-  agree = agrees;
-  steady = along_none (IsSteadyAt v.tag) v.notes;
-  calm = λ lone. along_none IsCalmAt v.trail;
-}
 
 -- operations that were evaluated stay so
 pub evaluated_more : (v u : View) → (es : List CoreEvent) × (u.events ≡ es ++ v.events) → evaluated v.events ≤ evaluated u.events

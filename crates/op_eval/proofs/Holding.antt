@@ -26,7 +26,8 @@ use Rattle.op_words.specs.Calls.{Elsewhere, IsRead, PeekDoes, MakeDoes, ClaimDoe
 use Rattle.op_words.proofs.Trailing.{cases_word, last_item, last_later, one_last, disturbed_later, disturbed_more}
 use Rattle.op_eval.specs.declared.answers.Evaluation.TheVariants.{Evaluated, Blocked as BlockedOn, Busy as BusyAt, Already}
 use Rattle.op_eval.specs.Evaluations.{EvaluationDoes, IsEvaluatingSoFar, SoFar, IsFetchedUpTo, IsStopped}
-use Rattle.op_eval.proofs.Following.{adds_then, adds_none, evaluated_more, claimed_other, one_is_last, one_none, found_other, own_append, none_own, open_append, none_open, far_then}
+use Rattle.op_words.proofs.Adding.{adds_then, adds_none}
+use Rattle.op_eval.proofs.Following.{evaluated_more, claimed_other, one_is_last, one_none, found_other, own_append, none_own, open_append, none_open, far_then}
 
 pub read_more : (xs ys : List Item) (q : Origin) (x : ℕ) → IsRead xs q x → IsRead (xs ++ ys) q x
 read_more xs ys (Base b) x read = read

@@ -11,7 +11,7 @@ use morph_base::{OpState, OpWord, Plan, READS};
 use std::alloc::{AllocError, Global};
 
 /// What the level word has where no level was lowered to: the greatest u32.
-const NO_LEVEL: u64 = 4_294_967_295;
+pub(crate) const NO_LEVEL: u64 = 4_294_967_295;
 
 /// The words at the start: each operation is blocked at attempt 1, and nothing is recorded, decided or counted.
 pub(crate) fn first_words(alloc: Global, plan: &Plan, counters: u32) -> Result<Vec<u64>, AllocError>

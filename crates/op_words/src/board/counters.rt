@@ -6,9 +6,7 @@ ghost use Rattle.op_words.specs.Hands.{plan_of, counters_of, view_of, IsHandOf};
 
 use super::{Board, Hand};
 use crate::counting::{Pass, Take};
-
-/// What the level word is before any level was put there.
-const NO_LEVEL: u32 = u32::MAX;
+use crate::words::NO_LEVEL;
 
 impl Board {
     /// Takes the next number of a counter. Each number below the counter goes to one hand.
@@ -44,7 +42,7 @@ impl Board {
         ensures view { view_of hand.new ≡ view_of hand.old }
     {
         let level = self.table.shared.load::<Pass>(&mut hand.seat, self.level);
-        level.min(u64::from(NO_LEVEL)) as u32
+        level.min(NO_LEVEL) as u32
     }
 
     /// Empties the level word between two passes, while the board is lent to nobody else: the level there is then the greatest.
@@ -56,6 +54,6 @@ impl Board {
     {
         self.table
             .shared
-            .store::<Pass>(&mut root.seat, self.level, u64::from(NO_LEVEL));
+            .store::<Pass>(&mut root.seat, self.level, NO_LEVEL);
     }
 }

@@ -16,6 +16,6 @@ store-requires c =
     let table = c.args.self.now.table.shared in (
       h.table,
       omega (arith, l, n),
-      subst (λ (i : ℕ). Allows (Lawful table.key.plan.value table.key.cap table.key.counters) table.table_id.slots seat.id seat.me i (λ n. c.from.result) (passes (step table.table_id.slots i c.from.result 0 none) seat.me)) (sym l)
-          (allows_level table.table_id.slots seat.id seat.me _ (λ n. c.from.result) c.from.result 0 (ap (λ (m : Sat). m.0) h.seat)),
+      subst (λ (i : ℕ). Allows (Lawful table.key.plan.value table.key.cap table.key.counters) table.table_id.slots seat.id seat.me i (λ n. 4294967295) (passes (step table.table_id.slots i 4294967295 0 none) seat.me)) (sym l)
+          (allows_level table.table_id.slots seat.id seat.me _ (λ n. 4294967295) 4294967295 0 (ap (λ (m : Sat). m.0) h.seat)),
     )

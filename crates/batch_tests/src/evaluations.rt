@@ -1,12 +1,13 @@
 //! The four events' first operations, evaluated by one runner.
-ghost use Rattle.std.specs.Prelude.{◌≡◌, None};
-ghost use Rattle.op_words.specs.Hands.{plan_of, IsHandOf};
+ghost use Rattle.std.specs.Prelude.{◌≡◌, ◌<◌, None};
+ghost use Rattle.morph_base.specs.Plans.{op_count};
+ghost use Rattle.op_words.specs.Hands.{plan_of, view_of, IsHandOf};
 ghost use Rattle.op_eval.specs.Running.{hand_view};
 
-use crate::four_events::plan;
-use morph_base::{OpState, OpWord, Plan};
-use op_eval::{Evaluation, Runner, Runners, evaluate};
-use op_words::{Board, Outcome};
+use crate::four_events::{plan, plan_at};
+use morph_base::{List, OpState, OpWord, Plan};
+use op_eval::{Answers, Evaluation, Runner, Runners, evaluate};
+use op_words::{Board, Claimed, Hand, Outcome};
 use std::test::Fail;
 
 fn word(state: OpState, value: u64) -> OpWord {
@@ -76,5 +77,62 @@ fn one_runner_evaluates(rt: HostRuntime) -> Result<(), Fail> {
     let failed = board.peek(&mut runner.hand, &plan, 3);
     assert_eq!(rt; failed, word(OpState::Failed, 5));
     assert_eq!(rt; runner.hand.counts().evaluated, 4);
+    Ok(())
+}
+
+/// What a runner is answered of an operation that another hand makes ready and holds meanwhile; `None` where that cannot hold it.
+fn answered(
+    board: &Board,
+    holder: &mut Hand,
+    runner: &mut Runner,
+    plan: &Plan,
+    op: u32,
+) -> Option<Evaluation>
+    requires holder { IsHandOf board.now holder.old }
+    requires hand { IsHandOf board.now runner.old.hand }
+    requires plan { plan.now ≡ plan_of board.now }
+    requires in_range { op < op_count plan.now }
+    requires holder_free { (view_of holder.old).claim ≡ None }
+    requires free { (hand_view runner.old).claim ≡ None }
+    ensures holder { IsHandOf board.now holder.new }
+    ensures hand { IsHandOf board.now runner.new.hand }
+    ensures free { (hand_view runner.new).claim ≡ None }
+{
+    let _ = board.ready(holder, plan, op);
+    match board.claim(holder, plan, op) {
+        Claimed::Not { .. } => None,
+        Claimed::Held { .. } => {
+            let answer = evaluate(board, runner, plan, op);
+            board.give_back(holder, plan, op);
+            Some(answer)
+        }
+    }
+}
+
+/// A runner is busy with what the root holds, and evaluates it once it was given back.
+#[test]
+fn a_runner_is_busy(rt: HostRuntime) -> Result<(), Fail> {
+    let plan = plan_at(&rt, rt.alloc(), &[1])?;
+    assert!(rt; plan.ops.len() == 2);
+    let (board, mut root) = Board::new(rt.alloc(), &plan, 1, 0)?;
+    let mut runner = Runner {
+        hand: board.split(&mut root),
+        answers: Answers {
+            evaluated: 0,
+            blocked: 0,
+            busy: 0,
+            already: 0,
+        },
+        kept: List::new(rt.alloc()),
+    };
+    let claimed = OpWord {
+        by: 1,
+        ..word(OpState::Claimed, 0)
+    };
+    let busy = answered(&board, &mut root, &mut runner, &plan, 0);
+    assert_eq!(rt; busy, Some(Evaluation::Busy { word: claimed }));
+    let then = evaluate(&board, &mut runner, &plan, 0);
+    assert_eq!(rt; then, first(Outcome::Executed(100)));
+    assert_eq!(rt; (runner.answers.busy, runner.answers.evaluated), (1, 1));
     Ok(())
 }

@@ -30,8 +30,8 @@ impl Attempts {
         })
     }
 
-    /// Keeps an attempt at operation `o`, in place of the one before: what its places read, a value for each, and the word
-    /// that it left. It takes no memory.
+    /// Keeps an attempt at operation `o`, in place of the one before: what its places read, a value for each, and the
+    /// word that it left. It takes no memory.
     pub fn keep(&mut self, o: usize, xs: &[u64], word: OpWord)
         requires word { o < length self.old.words.items }
         requires records { o < length self.old.records.items }
@@ -47,7 +47,8 @@ impl Attempts {
 /// A record of 0 for each place that an operation reads.
 fn no_records(alloc: Global, plan: &Plan) -> Result<List<List<u64>>, OutOfMemory>
     requires { IsPlan plan.now }
-    ensures { IfOk result (λ lists. map (λ list. list.items) lists.items ≡ map (λ o. replicate (length (keys_of plan.now o)) 0) (below (op_count plan.now))) }
+    ensures { IfOk result (λ lists. map (λ list. list.items) lists.items
+        ≡ map (λ o. replicate (length (keys_of plan.now o)) 0) (below (op_count plan.now))) }
 {
     let mut lists = List::with_room(alloc, plan.ops.len())?;
     for o in 0..plan.ops.len() {

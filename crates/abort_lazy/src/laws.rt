@@ -9,11 +9,14 @@ ghost use Rattle.abort_lazy.specs.declared.attempts.Attempts.{Attempts};
 ghost use Rattle.abort_lazy.specs.Attempts.{AreTried, ReadWords, value_in};
 ghost use Rattle.abort_lazy.specs.Settling.{outdated_count};
 
-/// Where each operation was tried on the values of its sources' words, each word has the operation's guess. Therefore those
-/// that [`settle_plain`](crate::settle_plain) rolls back are as many as those with a source whose guess is not its value.
+/// Where each operation was tried on the values of its sources' words, each word has the operation's guess. Therefore
+/// those that [`settle_plain`](crate::settle_plain) rolls back are as many as those with a source whose guess is not
+/// its value.
 ///
 /// So the first attempts may be made in any order in which sources come first, by however many workers.
 pub fn first_attempts()
-    ensures guesses { (p : Plan) (a : Attempts) (o : ℕ) → IsPlan p → AreTried p a → ReadWords p a → o < op_count p → value_in a o ≡ guess p o }
-    ensures outdated { (p : Plan) (a : Attempts) → IsPlan p → AreTried p a → ReadWords p a → outdated_count p a ≡ stale_count p }
+    ensures guesses { (p : Plan) (a : Attempts) (o : ℕ) → IsPlan p → AreTried p a → ReadWords p a → o < op_count p
+        → value_in a o ≡ guess p o }
+    ensures outdated { (p : Plan) (a : Attempts) → IsPlan p → AreTried p a → ReadWords p a
+        → outdated_count p a ≡ stale_count p }
 {}

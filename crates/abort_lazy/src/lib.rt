@@ -1,9 +1,10 @@
-//! Speculation with lazy abort on plain data: first attempts at the operations of a plan, and their settling afterwards.
+//! Speculation with lazy abort on plain data: first attempts at the operations of a plan, and their settling
+//! afterwards.
 //!
-//! Each operation is tried once, on the values that its sources have at the time, whatever becomes of their events. When
-//! all are tried, [`settle_plain`] goes through the events in order: what rested on a value that was not settled in the end
-//! is evaluated once more, then the event commits or aborts for good. What comes out is that of the fold. [`laws`] tells
-//! the first attempts without an order of execution: they are the guesses of the operations.
+//! Each operation is tried once, on the values that its sources have at the time, whatever becomes of their events.
+//! When all are tried, [`settle_plain`] goes through the events in order: what rested on a value that was not settled
+//! in the end is evaluated once more, then the event commits or aborts for good. What comes out is that of the fold.
+//! [`laws`] tells the first attempts without an order of execution: they are the guesses of the operations.
 //!
 //! Below it stands `morph_base` alone. A caller takes all memory first, makes the first attempts, and settles:
 //!

@@ -16,15 +16,16 @@ use morph_base::{List, OpState, OpWord, Plan, Settled, evaluate};
 pub struct Redone {
     /// The number of attempts: one at each operation, and one more at each that was rolled back.
     pub evaluated: u64,
-    /// The number of operations that were rolled back: those with a record that was not the settled value of its source.
+    /// The number of operations that were rolled back: those with a record that was not the settled value of its
+    /// source.
     pub rolled: u64,
 }
 
 /// Settles a plan all of whose operations were tried, event by event, by worker 1. It takes no memory.
 ///
-/// Attempts and room are made for the plan ([`Attempts::new`], [`Room::new`]), and each operation was tried once, on any
-/// values: its word is what [`evaluate`] gives at attempt 1 on its records. Afterwards each word is settled, and each
-/// record is the settled value of its source.
+/// Attempts and room are made for the plan ([`Attempts::new`], [`Room::new`]), and each operation was tried once, on
+/// any values: its word is what [`evaluate`] gives at attempt 1 on its records. Afterwards each word is settled, and
+/// each record is the settled value of its source.
 pub fn settle_plain(plan: &Plan, attempts: &mut Attempts, room: Room) -> (Settled, Redone)
     requires plan { IsPlan plan.now }
     requires made { AreMadeFor plan.now attempts.old }
@@ -97,8 +98,8 @@ fn redo_event(plan: &Plan, i: usize, values: &List<u64>, attempts: &mut Attempts
     rolled
 }
 
-/// Compares an operation's records with the settled values of its sources; where they differ it is evaluated once more, on
-/// those values, at attempt 2. Tells whether it was.
+/// Compares an operation's records with the settled values of its sources; where they differ it is evaluated once
+/// more, on those values, at attempt 2. Tells whether it was.
 fn redo(plan: &Plan, o: usize, values: &List<u64>, attempts: &mut Attempts) -> bool
     requires plan { IsPlan plan.now }
     requires op { o < op_count plan.now }
@@ -175,8 +176,8 @@ fn settle_ops(
     }
 }
 
-/// Settles an operation that rests on settled values: with its own value where its event commits, else with the value of
-/// its target's source.
+/// Settles an operation that rests on settled values: with its own value where its event commits, else with the value
+/// of its target's source.
 fn settle_op(plan: &Plan, o: usize, committed: bool, attempts: &mut Attempts, settled: &mut Settled)
     requires plan { IsPlan plan.now }
     requires op { o < op_count plan.now }

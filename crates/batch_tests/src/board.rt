@@ -173,7 +173,8 @@ fn meet(
     }
 }
 
-/// Two hands on the one deposit: what one holds the other finds claimed; after it was given back the other evaluates it.
+/// Two hands on the one deposit: what one holds the other finds claimed; after it was given back the other evaluates
+/// it.
 #[test]
 fn two_hands_meet(rt: HostRuntime) -> Result<(), Fail> {
     let plan = plan_at(&rt, rt.alloc(), &[1])?;
@@ -199,6 +200,35 @@ fn two_hands_meet(rt: HostRuntime) -> Result<(), Fail> {
     assert_eq!(rt; (root.counts().evaluated, other.counts().evaluated), (0, 1));
     board.join(&mut root, other);
     assert_eq!(rt; root.counts().evaluated, 1);
+    Ok(())
+}
+
+/// Each number of a counter comes once; the level word has the lowest level that was put there.
+#[test]
+fn counters_and_the_level_word(rt: HostRuntime) -> Result<(), Fail> {
+    let plan = plan_at(&rt, rt.alloc(), &[1])?;
+    let (board, mut root) = Board::new(rt.alloc(), &plan, 1, 2)?;
+    let taken = (
+        board.take(&mut root, 1),
+        board.take(&mut root, 1),
+        board.take(&mut root, 0),
+    );
+    assert_eq!(rt; taken, (0, 1, 0));
+    board.lower(&mut root, 7);
+    board.lower(&mut root, 9);
+    assert_eq!(rt; board.level(&mut root), 7);
+    Ok(())
+}
+
+/// The end of a board on which nothing was evaluated.
+#[test]
+fn a_board_ends(rt: HostRuntime) -> Result<(), Fail> {
+    let plan = plan_at(&rt, rt.alloc(), &[1])?;
+    assert!(rt; plan.ops.len() == 2 && plan.events.len() == 1);
+    let (board, root) = Board::new(rt.alloc(), &plan, 1, 0)?;
+    let closed = board.close(&plan, root);
+    assert_eq!(rt; closed.word(1).pack(), BLOCKED);
+    assert_eq!(rt; (closed.decision(0), closed.counts().evaluated), (None, 0));
     Ok(())
 }
 

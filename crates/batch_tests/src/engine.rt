@@ -18,8 +18,8 @@ const STRATEGY: Strategy = Strategy {
     abort: Abort::Lazy,
 };
 
-/// What a batch came to: the verdicts, how much was evaluated and rolled back, whether the state is that of the fold, and the
-/// values of accounts 0 to 2 and assets 0 to 2.
+/// What a batch came to: the verdicts, how much was evaluated and rolled back, whether the state is that of the
+/// fold, and the values of accounts 0 to 2 and assets 0 to 2.
 #[derive(Drop)]
 struct Ran {
     committed: Vec<bool>,

@@ -49,7 +49,8 @@ fn first_unlike(
     None
 }
 
-/// A withdrawal waits for the deposit before it. The first transfer withdraws 60 of 100, and 6 of 5 assets, which fails.
+/// A withdrawal waits for the deposit before it. The first transfer withdraws 60 of 100, and 6 of 5 assets, which
+/// fails.
 #[test]
 fn one_runner_evaluates(rt: HostRuntime) -> Result<(), Fail> {
     let plan = plan(&rt, rt.alloc())?;
@@ -80,7 +81,8 @@ fn one_runner_evaluates(rt: HostRuntime) -> Result<(), Fail> {
     Ok(())
 }
 
-/// What a runner is answered of an operation that another hand makes ready and holds meanwhile; `None` where that cannot hold it.
+/// What a runner is answered of an operation that another hand makes ready and holds meanwhile; `None` where that
+/// cannot hold it.
 fn answered(
     board: &Board,
     holder: &mut Hand,

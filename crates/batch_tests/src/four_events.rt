@@ -9,19 +9,19 @@ use std::alloc::Global;
 use std::process::Abort;
 
 /// The table of accounts.
-pub const ACCOUNTS: u8 = 0;
+pub(crate) const ACCOUNTS: u8 = 0;
 
 /// The table of assets.
-pub const ASSETS: u8 = 1;
+pub(crate) const ASSETS: u8 = 1;
 
 /// Accounts and assets.
-pub const LAYOUT: Layout = Layout {
+pub(crate) const LAYOUT: Layout = Layout {
     tables: 2,
     size: 10_000,
 };
 
 /// A transfer of money and assets.
-pub fn transfer(
+pub(crate) fn transfer(
     alloc: Global,
     from: u32,
     to: u32,
@@ -57,7 +57,7 @@ fn ops_at(alloc: Global, ts: u64) -> Result<List<Op>, OutOfMemory> {
 }
 
 /// The events at these times, in this order of arrival.
-pub fn batch_of(alloc: Global, times: &[u64]) -> Result<Batch, OutOfMemory> {
+pub(crate) fn batch_of(alloc: Global, times: &[u64]) -> Result<Batch, OutOfMemory> {
     let mut events = List::new(alloc);
     for ts in times {
         let ops = ops_at(alloc, *ts)?;
@@ -67,7 +67,7 @@ pub fn batch_of(alloc: Global, times: &[u64]) -> Result<Batch, OutOfMemory> {
 }
 
 /// The plan of a batch.
-pub fn plan_for(rt: &impl Abort, alloc: Global, batch: &Batch) -> Result<Plan, OutOfMemory>
+pub(crate) fn plan_for(rt: &impl Abort, alloc: Global, batch: &Batch) -> Result<Plan, OutOfMemory>
     ensures plan { IfOk result IsValidPlan }
     ensures keys { IfOk result (λ plan. PlanKeysIn plan LAYOUT) }
 {
@@ -76,7 +76,7 @@ pub fn plan_for(rt: &impl Abort, alloc: Global, batch: &Batch) -> Result<Plan, O
 }
 
 /// The plan of the events at these times.
-pub fn plan_at(rt: &impl Abort, alloc: Global, times: &[u64]) -> Result<Plan, OutOfMemory>
+pub(crate) fn plan_at(rt: &impl Abort, alloc: Global, times: &[u64]) -> Result<Plan, OutOfMemory>
     ensures plan { IfOk result IsValidPlan }
     ensures keys { IfOk result (λ plan. PlanKeysIn plan LAYOUT) }
 {
@@ -84,7 +84,7 @@ pub fn plan_at(rt: &impl Abort, alloc: Global, times: &[u64]) -> Result<Plan, Ou
 }
 
 /// The plan of the four events.
-pub fn plan(rt: &impl Abort, alloc: Global) -> Result<Plan, OutOfMemory>
+pub(crate) fn plan(rt: &impl Abort, alloc: Global) -> Result<Plan, OutOfMemory>
     ensures plan { IfOk result IsValidPlan }
     ensures keys { IfOk result (λ plan. PlanKeysIn plan LAYOUT) }
 {

@@ -72,8 +72,9 @@ fn first_unlike(state: &mut CoreState, plan: &Plan, rows: &[Row]) -> Option<usiz
     None
 }
 
-/// Account 0 and asset 0 are paid in; the transfer of too many assets fails, and what stands beside it is spread and, once
-/// its source is settled, blocked again. What read the failed transfer's account is rolled back for the version after it.
+/// Account 0 and asset 0 are paid in; the transfer of too many assets fails, and what stands beside it is spread
+/// and, once its source is settled, blocked again. What read the failed transfer's account is rolled back for the
+/// version after it.
 const SEVEN: &[Row] = &[
     (Act::Claim(0, 1), false, 0, OpState::Blocked, 1, 0),
     (Act::Ready(0), true, 0, OpState::Ready, 1, 0),
@@ -123,8 +124,8 @@ fn seven_attempts_more(rt: HostRuntime) -> Result<(), Fail> {
     Ok(())
 }
 
-/// The first transfer is aborted, and settled with what its account had before. What read the value that it had taken is
-/// rolled back, and reads the settled one at its last attempt.
+/// The first transfer is aborted, and settled with what its account had before. What read the value that it had
+/// taken is rolled back, and reads the settled one at its last attempt.
 const ONE: &[Row] = &[
     (Act::Ready(0), true, 0, OpState::Ready, 1, 0),
     (Act::Claim(0, 1), true, 0, OpState::Claimed, 1, 0),

@@ -8,7 +8,7 @@ use std::alloc::Global;
 use std::process::Abort;
 
 /// How many events there are.
-pub const EVENTS: u64 = 10_240;
+pub(crate) const EVENTS: u64 = 10_240;
 
 /// The operations of an event: one in two is a transfer of 60, from one of 500 accounts to one of the next seven.
 fn ops_of(alloc: Global, event: u64) -> Result<List<Op>, OutOfMemory> {
@@ -27,7 +27,7 @@ fn ops_of(alloc: Global, event: u64) -> Result<List<Op>, OutOfMemory> {
 }
 
 /// Their plan.
-pub fn plan(rt: &impl Abort, alloc: Global) -> Result<Plan, OutOfMemory>
+pub(crate) fn plan(rt: &impl Abort, alloc: Global) -> Result<Plan, OutOfMemory>
     ensures { IfOk result IsValidPlan }
 {
     let mut events = List::new(alloc);

@@ -15,8 +15,8 @@ use std::test::Fail;
 use std::thread::Threads;
 use worker_gate::{Job, run_all};
 
-/// The operations of a level, shared out among workers: each has those whose place there leaves its tag, divided by the number
-/// of workers.
+/// The operations of a level, shared out among workers: each has those whose place there leaves its tag, divided by
+/// the number of workers.
 #[derive(Drop)]
 struct Level<'a> {
     board: &'a Board,
@@ -68,8 +68,8 @@ fn evaluate_levels<R: Threads + Sync>(rt: &R, board: &Board, plan: &Plan, runner
     }
 }
 
-/// What came of a batch: how often an operation was evaluated, as the runners' answers and as the root's counts tell, and each
-/// operation's state, attempt and value.
+/// What came of a batch: how often an operation was evaluated, as the runners' answers and as the root's counts
+/// tell, and each operation's state, attempt and value.
 #[derive(Drop)]
 struct Ran {
     answered: u64,

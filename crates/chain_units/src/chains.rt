@@ -11,7 +11,8 @@ use std::collections::BTreeMap;
 /// For each key that an operation changes, in the order of keys, the operations that change it, by rising number.
 pub fn chains(alloc: Global, plan: &Plan) -> Result<List<List<u32>>, OutOfMemory>
     requires { op_count plan.now ≤ 2 ^ 32 }
-    ensures { IfOk result (λ units. map (λ unit. unit.items) units.items ≡ map (chain plan.now) (targets_in_order plan.now)) }
+    ensures { IfOk result (λ units. map (λ unit. unit.items) units.items
+        ≡ map (chain plan.now) (targets_in_order plan.now)) }
 {
     let mut chains = BTreeMap::new(alloc);
     for op in 0..plan.ops.len() {

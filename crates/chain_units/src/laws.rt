@@ -14,11 +14,13 @@ ghost use Rattle.chain_units.specs.Units.{units_of, targets_in_order};
 /// So a worker that takes each unit once takes each operation once, and goes up a key's versions.
 pub fn each_in_one()
     ensures partition { (p : Plan) (unit : UnitKind) → IsPartition (units_of p unit) (op_count p) }
-    ensures rises { (p : Plan) (unit : UnitKind) (u : ℕ) → IsStrictlyIncreasing (slice_index_or (units_of p unit) u []) }
+    ensures rises { (p : Plan) (unit : UnitKind) (u : ℕ)
+        → IsStrictlyIncreasing (slice_index_or (units_of p unit) u []) }
 {}
 
 /// The keys of the chains are those that operations change, each once, in the order of keys.
 pub fn keys_of_chains()
     ensures rise { (p : Plan) → IsStrictlySortedBy key_cmp (targets_in_order p) }
-    ensures all { (p : Plan) (key : Key) → Contains (targets_in_order p) key ↔ ((o : ℕ) × (o < op_count p) × (target p o ≡ key)) }
+    ensures all { (p : Plan) (key : Key)
+        → Contains (targets_in_order p) key ↔ ((o : ℕ) × (o < op_count p) × (target p o ≡ key)) }
 {}

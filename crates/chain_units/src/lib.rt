@@ -1,8 +1,8 @@
 //! The units of scheduling: what a worker takes as a whole.
 //!
-//! [`units`] cuts the operations of a plan into [`Units`]: each operation alone, or for each key the chain of the operations
-//! that change it, by rising number. Each operation is in exactly one unit, and [`laws`] shows it. A caller asks for the
-//! operations of a unit, and for the unit of an operation and its place there:
+//! [`units`] cuts the operations of a plan into [`Units`]: each operation alone, or for each key the chain of the
+//! operations that change it, by rising number. Each operation is in exactly one unit, and [`laws`] shows it. A
+//! caller asks for the operations of a unit, and for the unit of an operation and its place there:
 //!
 //! ```text
 //! let units = units(alloc, &plan, Unit::Chain)?;

@@ -24,8 +24,8 @@ pub trait EventApp {
     /// range and same that applies.
     ghost event_of: { Self → ℕ → List (List ℕ) → Result Transaction Cause };
 
-    /// What the generator writes as the line of event i, where each table has so many ids, from a state of its draws: the
-    /// line without its LF, and the state after it.
+    /// What the generator writes as the line of event i, where each table has so many ids, from a state of its draws:
+    /// the line without its LF, and the state after it.
     ghost generated: { Self → (size i state : ℕ) → Drawn };
 
     /// The number of tables, which are numbered from 0.
@@ -58,7 +58,8 @@ pub trait EventApp {
     ghost gives_valid: { GivesValid table_count event_of };
 
     /// Words have no other causes than form, range and same.
-    ghost causes: { (app : Self) (size : ℕ) (words : List (List ℕ)) (cause : Cause) → event_of app size words ≡ Result.Err cause → IsOfWords cause };
+    ghost causes: { (app : Self) (size : ℕ) (words : List (List ℕ)) (cause : Cause)
+        → event_of app size words ≡ Result.Err cause → IsOfWords cause };
 
     /// Each line that is generated is an event's, at the time of its number.
     ghost generates: { GeneratesEvents event_of generated };

@@ -139,8 +139,8 @@ impl<A: EventApp> BatchReader<A> {
     /// A [`Next::Batch`] has an event at least and is valid. The answer is [`Next::End`] exactly at the end of the
     /// input with no event pending, and [`Next::Refused`] exactly at the first refused line.
     /// [`ReaderFault::ReadFault`] comes only where the source's count of faults rose in this call, and
-    /// [`ReaderFault::TooLong`] exactly where as many bytes as the limit were taken, none of their lines is refused, and
-    /// the source gave one more. After every other answer than a batch it may not be asked again.
+    /// [`ReaderFault::TooLong`] exactly where as many bytes as the limit were taken, none of their lines is refused,
+    /// and the source gave one more. After every other answer than a batch it may not be asked again.
     pub fn next_batch<S: Source>(
         &mut self,
         alloc: Global,
@@ -153,7 +153,8 @@ impl<A: EventApp> BatchReader<A> {
         ensures valid { IfOk result (IsValidNext (record { tables = A.table_count self.old.app; size = self.old.size })) }
         ensures counted { IfOk result (λ next. self.old.lines.number + event_count next ≤ self.new.lines.number) }
         ensures bound { self.new.lines.number ≤ self.new.lines.limit + 1 }
-        ensures same { (self.new.app ≡ self.old.app) × (self.new.size ≡ self.old.size) × (self.new.lines.limit ≡ self.old.lines.limit) }
+        ensures same { (self.new.app ≡ self.old.app) × (self.new.size ≡ self.old.size)
+            × (self.new.lines.limit ≡ self.old.lines.limit) }
         ensures at_end { IsTrue self.new.lines.ended → IsAtEnd (S.left source.new) }
         ensures unended { self.new.lines.ended ≡ false → self.old.lines.ended ≡ false }
         ensures goes_on { self.new.live ≡ goes_on result }

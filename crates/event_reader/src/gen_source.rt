@@ -122,7 +122,8 @@ impl<A: EventApp> Source for GenSource<A> {
         requires { 0 < length buf.old }
         ensures ok { IsOk result }
         ensures bound { IfOk result (λ n. n ≤ length buf.new) }
-        ensures bytes { IfOk result (λ n. generated_left A.generated self.old ≡ take n buf.new ++ generated_left A.generated self.new) }
+        ensures bytes { IfOk result (λ n. generated_left A.generated self.old
+            ≡ take n buf.new ++ generated_left A.generated self.new) }
         ensures end { IfOk result (λ n. n ≡ 0 → generated_left A.generated self.new ≡ []) }
     {
         self.begin_line();

@@ -6,8 +6,8 @@ ghost use Rattle.event_reader.specs.GeneratedText.{generated_text};
 
 use crate::app::EventApp;
 
-/// No line of a generated text is refused, whatever the seed: its batches have as many events as were asked for. The text
-/// never meets the greatest length of an input.
+/// No line of a generated text is refused, whatever the seed: its batches have as many events as were asked for. The
+/// text never meets the greatest length of an input.
 ///
 /// So a run on a generated text reads all of it.
 pub fn generated_text_is_accepted<A: EventApp>()

@@ -72,7 +72,8 @@ fn read_behind<S: Source>(
     requires inside { end + most ≤ length buffer.old }
     ensures bound { IfOk result (λ n. n ≤ most) }
     ensures kept { take end buffer.new ≡ take end buffer.old }
-    ensures bytes { IfOk result (λ n. S.left source.old ≡ ahead (slice_range buffer.new end (end + n)) (S.left source.new)) }
+    ensures bytes { IfOk result (λ n. S.left source.old
+        ≡ ahead (slice_range buffer.new end (end + n)) (S.left source.new)) }
     ensures at_end { IfOk result (λ n. n ≡ 0 → IsAtEnd (S.left source.new)) }
     ensures failed { OnErr result (S.left source.new ≡ S.left source.old) }
     ensures never_falls { S.faults source.old ≤ S.faults source.new }
@@ -81,8 +82,8 @@ fn read_behind<S: Source>(
     source.read(&mut buffer[end..end + most])
 }
 
-/// How many bytes to ask for: as many as are free in the buffer, at most as many as the limit leaves, and one byte where
-/// it leaves none.
+/// How many bytes to ask for: as many as are free in the buffer, at most as many as the limit leaves, and one byte
+/// where it leaves none.
 fn asked_bytes(free: usize, left: u64) -> usize
     requires { 0 < free }
     ensures some { 0 < result }

@@ -83,11 +83,12 @@ impl Words<'_> {
         self.count() == count + 1 && self.word(0) == [letter].as_slice()
     }
 
-    /// The numbers that the words after the first say, each cut at one more than the greatest; `None` where a word is no
-    /// number.
+    /// The numbers that the words after the first say, each cut at one more than the greatest; `None` where a word is
+    /// no number.
     fn cut_numbers<const N: usize>(&self) -> Option<[u64; N]>
         requires { length self.now ≡ N + 1 }
-        ensures { MatchOption result (list_all is_number (drop 1 self.now) ≡ false) (λ numbers. AreCutNumbers (drop 1 self.now) numbers) }
+        ensures { MatchOption result (list_all is_number (drop 1 self.now)
+            ≡ false) (λ numbers. AreCutNumbers (drop 1 self.now) numbers) }
     {
         let mut numbers = [0; N];
         'places: for i in 0..N {

@@ -1,8 +1,9 @@
-//! The machine of operation words, over all schedules: what workers may do to the words, records and decisions of a plan,
-//! one step at a time, and that every order of such steps settles the fold's values.
+//! The machine of operation words, over all schedules: what workers may do to the words, records and decisions of a
+//! plan, one step at a time, and that every order of such steps settles the fold's values.
 //!
-//! It stands on `morph_base` alone. [`CoreState`] runs the machine on plain data; [`laws`] says what holds after every list
-//! of steps. A layer that shares the words between threads shows each of its atomic steps to be a step of this machine.
+//! It stands on `morph_base` alone. [`CoreState`] runs the machine on plain data; [`laws`] says what holds after
+//! every list of steps. A layer that shares the words between threads shows each of its atomic steps to be a step of
+//! this machine.
 #![tactic(auto)]
 
 mod claim;

@@ -39,7 +39,8 @@ pub struct CoreState {
 }
 
 impl CoreState {
-    /// The state at the start, where every operation is blocked at attempt 1. Operations have at most `cap` + 1 attempts.
+    /// The state at the start, where every operation is blocked at attempt 1. Operations have at most `cap` + 1
+    /// attempts.
     ///
     /// All memory that steps ever need is taken here.
     pub fn new(alloc: Global, plan: &Plan, cap: u8) -> Result<CoreState, OutOfMemory>
@@ -61,10 +62,10 @@ impl CoreState {
         })
     }
 
-    /// Makes a step, where it may be made: its numbers are in range, the state that it goes from is there, and its guard
-    /// holds. Else it is refused, and nothing changes. Numbers are in range where operation and event are the plan's, the
-    /// place is one that the operation reads, the worker is from 1 to [`WORKERS`], and the sibling is another operation of
-    /// the same event.
+    /// Makes a step, where it may be made: its numbers are in range, the state that it goes from is there, and its
+    /// guard holds. Else it is refused, and nothing changes. Numbers are in range where operation and event are the
+    /// plan's, the place is one that the operation reads, the worker is from 1 to [`WORKERS`], and the sibling is
+    /// another operation of the same event.
     ///
     /// It takes no memory.
     pub fn step(&mut self, plan: &Plan, event: &CoreEvent) -> Step

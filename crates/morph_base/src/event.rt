@@ -28,7 +28,8 @@ impl Batch {
     /// The events by rising timestamp.
     pub fn by_time(&self, alloc: Global) -> Result<Vec<&Event>, OutOfMemory>
         requires { IsBatch self.now }
-        ensures { IfOk result (λ events. map (λ e. transaction_of e.now) events.items ≡ by_time (transactions_of self.now)) }
+        ensures { IfOk result (λ events. map (λ e. transaction_of e.now) events.items
+            ≡ by_time (transactions_of self.now)) }
     {
         let mut events: Vec<&Event> = self.events.as_slice().iter().collect(alloc)?;
         events.sort_by_key(|e| e.ts)?;

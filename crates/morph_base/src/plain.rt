@@ -23,15 +23,16 @@ mod tests;
 
 /// Folds a batch into the values, and tells what became of each event, by rising timestamp.
 ///
-/// The batch is valid, and its keys are in the layout of the values. Where memory is refused, the values are those after some
-/// first events by rising timestamp.
+/// The batch is valid, and its keys are in the layout of the values. Where memory is refused, the values are those
+/// after some first events by rising timestamp.
 pub fn fold(alloc: Global, values: &mut Values, batch: &Batch) -> Result<List<Outcome>, OutOfMemory>
     requires batch { IsBatch batch.now }
     requires keys { BatchKeysIn values.old.layout batch.now }
     ensures layout { values.new.layout ≡ values.old.layout }
     ensures state { OnOk result (contents values.new ≡ fold_batch batch.now (contents values.old)) }
     ensures refused { OnErr result (IsAfterSome (contents values.old) (by_time (transactions_of batch.now)) (contents values.new)) }
-    ensures fates { IfOk result (λ outcomes. map fate_of outcomes.items ≡ fates (contents values.old) (by_time (transactions_of batch.now))) }
+    ensures fates { IfOk result (λ outcomes. map fate_of outcomes.items
+        ≡ fates (contents values.old) (by_time (transactions_of batch.now))) }
 {
     let events = batch.by_time(alloc)?;
     let mut outcomes = List::with_room(alloc, events.len())?;
@@ -66,7 +67,8 @@ fn transact(alloc: Global, values: &mut Values, event: &Event) -> Result<bool, O
     requires event { IsTransaction (transaction_of event.now) }
     requires keys { HasKeysIn values.old.layout (transaction_of event.now) }
     ensures layout { values.new.layout ≡ values.old.layout }
-    ensures committed { IfOk result (λ committed. committed ≡ commits (contents values.old) (transaction_of event.now)) }
+    ensures committed { IfOk result (λ committed. committed
+        ≡ commits (contents values.old) (transaction_of event.now)) }
     ensures state { OnOk result (contents values.new ≡ after (contents values.old) (transaction_of event.now)) }
     ensures refused { OnErr result (values.new ≡ values.old) }
 {

@@ -31,8 +31,9 @@ pub enum OpState {
 
 /// What is told of an operation at once: its value, at which attempt, its state, and the worker that it belongs to.
 ///
-/// In range are attempts from 1 to [`ATTEMPTS`] and values of at most [`MAX`], 0 in the states blocked, ready and claimed.
-/// A worker, from 1 to [`WORKERS`], stands in the states claimed, settled and settled-aborted, and 0 in all others.
+/// In range are attempts from 1 to [`ATTEMPTS`] and values of at most [`MAX`], 0 in the states blocked, ready and
+/// claimed. A worker, from 1 to [`WORKERS`], stands in the states claimed, settled and settled-aborted, and 0 in all
+/// others.
 #[derive(Clone, Copy, Debug, PartialEq, Eq)]
 pub struct OpWord {
     pub value: u64,
@@ -213,8 +214,8 @@ mod tests {
         assert_eq!(rt; OpWord::unpack(0x0001_7100_0000_0064), Some(aborted));
     }
 
-    /// No attempt; an attempt of 9; a value at blocked; a value above the greatest; a state of 8; nobody, and a worker of 17,
-    /// at claimed; a worker at executed; a bit above the worker.
+    /// No attempt; an attempt of 9; a value at blocked; a value above the greatest; a state of 8; nobody, and a
+    /// worker of 17, at claimed; a worker at executed; a bit above the worker.
     #[test]
     fn knows_what_no_word_packs_to(rt: HostRuntime) {
         for n in [

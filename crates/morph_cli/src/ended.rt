@@ -8,8 +8,8 @@ use run_text::Tally;
 /// How the program ends.
 #[derive(Clone, Copy, Debug, PartialEq, Eq)]
 pub struct Ended {
-    /// 0 where all was read, applied and written; 2 usage; 3 a refused line; 4 a read failed; 5 a write failed; 6 want of memory;
-    /// 7 the input is too long.
+    /// 0 where all was read, applied and written; 2 usage; 3 a refused line; 4 a read failed; 5 a write failed; 6
+    /// want of memory; 7 the input is too long.
     pub status: u8,
     /// What was done until then.
     pub tally: Tally,

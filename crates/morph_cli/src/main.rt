@@ -1,10 +1,10 @@
 //! The program `morph`: events as lines on standard input, each applied as one transaction, and the text of what became
 //! of them on standard output.
 //!
-//! [`morph::morph`] does all that the program does, over a source, a sink and notes of any kind; [`program::program`] gives
-//! it the words of the program's arguments, and `main` gives that the standard streams. It stands on `run_text`, which reads
-//! the words and writes the lines, on the applications, as `ledger_app`, on `event_reader`, which cuts the input into
-//! batches, on `morph_engine`, which runs them, and on `morph_io`, which reads and writes.
+//! [`morph::morph`] does all that the program does, over a source, a sink and notes of any kind; [`program::program`]
+//! gives it the words of the program's arguments, and `main` gives that the standard streams. It stands on
+//! `run_text`, which reads the words and writes the lines, on the applications, as `ledger_app`, on `event_reader`,
+//! which cuts the input into batches, on `morph_engine`, which runs them, and on `morph_io`, which reads and writes.
 #![tactic(auto)]
 
 mod batch;

@@ -153,8 +153,8 @@ fn run_app<R: Threads + Sync, S: Source, K: Sink, N: Sink, G: Gate>(
     }
 }
 
-/// Does all that the program does: reads the settings from its words, runs the application over the source or over an input
-/// that it makes itself, writes the text to the sink, and the last line to the notes where there is one.
+/// Does all that the program does: reads the settings from its words, runs the application over the source or over an
+/// input that it makes itself, writes the text to the sink, and the last line to the notes where there is one.
 ///
 /// The text is that of applying the events one transaction at a time, in the order of time within each batch, to a map
 /// that is zero everywhere, for every number of workers and whatever the gate holds. The statuses are

@@ -41,8 +41,8 @@ fn end_without_memory<N: Sink>(notes: &mut N) -> ExitCode
     ExitCode::from(status(&end))
 }
 
-/// Does all that the program does, with its arguments, of which the first is its own name, or for want of memory none; and
-/// answers the status that it ends with, which is that of [`morph`] for the words behind the name.
+/// Does all that the program does, with its arguments, of which the first is its own name, or for want of memory
+/// none; and answers the status that it ends with, which is that of [`morph`] for the words behind the name.
 ///
 /// Where memory for the words is refused nothing is read, and nothing goes to the sink.
 pub fn program<R: Threads + Sync, S: Source, K: Sink, N: Sink>(

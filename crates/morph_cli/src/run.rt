@@ -33,9 +33,9 @@ pub enum Finish {
     Refused,
 }
 
-/// Runs an application over an input: batch by batch, each written whole before the next is read. The batches that were run
-/// are counted in the tally, also those of a run that is cut off, and where the notes are on each is told there once it is
-/// written, and the tally at the end.
+/// Runs an application over an input: batch by batch, each written whole before the next is read. The batches that
+/// were run are counted in the tally, also those of a run that is cut off, and where the notes are on each is told
+/// there once it is written, and the tally at the end.
 pub fn run<R: Threads + Sync, A: EventApp + Copy, S: Source, K: Sink, N: Sink, G: Gate>(
     job: &Job<'_, A, R, G>,
     source: &mut S,

@@ -28,8 +28,8 @@ pub struct Engine {
 
 /// What a batch came to: its plan, and what was settled of it.
 ///
-/// Event `i` of the plan has its timestamp there, its verdict at `committed[i]`, and the values of its operations in `values`
-/// from its `first` on, `count` of them.
+/// Event `i` of the plan has its timestamp there, its verdict at `committed[i]`, and the values of its operations in
+/// `values` from its `first` on, `count` of them.
 #[derive(Debug, Drop)]
 pub struct BatchEnd {
     pub plan: Plan,
@@ -83,10 +83,10 @@ impl Engine {
 
     /// Runs a plan that was made from the present state: the state becomes the fold of its events.
     ///
-    /// There are 1 to [`WORKERS`](morph_base::WORKERS) workers, and the strategy explores by strata and aborts lazily. First
-    /// the operations of each level are tried side by side, on what the levels before have come to. Then the events are
-    /// settled in order, and what rested on an aborted event is evaluated once more. Neither the number of workers nor the unit
-    /// or the gate changes what comes out.
+    /// There are 1 to [`WORKERS`](morph_base::WORKERS) workers, and the strategy explores by strata and aborts
+    /// lazily. First the operations of each level are tried side by side, on what the levels before have come to.
+    /// Then the events are settled in order, and what rested on an aborted event is evaluated once more. Neither the
+    /// number of workers nor the unit or the gate changes what comes out.
     ///
     /// All memory is taken before the state changes. Where it is refused the state stays, and the plan is dropped.
     pub fn run_batch<R: Threads + Sync, G: Gate>(
@@ -111,7 +111,8 @@ impl Engine {
         ensures settled { IfOk result (λ end. IsSettledOf plan end.settled) }
 
         // What was settled tells what becomes of each event.
-        ensures fates { IfOk result (λ end. settled_fates plan end.settled ≡ fates (contents self.old) (transactions plan)) }
+        ensures fates { IfOk result (λ end. settled_fates plan end.settled
+            ≡ fates (contents self.old) (transactions plan)) }
         ensures evaluated { IfOk result (λ end. end.evaluated ≡ op_count plan + end.rolled) }
         ensures rolled { IfOk result (λ end. end.rolled ≡ stale_count plan) }
         ensures refused { OnErr result (self.new ≡ self.old) }

@@ -14,12 +14,14 @@ use std::alloc::{AllocError, Global};
 use std::thread;
 use std::thread::Threads;
 
-/// The least number of operations that a thread is started for: fewer are evaluated in less time than it takes to start.
+/// The least number of operations that a thread is started for: fewer are evaluated in less time than it takes to
+/// start.
 const PART_OPS: usize = 1_024;
 
 /// Tries all operations of a plan once, one level after the other, those of a level side by side.
 ///
-/// Each reads the words that the levels before its own have left, so what comes out is the same for every number of workers.
+/// Each reads the words that the levels before its own have left, so what comes out is the same for every number of
+/// workers.
 pub(crate) fn try_levels<R: Threads + Sync>(
     rt: &R,
     alloc: Global,
@@ -64,7 +66,8 @@ fn try_level<R: Threads + Sync>(
     Ok(())
 }
 
-/// How many parts so many operations are cut into: one for each worker, as far as each has enough to do, and at least one.
+/// How many parts so many operations are cut into: one for each worker, as far as each has enough to do, and at least
+/// one.
 fn parts_for(ops: usize, workers: usize) -> usize
     requires { 0 < workers }
     ensures some { 0 < result }
@@ -85,7 +88,8 @@ fn try_parts<'a, R: Threads + Sync>(
     requires ready { All (λ part. All (IsReady plan.now (value_of_word words.now.items)) part.ops.now) parts.items }
     requires tries { All (λ part. part.tries.items ≡ []) parts.items }
     requires room { All (λ part. length part.ops.now ≤ part.tries.room) parts.items }
-    ensures ops { IfOk result (λ done. map (λ part. part.ops.now) done.items ≡ map (λ part. part.ops.now) parts.entry.items) }
+    ensures ops { IfOk result (λ done. map (λ part. part.ops.now) done.items
+        ≡ map (λ part. part.ops.now) parts.entry.items) }
     ensures tried { IfOk result (λ done. All (λ part. AreFirstTries plan.now (value_of_word words.now.items) part.ops.now part.tries.items) done.items) }
 {
     let done = thread::map_vec(rt, parts, &|part| try_part(plan, words, part))?;

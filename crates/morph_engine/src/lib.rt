@@ -1,9 +1,9 @@
 //! The engine: a state, and batches that are run on it one at a time.
 //!
-//! Below it stand `txn_splitter` and `precedence_graph`, which make a plan of a batch, and `version_table`, which keeps the state
-//! between batches. A caller makes an [`Engine`] of a layout; then, for each valid batch, it makes a plan ([`Engine::plan`]) and
-//! runs it ([`Engine::run_batch`]), after which the state is the fold of the batch. What became of each event is read off the
-//! [`BatchEnd`], and the values in the end off [`Engine::state`].
+//! Below it stand `txn_splitter` and `precedence_graph`, which make a plan of a batch, and `version_table`, which
+//! keeps the state between batches. A caller makes an [`Engine`] of a layout; then, for each valid batch, it makes a
+//! plan ([`Engine::plan`]) and runs it ([`Engine::run_batch`]), after which the state is the fold of the batch. What
+//! became of each event is read off the [`BatchEnd`], and the values in the end off [`Engine::state`].
 #![tactic(auto)]
 
 mod engine;

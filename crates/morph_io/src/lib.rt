@@ -1,7 +1,8 @@
 //! Bytes in and bytes out.
 //!
-//! [`Source`] and [`Sink`] are what the layers above read from and write to. Their contracts speak of the bytes that are
-//! left or written, where the object tells them, and of a count of faults: an error comes only where that count rose.
+//! [`Source`] and [`Sink`] are what the layers above read from and write to. Their contracts speak of the bytes that
+//! are left or written, where the object tells them, and of a count of faults: an error comes only where that count
+//! rose.
 //!
 //! [`MemSource`], [`RepeatSource`] and [`MemSink`] hold their bytes in memory and tell everything; [`StdSource`] and
 //! [`StdSink`] stand over the readers and writers of std, and tell nothing. A caller builds a line in a [`LineBuf`],

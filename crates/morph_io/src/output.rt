@@ -12,7 +12,8 @@ use std::marker::Model;
 /// How many bytes an [`Out`] keeps before it writes them.
 pub const OUT_BYTES: usize = 8192;
 
-/// A buffer of [`OUT_BYTES`] bytes between lines and a [`Sink`], which contracts see as the list of the bytes that it keeps.
+/// A buffer of [`OUT_BYTES`] bytes between lines and a [`Sink`], which contracts see as the list of the bytes that it
+/// keeps.
 ///
 /// The sink is called only with a full buffer, or at a [`Out::flush`]. After a [`WriteFailed`] the sink has a prefix of
 /// all that was put, what the buffer kept is dropped, and the `Out` is not used again.

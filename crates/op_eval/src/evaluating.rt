@@ -41,15 +41,16 @@ fn fetch_all(board: &Board, hand: &mut Hand, plan: &Plan, op: u32) -> Option<Sto
     None
 }
 
-/// Claims an operation that was found or made ready, fetches its places and finishes it, or gives it back where a source stops
-/// that.
+/// Claims an operation that was found or made ready, fetches its places and finishes it, or gives it back where a
+/// source stops that.
 fn hold(board: &Board, hand: &mut Hand, plan: &Plan, op: u32) -> Evaluation
     requires hand { IsHandOf board.now hand.old }
     requires plan { plan.now ≡ plan_of board.now }
     requires in_range { op < op_count plan.now }
     requires free { (view_of hand.old).claim ≡ None }
     ensures hand { IsHandOf board.now hand.new }
-    ensures does { (start : View) (xs : List Item) (w : Word) → IsEvaluatingSoFar op start (view_of hand.old) xs w → w.state ≡ Ready
+    ensures does { (start : View) (xs : List Item) (w : Word) → IsEvaluatingSoFar op start (view_of hand.old) xs w
+        → w.state ≡ Ready
         → EvaluationDoes plan.now (cap_of board.now) op start (view_of hand.new) result }
 {
     match board.claim(hand, plan, op) {
@@ -74,7 +75,8 @@ fn make(board: &Board, hand: &mut Hand, plan: &Plan, op: u32) -> Evaluation
     requires in_range { op < op_count plan.now }
     requires free { (view_of hand.old).claim ≡ None }
     ensures hand { IsHandOf board.now hand.new }
-    ensures does { (start : View) (xs : List Item) (w : Word) → IsEvaluatingSoFar op start (view_of hand.old) xs w → w.state ≡ Blocked
+    ensures does { (start : View) (xs : List Item) (w : Word) → IsEvaluatingSoFar op start (view_of hand.old) xs w
+        → w.state ≡ Blocked
         → EvaluationDoes plan.now (cap_of board.now) op start (view_of hand.new) result }
 {
     match board.ready(hand, plan, op) {
@@ -111,13 +113,14 @@ fn evaluate_by(board: &Board, hand: &mut Hand, plan: &Plan, op: u32) -> Evaluati
     }
 }
 
-/// Evaluates an operation: it is made ready where it is blocked, claimed, its places are fetched in order, and it is finished.
-/// Where a source stops that, the claim is given back.
+/// Evaluates an operation: it is made ready where it is blocked, claimed, its places are fetched in order, and it is
+/// finished. Where a source stops that, the claim is given back.
 ///
-/// [`Evaluation::Blocked`] comes only where the named source, as its word was loaded here, was neither evaluated nor settled, or
-/// not settled at the last attempt; [`Evaluation::Busy`] only where the operation was seen claimed by another hand or was changed
-/// by one during the call; [`Evaluation::Already`] exactly where the word loaded first was evaluated or settled. The runner holds
-/// nothing before and after. The answer is counted in the runner's `answers`. The call takes no memory and waits for nobody.
+/// [`Evaluation::Blocked`] comes only where the named source, as its word was loaded here, was neither evaluated nor
+/// settled, or not settled at the last attempt; [`Evaluation::Busy`] only where the operation was seen claimed by
+/// another hand or was changed by one during the call; [`Evaluation::Already`] exactly where the word loaded first
+/// was evaluated or settled. The runner holds nothing before and after. The answer is counted in the runner's
+/// `answers`. The call takes no memory and waits for nobody.
 pub fn evaluate(board: &Board, runner: &mut Runner, plan: &Plan, op: u32) -> Evaluation
     requires hand { IsHandOf board.now runner.old.hand }
     requires plan { plan.now ≡ plan_of board.now }

@@ -1,9 +1,9 @@
 //! Evaluating operations on the shared board, by runners: a worker's hand, what it was answered, and what it left.
 //!
-//! [`evaluate`] takes a runner's way through one operation: it is made ready where it is blocked, claimed, its places are fetched
-//! in order, and it is finished; where a source stops that, the claim is given back. The answer names the cause, with the
-//! word that shows it, and the runner counts it. [`Runners`] are the runners of a board: one for the root and one for each
-//! hand that is split off for a worker.
+//! [`evaluate`] takes a runner's way through one operation: it is made ready where it is blocked, claimed, its
+//! places are fetched in order, and it is finished; where a source stops that, the claim is given back. The answer
+//! names the cause, with the word that shows it, and the runner counts it. [`Runners`] are the runners of a board:
+//! one for the root and one for each hand that is split off for a worker.
 //!
 //! ```text
 //! let (board, root) = Board::new(alloc, &plan, 1, 0)?;

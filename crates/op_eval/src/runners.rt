@@ -98,8 +98,8 @@ fn join_all(board: &Board, root: &mut Hand, runners: &mut List<Runner>, left: &m
 impl Runners {
     ghost use Rattle.op_eval.specs.Lending.{LendsRunner, LendsRunners};
 
-    /// Runners for the workers from 1 on, of whom there are `workers`, each with room for what `events` events leave. The first has
-    /// the root, and each other one a hand that the root makes here.
+    /// Runners for the workers from 1 on, of whom there are `workers`, each with room for what `events` events
+    /// leave. The first has the root, and each other one a hand that the root makes here.
     ///
     /// It takes its memory first; where that is refused, the root is dropped and no hand was made.
     pub fn new(
@@ -163,8 +163,8 @@ impl Runners {
         self.runners.add(runner);
     }
 
-    /// Joins the hands of the others into the root, and gives the root and what each runner left, worker 1 first. It takes no
-    /// memory.
+    /// Joins the hands of the others into the root, and gives the root and what each runner left, worker 1 first. It
+    /// takes no memory.
     pub fn gather(self, board: &Board) -> (Hand, List<List<Left>>)
         requires places { HasPlaces self }
         requires rest { AreAtRest board.now (runners_of self) }

@@ -21,3 +21,4 @@ pub mod Fetching
 pub mod Sizes
 pub mod Taking
 pub mod Holding
+pub mod Closing

@@ -9,3 +9,4 @@ pub mod Hands
 pub mod Stepping
 pub mod Counting
 pub mod Kinds
+pub mod Closing

@@ -8,8 +8,8 @@ use morph_base::OpWord;
 pub enum Readied {
     /// Each source was loaded with a value in this call, and the operation went from blocked to ready.
     Made,
-    /// `at` is the operation, and its word was not blocked or was changed between the load and the exchange; or `at` is one of
-    /// its sources, and its word had no value. `word` is the word that was loaded or found.
+    /// `at` is the operation, and its word was not blocked or was changed between the load and the exchange; or `at`
+    /// is one of its sources, and its word had no value. `word` is the word that was loaded or found.
     Not { at: u32, word: OpWord },
 }
 
@@ -18,7 +18,8 @@ pub enum Readied {
 pub enum Claimed {
     /// The hand holds it at this attempt.
     Held { attempt: u8 },
-    /// The word loaded was not ready, or was changed between the load and the exchange; `word` is the one that was found.
+    /// The word loaded was not ready, or was changed between the load and the exchange; `word` is the one that was
+    /// found.
     Not { word: OpWord },
 }
 
@@ -40,8 +41,8 @@ pub enum Outcome {
     Failed,
 }
 
-/// How many operations a hand evaluated, spread and rolled back, with those of the hands joined into it. Each number stops at
-/// the greatest u64.
+/// How many operations a hand evaluated, spread and rolled back, with those of the hands joined into it. Each number
+/// stops at the greatest u64.
 #[derive(Clone, Copy, Debug, PartialEq, Eq)]
 pub struct Counts {
     pub evaluated: u64,

@@ -9,14 +9,15 @@ use morph_base::READS;
 use std::alloc::Global;
 
 mod calls;
+mod closing;
 mod counters;
 mod hands;
 mod sources;
 mod steps;
 mod values;
 
-/// The words of a plan's operations, their records and decisions, a level word and some counters, which several hands change
-/// at once, each by single steps.
+/// The words of a plan's operations, their records and decisions, a level word and some counters, which several
+/// hands change at once, each by single steps.
 ///
 /// ```text
 /// let (board, mut root) = Board::new(alloc, &plan, 7, 4)?;
@@ -34,6 +35,7 @@ pub struct Board {
     cap: u8,
     /// The place of the level word; the counters stand behind it.
     level: usize,
+    ghost slotless: { table.shared.table_id.slots ≡ 0 },
     ghost sized: { table.shared.table_id.words ≡ counter_base table.shared.key.plan.value + table.shared.key.counters },
     ghost capped: { cap ≡ table.shared.key.cap },
     ghost leveled: { level ≡ level_index table.shared.key.plan.value },

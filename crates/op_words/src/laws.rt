@@ -1,15 +1,15 @@
 //! The laws of the board, as the contracts of functions that do nothing.
 //!
-//! The rule of the table has the state of the machine that the words show, and the steps that led to it. Each atomic step of a
-//! hand keeps the rule, and says what becomes of that state.
+//! The rule of the table has the state of the machine that the words show, and the steps that led to it. Each atomic
+//! step of a hand keeps the rule, and says what becomes of that state.
 ghost use Rattle.std.specs.Prelude.{ℕ};
 ghost use Rattle.morph_base.specs.declared.plan.Plan.{Plan};
 ghost use Rattle.op_words.specs.Kinds.{Moment, Loads, Makes, Claims, Records, Finishes, GivesBack, MakesHand, Joins, HoldsAlone};
 
 /// Each atomic step is a step of the machine, or leaves its state as it was.
 ///
-/// An exchange is a step of the machine where it finds the word that it expects; else it is a load. A load changes nothing but
-/// what its hand has noted; neither does a hand that is made or joined.
+/// An exchange is a step of the machine where it finds the word that it expects; else it is a load. A load changes
+/// nothing but what its hand has noted; neither does a hand that is made or joined.
 pub fn each_step()
     ensures loads { (p : Plan) (cap counters : ℕ) (m : Moment p cap counters) → Loads p cap counters m }
     ensures ready { (p : Plan) (cap counters : ℕ) (m : Moment p cap counters) → Makes p cap counters m }

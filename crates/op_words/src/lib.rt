@@ -1,9 +1,10 @@
-//! The board that workers share: operation words, records, decisions and counters in one table, which several hands change at
-//! once by single atomic steps.
+//! The board that workers share: operation words, records, decisions and counters in one table, which several hands
+//! change at once by single atomic steps.
 #![tactic(auto)]
 
 mod answers;
 mod board;
+mod closed;
 mod counting;
 pub mod laws;
 mod places;
@@ -13,6 +14,7 @@ mod words;
 
 pub use answers::{Claimed, Counts, Fetched, Outcome, Readied};
 pub use board::{Board, Hand};
+pub use closed::Closed;
 pub use places::places_of;
 pub use rule::{Known, Rule};
 pub use trail::{DecisionSeen, Item, Joined, Place, RecordSeen, View};

@@ -39,7 +39,8 @@ pub(crate) fn is_in(word: OpWord, state: OpState) -> bool
 /// Whether the value of a word may be read: there is one, and at the last attempt it is settled.
 pub(crate) fn is_usable(word: OpWord, at_last: bool) -> bool
     ensures usable { IsTrue result → (is_idle word.state ≡ false) × (at_last ≡ true → is_settled word.state ≡ true) }
-    ensures unusable { result ≡ false → (is_settled word.state ≡ false) × ((is_idle word.state ≡ true) ⊎ (at_last ≡ true)) }
+    ensures unusable { result ≡ false → (is_settled word.state ≡ false)
+        × ((is_idle word.state ≡ true) ⊎ (at_last ≡ true)) }
 {
     if at_last {
         word.state.is_settled()

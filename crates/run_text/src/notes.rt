@@ -29,8 +29,8 @@ pub fn note_batch<N: Sink>(
     write_all(notes, line.bytes())
 }
 
-/// Writes the lines of the tally to the notes, where they are on: of what was settled by the plain finish and by each of so
-/// many workers.
+/// Writes the lines of the tally to the notes, where they are on: of what was settled by the plain finish and by each
+/// of so many workers.
 pub fn note_tally<N: Sink>(
     notes: &mut N,
     on: bool,

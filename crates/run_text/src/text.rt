@@ -8,8 +8,8 @@ ghost use Rattle.run_text.specs.Text.{after_space, event_text};
 use morph_base::{Plan, Settled};
 use morph_io::LineBuf;
 
-/// Puts the line of event `i` of a plan, without its LF, into an empty line: `ts C v1 v2 ..` with the values of its targets
-/// after it where it commits, `ts A` where it aborts.
+/// Puts the line of event `i` of a plan, without its LF, into an empty line: `ts C v1 v2 ..` with the values of its
+/// targets after it where it commits, `ts A` where it aborts.
 pub fn event_line(plan: &Plan, settled: &Settled, i: u32, line: &mut LineBuf)
     requires plan { IsPlan plan.now }
     requires settled { IsSettledOf plan.now settled.now }

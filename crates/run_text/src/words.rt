@@ -188,7 +188,8 @@ struct Input {
     generated: Option<Generated>,
 }
 
-/// The application and the input: exactly one of `app` and `self` is given, and a seed and a number of events with `self` alone.
+/// The application and the input: exactly one of `app` and `self` is given, and a seed and a number of events with
+/// `self` alone.
 fn input_of(words: &[List<u8>]) -> Option<Input>
     ensures says { result ≡ input_of (map (λ word. word.items) words.now) }
     ensures fits { IfSome result (λ input. AreFew input.generated) }
@@ -229,8 +230,8 @@ fn made_input(words: &[List<u8>], app: App) -> Option<Input>
 
 /// The settings that the words ask for, or `None` where they ask for none.
 ///
-/// They ask for none where a word is not `name=value` with one of the names, a name is given twice, a value is not one of its
-/// name's, not exactly one of `app` and `self` is given, or `seed` or `events` is given without `self`.
+/// They ask for none where a word is not `name=value` with one of the names, a name is given twice, a value is not
+/// one of its name's, not exactly one of `app` and `self` is given, or `seed` or `events` is given without `self`.
 pub fn settings(words: &[List<u8>]) -> Option<Settings>
     ensures asked { result ≡ settings_of (map (λ word. word.items) words.now) }
     ensures none { (result ≡ None → NoSettings (map (λ word. word.items) words.now))

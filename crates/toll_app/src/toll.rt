@@ -13,8 +13,8 @@ use std::alloc::Global;
 /// The number of the table of the segments' average speeds, in hundredths of a mile per hour.
 pub const SPEEDS: u8 = 0;
 
-/// The number of the table of the vehicles' places: one more than the segment that a vehicle is in, 0 where it was never
-/// reported.
+/// The number of the table of the vehicles' places: one more than the segment that a vehicle is in, 0 where it was
+/// never reported.
 pub const PLACES: u8 = 1;
 
 /// The number of the table of the segments' counts of entries.

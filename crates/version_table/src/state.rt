@@ -12,8 +12,8 @@ use std::marker::Model;
 
 /// A value for each key of a layout, between two batches.
 ///
-/// Contracts see the layout and the values, as of [`Values`], and read them as a function of all keys, which is 0 outside the
-/// layout (`contents`). No value is above [`MAX`](morph_base::MAX).
+/// Contracts see the layout and the values, as of [`Values`], and read them as a function of all keys, which is 0
+/// outside the layout (`contents`). No value is above [`MAX`](morph_base::MAX).
 #[derive(Debug, Drop)]
 pub struct State {
     values: Values,
@@ -77,7 +77,8 @@ impl State {
 
     /// The value of a key after the plan's events with timestamps up to `ts`, as it was settled.
     ///
-    /// The state is still the one before the batch: what [`State::apply`] has brought up to date has its latest values alone.
+    /// The state is still the one before the batch: what [`State::apply`] has brought up to date has its latest
+    /// values alone.
     pub fn version(&self, plan: &Plan, settled: &Settled, key: Key, ts: u64) -> u64
         requires plan { IsPlan plan.now }
         requires bases { HasBases plan.now (contents self.now) }

@@ -1,8 +1,8 @@
 /// Where workers may be held between the turns of their work.
 ///
-/// A worker calls [`Gate::pass`] before each turn, and [`Gate::done`] after each evaluation of that turn. Workers count from 1
-/// and turns from 0. Both calls always return, and change nothing that a contract names: a gate decides when a worker goes on,
-/// and never what it does.
+/// A worker calls [`Gate::pass`] before each turn, and [`Gate::done`] after each evaluation of that turn. Workers
+/// count from 1 and turns from 0. Both calls always return, and change nothing that a contract names: a gate decides
+/// when a worker goes on, and never what it does.
 pub trait Gate: Sync {
     /// Returns when the worker may begin its turn.
     fn pass(&self, worker: u32, turn: u64);

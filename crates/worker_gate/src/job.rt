@@ -17,7 +17,8 @@ pub trait Job<W>: Sync {
         ensures { changes self.now worker.old worker.new };
 }
 
-/// Has each worker do the job, side by side: with as many threads as there are workers, or fewer where no thread can be made.
+/// Has each worker do the job, side by side: with as many threads as there are workers, or fewer where no thread can
+/// be made.
 ///
 /// It returns when all have done it. With one worker, or none, no thread is started.
 pub fn run_all<R: Threads + Sync, W: Send, J: Job<W>>(rt: &R, workers: &mut [W], job: &J)

@@ -1,8 +1,10 @@
-//! Workers side by side: a job that is done by each of several workers in a thread of its own, and gates that hold workers.
+//! Workers side by side: a job that is done by each of several workers in a thread of its own, and gates that hold
+//! workers.
 //!
-//! Below it stands std alone. A caller states what a worker has to be and what becomes of it as a [`Job`], and has it done by
-//! [`run_all`], after which each worker is what the job makes of it, as if one thread had done it for all. A [`Gate`] may
-//! hold a worker for a while at each turn of its work: a run passes it, and must come to the same whatever gate it has.
+//! Below it stands std alone. A caller states what a worker has to be and what becomes of it as a [`Job`], and has it
+//! done by [`run_all`], after which each worker is what the job makes of it, as if one thread had done it for all. A
+//! [`Gate`] may hold a worker for a while at each turn of its work: a run passes it, and must come to the same
+//! whatever gate it has.
 #![tactic(auto)]
 
 mod gate;

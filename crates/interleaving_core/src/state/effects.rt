@@ -22,7 +22,8 @@ impl CoreState {
     pub(super) fn put_record(&mut self, op: u32, j: u8, kept: Record)
         requires place { j < READS }
         requires in_range { op * READS + j < length self.old.records.items }
-        ensures core { core_of self.new ≡ record (core_of self.old) { recorded = put (core_of self.old).recorded op (put ((core_of self.old).recorded op) j (Some kept)) } }
+        ensures core { core_of self.new
+            ≡ record (core_of self.old) { recorded = put (core_of self.old).recorded op (put ((core_of self.old).recorded op) j (Some kept)) } }
         ensures shape { IsSameShape self.old self.new }
     {
         self.records
@@ -32,7 +33,8 @@ impl CoreState {
     pub(super) fn put_claim(&mut self, by: u8, claim: Option<Claim>)
         requires worker { by < length self.old.claims.items }
         requires fits { (k : Claim) → claim ≡ Some k → Fits k }
-        ensures core { core_of self.new ≡ record (core_of self.old) { claim = put (core_of self.old).claim by (held_of claim) } }
+        ensures core { core_of self.new
+            ≡ record (core_of self.old) { claim = put (core_of self.old).claim by (held_of claim) } }
         ensures shape { IsSameShape self.old self.new }
     {
         self.claims.set(by as usize, claim);
@@ -40,7 +42,8 @@ impl CoreState {
 
     pub(super) fn put_decision(&mut self, event: u32, committed: bool)
         requires { event < decision_count self.old }
-        ensures core { core_of self.new ≡ record (core_of self.old) { decision = put (core_of self.old).decision event (Some committed) } }
+        ensures core { core_of self.new
+            ≡ record (core_of self.old) { decision = put (core_of self.old).decision event (Some committed) } }
         ensures shape { IsSameShape self.old self.new }
     {
         self.decisions.set(event as usize, Some(committed));
@@ -48,7 +51,8 @@ impl CoreState {
 
     pub(super) fn publish(&mut self, entry: Entry)
         requires { 0 < self.old.published.room }
-        ensures core { core_of self.new ≡ record (core_of self.old) { published = (core_of self.old).published ++ entry ∷ [] } }
+        ensures core { core_of self.new
+            ≡ record (core_of self.old) { published = (core_of self.old).published ++ entry ∷ [] } }
         ensures shape { IsSameShape self.old self.new }
     {
         self.published.add(entry);
@@ -56,7 +60,8 @@ impl CoreState {
 
     pub(super) fn book(&mut self, settling: Settling)
         requires { 0 < self.old.settlings.room }
-        ensures core { core_of self.new ≡ record (core_of self.old) { settlings = (core_of self.old).settlings ++ settling ∷ [] } }
+        ensures core { core_of self.new
+            ≡ record (core_of self.old) { settlings = (core_of self.old).settlings ++ settling ∷ [] } }
         ensures shape { IsSameShape self.old self.new }
     {
         self.settlings.add(settling);

@@ -11,7 +11,8 @@ use crate::event::CoreEvent;
 use morph_base::{OpState, Plan};
 
 impl CoreState {
-    /// Whether the step may be made: its numbers are in range, the state that it goes from is there, and its guard holds.
+    /// Whether the step may be made: its numbers are in range, the state that it goes from is there, and its guard
+    /// holds.
     pub(super) fn may(&self, plan: &Plan, event: &CoreEvent) -> bool
         requires plan { IsPlan plan.now }
         requires state { IsStateOf plan.now self.now }

@@ -5,20 +5,27 @@ ghost use Rattle.morph_base.specs.Plans.{IsPlan, InEvent, event_count, op_count,
 ghost use Rattle.morph_base.specs.Clean.{source, outcome};
 ghost use Rattle.morph_base.specs.Known.{IsKnown, AreKnown, IsRight};
 
-/// Where what is known has the fold's value: an event all of whose operations answer on known sources commits; one with an
-/// operation that fails on known sources aborts; the value of an operation is its answer on known sources where its event
-/// commits, and the value of its target's known source where it aborts.
+/// Where what is known has the fold's value: an event all of whose operations answer on known sources commits; one
+/// with an operation that fails on known sources aborts; the value of an operation is its answer on known sources
+/// where its event commits, and the value of its target's known source where it aborts.
 ///
-/// So a machine may decide and settle in any order, and never takes anything back. Here the known ones are told by a test;
-/// the lemmas in `proofs/` take any fact in its place.
+/// So a machine may decide and settle in any order, and never takes anything back. Here the known ones are told by a
+/// test; the lemmas in `proofs/` take any fact in its place.
 pub fn known_sources()
-    ensures commits { (p : Plan) (known : ℕ → Bool) (v : ℕ → ℕ) (i : ℕ) → IsPlan p → IsRight p (λ t. IsTrue (known t)) v → i < event_count p
-        → ((o : ℕ) → InEvent p i o → AreKnown p (λ t. IsTrue (known t)) o) → ((o : ℕ) → InEvent p i o → IsSome (outcome p v o))
+    ensures commits { (p : Plan) (known : ℕ → Bool) (v : ℕ → ℕ) (i : ℕ) → IsPlan p
+        → IsRight p (λ t. IsTrue (known t)) v → i < event_count p
+        → ((o : ℕ) → InEvent p i o → AreKnown p (λ t. IsTrue (known t)) o)
+        → ((o : ℕ) → InEvent p i o → IsSome (outcome p v o))
         → verdict p i ≡ true }
-    ensures aborts { (p : Plan) (known : ℕ → Bool) (v : ℕ → ℕ) (i o : ℕ) → IsPlan p → IsRight p (λ t. IsTrue (known t)) v → i < event_count p
+    ensures aborts { (p : Plan) (known : ℕ → Bool) (v : ℕ → ℕ) (i o : ℕ) → IsPlan p
+        → IsRight p (λ t. IsTrue (known t)) v → i < event_count p
         → InEvent p i o → AreKnown p (λ t. IsTrue (known t)) o → outcome p v o ≡ None → verdict p i ≡ false }
-    ensures settles { (p : Plan) (known : ℕ → Bool) (v : ℕ → ℕ) (o x : ℕ) → IsPlan p → IsRight p (λ t. IsTrue (known t)) v → o < op_count p
-        → AreKnown p (λ t. IsTrue (known t)) o → verdict p (event_of p o) ≡ true → outcome p v o ≡ Some x → x ≡ final p o }
-    ensures carries { (p : Plan) (known : ℕ → Bool) (v : ℕ → ℕ) (o : ℕ) → IsPlan p → IsRight p (λ t. IsTrue (known t)) v → o < op_count p
-        → IsKnown (λ t. IsTrue (known t)) (origin_at p o 0) → verdict p (event_of p o) ≡ false → source p v o 0 ≡ final p o }
+    ensures settles { (p : Plan) (known : ℕ → Bool) (v : ℕ → ℕ) (o x : ℕ) → IsPlan p
+        → IsRight p (λ t. IsTrue (known t)) v → o < op_count p
+        → AreKnown p (λ t. IsTrue (known t)) o → verdict p (event_of p o) ≡ true → outcome p v o ≡ Some x
+        → x ≡ final p o }
+    ensures carries { (p : Plan) (known : ℕ → Bool) (v : ℕ → ℕ) (o : ℕ) → IsPlan p
+        → IsRight p (λ t. IsTrue (known t)) v → o < op_count p
+        → IsKnown (λ t. IsTrue (known t)) (origin_at p o 0) → verdict p (event_of p o) ≡ false
+        → source p v o 0 ≡ final p o }
 {}

@@ -6,16 +6,18 @@ ghost use Rattle.morph_base.specs.declared.plan.Plan.{Plan};
 ghost use Rattle.morph_base.specs.States.{State, fold_batch, overwritten};
 ghost use Rattle.morph_base.specs.Plans.{IsPlan, IsPlanOf, HasBases, IsLastWriterIn, IsUnwrittenIn, op_count, event_at, event_of, target, state_at, event_count, final};
 
-/// The state after the first i events of a plan: a key that one of their operations changes has the fold's value of the
-/// last that does, each other key what it had before the batch. As one equation of states: the state before the batch,
-/// overwritten by the operations of the first i events in order, where these are the first n. The events up to a time are
-/// the first of the plan, as many as there are.
+/// The state after the first i events of a plan: a key that one of their operations changes has the fold's value of
+/// the last that does, each other key what it had before the batch. As one equation of states: the state before the
+/// batch, overwritten by the operations of the first i events in order, where these are the first n. The events up to
+/// a time are the first of the plan, as many as there are.
 ///
 /// A version of a key at a time is read by it, from the values of the operations alone.
 pub fn versions()
-    ensures written { (p : Plan) (s : State) (i : ℕ) (key : Key) (o : ℕ) → IsPlan p → HasBases p s → IsLastWriterIn p i key o
+    ensures written { (p : Plan) (s : State) (i : ℕ) (key : Key) (o : ℕ) → IsPlan p → HasBases p s
+        → IsLastWriterIn p i key o
         → state_at p s i key ≡ final p o }
-    ensures unwritten { (p : Plan) (s : State) (i : ℕ) (key : Key) → IsPlan p → IsUnwrittenIn p i key → state_at p s i key ≡ s key }
+    ensures unwritten { (p : Plan) (s : State) (i : ℕ) (key : Key) → IsPlan p → IsUnwrittenIn p i key
+        → state_at p s i key ≡ s key }
     ensures overwritten { (p : Plan) (s : State) (n i : ℕ) → IsPlan p → HasBases p s → n ≤ op_count p
         → ((o : ℕ) → o < n → event_of p o < i) → ((o : ℕ) → n ≤ o → o < op_count p → i ≤ event_of p o)
         → overwritten (target p) (final p) s n ≡ state_at p s i }
@@ -23,8 +25,8 @@ pub fn versions()
         → (i < count_by (λ e. nat_le e.ts t) p.events.items) ↔ ((event_at p i).ts ≤ t) }
 {}
 
-/// The state after a batch is the state before it, overwritten by all operations of its plan in order, so that each target
-/// has the fold's value of the last operation on it; and it is the fold of the batch.
+/// The state after a batch is the state before it, overwritten by all operations of its plan in order, so that each
+/// target has the fold's value of the last operation on it; and it is the fold of the batch.
 ///
 /// The state is brought up to date by it once a plan is settled.
 pub fn end_of_batch()

@@ -17,29 +17,34 @@ pub fn sources()
         → state_at p s (event_of p o) (key_at p o j) ≡ source p (value_at p s) o j }
 {}
 
-/// The values and verdicts of the fold are a clean assignment: each operation of a committed event has its answer on the
-/// values of its sources; in an aborted event one fails, and each has the value of its target's source.
+/// The values and verdicts of the fold are a clean assignment: each operation of a committed event has its answer on
+/// the values of its sources; in an aborted event one fails, and each has the value of its target's source.
 pub fn fold_is_clean()
     ensures { (p : Plan) (s : State) → IsPlan p → HasBases p s → IsClean p (value_at p s) (commits_at p s) }
 {}
 
-/// A clean assignment has the fold's value for each operation and the fold's verdict on each event, so there is one alone.
+/// A clean assignment has the fold's value for each operation and the fold's verdict on each event, so there is one
+/// alone.
 ///
 /// Whoever settles a plan in any order, or looks at what was settled, needs to see no more than that it is clean.
 pub fn clean_is_fold()
-    ensures values { (p : Plan) (v : ℕ → ℕ) (c : ℕ → Bool) (o : ℕ) → IsPlan p → IsClean p v c → o < op_count p → v o ≡ final p o }
-    ensures verdicts { (p : Plan) (v : ℕ → ℕ) (c : ℕ → Bool) (i : ℕ) → IsPlan p → IsClean p v c → i < event_count p → c i ≡ verdict p i }
+    ensures values { (p : Plan) (v : ℕ → ℕ) (c : ℕ → Bool) (o : ℕ) → IsPlan p → IsClean p v c → o < op_count p
+        → v o ≡ final p o }
+    ensures verdicts { (p : Plan) (v : ℕ → ℕ) (c : ℕ → Bool) (i : ℕ) → IsPlan p → IsClean p v c → i < event_count p
+        → c i ≡ verdict p i }
 {}
 
-/// The fold comes to the same values and verdicts from every state that has the plan's bases, also from the one that they
-/// tell: so contracts over plans speak of no state.
+/// The fold comes to the same values and verdicts from every state that has the plan's bases, also from the one that
+/// they tell: so contracts over plans speak of no state.
 pub fn bases_decide()
-    ensures values { (p : Plan) (s : State) (o : ℕ) → IsPlan p → HasBases p s → o < op_count p → value_at p s o ≡ final p o }
-    ensures verdicts { (p : Plan) (s : State) (i : ℕ) → IsPlan p → HasBases p s → i < event_count p → commits_at p s i ≡ verdict p i }
+    ensures values { (p : Plan) (s : State) (o : ℕ) → IsPlan p → HasBases p s → o < op_count p
+        → value_at p s o ≡ final p o }
+    ensures verdicts { (p : Plan) (s : State) (i : ℕ) → IsPlan p → HasBases p s → i < event_count p
+        → commits_at p s i ≡ verdict p i }
 {}
 
-/// The fates of a plan's events, told by the values of its operations and its verdicts: at each place, from any state; and
-/// all at once, from a state that has the plan's bases.
+/// The fates of a plan's events, told by the values of its operations and its verdicts: at each place, from any
+/// state; and all at once, from a state that has the plan's bases.
 ///
 /// What is written of a settled batch is read off by it.
 pub fn event_fates()

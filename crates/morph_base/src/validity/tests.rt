@@ -12,7 +12,8 @@ fn event(alloc: Global, ts: u64, ids: &[u32]) -> Result<Event, OutOfMemory> {
     Ok(Event { ts, ops })
 }
 
-/// Two events with these times and ids; whether they are a valid batch, and whether its keys are in a layout of two ids.
+/// Two events with these times and ids; whether they are a valid batch, and whether its keys are in a layout of two
+/// ids.
 fn told(alloc: Global, events: &[(u64, &[u32])]) -> Result<(bool, bool), OutOfMemory> {
     let mut batch = Batch {
         events: List::new(alloc),

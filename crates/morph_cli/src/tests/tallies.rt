@@ -3,8 +3,8 @@ use super::{FOUR_EVENTS, LEDGER, run_words};
 use run_text::Tally;
 use std::test::Fail;
 
-/// The batches, the events with how many committed and aborted, the operations, how often these were evaluated and rolled
-/// back, and how many the first worker settled.
+/// The batches, the events with how many committed and aborted, the operations, how often these were evaluated and
+/// rolled back, and how many the first worker settled.
 fn numbers_of(tally: Tally) -> [u64; 8] {
     let [_, first, ..] = tally.settled_by;
     [

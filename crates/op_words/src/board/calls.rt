@@ -22,8 +22,8 @@ use std::alloc::Global;
 use std::snapshot::Snapshot;
 
 impl Board {
-    /// A board on which each operation of the plan is blocked at attempt 1, nothing is recorded or decided, and each of its
-    /// counters is 0; and its first hand, the root. Operations have at most `cap` + 1 attempts.
+    /// A board on which each operation of the plan is blocked at attempt 1, nothing is recorded or decided, and each
+    /// of its counters is 0; and its first hand, the root. Operations have at most `cap` + 1 attempts.
     ///
     /// The plan is valid, with its bases filled in. All memory that steps need is taken here.
     pub fn new(
@@ -67,12 +67,14 @@ impl Board {
         ensures view { view_of hand.new ≡ looked op result (view_of hand.old) }
         ensures word { IsWord result }
         ensures fresh { IsFresh (view_of hand.old) op result }
-        ensures does { (view_of hand.old).claim ≡ None → PeekDoes plan.now (cap_of self.now) op (view_of hand.old) (view_of hand.new) result }
+        ensures does { (view_of hand.old).claim ≡ None
+            → PeekDoes plan.now (cap_of self.now) op (view_of hand.old) (view_of hand.new) result }
     {
         self.look(hand, op)
     }
 
-    /// Makes a hand more: its tag is the number of hands made before and 1. It has the root's notes, and nothing else yet.
+    /// Makes a hand more: its tag is the number of hands made before and 1. It has the root's notes, and nothing
+    /// else yet.
     pub fn split(&self, root: &mut Hand) -> Hand
         requires hand { IsHandOf self.now root.old }
         requires root { (view_of root.old).tag ≡ 1 }
@@ -110,8 +112,8 @@ impl Board {
 
     /// Makes a blocked operation ready, where each of its sources has a value.
     ///
-    /// It loads the operation's word and then, as long as nothing stops it, those of its sources, place by place. Last comes
-    /// the exchange.
+    /// It loads the operation's word and then, as long as nothing stops it, those of its sources, place by place.
+    /// Last comes the exchange.
     pub fn ready(&self, hand: &mut Hand, plan: &Plan, op: u32) -> Readied
         requires hand { IsHandOf self.now hand.old }
         requires plan { plan.now ≡ plan_of self.now }
@@ -208,8 +210,8 @@ impl Board {
         attempt == self.cap + 1
     }
 
-    /// Finishes the operation that the hand holds, all of whose places were fetched: it is executed with what its function gives,
-    /// or failed with the value of its target. The hand holds none afterwards.
+    /// Finishes the operation that the hand holds, all of whose places were fetched: it is executed with what its
+    /// function gives, or failed with the value of its target. The hand holds none afterwards.
     pub fn finish(&self, hand: &mut Hand, plan: &Plan, op: u32) -> Outcome
         requires hand { IsHandOf self.now hand.old }
         requires plan { plan.now ≡ plan_of self.now }
@@ -226,7 +228,8 @@ impl Board {
         Outcome::of(answer)
     }
 
-    /// Gives back the operation that the hand holds: it is blocked again, at the same attempt. The hand holds none afterwards.
+    /// Gives back the operation that the hand holds: it is blocked again, at the same attempt. The hand holds none
+    /// afterwards.
     pub fn give_back(&self, hand: &mut Hand, plan: &Plan, op: u32)
         requires hand { IsHandOf self.now hand.old }
         requires plan { plan.now ≡ plan_of self.now }

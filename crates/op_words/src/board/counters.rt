@@ -45,7 +45,8 @@ impl Board {
         level.min(NO_LEVEL) as u32
     }
 
-    /// Empties the level word between two passes, while the board is lent to nobody else: the level there is then the greatest.
+    /// Empties the level word between two passes, while the board is lent to nobody else: the level there is then
+    /// the greatest.
     pub fn reset_level(&mut self, root: &mut Hand)
         requires hand { IsHandOf self.old root.old }
         ensures hand { IsHandOf self.new root.new }

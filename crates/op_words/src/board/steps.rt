@@ -113,8 +113,11 @@ impl Board {
         requires hand { IsHandOf self.now hand.old }
         requires plan { plan.now ≡ plan_of self.now }
         requires value { value ≤ MAX }
-        requires held { (o a : ℕ) × (xs : List ℕ) × Holds (view_of hand.old) o a xs × (o < op_count plan.now) × (length xs < places plan.now o) × IsUsable (view_of hand.old) (cap_of self.now) a (origin_at plan.now o (length xs)) value }
-        ensures { (o a : ℕ) (xs : List ℕ) → Holds (view_of hand.old) o a xs → Kept self.now o a xs value hand.old hand.new }
+        requires held { (o a : ℕ) × (xs : List ℕ) × Holds (view_of hand.old) o a xs × (o < op_count plan.now)
+            × (length xs < places plan.now o)
+            × IsUsable (view_of hand.old) (cap_of self.now) a (origin_at plan.now o (length xs)) value }
+        ensures { (o a : ℕ) (xs : List ℕ) → Holds (view_of hand.old) o a xs
+            → Kept self.now o a xs value hand.old hand.new }
     {
         let Some(holding) = hand.held else {
             unreachable!()
@@ -127,13 +130,16 @@ impl Board {
         hand.held = Some(holding.with(value));
     }
 
-    /// Claimed becomes executed or failed, by the hand that holds the operation: nobody else changes its word meanwhile.
+    /// Claimed becomes executed or failed, by the hand that holds the operation: nobody else changes its word
+    /// meanwhile.
     pub(super) fn end(&self, hand: &mut Hand, op: u32, word: OpWord)
         requires hand { IsHandOf self.now hand.old }
         requires in_range { op < op_count (plan_of self.now) }
-        requires held { (a : ℕ) × (xs : List ℕ) × Holds (view_of hand.old) op a xs × (length xs ≡ places (plan_of self.now) op) × (word ≡ finished (op_at (plan_of self.now) op).op a xs) }
+        requires held { (a : ℕ) × (xs : List ℕ) × Holds (view_of hand.old) op a xs
+            × (length xs ≡ places (plan_of self.now) op) × (word ≡ finished (op_at (plan_of self.now) op).op a xs) }
         requires word { IsWord word }
-        ensures { (a : ℕ) (xs : List ℕ) → Holds (view_of hand.old) op a xs → Left self.now hand.old hand.new (finishing op word xs (view_of hand.old)) (left op word) }
+        ensures { (a : ℕ) (xs : List ℕ) → Holds (view_of hand.old) op a xs
+            → Left self.now hand.old hand.new (finishing op word xs (view_of hand.old)) (left op word) }
     {
         let n = word.pack();
         self.table

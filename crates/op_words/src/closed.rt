@@ -1,0 +1,71 @@
+//! A board after its end.
+ghost use Rattle.std.specs.Prelude.{◌≡◌, ℕ, ◌<◌};
+ghost use Rattle.std.specs.Slots.{slots_len, IsFull};
+
+use crate::answers::Counts;
+use atomic_table::Closed as ClosedTable;
+use morph_base::OpWord;
+use std::alloc::Global;
+
+/// A board on which nobody steps any more. Its words stand still, and can be read until it is dropped.
+pub struct Closed {
+    pub(crate) table: ClosedTable<(), Global>,
+    /// The place of the first decision.
+    pub(crate) decisions: usize,
+    pub(crate) counts: Counts,
+    ghost full: { IsFull table.words },
+    ghost slotless: { slots_len table.slots ≡ 0 },
+}
+
+impl Drop for Closed {
+    fn drop(self) {
+        let Closed {
+            table,
+            decisions: _,
+            counts: _,
+        } = self;
+        table.free();
+    }
+}
+
+impl Closed {
+    ghost use Rattle.morph_base.specs.declared.plan.Plan.{Plan};
+    ghost use Rattle.morph_base.specs.Plans.{op_count, event_count};
+    ghost use Rattle.morph_base.specs.Words.{IsWord};
+    ghost use Rattle.op_words.specs.declared.trail.View.{View};
+    ghost use Rattle.op_words.specs.Closing.{IsClosed};
+    ghost use Rattle.op_words.specs.Hands.{counts_of};
+
+    /// The word of an operation.
+    pub fn word(&self, op: u32) -> OpWord
+        requires op { (p : Plan) × (cap : ℕ) × (counters : ℕ) × (v : View) × IsClosed p cap counters v self.now
+            × (op < op_count p) }
+        ensures in_range { IsWord result }
+        ensures word { (p : Plan) (cap counters : ℕ) (v : View) (is : IsClosed p cap counters v self.now)
+            → op < op_count p → result ≡ is.ends.core.word op }
+    {
+        let Some(word) = OpWord::unpack(self.table.word(op as usize)) else {
+            unreachable!()
+        };
+        word
+    }
+
+    /// Whether an event was committed, `None` exactly where nothing was decided.
+    pub fn decision(&self, event: u32) -> Option<bool>
+        requires event { (p : Plan) × (cap : ℕ) × (counters : ℕ) × (v : View) × IsClosed p cap counters v self.now
+            × (event < event_count p) }
+        ensures { (p : Plan) (cap counters : ℕ) (v : View) (is : IsClosed p cap counters v self.now)
+            → event < event_count p → result ≡ is.ends.core.decision event }
+    {
+        let word = self.table.word(self.decisions + event as usize);
+        if word == 0 { None } else { Some(word == 1) }
+    }
+
+    /// How many operations all hands evaluated, spread and rolled back.
+    pub fn counts(&self) -> Counts
+        ensures { (p : Plan) (cap counters : ℕ) (v : View) (is : IsClosed p cap counters v self.now)
+            → result ≡ counts_of is.ends.history }
+    {
+        self.counts
+    }
+}

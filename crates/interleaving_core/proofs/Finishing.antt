@@ -32,7 +32,7 @@ ended-idle : (a : ℕ) (xs : List ℕ) (r : Option ℕ) → is_idle (ended a xs 
 ended-idle a xs (Some v) = refl
 ended-idle a xs None = refl
 
-ended-settled : (a : ℕ) (xs : List ℕ) (r : Option ℕ) → is_settled (ended a xs r).state ≡ false
+pub ended-settled : (a : ℕ) (xs : List ℕ) (r : Option ℕ) → is_settled (ended a xs r).state ≡ false
 ended-settled a xs (Some v) = refl
 ended-settled a xs None = refl
 

@@ -10,6 +10,7 @@ pub mod Deciding
 pub mod Settlement
 pub mod Counting
 pub mod Machine
+pub mod Recorded
 pub mod Storing
 pub mod Shown
 pub mod Places

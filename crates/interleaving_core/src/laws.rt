@@ -2,7 +2,7 @@
 //!
 //! They hold for every valid plan and every cap below [`ATTEMPTS`](morph_base::ATTEMPTS), whatever the order of steps
 //! and however many workers make them. A crate above cites the lemmas behind them, which stand in `proofs/`.
-ghost use Rattle.std.specs.Prelude.{◌≡◌, ℕ, ◌+◌, ◌*◌, ◌<◌, ◌≤◌, Bool, List, ◌++◌, reverse, Some, count_by, sum_by};
+ghost use Rattle.std.specs.Prelude.{◌≡◌, ℕ, ◌+◌, ◌*◌, ◌<◌, ◌≤◌, Bool, List, ◌++◌, reverse, Contains, Some, count_by, sum_by};
 ghost use Rattle.morph_base.specs.declared.plan.Plan.{Plan};
 ghost use Rattle.morph_base.specs.Limits.{most_attempts};
 ghost use Rattle.morph_base.specs.Plans.{IsPlan, op_count};
@@ -10,8 +10,10 @@ ghost use Rattle.morph_base.specs.Graphs.{below};
 ghost use Rattle.morph_base.specs.Guesses.{stale_count};
 ghost use Rattle.morph_base.specs.Words.{IsWord};
 ghost use Rattle.interleaving_core.specs.declared.event.CoreEvent.{CoreEvent};
+ghost use Rattle.interleaving_core.specs.declared.entry.Entry.{Entry};
 ghost use Rattle.interleaving_core.specs.declared.entry.Held.{Held};
-ghost use Rattle.interleaving_core.specs.Core.{Core, start, IsSettledIn, value_in};
+ghost use Rattle.interleaving_core.specs.declared.entry.Record.{Record};
+ghost use Rattle.interleaving_core.specs.Core.{Core, start, places, IsSettledIn, value_in};
 ghost use Rattle.interleaving_core.specs.Steps.{May, after, Run};
 ghost use Rattle.interleaving_core.specs.Soundness.{IsSound};
 ghost use Rattle.interleaving_core.specs.Growth.{Grows};
@@ -120,11 +122,14 @@ pub fn steps_in_order()
 {}
 
 /// What a worker saw of a word, and of a record under a word, stays true as the state grows; and the present word may
-/// be seen.
+/// be seen. As long as an attempt that was shown is the present one, its operation has a record at each place.
 pub fn sightings()
     ensures words { (p : Plan) (c d : Core) (o : ℕ) (w : OpWord) → Grows p c d → IsNoted c o w → IsNoted d o w }
     ensures records { (p : Plan) (c d : Core) (o j x : ℕ) (w : OpWord) → Grows p c d → o < op_count p
         → IsRecordNoted c o j x w → IsRecordNoted d o j x w }
     ensures present { (p : Plan) (cap : ℕ) (c : Core) (o : ℕ) → IsSound p cap c → o < op_count p
         → IsNoted c o (c.word o) }
+    ensures recorded { (p : Plan) (cap : ℕ) (es : List CoreEvent) (c : Core) (e : Entry) (j : ℕ) → IsPlan p
+        → cap < most_attempts → Run p cap es c → Contains c.published e → e.attempt ≡ (c.word e.op).attempt
+        → j < places p e.op → (r : Record) × (c.recorded e.op j ≡ Some r) }
 {}

@@ -22,6 +22,7 @@ use Rattle.op_words.specs.Views.{making, claiming, giving_back}
 use Rattle.op_words.specs.Rule.{Seats, Knows, Lawful, Steps}
 use Rattle.op_words.specs.Plays.{Sat, Leaves, Swaps, makes, claims, gives}
 use Rattle.op_words.proofs.Rows.{here_long, no_more}
+use Rattle.op_words.proofs.Knowing.{words_more}
 use Rattle.op_words.proofs.Moving.{with_view}
 use Rattle.op_words.proofs.Leaving.{IsLeft, left_steps, left_so, swapped}
 
@@ -67,7 +68,8 @@ module _ {p : Plan} {cap counters : ℕ} (s : Seats) (lawful : Lawful p cap coun
         joined = refl;
         places = refl;
       };
-      more = record { plan = refl; cap = refl; tag = refl; made = refl; notes = refl; trail = refl; decisions = refl; settlings = refl; joined = refl; places = refl };
+      more = words_more (record { plan = refl; cap = refl; tag = refl; made = refl; notes = refl; trail = refl; decisions = refl; settlings = refl; joined = refl; places = refl });
+      learned = refl;
       records = λ noted r inside. inl inside;
     }
 
@@ -108,7 +110,8 @@ module _ {p : Plan} {cap counters : ℕ} (s : Seats) (lawful : Lawful p cap coun
         joined = refl;
         places = refl;
       };
-      more = record { plan = refl; cap = refl; tag = refl; made = refl; notes = refl; trail = refl; decisions = refl; settlings = refl; joined = refl; places = refl };
+      more = words_more (record { plan = refl; cap = refl; tag = refl; made = refl; notes = refl; trail = refl; decisions = refl; settlings = refl; joined = refl; places = refl });
+      learned = refl;
       records = λ noted r inside. inl inside;
     }
 
@@ -162,7 +165,8 @@ module _ {p : Plan} {cap counters : ℕ} (s : Seats) (lawful : Lawful p cap coun
         joined = refl;
         places = refl;
       };
-      more = record { plan = refl; cap = refl; tag = refl; made = refl; notes = refl; trail = refl; decisions = refl; settlings = refl; joined = refl; places = refl };
+      more = words_more (record { plan = refl; cap = refl; tag = refl; made = refl; notes = refl; trail = refl; decisions = refl; settlings = refl; joined = refl; places = refl });
+      learned = refl;
       records = λ noted r inside. inl inside;
     }
 

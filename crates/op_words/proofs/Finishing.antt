@@ -23,6 +23,7 @@ use Rattle.op_words.specs.Views.{records_from, finishing}
 use Rattle.op_words.specs.Rule.{Seats, Knows, Lawful, Steps}
 use Rattle.op_words.specs.Plays.{Sat, Leaves, end_of, ends}
 use Rattle.op_words.proofs.Rows.{no_more, not_inside}
+use Rattle.op_words.proofs.Knowing.{words_more}
 use Rattle.op_words.proofs.Moving.{with_view}
 use Rattle.op_words.proofs.Leaving.{IsLeft, left_steps, left_so}
 use Rattle.op_words.proofs.Claiming.{sound_claim, held_now, attempt_now, claimed_now, let_go, not_own}
@@ -119,7 +120,8 @@ module _ {p : Plan} {cap counters : ℕ} (s : Seats) (lawful : Lawful p cap coun
       joined = refl;
       places = refl;
     };
-    more = record { plan = refl; cap = refl; tag = refl; made = refl; notes = refl; trail = refl; decisions = refl; settlings = refl; joined = refl; places = refl };
+    more = words_more (record { plan = refl; cap = refl; tag = refl; made = refl; notes = refl; trail = refl; decisions = refl; settlings = refl; joined = refl; places = refl });
+    learned = refl;
     records = λ noted r inside.
         elim (Contains-append_cases v.records (records_from 0 h.op (end_of v h) h.values) r inside) [
           | inl old ↦ inl old

@@ -29,7 +29,7 @@ use Rattle.op_words.specs.Rule.{Seats, Knows, Lawful, Steps}
 use Rattle.op_words.specs.Plays.{Sat, IsTold, keeps}
 use Rattle.op_words.specs.Stepping.{IsUsable}
 use Rattle.op_words.proofs.Rows.{no_more, not_inside}
-use Rattle.op_words.proofs.Knowing.{knows_more}
+use Rattle.op_words.proofs.Knowing.{words_more, knows_more}
 use Rattle.op_words.proofs.Moving.{with_view, advanced, grown, root_before}
 use Rattle.op_words.proofs.Laying.{numbers_put, shows_record, record_below}
 use Rattle.op_words.proofs.Telling.{told}
@@ -102,8 +102,8 @@ module _ {p : Plan} {cap counters : ℕ} (s : Seats) (lawful : Lawful p cap coun
   knows_kept : Knows p cap next (length s.views) i (fetching h x v)
   knows_kept =
       knows_more {v = v} {xs = []} (grown s lawful i v (fetching h x v) at (Fetch h.op j v.tag x) may_keep) knows
-      (record { plan = refl; cap = refl; tag = refl; made = refl; notes = no_more v.notes; trail = no_more v.trail; decisions = refl; settlings = refl; joined = refl; places = refl })
-      claim_is (λ t inside. absurd (not_inside t inside)) (λ r inside. inl inside)
+      (words_more (record { plan = refl; cap = refl; tag = refl; made = refl; notes = no_more v.notes; trail = no_more v.trail; decisions = refl; settlings = refl; joined = refl; places = refl }))
+      claim_is (λ t inside. absurd (not_inside t inside)) (λ r inside. inl inside) (λ x inside. absurd (not_inside x inside))
 
   pub kept_steps : Steps p cap counters s lawful (with_view (set s.words (record_index p h.op j) (packed_record kept_record)) s i (fetching h x v)) (Fetch h.op j v.tag x)
   kept_steps =

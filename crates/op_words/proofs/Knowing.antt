@@ -1,5 +1,5 @@
 -- What hands know stays true as the state grows, and with words more.
-use Rattle.std.proofs.Common.{◌≡◌, ◌⊎◌, ℕ, ◌+◌, ◌*◌, ◌<◌, ◌≤◌, List, ◌++◌, length, refl, sym, ap, ◌∙◌, subst, inl, inr, arith}
+use Rattle.std.proofs.Common.{◌≡◌, ◌⊎◌, ℕ, ◌+◌, ◌*◌, ◌<◌, ◌≤◌, List, [], ◌++◌, length, refl, sym, ap, ◌∙◌, subst, inl, inr, arith, Some}
 use Rattle.std.specs.Prelude.{Contains, sum_by}
 use Rattle.std.proofs.lemmas.List.Elements.{Contains-append_left, Contains-append_right, Contains-append_cases}
 use Rattle.morph_base.specs.declared.plan.Plan.{Plan}
@@ -9,6 +9,7 @@ use Rattle.interleaving_core.specs.Core.{Core}
 use Rattle.interleaving_core.specs.Growth.{Grows}
 use Rattle.interleaving_core.specs.Sightings.{IsNoted, IsRecordNoted}
 use Rattle.interleaving_core.proofs.Sighting.{noted_grows, record_grows}
+use Rattle.op_words.specs.declared.trail.DecisionSeen.{DecisionSeen}
 use Rattle.op_words.specs.declared.trail.Item.{Item}
 use Rattle.op_words.specs.declared.trail.Joined.{Joined}
 use Rattle.op_words.specs.declared.trail.Place.{Place}
@@ -17,6 +18,7 @@ use Rattle.op_words.specs.declared.trail.View.{View}
 use Rattle.op_words.specs.Trails.{left}
 use Rattle.op_words.specs.Views.{IsBooked}
 use Rattle.op_words.specs.Evidence.{AreNoted}
+use Rattle.op_words.proofs.Rows.{no_more}
 use Rattle.op_words.specs.Rule.{Knows, of_counter, of_joined, one, most_taken}
 
 pub same_grows : {p : Plan} {c : Core} → Grows p c c
@@ -54,7 +56,7 @@ knows_grows {p} {cap} {n} {j} {c} {d} {x} grows claim k = record {
 }
 
 -- the view u has the words xs more than v, and otherwise only other claims, entries, records and steps
-pub record HasMore (v u : View) (xs : List Item) : Type 0 where
+pub record HasWords (v u : View) (xs : List Item) : Type 0 where
   pub plan : u.plan ≡ v.plan
   pub cap : u.cap ≡ v.cap
   pub tag : u.tag ≡ v.tag
@@ -65,6 +67,35 @@ pub record HasMore (v u : View) (xs : List Item) : Type 0 where
   pub settlings : u.settlings ≡ v.settlings
   pub joined : u.joined ≡ v.joined
   pub places : u.places ≡ v.places
+
+-- perhaps other decisions too, and settlings that stand in its trail
+pub record HasMore (v u : View) (xs : List Item) : Type 0 where
+  pub plan : u.plan ≡ v.plan
+  pub cap : u.cap ≡ v.cap
+  pub tag : u.tag ≡ v.tag
+  pub made : u.made ≡ v.made
+  pub notes : u.notes ≡ v.notes ++ xs
+  pub trail : u.trail ≡ v.trail ++ xs
+  pub learned : List DecisionSeen
+  pub decisions : u.decisions ≡ v.decisions ++ learned
+  pub settlings : (x : Settling) → Contains u.settlings x → Contains v.settlings x ⊎ IsBooked u x
+  pub joined : u.joined ≡ v.joined
+  pub places : u.places ≡ v.places
+
+abbrev pub words_more : {v u : View} {xs : List Item} → HasWords v u xs → HasMore v u xs
+words_more {v} {u} {xs} is = record {
+  plan = is.plan;
+  cap = is.cap;
+  tag = is.tag;
+  made = is.made;
+  notes = is.notes;
+  trail = is.trail;
+  learned = [];
+  decisions = is.decisions ∙ no_more v.decisions;
+  settlings = λ x inside. inl (subst (λ l. Contains l x) is.settlings inside);
+  joined = is.joined;
+  places = is.places;
+}
 
 booked_more : {v u : View} {xs : List Item} → HasMore v u xs → (x : Settling) → IsBooked v x → IsBooked u x
 booked_more {v} {u} {xs} more x is =
@@ -86,11 +117,12 @@ booked_more {v} {u} {xs} more x is =
     ]
 
 -- the hand that makes a step
-pub knows_more : {p : Plan} {cap n i : ℕ} {c d : Core} {v u : View} {xs : List Item} → Grows p c d → Knows p cap c n i v → HasMore v u xs → d.claim (i + 1) ≡ u.claim
+pub knows_more : {p : Plan} {cap n i : ℕ} {c d : Core} {v u : View} {xs : List Item} → Grows p c d → Knows p cap c n i v → (more : HasMore v u xs) → d.claim (i + 1) ≡ u.claim
     → ((t : Item) → Contains xs t → IsNoted d t.op t.word)
     → ((r : RecordSeen) → Contains u.records r → Contains v.records r ⊎ ((r.op < op_count p) × IsRecordNoted d r.op r.place r.value r.word))
+    → ((x : DecisionSeen) → Contains more.learned x → d.decision x.event ≡ Some x.committed)
     → Knows p cap d n i u
-knows_more {p} {cap} {n} {i} {c} {d} {v} {u} {xs} grows k more claim words records = record {
+knows_more {p} {cap} {n} {i} {c} {d} {v} {u} {xs} grows k more claim words records learned = record {
   plan = ap (λ s. s.value) more.plan ∙ k.plan;
   cap_is = more.cap ∙ k.cap_is;
   tag = more.tag ∙ k.tag;
@@ -113,7 +145,11 @@ knows_more {p} {cap} {n} {i} {c} {d} {v} {u} {xs} grows k more claim words recor
           | inl old ↦ k.noted.in_plan r old
           | inr new ↦ new.0
         ];
-    decisions = λ x inside. grows.decisions x.event x.committed (k.noted.decisions x (subst (λ ds. Contains ds x) more.decisions inside));
+    decisions = λ x inside.
+        elim (Contains-append_cases v.decisions more.learned x (subst (λ ds. Contains ds x) more.decisions inside)) [
+          | inl old ↦ grows.decisions x.event x.committed (k.noted.decisions x old)
+          | inr new ↦ learned x new
+        ];
   };
   trail = record {
     each = λ t inside. subst (λ ts. Contains ts t) (sym more.notes)
@@ -122,7 +158,11 @@ knows_more {p} {cap} {n} {i} {c} {d} {v} {u} {xs} grows k more claim words recor
           | inr new ↦ Contains-append_right v.notes xs t new
         ]);
   };
-  booked = λ x inside. booked_more more x (k.booked x (subst (λ l. Contains l x) more.settlings inside));
+  booked = λ x inside.
+      elim (more.settlings x inside) [
+        | inl old ↦ booked_more more x (k.booked x old)
+        | inr new ↦ new
+      ];
   few = λ j. subst (λ (l : List Place). sum_by (of_counter j one) l ≤ most_taken) (sym more.places) (k.few j);
   few_joined = λ j. subst (λ (l : List Joined). sum_by (of_joined j one) l ≤ most_taken * length l) (sym more.joined) (k.few_joined j);
 }

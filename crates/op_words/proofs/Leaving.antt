@@ -26,7 +26,7 @@ use Rattle.op_words.specs.Trails.{left, IsSteadyAt}
 use Rattle.op_words.specs.Views.{looked}
 use Rattle.op_words.specs.Rule.{Seats, Knows, Lawful, Steps}
 use Rattle.op_words.specs.Plays.{Sat, Leaves, Swaps}
-use Rattle.op_words.proofs.Rows.{one_inside}
+use Rattle.op_words.proofs.Rows.{one_inside, not_inside}
 use Rattle.op_words.proofs.Knowing.{HasMore, knows_more}
 use Rattle.op_words.proofs.Moving.{with_view, Advances, advanced, grown, root_before}
 use Rattle.op_words.proofs.Laying.{numbers_put, shows_word, op_below}
@@ -41,6 +41,7 @@ pub record IsLeft (p : Plan) (c d : Core) (o : ℕ) (w : OpWord) (e : CoreEvent)
   pub claim : d.claim (i + 1) ≡ u.claim
   pub advances : Advances c d e i v u
   pub more : HasMore v u (left o w ∷ [])
+  pub learned : more.learned ≡ []
   pub records : IsNoted d o w → (r : RecordSeen) → Contains u.records r → Contains v.records r ⊎ ((r.op < op_count p) × IsRecordNoted d r.op r.place r.value r.word)
 
 module _ {p : Plan} {cap counters : ℕ} (s : Seats) (lawful : Lawful p cap counters s) (i : ℕ) (v u : View) (at : get_elem? s.views i ≡ some (Some v))
@@ -61,6 +62,7 @@ module _ {p : Plan} {cap counters : ℕ} (s : Seats) (lawful : Lawful p cap coun
   knows_next =
       knows_more {v = v} {xs = left o w ∷ []} (grown s lawful i v u at e may) (lawful.hands i v at) is.more is.claim
       (λ t inside. subst (λ (x : Item). IsNoted next x.op x.word) (one_inside (left o w) t inside) new_noted) (is.records new_noted)
+      (λ x inside. absurd (not_inside x (subst (λ ds. Contains ds x) is.learned inside)))
 
   pub left_steps : Steps p cap counters s lawful (with_view (set s.words o (packed w)) s i u) e
   left_steps =

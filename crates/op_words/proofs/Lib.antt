@@ -3,6 +3,7 @@ pub mod Rows
 pub mod Knowing
 pub mod Moving
 pub mod Telling
+pub mod Sighting
 pub mod Laying
 pub mod Loading
 pub mod Splitting
@@ -14,9 +15,11 @@ pub mod Leaving
 pub mod Claiming
 pub mod Seeking
 pub mod Making
+pub mod Walking
 pub mod Finishing
 pub mod Keeping
 pub mod Storing
+pub mod Recalling
 pub mod Fetching
 pub mod Sizes
 pub mod Taking

@@ -20,9 +20,10 @@ use Rattle.op_words.specs.Views.{IsPresent, looked}
 use Rattle.op_words.specs.Rule.{Seats, taken, Knows, Lawful, Stays}
 use Rattle.op_words.specs.Plays.{Sat, IsTold, Looks, looks, tells}
 use Rattle.op_words.proofs.Trailing.{last-none, last-append, last-one, last-skip}
-use Rattle.op_words.proofs.Rows.{set_same, one_inside, here_long}
-use Rattle.op_words.proofs.Knowing.{same_grows, knows_more}
+use Rattle.op_words.proofs.Rows.{set_same, one_inside, not_inside, here_long}
+use Rattle.op_words.proofs.Knowing.{same_grows, words_more, knows_more}
 use Rattle.op_words.proofs.Moving.{with_view, moved, sum_kept, root_before}
+use Rattle.op_words.proofs.Sighting.{sight_at}
 use Rattle.op_words.proofs.Telling.{told, fresh_at, steady_at, claimed_other, calm_at}
 
 -- the last words of a trail with one item more are the present ones, where they were but for this item's operation
@@ -49,10 +50,10 @@ module _ {p : Plan} {cap counters : ℕ} where
       looked_knows : Knows p cap lawful.core (length s.views) i (looked o w v)
       looked_knows =
           knows_more {v = v} {xs = loaded o w ∷ []} same_grows (lawful.hands i v at)
-          (record { plan = refl; cap = refl; tag = refl; made = refl; notes = refl; trail = refl; decisions = refl; settlings = refl; joined = refl; places = refl })
+          (words_more (record { plan = refl; cap = refl; tag = refl; made = refl; notes = refl; trail = refl; decisions = refl; settlings = refl; joined = refl; places = refl }))
           (lawful.hands i v at).claim
           (λ t inside. subst (λ (x : Item). IsNoted lawful.core x.op x.word) (one_inside (loaded o w) t inside) (present_noted p cap lawful.core lawful.sound o lt))
-          (λ r inside. inl inside)
+          (λ r inside. inl inside) (λ x inside. absurd (not_inside x inside))
 
       -- the state of the machine stays as it was
       pub looked_stays : Stays p cap counters s lawful (with_view s.words s i (looked o w v))
@@ -69,13 +70,14 @@ module _ {p : Plan} {cap counters : ℕ} where
         told = told (with_view s.words s i (looked o w v)) looked_stays.next i (looked o w v) (view_here s.views i v (looked o w v) at);
         steady = λ apart. steady_at s lawful i v at v.notes (λ n inside. inside) (loaded o w) refl (λ own. claimed_other s lawful i v at o lt apart);
         calm = calm_at s lawful i v at o lt;
+        sight = sight_at s lawful i v at o lt;
       }
 
-    stays_same : Lawful p cap counters (with_view s.words s i v)
-    stays_same =
-        (moved s lawful i v v at s.words (record { tag = refl; published = refl; settlings = refl; events = refl; joined = refl }) lawful.shows
+    pub same_stays : Stays p cap counters s lawful (with_view s.words s i v)
+    same_stays =
+        moved s lawful i v v at s.words (record { tag = refl; published = refl; settlings = refl; events = refl; joined = refl }) lawful.shows
         (record { each = λ k below h. sum_kept s.views i v v at (taken k h) refl ∙ lawful.numbers.each k below h }) (lawful.hands i v at)
-        (λ single first. lawful.alone single v (root_before s lawful i v v at first))).next
+        (λ single first. lawful.alone single v (root_before s lawful i v v at first))
 
     -- a word that is stored as it was found
     unchanged : (u : View) (k : ℕ) → Lawful p cap counters (with_view s.words s i u) → Lawful p cap counters (with_view (set s.words k (get_or s.words k 0)) s i u)
@@ -85,7 +87,7 @@ module _ {p : Plan} {cap counters : ℕ} where
     looked_keeps o k lt = unchanged (looked o (lawful.core.word o) v) k (looked_stays o lt).next
 
     pub told_keeps : (k : ℕ) → Lawful p cap counters (with_view (set s.words k (get_or s.words k 0)) s i v)
-    told_keeps k = unchanged v k stays_same
+    told_keeps k = unchanged v k same_stays.next
 
   module _ (slots id : ℕ) (me : Sat) (v : View) (is : me.0 ≡ Some v) where
     pub allows_look : (o : ℕ) → o < op_count p → Allows (Lawful p cap counters) slots id me o (λ n. n) (looks (step slots o 0 0 none) me)

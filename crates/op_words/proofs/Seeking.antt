@@ -61,7 +61,7 @@ module _ (b : Board) (o : ℕ) where
     elsewhere = λ t inside. let is = one_inside (loaded s w) t inside in (sym (ap (λ (x : Item). x.own) is), λ same. other (ap (λ (x : Item). x.op) is ∙ same));
   }
 
-  row_claim : {h g : Hand} {xs : List Item} → IsRow b o h g xs → (view_of g).claim ≡ (view_of h).claim
+  pub row_claim : {h g : Hand} {xs : List Item} → IsRow b o h g xs → (view_of g).claim ≡ (view_of h).claim
   row_claim row = ap (λ (v : View). v.claim) row.view
 
 -- a source is another operation, before it

@@ -10,3 +10,5 @@ pub mod Stepping
 pub mod Counting
 pub mod Kinds
 pub mod Closing
+pub mod Judging
+pub mod Retrying

@@ -1,16 +1,20 @@
 -- What each kind of step tells the hand that makes it, and what it makes of its view.
-use Rattle.std.specs.Prelude.{◌≡◌, ◌≢◌, ℕ, ◌⊎◌, Option, Some, None}
+use Rattle.std.specs.Prelude.{◌≡◌, ◌≢◌, ℕ, ◌+◌, ◌≤◌, ◌<◌, ◌⊎◌, Bool, true, List, length, Option, Some, None, slice_index}
 use Rattle.atomic_table.specs.Table.{Step, Me}
+use Rattle.morph_base.specs.declared.plan.Plan.{Plan}
 use Rattle.morph_base.specs.declared.word.OpWord.{OpWord}
-use Rattle.morph_base.specs.Plans.{op_at}
-use Rattle.morph_base.specs.Words.{IsWord, packed}
+use Rattle.morph_base.specs.declared.limits.TheConstants.{MAX}
+use Rattle.morph_base.specs.declared.word.OpState.TheVariants.{Spread}
+use Rattle.morph_base.specs.Plans.{op_at, op_count, event_count, origin_at, final, verdict, InEvent}
+use Rattle.morph_base.specs.Words.{IsWord, is_settled, packed}
 use Rattle.interleaving_core.specs.declared.entry.Held.{Held}
-use Rattle.interleaving_core.specs.Core.{blocked, ready, claimed, finished}
+use Rattle.interleaving_core.specs.declared.entry.Record.{Record}
+use Rattle.interleaving_core.specs.Core.{blocked, ready, claimed, finished, has_run, places, record_value}
 use Rattle.op_words.specs.declared.trail.Item.{Item}
 use Rattle.op_words.specs.declared.trail.View.{View}
 use Rattle.op_words.specs.Trails.{loaded, left, IsSteadyAt, IsCalmAt}
-use Rattle.op_words.specs.Views.{Agrees, IsApart, IsDone, IsFresh, IsLone, IsTrailNoted, looked, making, claiming, fetching, finishing, giving_back, parent, child, merged}
-use Rattle.op_words.specs.Layout.{packed_record}
+use Rattle.op_words.specs.Views.{Agrees, IsApart, IsDone, IsFresh, IsLone, IsTrailNoted, IsSettledSeen, IsSourceSeen, IsRecordSeen, IsDecisionSeen, looked, making, claiming, fetching, finishing, giving_back, recalling, learning, deciding, settling, spreading, rolling_back, parent, child, merged}
+use Rattle.op_words.specs.Layout.{record_index, packed_record, decision_base, packed_decision}
 
 abbrev pub Sat : Type 0
 Sat = Me (Unit {0}) (Option View)
@@ -23,6 +27,22 @@ pub record IsTold (u : View) : Type 0 where
 
 -- ---- a load
 
+-- word w, executed or failed, is what the operation's function makes of these values: of those among its records that were seen
+-- under it, and at the last attempt of the settled values of its sources
+pub record HasRun (p : Plan) (cap : ℕ) (v : View) (o : ℕ) (w : OpWord) : Type 0 where
+  pub values : List ℕ
+  pub len : length values ≡ places p o
+  pub word_is : w ≡ finished (op_at p o).op w.attempt values
+  pub records : (j x : ℕ) → j < places p o → IsRecordSeen v o j w x → x ≡ slice_index values j
+  pub last : w.attempt ≡ cap + 1 → (j x : ℕ) → j < places p o → IsSourceSeen v (origin_at p o j) x → x ≡ slice_index values j
+
+-- what a present word tells of itself: its attempts have an end, and settled it has the fold's value
+pub record IsSight (p : Plan) (cap : ℕ) (v : View) (o : ℕ) (w : OpWord) : Type 0 where
+  pub most : w.attempt ≤ cap + 1
+  pub spread : w.state ≡ Spread → w.attempt ≤ cap
+  pub settled : is_settled w.state ≡ true → w.value ≡ final p o
+  pub run : has_run w.state ≡ true → HasRun p cap v o w
+
 -- word w of operation o was found as number n
 pub record Looks (o n : ℕ) (v : View) (w : OpWord) : Type 0 where
   pub is_word : IsWord w
@@ -31,9 +51,29 @@ pub record Looks (o n : ℕ) (v : View) (w : OpWord) : Type 0 where
   pub told : IsTold (looked o w v)
   pub steady : IsApart v o → IsSteadyAt v.tag v.notes (loaded o w)
   pub calm : IsApart v o → IsLone v → IsCalmAt v.trail (loaded o w)
+  pub sight : IsSight v.plan.value v.cap v o w
 
 abbrev pub looks : Step (Unit {0}) → Sat → ℕ → Sat → Type 0
 looks st m n m' = (v : View) → m.0 ≡ Some v → (w : OpWord) × Looks st.word n v w × (m' ≡ (Some (looked st.word w v), m.1))
+
+-- a load of the record of an operation at a place that it reads
+abbrev pub recalls : Step (Unit {0}) → Sat → ℕ → Sat → Type 0
+recalls st m n m' =
+    (v : View) → m.0 ≡ Some v → (o j : ℕ) → o < op_count v.plan.value → j < places v.plan.value o → st.word ≡ record_index v.plan.value o j
+    → (r : Option Record) × (record_value r ≤ MAX) × (n ≡ packed_record r) × (m' ≡ (Some (recalling o j (record_value r) v), m.1))
+
+-- decision d on event i is the fold's, and the one that was seen before; where there is none, no operation of the event was seen
+-- settled
+pub record IsDecision (p : Plan) (v : View) (i : ℕ) (d : Option Bool) : Type 0 where
+  pub right : (committed : Bool) → d ≡ Some committed → verdict p i ≡ committed
+  pub known : (committed : Bool) → IsDecisionSeen v i committed → d ≡ Some committed
+  pub none_settled : d ≡ None → (o : ℕ) → InEvent p i o → IsSettledSeen v o → ⊥
+
+-- a load of a decision
+abbrev pub learns : Step (Unit {0}) → Sat → ℕ → Sat → Type 0
+learns st m n m' =
+    (v : View) → m.0 ≡ Some v → (i : ℕ) → i < event_count v.plan.value → st.word ≡ decision_base v.plan.value + i
+    → (d : Option Bool) × (n ≡ packed_decision d) × IsDecision v.plan.value v i d × (m' ≡ (Some (learning i d v), m.1))
 
 -- a load that leaves the view as it is
 abbrev pub tells : Step (Unit {0}) → Sat → ℕ → Sat → Type 0
@@ -56,6 +96,31 @@ makes st m n m' = (v : View) → m.0 ≡ Some v → (a : ℕ) → st.first ≡ p
 
 abbrev pub claims : Step (Unit {0}) → Sat → ℕ → Sat → Type 0
 claims st m n m' = (v : View) → m.0 ≡ Some v → (a : ℕ) → st.first ≡ packed (ready a) → Swaps st.word n st.first v (claiming st.word a v) (claimed a v.tag) m m'
+
+-- a word of an operation becomes settled, with the fold's value
+abbrev pub settles : Step (Unit {0}) → Sat → ℕ → Sat → Type 0
+settles st m n m' =
+    (v : View) → m.0 ≡ Some v → (w : OpWord) → IsWord w → st.second ≡ packed w
+    → Swaps st.word n st.first v (settling st.word w v) w m m' × (n ≡ st.first → w.value ≡ final v.plan.value st.word)
+
+-- it becomes spread, for a failure of the operation that was noted last
+abbrev pub spreads : Step (Unit {0}) → Sat → ℕ → Sat → Type 0
+spreads st m n m' = (v : View) → m.0 ≡ Some v → (w : OpWord) → IsWord w → st.second ≡ packed w → Swaps st.word n st.first v (spreading st.word w v) w m m'
+
+-- it becomes blocked at a later attempt, for the record that was loaded last
+abbrev pub rolls : Step (Unit {0}) → Sat → ℕ → Sat → Type 0
+rolls st m n m' = (v : View) → m.0 ≡ Some v → (a : ℕ) → st.second ≡ packed (blocked a) → Swaps st.word n st.first v (rolling_back st.word a v) (blocked a) m m'
+
+-- ---- a decision that is made
+
+-- event i is decided: as the hand would have it, or as another hand did before
+abbrev pub decides : Step (Unit {0}) → Sat → ℕ → Sat → Type 0
+decides st m n m' =
+    (v : View) → m.0 ≡ Some v → (i : ℕ) → i < event_count v.plan.value → st.word ≡ decision_base v.plan.value + i
+    → (committed : Bool) → st.second ≡ packed_decision (Some committed)
+    → (verdict v.plan.value i ≡ committed)
+    × (((n ≡ 0) × (m' ≡ (Some (deciding i committed v), m.1)) × IsTold (deciding i committed v))
+    ⊎ ((n ≢ 0) × (m' ≡ (Some (learning i (Some committed) v), m.1))))
 
 -- ---- stores of a hand on what it holds
 

@@ -1,5 +1,5 @@
 -- What the single steps of a hand come to.
-use Rattle.std.specs.Prelude.{◌≡◌, ◌≢◌, ℕ, ◌+◌, ◌<◌, true, false, List, Contains, Option, Some, None}
+use Rattle.std.specs.Prelude.{◌≡◌, ◌≢◌, ℕ, ◌+◌, ◌<◌, Bool, true, false, List, Contains, Option, Some, None}
 use Rattle.morph_base.specs.declared.plan.Plan.{Plan}
 use Rattle.morph_base.specs.declared.plan.Origin.{Origin}
 use Rattle.morph_base.specs.declared.plan.Origin.TheVariants.{Base, Op as Written}
@@ -12,10 +12,10 @@ use Rattle.op_words.specs.declared.board.Hand.{Hand}
 use Rattle.op_words.specs.declared.trail.Item.{Item}
 use Rattle.op_words.specs.declared.trail.View.{View}
 use Rattle.op_words.specs.Trails.{loaded, left, IsSourceOf}
-use Rattle.op_words.specs.Views.{Adds, looking, looked, fetching}
+use Rattle.op_words.specs.Views.{Adds, looking, looked, fetching, recalling, learning}
 use Rattle.op_words.specs.Calls.{Elsewhere}
-use Rattle.op_words.specs.Plays.{Looks, Leaves}
-use Rattle.op_words.specs.Hands.{view_of, IsHandOf}
+use Rattle.op_words.specs.Plays.{Looks, Leaves, IsDecision}
+use Rattle.op_words.specs.Hands.{plan_of, view_of, IsHandOf}
 
 -- the word was loaded, or found by an exchange
 pub record Looked (b : Board) (o : ℕ) (h g : Hand) (w : OpWord) : Type 0 where
@@ -33,6 +33,25 @@ pub record Left (b : Board) (h g : Hand) (u : View) (t : Item) : Type 0 where
 abbrev pub Swapped : Board → ℕ → Hand → Hand → OpWord → View → OpWord → Option OpWord → Type 0
 Swapped b o h g first u w None = Left b h g u (left o w)
 Swapped b o h g first u w (Some found) = (found ≢ first) × Looked b o h g found
+
+-- words of other operations than o were loaded, and perhaps records and decisions
+pub record IsWalk (b : Board) (o : ℕ) (h g : Hand) (xs : List Item) : Type 0 where
+  pub hand : IsHandOf b g
+  pub adds : Adds (view_of h) (view_of g) xs
+  pub elsewhere : Elsewhere o xs
+  pub claim : (view_of g).claim ≡ (view_of h).claim
+  pub events : (view_of g).events ≡ (view_of h).events
+
+-- the record was loaded
+pub record Recalled (b : Board) (o j : ℕ) (h g : Hand) (x : ℕ) : Type 0 where
+  pub hand : IsHandOf b g
+  pub view : view_of g ≡ recalling o j x (view_of h)
+
+-- the decision was loaded
+pub record Learned (b : Board) (i : ℕ) (h g : Hand) (d : Option Bool) : Type 0 where
+  pub hand : IsHandOf b g
+  pub view : view_of g ≡ learning i d (view_of h)
+  pub tells : IsDecision (plan_of b) (view_of h) i d
 
 -- ---- the sources of an operation, loaded place by place
 

@@ -1,17 +1,17 @@
 -- What a hand's view says, and what a call or a step makes of it.
-use Rattle.std.specs.Prelude.{◌≡◌, ◌≢◌, ℕ, ◌+◌, ◌≤◌, ◌<◌, ◌⊎◌, true, false, List, [], ◌∷◌, ◌++◌, length, Contains, Some, None, slice_index}
+use Rattle.std.specs.Prelude.{◌≡◌, ◌≢◌, ℕ, ◌+◌, ◌≤◌, ◌<◌, ◌⊎◌, Bool, true, false, Option, List, [], ◌∷◌, ◌++◌, length, Contains, Some, None, slice_index}
 use Rattle.morph_base.specs.declared.plan.Plan.{Plan}
 use Rattle.morph_base.specs.declared.plan.Origin.{Origin}
 use Rattle.morph_base.specs.declared.plan.Origin.TheVariants.{Base, Op as Written}
 use Rattle.morph_base.specs.declared.word.OpWord.{OpWord}
-use Rattle.morph_base.specs.Plans.{op_count}
+use Rattle.morph_base.specs.Plans.{op_count, origin_at}
 use Rattle.morph_base.specs.Words.{is_idle, is_settled}
 use Rattle.interleaving_core.specs.declared.entry.Entry.{Entry}
 use Rattle.interleaving_core.specs.declared.entry.Held.{Held}
 use Rattle.interleaving_core.specs.declared.entry.Settling.{Settling}
 use Rattle.interleaving_core.specs.declared.event.CoreEvent.{CoreEvent}
-use Rattle.interleaving_core.specs.declared.event.CoreEvent.TheVariants.{Ready as ReadyStep, Claim, Fetch, Finish, GiveBack}
-use Rattle.interleaving_core.specs.Core.{Core, blocked, ready, claimed, entry_of, places}
+use Rattle.interleaving_core.specs.declared.event.CoreEvent.TheVariants.{Ready as ReadyStep, Claim, Fetch, Finish, GiveBack, Spread as SpreadStep, RollBack, Decide, Settle}
+use Rattle.interleaving_core.specs.Core.{Core, blocked, ready, claimed, entry_of, has_run, places}
 use Rattle.interleaving_core.specs.Steps.{Run}
 use Rattle.op_words.specs.declared.trail.Item.{Item}
 use Rattle.op_words.specs.declared.trail.RecordSeen.{RecordSeen}
@@ -45,6 +45,24 @@ IsRecordSeen v o j w x = Contains v.records (record { op = o; place = j; value =
 pub record HasRecordsSeen (p : Plan) (v : View) (o : ℕ) (w : OpWord) (xs : List ℕ) : Type 0 where
   pub len : length xs ≡ places p o
   pub each : (j : ℕ) → j < places p o → IsRecordSeen v o j w (slice_index xs j)
+
+-- it was judged at word w: all its records under w are the values of its sources, which are settled
+pub record IsJudged (p : Plan) (v : View) (o : ℕ) (w : OpWord) : Type 0 where
+  pub ran : has_run w.state ≡ true
+  pub values : List ℕ
+  pub records : HasRecordsSeen p v o w values
+  pub sources : (j : ℕ) → j < places p o → IsSourceSeen v (origin_at p o j) (slice_index values j)
+
+-- it knows that event i is decided
+abbrev pub IsDecisionSeen : View → ℕ → Bool → Type 0
+IsDecisionSeen v i committed = Contains v.decisions (record { event = i; committed = committed })
+
+-- it showed a failure of the operation
+pub record HasShownFailure (v : View) (o : ℕ) : Type 0 where
+  pub entry : Entry
+  pub inside : Contains v.published entry
+  pub op_is : entry.op ≡ o
+  pub failed_is : entry.failed ≡ true
 
 -- the root is the only hand made
 pub record IsLone (v : View) : Type 0 where
@@ -140,6 +158,39 @@ finishing o w xs v =
 
 abbrev pub giving_back : ℕ → ℕ → View → View
 giving_back o a v = record (leaving o (blocked a) (GiveBack o v.tag) v) { claim = None }
+
+-- a record of the operation was loaded, while the last word of it that was noted stood there, or seemed to
+abbrev pub recalling : ℕ → ℕ → ℕ → View → View
+recalling o j x v = record v { records = v.records ++ record { op = o; place = j; value = x; word = last_word o (blocked 1) v.notes } ∷ [] }
+
+-- the decision on event i was loaded
+abbrev pub learning : ℕ → Option Bool → View → View
+learning i None v = v
+learning i (Some committed) v = record v { decisions = v.decisions ++ record { event = i; committed = committed } ∷ [] }
+
+-- it was made
+abbrev pub deciding : ℕ → Bool → View → View
+deciding i committed v = record (learning i (Some committed) v) { events = Decide i committed ∷ v.events }
+
+-- the operation was settled
+abbrev pub settling : ℕ → OpWord → View → View
+settling o w v = record (leaving o w (Settle o v.tag) v) { settlings = v.settlings ++ record { op = o; by = v.tag } ∷ [] }
+
+-- a failure of the operation that was noted last was spread to it
+unfoldable pub last_op : ℕ → List Item → ℕ
+last_op d [] = d
+last_op d (t ∷ ts) = last_op t.op ts
+
+abbrev pub spreading : ℕ → OpWord → View → View
+spreading o w v = record (leaving o w (SpreadStep o (last_op 0 v.notes)) v) { published = v.published ++ entry_of o w ∷ [] }
+
+-- it was rolled back to attempt a, for the record that was loaded last
+unfoldable pub last_place : ℕ → List RecordSeen → ℕ
+last_place d [] = d
+last_place d (r ∷ rs) = last_place r.place rs
+
+abbrev pub rolling_back : ℕ → ℕ → View → View
+rolling_back o a v = leaving o (blocked a) (RollBack o (last_place 0 v.records)) v
 
 -- a hand was made: what the root has after it, and the new hand's view
 abbrev pub parent : View → View

@@ -41,6 +41,64 @@ pub enum Outcome {
     Failed,
 }
 
+/// Whether the failure of an operation was spread to another one of its event.
+#[derive(Clone, Copy, Debug, PartialEq, Eq)]
+pub enum Spreaded {
+    /// The operation has its target's record as value, at its next attempt.
+    Done,
+    /// Its word was not executed, its attempt was not below the cap, or it was changed between load and exchange; `word`
+    /// is the one that was loaded or found.
+    Not { word: OpWord },
+}
+
+/// Whether an operation was rolled back to its next attempt.
+#[derive(Clone, Copy, Debug, PartialEq, Eq)]
+pub enum Rolled {
+    /// It is blocked, at its next attempt.
+    Done,
+    /// The value of the source, loaded here, is that of the record, and the operation's word is not spread.
+    Fresh { value: u64 },
+    /// `at` is the operation, and its word had no value that may be taken back, was at the last attempt, or was
+    /// changed; or `at` is a source whose word had no value, or was not settled where the rollback needs it settled.
+    /// `word` is the word that was loaded or found.
+    Not { at: u32, word: OpWord },
+}
+
+/// What the records of an operation and its settled sources say of it.
+#[derive(Clone, Copy, Debug, PartialEq, Eq)]
+pub enum Verdict {
+    /// It is executed, each record is the settled value of its source, and this is its value.
+    Good(u64),
+    /// It failed, and each record is the settled value of its source.
+    Bad,
+    /// The record at place `j` has the value `kept`, its source the settled value `settled`, and they differ.
+    Stale { j: u8, kept: u64, settled: u64 },
+    /// `at` is a source that is not settled, or the operation, whose word was neither executed nor failed or was
+    /// changed. `word` is the word that was loaded.
+    Unready { at: u32, word: OpWord },
+}
+
+/// What is decided on an event.
+#[derive(Clone, Copy, Debug, PartialEq, Eq)]
+pub enum Decided {
+    Committed,
+    Aborted,
+    /// No operation of the event was bad. The first one that was not good was stale, and `op` is it with its word; or
+    /// `op` and `word` are those of its [`Verdict::Unready`].
+    NotYet { op: u32, word: OpWord },
+}
+
+/// Whether an operation was settled.
+#[derive(Clone, Copy, Debug, PartialEq, Eq)]
+pub enum SettleAnswer {
+    /// It was settled here, with this value.
+    Done(u64),
+    /// `at` is the operation, and its word was claimed or settled, or was changed between load and exchange; or the
+    /// event commits, and it was not executed or a record differed from its source. Or `at` is a source that has to be
+    /// settled, and was not. `word` is the word that was loaded or found.
+    Not { at: u32, word: OpWord },
+}
+
 /// How many operations a hand evaluated, spread and rolled back, with those of the hands joined into it. Each number
 /// stops at the greatest u64.
 #[derive(Clone, Copy, Debug, PartialEq, Eq)]

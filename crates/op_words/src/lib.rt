@@ -12,7 +12,9 @@ mod rule;
 mod trail;
 mod words;
 
-pub use answers::{Claimed, Counts, Fetched, Outcome, Readied};
+pub use answers::{
+    Claimed, Counts, Decided, Fetched, Outcome, Readied, Rolled, SettleAnswer, Spreaded, Verdict,
+};
 pub use board::{Board, Hand};
 pub use closed::Closed;
 pub use places::places_of;

@@ -86,6 +86,60 @@ impl Play<(), Option<View>> for Give {
     ghost then = { gives };
 }
 
+/// A load of a record.
+pub(crate) struct Recall;
+
+impl Play<(), Option<View>> for Recall {
+    ghost use Rattle.op_words.specs.Plays.{recalls};
+
+    ghost then = { recalls };
+}
+
+/// A load of a decision.
+pub(crate) struct Learn;
+
+impl Play<(), Option<View>> for Learn {
+    ghost use Rattle.op_words.specs.Plays.{learns};
+
+    ghost then = { learns };
+}
+
+/// The exchange of no decision for one.
+pub(crate) struct Decide;
+
+impl Play<(), Option<View>> for Decide {
+    ghost use Rattle.op_words.specs.Plays.{decides};
+
+    ghost then = { decides };
+}
+
+/// The exchange of a word for a settled one.
+pub(crate) struct Settle;
+
+impl Play<(), Option<View>> for Settle {
+    ghost use Rattle.op_words.specs.Plays.{settles};
+
+    ghost then = { settles };
+}
+
+/// The exchange of executed to spread.
+pub(crate) struct Spread;
+
+impl Play<(), Option<View>> for Spread {
+    ghost use Rattle.op_words.specs.Plays.{spreads};
+
+    ghost then = { spreads };
+}
+
+/// The exchange of a word with a value to blocked, at the next attempt.
+pub(crate) struct Roll;
+
+impl Play<(), Option<View>> for Roll {
+    ghost use Rattle.op_words.specs.Plays.{rolls};
+
+    ghost then = { rolls };
+}
+
 /// A hand more.
 pub(crate) struct Part;
 

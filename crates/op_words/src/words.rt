@@ -1,17 +1,21 @@
 //! The numbers that stand in the board's row of words.
-ghost use Rattle.std.specs.Prelude.{◌≡◌, ◌≤◌, ◌↔◌, ◌⊎◌, true, false, IfOk, IsTrue, Some};
+ghost use Rattle.std.specs.Prelude.{◌≡◌, ◌≤◌, ◌↔◌, ◌⊎◌, Bool, true, false, IfOk, IsTrue, Option, Some};
 ghost use Rattle.morph_base.specs.declared.limits.TheConstants.{MAX};
 ghost use Rattle.morph_base.specs.declared.word.TheConstants.{ATTEMPTS};
 ghost use Rattle.morph_base.specs.Plans.{IsPlan};
 ghost use Rattle.morph_base.specs.Words.{is_idle, is_settled};
-ghost use Rattle.interleaving_core.specs.Core.{blocked as blocked_at, ready as ready_at, claimed as claimed_at};
-ghost use Rattle.op_words.specs.Layout.{packed_record, AreFirst};
+ghost use Rattle.interleaving_core.specs.declared.entry.Record.{Record};
+ghost use Rattle.interleaving_core.specs.Core.{record_value, blocked as blocked_at, ready as ready_at, claimed as claimed_at};
+ghost use Rattle.op_words.specs.Layout.{packed_record, packed_decision, AreFirst};
 
 use morph_base::{OpState, OpWord, Plan, READS};
 use std::alloc::{AllocError, Global};
 
 /// What the level word has where no level was lowered to: the greatest u32.
 pub(crate) const NO_LEVEL: u64 = 4_294_967_295;
+
+/// The number of values that a record has room for: 2^40, which is above [`MAX`](morph_base::MAX).
+const RECORD_VALUES: u64 = 1_099_511_627_776;
 
 /// The words at the start: each operation is blocked at attempt 1, and nothing is recorded, decided or counted.
 pub(crate) fn first_words(alloc: Global, plan: &Plan, counters: u32) -> Result<Vec<u64>, AllocError>
@@ -92,4 +96,26 @@ pub(crate) fn pack_record(value: u64, attempt: u8) -> u64
     ensures { result ≡ packed_record (Some (record { value = value; attempt = attempt })) }
 {
     ready(attempt).pack() + value
+}
+
+/// The value of a record that is packed so; 0 where there is none.
+pub(crate) fn value_of_record(n: u64) -> u64
+    requires record { (r : Option Record) × (record_value r ≤ MAX) × (n ≡ packed_record r) }
+    ensures { (r : Option Record) → record_value r ≤ MAX → n ≡ packed_record r → result ≡ record_value r }
+{
+    n % RECORD_VALUES
+}
+
+/// The decision that stands as a number: 0 is none, 1 that the event commits, 2 that it aborts.
+pub(crate) fn decision_of(n: u64) -> Option<bool>
+    ensures { (d : Option Bool) → n ≡ packed_decision d → result ≡ d }
+{
+    if n == 0 { None } else { Some(n == 1) }
+}
+
+/// A decision as a number.
+pub(crate) fn pack_decision(committed: bool) -> u64
+    ensures { result ≡ packed_decision (Some committed) }
+{
+    if committed { 1 } else { 2 }
 }

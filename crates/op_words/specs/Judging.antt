@@ -1,0 +1,142 @@
+-- What the calls tell that judge an operation, decide on its event and settle it.
+use Rattle.std.specs.Prelude.{◌≡◌, ◌≢◌, ℕ, ◌+◌, ◌≤◌, ◌<◌, ◌⊎◌, Bool, true, false, List, [], ◌∷◌, Contains, Some, None}
+use Rattle.morph_base.specs.declared.plan.Plan.{Plan}
+use Rattle.morph_base.specs.declared.word.OpState.TheVariants.{Claimed, Executed, Failed, Spread}
+use Rattle.morph_base.specs.declared.word.OpWord.{OpWord}
+use Rattle.morph_base.specs.Plans.{event_of, origin_at, final, verdict, InEvent}
+use Rattle.morph_base.specs.Clean.{outcome}
+use Rattle.morph_base.specs.Words.{is_settled}
+use Rattle.interleaving_core.specs.Core.{has_run, places}
+use Rattle.op_words.specs.declared.answers.Verdict.{Verdict}
+use Rattle.op_words.specs.declared.answers.Verdict.TheVariants.{Good, Bad, Stale, Unready}
+use Rattle.op_words.specs.declared.answers.Decided.{Decided}
+use Rattle.op_words.specs.declared.answers.Decided.TheVariants.{Committed, Aborted, NotYet as Undecided}
+use Rattle.op_words.specs.declared.answers.SettleAnswer.{SettleAnswer}
+use Rattle.op_words.specs.declared.answers.SettleAnswer.TheVariants.{Done as HasSettledIt, Not as Unsettled}
+use Rattle.op_words.specs.declared.trail.Item.{Item}
+use Rattle.op_words.specs.declared.trail.View.{View}
+use Rattle.op_words.specs.Trails.{loaded, left, HasLast, IsDisturbed, OwnOn, NoneOwn}
+use Rattle.op_words.specs.Views.{IsDecisionSeen, IsJudged, IsRecordSeen, IsSettledSeen, Goes}
+use Rattle.op_words.specs.Calls.{IsSettledRead, IsSourceOpen}
+
+module _ (p : Plan) (cap o : ℕ) (v u : View) (xs : List Item) where
+  -- under the word that the operation has, which is below the last attempt, a record differs from the settled value of its source
+  pub record IsStaleAt (w : OpWord) (j kept value : ℕ) : Type 0 where
+    pub last : HasLast o xs w
+    pub seen : Contains xs (loaded o w)
+    pub ran : has_run w.state ≡ true
+    pub in_places : j < places p o
+    pub below : w.attempt ≤ cap
+    pub source : IsSettledRead xs (origin_at p o j) value
+    pub differs : kept ≢ value
+    pub kept_is : IsRecordSeen u o j w kept
+    pub alike : (x : ℕ) → IsRecordSeen v o j w x → x ≡ kept
+
+  -- at some place
+  pub record IsStaleWord (w : OpWord) : Type 0 where
+    pub place : ℕ
+    pub kept : ℕ
+    pub value : ℕ
+    pub stale : IsStaleAt w place kept value
+
+  -- good: it is executed, each record is the settled value of its source, and on these values its function gives x
+  pub record IsGood (x : ℕ) : Type 0 where
+    pub word : OpWord
+    pub last : HasLast o xs word
+    pub state_is : word.state ≡ Executed
+    pub judged : IsJudged p u o word
+    pub value_is : word.value ≡ x
+    pub answer : outcome p (final p) o ≡ Some x
+
+  -- bad: it failed, each record is the settled value of its source, and on these values its function gives nothing
+  pub record IsBad : Type 0 where
+    pub word : OpWord
+    pub last : HasLast o xs word
+    pub state_is : word.state ≡ Failed
+    pub judged : IsJudged p u o word
+    pub answer : outcome p (final p) o ≡ None
+
+  pub record IsStale (j kept value : ℕ) : Type 0 where
+    pub word : OpWord
+    pub stale : IsStaleAt word j kept value
+
+  -- unready: its own word is neither executed nor failed, or it changed
+  pub record IsOwnUnready (w : OpWord) : Type 0 where
+    pub last : HasLast o xs w
+    pub seen : Contains xs (loaded o w)
+    pub cause : (has_run w.state ≡ false) ⊎ IsDisturbed o xs
+    pub spread : w.state ≡ Spread → w.attempt ≤ cap
+
+  abbrev pub VerdictTells : Verdict → Type 0
+  VerdictTells (Good x) = IsGood x
+  VerdictTells Bad = IsBad
+  VerdictTells (Stale j kept value) = IsStale j kept value
+  VerdictTells (Unready at w) = ((at ≡ o) × IsOwnUnready w) ⊎ ((at ≢ o) × IsSourceOpen p cap o v u xs at w)
+
+  -- settled with the fold's value, at the attempt of the word that was loaded first
+  pub record IsDone (x : ℕ) : Type 0 where
+    pub first : OpWord
+    pub rest : List Item
+    pub begins : xs ≡ loaded o first ∷ rest
+    pub word : OpWord
+    pub inside : Contains xs (left o word)
+    pub last : HasLast o xs word
+    pub settled : is_settled word.state ≡ true
+    pub mine : word.by ≡ v.tag
+    pub kept : word.attempt ≡ first.attempt
+    pub value_is : word.value ≡ x
+    pub fold : x ≡ final p o
+    pub booked : Contains u.settlings (record { op = o; by = v.tag })
+
+  -- not: its own word is claimed or settled, or it changed; or its event commits, and it is not executed or a record is stale
+  pub record IsOwnUnsettled (w : OpWord) : Type 0 where
+    pub last : HasLast o xs w
+    pub seen : Contains xs (loaded o w)
+    pub none : NoneOwn xs
+    pub cause :
+        ((w.state ≡ Claimed) ⊎ (is_settled w.state ≡ true))
+        ⊎ (IsDisturbed o xs ⊎ ((verdict p (event_of p o) ≡ true) × ((w.state ≢ Executed) ⊎ IsStaleWord w)))
+
+  abbrev pub SettleTells : SettleAnswer → Type 0
+  SettleTells (HasSettledIt x) = IsDone x
+  SettleTells (Unsettled at w) = ((at ≡ o) × IsOwnUnsettled w) ⊎ ((at ≢ o) × IsSourceOpen p cap o v u xs at w)
+
+module _ (p : Plan) (cap i : ℕ) (v u : View) (xs : List Item) where
+  -- committed or aborted as the fold does, and the hand knows it
+  pub record IsDecided (committed : Bool) : Type 0 where
+    pub right : verdict p i ≡ committed
+    pub known : IsDecisionSeen u i committed
+
+  -- no decision: no operation of the event had been seen settled, one of them is not ready or stale, and none is bad
+  pub record IsUndecided (at : ℕ) (w : OpWord) : Type 0 where
+    pub culprit : ℕ
+    pub inside : InEvent p i culprit
+    pub none_settled : (o : ℕ) → InEvent p i o → IsSettledSeen v o → ⊥
+    pub cause : ((at ≡ culprit) × (IsOwnUnready p cap culprit v u xs w ⊎ IsStaleWord p cap culprit v u xs w)) ⊎ IsSourceOpen p cap culprit v u xs at w
+
+  abbrev pub DecideTells : Decided → Type 0
+  DecideTells Committed = IsDecided true
+  DecideTells Aborted = IsDecided false
+  DecideTells (Undecided at w) = IsUndecided at w
+
+-- ---- the calls, with what they add
+
+module _ (p : Plan) (cap o : ℕ) (v u : View) where
+  pub record VerdictDoes (r : Verdict) : Type 0 where
+    pub words : List Item
+    pub goes : Goes v u words
+    pub none : NoneOwn words
+    pub tells : VerdictTells p cap o v u words r
+
+  pub record SettleDoes (r : SettleAnswer) : Type 0 where
+    pub words : List Item
+    pub goes : Goes v u words
+    pub own : OwnOn o words
+    pub tells : SettleTells p cap o v u words r
+
+-- of an event
+pub record DecideDoes (p : Plan) (cap i : ℕ) (v u : View) (r : Decided) : Type 0 where
+  pub words : List Item
+  pub goes : Goes v u words
+  pub none : NoneOwn words
+  pub tells : DecideTells p cap i v u words r

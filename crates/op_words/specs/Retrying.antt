@@ -1,0 +1,109 @@
+-- What the calls that take a value back tell: a failure is spread to another operation of its event, and an operation is rolled
+-- back to its next attempt.
+use Rattle.std.specs.Prelude.{◌≡◌, ◌≢◌, ℕ, ◌+◌, ◌≤◌, ◌<◌, ◌⊎◌, true, false, List, [], ◌∷◌, ◌++◌, Contains, Some, None}
+use Rattle.morph_base.specs.declared.plan.Plan.{Plan}
+use Rattle.morph_base.specs.declared.word.OpState.TheVariants.{Executed, Spread as IsSpreadState}
+use Rattle.morph_base.specs.declared.word.OpWord.{OpWord}
+use Rattle.morph_base.specs.Plans.{op_count, event_of, origin_at}
+use Rattle.morph_base.specs.Words.{is_evaluated, is_idle, is_settled}
+use Rattle.interleaving_core.specs.Core.{blocked, spread, entry_of, places}
+use Rattle.interleaving_core.specs.Counts.{spreads, rolled}
+use Rattle.op_words.specs.declared.answers.Rolled.{Rolled}
+use Rattle.op_words.specs.declared.answers.Rolled.TheVariants.{Done as HasRolled, Fresh, Not as Unrolled}
+use Rattle.op_words.specs.declared.answers.Spreaded.{Spreaded}
+use Rattle.op_words.specs.declared.answers.Spreaded.TheVariants.{Done as HasSpread, Not as Unspread}
+use Rattle.op_words.specs.declared.trail.Item.{Item}
+use Rattle.op_words.specs.declared.trail.View.{View}
+use Rattle.op_words.specs.Trails.{loaded, left, HasLast, IsDisturbed, IsSourceOf, OwnOn, OwnOpen, NoneOwn}
+use Rattle.op_words.specs.Views.{HasShownFailure, IsRecordSeen, IsSourceSeen, Goes}
+use Rattle.op_words.specs.Calls.{IsRead, IsSourceOpen}
+
+-- a failure of the sibling may be spread to operation o: they are two of one event, and the hand showed the failure
+pub record IsSpreadFrom (p : Plan) (o sibling : ℕ) (v : View) : Type 0 where
+  pub in_range : sibling < op_count p
+  pub another : sibling ≢ o
+  pub same_event : event_of p sibling ≡ event_of p o
+  pub failure : HasShownFailure v sibling
+
+module _ (p : Plan) (cap o : ℕ) (v u : View) (xs : List Item) where
+  -- spread: it was found executed below the cap, and then left with its target's record, at the next attempt
+  pub record IsSpread : Type 0 where
+    pub first : OpWord
+    pub seen : Contains xs (loaded o first)
+    pub executed : first.state ≡ Executed
+    pub below : first.attempt < cap
+    pub value : ℕ
+    pub record_is : IsRecordSeen u o 0 first value
+    pub last : HasLast o xs (spread (first.attempt + 1) value)
+    pub inside : Contains xs (left o (spread (first.attempt + 1) value))
+    pub shown : Contains u.published (entry_of o (spread (first.attempt + 1) value))
+    pub counted : spreads u.events ≡ spreads v.events + 1
+
+  -- not: its word is not executed, or not below the cap, or it changed
+  pub record IsUnspread (w : OpWord) : Type 0 where
+    pub last : HasLast o xs w
+    pub seen : Contains xs (loaded o w)
+    pub none : NoneOwn xs
+    pub cause : (w.state ≢ Executed) ⊎ ((cap ≤ w.attempt) ⊎ IsDisturbed o xs)
+
+  abbrev pub SpreadTells : Spreaded → Type 0
+  SpreadTells HasSpread = IsSpread
+  SpreadTells (Unspread w) = IsUnspread w
+
+  -- rolled back: it was found with a value that may be taken back, before the last attempt, and then left blocked at the next
+  pub record IsRolled : Type 0 where
+    pub first : OpWord
+    pub seen : Contains xs (loaded o first)
+    pub evaluated : is_evaluated first.state ≡ true
+    pub below : first.attempt ≤ cap
+    pub last : HasLast o xs (blocked (first.attempt + 1))
+    pub inside : Contains xs (left o (blocked (first.attempt + 1)))
+    pub counted : rolled u.events ≡ rolled v.events + 1
+
+  -- fresh: under its present word, which is not spread, the record at place j has the value of its source, as it was loaded here
+  pub record IsUpToDate (j x : ℕ) : Type 0 where
+    pub word : OpWord
+    pub last : HasLast o xs word
+    pub none : NoneOwn xs
+    pub evaluated : is_evaluated word.state ≡ true
+    pub not_spread : word.state ≢ IsSpreadState
+    pub read : IsRead xs (origin_at p o j) x
+    pub recorded : IsRecordSeen u o j word x
+    -- so is each record of it that was seen under this word, and each settled value of the source
+    pub record_is : (y : ℕ) → IsRecordSeen v o j word y → y ≡ x
+    pub source_is : (y : ℕ) → IsSourceSeen v (origin_at p o j) y → y ≡ x
+
+  -- not: its own word has no value that may be taken back, or is at the last attempt, or it changed
+  pub record IsOwnUnrolled (w : OpWord) : Type 0 where
+    pub last : HasLast o xs w
+    pub seen : Contains xs (loaded o w)
+    pub none : NoneOwn xs
+    pub cause : (is_evaluated w.state ≡ false) ⊎ ((w.attempt ≡ cap + 1) ⊎ IsDisturbed o xs)
+
+  -- or a source has no value, or is not settled where the operation is at the cap or spread
+  pub record IsSourceUnrolled (at : ℕ) (w : OpWord) : Type 0 where
+    pub source_open : IsSourceOpen p cap o v u xs at w
+    pub none : NoneOwn xs
+    pub cause : (is_idle w.state ≡ true) ⊎ ((source_open.own.attempt ≡ cap) ⊎ (source_open.own.state ≡ IsSpreadState))
+
+  abbrev pub RollTells : ℕ → Rolled → Type 0
+  RollTells j HasRolled = IsRolled
+  RollTells j (Fresh x) = IsUpToDate j x
+  RollTells j (Unrolled at w) = ((at ≡ o) × IsOwnUnrolled w) ⊎ ((at ≢ o) × IsSourceUnrolled at w)
+
+-- ---- the calls, with what they add
+
+module _ (p : Plan) (cap o : ℕ) (v u : View) where
+  pub record SpreadDoes (r : Spreaded) : Type 0 where
+    pub words : List Item
+    pub goes : Goes v u words
+    pub own : OwnOn o words
+    pub open_own : OwnOpen words
+    pub tells : SpreadTells p cap o v u words r
+
+  pub record RollDoes (j : ℕ) (r : Rolled) : Type 0 where
+    pub words : List Item
+    pub goes : Goes v u words
+    pub own : OwnOn o words
+    pub open_own : OwnOpen words
+    pub tells : RollTells p cap o v u words j r

@@ -1,0 +1,48 @@
+//! Values are taken back: by the failure of another operation of the event, or for a source that changed.
+ghost use Rattle.std.specs.Prelude.{◌≡◌, ◌<◌, None};
+ghost use Rattle.morph_base.specs.Plans.{op_count};
+ghost use Rattle.interleaving_core.specs.Core.{places};
+ghost use Rattle.op_words.specs.Retrying.{IsSpreadFrom, SpreadDoes, RollDoes};
+ghost use Rattle.op_words.specs.Hands.{plan_of, cap_of, view_of, IsHandOf};
+
+use super::{Board, Hand};
+use crate::answers::{Rolled, Spreaded};
+use morph_base::Plan;
+
+impl Board {
+    /// Spreads the failure of `sibling`, which the hand showed, to another operation of its event: executed below the
+    /// cap, it gets its target's record as value, at its next attempt.
+    ///
+    /// It loads the operation's word, its first record, and the word of the sibling. Last comes the exchange.
+    pub fn spread(&self, hand: &mut Hand, plan: &Plan, op: u32, sibling: u32) -> Spreaded
+        requires hand { IsHandOf self.now hand.old }
+        requires plan { plan.now ≡ plan_of self.now }
+        requires in_range { op < op_count plan.now }
+        requires sibling { IsSpreadFrom plan.now op sibling (view_of hand.old) }
+        requires free { (view_of hand.old).claim ≡ None }
+        ensures hand { IsHandOf self.now hand.new }
+        ensures does { SpreadDoes plan.now (cap_of self.now) op (view_of hand.old) (view_of hand.new) result }
+    {
+        Spreaded::Done
+    }
+
+    /// Rolls an operation back to its next attempt, where the record at place `j` is not the value of its source, or
+    /// its word is spread.
+    ///
+    /// Below the cap any value of the source that differs from the record is enough. At the cap all sources have to be
+    /// settled; so they have for a spread word whose record is right.
+    ///
+    /// It loads the operation's word, the source's, and the record; then, where they have to be settled, the words of
+    /// all sources. Last comes the exchange, or, before it says that the record is right, the operation's word again.
+    pub fn roll_back(&self, hand: &mut Hand, plan: &Plan, op: u32, j: u8) -> Rolled
+        requires hand { IsHandOf self.now hand.old }
+        requires plan { plan.now ≡ plan_of self.now }
+        requires in_range { op < op_count plan.now }
+        requires in_places { j < places plan.now op }
+        requires free { (view_of hand.old).claim ≡ None }
+        ensures hand { IsHandOf self.now hand.new }
+        ensures does { RollDoes plan.now (cap_of self.now) op (view_of hand.old) (view_of hand.new) j result }
+    {
+        Rolled::Done
+    }
+}

@@ -16,6 +16,8 @@ pub mod Claiming
 pub mod Seeking
 pub mod Making
 pub mod Walking
+pub mod Comparing
+pub mod Judging
 pub mod Finishing
 pub mod Keeping
 pub mod Storing

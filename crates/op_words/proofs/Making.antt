@@ -98,10 +98,10 @@ last_else o xs ys w last elsewhere = record { is = λ d. last-append o d xs ys �
 pub found_disturbed : (o : ℕ) (xs : List Item) (known found : OpWord) → HasLast o xs known → found ≢ known → IsDisturbed o (xs ++ loaded o found ∷ [])
 found_disturbed o xs known found last differs = record { before = xs; known = known; found = found; rest = []; split = refl; last = last; differs = λ same. differs (sym same) }
 
-none_elsewhere : (o : ℕ) (xs : List Item) → Elsewhere o xs → NoneOwn xs
+pub none_elsewhere : (o : ℕ) (xs : List Item) → Elsewhere o xs → NoneOwn xs
 none_elsewhere o xs elsewhere t inside = (elsewhere t inside).0
 
-none_then : (xs ys : List Item) → NoneOwn xs → NoneOwn ys → NoneOwn (xs ++ ys)
+pub none_then : (xs ys : List Item) → NoneOwn xs → NoneOwn ys → NoneOwn (xs ++ ys)
 none_then xs ys first second t inside =
     elim (Contains-append_cases xs ys t inside) [
       | inl here ↦ first t here

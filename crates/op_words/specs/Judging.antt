@@ -1,12 +1,12 @@
 -- What the calls tell that judge an operation, decide on its event and settle it.
-use Rattle.std.specs.Prelude.{◌≡◌, ◌≢◌, ℕ, ◌+◌, ◌≤◌, ◌<◌, ◌⊎◌, Bool, true, false, List, [], ◌∷◌, Contains, Some, None}
+use Rattle.std.specs.Prelude.{◌≡◌, ◌≢◌, ℕ, ◌+◌, ◌≤◌, ◌<◌, ◌⊎◌, Bool, true, false, List, [], ◌∷◌, Contains, Some, None, if◌then◌else◌}
 use Rattle.morph_base.specs.declared.plan.Plan.{Plan}
 use Rattle.morph_base.specs.declared.word.OpState.TheVariants.{Claimed, Executed, Failed, Spread}
 use Rattle.morph_base.specs.declared.word.OpWord.{OpWord}
 use Rattle.morph_base.specs.Plans.{event_of, origin_at, final, verdict, InEvent}
 use Rattle.morph_base.specs.Clean.{outcome}
 use Rattle.morph_base.specs.Words.{is_settled}
-use Rattle.interleaving_core.specs.Core.{has_run, places}
+use Rattle.interleaving_core.specs.Core.{has_run, is_failed, places}
 use Rattle.op_words.specs.declared.answers.Verdict.{Verdict}
 use Rattle.op_words.specs.declared.answers.Verdict.TheVariants.{Good, Bad, Stale, Unready}
 use Rattle.op_words.specs.declared.answers.Decided.{Decided}
@@ -18,6 +18,10 @@ use Rattle.op_words.specs.declared.trail.View.{View}
 use Rattle.op_words.specs.Trails.{loaded, left, HasLast, IsDisturbed, OwnOn, NoneOwn}
 use Rattle.op_words.specs.Views.{IsDecisionSeen, IsJudged, IsRecordSeen, IsSettledSeen, Goes}
 use Rattle.op_words.specs.Calls.{IsSettledRead, IsSourceOpen}
+
+-- what an operation with this word, executed or failed, is worth on records that are right
+abbrev pub verdict_of : OpWord → Verdict
+verdict_of w = if is_failed w.state then Bad else Good w.value
 
 module _ (p : Plan) (cap o : ℕ) (v u : View) (xs : List Item) where
   -- under the word that the operation has, which is below the last attempt, a record differs from the settled value of its source

@@ -1,5 +1,6 @@
 ghost use Rattle.std.specs.Prelude.{◌≡◌, ◌+◌, ◌-◌, ◌^◌, min};
 ghost use Rattle.op_words.specs.Calls.{answer_of};
+ghost use Rattle.op_words.specs.Judging.{verdict_of};
 
 use morph_base::OpWord;
 
@@ -115,6 +116,17 @@ pub(crate) struct Stop {
     pub(crate) word: OpWord,
 }
 
+/// The records of an operation beside its sources.
+#[derive(Clone, Copy, Debug, PartialEq, Eq)]
+pub(crate) enum Compared {
+    /// All sources are settled, and each record is the value of its source.
+    Equal,
+    /// A source is not settled.
+    Open(Stop),
+    /// The record at place `j` has the value `kept`, its source the settled value `settled`, and they differ.
+    Differs { j: u8, kept: u64, settled: u64 },
+}
+
 impl Outcome {
     /// That of an operation with this answer of its function.
     pub(crate) fn of(answer: Option<u64>) -> Outcome
@@ -123,6 +135,19 @@ impl Outcome {
         match answer {
             Some(value) => Outcome::Executed(value),
             None => Outcome::Failed,
+        }
+    }
+}
+
+impl Verdict {
+    /// That of an operation with this word, executed or failed, whose records are the values of its sources.
+    pub(crate) fn of(word: OpWord) -> Verdict
+        ensures { result ≡ verdict_of word }
+    {
+        if word.state.is_failed() {
+            Verdict::Bad
+        } else {
+            Verdict::Good(word.value)
         }
     }
 }

@@ -3,7 +3,7 @@ ghost use Rattle.std.specs.Prelude.{◌≡◌, ◌≤◌, ◌↔◌, ◌⊎◌, 
 ghost use Rattle.morph_base.specs.declared.limits.TheConstants.{MAX};
 ghost use Rattle.morph_base.specs.declared.word.TheConstants.{ATTEMPTS};
 ghost use Rattle.morph_base.specs.Plans.{IsPlan};
-ghost use Rattle.morph_base.specs.Words.{is_idle, is_settled};
+ghost use Rattle.morph_base.specs.Words.{is_idle, is_settled, has_run as is_run};
 ghost use Rattle.interleaving_core.specs.declared.entry.Record.{Record};
 ghost use Rattle.interleaving_core.specs.Core.{record_value, blocked as blocked_at, ready as ready_at, claimed as claimed_at};
 ghost use Rattle.op_words.specs.Layout.{packed_record, packed_decision, AreFirst};
@@ -38,6 +38,20 @@ pub(crate) fn is_in(word: OpWord, state: OpState) -> bool
     ensures { IsTrue result ↔ (word.state ≡ state) }
 {
     word.state == state
+}
+
+/// Whether two words are one.
+pub(crate) fn is_same(word: OpWord, other: OpWord) -> bool
+    ensures { IsTrue result ↔ (word ≡ other) }
+{
+    word == other
+}
+
+/// Whether an operation's function was run: it is executed or failed.
+pub(crate) fn has_run(word: OpWord) -> bool
+    ensures { result ≡ is_run word.state }
+{
+    matches!(word.state, OpState::Executed | OpState::Failed)
 }
 
 /// Whether the value of a word may be read: there is one, and at the last attempt it is settled.

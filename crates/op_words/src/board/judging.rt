@@ -1,15 +1,23 @@
-//! Operations are judged by their records and their settled sources.
-ghost use Rattle.std.specs.Prelude.{◌≡◌, ◌<◌, None};
-ghost use Rattle.morph_base.specs.Plans.{op_count};
+//! Operations are judged by their records and their settled sources, and events are decided by their operations.
+ghost use Rattle.std.specs.Prelude.{◌≡◌, ◌+◌, ◌<◌, None};
+ghost use Rattle.morph_base.specs.Plans.{op_count, event_count, event_at};
+ghost use Rattle.interleaving_core.specs.Core.{places};
 ghost use Rattle.op_words.specs.Judging.{VerdictDoes};
+ghost use Rattle.op_words.specs.Comparing.{IsLoadedAt, IsComparedAt, IsCompared, IsConfirmed, IsJudgedAs, IsWeighed, HasGrounds};
 ghost use Rattle.op_words.specs.Hands.{plan_of, cap_of, view_of, IsHandOf};
 
 use super::{Board, Hand};
-use crate::answers::Verdict;
-use morph_base::Plan;
+use crate::answers::{Compared, Decided, Stop, Verdict};
+use crate::places::{origin_of, places_of};
+use crate::words::{has_run, is_same};
+use morph_base::{OpWord, Origin, Plan};
 
 impl Board {
-    /// Judges.
+    /// Judges an operation by its records: what they are worth once its sources are settled.
+    ///
+    /// It loads the operation's word, then, place by place and as long as nothing stops it, the source's word and the
+    /// record, and then the operation's word again. Values are rolled back and come again between these loads; two
+    /// equal words mean that the records were those of that word all the time.
     pub fn verdict(&self, hand: &mut Hand, plan: &Plan, op: u32) -> Verdict
         requires hand { IsHandOf self.now hand.old }
         requires plan { plan.now ≡ plan_of self.now }
@@ -18,6 +26,109 @@ impl Board {
         ensures hand { IsHandOf self.now hand.new }
         ensures does { VerdictDoes plan.now (cap_of self.now) op (view_of hand.old) (view_of hand.new) result }
     {
-        Verdict::Bad
+        let (_, verdict) = self.judge(hand, plan, op);
+        verdict
+    }
+
+    /// The verdict on an operation, and the word of it that was loaded last.
+    fn judge(&self, hand: &mut Hand, plan: &Plan, op: u32) -> (OpWord, Verdict)
+        requires hand { IsHandOf self.now hand.old }
+        requires plan { plan.now ≡ plan_of self.now }
+        requires in_range { op < op_count plan.now }
+        requires free { (view_of hand.old).claim ≡ None }
+        ensures { IsJudgedAs self.now plan.now (cap_of self.now) op hand.old hand.new result.0 result.1 }
+    {
+        let first = self.look(hand, op);
+        if !has_run(first) {
+            return (first, Verdict::Unready { at: op, word: first });
+        }
+        match self.compare(hand, plan, op) {
+            Compared::Equal => self.confirm(hand, op, first, Verdict::of(first)),
+            Compared::Differs { j, kept, settled } => {
+                self.confirm(hand, op, first, Verdict::Stale { j, kept, settled })
+            }
+            Compared::Open(stop) => (
+                first,
+                Verdict::Unready {
+                    at: stop.source,
+                    word: stop.word,
+                },
+            ),
+        }
+    }
+
+    /// Loads the operation's word again: the verdict stands where it is the word that was loaded first.
+    fn confirm(&self, hand: &mut Hand, op: u32, first: OpWord, verdict: Verdict) -> (OpWord, Verdict)
+        requires hand { IsHandOf self.now hand.old }
+        requires in_range { op < op_count (plan_of self.now) }
+        ensures { IsConfirmed self.now op hand.old hand.new first verdict result.0 result.1 }
+    {
+        let word = self.look(hand, op);
+        if is_same(word, first) {
+            (word, verdict)
+        } else {
+            (word, Verdict::Unready { at: op, word })
+        }
+    }
+
+    /// Compares the records of an operation with its sources, place by place, up to the first source that is not
+    /// settled or record that differs.
+    pub(super) fn compare(&self, hand: &mut Hand, plan: &Plan, op: u32) -> Compared
+        requires hand { IsHandOf self.now hand.old }
+        requires plan { plan.now ≡ plan_of self.now }
+        requires in_range { op < op_count plan.now }
+        requires free { (view_of hand.old).claim ≡ None }
+        ensures { IsCompared self.now plan.now op hand.old hand.new result }
+    {
+        for j in 0..places_of(plan, op) {
+            let compared = self.compare_at(hand, plan, op, j);
+            let Compared::Equal = compared else {
+                return compared;
+            };
+        }
+        Compared::Equal
+    }
+
+    /// The source's word comes first, then the record.
+    fn compare_at(&self, hand: &mut Hand, plan: &Plan, op: u32, j: u8) -> Compared
+        requires hand { IsHandOf self.now hand.old }
+        requires plan { plan.now ≡ plan_of self.now }
+        requires in_range { op < op_count plan.now }
+        requires in_places { j < places plan.now op }
+        requires free { (view_of hand.old).claim ≡ None }
+        ensures { IsComparedAt self.now plan.now op j hand.old hand.new result }
+    {
+        let settled = match self.settled_source(hand, plan, op, j) {
+            Ok(value) => value,
+            Err(stop) => return Compared::Open(stop),
+        };
+        let kept = self.recall(hand, plan, op, j);
+        if kept == settled {
+            Compared::Equal
+        } else {
+            Compared::Differs { j, kept, settled }
+        }
+    }
+
+    /// The settled value of the source at a place; the source with its word, where it is not settled.
+    pub(super) fn settled_source(&self, hand: &mut Hand, plan: &Plan, op: u32, j: u8) -> Result<u64, Stop>
+        requires hand { IsHandOf self.now hand.old }
+        requires plan { plan.now ≡ plan_of self.now }
+        requires in_range { op < op_count plan.now }
+        requires in_places { j < places plan.now op }
+        requires free { (view_of hand.old).claim ≡ None }
+        ensures { IsLoadedAt self.now plan.now op j hand.old hand.new result }
+    {
+        match origin_of(plan, op, j) {
+            Origin::Base(value) => Ok(value),
+            Origin::Op(source) => {
+                let word = self.look(hand, source);
+                if word.state.is_settled() {
+                    Ok(word.value)
+                } else {
+                    Err(Stop { source, word })
+                }
+            }
+        }
     }
 }

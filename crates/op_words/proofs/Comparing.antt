@@ -1,0 +1,186 @@
+-- An operation's records are compared with its settled sources.
+use Rattle.std.proofs.Common.{◌≡◌, ◌≢◌, ◌⊎◌, ℕ, suc, suc-le-suc, ◌+◌, ◌<◌, ◌≤◌, Bool, true, false, List, [], ◌∷◌, ◌++◌, refl, sym, ap, ◌∙◌, subst, inl, inr, arith, Option, Some, None, Result, Ok, Err}
+use Rattle.std.specs.Prelude.{Contains}
+use Rattle.std.proofs.lemmas.Bool.{cases_lt}
+use Rattle.std.proofs.lemmas.List.Elements.{Contains-append_left, Contains-append_right, Contains-append_cases}
+use Rattle.morph_base.specs.declared.plan.Plan.{Plan}
+use Rattle.morph_base.specs.declared.plan.Origin.{Origin}
+use Rattle.morph_base.specs.declared.plan.Origin.TheVariants.{Base, Op as Written}
+use Rattle.morph_base.specs.declared.word.OpWord.{OpWord}
+use Rattle.morph_base.specs.Clean.{from, source}
+use Rattle.morph_base.specs.Plans.{IsPlan, op_count, origin_at, final}
+use Rattle.morph_base.specs.Words.{is_settled}
+use Rattle.interleaving_core.specs.Core.{places}
+use Rattle.op_words.specs.declared.answers.Compared.{Compared}
+use Rattle.op_words.specs.declared.answers.Compared.TheVariants.{Equal, Open, Differs}
+use Rattle.op_words.specs.declared.answers.Stop.{Stop}
+use Rattle.op_words.specs.declared.board.Board.{Board}
+use Rattle.op_words.specs.declared.board.Hand.{Hand}
+use Rattle.op_words.specs.declared.trail.Item.{Item}
+use Rattle.op_words.specs.declared.trail.View.{View}
+use Rattle.op_words.specs.Trails.{loaded, IsSourceOf}
+use Rattle.op_words.specs.Views.{IsApart, IsSourceSeen, IsRecordSeen, IsDecisionSeen, Adds}
+use Rattle.op_words.specs.Calls.{IsSettledRead}
+use Rattle.op_words.specs.Hands.{plan_of, view_of, IsHandOf}
+use Rattle.op_words.specs.Stepping.{Looked, Recalled, IsWalk}
+use Rattle.op_words.specs.Comparing.{OfSources, IsSourceRight, IsOpenAt, IsLoadedAt, IsEqualAt, IsOtherAt, IsNotedLast, PlaceTells, IsComparedAt, IsComparedUpTo, IsStoppedAt, AllTells, IsCompared}
+use Rattle.op_words.proofs.Rows.{not_inside, one_inside}
+use Rattle.op_words.proofs.Seeking.{source_other}
+use Rattle.op_words.proofs.Walking.{walk_none, walk_then, walk_look, walk_recall, walk_last, recalled_seen}
+
+-- ---- what was loaded and seen stays
+
+pub read_left : (xs ys : List Item) (q : Origin) (x : ℕ) → IsSettledRead xs q x → IsSettledRead (xs ++ ys) q x
+read_left xs ys (Base b) x is = is
+read_left xs ys (Written s) x is = (is.0, Contains-append_left xs ys (loaded s is.0) is.1, is.2, is.3)
+
+pub read_right : (xs ys : List Item) (q : Origin) (x : ℕ) → IsSettledRead ys q x → IsSettledRead (xs ++ ys) q x
+read_right xs ys (Base b) x is = is
+read_right xs ys (Written s) x is = (is.0, Contains-append_right xs ys (loaded s is.0) is.1, is.2, is.3)
+
+module _ {v u : View} {xs : List Item} (adds : Adds v u xs) where
+  pub noted_more : (t : Item) → Contains v.notes t → Contains u.notes t
+  noted_more t inside = subst (λ ts. Contains ts t) (sym adds.notes) (Contains-append_left v.notes xs t inside)
+
+  pub seen_more : (q : Origin) (x : ℕ) → IsSourceSeen v q x → IsSourceSeen u q x
+  seen_more (Base b) x is = is
+  seen_more (Written s) x is = record {
+    seen = record { note = is.seen.note; inside = noted_more is.seen.note is.seen.inside; op_is = is.seen.op_is; settled = is.seen.settled };
+    value_is = is.value_is;
+  }
+
+  pub equal_more : (p : Plan) (o : ℕ) (w : OpWord) (j : ℕ) → IsEqualAt p o w v j → IsEqualAt p o w u j
+  equal_more p o w j is = record { seen = seen_more (origin_at p o j) (source p (final p) o j) is.seen; recorded = adds.records _ is.recorded }
+
+pub sources_then : (p : Plan) (o : ℕ) (xs ys : List Item) → OfSources p o xs → OfSources p o ys → OfSources p o (xs ++ ys)
+sources_then p o xs ys first second t inside =
+    elim (Contains-append_cases xs ys t inside) [
+      | inl here ↦ first t here
+      | inr later ↦ second t later
+    ]
+
+sources_none : (p : Plan) (o : ℕ) → OfSources p o []
+sources_none p o t inside = absurd (not_inside t inside)
+
+-- ---- one place
+
+module _ (b : Board) (p : Plan) (o j : ℕ) where
+  pub loaded_base : (h : Hand) (x : ℕ) → IsHandOf b h → origin_at p o j ≡ Base x → IsLoadedAt b p o j h h (Ok x)
+  loaded_base h x is base = record {
+    words = [];
+    walk = walk_none b o h is;
+    sources = sources_none p o;
+    tells = record {
+      read = subst (λ q. IsSettledRead [] q x) (sym base) refl;
+      seen = subst (λ q. IsSourceSeen (view_of h) q x) (sym base) refl;
+      fold = sym (ap (from (final p)) base);
+    };
+  }
+
+  module _ (h g : Hand) (s : ℕ) (w : OpWord) (hand : IsHandOf b h) (plan : p ≡ plan_of b) (lt : j < places p o) (other : s ≢ o) (apart : IsApart (view_of h) s) (is : origin_at p o j ≡ Written s) (did : Looked b s h g w) where
+    of_source : OfSources p o (loaded s w ∷ [])
+    of_source t inside = record { place = j; in_places = lt; source_is = is ∙ ap (λ (x : Item). Written x.op) (one_inside (loaded s w) t inside) }
+
+    pub loaded_settled : is_settled w.state ≡ true → IsLoadedAt b p o j h g (Ok w.value)
+    loaded_settled settled = record {
+      words = loaded s w ∷ [];
+      walk = walk_look b o s other apart did;
+      sources = of_source;
+      tells = record {
+        read = subst (λ q. IsSettledRead (loaded s w ∷ []) q w.value) (sym is) (w, (0, omega arith, refl), settled, refl);
+        seen = subst (λ q. IsSourceSeen (view_of g) q w.value) (sym is)
+            (record {
+              seen = record { note = loaded s w; inside = subst (λ (v : View). Contains v.notes (loaded s w)) (sym did.view) (Contains-append_right (view_of h).notes (loaded s w ∷ []) (loaded s w) (0, omega arith, refl)); op_is = refl; settled = settled };
+              value_is = refl;
+            });
+        fold = did.tells.sight.settled settled ∙ ap (λ (q : Plan). final q s) (hand.plan ∙ sym plan) ∙ sym (ap (from (final p)) is);
+      };
+    }
+
+    pub loaded_open : is_settled w.state ≡ false → IsLoadedAt b p o j h g (Err (record { source = s; word = w }))
+    loaded_open open_word = record {
+      words = loaded s w ∷ [];
+      walk = walk_look b o s other apart did;
+      sources = of_source;
+      tells = record { source_is = is; inside = (0, omega arith, refl); settled = open_word };
+    }
+
+  -- then its record was loaded
+  module _ (h g k : Hand) (y x : ℕ) (did : Recalled b o j g k y) where
+    pub stopped_here : (stop : Stop) → IsLoadedAt b p o j h g (Err stop) → IsComparedAt b p o j h g (Open stop)
+    stopped_here stop at = record { words = at.words; walk = at.walk; sources = at.sources; tells = λ w last. at.tells }
+
+    module _ (lt : j < places p o) (at : IsLoadedAt b p o j h g (Ok x)) where
+      walked : IsWalk b o h k (at.words ++ [])
+      walked = walk_then b o at.walk (walk_recall b o at.walk.hand did)
+
+      recorded : (w : OpWord) → IsNotedLast o (view_of h) w → IsRecordSeen (view_of k) o j w y
+      recorded w last = recalled_seen b o j g k y w (walk_last b o _ w at.walk last) did
+
+      right : IsSourceRight p o j (at.words ++ []) (view_of k) x
+      right = record {
+        read = read_left at.words [] (origin_at p o j) x at.tells.read;
+        seen = seen_more (walk_recall b o at.walk.hand did).adds (origin_at p o j) x at.tells.seen;
+        fold = at.tells.fold;
+      }
+
+      pub compared_here : (r : Compared) → ((w : OpWord) → IsNotedLast o (view_of h) w → PlaceTells p o w j (at.words ++ []) (view_of k) r) → IsComparedAt b p o j h k r
+      compared_here r tells = record { words = at.words ++ []; walk = walked; sources = sources_then p o at.words [] at.sources (sources_none p o); tells = tells }
+
+      pub equal_here : y ≡ x → IsComparedAt b p o j h k Equal
+      equal_here same =
+          compared_here Equal
+          (λ w last. record {
+            seen = subst (IsSourceSeen (view_of k) (origin_at p o j)) right.fold right.seen;
+            recorded = subst (IsRecordSeen (view_of k) o j w) (same ∙ right.fold) (recorded w last);
+          })
+
+      pub differs_here : y ≢ x → IsComparedAt b p o j h k (Differs j y x)
+      differs_here other = compared_here (Differs j y x) (λ w last. record { in_places = lt; right = right; recorded = recorded w last; differs = other })
+
+-- ---- place by place
+
+module _ (b : Board) (p : Plan) (o : ℕ) where
+  pub compare_none : (h : Hand) → IsHandOf b h → IsComparedUpTo b p o 0 h h
+  compare_none h is = record { words = []; walk = walk_none b o h is; sources = sources_none p o; equal = λ w last k lt. absurd (omega (arith, lt)) }
+
+  module _ {h g : Hand} (j : ℕ) (far : IsComparedUpTo b p o j h g) where
+    noted : (w : OpWord) → IsNotedLast o (view_of h) w → IsNotedLast o (view_of g) w
+    noted w last = walk_last b o _ w far.walk last
+
+    pub compare_more : {k : Hand} → IsComparedAt b p o j g k Equal → IsComparedUpTo b p o (j + 1) h k
+    compare_more {k} here = record {
+      words = far.words ++ here.words;
+      walk = walk_then b o far.walk here.walk;
+      sources = sources_then p o far.words here.words far.sources here.sources;
+      equal = λ w last n lt.
+          elim (cases_lt n j) [
+            | inl before ↦ equal_more here.walk.adds p o w n (far.equal w last n before)
+            | inr after ↦ let same : j ≡ n = omega (arith, lt, after) in subst (IsEqualAt p o w (view_of k)) same (here.tells w (noted w last))
+          ];
+    }
+
+    pub compare_stop : {k : Hand} → j < places p o → (r : Compared) → r ≢ Equal → IsComparedAt b p o j g k r → IsCompared b p o h k r
+    compare_stop {k} lt r other here = record {
+      words = far.words ++ here.words;
+      walk = walk_then b o far.walk here.walk;
+      sources = sources_then p o far.words here.words far.sources here.sources;
+      tells = λ w last. by_result w r other (here.tells w (noted w last));
+    }
+      where
+        by_result : (w : OpWord) (x : Compared) → x ≢ Equal → PlaceTells p o w j here.words (view_of k) x → AllTells p o w (far.words ++ here.words) (view_of k) x
+        by_result w Equal not is = absurd (not refl)
+        by_result w (Open stop) not is = record {
+          source = record { place = j; in_places = lt; source_is = is.source_is };
+          inside = Contains-append_right far.words here.words (loaded stop.source stop.word) is.inside;
+          settled = is.settled;
+        }
+        by_result w (Differs n kept value) not is = record {
+          in_places = is.in_places;
+          right = record { read = read_right far.words here.words (origin_at p o n) value is.right.read; seen = is.right.seen; fold = is.right.fold };
+          recorded = is.recorded;
+          differs = is.differs;
+        }
+
+  pub compare_all : {h g : Hand} → IsComparedUpTo b p o (places p o) h g → IsCompared b p o h g Equal
+  compare_all far = record { words = far.words; walk = far.walk; sources = far.sources; tells = far.equal }

@@ -1,0 +1,31 @@
+use Rattle.std.proofs.Common.{◌≡◌, ◌∙◌, ap, subst, ℕ, arith}
+use Rattle.interleaving_core.specs.Core.{places}
+use Rattle.op_words.specs.declared.answers.Compared.{Compared}
+use Rattle.op_words.specs.declared.trail.View.{View}
+use Rattle.op_words.specs.Comparing.{IsComparedAt, IsComparedUpTo}
+use Rattle.op_words.proofs.Comparing.{compare_none, compare_more, compare_stop, compare_all}
+use Rattle.op_words.proofs.board.Board.compare.Goals as goal
+
+pub loop-j-init : goal.loop-j-init
+loop-j-init c = compare_none _ _ _ _ c.requires.hand
+
+pub compare_at-compared-requires-clause-hand : goal.compare_at-compared-requires-clause-hand
+compare_at-compared-requires-clause-hand c = c.loop-j.invariant.walk.hand
+
+pub compare_at-compared-requires-clause-free : goal.compare_at-compared-requires-clause-free
+compare_at-compared-requires-clause-free c = c.loop-j.invariant.walk.claim ∙ c.requires.free
+
+pub returns-in_default : goal.returns-in_default
+returns-in_default c =
+    compare_stop _ _ _ c.loop-j.j c.loop-j.invariant (let lt = c.loop-j-test.true in let e = c.places_of-j-end.ensures.places in omega (arith, lt, e)) c.compare_at-compared.result
+    (λ same. c.in_default.not-Equal same) c.compare_at-compared.ensures
+
+pub loop-j-preserved : goal.loop-j-preserved
+loop-j-preserved c =
+    compare_more _ _ _ c.loop-j.j c.loop-j.invariant
+    (subst (λ (r : Compared). IsComparedAt c.args.self.now c.args.plan.now c.args.op c.loop-j.j c.loop-j.hand c.compare_at-compared.new.hand r) c.in-Equal.is c.compare_at-compared.ensures)
+
+pub returns : goal.returns
+returns c =
+    let e : c.loop-j.j ≡ places c.args.plan.now c.args.op = (let b = c.loop-j-test.false in let a = c.loop-j.auto.j-end in let p = c.places_of-j-end.ensures.places in omega (arith, a, b, p)) in
+    compare_all _ _ _ (subst (λ (j : ℕ). IsComparedUpTo c.args.self.now c.args.plan.now c.args.op j c.args.hand.now c.loop-j.hand) e c.loop-j.invariant)

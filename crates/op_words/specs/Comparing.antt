@@ -1,0 +1,190 @@
+-- An operation's records beside its settled sources, and what a hand has to have seen to decide and to settle.
+use Rattle.std.specs.Prelude.{◌≡◌, ◌≢◌, ℕ, ◌≤◌, ◌<◌, ◌⊎◌, Bool, true, false, List, Contains, Option, Some, None, Result, Ok, Err}
+use Rattle.morph_base.specs.declared.plan.Plan.{Plan}
+use Rattle.morph_base.specs.declared.plan.Origin.TheVariants.{Op as Written}
+use Rattle.morph_base.specs.declared.word.OpState.TheVariants.{Executed}
+use Rattle.morph_base.specs.declared.word.OpWord.{OpWord}
+use Rattle.morph_base.specs.Clean.{source, outcome}
+use Rattle.morph_base.specs.Plans.{event_of, origin_at, final, InEvent}
+use Rattle.morph_base.specs.Words.{is_settled, settled, settled_aborted}
+use Rattle.interleaving_core.specs.Core.{blocked, is_open, places}
+use Rattle.op_words.specs.declared.answers.Compared.{Compared}
+use Rattle.op_words.specs.declared.answers.Compared.TheVariants.{Equal, Open, Differs}
+use Rattle.op_words.specs.declared.answers.Decided.{Decided}
+use Rattle.op_words.specs.declared.answers.Decided.TheVariants.{Committed, Aborted, NotYet as Undecided}
+use Rattle.op_words.specs.declared.answers.Stop.{Stop}
+use Rattle.op_words.specs.declared.answers.Verdict.{Verdict}
+use Rattle.op_words.specs.declared.answers.Verdict.TheVariants.{Stale, Unready}
+use Rattle.op_words.specs.declared.board.Board.{Board}
+use Rattle.op_words.specs.declared.board.Hand.{Hand}
+use Rattle.op_words.specs.declared.trail.Item.{Item}
+use Rattle.op_words.specs.declared.trail.View.{View}
+use Rattle.op_words.specs.Trails.{loaded, last_word, IsSourceOf, NoneOwn}
+use Rattle.op_words.specs.Views.{IsDecisionSeen, IsJudged, IsRecordSeen, IsSourceSeen, Goes}
+use Rattle.op_words.specs.Calls.{IsSettledRead, IsSourceOpen}
+use Rattle.op_words.specs.Judging.{IsStaleAt, IsStaleWord, IsOwnUnready, VerdictTells}
+use Rattle.op_words.specs.Hands.{view_of, IsHandOf}
+use Rattle.op_words.specs.Stepping.{Looked, IsWalk}
+
+-- words of sources of o alone
+abbrev pub OfSources : Plan → ℕ → List Item → Type 0
+OfSources p o xs = (t : Item) → Contains xs t → IsSourceOf p o t.op
+
+-- of the operation itself too
+abbrev pub OfReads : Plan → ℕ → List Item → Type 0
+OfReads p o xs = (t : Item) → Contains xs t → (t.op ≡ o) ⊎ IsSourceOf p o t.op
+
+-- ---- one place
+
+-- its source was loaded settled, or is a base, with value x, which is the fold's
+pub record IsSourceRight (p : Plan) (o j : ℕ) (xs : List Item) (u : View) (x : ℕ) : Type 0 where
+  pub read : IsSettledRead xs (origin_at p o j) x
+  pub seen : IsSourceSeen u (origin_at p o j) x
+  pub fold : x ≡ source p (final p) o j
+
+-- its source was loaded, and is not settled
+pub record IsOpenAt (p : Plan) (o j : ℕ) (xs : List Item) (stop : Stop) : Type 0 where
+  pub source_is : origin_at p o j ≡ Written stop.source
+  pub inside : Contains xs (loaded stop.source stop.word)
+  pub settled : is_settled stop.word.state ≡ false
+
+abbrev pub SettledTells : Plan → ℕ → ℕ → List Item → View → Result ℕ Stop → Type 0
+SettledTells p o j xs u (Ok x) = IsSourceRight p o j xs u x
+SettledTells p o j xs u (Err stop) = IsOpenAt p o j xs stop
+
+pub record IsLoadedAt (b : Board) (p : Plan) (o j : ℕ) (h g : Hand) (r : Result ℕ Stop) : Type 0 where
+  pub words : List Item
+  pub walk : IsWalk b o h g words
+  pub sources : OfSources p o words
+  pub tells : SettledTells p o j words (view_of g) r
+
+-- under word w, its record is the fold's value of its source, which is settled
+pub record IsEqualAt (p : Plan) (o : ℕ) (w : OpWord) (u : View) (j : ℕ) : Type 0 where
+  pub seen : IsSourceSeen u (origin_at p o j) (source p (final p) o j)
+  pub recorded : IsRecordSeen u o j w (source p (final p) o j)
+
+-- it is another one
+pub record IsOtherAt (p : Plan) (o : ℕ) (w : OpWord) (xs : List Item) (u : View) (j kept value : ℕ) : Type 0 where
+  pub in_places : j < places p o
+  pub right : IsSourceRight p o j xs u value
+  pub recorded : IsRecordSeen u o j w kept
+  pub differs : kept ≢ value
+
+-- the word of the operation that was noted last
+abbrev pub IsNotedLast : ℕ → View → OpWord → Type 0
+IsNotedLast o v w = last_word o (blocked 1) v.notes ≡ w
+
+abbrev pub PlaceTells : Plan → ℕ → OpWord → ℕ → List Item → View → Compared → Type 0
+PlaceTells p o w j xs u Equal = IsEqualAt p o w u j
+PlaceTells p o w j xs u (Open stop) = IsOpenAt p o j xs stop
+PlaceTells p o w j xs u (Differs k kept value) = IsOtherAt p o w xs u k kept value
+
+pub record IsComparedAt (b : Board) (p : Plan) (o j : ℕ) (h g : Hand) (r : Compared) : Type 0 where
+  pub words : List Item
+  pub walk : IsWalk b o h g words
+  pub sources : OfSources p o words
+  pub tells : (w : OpWord) → IsNotedLast o (view_of h) w → PlaceTells p o w j words (view_of g) r
+
+-- ---- all places
+
+-- the places below j are equal
+pub record IsComparedUpTo (b : Board) (p : Plan) (o j : ℕ) (h g : Hand) : Type 0 where
+  pub words : List Item
+  pub walk : IsWalk b o h g words
+  pub sources : OfSources p o words
+  pub equal : (w : OpWord) → IsNotedLast o (view_of h) w → (k : ℕ) → k < j → IsEqualAt p o w (view_of g) k
+
+pub record IsStoppedAt (p : Plan) (o : ℕ) (xs : List Item) (stop : Stop) : Type 0 where
+  pub source : IsSourceOf p o stop.source
+  pub inside : Contains xs (loaded stop.source stop.word)
+  pub settled : is_settled stop.word.state ≡ false
+
+abbrev pub AllTells : Plan → ℕ → OpWord → List Item → View → Compared → Type 0
+AllTells p o w xs u Equal = (j : ℕ) → j < places p o → IsEqualAt p o w u j
+AllTells p o w xs u (Open stop) = IsStoppedAt p o xs stop
+AllTells p o w xs u (Differs j kept value) = IsOtherAt p o w xs u j kept value
+
+pub record IsCompared (b : Board) (p : Plan) (o : ℕ) (h g : Hand) (r : Compared) : Type 0 where
+  pub words : List Item
+  pub walk : IsWalk b o h g words
+  pub sources : OfSources p o words
+  pub tells : (w : OpWord) → IsNotedLast o (view_of h) w → AllTells p o w words (view_of g) r
+
+-- ---- the word again
+
+pub record IsConfirmed (b : Board) (o : ℕ) (h g : Hand) (first : OpWord) (verdict : Verdict) (w : OpWord) (r : Verdict) : Type 0 where
+  pub looked : Looked b o h g w
+  pub tells : ((w ≡ first) × (r ≡ verdict)) ⊎ ((w ≢ first) × (r ≡ Unready o w))
+
+-- ---- a verdict, with the word that it is about
+
+-- it loads the operation and its sources alone; a stale one is stale at this word
+pub record IsJudgedAs (b : Board) (p : Plan) (cap o : ℕ) (h g : Hand) (w : OpWord) (r : Verdict) : Type 0 where
+  pub hand : IsHandOf b g
+  pub words : List Item
+  pub goes : Goes (view_of h) (view_of g) words
+  pub none : NoneOwn words
+  pub reads : OfReads p o words
+  pub tells : VerdictTells p cap o (view_of h) (view_of g) words r
+  pub stale : (j kept value : ℕ) → r ≡ Stale j kept value → IsStaleAt p cap o (view_of h) (view_of g) words w j kept value
+
+-- ---- what the operations of an event say of it
+
+-- on its sources, which the hand saw settled, the operation answers; it fails
+pub record IsAnswerSeen (p : Plan) (u : View) (o : ℕ) (answer : Option ℕ) : Type 0 where
+  pub sources : (j : ℕ) → j < places p o → IsSourceSeen u (origin_at p o j) (source p (final p) o j)
+  pub answer_is : outcome p (final p) o ≡ answer
+
+-- it is not ready, or stale
+abbrev pub IsDoubtful : Plan → ℕ → ℕ → View → View → List Item → ℕ → OpWord → Type 0
+IsDoubtful p cap o v u xs at w = ((at ≡ o) × (IsOwnUnready p cap o v u xs w ⊎ IsStaleWord p cap o v u xs w)) ⊎ IsSourceOpen p cap o v u xs at w
+
+abbrev pub WeighTells : Plan → ℕ → ℕ → View → View → List Item → Decided → Type 0
+WeighTells p cap o v u xs Committed = (x : ℕ) × IsAnswerSeen p u o (Some x)
+WeighTells p cap o v u xs Aborted = IsAnswerSeen p u o None
+WeighTells p cap o v u xs (Undecided at w) = IsDoubtful p cap o v u xs at w
+
+pub record IsWeighed (b : Board) (p : Plan) (cap o : ℕ) (h g : Hand) (r : Decided) : Type 0 where
+  pub hand : IsHandOf b g
+  pub words : List Item
+  pub goes : Goes (view_of h) (view_of g) words
+  pub none : NoneOwn words
+  pub reads : OfReads p o words
+  pub tells : WeighTells p cap o (view_of h) (view_of g) words r
+
+-- the first operations of the event, numbered from `start` below `end`, are all good; one of them is bad; or one is doubtful
+abbrev pub GroundsTell : Plan → ℕ → ℕ → ℕ → ℕ → View → View → List Item → Decided → Type 0
+GroundsTell p cap i start end v u xs Committed = (o : ℕ) → start ≤ o → o < end → (x : ℕ) × IsAnswerSeen p u o (Some x)
+GroundsTell p cap i start end v u xs Aborted = (o : ℕ) × InEvent p i o × IsAnswerSeen p u o None
+GroundsTell p cap i start end v u xs (Undecided at w) = (o : ℕ) × InEvent p i o × (o < end) × IsDoubtful p cap o v u xs at w
+
+pub record HasGrounds (b : Board) (p : Plan) (cap i start end : ℕ) (h g : Hand) (r : Decided) : Type 0 where
+  pub hand : IsHandOf b g
+  pub words : List Item
+  pub goes : Goes (view_of h) (view_of g) words
+  pub none : NoneOwn words
+  pub tells : GroundsTell p cap i start end (view_of h) (view_of g) words r
+
+-- ---- what a hand has to have seen
+
+-- every operation of the event answers, or one fails, on settled sources
+abbrev pub MaySayOf : Plan → View → ℕ → Bool → Type 0
+MaySayOf p v i true = (o : ℕ) → InEvent p i o → (x : ℕ) × IsAnswerSeen p v o (Some x)
+MaySayOf p v i false = (o : ℕ) × InEvent p i o × IsAnswerSeen p v o None
+
+-- word w of the operation becomes settled word z: under commit it is executed on records that are the values of its sources;
+-- under abort it gets the value of its target's source
+pub record IsToCommit (p : Plan) (v : View) (o : ℕ) (w z : OpWord) : Type 0 where
+  pub decided : IsDecisionSeen v (event_of p o) true
+  pub executed : w.state ≡ Executed
+  pub equal : (j : ℕ) → j < places p o → IsEqualAt p o w v j
+  pub word_is : z ≡ settled w.attempt w.value v.tag
+
+pub record IsToAbort (p : Plan) (v : View) (o : ℕ) (w z : OpWord) : Type 0 where
+  pub decided : IsDecisionSeen v (event_of p o) false
+  pub open_is : is_open w.state ≡ true
+  pub target : IsSourceSeen v (origin_at p o 0) (source p (final p) o 0)
+  pub word_is : z ≡ settled_aborted w.attempt (source p (final p) o 0) v.tag
+
+abbrev pub MaySettleIt : Plan → View → ℕ → OpWord → OpWord → Type 0
+MaySettleIt p v o w z = IsToCommit p v o w z ⊎ IsToAbort p v o w z

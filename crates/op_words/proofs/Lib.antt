@@ -18,6 +18,8 @@ pub mod Making
 pub mod Walking
 pub mod Comparing
 pub mod Judging
+pub mod Deciding
+pub mod Weighing
 pub mod Finishing
 pub mod Keeping
 pub mod Storing

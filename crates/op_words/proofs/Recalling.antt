@@ -123,7 +123,7 @@ module _ {p : Plan} {cap counters : ℕ} (s : Seats) (lawful : Lawful p cap coun
     abbrev seen_decision : Bool → DecisionSeen
     seen_decision committed = record { event = e; committed = committed }
 
-    learned_stays : (d : Option Bool) → lawful.core.decision e ≡ d → Stays p cap counters s lawful (with_view s.words s i (learning e d v))
+    pub learned_stays : (d : Option Bool) → lawful.core.decision e ≡ d → Stays p cap counters s lawful (with_view s.words s i (learning e d v))
     learned_stays None is = same_stays s lawful i v at
     learned_stays (Some committed) is =
         moved s lawful i v (learning e (Some committed) v) at s.words (record { tag = refl; published = refl; settlings = refl; events = refl; joined = refl }) lawful.shows
@@ -214,7 +214,7 @@ module _ (b : Board) (h g : Hand) (is : IsHandOf b h) (table : g.seat.table_id �
       })
       (noted_told rs ds (view_of h) is.told)
 
-  mine : (u : View) → g.seat.me ≡ (Some u, h.seat.me.1) → g.seat.me ≡ (Some u, [])
+  pub mine : (u : View) → g.seat.me ≡ (Some u, h.seat.me.1) → g.seat.me ≡ (Some u, [])
   mine u me = me ∙ ap (λ (m : Sat). (Some u, m.1)) is.seat
 
   pub recalled_hand : (o j x : ℕ) → g.seat.me ≡ (Some (recalling o j x (view_of h)), h.seat.me.1) → Recalled b o j h g x
@@ -223,16 +223,16 @@ module _ (b : Board) (h g : Hand) (is : IsHandOf b h) (table : g.seat.table_id �
     view = ap (λ (m : Sat). view_in m.0) me;
   }
 
+  pub learned_still : (e : ℕ) (d : Option Bool) → g.seat.me ≡ (Some (learning e d (view_of h)), []) → IsHandOf b g
+  learned_still e None seat = noted_hand (view_of h).records (view_of h).decisions seat
+  learned_still e (Some committed) seat = noted_hand (view_of h).records (learning e (Some committed) (view_of h)).decisions seat
+
   pub learned_hand : (e : ℕ) (d : Option Bool) → IsDecision (view_of h).plan.value (view_of h) e d → g.seat.me ≡ (Some (learning e d (view_of h)), h.seat.me.1) → Learned b e h g d
   learned_hand e d tells me = record {
-    hand = learned d (mine (learning e d (view_of h)) me);
+    hand = learned_still e d (mine (learning e d (view_of h)) me);
     view = ap (λ (m : Sat). view_in m.0) me;
     tells = subst (λ (p : Plan). IsDecision p (view_of h) e d) is.plan tells;
   }
-    where
-      learned : (d : Option Bool) → g.seat.me ≡ (Some (learning e d (view_of h)), []) → IsHandOf b g
-      learned None seat = noted_hand (view_of h).records (view_of h).decisions seat
-      learned (Some committed) seat = noted_hand (view_of h).records (learning e (Some committed) (view_of h)).decisions seat
 
 -- what such a load tells a hand of the board
 module _ (b : Board) (h : Hand) (is : IsHandOf b h) (p : Plan) (same : p ≡ plan_of b) (n : ℕ) (me : Sat) where

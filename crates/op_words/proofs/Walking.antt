@@ -21,7 +21,7 @@ use Rattle.op_words.proofs.Adding.{adds_none, adds_then}
 use Rattle.op_words.proofs.Seeking.{row_look, row_claim, elsewhere_then}
 
 -- nothing but records and decisions more
-adds_seen : (v : View) (rs : List RecordSeen) (ds : List DecisionSeen) → Agrees v → ((r : RecordSeen) → Contains v.records r → Contains rs r) → ((d : DecisionSeen) → Contains v.decisions d → Contains ds d)
+pub adds_seen : (v : View) (rs : List RecordSeen) (ds : List DecisionSeen) → Agrees v → ((r : RecordSeen) → Contains v.records r → Contains rs r) → ((d : DecisionSeen) → Contains v.decisions d → Contains ds d)
     → Adds v (record v { records = rs; decisions = ds }) []
 adds_seen v rs ds agree records decisions = record {
   trail = no_more v.trail;
@@ -44,11 +44,11 @@ adds_seen v rs ds agree records decisions = record {
 adds_recalling : (v : View) (o j x : ℕ) → Agrees v → Adds v (recalling o j x v) []
 adds_recalling v o j x agree = adds_seen v (recalling o j x v).records v.decisions agree (λ r inside. Contains-append_left v.records _ r inside) (λ d inside. inside)
 
-adds_learning : (v : View) (i : ℕ) (d : Option Bool) → Agrees v → Adds v (learning i d v) []
+pub adds_learning : (v : View) (i : ℕ) (d : Option Bool) → Agrees v → Adds v (learning i d v) []
 adds_learning v i None agree = adds_seen v v.records v.decisions agree (λ r inside. inside) (λ d inside. inside)
 adds_learning v i (Some committed) agree = adds_seen v v.records (learning i (Some committed) v).decisions agree (λ r inside. inside) (λ d inside. Contains-append_left v.decisions _ d inside)
 
-learning_claim : (v : View) (i : ℕ) (d : Option Bool) → ((learning i d v).claim ≡ v.claim) × ((learning i d v).events ≡ v.events)
+pub learning_claim : (v : View) (i : ℕ) (d : Option Bool) → ((learning i d v).claim ≡ v.claim) × ((learning i d v).events ≡ v.events)
 learning_claim v i None = (refl, refl)
 learning_claim v i (Some committed) = (refl, refl)
 

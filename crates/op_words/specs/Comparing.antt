@@ -1,11 +1,11 @@
 -- An operation's records beside its settled sources, and what a hand has to have seen to decide and to settle.
-use Rattle.std.specs.Prelude.{◌≡◌, ◌≢◌, ℕ, ◌≤◌, ◌<◌, ◌⊎◌, Bool, true, false, List, Contains, Option, Some, None, Result, Ok, Err}
+use Rattle.std.specs.Prelude.{◌≡◌, ◌≢◌, ℕ, ◌≤◌, ◌<◌, ◌⊎◌, Bool, true, false, List, [], Contains, Option, Some, None, Result, Ok, Err}
 use Rattle.morph_base.specs.declared.plan.Plan.{Plan}
 use Rattle.morph_base.specs.declared.plan.Origin.TheVariants.{Op as Written}
 use Rattle.morph_base.specs.declared.word.OpState.TheVariants.{Executed}
 use Rattle.morph_base.specs.declared.word.OpWord.{OpWord}
 use Rattle.morph_base.specs.Clean.{source, outcome}
-use Rattle.morph_base.specs.Plans.{event_of, origin_at, final, InEvent}
+use Rattle.morph_base.specs.Plans.{event_of, origin_at, final, verdict, InEvent}
 use Rattle.morph_base.specs.Words.{is_settled, settled, settled_aborted}
 use Rattle.interleaving_core.specs.Core.{blocked, is_open, places}
 use Rattle.op_words.specs.declared.answers.Compared.{Compared}
@@ -132,7 +132,7 @@ pub record IsJudgedAs (b : Board) (p : Plan) (cap o : ℕ) (h g : Hand) (w : OpW
 
 -- on its sources, which the hand saw settled, the operation answers; it fails
 pub record IsAnswerSeen (p : Plan) (u : View) (o : ℕ) (answer : Option ℕ) : Type 0 where
-  pub sources : (j : ℕ) → j < places p o → IsSourceSeen u (origin_at p o j) (source p (final p) o j)
+  pub sources : (j : ℕ) → j < places p o → (x : ℕ) × IsSourceSeen u (origin_at p o j) x
   pub answer_is : outcome p (final p) o ≡ answer
 
 -- it is not ready, or stale
@@ -188,3 +188,12 @@ pub record IsToAbort (p : Plan) (v : View) (o : ℕ) (w z : OpWord) : Type 0 whe
 
 abbrev pub MaySettleIt : Plan → View → ℕ → OpWord → OpWord → Type 0
 MaySettleIt p v o w z = IsToCommit p v o w z ⊎ IsToAbort p v o w z
+
+-- ---- the decision that stands
+
+-- nothing else was loaded, and the hand knows the decision, which is the fold's
+pub record IsConcluded (b : Board) (p : Plan) (i : ℕ) (h g : Hand) (committed : Bool) : Type 0 where
+  pub hand : IsHandOf b g
+  pub goes : Goes (view_of h) (view_of g) []
+  pub right : verdict p i ≡ committed
+  pub known : IsDecisionSeen (view_of g) i committed

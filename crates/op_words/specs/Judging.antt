@@ -23,6 +23,10 @@ use Rattle.op_words.specs.Calls.{IsSettledRead, IsSourceOpen}
 abbrev pub verdict_of : OpWord → Verdict
 verdict_of w = if is_failed w.state then Bad else Good w.value
 
+-- the answer that there is this decision
+abbrev pub decided_as : Bool → Decided
+decided_as committed = if committed then Committed else Aborted
+
 module _ (p : Plan) (cap o : ℕ) (v u : View) (xs : List Item) where
   -- under the word that the operation has, which is below the last attempt, a record differs from the settled value of its source
   pub record IsStaleAt (w : OpWord) (j kept value : ℕ) : Type 0 where

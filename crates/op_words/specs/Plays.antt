@@ -120,7 +120,7 @@ decides st m n m' =
     → (committed : Bool) → st.second ≡ packed_decision (Some committed)
     → (verdict v.plan.value i ≡ committed)
     × (((n ≡ 0) × (m' ≡ (Some (deciding i committed v), m.1)) × IsTold (deciding i committed v))
-    ⊎ ((n ≢ 0) × (m' ≡ (Some (learning i (Some committed) v), m.1))))
+    ⊎ ((n ≡ packed_decision (Some committed)) × (m' ≡ (Some (learning i (Some committed) v), m.1))))
 
 -- ---- stores of a hand on what it holds
 

@@ -1,6 +1,7 @@
 ghost use Rattle.std.specs.Prelude.{◌≡◌, ◌+◌, ◌-◌, ◌^◌, min};
 ghost use Rattle.op_words.specs.Calls.{answer_of};
-ghost use Rattle.op_words.specs.Judging.{verdict_of};
+ghost use Rattle.op_words.specs.Judging.{verdict_of, decided_as};
+ghost use Rattle.op_words.specs.declared.answers.Decided.TheVariants.{Committed};
 
 use morph_base::OpWord;
 
@@ -135,6 +136,32 @@ impl Outcome {
         match answer {
             Some(value) => Outcome::Executed(value),
             None => Outcome::Failed,
+        }
+    }
+}
+
+impl Decided {
+    /// A decision that there is.
+    pub(crate) fn of(committed: bool) -> Decided
+        ensures { result ≡ decided_as committed }
+    {
+        if committed {
+            Decided::Committed
+        } else {
+            Decided::Aborted
+        }
+    }
+
+    /// What operations say of their event, after one that says `self` comes one that says `next`: the first doubt
+    /// stays.
+    pub(crate) fn and(self, next: Decided) -> Decided
+        ensures first { self ≡ Committed → result ≡ next }
+        ensures doubt { (self ≡ Committed → ⊥) → result ≡ self }
+    {
+        if let Decided::Committed = self {
+            next
+        } else {
+            self
         }
     }
 }

@@ -11,6 +11,7 @@ use std::alloc::Global;
 mod calls;
 mod closing;
 mod counters;
+mod deciding;
 mod hands;
 mod judging;
 mod loads;

@@ -1,13 +1,13 @@
-//! Operations are judged by their records and their settled sources, and events are decided by their operations.
-ghost use Rattle.std.specs.Prelude.{◌≡◌, ◌+◌, ◌<◌, None};
-ghost use Rattle.morph_base.specs.Plans.{op_count, event_count, event_at};
+//! Operations are judged by their records and their settled sources.
+ghost use Rattle.std.specs.Prelude.{◌≡◌, ◌<◌, None};
+ghost use Rattle.morph_base.specs.Plans.{op_count};
 ghost use Rattle.interleaving_core.specs.Core.{places};
 ghost use Rattle.op_words.specs.Judging.{VerdictDoes};
-ghost use Rattle.op_words.specs.Comparing.{IsLoadedAt, IsComparedAt, IsCompared, IsConfirmed, IsJudgedAs, IsWeighed, HasGrounds};
+ghost use Rattle.op_words.specs.Comparing.{IsLoadedAt, IsComparedAt, IsCompared, IsConfirmed, IsJudgedAs};
 ghost use Rattle.op_words.specs.Hands.{plan_of, cap_of, view_of, IsHandOf};
 
 use super::{Board, Hand};
-use crate::answers::{Compared, Decided, Stop, Verdict};
+use crate::answers::{Compared, Stop, Verdict};
 use crate::places::{origin_of, places_of};
 use crate::words::{has_run, is_same};
 use morph_base::{OpWord, Origin, Plan};
@@ -31,7 +31,7 @@ impl Board {
     }
 
     /// The verdict on an operation, and the word of it that was loaded last.
-    fn judge(&self, hand: &mut Hand, plan: &Plan, op: u32) -> (OpWord, Verdict)
+    pub(super) fn judge(&self, hand: &mut Hand, plan: &Plan, op: u32) -> (OpWord, Verdict)
         requires hand { IsHandOf self.now hand.old }
         requires plan { plan.now ≡ plan_of self.now }
         requires in_range { op < op_count plan.now }
@@ -40,7 +40,13 @@ impl Board {
     {
         let first = self.look(hand, op);
         if !has_run(first) {
-            return (first, Verdict::Unready { at: op, word: first });
+            return (
+                first,
+                Verdict::Unready {
+                    at: op,
+                    word: first,
+                },
+            );
         }
         match self.compare(hand, plan, op) {
             Compared::Equal => self.confirm(hand, op, first, Verdict::of(first)),
@@ -58,7 +64,13 @@ impl Board {
     }
 
     /// Loads the operation's word again: the verdict stands where it is the word that was loaded first.
-    fn confirm(&self, hand: &mut Hand, op: u32, first: OpWord, verdict: Verdict) -> (OpWord, Verdict)
+    fn confirm(
+        &self,
+        hand: &mut Hand,
+        op: u32,
+        first: OpWord,
+        verdict: Verdict,
+    ) -> (OpWord, Verdict)
         requires hand { IsHandOf self.now hand.old }
         requires in_range { op < op_count (plan_of self.now) }
         ensures { IsConfirmed self.now op hand.old hand.new first verdict result.0 result.1 }
@@ -111,7 +123,13 @@ impl Board {
     }
 
     /// The settled value of the source at a place; the source with its word, where it is not settled.
-    pub(super) fn settled_source(&self, hand: &mut Hand, plan: &Plan, op: u32, j: u8) -> Result<u64, Stop>
+    pub(super) fn settled_source(
+        &self,
+        hand: &mut Hand,
+        plan: &Plan,
+        op: u32,
+        j: u8,
+    ) -> Result<u64, Stop>
         requires hand { IsHandOf self.now hand.old }
         requires plan { plan.now ≡ plan_of self.now }
         requires in_range { op < op_count plan.now }

@@ -20,7 +20,7 @@ returns-in-Equal c =
     let ran = sym c.has_run.ensures ∙ c.if-not-has_run.false in
     judged_again b p o c.requires.plan c.requires.in_range _ _ w c.requires.hand c.requires.free c.look-first.ensures ran _ compared.words compared.walk compared.sources _ _ c.confirm.ensures.looked _ _ c.confirm.ensures.tells
     (λ same. subst (IsJudgedAs b p (cap_of b) o c.args.hand.now c.confirm.new.hand c.confirm.result.0) (sym c.of.ensures)
-        (judged_equal b p o c.requires.plan c.requires.in_range _ _ w c.requires.hand c.requires.free c.look-first.ensures ran _ compared.words compared.walk compared.sources _ _ c.confirm.ensures.looked same tells))
+    (judged_equal b p o c.requires.plan c.requires.in_range _ _ w c.requires.hand c.requires.free c.look-first.ensures ran _ compared.words compared.walk compared.sources _ _ c.confirm.ensures.looked same tells))
 
 pub returns-in-Differs : goal.returns-in-Differs
 returns-in-Differs c =

@@ -1,0 +1,267 @@
+-- The verdicts on the operations of an event, one after another.
+use Rattle.std.proofs.Common.{◌≡◌, ◌≢◌, ◌⊎◌, ℕ, ◌+◌, ◌<◌, ◌≤◌, Bool, true, false, List, [], ◌∷◌, ◌++◌, refl, sym, ap, ◌∙◌, subst, inl, inr, arith, Option, Some, None}
+use Rattle.std.specs.Prelude.{Contains}
+use Rattle.std.proofs.lemmas.Bool.{cases_lt}
+use Rattle.std.proofs.lemmas.List.Elements.{Contains-append_left, Contains-append_right, Contains-append_cases}
+use Rattle.morph_base.specs.declared.plan.Plan.{Plan}
+use Rattle.morph_base.specs.declared.plan.Origin.{Origin}
+use Rattle.morph_base.specs.declared.plan.PlanEvent.{PlanEvent}
+use Rattle.morph_base.specs.Numbering.{IsWithin}
+use Rattle.morph_base.specs.declared.word.OpWord.{OpWord}
+use Rattle.morph_base.specs.Plans.{IsPlan, op_count, event_count, event_at, event_of, origin_at, verdict, InEvent}
+use Rattle.morph_base.proofs.OutcomeLaws.{source_precedes}
+use Rattle.interleaving_core.specs.Core.{places}
+use Rattle.op_words.specs.declared.answers.Decided.{Decided}
+use Rattle.op_words.specs.declared.answers.Decided.TheVariants.{Committed, Aborted, NotYet as Undecided}
+use Rattle.op_words.specs.declared.answers.Verdict.{Verdict}
+use Rattle.op_words.specs.declared.answers.Verdict.TheVariants.{Good, Bad, Stale, Unready}
+use Rattle.op_words.specs.declared.board.Board.{Board}
+use Rattle.op_words.specs.declared.board.Hand.{Hand}
+use Rattle.op_words.specs.declared.trail.Item.{Item}
+use Rattle.op_words.specs.declared.trail.RecordSeen.{RecordSeen}
+use Rattle.op_words.specs.declared.trail.View.{View}
+use Rattle.op_words.specs.Trails.{loaded, HasLast, IsDisturbed, IsSourceOf, NoneOwn}
+use Rattle.op_words.specs.Views.{IsSettledSeen, IsSourceSeen, Adds, Goes}
+use Rattle.op_words.specs.Calls.{IsSettledRead, IsSourceOpen, Elsewhere}
+use Rattle.op_words.specs.Judging.{decided_as, IsStaleAt, IsStaleWord, IsOwnUnready, IsDecided, DecideTells, DecideDoes}
+use Rattle.op_words.specs.Hands.{plan_of, view_of, IsHandOf}
+use Rattle.op_words.specs.Stepping.{Learned}
+use Rattle.op_words.specs.Comparing.{OfReads, IsJudgedAs, IsAnswerSeen, IsDoubtful, WeighTells, IsWeighed, GroundsTell, HasGrounds, MaySayOf, IsConcluded}
+use Rattle.op_words.proofs.Rows.{not_inside}
+use Rattle.op_words.proofs.Trailing.{last_later, disturbed_later, disturbed_more}
+use Rattle.op_words.proofs.Adding.{adds_none, goes_then}
+use Rattle.op_words.proofs.Making.{last_else, none_then}
+use Rattle.op_words.proofs.Walking.{walk_learn, learned_seen}
+use Rattle.op_words.proofs.Comparing.{read_left, read_right, seen_more}
+
+-- ---- a doubt stays, with words more before and behind it
+
+-- of operation o: its last word, what was loaded, and its records
+record IsWider (o : ℕ) (v u v' u' : View) (xs xs' : List Item) : Type 0 where
+  last : (w : OpWord) → HasLast o xs w → HasLast o xs' w
+  inside : (t : Item) → Contains xs t → Contains xs' t
+  shaken : IsDisturbed o xs → IsDisturbed o xs'
+  read : (q : Origin) (x : ℕ) → IsSettledRead xs q x → IsSettledRead xs' q x
+  now : (r : RecordSeen) → Contains u.records r → Contains u'.records r
+  before : (r : RecordSeen) → Contains v'.records r → Contains v.records r
+
+module _ (p : Plan) (cap o : ℕ) {v u v' u' : View} {xs xs' : List Item} (wide : IsWider o v u v' u' xs xs') where
+  stale_wider : (w : OpWord) → IsStaleWord p cap o v u xs w → IsStaleWord p cap o v' u' xs' w
+  stale_wider w is = record {
+    place = is.place;
+    kept = is.kept;
+    value = is.value;
+    stale = record {
+      last = wide.last w is.stale.last;
+      seen = wide.inside (loaded o w) is.stale.seen;
+      ran = is.stale.ran;
+      in_places = is.stale.in_places;
+      below = is.stale.below;
+      source = wide.read (origin_at p o is.place) is.value is.stale.source;
+      differs = is.stale.differs;
+      kept_is = wide.now _ is.stale.kept_is;
+      alike = λ x seen. is.stale.alike x (wide.before _ seen);
+    };
+  }
+
+  unready_wider : (w : OpWord) → IsOwnUnready p cap o v u xs w → IsOwnUnready p cap o v' u' xs' w
+  unready_wider w is = record {
+    last = wide.last w is.last;
+    seen = wide.inside (loaded o w) is.seen;
+    cause = elim is.cause [ inl idle ↦ inl idle | inr shaken ↦ inr (wide.shaken shaken) ];
+    spread = is.spread;
+  }
+
+  doubt_wider : (at : ℕ) (w : OpWord) → IsDoubtful p cap o v u xs at w → IsDoubtful p cap o v' u' xs' at w
+  doubt_wider at w is =
+      elim is [
+        | inl own ↦ inl (own.0, elim own.1 [ inl unready ↦ inl (unready_wider w unready) | inr stale ↦ inr (stale_wider w stale) ])
+        | inr source ↦ inr (record {
+          source = source.source;
+          inside = wide.inside (loaded at w) source.inside;
+          settled = source.settled;
+          own = source.own;
+          last = wide.last source.own source.last;
+          open_own = source.open_own;
+        })
+      ]
+
+wider_later : (o : ℕ) {v n u : View} {xs : List Item} (ys : List Item) → Adds v n xs → IsWider o n u v u ys (xs ++ ys)
+wider_later o {v} {n} {u} {xs} ys adds = record {
+  last = λ w last. last_later xs last;
+  inside = λ t inside. Contains-append_right xs ys t inside;
+  shaken = λ is. disturbed_later xs is;
+  read = λ q x is. read_right xs ys q x is;
+  now = λ r inside. inside;
+  before = λ r inside. adds.records r inside;
+}
+
+wider_more : (o : ℕ) {v n u : View} (xs : List Item) {ys : List Item} → Adds n u ys → Elsewhere o ys → IsWider o v n v u xs (xs ++ ys)
+wider_more o xs {ys} adds elsewhere = record {
+  last = λ w last. last_else o xs ys w last elsewhere;
+  inside = λ t inside. Contains-append_left xs ys t inside;
+  shaken = λ is. disturbed_more ys is;
+  read = λ q x is. read_left xs ys q x is;
+  now = λ r inside. adds.records r inside;
+  before = λ r inside. inside;
+}
+
+answer_more : (p : Plan) (o : ℕ) (answer : Option ℕ) {v u : View} {xs : List Item} → Adds v u xs → IsAnswerSeen p v o answer → IsAnswerSeen p u o answer
+answer_more p o answer adds is = record { sources = λ j below. let k = is.sources j below in (k.0, seen_more adds (origin_at p o j) k.0 k.1); answer_is = is.answer_is }
+
+-- ---- one operation
+
+module _ (b : Board) (p : Plan) (cap o : ℕ) (h g : Hand) (w : OpWord) where
+  weighed_as : (v : Verdict) (r : Decided) (is : IsJudgedAs b p cap o h g w v) → WeighTells p cap o (view_of h) (view_of g) is.words r → IsWeighed b p cap o h g r
+  weighed_as v r is tells = record { hand = is.hand; words = is.words; goes = is.goes; none = is.none; reads = is.reads; tells = tells }
+
+  pub weighed_good : (x : ℕ) → IsJudgedAs b p cap o h g w (Good x) → IsWeighed b p cap o h g Committed
+  weighed_good x is = weighed_as (Good x) Committed is (x, record { sources = λ j below. (_, is.tells.judged.sources j below); answer_is = is.tells.answer })
+
+  pub weighed_bad : IsJudgedAs b p cap o h g w Bad → IsWeighed b p cap o h g Aborted
+  weighed_bad is = weighed_as Bad Aborted is (record { sources = λ j below. (_, is.tells.judged.sources j below); answer_is = is.tells.answer })
+
+  pub weighed_stale : (j kept value : ℕ) → IsJudgedAs b p cap o h g w (Stale j kept value) → IsWeighed b p cap o h g (Undecided o w)
+  weighed_stale j kept value is = weighed_as (Stale j kept value) (Undecided o w) is (inl (refl, inr (record { place = j; kept = kept; value = value; stale = is.stale j kept value refl })))
+
+  pub weighed_unready : (at : ℕ) (z : OpWord) → IsJudgedAs b p cap o h g w (Unready at z) → IsWeighed b p cap o h g (Undecided at z)
+  weighed_unready at z is =
+      weighed_as (Unready at z) (Undecided at z) is
+      (elim is.tells [
+        | inl own ↦ inl (own.0, inl own.1)
+        | inr source ↦ inr source.1
+      ])
+
+-- ---- one after another
+
+-- another operation of the event, and its sources, are apart
+apart_reads : (p : Plan) (i o n : ℕ) (ys : List Item) → IsPlan p → i < event_count p → InEvent p i o → InEvent p i n → n ≢ o → NoneOwn ys → OfReads p n ys → Elsewhere o ys
+apart_reads p i o n ys valid lt mine other apart none reads t inside = (none t inside, by_read (reads t inside))
+  where
+    by_read : (t.op ≡ n) ⊎ IsSourceOf p n t.op → t.op ≢ o
+    by_read (inl own) same = apart (sym own ∙ same)
+    by_read (inr source) same =
+        let here = valid.numbering.owned i n lt other in
+        let home = valid.numbering.owned i o lt mine in
+        let before = (source_precedes p n source.place t.op valid here.0 source.in_places source.source_is).event_before in
+        let one : event_of p t.op ≡ event_of p o = ap (event_of p) same in
+        let two = here.1 in let three = home.1 in
+        omega (arith, before, one, two, three)
+
+module _ (b : Board) (p : Plan) (cap i start : ℕ) (valid : IsPlan p) (lt : i < event_count p) where
+  pub grounds_none : (h : Hand) → IsHandOf b h → (view_of h).claim ≡ None → HasGrounds b p cap i start start h h Committed
+  grounds_none h is free = record {
+    hand = is;
+    words = [];
+    goes = record { adds = adds_none (view_of h) is.told.agree; free = free };
+    none = λ t inside. absurd (not_inside t inside);
+    tells = λ o low high. absurd (omega (arith, low, high));
+  }
+
+  module _ {h g k : Hand} (n : ℕ) (within : InEvent p i n) (far : Decided) (next : Decided) (all : HasGrounds b p cap i start n h g far) (here : IsWeighed b p cap n g k next) where
+    grounds_with : (r : Decided) → GroundsTell p cap i start (n + 1) (view_of h) (view_of k) (all.words ++ here.words) r → HasGrounds b p cap i start (n + 1) h k r
+    grounds_with r tells = record { hand = here.hand; words = all.words ++ here.words; goes = goes_then all.goes here.goes; none = none_then all.words here.words all.none here.none; tells = tells }
+
+    tells_more : (a c : Decided) → (c ≡ Aborted → ⊥) → GroundsTell p cap i start n (view_of h) (view_of g) all.words a → WeighTells p cap n (view_of g) (view_of k) here.words c → (r : Decided)
+        → (a ≡ Aborted → ⊥) → (a ≡ Committed → r ≡ c) → ((a ≡ Committed → ⊥) → r ≡ a) → GroundsTell p cap i start (n + 1) (view_of h) (view_of k) (all.words ++ here.words) r
+    tells_more Committed Committed fine before now r not_bad first doubt =
+        subst (GroundsTell p cap i start (n + 1) (view_of h) (view_of k) (all.words ++ here.words)) (sym (first refl))
+        (λ o low high.
+        elim (cases_lt o n) [
+          | inl less ↦ let k = before o low less in (k.0, answer_more p o (Some k.0) here.goes.adds k.1)
+          | inr more ↦ let same : n ≡ o = omega (arith, more, high) in subst (λ q. (x : ℕ) × IsAnswerSeen p (view_of k) q (Some x)) same now
+        ])
+    tells_more Committed (Undecided at w) fine before now r not_bad first doubt =
+        subst (GroundsTell p cap i start (n + 1) (view_of h) (view_of k) (all.words ++ here.words)) (sym (first refl))
+        (n, within, omega arith, doubt_wider p cap n (wider_later n here.words all.goes.adds) at w now)
+    tells_more Committed Aborted fine before now r not_bad first doubt = absurd (fine refl)
+    tells_more Aborted c fine before now r not_bad first doubt = absurd (not_bad refl)
+    tells_more (Undecided at w) c fine before now r not_bad first doubt =
+        let less = before.2 in
+        subst (GroundsTell p cap i start (n + 1) (view_of h) (view_of k) (all.words ++ here.words)) (sym (doubt (λ same. apart same)))
+        (before.0, before.1, omega (arith, less),
+        doubt_wider p cap before.0 (wider_more before.0 all.words here.goes.adds (apart_reads p i before.0 n here.words valid lt before.1 within (λ same. omega (arith, same, less)) here.none here.reads)) at w before.3)
+      where
+        apart : Undecided at w ≡ Committed → ⊥
+        apart same = cc
+
+    pub grounds_more : (far ≡ Aborted → ⊥) → (next ≡ Aborted → ⊥) → (r : Decided) → (far ≡ Committed → r ≡ next) → ((far ≡ Committed → ⊥) → r ≡ far) → HasGrounds b p cap i start (n + 1) h k r
+    grounds_more fine good r first doubt = grounds_with r (tells_more far next good all.tells here.tells r fine first doubt)
+
+    pub grounds_bad : next ≡ Aborted → (end : ℕ) → HasGrounds b p cap i start end h k next
+    grounds_bad bad end = record {
+      hand = here.hand;
+      words = all.words ++ here.words;
+      goes = goes_then all.goes here.goes;
+      none = none_then all.words here.words all.none here.none;
+      tells = subst (GroundsTell p cap i start end (view_of h) (view_of k) (all.words ++ here.words)) (sym bad) (n, within, subst (WeighTells p cap n (view_of g) (view_of k) here.words) bad here.tells);
+    }
+
+-- neither of the answers that go on is the one that stops
+pub and_fine : (far next r : Decided) → (far ≡ Aborted → ⊥) → (next ≡ Aborted → ⊥) → (far ≡ Committed → r ≡ next) → ((far ≡ Committed → ⊥) → r ≡ far) → r ≡ Aborted → ⊥
+and_fine Committed next r fine good first doubt bad = good (sym (first refl) ∙ bad)
+and_fine Aborted next r fine good first doubt bad = fine refl
+and_fine (Undecided at w) next r fine good first doubt bad = fine (sym (doubt (λ same. apart same)) ∙ bad)
+  where
+    apart : Undecided at w ≡ Committed → ⊥
+    apart same = cc
+
+-- ---- the event
+
+decided_tells : {p : Plan} {cap i : ℕ} {v u : View} {xs : List Item} (committed : Bool) → IsDecided p cap i v u xs committed → DecideTells p cap i v u xs (decided_as committed)
+decided_tells true is = is
+decided_tells false is = is
+
+module _ (b : Board) (p : Plan) (cap i : ℕ) (plan : p ≡ plan_of b) (h g : Hand) (learned : Learned b i h g None) (is : IsHandOf b h) where
+  view_same : view_of g ≡ view_of h
+  view_same = learned.view
+
+  module _ (k : Hand) (start end : ℕ) where
+    -- it is not decided, and an operation is in doubt
+    pub undecided : (at : ℕ) (w : OpWord) → HasGrounds b p cap i start end g k (Undecided at w) → DecideDoes p cap i (view_of h) (view_of k) (Undecided at w)
+    undecided at w all = subst (λ (v : View). DecideDoes p cap i v (view_of k) (Undecided at w)) view_same (record {
+      words = all.words;
+      goes = all.goes;
+      none = all.none;
+      tells = record {
+        culprit = all.tells.0;
+        inside = all.tells.1;
+        none_settled = λ o inside seen. learned.tells.none_settled refl o (subst (λ (q : Plan). InEvent q i o) plan inside) (subst (λ (v : View). IsSettledSeen v o) view_same seen);
+        cause = by_doubt all.tells.3;
+      };
+    })
+      where
+        by_doubt : {o : ℕ} → IsDoubtful p cap o (view_of g) (view_of k) all.words at w
+            → ((at ≡ o) × (IsOwnUnready p cap o (view_of g) (view_of k) all.words w ⊎ IsStaleWord p cap o (view_of g) (view_of k) all.words w)) ⊎ IsSourceOpen p cap o (view_of g) (view_of k) all.words at w
+        by_doubt doubt = doubt
+
+    -- a decision was made, or found
+    module _ (m : Hand) where
+      pub decided_now : (committed : Bool) (r : Decided) → HasGrounds b p cap i start end g k r → IsConcluded b p i k m committed → DecideDoes p cap i (view_of h) (view_of m) (decided_as committed)
+      decided_now committed r all stands = subst (λ (v : View). DecideDoes p cap i v (view_of m) (decided_as committed)) view_same (record {
+        words = all.words ++ [];
+        goes = goes_then all.goes stands.goes;
+        none = none_then all.words [] all.none (λ t inside. absurd (not_inside t inside));
+        tells = decided_tells committed (record { right = stands.right; known = stands.known });
+      })
+
+-- the decision was there
+pub decided_before : (b : Board) (p : Plan) (cap i : ℕ) (h g : Hand) (committed : Bool) → p ≡ plan_of b → IsHandOf b h → (view_of h).claim ≡ None → Learned b i h g (Some committed)
+    → DecideDoes p cap i (view_of h) (view_of g) (decided_as committed)
+decided_before b p cap i h g committed plan is free did =
+    let walk = walk_learn b 0 is did in
+    record {
+      words = [];
+      goes = record { adds = walk.adds; free = walk.claim ∙ free };
+      none = λ t inside. absurd (not_inside t inside);
+      tells = decided_tells committed (record { right = ap (λ (q : Plan). verdict q i) plan ∙ did.tells.right committed refl; known = learned_seen b i h g committed did });
+    }
+
+-- what the grounds say
+pub may_say : (b : Board) (p : Plan) (cap i : ℕ) (g k : Hand) (r : Decided) (committed : Bool) → r ≡ decided_as committed → HasGrounds b p cap i (event_at p i).first ((event_at p i).first + (event_at p i).count) g k r → MaySayOf p (view_of k) i committed
+may_say b p cap i g k r true same all = λ o inside.
+    (subst (GroundsTell p cap i (event_at p i).first ((event_at p i).first + (event_at p i).count) (view_of g) (view_of k) all.words) same all.tells) o inside.from inside.below
+may_say b p cap i g k r false same all = subst (GroundsTell p cap i (event_at p i).first ((event_at p i).first + (event_at p i).count) (view_of g) (view_of k) all.words) same all.tells
+
+pub within_event : (p : Plan) (i : ℕ) (e : PlanEvent) (o : ℕ) → e ≡ event_at p i → e.first ≤ o → o < e.first + e.count → InEvent p i o
+within_event p i e o same low high = subst (λ (x : PlanEvent). IsWithin x.first x.count o) same (record { from = low; below = high })

@@ -25,7 +25,7 @@ use Rattle.op_words.specs.declared.trail.Item.{Item}
 use Rattle.op_words.specs.declared.trail.View.{View}
 use Rattle.op_words.specs.Trails.{loaded, HasLast, IsDisturbed, IsSourceOf, NoneOwn}
 use Rattle.op_words.specs.Views.{IsJudged, IsRecordSeen, IsSourceSeen, Adds, Goes}
-use Rattle.op_words.specs.Calls.{IsSourceOpen}
+use Rattle.op_words.specs.Calls.{IsSettledRead, IsSourceOpen}
 use Rattle.op_words.specs.Plays.{HasRun, IsSight}
 use Rattle.op_words.specs.Judging.{verdict_of, IsStaleAt, IsGood, IsBad, IsStale, IsOwnUnready, VerdictTells}
 use Rattle.op_words.specs.Hands.{plan_of, cap_of, view_of, IsHandOf}
@@ -37,7 +37,7 @@ use Rattle.op_words.proofs.Adding.{adds_then, adds_look, free_apart, last_one, n
 use Rattle.op_words.proofs.Making.{last_else, found_disturbed, none_elsewhere, none_then}
 use Rattle.op_words.proofs.Comparing.{read_left, read_right, seen_more, equal_more}
 
-run_unsettled : (s : OpState) → has_run s ≡ true → is_settled s ≡ false
+pub run_unsettled : (s : OpState) → has_run s ≡ true → is_settled s ≡ false
 run_unsettled Blocked is = refl
 run_unsettled Ready is = refl
 run_unsettled Claimed is = refl
@@ -86,6 +86,38 @@ value_in (Unready at w) = 0
 -- what a present word tells, for the board's plan and cap
 pub sight_of : (b : Board) (p : Plan) (o : ℕ) (h g : Hand) (w : OpWord) → IsHandOf b h → p ≡ plan_of b → Looked b o h g w → IsSight p (cap_of b) (view_of h) o w
 sight_of b p o h g w is plan did = subst (λ (z : Plan × ℕ). IsSight z.0 z.1 (view_of h) o w) (λ i. ((is.plan ∙ sym plan) i, is.cap i)) did.tells.sight
+
+-- a record that differs from its settled source, under a word that was loaded again
+pub stale_again : (b : Board) (p : Plan) (o : ℕ) → p ≡ plan_of b → (v : View) (k m : Hand) (front : List Item) → IsHandOf b k → (view_of k).claim ≡ None → Adds v (view_of k) front → (z : OpWord) → Looked b o k m z
+    → has_run z.state ≡ true → (j kept value : ℕ) {xs : List Item} → IsOtherAt p o z xs (view_of k) j kept value → IsSettledRead front (origin_at p o j) value
+    → IsStaleAt p (cap_of b) o v (view_of m) (front ++ loaded o z ∷ []) z j kept value
+stale_again b p o plan v k m front hand free adds z again ran j kept value {xs} at read = record {
+  last = last_later front (last_one (loaded o z) (loaded o z ∷ []) refl);
+  seen = Contains-append_right front (loaded o z ∷ []) (loaded o z) (0, omega arith, refl);
+  ran = ran;
+  in_places = at.in_places;
+  below =
+      elim (cases_lt (cap_of b) z.attempt) [
+        | inr few ↦ few
+        | inl many ↦
+            let most = sight.most in
+            let right = run.last (omega (arith, most, many)) j value at.in_places at.right.seen in
+            absurd (at.differs (run.records j kept at.in_places at.recorded ∙ sym right))
+      ];
+  source = read_left front (loaded o z ∷ []) (origin_at p o j) value read;
+  differs = at.differs;
+  kept_is = adds_again.records _ at.recorded;
+  alike = λ x seen. run.records j x at.in_places (adds.records _ seen) ∙ sym (run.records j kept at.in_places at.recorded);
+}
+  where
+    sight : IsSight p (cap_of b) (view_of k) o z
+    sight = sight_of b p o k m z hand plan again
+
+    run : HasRun p (cap_of b) (view_of k) o z
+    run = sight.run ran
+
+    adds_again : Adds (view_of k) (view_of m) (loaded o z ∷ [])
+    adds_again = subst (λ (u : View). Adds (view_of k) u (loaded o z ∷ [])) (sym again.view) (adds_look o _ (view_of k) z (free_apart (view_of k) o free) again.tells)
 
 module _ (b : Board) (p : Plan) (o : ℕ) (plan : p ≡ plan_of b) (lt : o < op_count p) (h g : Hand) (w : OpWord) (hand : IsHandOf b h) (free : (view_of h).claim ≡ None) (did : Looked b o h g w) where
   abbrev cap : ℕ
@@ -270,31 +302,10 @@ module _ (b : Board) (p : Plan) (o : ℕ) (plan : p ≡ plan_of b) (lt : o < op_
         pub judged_stale : (j kept value : ℕ) → IsOtherAt p o w xs (view_of k) j kept value → IsJudgedAs b p cap o h m z (Stale j kept value)
         judged_stale j kept value at = judged_with (Stale j kept value) (record { word = z; stale = stale }) (λ n y x e. same_stale n y x e)
           where
-            under : IsRecordSeen (view_of k) o j z kept
-            under = subst (λ (x : OpWord). IsRecordSeen (view_of k) o j x kept) (sym same) at.recorded
-
             stale : IsStaleAt p cap o (view_of h) (view_of m) (front ++ loaded o z ∷ []) z j kept value
-            stale = record {
-              last = last_all;
-              seen = seen_all;
-              ran = ran_again;
-              in_places = at.in_places;
-              below = not_last;
-              source = read_left front (loaded o z ∷ []) (origin_at p o j) value (read_right (loaded o w ∷ []) xs (origin_at p o j) value at.right.read);
-              differs = at.differs;
-              kept_is = adds_again.records _ under;
-              alike = λ x seen. run.records j x at.in_places (adds_front.records _ seen) ∙ sym (run.records j kept at.in_places under);
-            }
-              where
-                not_last : z.attempt ≤ cap
-                not_last =
-                    elim (cases_lt cap z.attempt) [
-                      | inr few ↦ few
-                      | inl many ↦
-                          let most = (sight_of b p o k m z walk.hand plan again).most in
-                          let right = run.last (omega (arith, most, many)) j value at.in_places at.right.seen in
-                          absurd (at.differs (run.records j kept at.in_places under ∙ sym right))
-                    ]
+            stale =
+                stale_again b p o plan (view_of h) k m front walk.hand free_front adds_front z again ran_again j kept value (subst (λ (x : OpWord). IsOtherAt p o x xs (view_of k) j kept value) (sym same) at)
+                (read_right (loaded o w ∷ []) xs (origin_at p o j) value at.right.read)
 
             same_stale : (n y x : ℕ) → Stale j kept value ≡ Stale n y x → IsStaleAt p cap o (view_of h) (view_of m) (front ++ loaded o z ∷ []) z n y x
             same_stale n y x e = subst (λ (t : ℕ × ℕ × ℕ). IsStaleAt p cap o (view_of h) (view_of m) (front ++ loaded o z ∷ []) z t.0 t.1 t.2) (λ i. (ap place_in e i, ap kept_in e i, ap value_in e i)) stale

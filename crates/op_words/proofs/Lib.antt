@@ -20,6 +20,8 @@ pub mod Comparing
 pub mod Judging
 pub mod Deciding
 pub mod Weighing
+pub mod Settling
+pub mod Sealing
 pub mod Finishing
 pub mod Keeping
 pub mod Storing

@@ -108,13 +108,13 @@ none_then xs ys first second t inside =
       | inr later ↦ second t later
     ]
 
-own_none : (o : ℕ) (xs : List Item) → NoneOwn xs → OwnOn o xs
+pub own_none : (o : ℕ) (xs : List Item) → NoneOwn xs → OwnOn o xs
 own_none o xs none t inside own = absurd (false≢true (sym (none t inside) ∙ own))
 
 open_none : (xs : List Item) → NoneOwn xs → OwnOpen xs
 open_none xs none t inside own = absurd (false≢true (sym (none t inside) ∙ own))
 
-own_left : (o : ℕ) (xs : List Item) (w : OpWord) → NoneOwn xs → OwnOn o (xs ++ left o w ∷ [])
+pub own_left : (o : ℕ) (xs : List Item) (w : OpWord) → NoneOwn xs → OwnOn o (xs ++ left o w ∷ [])
 own_left o xs w none t inside own =
     elim (Contains-append_cases xs (left o w ∷ []) t inside) [
       | inl here ↦ absurd (false≢true (sym (none t here) ∙ own))

@@ -1,5 +1,5 @@
 -- An operation's records beside its settled sources, and what a hand has to have seen to decide and to settle.
-use Rattle.std.specs.Prelude.{◌≡◌, ◌≢◌, ℕ, ◌≤◌, ◌<◌, ◌⊎◌, Bool, true, false, List, [], Contains, Option, Some, None, Result, Ok, Err}
+use Rattle.std.specs.Prelude.{◌≡◌, ◌≢◌, ℕ, ◌≤◌, ◌<◌, ◌⊎◌, Bool, true, false, List, [], ◌∷◌, Contains, Option, Some, None, Result, Ok, Err}
 use Rattle.morph_base.specs.declared.plan.Plan.{Plan}
 use Rattle.morph_base.specs.declared.plan.Origin.TheVariants.{Op as Written}
 use Rattle.morph_base.specs.declared.word.OpState.TheVariants.{Executed}
@@ -13,18 +13,20 @@ use Rattle.op_words.specs.declared.answers.Compared.TheVariants.{Equal, Open, Di
 use Rattle.op_words.specs.declared.answers.Decided.{Decided}
 use Rattle.op_words.specs.declared.answers.Decided.TheVariants.{Committed, Aborted, NotYet as Undecided}
 use Rattle.op_words.specs.declared.answers.Stop.{Stop}
+use Rattle.op_words.specs.declared.answers.SettleAnswer.{SettleAnswer}
+use Rattle.op_words.specs.declared.answers.SettleAnswer.TheVariants.{Done as HasSettledIt, Not as Unsettled}
 use Rattle.op_words.specs.declared.answers.Verdict.{Verdict}
 use Rattle.op_words.specs.declared.answers.Verdict.TheVariants.{Stale, Unready}
 use Rattle.op_words.specs.declared.board.Board.{Board}
 use Rattle.op_words.specs.declared.board.Hand.{Hand}
 use Rattle.op_words.specs.declared.trail.Item.{Item}
 use Rattle.op_words.specs.declared.trail.View.{View}
-use Rattle.op_words.specs.Trails.{loaded, last_word, IsSourceOf, NoneOwn}
-use Rattle.op_words.specs.Views.{IsDecisionSeen, IsJudged, IsRecordSeen, IsSourceSeen, Goes}
+use Rattle.op_words.specs.Trails.{loaded, left, last_word, IsSourceOf, NoneOwn}
+use Rattle.op_words.specs.Views.{IsDecisionSeen, IsJudged, IsRecordSeen, IsSourceSeen, Goes, settling}
 use Rattle.op_words.specs.Calls.{IsSettledRead, IsSourceOpen}
 use Rattle.op_words.specs.Judging.{IsStaleAt, IsStaleWord, IsOwnUnready, VerdictTells}
-use Rattle.op_words.specs.Hands.{view_of, IsHandOf}
-use Rattle.op_words.specs.Stepping.{Looked, IsWalk}
+use Rattle.op_words.specs.Hands.{plan_of, view_of, IsHandOf}
+use Rattle.op_words.specs.Stepping.{Looked, Left, IsWalk}
 
 -- words of sources of o alone
 abbrev pub OfSources : Plan → ℕ → List Item → Type 0
@@ -197,3 +199,19 @@ pub record IsConcluded (b : Board) (p : Plan) (i : ℕ) (h g : Hand) (committed 
   pub goes : Goes (view_of h) (view_of g) []
   pub right : verdict p i ≡ committed
   pub known : IsDecisionSeen (view_of g) i committed
+
+-- ---- settling
+
+-- the call began with a load of the operation's word
+pub record IsOpened (p : Plan) (o : ℕ) (v u : View) (w : OpWord) : Type 0 where
+  pub goes : Goes v u (loaded o w ∷ [])
+  pub tag : u.tag ≡ v.tag
+
+abbrev pub SealTells : Board → ℕ → Hand → Hand → OpWord → OpWord → SettleAnswer → Type 0
+SealTells b o h g w z (HasSettledIt x) = Left b h g (settling o z (view_of h)) (left o z) × (x ≡ z.value) × (z.value ≡ final (plan_of b) o)
+SealTells b o h g w z (Unsettled at found) = (at ≡ o) × (found ≢ w) × Looked b o h g found
+
+-- the exchange settled it with the fold's value, or found another word
+pub record IsSealed (b : Board) (o : ℕ) (h g : Hand) (w z : OpWord) (r : SettleAnswer) : Type 0 where
+  pub hand : IsHandOf b g
+  pub tells : SealTells b o h g w z r

@@ -16,6 +16,7 @@ mod hands;
 mod judging;
 mod loads;
 mod retrying;
+mod settling;
 mod sources;
 mod steps;
 mod values;

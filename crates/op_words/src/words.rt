@@ -5,7 +5,7 @@ ghost use Rattle.morph_base.specs.declared.word.TheConstants.{ATTEMPTS};
 ghost use Rattle.morph_base.specs.Plans.{IsPlan};
 ghost use Rattle.morph_base.specs.Words.{is_idle, is_settled, has_run as is_run};
 ghost use Rattle.interleaving_core.specs.declared.entry.Record.{Record};
-ghost use Rattle.interleaving_core.specs.Core.{record_value, blocked as blocked_at, ready as ready_at, claimed as claimed_at};
+ghost use Rattle.interleaving_core.specs.Core.{record_value, blocked as blocked_at, ready as ready_at, claimed as claimed_at, settled as settled_at, settled_aborted as aborted_at};
 ghost use Rattle.op_words.specs.Layout.{packed_record, packed_decision, AreFirst};
 
 use morph_base::{OpState, OpWord, Plan, READS};
@@ -110,6 +110,30 @@ pub(crate) fn pack_record(value: u64, attempt: u8) -> u64
     ensures { result ≡ packed_record (Some (record { value = value; attempt = attempt })) }
 {
     ready(attempt).pack() + value
+}
+
+/// Settled in a committed event, by the hand of this tag.
+pub(crate) fn settled(attempt: u8, value: u64, by: u8) -> OpWord
+    ensures { result ≡ settled_at attempt value by }
+{
+    OpWord {
+        value,
+        attempt,
+        state: OpState::Settled,
+        by,
+    }
+}
+
+/// Settled in an aborted event.
+pub(crate) fn settled_aborted(attempt: u8, value: u64, by: u8) -> OpWord
+    ensures { result ≡ aborted_at attempt value by }
+{
+    OpWord {
+        value,
+        attempt,
+        state: OpState::SettledAborted,
+        by,
+    }
 }
 
 /// The value of a record that is packed so; 0 where there is none.

@@ -1,0 +1,50 @@
+use Rattle.std.proofs.Common.{◌≡◌, ◌∙◌, Bool, Some, sym, subst, ap, inl}
+use Rattle.morph_base.specs.declared.plan.PlanOp.{PlanOp}
+use Rattle.morph_base.specs.Plans.{event_of, no_plan_op}
+use Rattle.op_words.specs.declared.trail.View.{View}
+use Rattle.op_words.specs.Hands.{view_of}
+use Rattle.op_words.specs.Views.{IsDecisionSeen}
+use Rattle.op_words.specs.Stepping.{Learned}
+use Rattle.op_words.proofs.Sealing.{closed_cases, stopped_here, opened_first, opened_then, last_then, known_then, right_then}
+use Rattle.op_words.proofs.board.Board.settle.Goals as goal
+
+pub returns-then-not-is_open-clause-does : goal.returns-then-not-is_open-clause-does
+returns-then-not-is_open-clause-does c =
+    stopped_here c.args.self.now c.args.plan.now c.args.op (view_of c.args.hand.now) c.look-word.new.hand c.look-word.result
+    (opened_first c.args.self.now c.args.plan.now c.args.op c.args.hand.now c.look-word.new.hand c.look-word.result c.requires.free c.look-word.ensures)
+    (inl (closed_cases c.look-word.result.state (sym c.is_open.ensures ∙ c.if-not-is_open.true)))
+
+pub decision-requires-clause-decided : goal.decision-requires-clause-decided
+decision-requires-clause-decided c =
+    let event : c.get.result.now.event ≡ event_of c.args.plan.now c.args.op = ap (λ (q : PlanOp). q.event) (c.get.ensures.at no_plan_op) in (
+      c.requires.decided.0,
+      subst (λ (v : View). IsDecisionSeen v c.get.result.now.event c.requires.decided.0) (sym c.look-word.ensures.view)
+          (subst (λ n. IsDecisionSeen (view_of c.args.hand.now) n c.requires.decided.0) (sym event) c.requires.decided.1),
+    )
+
+pub settle_committed-requires-clause-loaded : goal.settle_committed-requires-clause-loaded
+settle_committed-requires-clause-loaded c = last_then c.args.self.now c.args.plan.now c.args.op _ _ _ c.requires.free c.look-word.ensures _ _ _ c.decision.ensures
+
+pub settle_committed-requires-clause-decided : goal.settle_committed-requires-clause-decided
+settle_committed-requires-clause-decided c =
+    known_then c.args.self.now c.args.plan.now c.args.op _ _ _ c.requires.free c.look-word.ensures _ _ _
+    (subst (λ (d : Bool). Learned c.args.self.now c.get.result.now.event c.look-word.new.hand c.decision.new.hand (Some d)) c.if-decision.true c.decision.ensures) (ap (λ (q : PlanOp). q.event) (c.get.ensures.at no_plan_op))
+
+pub settle_committed-requires-clause-commits : goal.settle_committed-requires-clause-commits
+settle_committed-requires-clause-commits c =
+    right_then c.args.self.now c.args.plan.now c.args.op _ _ _ c.requires.free c.look-word.ensures _ _ _
+    (subst (λ (d : Bool). Learned c.args.self.now c.get.result.now.event c.look-word.new.hand c.decision.new.hand (Some d)) c.if-decision.true c.decision.ensures) (ap (λ (q : PlanOp). q.event) (c.get.ensures.at no_plan_op)) c.requires.plan
+
+pub settle_aborted-requires-clause-loaded : goal.settle_aborted-requires-clause-loaded
+settle_aborted-requires-clause-loaded c = last_then c.args.self.now c.args.plan.now c.args.op _ _ _ c.requires.free c.look-word.ensures _ _ _ c.decision.ensures
+
+pub settle_aborted-requires-clause-decided : goal.settle_aborted-requires-clause-decided
+settle_aborted-requires-clause-decided c =
+    known_then c.args.self.now c.args.plan.now c.args.op _ _ _ c.requires.free c.look-word.ensures _ _ _
+    (subst (λ (d : Bool). Learned c.args.self.now c.get.result.now.event c.look-word.new.hand c.decision.new.hand (Some d)) c.if-decision.false c.decision.ensures) (ap (λ (q : PlanOp). q.event) (c.get.ensures.at no_plan_op))
+
+pub returns-then-decision-clause-does : goal.returns-then-decision-clause-does
+returns-then-decision-clause-does c = c.settle_committed.ensures.does (view_of c.args.hand.now) (opened_then c.args.self.now c.args.plan.now c.args.op _ _ _ c.requires.free c.look-word.ensures _ _ _ c.decision.ensures)
+
+pub returns-else-decision-clause-does : goal.returns-else-decision-clause-does
+returns-else-decision-clause-does c = c.settle_aborted.ensures.does (view_of c.args.hand.now) (opened_then c.args.self.now c.args.plan.now c.args.op _ _ _ c.requires.free c.look-word.ensures _ _ _ c.decision.ensures)

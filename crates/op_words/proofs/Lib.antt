@@ -25,3 +25,5 @@ pub mod Sizes
 pub mod Taking
 pub mod Holding
 pub mod Closing
+pub mod Grounding
+pub mod Retrying

@@ -98,30 +98,30 @@ last_else o xs ys w last elsewhere = record { is = λ d. last-append o d xs ys �
 pub found_disturbed : (o : ℕ) (xs : List Item) (known found : OpWord) → HasLast o xs known → found ≢ known → IsDisturbed o (xs ++ loaded o found ∷ [])
 found_disturbed o xs known found last differs = record { before = xs; known = known; found = found; rest = []; split = refl; last = last; differs = λ same. differs (sym same) }
 
-none_elsewhere : (o : ℕ) (xs : List Item) → Elsewhere o xs → NoneOwn xs
+pub none_elsewhere : (o : ℕ) (xs : List Item) → Elsewhere o xs → NoneOwn xs
 none_elsewhere o xs elsewhere t inside = (elsewhere t inside).0
 
-none_then : (xs ys : List Item) → NoneOwn xs → NoneOwn ys → NoneOwn (xs ++ ys)
+pub none_then : (xs ys : List Item) → NoneOwn xs → NoneOwn ys → NoneOwn (xs ++ ys)
 none_then xs ys first second t inside =
     elim (Contains-append_cases xs ys t inside) [
       | inl here ↦ first t here
       | inr later ↦ second t later
     ]
 
-own_none : (o : ℕ) (xs : List Item) → NoneOwn xs → OwnOn o xs
+pub own_none : (o : ℕ) (xs : List Item) → NoneOwn xs → OwnOn o xs
 own_none o xs none t inside own = absurd (false≢true (sym (none t inside) ∙ own))
 
-open_none : (xs : List Item) → NoneOwn xs → OwnOpen xs
+pub open_none : (xs : List Item) → NoneOwn xs → OwnOpen xs
 open_none xs none t inside own = absurd (false≢true (sym (none t inside) ∙ own))
 
-own_left : (o : ℕ) (xs : List Item) (w : OpWord) → NoneOwn xs → OwnOn o (xs ++ left o w ∷ [])
+pub own_left : (o : ℕ) (xs : List Item) (w : OpWord) → NoneOwn xs → OwnOn o (xs ++ left o w ∷ [])
 own_left o xs w none t inside own =
     elim (Contains-append_cases xs (left o w ∷ []) t inside) [
       | inl here ↦ absurd (false≢true (sym (none t here) ∙ own))
       | inr last ↦ sym (ap (λ (x : Item). x.op) (one_inside (left o w) t last))
     ]
 
-open_left : (o : ℕ) (xs : List Item) (w : OpWord) → is_settled w.state ≡ false → NoneOwn xs → OwnOpen (xs ++ left o w ∷ [])
+pub open_left : (o : ℕ) (xs : List Item) (w : OpWord) → is_settled w.state ≡ false → NoneOwn xs → OwnOpen (xs ++ left o w ∷ [])
 open_left o xs w unsettled none t inside own =
     elim (Contains-append_cases xs (left o w ∷ []) t inside) [
       | inl here ↦ absurd (false≢true (sym (none t here) ∙ own))

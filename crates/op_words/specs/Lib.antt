@@ -12,3 +12,4 @@ pub mod Kinds
 pub mod Closing
 pub mod Judging
 pub mod Retrying
+pub mod Grounds

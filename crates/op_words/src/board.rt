@@ -9,6 +9,7 @@ use morph_base::READS;
 use std::alloc::Global;
 
 mod calls;
+mod changes;
 mod closing;
 mod counters;
 mod hands;

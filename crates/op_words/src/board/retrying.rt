@@ -1,5 +1,6 @@
 //! Values are taken back: by the failure of another operation of the event, or for a source that changed.
-ghost use Rattle.std.specs.Prelude.{◌≡◌, ◌<◌, None};
+ghost use Rattle.std.specs.Prelude.{◌≡◌, ◌≢◌, ◌≤◌, ◌<◌, ◌⊎◌, false, None, IsTrue};
+ghost use Rattle.morph_base.specs.declared.word.OpState.TheVariants.{Executed};
 ghost use Rattle.morph_base.specs.Plans.{op_count};
 ghost use Rattle.interleaving_core.specs.Core.{places};
 ghost use Rattle.op_words.specs.Retrying.{IsSpreadFrom, SpreadDoes, RollDoes};
@@ -7,7 +8,8 @@ ghost use Rattle.op_words.specs.Hands.{plan_of, cap_of, view_of, IsHandOf};
 
 use super::{Board, Hand};
 use crate::answers::{Rolled, Spreaded};
-use morph_base::Plan;
+use crate::words::is_in;
+use morph_base::{OpState, OpWord, Plan};
 
 impl Board {
     /// Spreads the failure of `sibling`, which the hand showed, to another operation of its event: executed below the
@@ -23,7 +25,24 @@ impl Board {
         ensures hand { IsHandOf self.now hand.new }
         ensures does { SpreadDoes plan.now (cap_of self.now) op (view_of hand.old) (view_of hand.new) result }
     {
-        Spreaded::Done
+        let word = self.look(hand, op);
+        if !self.may_spread(word) {
+            return Spreaded::Not { word };
+        }
+        let kept = self.recall(hand, plan, op, 0);
+        self.look(hand, sibling);
+        match self.leave_spread(hand, op, word, kept) {
+            None => Spreaded::Done,
+            Some(word) => Spreaded::Not { word },
+        }
+    }
+
+    /// Whether a word is executed, below the cap.
+    fn may_spread(&self, word: OpWord) -> bool
+        ensures may { IsTrue result → (word.state ≡ Executed) × (word.attempt < cap_of self.now) }
+        ensures not { result ≡ false → (word.state ≢ Executed) ⊎ (cap_of self.now ≤ word.attempt) }
+    {
+        is_in(word, OpState::Executed) && word.attempt < self.cap
     }
 
     /// Rolls an operation back to its next attempt, where the record at place `j` is not the value of its source, or

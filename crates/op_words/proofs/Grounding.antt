@@ -16,30 +16,34 @@ use Rattle.morph_base.specs.declared.plan.Origin.TheVariants.{Base, Op as Writte
 use Rattle.morph_base.specs.declared.word.OpState.{OpState}
 use Rattle.morph_base.specs.declared.word.OpState.TheVariants.{Blocked, Ready, Claimed, Executed, Failed, Spread, Settled, SettledAborted}
 use Rattle.morph_base.specs.declared.word.OpWord.{OpWord}
-use Rattle.morph_base.specs.Words.{IsWord, packed, is_evaluated, is_shown}
+use Rattle.morph_base.specs.Words.{IsWord, packed, is_evaluated, is_settled, is_shown}
 use Rattle.morph_base.specs.Plans.{op_count, origin_at}
+use Rattle.morph_base.specs.Clean.{from, source}
+use Rattle.morph_base.specs.Known.{IsKnown, AreKnown}
 use Rattle.morph_base.proofs.WordLaws.{one_word}
 use Rattle.interleaving_core.specs.declared.entry.Entry.{Entry}
 use Rattle.interleaving_core.specs.declared.event.CoreEvent.{CoreEvent}
 use Rattle.interleaving_core.specs.declared.event.CoreEvent.TheVariants.{Spread as SpreadStep, RollBack}
-use Rattle.interleaving_core.specs.Core.{Core, blocked, spread, entry_of, record_value, places}
-use Rattle.interleaving_core.specs.Steps.{HasFailed, MaySpread, May, after, spread_of}
+use Rattle.interleaving_core.specs.Core.{Core, blocked, spread, entry_of, record_value, places, IsSettledIn, value_in, IsVersion}
+use Rattle.interleaving_core.specs.Steps.{HasFailed, IsRecordedOtherwise, HasOtherVersion, IsSpreadOnSettled, IsStaleAtCap, MaySpread, MayRollBack, May, after, spread_of}
 use Rattle.interleaving_core.proofs.Basics.{count_none, count_some}
 use Rattle.op_words.specs.declared.answers.Counts.{Counts}
 use Rattle.op_words.specs.declared.board.Hand.{Hand}
 use Rattle.op_words.specs.declared.board.Holding.{Holding}
 use Rattle.op_words.specs.declared.trail.View.{View}
-use Rattle.op_words.specs.Trails.{left}
-use Rattle.op_words.specs.Views.{HasShownFailure, last_op, last_place, spreading, rolling_back}
+use Rattle.op_words.specs.Trails.{loaded, left}
+use Rattle.op_words.specs.Views.{HasShownFailure, IsRecordSeen, last_op, last_place, spreading, rolling_back}
 use Rattle.op_words.specs.Rule.{Seats, live, Knows, Lawful, Steps}
 use Rattle.op_words.specs.Plays.{Sat, Leaves, Swaps, spreads, rolls}
 use Rattle.op_words.specs.Hands.{view_of, held_of, counts_of}
-use Rattle.op_words.specs.Grounds.{HasGroundsToSpread}
+use Rattle.op_words.specs.Stepping.{IsUsable}
+use Rattle.op_words.specs.Grounds.{HasGroundsToSpread, HasGroundsToRoll, AreSourcesSettled, IsSeenStale, IsSpreadSeen}
 use Rattle.op_words.proofs.Rows.{no_more, sum_has}
 use Rattle.op_words.proofs.Knowing.{words_more}
 use Rattle.op_words.proofs.Moving.{with_view}
 use Rattle.op_words.proofs.Leaving.{IsLeft, left_steps, left_so, swapped}
-use Rattle.op_words.proofs.Sighting.{record_present}
+use Rattle.op_words.proofs.Sighting.{seen_present, record_present}
+use Rattle.op_words.proofs.Keeping.{seen_settled, seen_version}
 use Rattle.op_words.proofs.Handing.{IsKept, counts_append}
 
 -- where some pass there is one that does
@@ -141,6 +145,117 @@ module _ {p : Plan} {cap counters : ℕ} (s : Seats) (lawful : Lawful p cap coun
         subst (λ (z : OpWord). Lawful p cap counters (with_view (set s.words o (packed z)) s i (spreading o z v)) × Leaves v (spreading o z v) (left o z)) word_is
         ((spread_steps o may_spread).next, spread_so o may_spread)
 
+  -- ---- rolled back
+
+  module _ (o : ℕ) (may : May p cap lawful.core (RollBack o (last_place 0 v.records))) where
+    abbrev a : ℕ
+    a = (lawful.core.word o).attempt + 1
+
+    is_rolled : IsLeft p lawful.core (after p lawful.core (RollBack o (last_place 0 v.records))) o (blocked ((lawful.core.word o).attempt + 1)) (RollBack o (last_place 0 v.records)) i v (rolling_back o ((lawful.core.word o).attempt + 1) v)
+    is_rolled = record {
+      words = λ j. refl;
+      recorded = λ q j. refl;
+      decided = λ j. refl;
+      claim = knows.claim;
+      advances = record {
+        others = λ t other. refl;
+        shown = [];
+        shows = no_more lawful.core.published;
+        mine = no_more v.published;
+        booked = [];
+        books = no_more lawful.core.settlings;
+        my_books = no_more v.settlings;
+        events = refl;
+        tag = refl;
+        joined = refl;
+        places = refl;
+      };
+      more = words_more (record { plan = refl; cap = refl; tag = refl; made = refl; notes = refl; trail = refl; decisions = refl; settlings = refl; joined = refl; places = refl });
+      learned = refl;
+      records = λ noted r inside. inl inside;
+    }
+
+    pub roll_steps : Steps p cap counters s lawful (with_view (set s.words o (packed (blocked ((lawful.core.word o).attempt + 1)))) s i (rolling_back o ((lawful.core.word o).attempt + 1) v)) (RollBack o (last_place 0 v.records))
+    roll_steps = left_steps s lawful i v (rolling_back o a v) at o may.in_range (blocked a) (RollBack o (last_place 0 v.records)) may is_rolled
+
+    pub roll_so : Leaves v (rolling_back o ((lawful.core.word o).attempt + 1) v) (left o (blocked ((lawful.core.word o).attempt + 1)))
+    roll_so = left_so s lawful i v (rolling_back o a v) at o may.in_range (blocked a) (RollBack o (last_place 0 v.records)) may is_rolled
+
+  -- a value that the hand may read is a version, and at the cap it is that of a settled source
+  version_of : (a x : ℕ) (q : Origin) → IsUsable v cap a q x → IsVersion lawful.core q x
+  version_of a x (Base b) is = is
+  version_of a x (Written t) is = seen_version lawful.core t x is.word (knows.noted.notes (loaded t is.word) is.inside) is.value_is is.shown
+
+  settled_value : (a x : ℕ) (q : Origin) → a ≡ cap + 1 → IsUsable v cap a q x → from (λ (n : ℕ). (lawful.core.word n).value) q ≡ x
+  settled_value a x (Base b) last is = is
+  settled_value a x (Written t) last is = (seen_settled lawful.core t x is.word (knows.noted.notes (loaded t is.word) is.inside) is.value_is (is.at_last last)).1
+
+  known_of : (o : ℕ) → AreSourcesSettled p o v → AreKnown p (IsSettledIn lawful.core) o
+  known_of o all j below = at_origin (origin_at p o j) refl
+    where
+      at_origin : (q : Origin) → origin_at p o j ≡ q → IsKnown (IsSettledIn lawful.core) q
+      at_origin (Base b) is = tt
+      at_origin (Written t) is = let seen = all t (record { place = j; in_places = below; source_is = is }) in ap (λ (z : OpWord). is_settled z.state) (seen_present s lawful i v at seen) ∙ seen.settled
+
+  module _ (o : ℕ) (lt : o < op_count p) (w : OpWord) (j : ℕ) (grounds : HasGroundsToRoll p cap o v w j) (word : lawful.core.word o ≡ w) where
+    otherwise : (x y : ℕ) → grounds.kept ≢ x → y ≡ x → IsRecordedOtherwise lawful.core o j y
+    otherwise x y differs same =
+        let k = record_present s lawful i v at o lt j grounds.kept (ap (λ (z : OpWord). is_shown z.state) word ∙ evaluated_shown w.state grounds.evaluated) (subst (λ (z : OpWord). IsRecordSeen v o j z grounds.kept) (sym word) grounds.record_is) in
+        record { kept = k.0; is = k.1; differs = λ e. differs (sym k.2 ∙ e ∙ same) }
+
+    attempt_is : (lawful.core.word o).attempt ≡ w.attempt
+    attempt_is = ap (λ (z : OpWord). z.attempt) word
+
+    state_is : (lawful.core.word o).state ≡ w.state
+    state_is = ap (λ (z : OpWord). z.state) word
+
+    abbrev Cause : Type 0
+    Cause = HasOtherVersion p cap lawful.core o j ⊎ (IsSpreadOnSettled p cap lawful.core o ⊎ IsStaleAtCap p cap lawful.core o j)
+
+    cause_stale : IsSeenStale p cap o v w j grounds.kept → Cause
+    cause_stale stale =
+        elim (cases_lt w.attempt cap) [
+          | inl below ↦ inl (record {
+            below_cap = omega (arith, below, attempt_is);
+            version = stale.version;
+            is_version = version_of (w.attempt + 1) stale.version (origin_at p o j) stale.usable;
+            differs = otherwise stale.version stale.version stale.differs refl;
+          })
+          | inr high ↦
+              let most = grounds.most in
+              let at_cap : w.attempt ≡ cap = omega (arith, high, most) in
+              inr (inr (record {
+                at_cap = attempt_is ∙ at_cap;
+                sources = known_of o (stale.at_cap at_cap);
+                stale = inr (otherwise stale.version (source p (value_in lawful.core) o j) stale.differs (settled_value (w.attempt + 1) stale.version (origin_at p o j) (ap (λ (n : ℕ). n + 1) at_cap) stale.usable));
+              }))
+        ]
+
+    cause_spread : IsSpreadSeen p cap o v w → Cause
+    cause_spread is =
+        elim (cases_lt w.attempt cap) [
+          | inl below ↦ inr (inl (record { below_cap = omega (arith, below, attempt_is); state_is = state_is ∙ is.state_is; sources = known_of o is.sources }))
+          | inr high ↦ let most = grounds.most in inr (inr (record { at_cap = omega (arith, high, most, attempt_is); sources = known_of o is.sources; stale = inl (state_is ∙ is.state_is) }))
+        ]
+
+    pub may_roll : MayRollBack p cap lawful.core o j
+    may_roll = record {
+      in_range = lt;
+      in_places = grounds.in_places;
+      goes_from = ap is_evaluated state_is ∙ grounds.evaluated;
+      cause = elim grounds.cause [ inl stale ↦ cause_stale stale | inr is ↦ cause_spread is ];
+    }
+
+  module _ (o : ℕ) (lt : o < op_count p) (w : OpWord) (grounds : HasGroundsToRoll p cap o v w (last_place 0 v.records)) (word : lawful.core.word o ≡ w) where
+    pub roll_done : Lawful p cap counters (with_view (set s.words o (packed (blocked (w.attempt + 1)))) s i (rolling_back o (w.attempt + 1) v)) × Leaves v (rolling_back o (w.attempt + 1) v) (left o (blocked (w.attempt + 1)))
+    roll_done =
+        let may = may_roll o lt w (last_place 0 v.records) grounds word in
+        subst (λ (z : OpWord). Lawful p cap counters (with_view (set s.words o (packed (blocked (z.attempt + 1)))) s i (rolling_back o (z.attempt + 1) v)) × Leaves v (rolling_back o (z.attempt + 1) v) (left o (blocked (z.attempt + 1)))) word
+        ((roll_steps o may).next, roll_so o may)
+
+same_blocked : (a b : ℕ) → packed (blocked a) ≡ packed (blocked b) → a ≡ b
+same_blocked a b e = omega (arith, e)
+
 module _ {p : Plan} {cap counters : ℕ} (slots id : ℕ) (me : Sat) (v : View) (is : me.0 ≡ Some v) (o : ℕ) (lt : o < op_count p) (w : OpWord) (is_word : IsWord w) where
   pub allows_spread : (x : ℕ) → IsWord (spread (w.attempt + 1) x) → HasGroundsToSpread p cap o v w x
       → Allows (Lawful p cap counters) slots id me o (λ n. either (n == packed w) (packed (spread (w.attempt + 1) x)) n) (spreads (step slots o (packed w) (packed (spread (w.attempt + 1) x)) none) me)
@@ -156,6 +271,22 @@ module _ {p : Plan} {cap counters : ℕ} (slots id : ℕ) (me : Sat) (v : View) 
             let e : v ≡ y = same_Some v y (sym is ∙ same) in
             let one : z ≡ t = one_word z t right t_word second in
             subst (λ (q : View × OpWord). Swaps o (slice_index s.words o) (packed w) q.0 (spreading o q.1 q.0) q.1 me (Some r.0, me.1)) (λ k. (e k, one k)) r.2,
+      )
+
+  pub allows_roll : HasGroundsToRoll p cap o v w (last_place 0 v.records)
+      → Allows (Lawful p cap counters) slots id me o (λ n. either (n == packed w) (packed (blocked (w.attempt + 1))) n) (rolls (step slots o (packed w) (packed (blocked (w.attempt + 1))) none) me)
+  allows_roll grounds s lawful homes at small =
+      let there : get_elem? s.views id ≡ some (Some v) = at ∙ ap some is in
+      let a : ℕ = w.attempt + 1 in
+      let r = swapped s lawful id v (rolling_back o a v) me there o lt w (blocked a) is_word (λ same. roll_done s lawful id v there o lt w grounds same) in (
+        Some r.0,
+        keeps,
+        tt,
+        r.1,
+        λ y same t second.
+            let e : v ≡ y = same_Some v y (sym is ∙ same) in
+            let one : a ≡ t = same_blocked a t second in
+            subst (λ (q : View × ℕ). Swaps o (slice_index s.words o) (packed w) q.0 (rolling_back o q.1 q.0) (blocked q.1) me (Some r.0, me.1)) (λ k. (e k, one k)) r.2,
       )
 
 -- ---- what the hand keeps
@@ -190,7 +321,29 @@ module _ (h g : Hand) (is : IsKept h (view_of h)) (tag : g.tag ≡ h.tag) (made 
     counts = counts_more g.counts h.counts one_spread (SpreadStep o (last_op 0 (view_of h).notes)) (view_of h).events refl is.counts e s r;
   }
 
+  pub kept_rolled : (o a : ℕ) → g.counts.evaluated ≡ min (h.counts.evaluated + 0) (2 ^ 64 - 1) → g.counts.spread ≡ min (h.counts.spread + 0) (2 ^ 64 - 1)
+      → g.counts.rolled ≡ min (h.counts.rolled + 1) (2 ^ 64 - 1) → IsKept g (rolling_back o a (view_of h))
+  kept_rolled o a e s r = record {
+    worker = is.worker;
+    counted = is.counted;
+    tag = tag ∙ is.tag;
+    made = made ∙ is.made;
+    held = ap held_of held ∙ is.held;
+    fits = λ k same. is.fits k (sym held ∙ same);
+    counts = counts_more g.counts h.counts one_rolled (RollBack o (last_place 0 (view_of h).records)) (view_of h).events refl is.counts e s r;
+  }
+
 -- the word that is left is one
+pub word_rolled : (a cap : ℕ) → a ≤ cap → cap < ATTEMPTS → IsWord (blocked (a + 1))
+word_rolled a cap most small = record {
+  small = omega arith;
+  first = omega arith;
+  last = omega (arith, most, small);
+  blank = λ e. refl;
+  by_worker = λ e. absurd (false≢true e);
+  by_none = λ e. refl;
+}
+
 pub word_spread : (w : OpWord) (cap x : ℕ) → IsWord w → w.attempt < cap → cap < ATTEMPTS → x ≤ MAX → IsWord (spread (w.attempt + 1) x)
 word_spread w cap x is below small value = record {
   small = value;

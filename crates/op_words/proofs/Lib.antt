@@ -26,4 +26,6 @@ pub mod Taking
 pub mod Holding
 pub mod Closing
 pub mod Grounding
+pub mod Looking
 pub mod Retrying
+pub mod Rolling

@@ -1,4 +1,4 @@
--- What `spread` and `roll_back` tell, from what their steps told.
+-- What `spread` tells, from what its steps told.
 use Rattle.std.proofs.Common.{◌≡◌, ◌≢◌, ◌⊎◌, ℕ, suc, ◌+◌, ◌<◌, ◌≤◌, Bool, true, false, cond, List, [], ◌∷◌, ◌++◌, refl, sym, ap, ◌∙◌, subst, inl, inr, arith, Some, None}
 use Rattle.std.specs.Prelude.{Contains, count_by}
 use Rattle.std.proofs.lemmas.Bool.{false≢true}
@@ -8,7 +8,7 @@ use Rattle.morph_base.specs.declared.plan.Plan.{Plan}
 use Rattle.morph_base.specs.declared.word.OpState.TheVariants.{Executed}
 use Rattle.morph_base.specs.declared.word.OpWord.{OpWord}
 use Rattle.interleaving_core.specs.declared.event.CoreEvent.{CoreEvent}
-use Rattle.interleaving_core.specs.declared.event.CoreEvent.TheVariants.{Spread as SpreadStep, RollBack}
+use Rattle.interleaving_core.specs.declared.event.CoreEvent.TheVariants.{Spread as SpreadStep}
 use Rattle.interleaving_core.specs.Core.{blocked, spread, entry_of}
 use Rattle.interleaving_core.specs.Counts.{is_spread, spreads}
 use Rattle.op_words.specs.declared.answers.Spreaded.TheVariants.{Done as HasSpread, Not as Unspread}
@@ -53,7 +53,7 @@ adds_spreading v o w tells = record {
   calm = λ lone. along_one IsCalmAt v.trail (left o w) (calm_left v.trail o w);
 }
 
-count_one : (q : CoreEvent → Bool) (e : CoreEvent) (es : List CoreEvent) → q e ≡ true → count_by q (e ∷ es) ≡ count_by q es + 1
+pub count_one : (q : CoreEvent → Bool) (e : CoreEvent) (es : List CoreEvent) → q e ≡ true → count_by q (e ∷ es) ≡ count_by q es + 1
 count_one q e es is = sum_by-cons (λ x. cond (q x) 1 0) e es ∙ ap (λ b. cond b 1 0 + count_by q es) is ∙ turn (count_by q es)
   where
     turn : (n : ℕ) → 1 + n ≡ n + 1
@@ -62,7 +62,7 @@ count_one q e es is = sum_by-cons (λ x. cond (q x) 1 0) e es ∙ ap (λ b. cond
 -- ---- the operation's word was loaded, and words of others after it
 
 module _ (b : Board) (p : Plan) (cap o : ℕ) (h g : Hand) (w : OpWord) (free : (view_of h).claim ≡ None) (did : Looked b o h g w) where
-  adds_first : Adds (view_of h) (view_of g) (loaded o w ∷ [])
+  pub adds_first : Adds (view_of h) (view_of g) (loaded o w ∷ [])
   adds_first = subst (λ (u : View). Adds (view_of h) u (loaded o w ∷ [])) (sym did.view) (adds_look o _ (view_of h) w (free_apart (view_of h) o free) did.tells)
 
   pub free_next : (view_of g).claim ≡ None
@@ -86,19 +86,19 @@ module _ (b : Board) (p : Plan) (cap o : ℕ) (h g : Hand) (w : OpWord) (free : 
     abbrev front : List Item
     front = loaded o w ∷ xs
 
-    adds_front : Adds (view_of h) (view_of k) (loaded o w ∷ xs)
+    pub adds_front : Adds (view_of h) (view_of k) (loaded o w ∷ xs)
     adds_front = adds_then adds_first walk.adds
 
-    last_front : HasLast o (loaded o w ∷ xs) w
+    pub last_front : HasLast o (loaded o w ∷ xs) w
     last_front = last_else o (loaded o w ∷ []) xs w (last_one (loaded o w) (loaded o w ∷ []) refl) walk.elsewhere
 
-    none_front : NoneOwn (loaded o w ∷ xs)
+    pub none_front : NoneOwn (loaded o w ∷ xs)
     none_front = none_then (loaded o w ∷ []) xs (none_one o w) (none_elsewhere o xs walk.elsewhere)
 
-    free_front : (view_of k).claim ≡ None
+    pub free_front : (view_of k).claim ≡ None
     free_front = walk.claim ∙ free_next
 
-    events_front : (view_of k).events ≡ (view_of h).events
+    pub events_front : (view_of k).events ≡ (view_of h).events
     events_front = walk.events ∙ ap (λ (v : View). v.events) did.view
 
     module _ (m : Hand) where

@@ -14,10 +14,14 @@ use Rattle.op_words.specs.declared.board.Hand.{Hand}
 use Rattle.op_words.specs.declared.trail.Item.{Item}
 use Rattle.op_words.specs.declared.trail.View.{View}
 use Rattle.op_words.specs.Trails.{loaded, IsSourceOf}
-use Rattle.op_words.specs.Views.{IsRecordSeen, IsSettledSeen, IsSourceSeen, last_op, last_place}
+use Rattle.op_words.specs.Views.{IsRecordSeen, IsSettledSeen, IsSourceSeen, last_op}
 use Rattle.op_words.specs.Hands.{view_of}
 use Rattle.op_words.specs.Stepping.{IsRow, IsUsable}
 use Rattle.op_words.specs.Retrying.{IsSpreadFrom}
+
+-- all sources of operation o were seen settled
+abbrev pub AreSourcesSettled : Plan → ℕ → View → Type 0
+AreSourcesSettled p o v = (s : ℕ) → IsSourceOf p o s → IsSettledSeen v s
 
 module _ (p : Plan) (cap o : ℕ) (v : View) (w : OpWord) where
   -- a failure of the operation that was noted last may be spread to operation o, whose word is executed below the cap; under it
@@ -28,26 +32,21 @@ module _ (p : Plan) (cap o : ℕ) (v : View) (w : OpWord) where
     pub sibling : IsSpreadFrom p o (last_op 0 v.notes) v
     pub record_is : IsRecordSeen v o 0 w x
 
-  -- all sources were seen settled
-  abbrev pub AreSourcesSettled : Type 0
-  AreSourcesSettled = (s : ℕ) → IsSourceOf p o s → IsSettledSeen v s
-
   -- the source has another value than the record, one that the next attempt may read; at the cap all sources were seen settled
   pub record IsSeenStale (j kept : ℕ) : Type 0 where
     pub version : ℕ
     pub usable : IsUsable v cap (w.attempt + 1) (origin_at p o j) version
     pub differs : kept ≢ version
-    pub at_cap : w.attempt ≡ cap → AreSourcesSettled
+    pub at_cap : w.attempt ≡ cap → AreSourcesSettled p o v
 
   -- the word is spread, and all sources were seen settled
   pub record IsSpreadSeen : Type 0 where
     pub state_is : w.state ≡ IsSpreadState
-    pub sources : AreSourcesSettled
+    pub sources : AreSourcesSettled p o v
 
-  -- operation o may be rolled back from this word, for place j, where the hand loaded the record last
+  -- operation o may be rolled back from this word, for place j
   pub record HasGroundsToRoll (j : ℕ) : Type 0 where
     pub in_places : j < places p o
-    pub place_is : last_place 0 v.records ≡ j
     pub evaluated : is_evaluated w.state ≡ true
     pub most : w.attempt ≤ cap
     pub kept : ℕ

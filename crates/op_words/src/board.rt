@@ -12,6 +12,7 @@ mod calls;
 mod changes;
 mod closing;
 mod counters;
+mod grounds;
 mod hands;
 mod judging;
 mod loads;

@@ -49,10 +49,10 @@ shown_or_settled SettledAborted is = inr refl
 
 -- what was seen settled is settled with its value, and what was seen with a value is a version
 module _ (c : Core) (s x : ℕ) (w : OpWord) (noted : IsNoted c s w) (value : w.value ≡ x) where
-  seen_settled : is_settled w.state ≡ true → IsSettledAs c (Written s) x
+  pub seen_settled : is_settled w.state ≡ true → IsSettledAs c (Written s) x
   seen_settled is = let now = noted.settled is in (ap (λ (y : OpWord). is_settled y.state) now ∙ is, ap (λ (y : OpWord). y.value) now ∙ value)
 
-  seen_version : is_idle w.state ≡ false → IsVersion c (Written s) x
+  pub seen_version : is_idle w.state ≡ false → IsVersion c (Written s) x
   seen_version is =
       elim (shown_or_settled w.state is) [
         | inl shown ↦ inr (record { entry = entry_of s w; inside = noted.shown shown; op_is = refl; value_is = value })

@@ -31,3 +31,7 @@ pub mod Sizes
 pub mod Taking
 pub mod Holding
 pub mod Closing
+pub mod Grounding
+pub mod Looking
+pub mod Retrying
+pub mod Rolling

@@ -111,7 +111,7 @@ none_then xs ys first second t inside =
 pub own_none : (o : ℕ) (xs : List Item) → NoneOwn xs → OwnOn o xs
 own_none o xs none t inside own = absurd (false≢true (sym (none t inside) ∙ own))
 
-open_none : (xs : List Item) → NoneOwn xs → OwnOpen xs
+pub open_none : (xs : List Item) → NoneOwn xs → OwnOpen xs
 open_none xs none t inside own = absurd (false≢true (sym (none t inside) ∙ own))
 
 pub own_left : (o : ℕ) (xs : List Item) (w : OpWord) → NoneOwn xs → OwnOn o (xs ++ left o w ∷ [])
@@ -121,7 +121,7 @@ own_left o xs w none t inside own =
       | inr last ↦ sym (ap (λ (x : Item). x.op) (one_inside (left o w) t last))
     ]
 
-open_left : (o : ℕ) (xs : List Item) (w : OpWord) → is_settled w.state ≡ false → NoneOwn xs → OwnOpen (xs ++ left o w ∷ [])
+pub open_left : (o : ℕ) (xs : List Item) (w : OpWord) → is_settled w.state ≡ false → NoneOwn xs → OwnOpen (xs ++ left o w ∷ [])
 open_left o xs w unsettled none t inside own =
     elim (Contains-append_cases xs (left o w ∷ []) t inside) [
       | inl here ↦ absurd (false≢true (sym (none t here) ∙ own))

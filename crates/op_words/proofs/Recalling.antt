@@ -217,10 +217,11 @@ module _ (b : Board) (h g : Hand) (is : IsHandOf b h) (table : g.seat.table_id �
   pub mine : (u : View) → g.seat.me ≡ (Some u, h.seat.me.1) → g.seat.me ≡ (Some u, [])
   mine u me = me ∙ ap (λ (m : Sat). (Some u, m.1)) is.seat
 
-  pub recalled_hand : (o j x : ℕ) → g.seat.me ≡ (Some (recalling o j x (view_of h)), h.seat.me.1) → Recalled b o j h g x
-  recalled_hand o j x me = record {
+  pub recalled_hand : (o j x : ℕ) → x ≤ MAX → g.seat.me ≡ (Some (recalling o j x (view_of h)), h.seat.me.1) → Recalled b o j h g x
+  recalled_hand o j x small me = record {
     hand = noted_hand (recalling o j x (view_of h)).records (view_of h).decisions (mine (recalling o j x (view_of h)) me);
     view = ap (λ (m : Sat). view_in m.0) me;
+    small = small;
   }
 
   pub learned_still : (e : ℕ) (d : Option Bool) → g.seat.me ≡ (Some (learning e d (view_of h)), []) → IsHandOf b g

@@ -1,5 +1,5 @@
 -- What the table is before and after each kind of step of a hand, and what that is to the machine.
-use Rattle.std.specs.Prelude.{◌≡◌, ◌≢◌, ℕ, ◌<◌, List, [], ◌∷◌, ◌++◌, length, Some, None, slice_set}
+use Rattle.std.specs.Prelude.{◌≡◌, ◌≢◌, ℕ, ◌+◌, ◌<◌, List, [], ◌∷◌, ◌++◌, length, Some, None, slice_set}
 use mathlib.Core.Option.{some}
 use lib.ListN.{get_elem?}
 use Rattle.morph_base.specs.Limits.{most_workers}
@@ -8,10 +8,11 @@ use Rattle.morph_base.specs.Plans.{op_count, origin_at}
 use Rattle.morph_base.specs.Words.{packed}
 use Rattle.interleaving_core.specs.declared.entry.Held.{Held}
 use Rattle.interleaving_core.specs.declared.event.CoreEvent.{CoreEvent}
-use Rattle.interleaving_core.specs.declared.event.CoreEvent.TheVariants.{Ready as ReadyStep, Claim, Fetch, Finish, GiveBack}
+use Rattle.interleaving_core.specs.declared.event.CoreEvent.TheVariants.{Ready as ReadyStep, Claim, Fetch, Finish, GiveBack, Spread as SpreadStep, RollBack}
 use Rattle.interleaving_core.specs.Core.{blocked, ready, claimed, places}
+use Rattle.interleaving_core.specs.Steps.{May, spread_of}
 use Rattle.op_words.specs.declared.trail.View.{View}
-use Rattle.op_words.specs.Views.{looked, making, claiming, fetching, finishing, giving_back, parent, child, merged}
+use Rattle.op_words.specs.Views.{looked, making, claiming, fetching, finishing, giving_back, spreading, rolling_back, last_op, last_place, parent, child, merged}
 use Rattle.op_words.specs.Layout.{record_index, packed_record}
 use Rattle.op_words.specs.Rule.{Seats, Lawful, Stays, Steps}
 use Rattle.op_words.specs.Plays.{end_of}
@@ -71,6 +72,18 @@ module _ (p : Plan) (cap counters : ℕ) (m : Moment p cap counters) where
   GivesBack =
       (h : Held) → m.view.claim ≡ Some h
       → IsStep (GiveBack h.op m.view.tag) (turned m.table m.seat (slice_set m.table.words h.op (packed (blocked h.attempt))) (giving_back h.op h.attempt m.view))
+
+  -- executed becomes spread, by a failure of the operation that the hand noted last
+  abbrev pub Spreads : Type 0
+  Spreads =
+      (o sibling : ℕ) → last_op 0 m.view.notes ≡ sibling → May p cap m.lawful.core (SpreadStep o sibling)
+      → IsStep (SpreadStep o sibling) (turned m.table m.seat (slice_set m.table.words o (packed (spread_of p m.lawful.core o))) (spreading o (spread_of p m.lawful.core o) m.view))
+
+  -- a word with a value becomes blocked at the next attempt, for the place whose record the hand noted last
+  abbrev pub RollsBack : Type 0
+  RollsBack =
+      (o j : ℕ) → last_place 0 m.view.records ≡ j → May p cap m.lawful.core (RollBack o j)
+      → IsStep (RollBack o j) (turned m.table m.seat (slice_set m.table.words o (packed (blocked ((m.lawful.core.word o).attempt + 1)))) (rolling_back o ((m.lawful.core.word o).attempt + 1) m.view))
 
   -- the root makes a hand
   abbrev pub MakesHand : Type 0

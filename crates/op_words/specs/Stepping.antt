@@ -1,5 +1,6 @@
 -- What the single steps of a hand come to.
-use Rattle.std.specs.Prelude.{◌≡◌, ◌≢◌, ℕ, ◌+◌, ◌<◌, Bool, true, false, List, Contains, Option, Some, None}
+use Rattle.std.specs.Prelude.{◌≡◌, ◌≢◌, ℕ, ◌+◌, ◌≤◌, ◌<◌, Bool, true, false, List, Contains, Option, Some, None}
+use Rattle.morph_base.specs.declared.limits.TheConstants.{MAX}
 use Rattle.morph_base.specs.declared.plan.Plan.{Plan}
 use Rattle.morph_base.specs.declared.plan.Origin.{Origin}
 use Rattle.morph_base.specs.declared.plan.Origin.TheVariants.{Base, Op as Written}
@@ -46,6 +47,7 @@ pub record IsWalk (b : Board) (o : ℕ) (h g : Hand) (xs : List Item) : Type 0 w
 pub record Recalled (b : Board) (o j : ℕ) (h g : Hand) (x : ℕ) : Type 0 where
   pub hand : IsHandOf b g
   pub view : view_of g ≡ recalling o j x (view_of h)
+  pub small : x ≤ MAX
 
 -- the decision was loaded
 pub record Learned (b : Board) (i : ℕ) (h g : Hand) (d : Option Bool) : Type 0 where

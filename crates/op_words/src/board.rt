@@ -9,9 +9,11 @@ use morph_base::READS;
 use std::alloc::Global;
 
 mod calls;
+mod changes;
 mod closing;
 mod counters;
 mod deciding;
+mod grounds;
 mod hands;
 mod judging;
 mod loads;

@@ -4,7 +4,7 @@
 //! step of a hand keeps the rule, and says what becomes of that state.
 ghost use Rattle.std.specs.Prelude.{ℕ};
 ghost use Rattle.morph_base.specs.declared.plan.Plan.{Plan};
-ghost use Rattle.op_words.specs.Kinds.{Moment, Loads, Makes, Claims, Records, Finishes, GivesBack, MakesHand, Joins, HoldsAlone};
+ghost use Rattle.op_words.specs.Kinds.{Moment, Loads, Makes, Claims, Records, Finishes, GivesBack, Spreads, RollsBack, MakesHand, Joins, HoldsAlone};
 
 /// Each atomic step is a step of the machine, or leaves its state as it was.
 ///
@@ -17,6 +17,8 @@ pub fn each_step()
     ensures records { (p : Plan) (cap counters : ℕ) (m : Moment p cap counters) → Records p cap counters m }
     ensures finishes { (p : Plan) (cap counters : ℕ) (m : Moment p cap counters) → Finishes p cap counters m }
     ensures gives_back { (p : Plan) (cap counters : ℕ) (m : Moment p cap counters) → GivesBack p cap counters m }
+    ensures spreads { (p : Plan) (cap counters : ℕ) (m : Moment p cap counters) → Spreads p cap counters m }
+    ensures rolls_back { (p : Plan) (cap counters : ℕ) (m : Moment p cap counters) → RollsBack p cap counters m }
     ensures makes_hand { (p : Plan) (cap counters : ℕ) (m : Moment p cap counters) → MakesHand p cap counters m }
     ensures joins { (p : Plan) (cap counters : ℕ) (m : Moment p cap counters) → Joins p cap counters m }
 {}

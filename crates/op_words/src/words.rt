@@ -5,7 +5,8 @@ ghost use Rattle.morph_base.specs.declared.word.TheConstants.{ATTEMPTS};
 ghost use Rattle.morph_base.specs.Plans.{IsPlan};
 ghost use Rattle.morph_base.specs.Words.{is_idle, is_settled, has_run as is_run};
 ghost use Rattle.interleaving_core.specs.declared.entry.Record.{Record};
-ghost use Rattle.interleaving_core.specs.Core.{record_value, blocked as blocked_at, ready as ready_at, claimed as claimed_at, settled as settled_at, settled_aborted as aborted_at};
+ghost use Rattle.interleaving_core.specs.Core.{record_value, blocked as blocked_at, ready as ready_at, claimed as claimed_at, spread as spread_at};
+ghost use Rattle.interleaving_core.specs.Core.{settled as settled_at, settled_aborted as aborted_at};
 ghost use Rattle.op_words.specs.Layout.{packed_record, packed_decision, AreFirst};
 
 use morph_base::{OpState, OpWord, Plan, READS};
@@ -100,6 +101,18 @@ pub(crate) fn claimed(attempt: u8, by: u8) -> OpWord
         attempt,
         state: OpState::Claimed,
         by,
+    }
+}
+
+/// Spread at an attempt, with a value.
+pub(crate) fn spread(attempt: u8, value: u64) -> OpWord
+    ensures { result ≡ spread_at attempt value }
+{
+    OpWord {
+        value,
+        attempt,
+        state: OpState::Spread,
+        by: 0,
     }
 }
 

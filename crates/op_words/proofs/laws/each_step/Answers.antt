@@ -1,8 +1,17 @@
-use Rattle.std.proofs.Common.{arith}
+use Rattle.std.proofs.Common.{◌+◌, arith, subst}
+use Rattle.std.specs.Prelude.{slice_set}
+use Rattle.morph_base.specs.Words.{packed}
+use Rattle.interleaving_core.specs.declared.event.CoreEvent.TheVariants.{Spread as SpreadStep, RollBack}
+use Rattle.interleaving_core.specs.Core.{blocked}
+use Rattle.interleaving_core.specs.Steps.{May, spread_of}
+use Rattle.op_words.specs.Views.{spreading, rolling_back}
+use Rattle.op_words.specs.Rule.{Steps}
+use Rattle.op_words.specs.Kinds.{turned}
 use Rattle.op_words.proofs.Loading.{looked_stays}
 use Rattle.op_words.proofs.Claiming.{made_steps, claimed_steps, given_steps, sound_claim}
 use Rattle.op_words.proofs.Keeping.{kept_steps}
 use Rattle.op_words.proofs.Finishing.{ended_steps}
+use Rattle.op_words.proofs.Grounding.{spread_steps, roll_steps}
 use Rattle.op_words.proofs.Splitting.{split_stays}
 use Rattle.op_words.proofs.Joining.{joined_stays}
 use Rattle.op_words.proofs.Storing.{places_few}
@@ -19,6 +28,12 @@ returns c = record {
       kept_steps m.table m.lawful m.seat m.view m.there h holds lt (omega (arith, lt, few)) x usable;
   finishes = λ p cap counters m h holds all. ended_steps m.table m.lawful m.seat m.view m.there h holds all;
   gives_back = λ p cap counters m h holds. given_steps m.table m.lawful m.seat m.view m.there h holds;
+  spreads = λ p cap counters m o sibling last may.
+      subst (λ n. May p cap m.lawful.core (SpreadStep o n) → Steps p cap counters m.table m.lawful (turned m.table m.seat (slice_set m.table.words o (packed (spread_of p m.lawful.core o))) (spreading o (spread_of p m.lawful.core o) m.view)) (SpreadStep o n)) last
+      (spread_steps m.table m.lawful m.seat m.view m.there o) may;
+  rolls_back = λ p cap counters m o j last may.
+      subst (λ n. May p cap m.lawful.core (RollBack o n) → Steps p cap counters m.table m.lawful (turned m.table m.seat (slice_set m.table.words o (packed (blocked ((m.lawful.core.word o).attempt + 1)))) (rolling_back o ((m.lawful.core.word o).attempt + 1) m.view)) (RollBack o n)) last
+      (roll_steps m.table m.lawful m.seat m.view m.there o) may;
   makes_hand = λ p cap counters m root few. split_stays m.table m.lawful m.seat m.view m.there root few;
   joins = λ p cap counters m o w there other root free. joined_stays m.table m.lawful m.seat o m.view w m.there there other root free;
 }

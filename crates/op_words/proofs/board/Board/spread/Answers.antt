@@ -1,10 +1,28 @@
-use Rattle.std.proofs.Common.{rules, ◌≡◌, ◌<◌, None, ℕ, ◌+◌, ◌-◌, ◌*◌, ◌≤◌, length, ◌/◌, ◌%◌, Bool, true, false, nat_eq, nat_lt, List, [], ◌∷◌, ◌++◌, slice_index_or, slice_set, bit_and, bit_or, Fits, w8, w32, w64, Bor, MutBor}
-use Rattle.morph_base.specs.Plans.{op_count}
-use Rattle.interleaving_core.specs.Core.{places}
-use Rattle.op_words.specs.Retrying.{IsSpreadFrom, SpreadDoes, RollDoes}
-use Rattle.op_words.specs.Hands.{plan_of, cap_of, view_of, IsHandOf}
+use Rattle.std.proofs.Common.{sym, subst}
+use Rattle.morph_base.specs.declared.plan.Plan.{Plan}
+use Rattle.op_words.specs.Grounds.{HasGroundsToSpread}
+use Rattle.op_words.specs.Hands.{cap_of, view_of}
+use Rattle.op_words.proofs.Retrying.{not_spread, walk_spread, record_spread, grounds_spread, spread_done, found_unspread}
 use Rattle.op_words.proofs.board.Board.spread.Goals as goal
 
--- src/board/retrying.rt:17:5
-pub returns-clause-does : goal.returns-clause-does
-returns-clause-does c = ?
+pub returns-then-not-may_spread-clause-does : goal.returns-then-not-may_spread-clause-does
+returns-then-not-may_spread-clause-does c = not_spread _ _ _ _ _ _ _ c.requires.free c.look-word.ensures (c.may_spread.ensures.not c.if-not-may_spread.true)
+
+pub leave_spread-requires-clause-grounds : goal.leave_spread-requires-clause-grounds
+leave_spread-requires-clause-grounds c =
+    let may = c.may_spread.ensures.may c.if-not-may_spread.false in
+    subst (λ (p : Plan). HasGroundsToSpread p (cap_of c.args.self.now) c.args.op (view_of c.look.new.hand) c.look-word.result c.recall-kept.result) c.requires.plan
+    (grounds_spread _ _ _ _ _ _ _ _ _ _ _ _ c.requires.free c.requires.sibling c.look-word.ensures c.recall-kept.ensures c.look.ensures may.0 may.1)
+
+pub returns-in-None-clause-does : goal.returns-in-None-clause-does
+returns-in-None-clause-does c =
+    let may = c.may_spread.ensures.may c.if-not-may_spread.false in let b = c.args.self.now in let p = c.args.plan.now in
+    spread_done b p _ _ _ _ _ c.requires.free c.look-word.ensures _
+    (walk_spread b p (cap_of b) _ _ _ _ _ _ _ _ _ c.requires.free c.requires.sibling c.look-word.ensures c.recall-kept.ensures c.look.ensures) _ _ may.0 may.1
+    (record_spread b p (cap_of b) _ _ _ _ _ _ _ _ _ c.requires.free c.requires.sibling c.look-word.ensures c.recall-kept.ensures c.look.ensures) c.in-None.ensures
+
+pub returns-in-Some-clause-does : goal.returns-in-Some-clause-does
+returns-in-Some-clause-does c =
+    let b = c.args.self.now in let p = c.args.plan.now in
+    found_unspread b p _ _ _ _ _ c.requires.free c.look-word.ensures _
+    (walk_spread b p (cap_of b) _ _ _ _ _ _ _ _ _ c.requires.free c.requires.sibling c.look-word.ensures c.recall-kept.ensures c.look.ensures) _ c.in-Some.ensures.0 c.in-Some.ensures.1

@@ -1,0 +1,93 @@
+-- The value of a source is loaded, and the sources are, up to the first that is not settled.
+use Rattle.std.proofs.Common.{◌≡◌, ◌≢◌, ◌⊎◌, ℕ, ◌+◌, ◌<◌, Bool, true, false, List, [], ◌∷◌, ◌++◌, refl, sym, ap, ◌∙◌, subst, inl, inr, arith, Some, None}
+use Rattle.std.specs.Prelude.{Contains, Result, Ok, Err}
+use Rattle.std.proofs.lemmas.Bool.{cases_lt, false≢true}
+use Rattle.std.proofs.lemmas.List.Elements.{Contains-append_left, Contains-append_right}
+use Rattle.morph_base.specs.declared.plan.Plan.{Plan}
+use Rattle.morph_base.specs.declared.plan.Origin.{Origin}
+use Rattle.morph_base.specs.declared.plan.Origin.TheVariants.{Base, Op as Written}
+use Rattle.morph_base.specs.declared.word.OpWord.{OpWord}
+use Rattle.morph_base.specs.Plans.{origin_at}
+use Rattle.morph_base.specs.Words.{is_idle, is_settled}
+use Rattle.interleaving_core.specs.Core.{places}
+use Rattle.op_words.specs.declared.answers.Stop.{Stop}
+use Rattle.op_words.specs.declared.board.Board.{Board}
+use Rattle.op_words.specs.declared.board.Hand.{Hand}
+use Rattle.op_words.specs.Trails.{loaded}
+use Rattle.op_words.specs.Views.{IsApart, IsSourceSeen}
+use Rattle.op_words.specs.Hands.{view_of, IsHandOf}
+use Rattle.op_words.specs.Stepping.{Looked}
+use Rattle.op_words.specs.Grounds.{IsSourceLoaded, IsLoadedAs, IsSourceUnready, SourceDoes, OpenDoes, IsSettledUpTo}
+use Rattle.op_words.proofs.Seeking.{row_none, row_then, row_look}
+
+-- ---- one source
+
+module _ (b : Board) (p : Plan) (o j : ℕ) (needed : Bool) where
+  pub source_base : (h : Hand) (x : ℕ) → IsHandOf b h → origin_at p o j ≡ Base x → SourceDoes b p o j needed h h (Ok x)
+  source_base h x is base = record {
+    words = [];
+    row = row_none b o h is;
+    tells = record {
+      read = subst (λ (q : Origin). IsSourceLoaded [] needed q x) (sym base) refl;
+      known = λ y seen. sym (subst (λ (q : Origin). IsSourceSeen (view_of h) q y) base seen);
+    };
+  }
+
+  module _ (h g : Hand) (s : ℕ) (w : OpWord) (other : s ≢ o) (apart : IsApart (view_of h) s) (is : origin_at p o j ≡ Written s) (did : Looked b s h g w) where
+    pub source_ready : is_idle w.state ≡ false → (needed ≡ true → is_settled w.state ≡ true) → SourceDoes b p o j needed h g (Ok w.value)
+    source_ready shown settled = record {
+      words = loaded s w ∷ [];
+      row = row_look b o s other apart did;
+      tells = record {
+        read = subst (λ (q : Origin). IsSourceLoaded (loaded s w ∷ []) needed q w.value) (sym is)
+            (record { word = w; inside = (0, omega arith, refl); shown = shown; settled = settled; value_is = refl });
+        known = λ y seen.
+            let known = subst (λ (q : Origin). IsSourceSeen (view_of h) q y) is seen in
+            sym known.value_is ∙ sym (ap (λ (z : OpWord). z.value) (did.tells.fresh.settled known.seen.note known.seen.inside known.seen.op_is known.seen.settled));
+      };
+    }
+
+    pub source_unready : (is_settled w.state ≡ false) × ((is_idle w.state ≡ true) ⊎ (needed ≡ true)) → SourceDoes b p o j needed h g (Err (record { source = s; word = w }))
+    source_unready not = record {
+      words = loaded s w ∷ [];
+      row = row_look b o s other apart did;
+      tells = record { source_is = is; unready = record { inside = (0, omega arith, refl); settled = not.0; cause = not.1 } };
+    }
+
+-- ---- place by place
+
+module _ (b : Board) (p : Plan) (o : ℕ) where
+  pub open_none : (h : Hand) → IsHandOf b h → OpenDoes b p o false h h None
+  open_none h is = record { words = []; row = row_none b o h is; tells = λ asked. absurd (false≢true asked) }
+
+  pub settled_none : (h : Hand) → IsHandOf b h → IsSettledUpTo b p o 0 h h
+  settled_none h is = record { words = []; row = row_none b o h is; settled = λ k lt. absurd (omega (arith, lt)) }
+
+  pub settled_more : {h g k : Hand} {x : ℕ} (j : ℕ) → IsSettledUpTo b p o j h g → SourceDoes b p o j true g k (Ok x) → IsSettledUpTo b p o (j + 1) h k
+  settled_more {h} {g} {k} {x} j far here = record {
+    words = far.words ++ here.words;
+    row = row_then b o far.row here.row;
+    settled = λ n lt s is.
+        elim (cases_lt n j) [
+          | inl before ↦ let r = far.settled n before s is in (r.0, Contains-append_left far.words here.words (loaded s r.0) r.1, r.2)
+          | inr after ↦
+              let same : n ≡ j = omega (arith, lt, after) in
+              let read : IsLoadedAs here.words true s x = subst (λ (q : Origin). IsSourceLoaded here.words true q x) (sym (ap (origin_at p o) same) ∙ is) here.tells.read in
+              (read.word, Contains-append_right far.words here.words (loaded s read.word) read.inside, read.settled refl)
+        ];
+  }
+
+  pub settled_stop : {h g k : Hand} {stop : Stop} (j : ℕ) → j < places p o → IsSettledUpTo b p o j h g → SourceDoes b p o j true g k (Err stop) → OpenDoes b p o true h k (Some stop)
+  settled_stop {h} {g} {k} {stop} j lt far here = record {
+    words = far.words ++ here.words;
+    row = row_then b o far.row here.row;
+    tells = record {
+      asked = refl;
+      source = record { place = j; in_places = lt; source_is = here.tells.source_is };
+      inside = Contains-append_right far.words here.words (loaded stop.source stop.word) here.tells.unready.inside;
+      settled = here.tells.unready.settled;
+    };
+  }
+
+  pub settled_all : {h g : Hand} → IsSettledUpTo b p o (places p o) h g → OpenDoes b p o true h g None
+  settled_all far = record { words = far.words; row = far.row; tells = λ asked s source. far.settled source.place source.in_places s source.source_is }

@@ -1,0 +1,38 @@
+use Rattle.std.proofs.Common.{◌≡◌, ◌∙◌, ap, sym, subst, Bool, true, ℕ, arith, Some, None}
+use Rattle.std.specs.Prelude.{Option, Result}
+use Rattle.interleaving_core.specs.Core.{places}
+use Rattle.op_words.specs.declared.answers.Stop.{Stop}
+use Rattle.op_words.specs.declared.trail.View.{View}
+use Rattle.op_words.specs.Grounds.{SourceDoes, OpenDoes, IsSettledUpTo}
+use Rattle.op_words.proofs.Looking.{open_none, settled_none, settled_more, settled_stop, settled_all}
+use Rattle.op_words.proofs.board.Board.open_source.Goals as goal
+
+pub returns-then-not-needed : goal.returns-then-not-needed
+returns-then-not-needed c =
+    subst (λ (n : Bool). OpenDoes c.args.self.now c.args.plan.now c.args.op n c.args.hand.now c.args.hand.now None) (sym c.if-not-needed.true) (open_none _ _ _ _ c.requires.hand)
+
+pub loop-k-init : goal.loop-k-init
+loop-k-init c = settled_none _ _ _ _ c.requires.hand
+
+pub source_value-requires-clause-hand : goal.source_value-requires-clause-hand
+source_value-requires-clause-hand c = c.loop-k.invariant.row.hand
+
+pub source_value-requires-clause-free : goal.source_value-requires-clause-free
+source_value-requires-clause-free c = ap (λ (v : View). v.claim) c.loop-k.invariant.row.view ∙ c.requires.free
+
+pub returns-in-Err : goal.returns-in-Err
+returns-in-Err c =
+    let b = c.args.self.now in let p = c.args.plan.now in let o = c.args.op in
+    subst (λ (n : Bool). OpenDoes b p o n c.args.hand.now c.source_value.new.hand (Some c.in-Err.stop)) (sym c.if-not-needed.false)
+    (settled_stop b p o c.loop-k.k (let lt = c.loop-k-test.true in let e = c.places_of-k-end.ensures.places in omega (arith, lt, e)) c.loop-k.invariant
+    (subst (λ (r : Result ℕ Stop). SourceDoes c.args.self.now c.args.plan.now c.args.op c.loop-k.k true c.loop-k.hand c.source_value.new.hand r) c.in-Err.is c.source_value.ensures))
+
+pub loop-k-preserved : goal.loop-k-preserved
+loop-k-preserved c =
+    settled_more _ _ _ c.loop-k.k c.loop-k.invariant (subst (λ (r : Result ℕ Stop). SourceDoes c.args.self.now c.args.plan.now c.args.op c.loop-k.k true c.loop-k.hand c.source_value.new.hand r) c.in_default.is c.source_value.ensures)
+
+pub returns : goal.returns
+returns c =
+    let e : c.loop-k.k ≡ places c.args.plan.now c.args.op = (let b = c.loop-k-test.false in let a = c.loop-k.auto.k-end in let p = c.places_of-k-end.ensures.places in omega (arith, a, b, p)) in
+    subst (λ (n : Bool). OpenDoes c.args.self.now c.args.plan.now c.args.op n c.args.hand.now c.loop-k.hand None) (sym c.if-not-needed.false)
+    (settled_all _ _ _ (subst (λ (j : ℕ). IsSettledUpTo c.args.self.now c.args.plan.now c.args.op j c.args.hand.now c.loop-k.hand) e c.loop-k.invariant))

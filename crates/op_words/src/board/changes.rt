@@ -1,0 +1,85 @@
+//! The exchanges that take a value back, on what the hand has seen.
+ghost use Rattle.std.specs.Prelude.{◌≡◌, ◌+◌, ◌≤◌, ◌<◌};
+ghost use Rattle.morph_base.specs.declared.limits.TheConstants.{MAX};
+ghost use Rattle.morph_base.specs.declared.word.TheConstants.{ATTEMPTS};
+ghost use Rattle.morph_base.specs.Plans.{op_count};
+ghost use Rattle.morph_base.specs.Words.{IsWord};
+ghost use Rattle.interleaving_core.specs.Core.{blocked as blocked_at, spread as spread_at};
+ghost use Rattle.op_words.specs.Views.{last_place, spreading, rolling_back};
+ghost use Rattle.op_words.specs.Stepping.{Swapped};
+ghost use Rattle.op_words.specs.Grounds.{HasGroundsToSpread, HasGroundsToRoll};
+ghost use Rattle.op_words.specs.Hands.{plan_of, cap_of, view_of, IsHandOf};
+
+use super::{Board, Hand};
+use crate::answers::Counts;
+use crate::rule::{Roll, Spread};
+use crate::words::{blocked, spread};
+use morph_base::OpWord;
+
+impl Board {
+    /// The exchange of executed to spread, at the next attempt, with the value of the target's record; the word that
+    /// was found, where it was another.
+    pub(super) fn leave_spread(
+        &self,
+        hand: &mut Hand,
+        op: u32,
+        word: OpWord,
+        value: u64,
+    ) -> Option<OpWord>
+        requires hand { IsHandOf self.now hand.old }
+        requires in_range { op < op_count (plan_of self.now) }
+        requires word { IsWord word }
+        requires value { value ≤ MAX }
+        requires grounds { HasGroundsToSpread (plan_of self.now) (cap_of self.now) op (view_of hand.old) word value }
+        ensures { Swapped self.now op hand.old hand.new word
+            (spreading op (spread_at (word.attempt + 1) value) (view_of hand.old)) (spread_at (word.attempt + 1) value) result }
+    {
+        let (first, new) = (word.pack(), spread(word.attempt + 1, value).pack());
+        let found = self
+            .table
+            .shared
+            .compare_exchange::<Spread>(&mut hand.seat, op as usize, first, new);
+        if found == first {
+            hand.counts = hand.counts.and(Counts {
+                evaluated: 0,
+                spread: 1,
+                rolled: 0,
+            });
+            return None;
+        }
+        let Some(word) = OpWord::unpack(found) else {
+            unreachable!()
+        };
+        Some(word)
+    }
+
+    /// The exchange of a word with a value for blocked, at the next attempt; the word that was found, where it was
+    /// another.
+    pub(super) fn leave_blocked(&self, hand: &mut Hand, op: u32, word: OpWord) -> Option<OpWord>
+        requires hand { IsHandOf self.now hand.old }
+        requires in_range { op < op_count (plan_of self.now) }
+        requires word { IsWord word }
+        requires grounds { HasGroundsToRoll (plan_of self.now) (cap_of self.now) op (view_of hand.old) word
+            (last_place 0 (view_of hand.old).records) }
+        ensures { Swapped self.now op hand.old hand.new word (rolling_back op (word.attempt + 1) (view_of hand.old))
+            (blocked_at (word.attempt + 1)) result }
+    {
+        let (first, new) = (word.pack(), blocked(word.attempt + 1).pack());
+        let found = self
+            .table
+            .shared
+            .compare_exchange::<Roll>(&mut hand.seat, op as usize, first, new);
+        if found == first {
+            hand.counts = hand.counts.and(Counts {
+                evaluated: 0,
+                spread: 0,
+                rolled: 1,
+            });
+            return None;
+        }
+        let Some(word) = OpWord::unpack(found) else {
+            unreachable!()
+        };
+        Some(word)
+    }
+}

@@ -1,0 +1,69 @@
+//! What a hand looks for before it takes a value back: the value of one source, and whether all are settled.
+ghost use Rattle.std.specs.Prelude.{◌≡◌, ◌<◌, None};
+ghost use Rattle.morph_base.specs.Plans.{op_count};
+ghost use Rattle.interleaving_core.specs.Core.{places};
+ghost use Rattle.op_words.specs.Grounds.{SourceDoes, OpenDoes};
+ghost use Rattle.op_words.specs.Hands.{plan_of, view_of, IsHandOf};
+
+use super::{Board, Hand};
+use crate::answers::Stop;
+use crate::places::{origin_of, places_of};
+use crate::words::is_usable;
+use morph_base::{Origin, Plan};
+
+impl Board {
+    /// The value of the source at a place, which is loaded if it is an operation; or that operation, where it has no
+    /// value, or none that is settled though it is `needed` settled.
+    pub(super) fn source_value(
+        &self,
+        hand: &mut Hand,
+        plan: &Plan,
+        op: u32,
+        j: u8,
+        needed: bool,
+    ) -> Result<u64, Stop>
+        requires hand { IsHandOf self.now hand.old }
+        requires plan { plan.now ≡ plan_of self.now }
+        requires in_range { op < op_count plan.now }
+        requires in_places { j < places plan.now op }
+        requires free { (view_of hand.old).claim ≡ None }
+        ensures { SourceDoes self.now plan.now op j needed hand.old hand.new result }
+    {
+        match origin_of(plan, op, j) {
+            Origin::Base(value) => Ok(value),
+            Origin::Op(source) => {
+                let word = self.look(hand, source);
+                if is_usable(word, needed) {
+                    Ok(word.value)
+                } else {
+                    Err(Stop { source, word })
+                }
+            }
+        }
+    }
+
+    /// Loads the sources of an operation that are `needed` settled, place by place, up to the first that is not.
+    pub(super) fn open_source(
+        &self,
+        hand: &mut Hand,
+        plan: &Plan,
+        op: u32,
+        needed: bool,
+    ) -> Option<Stop>
+        requires hand { IsHandOf self.now hand.old }
+        requires plan { plan.now ≡ plan_of self.now }
+        requires in_range { op < op_count plan.now }
+        requires free { (view_of hand.old).claim ≡ None }
+        ensures { OpenDoes self.now plan.now op needed hand.old hand.new result }
+    {
+        if !needed {
+            return None;
+        }
+        for k in 0..places_of(plan, op) {
+            if let Err(stop) = self.source_value(hand, plan, op, k, true) {
+                return Some(stop);
+            }
+        }
+        None
+    }
+}

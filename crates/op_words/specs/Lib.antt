@@ -12,8 +12,5 @@ pub mod Kinds
 pub mod Closing
 pub mod Judging
 pub mod Retrying
-<<<<<<< HEAD
 pub mod Comparing
-=======
 pub mod Grounds
->>>>>>> 2eb30a294442ded414723febf8a60bf4b28543f7

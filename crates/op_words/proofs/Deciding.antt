@@ -103,16 +103,16 @@ module _ {p : Plan} {cap counters : ℕ} (s : Seats) (lawful : Lawful p cap coun
     pub said_right : (committed : Bool) → MaySayOf p v e committed → verdict p e ≡ committed
     said_right committed grounds = grounds_right p cap lawful.valid lawful.small lawful.core lawful.sound e committed lt (grounds_in committed grounds)
 
-    module _ (committed : Bool) (grounds : MaySayOf p v e committed) (open_event : lawful.core.decision e ≡ None) where
+    may_decide : (committed : Bool) → MaySayOf p v e committed → lawful.core.decision e ≡ None → May p cap lawful.core (Decide e committed)
+    may_decide committed grounds open_event = record { in_range = lt; goes_from = open_event; grounds = grounds_in committed grounds }
+
+    module _ (committed : Bool) (may : May p cap lawful.core (Decide e committed)) where
       abbrev next : Core
       next = after p lawful.core (Decide e committed)
 
-      may_decide : May p cap lawful.core (Decide e committed)
-      may_decide = record { in_range = lt; goes_from = open_event; grounds = grounds_in committed grounds }
-
       knows_decided : Knows p cap next (length s.views) i (deciding e committed v)
       knows_decided =
-          knows_more {v = v} {xs = []} (grown s lawful i v (deciding e committed v) at (Decide e committed) may_decide) knows
+          knows_more {v = v} {xs = []} (grown s lawful i v (deciding e committed v) at (Decide e committed) may) knows
           (record {
             plan = refl;
             cap = refl;
@@ -131,7 +131,7 @@ module _ {p : Plan} {cap counters : ℕ} (s : Seats) (lawful : Lawful p cap coun
 
       pub decided_steps : Steps p cap counters s lawful (with_view (set s.words (decision_base p + e) (packed_decision (Some committed))) s i (deciding e committed v)) (Decide e committed)
       decided_steps =
-          advanced s lawful i v (deciding e committed v) at (Decide e committed) may_decide
+          advanced s lawful i v (deciding e committed v) at (Decide e committed) may
           (record {
             others = λ t other. refl;
             shown = [];
@@ -171,7 +171,7 @@ module _ {p : Plan} {cap counters : ℕ} (s : Seats) (lawful : Lawful p cap coun
       by_decision : (d : Option Bool) → lawful.core.decision e ≡ d → Done (found == 0)
       by_decision None is =
           let zero_found : found ≡ 0 = found_is ∙ ap packed_decision is in
-          subst Done (sym (ap (λ n. n == 0) zero_found)) (deciding e committed v, (decided_steps committed grounds is).next, inl (zero_found, refl, decided_told committed grounds is))
+          subst Done (sym (ap (λ n. n == 0) zero_found)) (deciding e committed v, (decided_steps committed (may_decide committed grounds is)).next, inl (zero_found, refl, decided_told committed (may_decide committed grounds is)))
       by_decision (Some made) is =
           let same : made ≡ committed = sym (lawful.sound.decided e made is).1 ∙ said_right committed grounds in
           let other : found ≢ 0 = not_zero made (found_is ∙ ap packed_decision is) in

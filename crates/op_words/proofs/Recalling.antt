@@ -91,7 +91,7 @@ module _ {p : Plan} {cap counters : ℕ} (s : Seats) (lawful : Lawful p cap coun
         ])
         (λ x inside. absurd (not_inside x inside))
 
-    recalled_stays : Stays p cap counters s lawful (with_view s.words s i (recalling o j (record_value (lawful.core.recorded o j)) v))
+    pub recalled_stays : Stays p cap counters s lawful (with_view s.words s i (recalling o j (record_value (lawful.core.recorded o j)) v))
     recalled_stays =
         moved s lawful i v (recalling o j (record_value r) v) at s.words (record { tag = refl; published = refl; settlings = refl; events = refl; joined = refl }) lawful.shows
         (record { each = λ k few h. sum_kept s.views i v (recalling o j (record_value r) v) at (taken k h) refl ∙ lawful.numbers.each k few h }) recalled_knows

@@ -153,14 +153,17 @@ module _ (b : Board) (p : Plan) (o : ℕ) (v : View) (h : Hand) (w : OpWord) (op
             | inr other ↦ found_other z (λ same. other (ap packed same)) did
             | inl same ↦
                 let one : w ≡ z = one_word w z is_word did.tells.is_word (sym same) in
-                stopped_after z did (inr (commits, record {
-                  place = j;
-                  kept = kept;
-                  value = value;
-                  stale =
-                      stale_again b p o plan v k m front walk.hand free_front adds_front z did (ap (λ (x : OpWord). has_run x.state) (sym one) ∙ ran) j kept value
-                      (subst (λ (x : OpWord). IsOtherAt p o x xs (view_of k) j kept value) one at) (read_right (loaded o w ∷ []) xs (origin_at p o j) value at.right.read);
-                }))
+                stopped_after z did (inr (
+                  commits,
+                  record {
+                    place = j;
+                    kept = kept;
+                    value = value;
+                    stale =
+                        stale_again b p o plan v k m front walk.hand free_front adds_front z did (ap (λ (x : OpWord). has_run x.state) (sym one) ∙ ran) j kept value
+                        (subst (λ (x : OpWord). IsOtherAt p o x xs (view_of k) j kept value) one at) (read_right (loaded o w ∷ []) xs (origin_at p o j) value at.right.read);
+                  },
+                ))
           ]
 
       -- it was settled

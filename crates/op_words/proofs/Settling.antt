@@ -41,7 +41,7 @@ module _ {p : Plan} {cap counters : ℕ} (s : Seats) (lawful : Lawful p cap coun
   knows : Knows p cap lawful.core (length s.views) i v
   knows = lawful.hands i v at
 
-  module _ (o : ℕ) (lt : o < op_count p) (w z : OpWord) (word : lawful.core.word o ≡ w) where
+  module _ (o : ℕ) (lt : o < op_count p) (z : OpWord) where
     -- what a settled word is in the view
     is_booked : is_settled z.state ≡ true → (x : Settling) → Contains (settling o z v).settlings x → Contains v.settlings x ⊎ IsBooked (settling o z v) x
     is_booked stands x inside =
@@ -98,6 +98,43 @@ module _ {p : Plan} {cap counters : ℕ} (s : Seats) (lawful : Lawful p cap coun
       records = λ noted r inside. inl inside;
     }
 
+    -- a step that settles the operation so
+    module _ (may : MaySettle p lawful.core o v.tag) (stands : is_settled z.state ≡ true) (after_is : after p lawful.core e ≡ sealed) where
+      left_is : IsLeft p lawful.core (after p lawful.core e) o z e i v (settling o z v)
+      left_is = subst (λ (d : Core). IsLeft p lawful.core d o z e i v (settling o z v)) (sym after_is) (is_sealed stands)
+
+      sealed_steps : Steps p cap counters s lawful (with_view (set s.words o (packed z)) s i (settling o z v)) (Settle o v.tag)
+      sealed_steps = left_steps s lawful i v (settling o z v) at o lt z e may left_is
+
+      sealed_so : Leaves v (settling o z v) (left o z)
+      sealed_so = left_so s lawful i v (settling o z v) at o lt z e may left_is
+
+      -- its value is the fold's
+      sealed_value : z.value ≡ final p o
+      sealed_value =
+          let sound = step_keeps p cap lawful.valid lawful.small lawful.core lawful.sound e may in
+          let here : (after p lawful.core e).word o ≡ z = ap (λ (d : Core). d.word o) after_is ∙ put_here lawful.core.word o z in
+          ap (λ (x : OpWord). x.value) (sym here) ∙ settled_right p cap lawful.valid (after p lawful.core e) sound o lt (ap (λ (x : OpWord). is_settled x.state) here ∙ stands)
+
+  -- any step of the machine that settles it
+  module _ (o : ℕ) (lt : o < op_count p) (may : MaySettle p lawful.core o v.tag) where
+    abbrev now : OpWord
+    now = (after p lawful.core (Settle o v.tag)).word o
+
+    by_word : (z : OpWord) → is_settled z.state ≡ true → after p lawful.core (Settle o v.tag) ≡ sealed o lt z
+        → Steps p cap counters s lawful (with_view (set s.words o (packed now)) s i (settling o now v)) (Settle o v.tag)
+    by_word z stands is =
+        let here : z ≡ now = sym (ap (λ (d : Core). d.word o) is ∙ put_here lawful.core.word o z) in
+        subst (λ (x : OpWord). Steps p cap counters s lawful (with_view (set s.words o (packed x)) s i (settling o x v)) (Settle o v.tag)) here (sealed_steps o lt z may stands is)
+
+    pub any_settled : Steps p cap counters s lawful (with_view (set s.words o (packed now)) s i (settling o now v)) (Settle o v.tag)
+    any_settled =
+        elim may.as_decided [
+          | inl commits ↦ by_word (settled (lawful.core.word o).attempt (value_in lawful.core o) v.tag) refl (ap (settling_in p lawful.core o v.tag) commits.decided)
+          | inr aborts ↦ by_word (settled_aborted (lawful.core.word o).attempt (source p (value_in lawful.core) o 0) v.tag) refl (ap (settling_in p lawful.core o v.tag) aborts.decided)
+        ]
+
+  module _ (o : ℕ) (lt : o < op_count p) (w z : OpWord) (word : lawful.core.word o ≡ w) where
     -- under commit
     committed_may : IsToCommit p v o w z → MaySettle p lawful.core o v.tag
     committed_may is = record {
@@ -115,7 +152,7 @@ module _ {p : Plan} {cap counters : ℕ} (s : Seats) (lawful : Lawful p cap coun
       });
     }
 
-    committed_after : IsToCommit p v o w z → after p lawful.core e ≡ sealed
+    committed_after : IsToCommit p v o w z → after p lawful.core (Settle o v.tag) ≡ sealed o lt z
     committed_after is =
         let made : settled (lawful.core.word o).attempt (lawful.core.word o).value v.tag ≡ z = ap (λ (x : OpWord). settled x.attempt x.value v.tag) word ∙ sym is.word_is in
         ap (settling_in p lawful.core o v.tag) (knows.noted.decisions _ is.decided)
@@ -133,7 +170,7 @@ module _ {p : Plan} {cap counters : ℕ} (s : Seats) (lawful : Lawful p cap coun
       });
     }
 
-    aborted_after : IsToAbort p v o w z → after p lawful.core e ≡ sealed
+    aborted_after : IsToAbort p v o w z → after p lawful.core (Settle o v.tag) ≡ sealed o lt z
     aborted_after is =
         let known = source_present s lawful i v at (origin_at p o 0) (source p (final p) o 0) is.target in
         let made : settled_aborted (lawful.core.word o).attempt (source p (value_in lawful.core) o 0) v.tag ≡ z =
@@ -152,24 +189,17 @@ module _ {p : Plan} {cap counters : ℕ} (s : Seats) (lawful : Lawful p cap coun
       may_settle : MaySettle p lawful.core o v.tag
       may_settle = elim is [ inl commits ↦ committed_may commits | inr aborts ↦ aborted_may aborts ]
 
-      after_is : after p lawful.core e ≡ sealed
+      after_is : after p lawful.core (Settle o v.tag) ≡ sealed o lt z
       after_is = elim is [ inl commits ↦ committed_after commits | inr aborts ↦ aborted_after aborts ]
 
-      left_is : IsLeft p lawful.core (after p lawful.core e) o z e i v (settling o z v)
-      left_is = subst (λ (d : Core). IsLeft p lawful.core d o z e i v (settling o z v)) (sym after_is) (is_sealed (settled_state is))
-
       pub settled_steps : Steps p cap counters s lawful (with_view (set s.words o (packed z)) s i (settling o z v)) (Settle o v.tag)
-      settled_steps = left_steps s lawful i v (settling o z v) at o lt z e may_settle left_is
+      settled_steps = sealed_steps o lt z may_settle (settled_state is) after_is
 
       pub settled_so : Leaves v (settling o z v) (left o z)
-      settled_so = left_so s lawful i v (settling o z v) at o lt z e may_settle left_is
+      settled_so = sealed_so o lt z may_settle (settled_state is) after_is
 
-      -- its value is the fold's
       pub settled_value : z.value ≡ final p o
-      settled_value =
-          let sound = step_keeps p cap lawful.valid lawful.small lawful.core lawful.sound e may_settle in
-          let here : (after p lawful.core e).word o ≡ z = ap (λ (d : Core). d.word o) after_is ∙ put_here lawful.core.word o z in
-          ap (λ (x : OpWord). x.value) (sym here) ∙ settled_right p cap lawful.valid (after p lawful.core e) sound o lt (ap (λ (x : OpWord). is_settled x.state) here ∙ settled_state is)
+      settled_value = sealed_value o lt z may_settle (settled_state is) after_is
 
 module _ {p : Plan} {cap counters : ℕ} (slots id : ℕ) (me : Sat) (v : View) (is : me.0 ≡ Some v) (plan : v.plan.value ≡ p) (o : ℕ) (lt : o < op_count p) (w z : OpWord) (is_word : IsWord w) (new : IsWord z) (grounds : MaySettleIt p v o w z) where
   pub allows_settle : Allows (Lawful p cap counters) slots id me o (λ n. either (n == packed w) (packed z) n) (settles (step slots o (packed w) (packed z) none) me)
@@ -183,8 +213,10 @@ module _ {p : Plan} {cap counters : ℕ} (slots id : ℕ) (me : Sat) (v : View) 
         λ x same y y_word second.
             let e : v ≡ x = same_Some v x (sym is ∙ same) in
             let one : z ≡ y = one_word z y new y_word second in
-            subst (λ (t : View × OpWord). Swaps o (slice_index s.words o) (packed w) t.0 (settling o t.1 t.0) t.1 me (Some r.0, me.1) × (slice_index s.words o ≡ packed w → t.1.value ≡ final t.0.plan.value o)) (λ k. (e k, one k))
-            (r.2, λ hit.
-            let present : lawful.core.word o ≡ w = one_word (lawful.core.word o) w (lawful.sound.each_op o lt).range.word is_word (sym (lawful.shows.ops o lt) ∙ hit) in
-            settled_value s lawful id v there o lt w z present grounds ∙ sym (ap (λ (q : Plan). final q o) plan)),
+            subst (λ (t : View × OpWord). Swaps o (slice_index s.words o) (packed w) t.0 (settling o t.1 t.0) t.1 me (Some r.0, me.1) × (slice_index s.words o ≡ packed w → t.1.value ≡ final t.0.plan.value o)) (λ k. (e k, one k)) (
+              r.2,
+              λ hit.
+                  let present : lawful.core.word o ≡ w = one_word (lawful.core.word o) w (lawful.sound.each_op o lt).range.word is_word (sym (lawful.shows.ops o lt) ∙ hit) in
+                  settled_value s lawful id v there o lt w z present grounds ∙ sym (ap (λ (q : Plan). final q o) plan),
+            ),
       )

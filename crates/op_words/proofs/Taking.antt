@@ -13,7 +13,7 @@ use Rattle.op_words.specs.declared.trail.Joined.{Joined}
 use Rattle.op_words.specs.declared.trail.Place.{Place}
 use Rattle.op_words.specs.declared.trail.View.{View}
 use Rattle.op_words.specs.Layout.{Shows, record_index, decision_base, level_index, counter_base}
-use Rattle.op_words.specs.Rule.{Seats, live, tags, taken, of_counter, of_joined, one, most_taken, HasNumbers, Knows, Lawful}
+use Rattle.op_words.specs.Rule.{Seats, live, tags, taken, of_counter, of_joined, one, most_taken, HasNumbers, Knows, Lawful, Stays}
 use Rattle.op_words.specs.declared.board.Hand.{Hand}
 use Rattle.op_words.specs.Hands.{view_of, held_of}
 use Rattle.op_words.specs.Plays.{Sat, IsTold}
@@ -144,10 +144,10 @@ module _ {p : Plan} {cap counters : ℕ} (s : Seats) (lawful : Lawful p cap coun
             let before : sum_by (of_counter j one) v.places < most_taken = subst (λ m. sum_by (of_counter m one) v.places < most_taken) same few in
             omega (arith, more, new, before)
 
-    pub taken_keeps : times k v.places < most_taken → Lawful p cap counters (with_view after s i (taking k n v))
-    taken_keeps few =
-        (moved s lawful i v (taking k n v) at after (record { tag = refl; published = refl; settlings = refl; events = refl; joined = refl }) shows_taken numbers_taken (knows_taken few)
-        (λ single first. record { each = (lawful.alone single v (subst (λ m. get_elem? s.views m ≡ some (Some v)) first at)).each })).next
+    pub taken_stays : times k v.places < most_taken → Stays p cap counters s lawful (with_view after s i (taking k n v))
+    taken_stays few =
+        moved s lawful i v (taking k n v) at after (record { tag = refl; published = refl; settlings = refl; events = refl; joined = refl }) shows_taken numbers_taken (knows_taken few)
+        (λ single first. record { each = (lawful.alone single v (subst (λ m. get_elem? s.views m ≡ some (Some v)) first at)).each })
 
     -- the number is above those that the hand took, and a lone root takes them from 0 on
     pub takes_so : Takes k n v
@@ -195,7 +195,7 @@ module _ {p : Plan} {cap counters : ℕ} where
         Some (taking k m v),
         keeps,
         tt,
-        subst (λ b. Lawful p cap counters (record { words = set s.words (counter_base p + k) b; homes = s.homes; views = set s.views id (Some (taking k m v)) })) (sym (wraps m (counter_small s lawful k below))) (taken_keeps s lawful id v there k below few),
+        subst (λ b. Lawful p cap counters (record { words = set s.words (counter_base p + k) b; homes = s.homes; views = set s.views id (Some (taking k m v)) })) (sym (wraps m (counter_small s lawful k below))) ((taken_stays s lawful id v there k below few).next),
         tells s lawful there,
       )
     where
@@ -250,13 +250,13 @@ module _ {p : Plan} {cap counters : ℕ} where
           omega (arith, same, law) ∙ ap (λ (n : ℕ). sum_by h (range_with_len 0 n)) (sym (set_apart s.words (level_index p) (counter_base p + k) a (λ e. omega (arith, e))));
     }
 
-    pub level_keeps : Lawful p cap counters (with_view (set s.words (level_index p) a) s i v)
-    level_keeps =
-        (moved s lawful i v v at (set s.words (level_index p) a) (record { tag = refl; published = refl; settlings = refl; events = refl; joined = refl }) shows_level numbers_level (lawful.hands i v at)
-        (λ single first. lawful.alone single v (subst (λ m. get_elem? s.views m ≡ some (Some v)) first at))).next
+    pub level_stays : Stays p cap counters s lawful (with_view (set s.words (level_index p) a) s i v)
+    level_stays =
+        moved s lawful i v v at (set s.words (level_index p) a) (record { tag = refl; published = refl; settlings = refl; events = refl; joined = refl }) shows_level numbers_level (lawful.hands i v at)
+        (λ single first. lawful.alone single v (subst (λ m. get_elem? s.views m ≡ some (Some v)) first at))
 
   -- whatever becomes of the level word
   pub allows_level : (slots id : ℕ) (me : Sat) (v : View) (f : ℕ → ℕ) (a b : ℕ) → me.0 ≡ Some v
       → Allows (Lawful p cap counters) slots id me (level_index p) f (passes (step slots (level_index p) a b none) me)
   allows_level slots id me v f a b is s lawful homes at small =
-      (me.0, keeps, tt, subst (λ (x : Option View). Lawful p cap counters (record { words = set s.words (level_index p) (f (slice_index s.words (level_index p))); homes = s.homes; views = set s.views id x })) (sym is) (level_keeps s lawful id v (at ∙ ap some is) (f (slice_index s.words (level_index p)))), refl)
+      (me.0, keeps, tt, subst (λ (x : Option View). Lawful p cap counters (record { words = set s.words (level_index p) (f (slice_index s.words (level_index p))); homes = s.homes; views = set s.views id x })) (sym is) (level_stays s lawful id v (at ∙ ap some is) (f (slice_index s.words (level_index p)))).next, refl)

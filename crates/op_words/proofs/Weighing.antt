@@ -178,9 +178,12 @@ module _ (b : Board) (p : Plan) (cap i start : ℕ) (valid : IsPlan p) (lt : i <
     tells_more Aborted c fine before now r not_bad first doubt = absurd (not_bad refl)
     tells_more (Undecided at w) c fine before now r not_bad first doubt =
         let less = before.2 in
-        subst (GroundsTell p cap i start (n + 1) (view_of h) (view_of k) (all.words ++ here.words)) (sym (doubt (λ same. apart same)))
-        (before.0, before.1, omega (arith, less),
-        doubt_wider p cap before.0 (wider_more before.0 all.words here.goes.adds (apart_reads p i before.0 n here.words valid lt before.1 within (λ same. omega (arith, same, less)) here.none here.reads)) at w before.3)
+        subst (GroundsTell p cap i start (n + 1) (view_of h) (view_of k) (all.words ++ here.words)) (sym (doubt (λ same. apart same))) (
+          before.0,
+          before.1,
+          omega (arith, less),
+          doubt_wider p cap before.0 (wider_more before.0 all.words here.goes.adds (apart_reads p i before.0 n here.words valid lt before.1 within (λ same. omega (arith, same, less)) here.none here.reads)) at w before.3,
+        )
       where
         apart : Undecided at w ≡ Committed → ⊥
         apart same = cc

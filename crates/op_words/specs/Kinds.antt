@@ -1,20 +1,22 @@
 -- What the table is before and after each kind of step of a hand, and what that is to the machine.
-use Rattle.std.specs.Prelude.{◌≡◌, ◌≢◌, ℕ, ◌+◌, ◌<◌, List, [], ◌∷◌, ◌++◌, length, Some, None, slice_set}
+use Rattle.std.specs.Prelude.{◌≡◌, ◌≢◌, ℕ, ◌+◌, ◌<◌, Bool, List, [], ◌∷◌, ◌++◌, length, Some, None, slice_index, slice_set}
 use mathlib.Core.Option.{some}
 use lib.ListN.{get_elem?}
 use Rattle.morph_base.specs.Limits.{most_workers}
 use Rattle.morph_base.specs.declared.plan.Plan.{Plan}
-use Rattle.morph_base.specs.Plans.{op_count, origin_at}
+use Rattle.morph_base.specs.Plans.{op_count, event_count, origin_at}
+use Rattle.morph_base.specs.declared.word.OpWord.{OpWord}
 use Rattle.morph_base.specs.Words.{packed}
 use Rattle.interleaving_core.specs.declared.entry.Held.{Held}
 use Rattle.interleaving_core.specs.declared.event.CoreEvent.{CoreEvent}
-use Rattle.interleaving_core.specs.declared.event.CoreEvent.TheVariants.{Ready as ReadyStep, Claim, Fetch, Finish, GiveBack, Spread as SpreadStep, RollBack}
-use Rattle.interleaving_core.specs.Core.{blocked, ready, claimed, places}
-use Rattle.interleaving_core.specs.Steps.{May, spread_of}
+use Rattle.interleaving_core.specs.declared.event.CoreEvent.TheVariants.{Ready as ReadyStep, Claim, Fetch, Finish, GiveBack, Spread as SpreadStep, RollBack, Decide, Settle}
+use Rattle.interleaving_core.specs.Core.{blocked, ready, claimed, places, record_value}
+use Rattle.interleaving_core.specs.Steps.{May, after, spread_of}
 use Rattle.op_words.specs.declared.trail.View.{View}
-use Rattle.op_words.specs.Views.{looked, making, claiming, fetching, finishing, giving_back, spreading, rolling_back, last_op, last_place, parent, child, merged}
-use Rattle.op_words.specs.Layout.{record_index, packed_record}
-use Rattle.op_words.specs.Rule.{Seats, Lawful, Stays, Steps}
+use Rattle.op_words.specs.Views.{looked, making, claiming, fetching, finishing, giving_back, spreading, rolling_back, recalling, learning, deciding, settling, last_op, last_place, parent, child, merged}
+use Rattle.op_words.specs.Layout.{record_index, packed_record, decision_base, packed_decision, level_index, counter_base}
+use Rattle.op_words.specs.Rule.{Seats, Lawful, Stays, Steps, most_taken}
+use Rattle.op_words.specs.Counting.{taking, times}
 use Rattle.op_words.specs.Plays.{end_of}
 use Rattle.op_words.specs.Stepping.{IsUsable}
 
@@ -84,6 +86,39 @@ module _ (p : Plan) (cap counters : ℕ) (m : Moment p cap counters) where
   RollsBack =
       (o j : ℕ) → last_place 0 m.view.records ≡ j → May p cap m.lawful.core (RollBack o j)
       → IsStep (RollBack o j) (turned m.table m.seat (slice_set m.table.words o (packed (blocked ((m.lawful.core.word o).attempt + 1)))) (rolling_back o ((m.lawful.core.word o).attempt + 1) m.view))
+
+  -- no decision becomes one
+  abbrev pub Decides : Type 0
+  Decides =
+      (i : ℕ) (committed : Bool) → May p cap m.lawful.core (Decide i committed)
+      → IsStep (Decide i committed) (turned m.table m.seat (slice_set m.table.words (decision_base p + i) (packed_decision (Some committed))) (deciding i committed m.view))
+
+  -- the word that the operation has after the machine's step
+  abbrev pub settled_word : ℕ → OpWord
+  settled_word o = (after p m.lawful.core (Settle o m.view.tag)).word o
+
+  -- a word becomes settled
+  abbrev pub Settles : Type 0
+  Settles =
+      (o : ℕ) → May p cap m.lawful.core (Settle o m.view.tag)
+      → IsStep (Settle o m.view.tag) (turned m.table m.seat (slice_set m.table.words o (packed (settled_word o))) (settling o (settled_word o) m.view))
+
+  -- loads of a record and of a decision
+  abbrev pub LoadsRecord : Type 0
+  LoadsRecord = (o j : ℕ) → o < op_count p → j < places p o → IsNone (turned m.table m.seat m.table.words (recalling o j (record_value (m.lawful.core.recorded o j)) m.view))
+
+  abbrev pub LoadsDecision : Type 0
+  LoadsDecision = (i : ℕ) → i < event_count p → IsNone (turned m.table m.seat m.table.words (learning i (m.lawful.core.decision i) m.view))
+
+  -- an addition of 1 to a counter
+  abbrev pub Takes : Type 0
+  Takes =
+      (k : ℕ) → k < counters → times k m.view.places < most_taken
+      → IsNone (turned m.table m.seat (slice_set m.table.words (counter_base p + k) (slice_index m.table.words (counter_base p + k) + 1)) (taking k (slice_index m.table.words (counter_base p + k)) m.view))
+
+  -- whatever becomes of the level word
+  abbrev pub Lowers : Type 0
+  Lowers = (a : ℕ) → IsNone (turned m.table m.seat (slice_set m.table.words (level_index p) a) m.view)
 
   -- the root makes a hand
   abbrev pub MakesHand : Type 0

@@ -4,7 +4,7 @@
 //! step of a hand keeps the rule, and says what becomes of that state.
 ghost use Rattle.std.specs.Prelude.{ℕ};
 ghost use Rattle.morph_base.specs.declared.plan.Plan.{Plan};
-ghost use Rattle.op_words.specs.Kinds.{Moment, Loads, Makes, Claims, Records, Finishes, GivesBack, Spreads, RollsBack, MakesHand, Joins, HoldsAlone};
+ghost use Rattle.op_words.specs.Kinds.{Moment, Loads, Makes, Claims, Records, Finishes, GivesBack, Spreads, RollsBack, Decides, Settles, LoadsRecord, LoadsDecision, Takes, Lowers, MakesHand, Joins, HoldsAlone};
 
 /// Each atomic step is a step of the machine, or leaves its state as it was.
 ///
@@ -19,6 +19,13 @@ pub fn each_step()
     ensures gives_back { (p : Plan) (cap counters : ℕ) (m : Moment p cap counters) → GivesBack p cap counters m }
     ensures spreads { (p : Plan) (cap counters : ℕ) (m : Moment p cap counters) → Spreads p cap counters m }
     ensures rolls_back { (p : Plan) (cap counters : ℕ) (m : Moment p cap counters) → RollsBack p cap counters m }
+    ensures decides { (p : Plan) (cap counters : ℕ) (m : Moment p cap counters) → Decides p cap counters m }
+    ensures settles { (p : Plan) (cap counters : ℕ) (m : Moment p cap counters) → Settles p cap counters m }
+    ensures loads_record { (p : Plan) (cap counters : ℕ) (m : Moment p cap counters) → LoadsRecord p cap counters m }
+    ensures loads_decision { (p : Plan) (cap counters : ℕ) (m : Moment p cap counters)
+        → LoadsDecision p cap counters m }
+    ensures takes { (p : Plan) (cap counters : ℕ) (m : Moment p cap counters) → Takes p cap counters m }
+    ensures lowers { (p : Plan) (cap counters : ℕ) (m : Moment p cap counters) → Lowers p cap counters m }
     ensures makes_hand { (p : Plan) (cap counters : ℕ) (m : Moment p cap counters) → MakesHand p cap counters m }
     ensures joins { (p : Plan) (cap counters : ℕ) (m : Moment p cap counters) → Joins p cap counters m }
 {}

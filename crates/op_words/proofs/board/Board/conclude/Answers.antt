@@ -33,6 +33,6 @@ returns c =
     let at = decision_place p p c.args.event (level_index p) c.len.result refl refl c.len.ensures in
     let level : b.level ≡ level_index p = b.leveled ∙ ap level_index (sym c.requires.plan) in
     let t = conclude_told b h c.requires.hand p c.requires.plan c.args.event _ c.compare_exchange-found.result c.pack_decision-new.result c.args.committed c.compare_exchange-found.new.seat.me c.requires.in_range
-        (ap (λ (n : ℕ). n - c.len.result + c.args.event) level ∙ sym at) c.pack_decision-new.ensures c.compare_exchange-found.ensures.2 in
+    (ap (λ (n : ℕ). n - c.len.result + c.args.event) level ∙ sym at) c.pack_decision-new.ensures c.compare_exchange-found.ensures.2 in
     subst (IsConcluded b p c.args.event h g) (sym (c.unwrap_or.ensures ∙ stands_as b h g c.requires.hand c.compare_exchange-found.ensures.0 refl refl refl refl c.requires.free p c.args.event c.args.committed t.0 c.compare_exchange-found.result t.1 c.decision_of.result c.decision_of.ensures))
-        (concluded_as b h g c.requires.hand c.compare_exchange-found.ensures.0 refl refl refl refl c.requires.free p c.args.event c.args.committed t.0 c.compare_exchange-found.result t.1)
+    (concluded_as b h g c.requires.hand c.compare_exchange-found.ensures.0 refl refl refl refl c.requires.free p c.args.event c.args.committed t.0 c.compare_exchange-found.result t.1)

@@ -22,14 +22,14 @@ seal-requires-clause-new c =
     let worker = at.walk.hand.worker in let tag = at.walk.hand.tag in let fold = at.tells.fold in
     let low = worker.first in let high = worker.last in
     subst IsWord (sym c.settled_aborted-new.ensures)
-        (record {
-          small = omega (arith, small, fold);
-          first = c.requires.word.first;
-          last = c.requires.word.last;
-          blank = λ is. absurd (false≢true is);
-          by_worker = λ is. (omega (arith, low, tag), omega (arith, high, tag));
-          by_none = λ is. absurd (false≢true (sym is));
-        })
+    (record {
+      small = omega (arith, small, fold);
+      first = c.requires.word.first;
+      last = c.requires.word.last;
+      blank = λ is. absurd (false≢true is);
+      by_worker = λ is. (omega (arith, low, tag), omega (arith, high, tag));
+      by_none = λ is. absurd (false≢true (sym is));
+    })
 
 pub seal-requires-clause-grounds : goal.seal-requires-clause-grounds
 seal-requires-clause-grounds c =

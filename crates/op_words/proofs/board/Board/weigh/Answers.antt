@@ -9,7 +9,7 @@ returns-in-Good c = weighed_good c.args.self.now c.args.plan.now (cap_of c.args.
     (subst (IsJudgedAs c.args.self.now c.args.plan.now (cap_of c.args.self.now) c.args.op c.args.hand.now c.judge-verdict.new.hand c.judge-verdict.result.0) c.in-Good.is c.judge-verdict.ensures)
 
 pub returns-in-Bad : goal.returns-in-Bad
-returns-in-Bad c = weighed_bad c.args.self.now c.args.plan.now (cap_of c.args.self.now) c.args.op c.args.hand.now c.judge-verdict.new.hand c.judge-verdict.result.0 
+returns-in-Bad c = weighed_bad c.args.self.now c.args.plan.now (cap_of c.args.self.now) c.args.op c.args.hand.now c.judge-verdict.new.hand c.judge-verdict.result.0
     (subst (IsJudgedAs c.args.self.now c.args.plan.now (cap_of c.args.self.now) c.args.op c.args.hand.now c.judge-verdict.new.hand c.judge-verdict.result.0) c.in-Bad.is c.judge-verdict.ensures)
 
 pub returns-in-Stale : goal.returns-in-Stale

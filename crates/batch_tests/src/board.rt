@@ -1,11 +1,13 @@
 //! A hand's way through an operation, alone and beside another hand.
-ghost use Rattle.std.specs.Prelude.{◌≡◌, ◌<◌, None};
-ghost use Rattle.morph_base.specs.Plans.{op_count};
+ghost use Rattle.std.specs.Prelude.{◌≡◌, ◌≢◌, ◌<◌, None};
+ghost use Rattle.morph_base.specs.Plans.{op_count, event_of};
 ghost use Rattle.op_words.specs.Hands.{plan_of, view_of, IsHandOf};
 
 use crate::four_events::{plan, plan_at};
 use morph_base::{OpState, OpWord, Plan};
-use op_words::{Board, Claimed, Counts, Fetched, Hand, Outcome, Readied, places_of};
+use op_words::{
+    Board, Claimed, Counts, Fetched, Hand, Outcome, Readied, Rolled, Spreaded, places_of,
+};
 use std::test::Fail;
 
 /// What the calls of one way through an operation answered, as far as it came.
@@ -121,6 +123,97 @@ fn one_hand_evaluates(rt: HostRuntime) -> Result<(), Fail> {
         rolled: 0,
     };
     assert_eq!(rt; root.counts(), counts);
+    Ok(())
+}
+
+/// Evaluates an operation that reads one place, and spreads its failure to another one of its event, twice; `None`
+/// where it did not fail.
+fn spread_twice(
+    board: &Board,
+    hand: &mut Hand,
+    plan: &Plan,
+    op: u32,
+    sibling: u32,
+) -> Option<(Spreaded, Spreaded)>
+    requires hand { IsHandOf board.now hand.old }
+    requires plan { plan.now ≡ plan_of board.now }
+    requires in_range { op < op_count plan.now }
+    requires sibling { sibling < op_count plan.now }
+    requires another { sibling ≢ op }
+    requires same_event { event_of plan.now sibling ≡ event_of plan.now op }
+    requires free { (view_of hand.old).claim ≡ None }
+    ensures hand { IsHandOf board.now hand.new }
+    ensures free { (view_of hand.new).claim ≡ None }
+{
+    board.ready(hand, plan, sibling);
+    if places_of(plan, sibling) != 1 {
+        return None;
+    }
+    if let Claimed::Not { .. } = board.claim(hand, plan, sibling) {
+        return None;
+    }
+    if let Fetched::Unready { .. } = board.fetch(hand, plan, sibling, 0) {
+        board.give_back(hand, plan, sibling);
+        return None;
+    }
+    match board.finish(hand, plan, sibling) {
+        Outcome::Executed(_) => None,
+        Outcome::Failed => {
+            let first = board.spread(hand, plan, op, sibling);
+            let again = board.spread(hand, plan, op, sibling);
+            Some((first, again))
+        }
+    }
+}
+
+/// A failure of operation 3 is spread to operation 2, which operation 6 has read; below the cap alone.
+#[test]
+fn a_failure_is_spread(rt: HostRuntime) -> Result<(), Fail> {
+    let plan = plan(&rt, rt.alloc())?;
+    assert!(rt; plan.ops.len() == 14 && plan.ops.get(2).event == plan.ops.get(3).event);
+    let (board, mut root) = Board::new(rt.alloc(), &plan, 7, 0)?;
+    evaluate(&board, &mut root, &plan, 0);
+    evaluate(&board, &mut root, &plan, 1);
+    evaluate(&board, &mut root, &plan, 2);
+    evaluate(&board, &mut root, &plan, 6);
+    let spread = OpWord {
+        value: 100,
+        attempt: 2,
+        state: OpState::Spread,
+        by: 0,
+    };
+    let twice = (Spreaded::Done, Spreaded::Not { word: spread });
+    assert_eq!(rt; spread_twice(&board, &mut root, &plan, 2, 3), Some(twice));
+    assert_eq!(rt; board.peek(&mut root, &plan, 2).pack(), 90_159_953_477_732);
+    assert_eq!(rt; board.roll_back(&mut root, &plan, 6, 0), Rolled::Done);
+    assert_eq!(rt; board.roll_back(&mut root, &plan, 3, 0), Rolled::Fresh { value: 5 });
+    let not = Rolled::Not {
+        at: 0,
+        word: word(OpState::Executed, 100, 0),
+    };
+    assert_eq!(rt; board.roll_back(&mut root, &plan, 2, 0), not);
+    let counts = Counts {
+        evaluated: 5,
+        spread: 1,
+        rolled: 1,
+    };
+    assert_eq!(rt; root.counts(), counts);
+    Ok(())
+}
+
+/// At cap 1 nothing is spread.
+#[test]
+fn nothing_is_spread_at_the_cap(rt: HostRuntime) -> Result<(), Fail> {
+    let plan = plan(&rt, rt.alloc())?;
+    assert!(rt; plan.ops.len() == 14 && plan.ops.get(2).event == plan.ops.get(3).event);
+    let (board, mut root) = Board::new(rt.alloc(), &plan, 1, 0)?;
+    evaluate(&board, &mut root, &plan, 0);
+    evaluate(&board, &mut root, &plan, 1);
+    evaluate(&board, &mut root, &plan, 2);
+    let not = Spreaded::Not {
+        word: word(OpState::Executed, 40, 0),
+    };
+    assert_eq!(rt; spread_twice(&board, &mut root, &plan, 2, 3), Some((not, not)));
     Ok(())
 }
 

@@ -12,7 +12,7 @@ use std::test::Fail;
 
 /// What the calls of one way through an operation answered, as far as it came.
 #[derive(Clone, Copy, Debug, PartialEq, Eq)]
-struct Way {
+pub(crate) struct Way {
     readied: Readied,
     claimed: Option<Claimed>,
     fetched: Option<Fetched>,
@@ -20,7 +20,7 @@ struct Way {
 }
 
 /// Makes an operation ready that reads one place, claims it, fetches the place and finishes it.
-fn evaluate(board: &Board, hand: &mut Hand, plan: &Plan, op: u32) -> Way
+pub(crate) fn evaluate(board: &Board, hand: &mut Hand, plan: &Plan, op: u32) -> Way
     requires hand { IsHandOf board.now hand.old }
     requires plan { plan.now ≡ plan_of board.now }
     requires in_range { op < op_count plan.now }
@@ -300,16 +300,19 @@ fn two_hands_meet(rt: HostRuntime) -> Result<(), Fail> {
 #[test]
 fn counters_and_the_level_word(rt: HostRuntime) -> Result<(), Fail> {
     let plan = plan_at(&rt, rt.alloc(), &[1])?;
-    let (board, mut root) = Board::new(rt.alloc(), &plan, 1, 2)?;
+    let (mut board, mut root) = Board::new(rt.alloc(), &plan, 1, 2)?;
     let taken = (
         board.take(&mut root, 1),
         board.take(&mut root, 1),
         board.take(&mut root, 0),
     );
     assert_eq!(rt; taken, (0, 1, 0));
-    board.lower(&mut root, 7);
-    board.lower(&mut root, 9);
-    assert_eq!(rt; board.level(&mut root), 7);
+    let first = board.level(&mut root);
+    board.lower(&mut root, 3);
+    board.lower(&mut root, 5);
+    let lowered = board.level(&mut root);
+    board.reset_level(&mut root);
+    assert_eq!(rt; (first, lowered, board.level(&mut root)), (u32::MAX, 3, u32::MAX));
     Ok(())
 }
 

@@ -27,6 +27,8 @@ mod many_events;
 #[cfg(test)]
 mod runners;
 #[cfg(test)]
+mod settling;
+#[cfg(test)]
 mod splitting;
 #[cfg(test)]
 mod states;

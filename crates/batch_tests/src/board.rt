@@ -27,6 +27,8 @@ pub(crate) fn evaluate(board: &Board, hand: &mut Hand, plan: &Plan, op: u32) -> 
     requires free { (view_of hand.old).claim ≡ None }
     ensures hand { IsHandOf board.now hand.new }
     ensures free { (view_of hand.new).claim ≡ None }
+    ensures tag { (view_of hand.new).tag ≡ (view_of hand.old).tag }
+    ensures made { (view_of hand.new).made ≡ (view_of hand.old).made }
 {
     let readied = board.ready(hand, plan, op);
     let mut way = Way {

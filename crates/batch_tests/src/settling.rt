@@ -18,6 +18,8 @@ fn settle(board: &Board, hand: &mut Hand, plan: &Plan, op: u32) -> (Decided, Opt
     requires free { (view_of hand.old).claim ≡ None }
     ensures hand { IsHandOf board.now hand.new }
     ensures free { (view_of hand.new).claim ≡ None }
+    ensures tag { (view_of hand.new).tag ≡ (view_of hand.old).tag }
+    ensures made { (view_of hand.new).made ≡ (view_of hand.old).made }
 {
     let event = plan.ops.get(op as usize).event;
     let decided = board.decide(hand, plan, event);

@@ -18,15 +18,15 @@ use Rattle.op_words.specs.declared.board.Board.{Board}
 use Rattle.op_words.specs.declared.board.Hand.{Hand}
 use Rattle.op_words.specs.declared.trail.Item.{Item}
 use Rattle.op_words.specs.declared.trail.View.{View}
-use Rattle.op_words.specs.Trails.{loaded, IsSourceOf}
+use Rattle.op_words.specs.Trails.{loaded, IsSourceOf, OfSources}
 use Rattle.op_words.specs.Views.{IsApart, IsSourceSeen, IsRecordSeen, IsDecisionSeen, Adds}
 use Rattle.op_words.specs.Calls.{IsSettledRead}
 use Rattle.op_words.specs.Hands.{plan_of, view_of, IsHandOf}
 use Rattle.op_words.specs.Stepping.{Looked, Recalled, IsWalk}
-use Rattle.op_words.specs.Comparing.{OfSources, IsSourceRight, IsOpenAt, IsLoadedAt, IsEqualAt, IsOtherAt, IsNotedLast, PlaceTells, IsComparedAt, IsComparedUpTo, IsStoppedAt, AllTells, IsCompared}
+use Rattle.op_words.specs.Grounds.{IsSourceLoaded, SourceDoes}
+use Rattle.op_words.specs.Comparing.{IsSourceRight, IsOpenAt, IsLoadedAt, IsEqualAt, IsOtherAt, IsNotedLast, PlaceTells, IsComparedAt, IsComparedUpTo, IsStoppedAt, AllTells, IsCompared}
 use Rattle.op_words.proofs.Rows.{not_inside, one_inside}
-use Rattle.op_words.proofs.Seeking.{source_other}
-use Rattle.op_words.proofs.Walking.{walk_none, walk_then, walk_look, walk_recall, walk_last, recalled_seen}
+use Rattle.op_words.proofs.Walking.{walk_none, walk_then, walk_row, walk_recall, walk_last, recalled_seen}
 
 -- ---- what was loaded and seen stays
 
@@ -65,45 +65,36 @@ sources_none p o t inside = absurd (not_inside t inside)
 -- ---- one place
 
 module _ (b : Board) (p : Plan) (o j : ℕ) where
-  pub loaded_base : (h : Hand) (x : ℕ) → IsHandOf b h → origin_at p o j ≡ Base x → IsLoadedAt b p o j h h (Ok x)
-  loaded_base h x is base = record {
-    words = [];
-    walk = walk_none b o h is;
-    sources = sources_none p o;
-    tells = record {
-      read = subst (λ q. IsSettledRead [] q x) (sym base) refl;
-      seen = subst (λ q. IsSourceSeen (view_of h) q x) (sym base) refl;
-      fold = sym (ap (from (final p)) base);
-    };
+  -- its source was loaded, and has to be settled
+  pub loaded_as : (h g : Hand) (r : Result ℕ Stop) → SourceDoes b p o j true h g r → IsLoadedAt b p o j h g r
+  loaded_as h g (Ok x) did = record {
+    words = did.words;
+    walk = walk_row b o did.row;
+    sources = did.sources;
+    tells = record { read = right_read (origin_at p o j) did.tells.read; seen = right_seen (origin_at p o j) did.tells.read; fold = did.tells.fold refl };
   }
+    where
+      right_read : (q : Origin) → IsSourceLoaded did.words true q x → IsSettledRead did.words q x
+      right_read (Base v) is = is
+      right_read (Written s) is = (is.word, is.inside, is.settled refl, is.value_is)
 
-  module _ (h g : Hand) (s : ℕ) (w : OpWord) (hand : IsHandOf b h) (plan : p ≡ plan_of b) (lt : j < places p o) (other : s ≢ o) (apart : IsApart (view_of h) s) (is : origin_at p o j ≡ Written s) (did : Looked b s h g w) where
-    of_source : OfSources p o (loaded s w ∷ [])
-    of_source t inside = record { place = j; in_places = lt; source_is = is ∙ ap (λ (x : Item). Written x.op) (one_inside (loaded s w) t inside) }
-
-    pub loaded_settled : is_settled w.state ≡ true → IsLoadedAt b p o j h g (Ok w.value)
-    loaded_settled settled = record {
-      words = loaded s w ∷ [];
-      walk = walk_look b o s other apart did;
-      sources = of_source;
-      tells = record {
-        read = subst (λ q. IsSettledRead (loaded s w ∷ []) q w.value) (sym is) (w, (0, omega arith, refl), settled, refl);
-        seen = subst (λ q. IsSourceSeen (view_of g) q w.value) (sym is)
-            (record {
-              seen = record { note = loaded s w; inside = subst (λ (v : View). Contains v.notes (loaded s w)) (sym did.view) (Contains-append_right (view_of h).notes (loaded s w ∷ []) (loaded s w) (0, omega arith, refl)); op_is = refl; settled = settled };
-              value_is = refl;
-            });
-        fold = did.tells.sight.settled settled ∙ ap (λ (q : Plan). final q s) (hand.plan ∙ sym plan) ∙ sym (ap (from (final p)) is);
-      };
-    }
-
-    pub loaded_open : is_settled w.state ≡ false → IsLoadedAt b p o j h g (Err (record { source = s; word = w }))
-    loaded_open open_word = record {
-      words = loaded s w ∷ [];
-      walk = walk_look b o s other apart did;
-      sources = of_source;
-      tells = record { source_is = is; inside = (0, omega arith, refl); settled = open_word };
-    }
+      right_seen : (q : Origin) → IsSourceLoaded did.words true q x → IsSourceSeen (view_of g) q x
+      right_seen (Base v) is = is
+      right_seen (Written s) is = record {
+        seen = record {
+          note = loaded s is.word;
+          inside = subst (λ ts. Contains ts (loaded s is.word)) (sym did.row.adds.notes) (Contains-append_right (view_of h).notes did.words (loaded s is.word) is.inside);
+          op_is = refl;
+          settled = is.settled refl;
+        };
+        value_is = is.value_is;
+      }
+  loaded_as h g (Err stop) did = record {
+    words = did.words;
+    walk = walk_row b o did.row;
+    sources = did.sources;
+    tells = record { source_is = did.tells.source_is; inside = did.tells.unready.inside; settled = did.tells.unready.settled };
+  }
 
   -- then its record was loaded
   module _ (h g k : Hand) (y x : ℕ) (did : Recalled b o j g k y) where

@@ -23,14 +23,14 @@ use Rattle.op_words.specs.declared.board.Board.{Board}
 use Rattle.op_words.specs.declared.board.Hand.{Hand}
 use Rattle.op_words.specs.declared.trail.Item.{Item}
 use Rattle.op_words.specs.declared.trail.View.{View}
-use Rattle.op_words.specs.Trails.{loaded, HasLast, IsDisturbed, IsSourceOf, NoneOwn}
+use Rattle.op_words.specs.Trails.{loaded, OfSources, HasLast, IsDisturbed, IsSourceOf, NoneOwn}
 use Rattle.op_words.specs.Views.{IsJudged, IsRecordSeen, IsSourceSeen, Adds, Goes}
 use Rattle.op_words.specs.Calls.{IsSettledRead, IsSourceOpen}
 use Rattle.op_words.specs.Plays.{HasRun, IsSight}
 use Rattle.op_words.specs.Judging.{verdict_of, IsStaleAt, IsGood, IsBad, IsStale, IsOwnUnready, VerdictTells}
 use Rattle.op_words.specs.Hands.{plan_of, cap_of, view_of, IsHandOf}
 use Rattle.op_words.specs.Stepping.{Looked, IsWalk}
-use Rattle.op_words.specs.Comparing.{OfSources, OfReads, IsEqualAt, IsOtherAt, IsStoppedAt, IsConfirmed, IsJudgedAs}
+use Rattle.op_words.specs.Comparing.{OfReads, IsEqualAt, IsOtherAt, IsStoppedAt, IsConfirmed, IsJudgedAs}
 use Rattle.op_words.proofs.Rows.{one_inside}
 use Rattle.op_words.proofs.Trailing.{last-append, last-one, last_later}
 use Rattle.op_words.proofs.Adding.{adds_then, adds_look, free_apart, last_one, none_one}

@@ -6,18 +6,22 @@ use Rattle.std.proofs.lemmas.List.Elements.{Contains-append_left, Contains-appen
 use Rattle.morph_base.specs.declared.plan.Plan.{Plan}
 use Rattle.morph_base.specs.declared.plan.Origin.{Origin}
 use Rattle.morph_base.specs.declared.plan.Origin.TheVariants.{Base, Op as Written}
+use Rattle.morph_base.specs.Clean.{from}
 use Rattle.morph_base.specs.declared.word.OpWord.{OpWord}
-use Rattle.morph_base.specs.Plans.{origin_at}
+use Rattle.morph_base.specs.Plans.{origin_at, final}
 use Rattle.morph_base.specs.Words.{is_idle, is_settled}
 use Rattle.interleaving_core.specs.Core.{places}
 use Rattle.op_words.specs.declared.answers.Stop.{Stop}
 use Rattle.op_words.specs.declared.board.Board.{Board}
 use Rattle.op_words.specs.declared.board.Hand.{Hand}
-use Rattle.op_words.specs.Trails.{loaded}
+use Rattle.op_words.specs.declared.trail.Item.{Item}
+use Rattle.op_words.specs.Trails.{loaded, OfSources}
 use Rattle.op_words.specs.Views.{IsApart, IsSourceSeen}
-use Rattle.op_words.specs.Hands.{view_of, IsHandOf}
-use Rattle.op_words.specs.Stepping.{Looked}
+use Rattle.op_words.specs.Hands.{plan_of, view_of, IsHandOf}
+use Rattle.std.specs.Result.{result_err}
+use Rattle.op_words.specs.Stepping.{Looked, SoughtAt}
 use Rattle.op_words.specs.Grounds.{IsSourceLoaded, IsLoadedAs, IsSourceUnready, SourceDoes, OpenDoes, IsSettledUpTo}
+use Rattle.op_words.proofs.Rows.{not_inside, one_inside}
 use Rattle.op_words.proofs.Seeking.{row_none, row_then, row_look}
 
 -- ---- one source
@@ -27,18 +31,25 @@ module _ (b : Board) (p : Plan) (o j : ℕ) (needed : Bool) where
   source_base h x is base = record {
     words = [];
     row = row_none b o h is;
+    sources = λ t inside. absurd (not_inside t inside);
     tells = record {
+      fold = λ asked. sym (ap (from (final p)) base);
       read = subst (λ (q : Origin). IsSourceLoaded [] needed q x) (sym base) refl;
       known = λ y seen. sym (subst (λ (q : Origin). IsSourceSeen (view_of h) q y) base seen);
     };
   }
 
-  module _ (h g : Hand) (s : ℕ) (w : OpWord) (other : s ≢ o) (apart : IsApart (view_of h) s) (is : origin_at p o j ≡ Written s) (did : Looked b s h g w) where
+  module _ (h g : Hand) (s : ℕ) (w : OpWord) (hand : IsHandOf b h) (plan : p ≡ plan_of b) (lt : j < places p o) (other : s ≢ o) (apart : IsApart (view_of h) s) (is : origin_at p o j ≡ Written s) (did : Looked b s h g w) where
+    of_source : OfSources p o (loaded s w ∷ [])
+    of_source t inside = record { place = j; in_places = lt; source_is = is ∙ ap (λ (x : Item). Written x.op) (one_inside (loaded s w) t inside) }
+
     pub source_ready : is_idle w.state ≡ false → (needed ≡ true → is_settled w.state ≡ true) → SourceDoes b p o j needed h g (Ok w.value)
     source_ready shown settled = record {
       words = loaded s w ∷ [];
       row = row_look b o s other apart did;
+      sources = of_source;
       tells = record {
+        fold = λ asked. did.tells.sight.settled (settled asked) ∙ ap (λ (q : Plan). final q s) (hand.plan ∙ sym plan) ∙ sym (ap (from (final p)) is);
         read = subst (λ (q : Origin). IsSourceLoaded (loaded s w ∷ []) needed q w.value) (sym is)
             (record { word = w; inside = (0, omega arith, refl); shown = shown; settled = settled; value_is = refl });
         known = λ y seen.
@@ -51,6 +62,7 @@ module _ (b : Board) (p : Plan) (o j : ℕ) (needed : Bool) where
     source_unready not = record {
       words = loaded s w ∷ [];
       row = row_look b o s other apart did;
+      sources = of_source;
       tells = record { source_is = is; unready = record { inside = (0, omega arith, refl); settled = not.0; cause = not.1 } };
     }
 
@@ -91,3 +103,18 @@ module _ (b : Board) (p : Plan) (o : ℕ) where
 
   pub settled_all : {h g : Hand} → IsSettledUpTo b p o (places p o) h g → OpenDoes b p o true h g None
   settled_all far = record { words = far.words; row = far.row; tells = λ asked s source. far.settled source.place source.in_places s source.source_is }
+
+-- ---- up to the first that has no value
+
+-- one place, of which a value is enough
+pub sought_as : (b : Board) (p : Plan) (o j : ℕ) (h g : Hand) (r : Result ℕ Stop) → SourceDoes b p o j false h g r → SoughtAt b p o j h g (result_err r)
+sought_as b p o j h g (Ok x) did = record { words = did.words; row = did.row; tells = λ s is. let read : IsLoadedAs did.words false s x = subst (λ (q : Origin). IsSourceLoaded did.words false q x) is did.tells.read in (read.word, read.inside, read.shown) }
+sought_as b p o j h g (Err stop) did = record {
+  words = did.words;
+  row = did.row;
+  tells = record {
+    source_is = did.tells.source_is;
+    inside = did.tells.unready.inside;
+    idle = elim did.tells.unready.cause [ inl idle ↦ idle | inr asked ↦ absurd (false≢true asked) ];
+  };
+}

@@ -69,29 +69,6 @@ pub source_other : (p : Plan) (o j s : ℕ) → IsPlan p → o < op_count p → 
 source_other p o j s valid lt below is =
     let before = source_precedes p o j s valid lt below is in let lower = before.number_before in (before.in_range, λ same. omega (arith, lower, same))
 
--- ---- one place
-
-module _ (b : Board) (p : Plan) (o j : ℕ) where
-  pub sought_base : (h : Hand) (x : ℕ) → IsHandOf b h → origin_at p o j ≡ Base x → SoughtAt b p o j h h None
-  sought_base h x is base = record { words = []; row = row_none b o h is; tells = λ s written. absurd (not_both (sym base ∙ written)) }
-    where
-      not_both : {s : ℕ} → Base x ≡ Written s → ⊥
-      not_both same = cc
-
-  module _ (h g : Hand) (s : ℕ) (w : OpWord) (other : s ≢ o) (apart : IsApart (view_of h) s) (is : origin_at p o j ≡ Written s) (did : Looked b s h g w) where
-    pub sought_value : is_idle w.state ≡ false → SoughtAt b p o j h g None
-    sought_value shown = record {
-      words = loaded s w ∷ [];
-      row = row_look b o s other apart did;
-      tells = λ t written. (w, subst (λ n. Contains (loaded s w ∷ []) (loaded n w)) (same (sym is ∙ written)) (0, omega arith, refl), shown);
-    }
-      where
-        same : {t : ℕ} → Written s ≡ Written t → s ≡ t
-        same e = cc
-
-    pub sought_idle : is_idle w.state ≡ true → SoughtAt b p o j h g (Some (record { source = s; word = w }))
-    sought_idle idle = record { words = loaded s w ∷ []; row = row_look b o s other apart did; tells = record { source_is = is; inside = (0, omega arith, refl); idle = idle } }
-
 -- ---- place by place
 
 module _ (b : Board) (p : Plan) (o : ℕ) where

@@ -21,16 +21,12 @@ use Rattle.op_words.specs.declared.board.Board.{Board}
 use Rattle.op_words.specs.declared.board.Hand.{Hand}
 use Rattle.op_words.specs.declared.trail.Item.{Item}
 use Rattle.op_words.specs.declared.trail.View.{View}
-use Rattle.op_words.specs.Trails.{loaded, left, last_word, IsSourceOf, NoneOwn}
+use Rattle.op_words.specs.Trails.{loaded, left, last_word, IsSourceOf, OfSources, NoneOwn}
 use Rattle.op_words.specs.Views.{IsDecisionSeen, IsJudged, IsRecordSeen, IsSourceSeen, Goes, settling}
 use Rattle.op_words.specs.Calls.{IsSettledRead, IsSourceOpen}
 use Rattle.op_words.specs.Judging.{IsStaleAt, IsStaleWord, IsOwnUnready, VerdictTells}
 use Rattle.op_words.specs.Hands.{plan_of, view_of, IsHandOf}
 use Rattle.op_words.specs.Stepping.{Looked, Left, IsWalk}
-
--- words of sources of o alone
-abbrev pub OfSources : Plan → ℕ → List Item → Type 0
-OfSources p o xs = (t : Item) → Contains xs t → IsSourceOf p o t.op
 
 -- of the operation itself too
 abbrev pub OfReads : Plan → ℕ → List Item → Type 0

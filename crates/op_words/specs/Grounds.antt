@@ -5,7 +5,8 @@ use Rattle.morph_base.specs.declared.plan.Origin.{Origin}
 use Rattle.morph_base.specs.declared.plan.Origin.TheVariants.{Base, Op as Written}
 use Rattle.morph_base.specs.declared.word.OpState.TheVariants.{Executed, Spread as IsSpreadState}
 use Rattle.morph_base.specs.declared.word.OpWord.{OpWord}
-use Rattle.morph_base.specs.Plans.{origin_at}
+use Rattle.morph_base.specs.Plans.{origin_at, final}
+use Rattle.morph_base.specs.Clean.{source}
 use Rattle.morph_base.specs.Words.{is_evaluated, is_idle, is_settled}
 use Rattle.interleaving_core.specs.Core.{places}
 use Rattle.op_words.specs.declared.answers.Stop.{Stop}
@@ -13,7 +14,7 @@ use Rattle.op_words.specs.declared.board.Board.{Board}
 use Rattle.op_words.specs.declared.board.Hand.{Hand}
 use Rattle.op_words.specs.declared.trail.Item.{Item}
 use Rattle.op_words.specs.declared.trail.View.{View}
-use Rattle.op_words.specs.Trails.{loaded, IsSourceOf}
+use Rattle.op_words.specs.Trails.{loaded, IsSourceOf, OfSources}
 use Rattle.op_words.specs.Views.{IsRecordSeen, IsSettledSeen, IsSourceSeen, last_op}
 use Rattle.op_words.specs.Hands.{view_of}
 use Rattle.op_words.specs.Stepping.{IsRow, IsUsable}
@@ -75,9 +76,10 @@ module _ (xs : List Item) (needed : Bool) where
     pub cause : (is_idle stop.word.state ≡ true) ⊎ (needed ≡ true)
 
 module _ (p : Plan) (o j : ℕ) (needed : Bool) (v : View) (xs : List Item) where
-  -- it is also the one that the hand saw settled before
+  -- it is also the one that the hand saw settled before; where it has to be settled, it is the fold's
   pub record IsValueLoaded (x : ℕ) : Type 0 where
     pub read : IsSourceLoaded xs needed (origin_at p o j) x
+    pub fold : needed ≡ true → x ≡ source p (final p) o j
     pub known : (y : ℕ) → IsSourceSeen v (origin_at p o j) y → y ≡ x
 
   pub record IsNoValueLoaded (stop : Stop) : Type 0 where
@@ -91,6 +93,7 @@ module _ (p : Plan) (o j : ℕ) (needed : Bool) (v : View) (xs : List Item) wher
 pub record SourceDoes (b : Board) (p : Plan) (o j : ℕ) (needed : Bool) (h g : Hand) (r : Result ℕ Stop) : Type 0 where
   pub words : List Item
   pub row : IsRow b o h g words
+  pub sources : OfSources p o words
   pub tells : SourceTells p o j needed (view_of h) words r
 
 -- ---- all sources, which have to be settled where `needed` says so

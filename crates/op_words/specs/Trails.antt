@@ -40,6 +40,10 @@ pub record IsSourceOf (p : Plan) (o s : ℕ) : Type 0 where
   pub in_places : place < places p o
   pub source_is : origin_at p o place ≡ Written s
 
+-- words of sources of o alone
+abbrev pub OfSources : Plan → ℕ → List Item → Type 0
+OfSources p o xs = (t : Item) → Contains xs t → IsSourceOf p o t.op
+
 -- the sources of o are operations before it
 abbrev pub ComeFirst : Plan → ℕ → Type 0
 ComeFirst p o = (s : ℕ) → IsSourceOf p o s → s < o

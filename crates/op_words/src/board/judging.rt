@@ -3,14 +3,14 @@ ghost use Rattle.std.specs.Prelude.{◌≡◌, ◌<◌, None};
 ghost use Rattle.morph_base.specs.Plans.{op_count};
 ghost use Rattle.interleaving_core.specs.Core.{places};
 ghost use Rattle.op_words.specs.Judging.{VerdictDoes};
-ghost use Rattle.op_words.specs.Comparing.{IsLoadedAt, IsComparedAt, IsCompared, IsConfirmed, IsJudgedAs};
+ghost use Rattle.op_words.specs.Comparing.{IsComparedAt, IsCompared, IsConfirmed, IsJudgedAs};
 ghost use Rattle.op_words.specs.Hands.{plan_of, cap_of, view_of, IsHandOf};
 
 use super::{Board, Hand};
-use crate::answers::{Compared, Stop, Verdict};
-use crate::places::{origin_of, places_of};
+use crate::answers::{Compared, Verdict};
+use crate::places::places_of;
 use crate::words::{has_run, is_same};
-use morph_base::{OpWord, Origin, Plan};
+use morph_base::{OpWord, Plan};
 
 impl Board {
     /// Judges an operation by its records: what they are worth once its sources are settled.
@@ -110,7 +110,7 @@ impl Board {
         requires free { (view_of hand.old).claim ≡ None }
         ensures { IsComparedAt self.now plan.now op j hand.old hand.new result }
     {
-        let settled = match self.settled_source(hand, plan, op, j) {
+        let settled = match self.source_value(hand, plan, op, j, true) {
             Ok(value) => value,
             Err(stop) => return Compared::Open(stop),
         };
@@ -119,34 +119,6 @@ impl Board {
             Compared::Equal
         } else {
             Compared::Differs { j, kept, settled }
-        }
-    }
-
-    /// The settled value of the source at a place; the source with its word, where it is not settled.
-    pub(super) fn settled_source(
-        &self,
-        hand: &mut Hand,
-        plan: &Plan,
-        op: u32,
-        j: u8,
-    ) -> Result<u64, Stop>
-        requires hand { IsHandOf self.now hand.old }
-        requires plan { plan.now ≡ plan_of self.now }
-        requires in_range { op < op_count plan.now }
-        requires in_places { j < places plan.now op }
-        requires free { (view_of hand.old).claim ≡ None }
-        ensures { IsLoadedAt self.now plan.now op j hand.old hand.new result }
-    {
-        match origin_of(plan, op, j) {
-            Origin::Base(value) => Ok(value),
-            Origin::Op(source) => {
-                let word = self.look(hand, source);
-                if word.state.is_settled() {
-                    Ok(word.value)
-                } else {
-                    Err(Stop { source, word })
-                }
-            }
         }
     }
 }

@@ -102,7 +102,7 @@ impl Board {
         ensures does { (v : V) → IsOpened plan.now op v (view_of hand.old) word
             → SettleDoes plan.now (cap_of self.now) op v (view_of hand.new) result }
     {
-        match self.settled_source(hand, plan, op, 0) {
+        match self.source_value(hand, plan, op, 0, true) {
             Err(stop) => SettleAnswer::Not {
                 at: stop.source,
                 word: stop.word,

@@ -7,8 +7,8 @@ ghost use Rattle.op_words.specs.Hands.{plan_of, view_of, IsHandOf};
 
 use super::{Board, Hand};
 use crate::answers::Stop;
-use crate::places::{origin_of, places_of};
-use morph_base::{Origin, Plan};
+use crate::places::places_of;
+use morph_base::Plan;
 
 impl Board {
     /// Loads the sources of an operation, place by place, up to the first that has no value.
@@ -36,16 +36,6 @@ impl Board {
         requires free { (view_of hand.old).claim ≡ None }
         ensures { SoughtAt self.now plan.now op j hand.old hand.new result }
     {
-        match origin_of(plan, op, j) {
-            Origin::Base(_) => None,
-            Origin::Op(source) => {
-                let word = self.look(hand, source);
-                if word.state.is_idle() {
-                    Some(Stop { source, word })
-                } else {
-                    None
-                }
-            }
-        }
+        self.source_value(hand, plan, op, j, false).err()
     }
 }

@@ -13,9 +13,9 @@ pub returns-then-is_usable : goal.returns-then-is_usable
 returns-then-is_usable c =
     let is = sym c.origin_of.ensures ∙ c.in-Op.is in
     let usable = c.is_usable.ensures.usable c.if-is_usable.true in
-    source_ready _ _ _ _ _ _ _ _ _ (source_other _ _ _ _ (subst IsPlan (sym c.requires.plan) c.requires.hand.valid) c.requires.in_range c.requires.in_places is).1 (free_apart (view_of c.args.hand.now) c.in-Op.source c.requires.free) is c.look-word.ensures usable.0 usable.1
+    source_ready _ _ _ _ _ _ _ _ _ c.requires.hand c.requires.plan c.requires.in_places (source_other _ _ _ _ (subst IsPlan (sym c.requires.plan) c.requires.hand.valid) c.requires.in_range c.requires.in_places is).1 (free_apart (view_of c.args.hand.now) c.in-Op.source c.requires.free) is c.look-word.ensures usable.0 usable.1
 
 pub returns-else-is_usable : goal.returns-else-is_usable
 returns-else-is_usable c =
     let is = sym c.origin_of.ensures ∙ c.in-Op.is in
-    source_unready _ _ _ _ _ _ _ _ _ (source_other _ _ _ _ (subst IsPlan (sym c.requires.plan) c.requires.hand.valid) c.requires.in_range c.requires.in_places is).1 (free_apart (view_of c.args.hand.now) c.in-Op.source c.requires.free) is c.look-word.ensures (c.is_usable.ensures.unusable c.if-is_usable.false)
+    source_unready _ _ _ _ _ _ _ _ _ c.requires.hand c.requires.plan c.requires.in_places (source_other _ _ _ _ (subst IsPlan (sym c.requires.plan) c.requires.hand.valid) c.requires.in_range c.requires.in_places is).1 (free_apart (view_of c.args.hand.now) c.in-Op.source c.requires.free) is c.look-word.ensures (c.is_usable.ensures.unusable c.if-is_usable.false)

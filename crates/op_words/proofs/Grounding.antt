@@ -1,5 +1,5 @@
 -- The steps that take a value back: a failure is spread to an operation, or it is rolled back to its next attempt.
-use Rattle.std.proofs.Common.{◌≡◌, ◌≢◌, ◌⊎◌, ℕ, suc, ◌+◌, ◌^◌, ◌-◌, ◌<◌, ◌≤◌, Bool, true, false, cond, eqb, ◌&&◌, List, [], ◌∷◌, ◌++◌, length, set, refl, sym, ap, ◌∙◌, subst, inl, inr, arith, suc-le-suc, zero-lt-suc, Some, None}
+use Rattle.std.proofs.Common.{◌≡◌, ◌≢◌, ◌⊎◌, ℕ, suc, ◌+◌, ◌^◌, ◌-◌, ◌<◌, ◌≤◌, Bool, true, cond, eqb, ◌&&◌, List, [], ◌∷◌, length, set, refl, sym, ap, ◌∙◌, subst, inl, inr, arith, suc-le-suc, zero-lt-suc, Some}
 use Rattle.std.specs.Prelude.{Contains, slice_index, sum_by, count_by, min, ◌==◌}
 use Rattle.std.proofs.lemmas.Bool.{cases_Bool, cases_lt, eq-eqb, eqb-true, and_from, and_parts, false≢true}
 use Rattle.std.proofs.lemmas.Option.{same_Some}
@@ -24,12 +24,11 @@ use Rattle.morph_base.proofs.WordLaws.{one_word}
 use Rattle.interleaving_core.specs.declared.entry.Entry.{Entry}
 use Rattle.interleaving_core.specs.declared.event.CoreEvent.{CoreEvent}
 use Rattle.interleaving_core.specs.declared.event.CoreEvent.TheVariants.{Spread as SpreadStep, RollBack}
-use Rattle.interleaving_core.specs.Core.{Core, blocked, spread, entry_of, record_value, places, IsSettledIn, value_in, IsVersion}
+use Rattle.interleaving_core.specs.Core.{blocked, spread, entry_of, record_value, IsSettledIn, value_in, IsVersion}
 use Rattle.interleaving_core.specs.Steps.{HasFailed, IsRecordedOtherwise, HasOtherVersion, IsSpreadOnSettled, IsStaleAtCap, MaySpread, MayRollBack, May, after, spread_of}
-use Rattle.interleaving_core.proofs.Basics.{count_none, count_some}
+use Rattle.interleaving_core.proofs.Basics.{count_some}
 use Rattle.op_words.specs.declared.answers.Counts.{Counts}
 use Rattle.op_words.specs.declared.board.Hand.{Hand}
-use Rattle.op_words.specs.declared.board.Holding.{Holding}
 use Rattle.op_words.specs.declared.trail.View.{View}
 use Rattle.op_words.specs.Trails.{loaded, left}
 use Rattle.op_words.specs.Views.{HasShownFailure, IsRecordSeen, last_op, last_place, spreading, rolling_back}

@@ -1,6 +1,6 @@
 -- The value of a source is loaded, and the sources are, up to the first that is not settled.
-use Rattle.std.proofs.Common.{◌≡◌, ◌≢◌, ◌⊎◌, ℕ, ◌+◌, ◌<◌, Bool, true, false, List, [], ◌∷◌, ◌++◌, refl, sym, ap, ◌∙◌, subst, inl, inr, arith, Some, None}
-use Rattle.std.specs.Prelude.{Contains, Result, Ok, Err}
+use Rattle.std.proofs.Common.{◌≡◌, ◌≢◌, ◌⊎◌, ℕ, ◌+◌, ◌<◌, Bool, true, false, [], ◌∷◌, ◌++◌, refl, sym, ap, ◌∙◌, subst, inl, inr, arith, Some, None}
+use Rattle.std.specs.Prelude.{Ok, Err}
 use Rattle.std.proofs.lemmas.Bool.{cases_lt, false≢true}
 use Rattle.std.proofs.lemmas.List.Elements.{Contains-append_left, Contains-append_right}
 use Rattle.morph_base.specs.declared.plan.Plan.{Plan}
@@ -20,7 +20,7 @@ use Rattle.op_words.specs.Views.{IsApart, IsSourceSeen}
 use Rattle.op_words.specs.Hands.{plan_of, view_of, IsHandOf}
 use Rattle.std.specs.Result.{result_err}
 use Rattle.op_words.specs.Stepping.{Looked, SoughtAt}
-use Rattle.op_words.specs.Grounds.{IsSourceLoaded, IsLoadedAs, IsSourceUnready, SourceDoes, OpenDoes, IsSettledUpTo}
+use Rattle.op_words.specs.Grounds.{IsSourceLoaded, IsLoadedAs, SourceDoes, OpenDoes, IsSettledUpTo}
 use Rattle.op_words.proofs.Rows.{not_inside, one_inside}
 use Rattle.op_words.proofs.Seeking.{row_none, row_then, row_look}
 

@@ -1,7 +1,6 @@
 -- What `spread` tells, from what its steps told.
-use Rattle.std.proofs.Common.{◌≡◌, ◌≢◌, ◌⊎◌, ℕ, suc, ◌+◌, ◌<◌, ◌≤◌, Bool, true, false, cond, List, [], ◌∷◌, ◌++◌, refl, sym, ap, ◌∙◌, subst, inl, inr, arith, Some, None}
+use Rattle.std.proofs.Common.{◌≡◌, ◌≢◌, ◌⊎◌, ℕ, ◌+◌, ◌<◌, ◌≤◌, Bool, true, cond, List, [], ◌∷◌, ◌++◌, refl, sym, ap, ◌∙◌, subst, inl, inr, arith, None}
 use Rattle.std.specs.Prelude.{Contains, count_by}
-use Rattle.std.proofs.lemmas.Bool.{false≢true}
 use Rattle.std.proofs.lemmas.List.Elements.{Contains-append_left, Contains-append_right}
 use Rattle.std.proofs.lemmas.List.Sums.{sum_by-cons}
 use Rattle.morph_base.specs.declared.plan.Plan.{Plan}
@@ -25,7 +24,7 @@ use Rattle.op_words.specs.Retrying.{IsSpreadFrom, SpreadDoes}
 use Rattle.op_words.specs.Grounds.{HasGroundsToSpread}
 use Rattle.op_words.proofs.Trailing.{last_later}
 use Rattle.op_words.proofs.Adding.{adds_then, adds_look, along_one, calm_left, free_apart, last_one, none_one}
-use Rattle.op_words.proofs.Making.{adds_leave, last_else, found_disturbed, none_elsewhere, none_then, own_none, open_none, own_left, open_left}
+use Rattle.op_words.proofs.Making.{last_else, found_disturbed, none_elsewhere, none_then, own_none, open_none, own_left, open_left}
 use Rattle.op_words.proofs.Walking.{walk_then, walk_recall, walk_look, look_last, recalled_seen}
 
 -- the operation of the last item

@@ -1,9 +1,8 @@
 -- What `roll_back` tells, from what its steps told.
-use Rattle.std.proofs.Common.{◌≡◌, ◌≢◌, ◌⊎◌, ℕ, suc, ◌+◌, ◌<◌, ◌≤◌, Bool, true, false, cond, List, [], ◌∷◌, ◌++◌, refl, sym, ap, ◌∙◌, subst, inl, inr, arith, Some, None}
+use Rattle.std.proofs.Common.{◌≡◌, ◌≢◌, ◌⊎◌, ℕ, ◌+◌, ◌<◌, ◌≤◌, Bool, true, false, List, [], ◌∷◌, ◌++◌, refl, sym, ap, ◌∙◌, subst, inl, inr, arith, None}
 use Rattle.std.specs.Prelude.{Contains, Option, Ok}
 use Rattle.std.proofs.lemmas.Bool.{cases_eq, false≢true}
 use Rattle.std.proofs.lemmas.List.Elements.{Contains-append_left, Contains-append_right}
-use Rattle.std.proofs.lemmas.List.Sums.{sum_by-cons}
 use Rattle.morph_base.specs.declared.plan.Plan.{Plan}
 use Rattle.morph_base.specs.declared.plan.Origin.{Origin}
 use Rattle.morph_base.specs.declared.plan.Origin.TheVariants.{Base, Op as Written}
@@ -12,30 +11,27 @@ use Rattle.morph_base.specs.declared.word.OpState.TheVariants.{Blocked, Ready, C
 use Rattle.morph_base.specs.declared.word.OpWord.{OpWord}
 use Rattle.morph_base.specs.Plans.{origin_at}
 use Rattle.morph_base.specs.Words.{has_run, is_evaluated, is_idle, is_settled}
-use Rattle.interleaving_core.specs.declared.event.CoreEvent.{CoreEvent}
-use Rattle.interleaving_core.specs.declared.event.CoreEvent.TheVariants.{Spread as SpreadStep, RollBack}
-use Rattle.interleaving_core.specs.Core.{blocked, spread, entry_of, places}
-use Rattle.interleaving_core.specs.Counts.{is_spread, is_roll, spreads, rolled}
+use Rattle.interleaving_core.specs.declared.event.CoreEvent.TheVariants.{RollBack}
+use Rattle.interleaving_core.specs.Core.{blocked, spread, places}
+use Rattle.interleaving_core.specs.Counts.{is_roll, rolled}
 use Rattle.op_words.specs.declared.answers.Rolled.TheVariants.{Done as HasRolled, Fresh, Not as Unrolled}
 use Rattle.op_words.specs.declared.answers.Stop.{Stop}
-use Rattle.op_words.specs.declared.answers.Spreaded.TheVariants.{Done as HasSpread, Not as Unspread}
 use Rattle.op_words.specs.declared.board.Board.{Board}
 use Rattle.op_words.specs.declared.board.Hand.{Hand}
 use Rattle.op_words.specs.declared.trail.Item.{Item}
 use Rattle.op_words.specs.declared.trail.RecordSeen.{RecordSeen}
 use Rattle.op_words.specs.declared.trail.View.{View}
-use Rattle.op_words.specs.Trails.{loaded, left, last_word, HasLast, IsSourceOf, NoneOwn, IsSteadyAt, IsCalmAt}
-use Rattle.op_words.specs.Views.{Adds, HasShownFailure, IsRecordSeen, IsSourceSeen, IsSettledSeen, last_op, last_place, spreading, rolling_back}
+use Rattle.op_words.specs.Trails.{loaded, left, last_word, HasLast, IsSourceOf, NoneOwn}
+use Rattle.op_words.specs.Views.{Adds, IsRecordSeen, IsSourceSeen, last_place, rolling_back}
 use Rattle.op_words.specs.Calls.{IsRead}
-use Rattle.op_words.specs.Plays.{Leaves}
 use Rattle.op_words.specs.Hands.{plan_of, cap_of, view_of, IsHandOf}
-use Rattle.op_words.specs.Stepping.{Looked, Left, Recalled, IsRow, IsUsable, IsWalk}
-use Rattle.op_words.specs.Retrying.{IsSpreadFrom, SpreadDoes, RollDoes}
-use Rattle.op_words.specs.Grounds.{HasGroundsToSpread, HasGroundsToRoll, AreSourcesSettled, IsSourceLoaded, SourceDoes, OpenDoes, OpenTells}
+use Rattle.op_words.specs.Stepping.{Looked, Left, Recalled, IsUsable, IsWalk}
+use Rattle.op_words.specs.Retrying.{RollDoes}
+use Rattle.op_words.specs.Grounds.{HasGroundsToRoll, AreSourcesSettled, IsSourceLoaded, SourceDoes, OpenDoes, OpenTells}
 use Rattle.op_words.proofs.Retrying.{count_one, adds_first, free_next, adds_front, last_front, none_front, free_front, events_front}
 use Rattle.op_words.proofs.Trailing.{last_later}
-use Rattle.op_words.proofs.Adding.{adds_then, adds_look, along_one, calm_left, free_apart, last_one, none_one}
-use Rattle.op_words.proofs.Making.{adds_leave, last_else, found_disturbed, none_elsewhere, none_then, own_none, open_none, own_left, open_left}
+use Rattle.op_words.proofs.Adding.{adds_then, adds_look, free_apart, last_one, none_one}
+use Rattle.op_words.proofs.Making.{adds_leave, found_disturbed, none_then, own_none, open_none, own_left, open_left}
 use Rattle.op_words.proofs.Walking.{walk_then, walk_row, walk_recall, walk_last, look_last, recalled_seen}
 
 evaluated_open : (t : OpState) → is_evaluated t ≡ true → is_settled t ≡ false

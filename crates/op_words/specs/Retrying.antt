@@ -1,12 +1,12 @@
 -- What the calls that take a value back tell: a failure is spread to another operation of its event, and an operation is rolled
 -- back to its next attempt.
-use Rattle.std.specs.Prelude.{◌≡◌, ◌≢◌, ℕ, ◌+◌, ◌≤◌, ◌<◌, ◌⊎◌, true, false, List, [], ◌∷◌, ◌++◌, Contains, Some, None}
+use Rattle.std.specs.Prelude.{◌≡◌, ◌≢◌, ℕ, ◌+◌, ◌≤◌, ◌<◌, ◌⊎◌, true, false, List, Contains}
 use Rattle.morph_base.specs.declared.plan.Plan.{Plan}
 use Rattle.morph_base.specs.declared.word.OpState.TheVariants.{Executed, Spread as IsSpreadState}
 use Rattle.morph_base.specs.declared.word.OpWord.{OpWord}
 use Rattle.morph_base.specs.Plans.{op_count, event_of, origin_at}
-use Rattle.morph_base.specs.Words.{is_evaluated, is_idle, is_settled}
-use Rattle.interleaving_core.specs.Core.{blocked, spread, entry_of, places}
+use Rattle.morph_base.specs.Words.{is_evaluated, is_idle}
+use Rattle.interleaving_core.specs.Core.{blocked, spread, entry_of}
 use Rattle.interleaving_core.specs.Counts.{spreads, rolled}
 use Rattle.op_words.specs.declared.answers.Rolled.{Rolled}
 use Rattle.op_words.specs.declared.answers.Rolled.TheVariants.{Done as HasRolled, Fresh, Not as Unrolled}
@@ -14,7 +14,7 @@ use Rattle.op_words.specs.declared.answers.Spreaded.{Spreaded}
 use Rattle.op_words.specs.declared.answers.Spreaded.TheVariants.{Done as HasSpread, Not as Unspread}
 use Rattle.op_words.specs.declared.trail.Item.{Item}
 use Rattle.op_words.specs.declared.trail.View.{View}
-use Rattle.op_words.specs.Trails.{loaded, left, HasLast, IsDisturbed, IsSourceOf, OwnOn, OwnOpen, NoneOwn}
+use Rattle.op_words.specs.Trails.{loaded, left, HasLast, IsDisturbed, OwnOn, OwnOpen, NoneOwn}
 use Rattle.op_words.specs.Views.{HasShownFailure, IsRecordSeen, IsSourceSeen, Goes}
 use Rattle.op_words.specs.Calls.{IsRead, IsSourceOpen}
 

@@ -1,4 +1,4 @@
-use Rattle.std.proofs.Common.{sym, subst}
+use Rattle.std.proofs.Common.{subst}
 use Rattle.morph_base.specs.declared.plan.Plan.{Plan}
 use Rattle.op_words.specs.Grounds.{HasGroundsToSpread}
 use Rattle.op_words.specs.Hands.{cap_of, view_of}

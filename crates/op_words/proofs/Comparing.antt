@@ -1,5 +1,5 @@
 -- An operation's records are compared with its settled sources.
-use Rattle.std.proofs.Common.{◌≡◌, ◌≢◌, ◌⊎◌, ℕ, suc, suc-le-suc, ◌+◌, ◌<◌, ◌≤◌, Bool, true, false, List, [], ◌∷◌, ◌++◌, refl, sym, ap, ◌∙◌, subst, inl, inr, arith, Option, Some, None, Result, Ok, Err}
+use Rattle.std.proofs.Common.{◌≡◌, ◌≢◌, ℕ, ◌+◌, ◌<◌, true, List, [], ◌++◌, refl, sym, ◌∙◌, subst, inl, inr, arith, Result, Ok, Err}
 use Rattle.std.specs.Prelude.{Contains}
 use Rattle.std.proofs.lemmas.Bool.{cases_lt}
 use Rattle.std.proofs.lemmas.List.Elements.{Contains-append_left, Contains-append_right, Contains-append_cases}
@@ -7,9 +7,8 @@ use Rattle.morph_base.specs.declared.plan.Plan.{Plan}
 use Rattle.morph_base.specs.declared.plan.Origin.{Origin}
 use Rattle.morph_base.specs.declared.plan.Origin.TheVariants.{Base, Op as Written}
 use Rattle.morph_base.specs.declared.word.OpWord.{OpWord}
-use Rattle.morph_base.specs.Clean.{from, source}
-use Rattle.morph_base.specs.Plans.{IsPlan, op_count, origin_at, final}
-use Rattle.morph_base.specs.Words.{is_settled}
+use Rattle.morph_base.specs.Clean.{source}
+use Rattle.morph_base.specs.Plans.{origin_at, final}
 use Rattle.interleaving_core.specs.Core.{places}
 use Rattle.op_words.specs.declared.answers.Compared.{Compared}
 use Rattle.op_words.specs.declared.answers.Compared.TheVariants.{Equal, Open, Differs}
@@ -18,14 +17,14 @@ use Rattle.op_words.specs.declared.board.Board.{Board}
 use Rattle.op_words.specs.declared.board.Hand.{Hand}
 use Rattle.op_words.specs.declared.trail.Item.{Item}
 use Rattle.op_words.specs.declared.trail.View.{View}
-use Rattle.op_words.specs.Trails.{loaded, IsSourceOf, OfSources}
-use Rattle.op_words.specs.Views.{IsApart, IsSourceSeen, IsRecordSeen, IsDecisionSeen, Adds}
+use Rattle.op_words.specs.Trails.{loaded, OfSources}
+use Rattle.op_words.specs.Views.{IsSourceSeen, IsRecordSeen, Adds}
 use Rattle.op_words.specs.Calls.{IsSettledRead}
-use Rattle.op_words.specs.Hands.{plan_of, view_of, IsHandOf}
-use Rattle.op_words.specs.Stepping.{Looked, Recalled, IsWalk}
+use Rattle.op_words.specs.Hands.{view_of, IsHandOf}
+use Rattle.op_words.specs.Stepping.{Recalled, IsWalk}
 use Rattle.op_words.specs.Grounds.{IsSourceLoaded, SourceDoes}
-use Rattle.op_words.specs.Comparing.{IsSourceRight, IsOpenAt, IsLoadedAt, IsEqualAt, IsOtherAt, IsNotedLast, PlaceTells, IsComparedAt, IsComparedUpTo, IsStoppedAt, AllTells, IsCompared}
-use Rattle.op_words.proofs.Rows.{not_inside, one_inside}
+use Rattle.op_words.specs.Comparing.{IsSourceRight, IsLoadedAt, IsEqualAt, IsNotedLast, PlaceTells, IsComparedAt, IsComparedUpTo, AllTells, IsCompared}
+use Rattle.op_words.proofs.Rows.{not_inside}
 use Rattle.op_words.proofs.Walking.{walk_none, walk_then, walk_row, walk_recall, walk_last, recalled_seen}
 
 -- ---- what was loaded and seen stays

@@ -1,21 +1,19 @@
 -- A decision is made: the step of the machine, and what the calls of one event come to.
-use Rattle.std.proofs.Common.{◌≡◌, ◌≢◌, ◌⊎◌, ℕ, ◌+◌, ◌<◌, ◌≤◌, Bool, true, false, List, [], ◌∷◌, ◌++◌, length, get_or, set, refl, sym, ap, ◌∙◌, subst, inl, inr, arith, Option, Some, None, unwrap_or, length-set, get_or-set_same}
-use Rattle.std.specs.Prelude.{Contains, IsSome, slice_index, ◌==◌}
-use Rattle.std.proofs.lemmas.Bool.{cases_Bool, cases_eq, cases_lt, eqb-true, eqb-false}
+use Rattle.std.proofs.Common.{◌≡◌, ◌≢◌, ◌⊎◌, ℕ, ◌+◌, ◌<◌, Bool, true, false, List, [], ◌∷◌, length, get_or, set, refl, sym, ap, ◌∙◌, subst, inl, inr, arith, Option, Some, None, unwrap_or, length-set, get_or-set_same}
+use Rattle.std.specs.Prelude.{IsSome, slice_index, ◌==◌}
+use Rattle.std.proofs.lemmas.Bool.{cases_Bool, cases_eq, eqb-true}
 use Rattle.std.proofs.lemmas.Option.{same_Some}
-use Rattle.std.proofs.lemmas.List.Elements.{Contains-append_left, Contains-append_right, Contains-append_cases}
+use Rattle.std.proofs.lemmas.List.Elements.{Contains-append_left, Contains-append_right}
 use mathlib.Core.Option.{some, none}
 use lib.ListN.{get_elem?}
 use prog.Atomic.{either}
 use Rattle.atomic_table.specs.Table.{step, keeps, Allows}
-use Rattle.morph_base.specs.declared.limits.TheConstants.{READS}
 use Rattle.morph_base.specs.declared.plan.Plan.{Plan}
-use Rattle.morph_base.specs.Clean.{source, outcome}
-use Rattle.morph_base.specs.Plans.{IsPlan, op_count, event_count, event_of, origin_at, final, verdict, InEvent}
+use Rattle.morph_base.specs.Clean.{outcome}
+use Rattle.morph_base.specs.Plans.{op_count, event_count, origin_at, final, verdict}
 use Rattle.morph_base.specs.Known.{AreKnown}
 use Rattle.morph_base.specs.Words.{packed}
 use Rattle.morph_base.proofs.KnownLaws.{known_outcome}
-use Rattle.interleaving_core.specs.declared.event.CoreEvent.{CoreEvent}
 use Rattle.interleaving_core.specs.declared.event.CoreEvent.TheVariants.{Decide}
 use Rattle.interleaving_core.specs.Core.{Core, put, places, IsSettledIn, value_in}
 use Rattle.interleaving_core.specs.Steps.{May, after, AnswersOnSettled, FailsOnSettled, HasGrounds as HasGroundsIn}
@@ -29,7 +27,7 @@ use Rattle.op_words.specs.declared.board.Hand.{Hand}
 use Rattle.op_words.specs.Trails.{IsSteadyAt, IsCalmAt}
 use Rattle.op_words.specs.Hands.{plan_of, view_in, view_of, held_of, IsHandOf}
 use Rattle.op_words.specs.Views.{IsSourceSeen, IsDecisionSeen, Goes, learning, deciding}
-use Rattle.op_words.specs.Layout.{Shows, record_index, decision_base, counter_base, packed_record, packed_decision}
+use Rattle.op_words.specs.Layout.{Shows, record_index, decision_base, packed_record, packed_decision}
 use Rattle.op_words.specs.Rule.{Seats, Knows, Lawful, Steps}
 use Rattle.op_words.specs.Plays.{Sat, IsTold, decides}
 use Rattle.op_words.specs.Comparing.{IsAnswerSeen, MaySayOf, IsConcluded}

@@ -1,8 +1,8 @@
 -- An operation is judged: by its word, then by its records and sources, then by its word again.
-use Rattle.std.proofs.Common.{◌≡◌, ◌≢◌, ◌⊎◌, ℕ, ◌+◌, ◌<◌, ◌≤◌, Bool, true, false, List, [], ◌∷◌, ◌++◌, length, refl, sym, ap, ◌∙◌, subst, inl, inr, arith, Option, Some, None, map, if◌then◌else◌}
+use Rattle.std.proofs.Common.{◌≡◌, ◌≢◌, ◌⊎◌, ℕ, ◌<◌, Bool, true, false, List, [], ◌∷◌, ◌++◌, refl, sym, ap, ◌∙◌, subst, inl, inr, arith, Option, Some, None, map, if◌then◌else◌}
 use Rattle.std.specs.Prelude.{Contains, slice_index}
 use Rattle.std.proofs.lemmas.Bool.{false≢true, cases_lt}
-use Rattle.std.proofs.lemmas.List.Elements.{Contains-append_left, Contains-append_right, Contains-append_cases}
+use Rattle.std.proofs.lemmas.List.Elements.{Contains-append_right, Contains-append_cases}
 use Rattle.morph_base.specs.declared.plan.Plan.{Plan}
 use Rattle.morph_base.specs.declared.word.OpState.{OpState}
 use Rattle.morph_base.specs.declared.word.OpState.TheVariants.{Blocked, Ready, Claimed, Executed, Failed, Spread, Settled, SettledAborted}
@@ -14,8 +14,6 @@ use Rattle.morph_base.specs.Words.{is_settled, is_failed}
 use Rattle.interleaving_core.specs.Core.{ended, has_run, places}
 use Rattle.interleaving_core.proofs.Settlement.{executed_answer}
 use Rattle.interleaving_core.proofs.Sources.{sources_are}
-use Rattle.op_words.specs.declared.answers.Compared.{Compared}
-use Rattle.op_words.specs.declared.answers.Compared.TheVariants.{Equal, Open, Differs}
 use Rattle.op_words.specs.declared.answers.Stop.{Stop}
 use Rattle.op_words.specs.declared.answers.Verdict.{Verdict}
 use Rattle.op_words.specs.declared.answers.Verdict.TheVariants.{Good, Bad, Stale, Unready}
@@ -23,19 +21,19 @@ use Rattle.op_words.specs.declared.board.Board.{Board}
 use Rattle.op_words.specs.declared.board.Hand.{Hand}
 use Rattle.op_words.specs.declared.trail.Item.{Item}
 use Rattle.op_words.specs.declared.trail.View.{View}
-use Rattle.op_words.specs.Trails.{loaded, OfSources, HasLast, IsDisturbed, IsSourceOf, NoneOwn}
-use Rattle.op_words.specs.Views.{IsJudged, IsRecordSeen, IsSourceSeen, Adds, Goes}
-use Rattle.op_words.specs.Calls.{IsSettledRead, IsSourceOpen}
+use Rattle.op_words.specs.Trails.{loaded, OfSources, HasLast, NoneOwn}
+use Rattle.op_words.specs.Views.{IsJudged, IsRecordSeen, IsSourceSeen, Adds}
+use Rattle.op_words.specs.Calls.{IsSettledRead}
 use Rattle.op_words.specs.Plays.{HasRun, IsSight}
-use Rattle.op_words.specs.Judging.{verdict_of, IsStaleAt, IsGood, IsBad, IsStale, IsOwnUnready, VerdictTells}
+use Rattle.op_words.specs.Judging.{verdict_of, IsStaleAt, IsGood, IsBad, VerdictTells}
 use Rattle.op_words.specs.Hands.{plan_of, cap_of, view_of, IsHandOf}
 use Rattle.op_words.specs.Stepping.{Looked, IsWalk}
-use Rattle.op_words.specs.Comparing.{OfReads, IsEqualAt, IsOtherAt, IsStoppedAt, IsConfirmed, IsJudgedAs}
+use Rattle.op_words.specs.Comparing.{OfReads, IsEqualAt, IsOtherAt, IsStoppedAt, IsJudgedAs}
 use Rattle.op_words.proofs.Rows.{one_inside}
-use Rattle.op_words.proofs.Trailing.{last-append, last-one, last_later}
+use Rattle.op_words.proofs.Trailing.{last_later}
 use Rattle.op_words.proofs.Adding.{adds_then, adds_look, free_apart, last_one, none_one}
 use Rattle.op_words.proofs.Making.{last_else, found_disturbed, none_elsewhere, none_then}
-use Rattle.op_words.proofs.Comparing.{read_left, read_right, seen_more, equal_more}
+use Rattle.op_words.proofs.Comparing.{read_left, read_right, seen_more}
 
 pub run_unsettled : (s : OpState) → has_run s ≡ true → is_settled s ≡ false
 run_unsettled Blocked is = refl

@@ -1,28 +1,26 @@
 -- Loads of records and decisions keep the rule.
-use Rattle.std.proofs.Common.{◌≡◌, ◌⊎◌, ℕ, suc, suc-le-suc, ◌+◌, ◌-◌, ◌*◌, ◌<◌, ◌≤◌, Bool, true, false, List, [], ◌∷◌, ◌++◌, length, get_or, set, refl, sym, ap, ◌∙◌, subst, inl, inr, arith, Option, Some, None}
-use Rattle.std.specs.Prelude.{Contains, slice_index, ◌==◌}
-use Rattle.std.proofs.lemmas.Bool.{cases_Bool, cases_eq, false≢true, eqb-true}
-use Rattle.std.proofs.lemmas.Option.{same_Some, none-some}
+use Rattle.std.proofs.Common.{◌≡◌, ℕ, suc, suc-le-suc, ◌+◌, ◌-◌, ◌*◌, ◌<◌, ◌≤◌, Bool, List, [], ◌∷◌, length, get_or, set, refl, sym, ap, ◌∙◌, subst, inl, inr, arith, Option, Some, None}
+use Rattle.std.specs.Prelude.{Contains, slice_index}
+use Rattle.std.proofs.lemmas.Bool.{cases_eq, false≢true}
+use Rattle.std.proofs.lemmas.Option.{same_Some}
 use Rattle.std.proofs.lemmas.List.Elements.{Contains-append_cases}
 use mathlib.Core.Option.{some, none}
 use lib.ListN.{get_elem?}
 use Rattle.atomic_table.specs.Table.{step, keeps, Allows}
 use Rattle.morph_base.specs.declared.limits.TheConstants.{MAX, READS}
 use Rattle.morph_base.specs.declared.plan.Plan.{Plan}
-use Rattle.morph_base.specs.declared.word.OpState.{OpState}
-use Rattle.morph_base.specs.declared.word.OpState.TheVariants.{Blocked, Ready, Claimed, Executed, Failed, Spread, Settled, SettledAborted}
 use Rattle.morph_base.specs.declared.word.OpWord.{OpWord}
-use Rattle.morph_base.specs.Plans.{IsPlan, op_count, event_count, event_of, verdict, InEvent}
+use Rattle.morph_base.specs.Plans.{IsPlan, op_count, event_count}
 use Rattle.morph_base.proofs.BoundLaws.{high_of-small}
 use Rattle.interleaving_core.specs.declared.entry.Record.{Record}
-use Rattle.interleaving_core.specs.Core.{Core, blocked, is_shown, entry_of, places, record_value}
+use Rattle.interleaving_core.specs.Core.{blocked, entry_of, places, record_value}
 use Rattle.interleaving_core.specs.Sightings.{IsNoted, IsRecordNoted}
 use Rattle.op_words.specs.declared.trail.DecisionSeen.{DecisionSeen}
 use Rattle.op_words.specs.declared.trail.Item.{Item}
 use Rattle.op_words.specs.declared.trail.RecordSeen.{RecordSeen}
 use Rattle.op_words.specs.declared.trail.View.{View}
 use Rattle.op_words.specs.Trails.{last_word}
-use Rattle.op_words.specs.Views.{IsSettledSeen, IsDecisionSeen, recalling, learning}
+use Rattle.op_words.specs.Views.{recalling, learning}
 use Rattle.op_words.specs.Layout.{record_index, packed_record, decision_base, packed_decision, level_index}
 use Rattle.op_words.specs.Rule.{Seats, taken, Knows, Lawful, Stays}
 use Rattle.op_words.specs.Plays.{Sat, IsDecision, IsTold, recalls, learns}

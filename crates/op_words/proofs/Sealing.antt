@@ -1,5 +1,5 @@
 -- What the call comes to that settles an operation.
-use Rattle.std.proofs.Common.{◌≡◌, ◌≢◌, ◌⊎◌, ℕ, ◌+◌, ◌<◌, Bool, true, false, List, [], ◌∷◌, ◌++◌, refl, sym, ap, ◌∙◌, subst, inl, inr, arith, Some, None}
+use Rattle.std.proofs.Common.{◌≡◌, ◌≢◌, ◌⊎◌, ℕ, Bool, true, false, List, [], ◌∷◌, ◌++◌, refl, sym, ap, ◌∙◌, subst, inl, inr, arith, Some, None}
 use Rattle.std.specs.Prelude.{Contains}
 use Rattle.std.proofs.lemmas.Bool.{cases_eq, false≢true}
 use Rattle.std.proofs.lemmas.List.Elements.{Contains-append_left, Contains-append_right}
@@ -7,7 +7,7 @@ use Rattle.morph_base.specs.declared.plan.Plan.{Plan}
 use Rattle.morph_base.specs.declared.word.OpState.{OpState}
 use Rattle.morph_base.specs.declared.word.OpState.TheVariants.{Blocked, Ready, Claimed, Executed, Failed, Spread, Settled, SettledAborted}
 use Rattle.morph_base.specs.declared.word.OpWord.{OpWord}
-use Rattle.morph_base.specs.Plans.{op_count, event_of, origin_at, final, verdict}
+use Rattle.morph_base.specs.Plans.{event_of, origin_at, final, verdict}
 use Rattle.morph_base.specs.Words.{IsWord, is_settled, packed}
 use Rattle.morph_base.proofs.WordLaws.{one_word}
 use Rattle.interleaving_core.specs.Core.{blocked, has_run, is_open}
@@ -17,11 +17,11 @@ use Rattle.op_words.specs.declared.board.Board.{Board}
 use Rattle.op_words.specs.declared.board.Hand.{Hand}
 use Rattle.op_words.specs.declared.trail.Item.{Item}
 use Rattle.op_words.specs.declared.trail.View.{View}
-use Rattle.op_words.specs.Trails.{loaded, left, HasLast, IsDisturbed, IsSourceOf, OwnOn, NoneOwn, IsSteadyAt, IsCalmAt}
-use Rattle.op_words.specs.Views.{IsDecisionSeen, Adds, Goes, settling}
+use Rattle.op_words.specs.Trails.{loaded, left, HasLast, IsDisturbed, IsSourceOf, NoneOwn, IsSteadyAt, IsCalmAt}
+use Rattle.op_words.specs.Views.{IsDecisionSeen, Adds, settling}
 use Rattle.op_words.specs.Plays.{Leaves}
-use Rattle.op_words.specs.Judging.{IsStaleWord, IsDone, IsOwnUnsettled, SettleDoes}
-use Rattle.op_words.specs.Hands.{plan_of, cap_of, view_of, IsHandOf}
+use Rattle.op_words.specs.Judging.{IsStaleWord, SettleDoes}
+use Rattle.op_words.specs.Hands.{plan_of, cap_of, view_of}
 use Rattle.op_words.specs.Stepping.{Looked, Left, Learned, IsWalk}
 use Rattle.op_words.specs.Comparing.{IsNotedLast, IsOtherAt, IsOpened, IsSealed}
 use Rattle.op_words.proofs.Trailing.{last_later}

@@ -1,30 +1,26 @@
 -- An operation is settled: the step of the machine, and what the call comes to.
-use Rattle.std.proofs.Common.{◌≡◌, ◌≢◌, ◌⊎◌, ℕ, ◌+◌, ◌<◌, ◌≤◌, Bool, true, false, List, [], ◌∷◌, ◌++◌, length, set, refl, sym, ap, ◌∙◌, subst, inl, inr, arith, Option, Some, None}
+use Rattle.std.proofs.Common.{◌≡◌, ◌⊎◌, ℕ, ◌<◌, true, [], ◌∷◌, ◌++◌, length, set, refl, sym, ap, ◌∙◌, subst, inl, inr, arith, Some}
 use Rattle.std.specs.Prelude.{Contains, slice_index, ◌==◌}
 use Rattle.std.proofs.lemmas.Option.{same_Some}
-use Rattle.std.proofs.lemmas.List.Elements.{Contains-append_left, Contains-append_right, Contains-append_cases}
+use Rattle.std.proofs.lemmas.List.Elements.{Contains-append_right, Contains-append_cases}
 use mathlib.Core.Option.{some, none}
 use lib.ListN.{get_elem?}
 use prog.Atomic.{either}
 use Rattle.atomic_table.specs.Table.{step, keeps, Allows}
 use Rattle.morph_base.specs.declared.plan.Plan.{Plan}
-use Rattle.morph_base.specs.declared.word.OpState.{OpState}
-use Rattle.morph_base.specs.declared.word.OpState.TheVariants.{Blocked, Ready, Claimed, Executed, Failed, Spread, Settled, SettledAborted}
 use Rattle.morph_base.specs.declared.word.OpWord.{OpWord}
-use Rattle.morph_base.specs.Clean.{from, source}
-use Rattle.morph_base.specs.Plans.{op_count, event_of, origin_at, final, verdict}
+use Rattle.morph_base.specs.Clean.{source}
+use Rattle.morph_base.specs.Plans.{op_count, origin_at, final}
 use Rattle.morph_base.specs.Words.{IsWord, is_settled, packed, settled, settled_aborted}
 use Rattle.morph_base.proofs.WordLaws.{one_word}
-use Rattle.interleaving_core.specs.declared.entry.Record.{Record}
 use Rattle.interleaving_core.specs.declared.entry.Settling.{Settling}
 use Rattle.interleaving_core.specs.declared.event.CoreEvent.{CoreEvent}
 use Rattle.interleaving_core.specs.declared.event.CoreEvent.TheVariants.{Settle}
-use Rattle.interleaving_core.specs.Core.{Core, put, places, is_shown, is_open, IsSettledIn, value_in}
-use Rattle.interleaving_core.specs.Steps.{May, after, settling as settling_in, MaySettle}
+use Rattle.interleaving_core.specs.Core.{Core, put, is_shown, is_open, value_in}
+use Rattle.interleaving_core.specs.Steps.{after, settling as settling_in, MaySettle}
 use Rattle.interleaving_core.proofs.Basics.{put_here}
 use Rattle.interleaving_core.proofs.Sources.{settled_right}
 use Rattle.interleaving_core.proofs.Machine.{step_keeps}
-use Rattle.op_words.specs.declared.trail.Item.{Item}
 use Rattle.op_words.specs.declared.trail.View.{View}
 use Rattle.op_words.specs.Trails.{left}
 use Rattle.op_words.specs.Views.{HasSettled, IsBooked, IsRecordSeen, settling}

@@ -1,6 +1,5 @@
 -- What a hand that finds a present word knows of it.
-use Rattle.std.proofs.Common.{◌≡◌, ℕ, ◌+◌, ◌<◌, true, false, length, refl, sym, ap, ◌∙◌, subst, inl, inr, arith, Some, None}
-use Rattle.std.specs.Prelude.{Contains, slice_index}
+use Rattle.std.proofs.Common.{◌≡◌, ℕ, ◌<◌, true, false, length, refl, sym, ap, ◌∙◌, subst, inl, inr, Some, None}
 use Rattle.std.proofs.lemmas.Option.{same_Some, none-some}
 use mathlib.Core.Option.{some}
 use lib.ListN.{get_elem?}
@@ -10,10 +9,10 @@ use Rattle.morph_base.specs.declared.plan.Origin.TheVariants.{Base, Op as Writte
 use Rattle.morph_base.specs.declared.word.OpState.{OpState}
 use Rattle.morph_base.specs.declared.word.OpState.TheVariants.{Blocked, Ready, Claimed, Executed, Failed, Spread, Settled, SettledAborted}
 use Rattle.morph_base.specs.declared.word.OpWord.{OpWord}
-use Rattle.morph_base.specs.Plans.{op_count, event_of, origin_at, final, InEvent}
+use Rattle.morph_base.specs.Plans.{op_count, event_of, origin_at}
 use Rattle.morph_base.specs.Words.{is_settled}
 use Rattle.interleaving_core.specs.declared.entry.Record.{Record}
-use Rattle.interleaving_core.specs.Core.{Core, has_run, is_shown, places, IsSettledAs}
+use Rattle.interleaving_core.specs.Core.{has_run, is_shown, IsSettledAs}
 use Rattle.interleaving_core.specs.Soundness.{IsSoundAt}
 use Rattle.interleaving_core.proofs.Sources.{settled_cases, settled_right}
 use Rattle.op_words.specs.declared.trail.View.{View}

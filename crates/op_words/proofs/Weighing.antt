@@ -1,16 +1,15 @@
 -- The verdicts on the operations of an event, one after another.
-use Rattle.std.proofs.Common.{◌≡◌, ◌≢◌, ◌⊎◌, ℕ, ◌+◌, ◌<◌, ◌≤◌, Bool, true, false, List, [], ◌∷◌, ◌++◌, refl, sym, ap, ◌∙◌, subst, inl, inr, arith, Option, Some, None}
+use Rattle.std.proofs.Common.{◌≡◌, ◌≢◌, ◌⊎◌, ℕ, ◌+◌, ◌<◌, ◌≤◌, Bool, true, false, List, [], ◌++◌, refl, sym, ap, ◌∙◌, subst, inl, inr, arith, Option, Some, None}
 use Rattle.std.specs.Prelude.{Contains}
 use Rattle.std.proofs.lemmas.Bool.{cases_lt}
-use Rattle.std.proofs.lemmas.List.Elements.{Contains-append_left, Contains-append_right, Contains-append_cases}
+use Rattle.std.proofs.lemmas.List.Elements.{Contains-append_left, Contains-append_right}
 use Rattle.morph_base.specs.declared.plan.Plan.{Plan}
 use Rattle.morph_base.specs.declared.plan.Origin.{Origin}
 use Rattle.morph_base.specs.declared.plan.PlanEvent.{PlanEvent}
 use Rattle.morph_base.specs.Numbering.{IsWithin}
 use Rattle.morph_base.specs.declared.word.OpWord.{OpWord}
-use Rattle.morph_base.specs.Plans.{IsPlan, op_count, event_count, event_at, event_of, origin_at, verdict, InEvent}
+use Rattle.morph_base.specs.Plans.{IsPlan, event_count, event_at, event_of, origin_at, verdict, InEvent}
 use Rattle.morph_base.proofs.OutcomeLaws.{source_precedes}
-use Rattle.interleaving_core.specs.Core.{places}
 use Rattle.op_words.specs.declared.answers.Decided.{Decided}
 use Rattle.op_words.specs.declared.answers.Decided.TheVariants.{Committed, Aborted, NotYet as Undecided}
 use Rattle.op_words.specs.declared.answers.Verdict.{Verdict}
@@ -21,9 +20,9 @@ use Rattle.op_words.specs.declared.trail.Item.{Item}
 use Rattle.op_words.specs.declared.trail.RecordSeen.{RecordSeen}
 use Rattle.op_words.specs.declared.trail.View.{View}
 use Rattle.op_words.specs.Trails.{loaded, HasLast, IsDisturbed, IsSourceOf, NoneOwn}
-use Rattle.op_words.specs.Views.{IsSettledSeen, IsSourceSeen, Adds, Goes}
+use Rattle.op_words.specs.Views.{IsSettledSeen, Adds}
 use Rattle.op_words.specs.Calls.{IsSettledRead, IsSourceOpen, Elsewhere}
-use Rattle.op_words.specs.Judging.{decided_as, IsStaleAt, IsStaleWord, IsOwnUnready, IsDecided, DecideTells, DecideDoes}
+use Rattle.op_words.specs.Judging.{decided_as, IsStaleWord, IsOwnUnready, IsDecided, DecideTells, DecideDoes}
 use Rattle.op_words.specs.Hands.{plan_of, view_of, IsHandOf}
 use Rattle.op_words.specs.Stepping.{Learned}
 use Rattle.op_words.specs.Comparing.{OfReads, IsJudgedAs, IsAnswerSeen, IsDoubtful, WeighTells, IsWeighed, GroundsTell, HasGrounds, MaySayOf, IsConcluded}

@@ -22,7 +22,7 @@ use Rattle.op_words.specs.declared.board.Hand.{Hand}
 use Rattle.op_words.specs.declared.trail.Item.{Item}
 use Rattle.op_words.specs.declared.trail.View.{View}
 use Rattle.op_words.specs.Trails.{loaded, left, last_word, IsSourceOf, OfSources, NoneOwn}
-use Rattle.op_words.specs.Views.{IsDecisionSeen, IsJudged, IsRecordSeen, IsSourceSeen, Goes, settling}
+use Rattle.op_words.specs.Views.{IsDecisionSeen, IsRecordSeen, IsSourceSeen, Goes, settling}
 use Rattle.op_words.specs.Calls.{IsSettledRead, IsSourceOpen}
 use Rattle.op_words.specs.Judging.{IsStaleAt, IsStaleWord, IsOwnUnready, VerdictTells}
 use Rattle.op_words.specs.Hands.{plan_of, view_of, IsHandOf}

@@ -1,7 +1,6 @@
-use Rattle.std.proofs.Common.{◌≡◌, ◌∙◌, ap, subst, ℕ, arith}
+use Rattle.std.proofs.Common.{◌≡◌, ◌∙◌, subst, ℕ, arith}
 use Rattle.interleaving_core.specs.Core.{places}
 use Rattle.op_words.specs.declared.answers.Compared.{Compared}
-use Rattle.op_words.specs.declared.trail.View.{View}
 use Rattle.op_words.specs.Comparing.{IsComparedAt, IsComparedUpTo}
 use Rattle.op_words.proofs.Comparing.{compare_none, compare_more, compare_stop, compare_all}
 use Rattle.op_words.proofs.board.Board.compare.Goals as goal

@@ -1,4 +1,4 @@
-use Rattle.std.proofs.Common.{◌≡◌, ◌≢◌, ◌⊎◌, ℕ, ◌+◌, ◌-◌, ◌<◌, Bool, Option, ap, arith, sym, subst, refl, ◌∙◌, Some}
+use Rattle.std.proofs.Common.{◌≡◌, ℕ, ◌+◌, ◌-◌, ◌<◌, ap, arith, sym, subst, refl, ◌∙◌, Some}
 use mathlib.Core.Option.{none}
 use prog.Atomic.{either}
 use Rattle.std.specs.Prelude.{◌==◌}

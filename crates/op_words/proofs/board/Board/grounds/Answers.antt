@@ -1,7 +1,6 @@
-use Rattle.std.proofs.Common.{◌≡◌, ◌+◌, ◌<◌, ◌≤◌, ◌∙◌, ℕ, arith, ap, sym, subst}
-use Rattle.morph_base.specs.declared.plan.Plan.{Plan}
+use Rattle.std.proofs.Common.{◌≡◌, ◌+◌, ℕ, arith, ap, sym, subst}
 use Rattle.morph_base.specs.declared.plan.PlanEvent.{PlanEvent}
-use Rattle.morph_base.specs.Plans.{IsPlan, event_at, no_event, InEvent}
+use Rattle.morph_base.specs.Plans.{IsPlan, event_at, no_event}
 use Rattle.morph_base.proofs.NumberLaws.{op_count-small}
 use Rattle.morph_base.proofs.PlanLaws.{end_in_range}
 use Rattle.op_words.specs.declared.answers.Decided.TheVariants.{Committed, Aborted}

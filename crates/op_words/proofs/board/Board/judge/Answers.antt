@@ -1,7 +1,5 @@
 use Rattle.std.proofs.Common.{◌∙◌, sym, subst}
 use Rattle.morph_base.specs.Plans.{IsPlan}
-use Rattle.op_words.specs.declared.answers.Verdict.TheVariants.{Stale}
-use Rattle.op_words.specs.Judging.{verdict_of}
 use Rattle.op_words.specs.Hands.{cap_of}
 use Rattle.op_words.specs.Comparing.{IsCompared, IsJudgedAs}
 use Rattle.op_words.proofs.Seeking.{source_other}

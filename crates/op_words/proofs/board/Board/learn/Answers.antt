@@ -1,4 +1,4 @@
-use Rattle.std.proofs.Common.{◌≡◌, ℕ, ◌+◌, ◌<◌, Bool, Option, ap, arith, sym, subst, refl, ◌∙◌, Some}
+use Rattle.std.proofs.Common.{ℕ, ◌<◌, Bool, Option, ap, arith, sym, subst, refl, ◌∙◌, Some}
 use mathlib.Core.Option.{none}
 use Rattle.atomic_table.specs.Table.{Allows, step}
 use Rattle.morph_base.specs.declared.plan.Plan.{Plan}

@@ -1,15 +1,13 @@
-use Rattle.std.proofs.Common.{◌≡◌, ℕ, ◌+◌, ◌*◌, ◌<◌, ◌≤◌, Option, Some, ap, arith, sym, subst, refl, ◌∙◌}
+use Rattle.std.proofs.Common.{ℕ, ◌<◌, ◌≤◌, Some, ap, arith, sym, subst, refl, ◌∙◌}
 use mathlib.Core.Option.{none}
 use Rattle.atomic_table.specs.Table.{Allows, step}
-use Rattle.morph_base.specs.declared.limits.TheConstants.{MAX, READS}
+use Rattle.morph_base.specs.declared.limits.TheConstants.{MAX}
 use Rattle.morph_base.specs.declared.plan.Plan.{Plan}
-use Rattle.morph_base.specs.Plans.{IsPlan, op_count}
-use Rattle.interleaving_core.specs.declared.entry.Record.{Record}
-use Rattle.interleaving_core.specs.Core.{places, record_value}
+use Rattle.morph_base.specs.Plans.{op_count}
+use Rattle.interleaving_core.specs.Core.{places}
 use Rattle.op_words.specs.Plays.{Sat, recalls}
 use Rattle.op_words.specs.Rule.{Lawful}
 use Rattle.op_words.specs.Views.{recalling}
-use Rattle.op_words.specs.Layout.{record_index, packed_record}
 use Rattle.op_words.specs.Hands.{plan_of, cap_of, counters_of, view_of}
 use Rattle.op_words.proofs.Storing.{places_few}
 use Rattle.op_words.proofs.Recalling.{record_place, allows_recall, recall_told, recalled_hand}

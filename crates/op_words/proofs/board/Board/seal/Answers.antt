@@ -1,4 +1,4 @@
-use Rattle.std.proofs.Common.{◌≡◌, ℕ, ◌<◌, ap, arith, sym, subst, refl, ◌∙◌}
+use Rattle.std.proofs.Common.{◌≡◌, ℕ, ap, arith, sym, subst, refl, ◌∙◌}
 use prog.Atomic.{either}
 use mathlib.Core.Option.{none}
 use Rattle.std.specs.Prelude.{◌==◌}

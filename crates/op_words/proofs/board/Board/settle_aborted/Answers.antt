@@ -1,10 +1,9 @@
-use Rattle.std.proofs.Common.{◌≡◌, ◌<◌, ◌≤◌, ◌∙◌, ℕ, arith, zero-lt-suc, true, sym, subst, ap, inl, inr, Ok, Err}
+use Rattle.std.proofs.Common.{◌∙◌, ℕ, arith, zero-lt-suc, true, sym, subst, ap, inr}
 use Rattle.std.proofs.lemmas.Bool.{false≢true}
 use Rattle.morph_base.specs.declared.plan.Plan.{Plan}
 use Rattle.morph_base.proofs.BoundLaws.{source-small, final-small}
 use Rattle.morph_base.specs.declared.word.OpWord.{OpWord}
-use Rattle.morph_base.specs.Clean.{source}
-use Rattle.morph_base.specs.Plans.{IsPlan, origin_at, final, event_of}
+use Rattle.morph_base.specs.Plans.{IsPlan, origin_at, final}
 use Rattle.morph_base.specs.Words.{IsWord, is_settled, settled_aborted}
 use Rattle.op_words.specs.Hands.{view_of}
 use Rattle.op_words.specs.Views.{IsSourceSeen}

@@ -1,8 +1,8 @@
-use Rattle.std.proofs.Common.{◌≡◌, ◌<◌, ◌∙◌, ℕ, true, sym, subst, ap, inl, inr}
+use Rattle.std.proofs.Common.{◌∙◌, ℕ, sym, subst, ap, inl, inr}
 use Rattle.std.proofs.lemmas.Bool.{false≢true}
 use Rattle.morph_base.specs.declared.plan.Plan.{Plan}
 use Rattle.morph_base.specs.declared.word.OpWord.{OpWord}
-use Rattle.morph_base.specs.Plans.{IsPlan, event_of}
+use Rattle.morph_base.specs.Plans.{IsPlan}
 use Rattle.morph_base.specs.Words.{is_settled, settled}
 use Rattle.interleaving_core.specs.Core.{has_run}
 use Rattle.op_words.specs.Hands.{view_of}

@@ -1,5 +1,5 @@
 -- As long as an attempt that was shown is the present one, the operation has a record at each place that it reads.
-use Rattle.std.proofs.Common.{◌≡◌, ◌⊎◌, ℕ, zero, suc, ◌+◌, ◌<◌, Bool, true, false, List, [], ◌∷◌, ◌++◌, refl, sym, ap, ◌∙◌, subst, inl, inr, arith, Option, Some, None, not-suc-le-zero}
+use Rattle.std.proofs.Common.{◌≡◌, ◌⊎◌, ℕ, zero, suc, ◌<◌, Bool, true, false, List, [], ◌∷◌, ◌++◌, refl, sym, ap, ◌∙◌, subst, inl, inr, arith, Option, Some, None, not-suc-le-zero}
 use Rattle.std.specs.Prelude.{Contains}
 use Rattle.std.proofs.lemmas.Bool.{false≢true}
 use Rattle.std.proofs.lemmas.List.Elements.{Contains-append_cases}
@@ -9,16 +9,16 @@ use Rattle.morph_base.specs.declared.word.OpState.{OpState}
 use Rattle.morph_base.specs.declared.word.OpState.TheVariants.{Blocked, Ready, Claimed, Executed, Failed, Spread, Settled, SettledAborted}
 use Rattle.morph_base.specs.declared.word.OpWord.{OpWord}
 use Rattle.morph_base.specs.Functions.{value_of}
-use Rattle.morph_base.specs.Plans.{IsPlan, op_at, op_count, event_of}
+use Rattle.morph_base.specs.Plans.{IsPlan, op_at, event_of}
 use Rattle.morph_base.specs.Words.{is_idle, is_settled, has_run}
 use Rattle.interleaving_core.specs.declared.entry.Record.{Record}
 use Rattle.interleaving_core.specs.declared.entry.Entry.{Entry}
 use Rattle.interleaving_core.specs.declared.event.CoreEvent.{CoreEvent}
 use Rattle.interleaving_core.specs.declared.event.CoreEvent.TheVariants.{Ready as ReadyStep, Claim, Fetch, Finish, GiveBack, Spread as SpreadStep, RollBack, Decide, Settle}
-use Rattle.interleaving_core.specs.Core.{Core, ended, fetched, entries_at, places, entry_of, put}
+use Rattle.interleaving_core.specs.Core.{Core, fetched, entries_at, places, entry_of}
 use Rattle.interleaving_core.specs.Growth.{Grows}
 use Rattle.interleaving_core.specs.Soundness.{IsSound, IsSoundAt}
-use Rattle.interleaving_core.specs.Steps.{May, after, end_of, spread_of, settling, Run}
+use Rattle.interleaving_core.specs.Steps.{after, end_of, spread_of, settling, Run}
 use Rattle.interleaving_core.proofs.Basics.{put_here, entries-some}
 use Rattle.interleaving_core.proofs.Finishing.{ended-settled}
 use Rattle.interleaving_core.proofs.Machine.{run_sound, step_grows}

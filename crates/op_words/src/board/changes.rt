@@ -1,7 +1,6 @@
 //! The exchanges that take a value back, on what the hand has seen.
 ghost use Rattle.std.specs.Prelude.{◌≡◌, ◌+◌, ◌≤◌, ◌<◌};
 ghost use Rattle.morph_base.specs.declared.limits.TheConstants.{MAX};
-ghost use Rattle.morph_base.specs.declared.word.TheConstants.{ATTEMPTS};
 ghost use Rattle.morph_base.specs.Plans.{op_count};
 ghost use Rattle.morph_base.specs.Words.{IsWord};
 ghost use Rattle.interleaving_core.specs.Core.{blocked as blocked_at, spread as spread_at};
@@ -31,8 +30,8 @@ impl Board {
         requires word { IsWord word }
         requires value { value ≤ MAX }
         requires grounds { HasGroundsToSpread (plan_of self.now) (cap_of self.now) op (view_of hand.old) word value }
-        ensures { Swapped self.now op hand.old hand.new word
-            (spreading op (spread_at (word.attempt + 1) value) (view_of hand.old)) (spread_at (word.attempt + 1) value) result }
+        ensures { let new = spread_at (word.attempt + 1) value in
+            Swapped self.now op hand.old hand.new word (spreading op new (view_of hand.old)) new result }
     {
         let (first, new) = (word.pack(), spread(word.attempt + 1, value).pack());
         let found = self

@@ -7,3 +7,8 @@ pub mod Changes
 pub mod Deciding
 pub mod Outdated
 pub mod Redoing
+pub mod Carrying
+pub mod Stopping
+pub mod Readying
+pub mod Ending
+pub mod Answering

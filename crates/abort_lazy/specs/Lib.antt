@@ -1,3 +1,5 @@
 pub mod Attempts
 pub mod Settling
 pub mod Rooms
+pub mod Transactions
+pub mod Progress

@@ -6,7 +6,11 @@
 //! in the end is evaluated once more, then the event commits or aborts for good. What comes out is that of the fold.
 //! [`laws`] tells the first attempts without an order of execution: they are the guesses of the operations.
 //!
-//! Below it stands `morph_base` alone. A caller takes all memory first, makes the first attempts, and settles:
+//! On the board that workers share, [`settle_txn`] settles one transaction, by any runner: its operations are made
+//! ready, the event is decided, the operations are settled.
+//!
+//! Below it stand `op_eval`, `op_words` and `interleaving_core`, for the board, and `morph_base`. On plain data a
+//! caller takes all memory first, makes the first attempts, and settles:
 //!
 //! ```text
 //! let mut attempts = Attempts::new(alloc, &plan)?;
@@ -22,7 +26,9 @@ pub mod laws;
 mod room;
 mod settling;
 mod sources;
+mod transaction;
 
 pub use attempts::Attempts;
 pub use room::Room;
 pub use settling::{Redone, settle_plain};
+pub use transaction::{TxnAnswer, settle_txn};

@@ -1,0 +1,278 @@
+-- How one operation is made ready for the decision.
+use Rattle.std.proofs.Common.{◌≡◌, ◌≢◌, ◌⊎◌, ℕ, ◌+◌, Bool, true, false, List, ◌++◌, refl, sym, ap, ◌∙◌, subst, inl, inr, append_assoc, Option, Some, None}
+use Rattle.std.specs.Prelude.{Contains}
+use Rattle.std.proofs.lemmas.Bool.{false≢true, cases_Bool}
+use Rattle.std.proofs.lemmas.List.Elements.{Contains-append_right}
+use Rattle.morph_base.specs.declared.plan.Plan.{Plan}
+use Rattle.morph_base.specs.declared.word.OpState.{OpState}
+use Rattle.morph_base.specs.declared.word.OpState.TheVariants.{Blocked, Ready, Claimed, Executed, Failed, Spread, Settled, SettledAborted}
+use Rattle.morph_base.specs.declared.word.OpWord.{OpWord}
+use Rattle.morph_base.specs.Plans.{InEvent, origin_at}
+use Rattle.morph_base.specs.Words.{is_settled, is_idle, is_evaluated}
+use Rattle.interleaving_core.specs.Core.{blocked, has_run}
+use Rattle.op_words.specs.declared.answers.Outcome.{Outcome}
+use Rattle.op_words.specs.declared.answers.Verdict.{Verdict}
+use Rattle.op_words.specs.declared.answers.Verdict.TheVariants.{Good, Bad, Stale, Unready}
+use Rattle.op_words.specs.declared.answers.Rolled.TheVariants.{Done as HasRolled, Fresh, Not as Unrolled}
+use Rattle.op_words.specs.declared.trail.Item.{Item}
+use Rattle.op_words.specs.declared.trail.View.{View}
+use Rattle.op_words.specs.Trails.{loaded, HasLast, IsDisturbed, IsShaken, OwnOn, OwnOpen, ComeFirst}
+use Rattle.op_words.specs.Views.{Goes}
+use Rattle.op_words.specs.Calls.{IsSourceOpen, PeekDoes}
+use Rattle.op_words.specs.Judging.{IsGood, IsBad, VerdictDoes}
+use Rattle.op_words.specs.Retrying.{RollDoes}
+use Rattle.op_words.proofs.Trailing.{last_later, disturbed_later, disturbed_more}
+use Rattle.op_words.proofs.Adding.{goes_then}
+use Rattle.op_eval.specs.declared.answers.Evaluation.TheVariants.{Evaluated, Blocked as BlockedOn, Busy as BusyAt, Already}
+use Rattle.op_eval.specs.Evaluations.{EvaluationDoes, SoFar}
+use Rattle.op_eval.proofs.Following.{found_other, none_own, none_open, far_then}
+use Rattle.abort_lazy.specs.declared.transaction.TxnAnswer.{TxnAnswer}
+use Rattle.abort_lazy.specs.declared.transaction.TxnAnswer.TheVariants.{NotYet}
+use Rattle.abort_lazy.specs.Transactions.{StopsAt}
+use Rattle.abort_lazy.specs.Progress.{ReadyTells, ReadyDoes, IsIdleSoFar, IsOutdatedSoFar, IsMadeSoFar, IsFoundSoFar}
+use Rattle.abort_lazy.proofs.Carrying.{settled_read_seen, found_seen, already_other, already_last, already_seen, unrolled_other, fresh_other}
+use Rattle.abort_lazy.proofs.Stopping.{source_open_later, stop_source, stop_busy, stop_shaken, stale_again}
+
+pub cases_claimed : (s : OpState) → (s ≡ Claimed) ⊎ (s ≢ Claimed)
+cases_claimed Blocked = inr (λ e. cc)
+cases_claimed Ready = inr (λ e. cc)
+cases_claimed Claimed = inl refl
+cases_claimed Executed = inr (λ e. cc)
+cases_claimed Failed = inr (λ e. cc)
+cases_claimed Spread = inr (λ e. cc)
+cases_claimed Settled = inr (λ e. cc)
+cases_claimed SettledAborted = inr (λ e. cc)
+
+abbrev pub can_stop : OpState → Bool
+can_stop Blocked = false
+can_stop Ready = false
+can_stop Claimed = true
+can_stop Executed = true
+can_stop Failed = true
+can_stop Spread = false
+can_stop Settled = true
+can_stop SettledAborted = true
+
+executed_failed : Executed ≡ Failed → ⊥
+executed_failed e = cc
+
+run_evaluated : (s : OpState) → has_run s ≡ true → is_evaluated s ≡ true
+run_evaluated Blocked ran = ran
+run_evaluated Ready ran = ran
+run_evaluated Claimed ran = ran
+run_evaluated Executed ran = ran
+run_evaluated Failed ran = ran
+run_evaluated Spread ran = absurd (false≢true ran)
+run_evaluated Settled ran = ran
+run_evaluated SettledAborted ran = ran
+
+pub shaken_more : {p : Plan} {o : ℕ} {xs : List Item} (ys : List Item) → IsShaken p o xs → IsShaken p o (xs ++ ys)
+shaken_more ys is = elim is [ inl own ↦ inl (disturbed_more ys own) | inr source ↦ inr (source.0, source.1, disturbed_more ys source.2) ]
+
+-- found with a word that stops it
+pub ready_here : (p : Plan) (i o : ℕ) → InEvent p i o → {start u : View} {xs : List Item} {w : OpWord} {r : Option TxnAnswer} → SoFar o start u xs → HasLast o xs w → Contains xs (loaded o w)
+    → (w.state ≡ Claimed) ⊎ IsShaken p o xs → StopsAt o w r → ReadyDoes p i o start u r
+ready_here p i o inside {start} {u} {xs} {w} {r} far last seen cause stops = record {
+  words = xs;
+  far = far;
+  tells =
+      elim (cases_Bool (is_settled w.state)) [
+        | inl settled ↦ subst (ReadyTells p i o start u xs) (sym (stops.settled settled)) (inl (found_seen far.goes (loaded o w) seen refl settled))
+        | inr open' ↦
+            elim (cases_claimed w.state) [
+              | inl claimed ↦ subst (ReadyTells p i o start u xs) (sym (stops.claimed claimed)) (stop_busy p i far.goes inside last seen claimed)
+              | inr free ↦
+                  subst (ReadyTells p i o start u xs) (sym (stops.other open' free))
+                  (stop_shaken p i far.goes inside last seen open' (elim cause [ inl claimed ↦ absurd (free claimed) | inr shaken ↦ shaken ]))
+            ]
+      ];
+}
+
+module _ (p : Plan) (i o : ℕ) (inside : InEvent p i o) {start v u : View} {ys xs : List Item} (far : SoFar o start v ys) (goes : Goes v u xs) (own : OwnOn o xs) (open_own : OwnOpen xs) where
+  pub ready_stop : {w : OpWord} {r : Option TxnAnswer} → HasLast o xs w → Contains xs (loaded o w) → (w.state ≡ Claimed) ⊎ IsShaken p o (ys ++ xs) → StopsAt o w r → ReadyDoes p i o start u r
+  ready_stop {w} last seen cause stops = ready_here p i o inside (far_then far goes own open_own) (last_later ys last) (Contains-append_right ys xs (loaded o w) seen) cause stops
+
+  pub ready_source : {cap at : ℕ} {w : OpWord} → IsSourceOpen p cap o v u xs at w → ReadyDoes p i o start u (Some (NotYet at w))
+  ready_source is = record { words = ys ++ xs; far = far_then far goes own open_own; tells = stop_source p i (goes_then far.goes goes) inside (source_open_later {start = start} ys is) }
+
+  pub ready_good : {cap x : ℕ} → IsGood p cap o v u xs x → ReadyDoes p i o start u None
+  ready_good is = record {
+    words = ys ++ xs;
+    far = far_then far goes own open_own;
+    tells = inr (inl (record { word = is.word; last = last_later ys is.last; judged = is.judged; fails = λ failed. absurd (executed_failed (sym is.state_is ∙ failed)) }));
+  }
+
+  pub ready_bad : {cap : ℕ} → IsBad p cap o v u xs → ReadyDoes p i o start u None
+  ready_bad is = record {
+    words = ys ++ xs;
+    far = far_then far goes own open_own;
+    tells = inr (inl (record { word = is.word; last = last_later ys is.last; judged = is.judged; fails = λ failed. is.answer }));
+  }
+
+module _ (p : Plan) (cap i o : ℕ) (inside : InEvent p i o) (first : ComeFirst p o) {start v u : View} {xs : List Item} where
+  -- the verdict after an evaluation
+  pub judged_good : {x : ℕ} → VerdictDoes p cap o v u (Good x) → IsMadeSoFar p cap o start v xs → ReadyDoes p i o start u None
+  judged_good does made = ready_good p i o inside made.far does.goes (none_own does.words does.none) (none_open does.words does.none) does.tells
+
+  pub judged_bad : VerdictDoes p cap o v u Bad → IsMadeSoFar p cap o start v xs → ReadyDoes p i o start u None
+  judged_bad does made = ready_bad p i o inside made.far does.goes (none_own does.words does.none) (none_open does.words does.none) does.tells
+
+  pub judged_source : {at : ℕ} {w : OpWord} → at ≢ o → VerdictDoes p cap o v u (Unready at w) → IsMadeSoFar p cap o start v xs → ReadyDoes p i o start u (Some (NotYet at w))
+  judged_source {at} {w} other does made =
+      elim does.tells [ inl own ↦ absurd (other own.0) | inr source ↦ ready_source p i o inside made.far does.goes (none_own does.words does.none) (none_open does.words does.none) source.1 ]
+
+  pub judged_own : {at : ℕ} {w : OpWord} {r : Option TxnAnswer} → at ≡ o → VerdictDoes p cap o v u (Unready at w) → IsMadeSoFar p cap o start v xs → StopsAt o w r → ReadyDoes p i o start u r
+  judged_own {at} {w} {r} same does made stops =
+      elim does.tells [
+        | inr source ↦ absurd (source.0 same)
+        | inl own ↦
+            ready_stop p i o inside made.far does.goes (none_own does.words does.none) (none_open does.words does.none) own.1.last own.1.seen
+            (inr (inl (elim own.1.cause [
+              | inr there ↦ disturbed_later xs there
+              | inl unrun ↦
+                  found_other xs does.words (known made) own.1.last
+                  (λ e. false≢true (sym unrun ∙ sym (ap (λ (x : OpWord). has_run x.state) e) ∙ made.evaluated.ran)) does.none
+            ])))
+            stops
+      ]
+    where
+      known : (made : IsMadeSoFar p cap o start v xs) → HasLast o xs made.evaluated.word
+      known made = subst (λ zs. HasLast o zs made.evaluated.word) (sym made.parts) (last_later made.front made.evaluated.last)
+
+  pub judged_stale : {j kept value : ℕ} {w : OpWord} {m : View} {r : Option TxnAnswer} → VerdictDoes p cap o v m (Stale j kept value) → PeekDoes p cap o m u w → IsMadeSoFar p cap o start v xs → StopsAt o w r
+      → ReadyDoes p i o start u r
+  judged_stale {j} {kept} {value} {w} {m} {r} does peek made stops =
+      let shaken : IsShaken p o (made.back ++ does.words) = stale_again first (back_own made) does.none made.evaluated does.tells.stale in
+      let whole : xs ++ does.words ≡ made.front ++ (made.back ++ does.words) = ap (λ zs. zs ++ does.words) made.parts ∙ append_assoc made.front made.back does.words in
+      let later : IsShaken p o (xs ++ does.words) = subst (IsShaken p o) (sym whole) (shaken_later made.front shaken) in
+      ready_stop p i o inside (far_then made.far does.goes (none_own does.words does.none) (none_open does.words does.none)) peek.goes (none_own peek.words peek.none) (none_open peek.words peek.none) peek.last peek.seen (inr (shaken_more peek.words later)) stops
+    where
+      back_own : (made : IsMadeSoFar p cap o start v xs) → OwnOn o made.back
+      back_own made t inside is = made.far.own t (subst (λ zs. Contains zs t) (sym made.parts) (Contains-append_right made.front made.back t inside)) is
+
+      shaken_later : (zs : List Item) {qs : List Item} → IsShaken p o qs → IsShaken p o (zs ++ qs)
+      shaken_later zs is = elim is [ inl own ↦ inl (disturbed_later zs own) | inr source ↦ inr (source.0, source.1, disturbed_later zs source.2) ]
+
+  -- an evaluation of an operation that was found idle
+  pub made_so_far : {attempt : ℕ} {r : Outcome} → EvaluationDoes p cap o v u (Evaluated attempt r) → IsIdleSoFar o start v xs → (ys : List Item) × IsMadeSoFar p cap o start u ys
+  made_so_far {attempt} {r} does idle = (
+    xs ++ does.words,
+    record {
+      far = far_then idle.far does.goes does.own does.open_own;
+      before = v;
+      front = xs;
+      back = does.words;
+      parts = refl;
+      goes = does.goes;
+      first = does.first;
+      attempt = attempt;
+      value = r;
+      evaluated = does.tells;
+    },
+  )
+
+  pub run_blocked : {source : ℕ} {w : OpWord} → EvaluationDoes p cap o v u (BlockedOn source w) → IsIdleSoFar o start v xs → ReadyDoes p i o start u (Some (NotYet source w))
+  run_blocked does idle = ready_source p i o inside idle.far does.goes does.own does.open_own does.tells.source
+
+  pub run_busy : {w : OpWord} {r : Option TxnAnswer} → EvaluationDoes p cap o v u (BusyAt w) → IsIdleSoFar o start v xs → StopsAt o w r → ReadyDoes p i o start u r
+  run_busy does idle stops =
+      ready_stop p i o inside idle.far does.goes does.own does.open_own does.tells.last does.tells.seen
+      (elim does.tells.cause [ inl claimed ↦ inl claimed | inr there ↦ inr (inl (disturbed_later xs there)) ]) stops
+
+  pub run_already : {w : OpWord} {r : Option TxnAnswer} → EvaluationDoes p cap o v u (Already w) → IsIdleSoFar o start v xs → StopsAt o w r → ReadyDoes p i o start u r
+  run_already {w} does idle stops =
+      ready_stop p i o inside idle.far does.goes does.own does.open_own (already_last p cap o does.tells) (already_seen p cap o does.tells) (inr (inl (already_other p cap o xs idle.last idle.idle does.tells))) stops
+
+  -- a rollback of an operation that was found stale or spread
+  pub idle_so_far : {j : ℕ} → RollDoes p cap o v u j HasRolled → IsOutdatedSoFar p cap o j start v xs → (ys : List Item) × IsIdleSoFar o start u ys
+  idle_so_far {j} does old = (xs ++ does.words, record { far = far_then old.far does.goes does.own does.open_own; word = blocked (does.tells.first.attempt + 1); last = last_later xs does.tells.last; idle = refl })
+
+  pub redo_source : {j at : ℕ} {w : OpWord} → at ≢ o → RollDoes p cap o v u j (Unrolled at w) → IsOutdatedSoFar p cap o j start v xs → ReadyDoes p i o start u (Some (NotYet at w))
+  redo_source {j} {at} {w} other does old =
+      elim does.tells [ inl own ↦ absurd (other own.0) | inr source ↦ ready_source p i o inside old.far does.goes does.own does.open_own source.1.source_open ]
+
+  pub redo_own : {j at : ℕ} {w : OpWord} {r : Option TxnAnswer} → at ≡ o → RollDoes p cap o v u j (Unrolled at w) → IsOutdatedSoFar p cap o j start v xs → StopsAt o w r → ReadyDoes p i o start u r
+  redo_own {j} {at} {w} {r} same does old stops =
+      elim does.tells [
+        | inr source ↦ absurd (source.0 same)
+        | inl own ↦
+            ready_stop p i o inside old.far does.goes does.own does.open_own own.1.last own.1.seen
+            (inr (inl (unrolled_other p cap o xs old.last old.evaluated old.below own.1))) stops
+      ]
+
+  pub redo_fresh : {j x : ℕ} {w : OpWord} {m : View} {r : Option TxnAnswer} → RollDoes p cap o v m j (Fresh x) → PeekDoes p cap o m u w → IsOutdatedSoFar p cap o j start v xs → StopsAt o w r
+      → ReadyDoes p i o start u r
+  redo_fresh {j} {x} {w} {m} {r} does peek old stops =
+      ready_stop p i o inside (far_then old.far does.goes does.own does.open_own) peek.goes (none_own peek.words peek.none) (none_open peek.words peek.none) peek.last peek.seen
+      (inr (inl (disturbed_more peek.words (fresh_other p cap o xs old.last old.cause does.tells)))) stops
+
+module _ (p : Plan) (cap i o : ℕ) (inside : InEvent p i o) {start v : View} {xs : List Item} where
+  -- what was found not run, at its last word
+  pub found_idle : {w : OpWord} → IsFoundSoFar p cap o start v xs w → is_idle w.state ≡ true → IsIdleSoFar o start v xs
+  found_idle {w} found idle = record { far = found.far; word = w; last = found.last; idle = idle }
+
+  pub found_spread : {w : OpWord} → IsFoundSoFar p cap o start v xs w → w.state ≡ Spread → IsOutdatedSoFar p cap o 0 start v xs
+  found_spread {w} found spread = record { far = found.far; word = w; last = found.last; evaluated = ap is_evaluated spread; below = found.spread spread; cause = inl spread }
+
+  found_run : {w : OpWord} {s : OpState} → w.state ≡ s → has_run s ≡ true → IsFoundSoFar p cap o start v xs w → IsDisturbed o xs
+  found_run is ran found = elim found.cause [ inr there ↦ there | inl unrun ↦ absurd (false≢true (sym unrun ∙ ap has_run is ∙ ran)) ]
+
+  found_settled : {w : OpWord} {r : Option TxnAnswer} → is_settled w.state ≡ true → IsFoundSoFar p cap o start v xs w → StopsAt o w r → ReadyDoes p i o start v r
+  found_settled {w} {r} settled found stops = record { words = xs; far = found.far; tells = subst (ReadyTells p i o start v xs) (sym (stops.settled settled)) (inl (found_seen found.far.goes (loaded o w) found.seen refl settled)) }
+
+  pub found_stop : {w : OpWord} {r : Option TxnAnswer} (s : OpState) → w.state ≡ s → can_stop s ≡ true → IsFoundSoFar p cap o start v xs w → StopsAt o w r → ReadyDoes p i o start v r
+  found_stop {w} {r} Blocked is can found stops = absurd (false≢true can)
+  found_stop {w} {r} Ready is can found stops = absurd (false≢true can)
+  found_stop {w} {r} Claimed is can found stops = ready_here p i o inside found.far found.last found.seen (inl is) stops
+  found_stop {w} {r} Executed is can found stops = ready_here p i o inside found.far found.last found.seen (inr (inl (found_run is refl found))) stops
+  found_stop {w} {r} Failed is can found stops = ready_here p i o inside found.far found.last found.seen (inr (inl (found_run is refl found))) stops
+  found_stop {w} {r} Spread is can found stops = absurd (false≢true can)
+  found_stop {w} {r} Settled is can found stops = found_settled (ap is_settled is) found stops
+  found_stop {w} {r} SettledAborted is can found stops = found_settled (ap is_settled is) found stops
+
+-- the first verdict on an operation in the call
+module _ (p : Plan) (cap i o : ℕ) (inside : InEvent p i o) {v u : View} where
+  pub first_far : {r : Verdict} → (does : VerdictDoes p cap o v u r) → SoFar o v u does.words
+  first_far does = record { goes = does.goes; own = none_own does.words does.none; open_own = none_open does.words does.none }
+
+  pub first_good : {x : ℕ} → VerdictDoes p cap o v u (Good x) → ReadyDoes p i o v u None
+  first_good does = record {
+    words = does.words;
+    far = first_far does;
+    tells = inr (inl (record { word = does.tells.word; last = does.tells.last; judged = does.tells.judged; fails = λ failed. absurd (executed_failed (sym does.tells.state_is ∙ failed)) }));
+  }
+
+  pub first_bad : VerdictDoes p cap o v u Bad → ReadyDoes p i o v u None
+  first_bad does = record {
+    words = does.words;
+    far = first_far does;
+    tells = inr (inl (record { word = does.tells.word; last = does.tells.last; judged = does.tells.judged; fails = λ failed. does.tells.answer }));
+  }
+
+  pub first_stale : {j kept value : ℕ} → VerdictDoes p cap o v u (Stale j kept value) → (xs : List Item) × IsOutdatedSoFar p cap o j v u xs
+  first_stale {j} {kept} {value} does =
+      let stale = does.tells.stale in (
+        does.words,
+        record {
+          far = first_far does;
+          word = does.tells.word;
+          last = stale.last;
+          evaluated = run_evaluated does.tells.word.state stale.ran;
+          below = stale.below;
+          cause = inr (kept, value, stale.kept_is, settled_read_seen does.goes (origin_at p o j) value stale.source, stale.differs);
+        },
+      )
+
+  pub first_own : {at : ℕ} {w : OpWord} → at ≡ o → VerdictDoes p cap o v u (Unready at w) → (xs : List Item) × IsFoundSoFar p cap o v u xs w
+  first_own {at} {w} same does =
+      elim does.tells [
+        | inr source ↦ absurd (source.0 same)
+        | inl own ↦ (does.words, record { far = first_far does; last = own.1.last; seen = own.1.seen; cause = own.1.cause; spread = own.1.spread })
+      ]
+
+  pub first_source : {at : ℕ} {w : OpWord} → at ≢ o → VerdictDoes p cap o v u (Unready at w) → ReadyDoes p i o v u (Some (NotYet at w))
+  first_source {at} {w} other does =
+      elim does.tells [
+        | inl own ↦ absurd (other own.0)
+        | inr source ↦ record { words = does.words; far = first_far does; tells = stop_source p i does.goes inside source.1 }
+      ]

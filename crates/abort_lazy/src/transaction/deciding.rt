@@ -1,0 +1,58 @@
+//! An event is decided once its operations are ready.
+ghost use Rattle.std.specs.Prelude.{◌≡◌, ℕ, ◌<◌, None};
+ghost use Rattle.morph_base.specs.Plans.{event_count, InEvent};
+ghost use Rattle.op_words.specs.Views.{IsSettledSeen};
+ghost use Rattle.op_words.specs.Hands.{plan_of, view_of, IsHandOf};
+ghost use Rattle.abort_lazy.specs.Progress.{DecidedDoes};
+
+use super::{TxnAnswer, first_of, stop};
+use morph_base::Plan;
+use op_words::{Board, Decided, Hand};
+
+/// Decides an event whose operations are ready. Another hand may have settled one of them in the meantime; there is
+/// a decision then.
+pub(super) fn decide_now(
+    board: &Board,
+    hand: &mut Hand,
+    plan: &Plan,
+    event: u32,
+) -> Result<bool, TxnAnswer>
+    requires hand { IsHandOf board.now hand.old }
+    requires plan { plan.now ≡ plan_of board.now }
+    requires in_range { event < event_count plan.now }
+    requires free { (view_of hand.old).claim ≡ None }
+    ensures hand { IsHandOf board.now hand.new }
+    ensures does { DecidedDoes plan.now event (view_of hand.old) (view_of hand.new) result }
+{
+    match board.decide(hand, plan, event) {
+        Decided::Committed => Ok(true),
+        Decided::Aborted => Ok(false),
+        Decided::NotYet { op, word } => {
+            // a source of an operation of the event, which is of an earlier one
+            if op < first_of(plan, event) {
+                return Err(TxnAnswer::NotYet { at: op, word });
+            }
+            match stop(op, word) {
+                Some(answer) => Err(answer),
+                None => decide_again(board, hand, plan, event),
+            }
+        }
+    }
+}
+
+/// Decides an event of which an operation was seen settled, so that there is a decision.
+fn decide_again(board: &Board, hand: &mut Hand, plan: &Plan, event: u32) -> Result<bool, TxnAnswer>
+    requires hand { IsHandOf board.now hand.old }
+    requires plan { plan.now ≡ plan_of board.now }
+    requires in_range { event < event_count plan.now }
+    requires free { (view_of hand.old).claim ≡ None }
+    requires seen { (o : ℕ) × InEvent plan.now event o × IsSettledSeen (view_of hand.old) o }
+    ensures hand { IsHandOf board.now hand.new }
+    ensures does { DecidedDoes plan.now event (view_of hand.old) (view_of hand.new) result }
+{
+    match board.decide(hand, plan, event) {
+        Decided::Committed => Ok(true),
+        Decided::Aborted => Ok(false),
+        Decided::NotYet { op, word } => Err(TxnAnswer::NotYet { at: op, word }),
+    }
+}

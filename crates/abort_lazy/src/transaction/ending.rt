@@ -1,0 +1,60 @@
+//! The operations of a decided event are settled.
+ghost use Rattle.std.specs.Prelude.{◌≡◌, ◌<◌, Bool, None};
+ghost use Rattle.morph_base.specs.Plans.{op_count, event_count, InEvent};
+ghost use Rattle.op_words.specs.Views.{IsDecisionSeen};
+ghost use Rattle.op_words.specs.Hands.{plan_of, view_of, IsHandOf};
+ghost use Rattle.abort_lazy.specs.Progress.{OneDoes, RestDoes};
+
+use super::{TxnAnswer, end_of, first_of, stop};
+use morph_base::Plan;
+use op_words::{Board, Hand, SettleAnswer};
+
+/// Settles the operations of an event whose decision the hand knows, up to the first that cannot be.
+pub(super) fn settle_rest(
+    board: &Board,
+    hand: &mut Hand,
+    plan: &Plan,
+    event: u32,
+) -> Option<TxnAnswer>
+    requires hand { IsHandOf board.now hand.old }
+    requires plan { plan.now ≡ plan_of board.now }
+    requires in_range { event < event_count plan.now }
+    requires free { (view_of hand.old).claim ≡ None }
+    requires decided { (committed : Bool) × IsDecisionSeen (view_of hand.old) event committed }
+    ensures hand { IsHandOf board.now hand.new }
+    ensures does { RestDoes plan.now event (view_of hand.old) (view_of hand.new) result }
+{
+    let first = first_of(plan, event);
+    let end = end_of(plan, event);
+    for op in first..end {
+        match settle_one(board, hand, plan, event, op) {
+            None => {}
+            Some(answer) => return Some(answer),
+        }
+    }
+    None
+}
+
+/// Settles an operation of an event whose decision the hand knows, or finds it settled.
+fn settle_one(board: &Board, hand: &mut Hand, plan: &Plan, event: u32, op: u32) -> Option<TxnAnswer>
+    requires hand { IsHandOf board.now hand.old }
+    requires plan { plan.now ≡ plan_of board.now }
+    requires in_event { event < event_count plan.now }
+    requires inside { InEvent plan.now event op }
+    requires free { (view_of hand.old).claim ≡ None }
+    requires decided { (committed : Bool) × IsDecisionSeen (view_of hand.old) event committed }
+    ensures hand { IsHandOf board.now hand.new }
+    ensures free { (view_of hand.new).claim ≡ None }
+    ensures does { OneDoes plan.now event op (view_of hand.old) (view_of hand.new) result }
+{
+    match board.settle(hand, plan, op) {
+        SettleAnswer::Done(_) => None,
+        SettleAnswer::Not { at, word } => {
+            if at == op {
+                stop(op, word)
+            } else {
+                Some(TxnAnswer::NotYet { at, word })
+            }
+        }
+    }
+}

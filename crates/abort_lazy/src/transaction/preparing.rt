@@ -1,0 +1,196 @@
+//! Operations are made ready for the decision on their event.
+ghost use Rattle.std.specs.Prelude.{◌≡◌, ℕ, ◌<◌, List, None};
+ghost use Rattle.morph_base.specs.Plans.{op_count, event_at, event_count, InEvent};
+ghost use Rattle.interleaving_core.specs.Core.{places};
+ghost use Rattle.op_words.specs.declared.trail.Item.{Item};
+ghost use Rattle.op_words.specs.declared.trail.View.{View};
+ghost use Rattle.op_words.specs.Hands.{plan_of, cap_of, view_of, IsHandOf};
+ghost use Rattle.op_eval.specs.Running.{hand_view};
+ghost use Rattle.abort_lazy.specs.Transactions.{IsAnswered};
+ghost use Rattle.abort_lazy.specs.Progress.{IsIdleSoFar, IsOutdatedSoFar, IsMadeSoFar, IsFoundSoFar, ReadyDoes, AllReadyDoes};
+
+use super::{TxnAnswer, end_of, first_of, stop};
+use morph_base::{OpState, OpWord, Plan};
+use op_eval::{Evaluation, Runner, evaluate};
+use op_words::{Board, Hand, Rolled, Verdict};
+
+/// Makes all operations of an event ready for the decision, or as many as are before the first that cannot be.
+pub(super) fn prepare_all(
+    board: &Board,
+    runner: &mut Runner,
+    plan: &Plan,
+    event: u32,
+) -> Option<TxnAnswer>
+    requires hand { IsHandOf board.now runner.old.hand }
+    requires plan { plan.now ≡ plan_of board.now }
+    requires in_range { event < event_count plan.now }
+    requires free { (hand_view runner.old).claim ≡ None }
+    ensures hand { IsHandOf board.now runner.new.hand }
+    ensures does { AllReadyDoes plan.now event (hand_view runner.old) (hand_view runner.new) result }
+    ensures answered { IsAnswered (event_at plan.now event).count runner.old runner.new }
+{
+    let first = first_of(plan, event);
+    let end = end_of(plan, event);
+    for op in first..end {
+        match prepare(board, runner, plan, event, op) {
+            None => {}
+            Some(answer) => return Some(answer),
+        }
+    }
+    None
+}
+
+/// Makes an operation ready for the decision: it is judged, and mended where it needs that.
+fn prepare(
+    board: &Board,
+    runner: &mut Runner,
+    plan: &Plan,
+    event: u32,
+    op: u32,
+) -> Option<TxnAnswer>
+    requires hand { IsHandOf board.now runner.old.hand }
+    requires plan { plan.now ≡ plan_of board.now }
+    requires in_range { op < op_count plan.now }
+    requires inside { InEvent plan.now event op }
+    requires free { (hand_view runner.old).claim ≡ None }
+    ensures hand { IsHandOf board.now runner.new.hand }
+    ensures free { (hand_view runner.new).claim ≡ None }
+    ensures does { ReadyDoes plan.now event op (hand_view runner.old) (hand_view runner.new) result }
+    ensures answered { IsAnswered 1 runner.old runner.new }
+{
+    match board.verdict(&mut runner.hand, plan, op) {
+        Verdict::Good(_) => None,
+        Verdict::Bad => None,
+        Verdict::Stale { j, .. } => redo(board, runner, plan, event, op, j),
+        Verdict::Unready { at, word } => {
+            if at == op {
+                mend(board, runner, plan, event, op, word)
+            } else {
+                Some(TxnAnswer::NotYet { at, word })
+            }
+        }
+    }
+}
+
+/// Mends an operation whose own word, as it was loaded last, was neither executed nor failed, or had changed.
+fn mend(
+    board: &Board,
+    runner: &mut Runner,
+    plan: &Plan,
+    event: u32,
+    op: u32,
+    word: OpWord,
+) -> Option<TxnAnswer>
+    requires hand { IsHandOf board.now runner.old.hand }
+    requires plan { plan.now ≡ plan_of board.now }
+    requires in_range { op < op_count plan.now }
+    requires inside { InEvent plan.now event op }
+    requires free { (hand_view runner.old).claim ≡ None }
+    ensures hand { IsHandOf board.now runner.new.hand }
+    ensures free { (hand_view runner.new).claim ≡ None }
+    ensures does { (start : View) (xs : List Item)
+        → IsFoundSoFar plan.now (cap_of board.now) op start (hand_view runner.old) xs word
+        → ReadyDoes plan.now event op start (hand_view runner.new) result }
+    ensures answered { IsAnswered 1 runner.old runner.new }
+{
+    match word.state {
+        OpState::Spread => redo(board, runner, plan, event, op, 0),
+        OpState::Blocked => run(board, runner, plan, event, op),
+        OpState::Ready => run(board, runner, plan, event, op),
+        OpState::Claimed => stop(op, word),
+        OpState::Executed => stop(op, word),
+        OpState::Failed => stop(op, word),
+        OpState::Settled => stop(op, word),
+        OpState::SettledAborted => stop(op, word),
+    }
+}
+
+/// Rolls back an operation that was found stale or spread, and evaluates it again.
+fn redo(
+    board: &Board,
+    runner: &mut Runner,
+    plan: &Plan,
+    event: u32,
+    op: u32,
+    j: u8,
+) -> Option<TxnAnswer>
+    requires hand { IsHandOf board.now runner.old.hand }
+    requires plan { plan.now ≡ plan_of board.now }
+    requires in_range { op < op_count plan.now }
+    requires in_places { j < places plan.now op }
+    requires inside { InEvent plan.now event op }
+    requires free { (hand_view runner.old).claim ≡ None }
+    ensures hand { IsHandOf board.now runner.new.hand }
+    ensures free { (hand_view runner.new).claim ≡ None }
+    ensures does { (start : View) (xs : List Item)
+        → IsOutdatedSoFar plan.now (cap_of board.now) op j start (hand_view runner.old) xs
+        → ReadyDoes plan.now event op start (hand_view runner.new) result }
+    ensures answered { IsAnswered 1 runner.old runner.new }
+{
+    match board.roll_back(&mut runner.hand, plan, op, j) {
+        Rolled::Done => run(board, runner, plan, event, op),
+        Rolled::Fresh { .. } => {
+            let word = board.peek(&mut runner.hand, plan, op);
+            stop(op, word)
+        }
+        Rolled::Not { at, word } => {
+            if at == op {
+                stop(op, word)
+            } else {
+                Some(TxnAnswer::NotYet { at, word })
+            }
+        }
+    }
+}
+
+/// Evaluates an operation that was found blocked or ready, and judges it.
+fn run(board: &Board, runner: &mut Runner, plan: &Plan, event: u32, op: u32) -> Option<TxnAnswer>
+    requires hand { IsHandOf board.now runner.old.hand }
+    requires plan { plan.now ≡ plan_of board.now }
+    requires in_range { op < op_count plan.now }
+    requires inside { InEvent plan.now event op }
+    requires free { (hand_view runner.old).claim ≡ None }
+    ensures hand { IsHandOf board.now runner.new.hand }
+    ensures free { (hand_view runner.new).claim ≡ None }
+    ensures does { (start : View) (xs : List Item) → IsIdleSoFar op start (hand_view runner.old) xs
+        → ReadyDoes plan.now event op start (hand_view runner.new) result }
+    ensures answered { IsAnswered 1 runner.old runner.new }
+{
+    match evaluate(board, runner, plan, op) {
+        Evaluation::Evaluated { .. } => judge(board, &mut runner.hand, plan, event, op),
+        Evaluation::Blocked { source, word } => Some(TxnAnswer::NotYet { at: source, word }),
+        Evaluation::Busy { word } => stop(op, word),
+        Evaluation::Already { word } => stop(op, word),
+    }
+}
+
+/// The verdict on an operation that was evaluated in this call: a record that differs even so means that another
+/// hand changed the operation or its source.
+fn judge(board: &Board, hand: &mut Hand, plan: &Plan, event: u32, op: u32) -> Option<TxnAnswer>
+    requires hand { IsHandOf board.now hand.old }
+    requires plan { plan.now ≡ plan_of board.now }
+    requires in_range { op < op_count plan.now }
+    requires inside { InEvent plan.now event op }
+    requires free { (view_of hand.old).claim ≡ None }
+    ensures hand { IsHandOf board.now hand.new }
+    ensures free { (view_of hand.new).claim ≡ None }
+    ensures does { (start : View) (xs : List Item)
+        → IsMadeSoFar plan.now (cap_of board.now) op start (view_of hand.old) xs
+        → ReadyDoes plan.now event op start (view_of hand.new) result }
+{
+    match board.verdict(hand, plan, op) {
+        Verdict::Good(_) => None,
+        Verdict::Bad => None,
+        Verdict::Stale { .. } => {
+            let word = board.peek(hand, plan, op);
+            stop(op, word)
+        }
+        Verdict::Unready { at, word } => {
+            if at == op {
+                stop(op, word)
+            } else {
+                Some(TxnAnswer::NotYet { at, word })
+            }
+        }
+    }
+}

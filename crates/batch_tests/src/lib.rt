@@ -31,4 +31,6 @@ mod splitting;
 #[cfg(test)]
 mod states;
 #[cfg(test)]
+mod transactions;
+#[cfg(test)]
 mod unit_cuts;

@@ -33,4 +33,6 @@ mod splitting;
 #[cfg(test)]
 mod states;
 #[cfg(test)]
+mod transactions;
+#[cfg(test)]
 mod unit_cuts;

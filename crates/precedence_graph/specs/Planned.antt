@@ -16,7 +16,7 @@ use Rattle.txn_splitter.specs.declared.txns.TxnEvent.{TxnEvent}
 use Rattle.txn_splitter.specs.declared.txns.Txns.{Txns}
 use Rattle.txn_splitter.specs.Txns.{txn_op_count, txn_at, txn_op_at, txn_of, txn_target}
 use Rattle.precedence_graph.specs.declared.writers.Writers.{Writers}
-use Rattle.precedence_graph.specs.Writers.{source_in}
+use Rattle.precedence_graph.specs.Writers.{entered_count, room_of, source_in}
 
 -- the source is a base or one of the first n operations
 abbrev pub IsAmong : ℕ → Origin → Type 0
@@ -50,9 +50,11 @@ pub record IsReady (n : ℕ) (q : PlanOp) : Type 0 where
 abbrev pub IsOfEarlier : List PlanOp → ℕ → Origin → Type 0
 IsOfEarlier ops i = IsKnown (λ s. (s < length ops) × ((planned ops s).event < i))
 
--- the table has the last writers among the first n operations
-abbrev pub HasWriters : Txns → ℕ → Writers → Type 0
-HasWriters x n writers = (key : Key) → IsSource n (txn_target x) (λ _. 0) 1 key (source_in writers key)
+-- the table has the last writers among the first n operations, and room for the others
+pub record HasWriters (x : Txns) (n : ℕ) (writers : Writers) : Type 0 where
+  pub count : entered_count writers ≡ n
+  pub room : n + room_of writers ≡ txn_op_count x
+  pub source : (key : Key) → IsSource n (txn_target x) (λ _. 0) 1 key (source_in writers key)
 
 -- operation o of the transactions is planned in `ops`: some function gives the source of each key for its event, 0 at a base,
 -- and it reads from operations before it

@@ -1,4 +1,4 @@
-ghost use Rattle.std.specs.Prelude.{◌≡◌, ◌+◌, ◌^◌, ◌<◌, ◌≤◌, length, map, All, IfOk, OnOk};
+ghost use Rattle.std.specs.Prelude.{◌≡◌, ◌+◌, ◌^◌, ◌<◌, ◌≤◌, length, map, All, IfOk};
 ghost use Rattle.morph_base.specs.declared.key.Key.{Key};
 ghost use Rattle.morph_base.specs.Operations.{reads, IsShaped};
 ghost use Rattle.morph_base.specs.Graphs.{greatest, level_of};
@@ -19,11 +19,11 @@ pub fn plan_ops(alloc: Global, txns: &Txns) -> Result<List<PlanOp>, OutOfMemory>
     requires { IsTxns txns.now }
     ensures { IfOk result (λ ops. ArePlanned txns.now (txn_op_count txns.now) ops.items) }
 {
-    let mut writers = Writers::new(alloc);
+    let mut writers = Writers::new(alloc, txns.ops.len())?;
     let mut ops = List::with_room(alloc, txns.ops.len())?;
     for i in 0..txns.events.len() {
         plan_event_ops(txns, i, &writers, &mut ops);
-        enter_event(txns, i, &mut writers)?;
+        enter_event(txns, i, &mut writers);
     }
     Ok(ops)
 }
@@ -46,17 +46,16 @@ fn plan_event_ops(txns: &Txns, i: usize, writers: &Writers, ops: &mut List<PlanO
 }
 
 /// Enters the operations of event `i` as writers.
-fn enter_event(txns: &Txns, i: usize, writers: &mut Writers) -> Result<(), OutOfMemory>
+fn enter_event(txns: &Txns, i: usize, writers: &mut Writers)
     requires txns { IsTxns txns.now }
     requires event { i < txn_count txns.now }
     requires writers { HasWriters txns.now (txn_at txns.now i).first writers.old }
-    ensures { OnOk result (HasWriters txns.now ((txn_at txns.now i).first + (txn_at txns.now i).count) writers.new) }
+    ensures { HasWriters txns.now ((txn_at txns.now i).first + (txn_at txns.now i).count) writers.new }
 {
     let event = event_at(txns, i);
     for o in event.first..event.first + event.count {
-        writers.enter(txns.ops.get(o as usize).key, o)?;
+        writers.enter(txns.ops.get(o as usize).key);
     }
-    Ok(())
 }
 
 /// The plan of an operation of an event, where `ops` has the operations before it.

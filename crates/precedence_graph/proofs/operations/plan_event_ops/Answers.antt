@@ -32,8 +32,8 @@ loop-o-preserved c =
     let owned = c.requires.txns.numbering.owned i o c.requires.event within in
     let its : txn_of x o ≡ i = owned.1 in
     let f : Key → Origin = source_in c.args.writers.now in
-    let f_is : (key : Key) → IsSource (txn_op_count x) (txn_target x) (txn_of x) (txn_of x o) key (f key) = λ key. subst (λ e. IsSource (txn_op_count x) (txn_target x) (txn_of x) e key (f key)) (sym its) (source_at_event x c.requires.txns i c.requires.event key (f key) (c.requires.writers key)) in
-    let among : (key : Key) → IsAmong o (f key) = λ key. IsAmong-more (txn_at x i).first o (f key) from (among_first (txn_at x i).first (txn_target x) key (f key) (c.requires.writers key)) in
+    let f_is : (key : Key) → IsSource (txn_op_count x) (txn_target x) (txn_of x) (txn_of x o) key (f key) = λ key. subst (λ e. IsSource (txn_op_count x) (txn_target x) (txn_of x) e key (f key)) (sym its) (source_at_event x c.requires.txns i c.requires.event key (f key) (c.requires.writers.source key)) in
+    let among : (key : Key) → IsAmong o (f key) = λ key. IsAmong-more (txn_at x i).first o (f key) from (among_first (txn_at x i).first (txn_target x) key (f key) (c.requires.writers.source key)) in
     let op : Op = c.get.result.now in
     let level = c.plan_op-planned.ensures.level ∙ ap (λ ops. 1 + greatest (map (level_of (op_level_in ops)) (map f (reads op)))) c.as_slice.ensures in
     record {

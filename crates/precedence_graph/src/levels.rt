@@ -4,20 +4,8 @@ ghost use Rattle.precedence_graph.specs.Planned.{IsAmong, IsOfEarlier, op_level_
 
 use morph_base::{Origin, PlanEvent, PlanOp};
 
-/// The greatest level of the operations among the sources, 0 where there is none.
-pub fn greatest_op_level(sources: &[Origin], ops: &[PlanOp]) -> u32
-    requires { All (IsAmong (length ops.now)) sources.now }
-    ensures { result ≡ greatest (map (level_of (op_level_in ops.now)) sources.now) }
-{
-    let mut most: u32 = 0;
-    for origin in sources {
-        most = most.max(op_level(*origin, ops));
-    }
-    most
-}
-
 /// The level of a source: that of its operation, 0 for a base.
-fn op_level(origin: Origin, ops: &[PlanOp]) -> u32
+pub fn op_level(origin: Origin, ops: &[PlanOp]) -> u32
     requires { IsAmong (length ops.now) origin }
     ensures { result ≡ level_of (op_level_in ops.now) origin }
 {

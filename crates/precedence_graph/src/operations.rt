@@ -6,8 +6,7 @@ ghost use Rattle.txn_splitter.specs.Txns.{IsTxns, txn_count, txn_op_count, txn_a
 ghost use Rattle.precedence_graph.specs.Writers.{source_in};
 ghost use Rattle.precedence_graph.specs.Planned.{IsAmong, padded, op_level_in, HasWriters, ArePlanned};
 
-use crate::levels::greatest_op_level;
-use crate::sources::{sources, used};
+use crate::sources::{Reads, sources};
 use crate::transactions::event_at;
 use crate::writers::Writers;
 use morph_base::{List, Op, OutOfMemory, PlanOp};
@@ -71,12 +70,11 @@ fn plan_op(op: &Op, event: u32, writers: &Writers, ops: &[PlanOp]) -> PlanOp
         ≡ 1 + greatest (map (level_of (op_level_in ops.now)) (map (source_in writers.now) (reads op.now))) }
     ensures low { result.level ≤ length ops.now + 1 }
 {
-    let mut planned = PlanOp {
+    let Reads { origins, level } = sources(op, writers, ops);
+    PlanOp {
         op: *op,
         event,
-        origins: sources(op, writers),
-        level: 0,
-    };
-    planned.level = 1 + greatest_op_level(used(&planned), ops);
-    planned
+        origins,
+        level: 1 + level,
+    }
 }

@@ -1,23 +1,42 @@
 ghost use Rattle.std.specs.Prelude.{◌≡◌, length, map};
-ghost use Rattle.morph_base.specs.Operations.{reads, IsShaped};
+ghost use Rattle.morph_base.specs.declared.key.Key.{Key};
 ghost use Rattle.morph_base.specs.declared.limits.TheConstants.{READS};
-ghost use Rattle.precedence_graph.specs.Planned.{padded, sources_of};
+ghost use Rattle.morph_base.specs.Graphs.{greatest, level_of};
+ghost use Rattle.morph_base.specs.Operations.{reads, IsShaped};
+ghost use Rattle.precedence_graph.specs.Planned.{IsAmong, padded, sources_of, op_level_in};
 ghost use Rattle.precedence_graph.specs.Writers.{source_in};
 
+use crate::levels::op_level;
 use crate::writers::Writers;
 use morph_base::{Op, Origin, PlanOp, READS};
 
-/// The source of each place of an operation, its target's first; the places that it does not use hold `Base(0)`.
-pub fn sources(op: &Op, writers: &Writers) -> [Origin; READS]
-    requires { IsShaped op.now }
-    ensures { result ≡ padded (map (source_in writers.now) (reads op.now)) }
+/// Where an operation reads from.
+#[derive(Clone, Copy, Debug, PartialEq, Eq)]
+pub struct Reads {
+    /// The source of each place, its target's first; the places that it does not use hold `Base(0)`.
+    pub origins: [Origin; READS],
+    /// The greatest level of the operations among them, 0 where there is none.
+    pub level: u32,
+}
+
+/// The sources of an operation, where `ops` has the operations before it.
+pub fn sources(op: &Op, writers: &Writers, ops: &[PlanOp]) -> Reads
+    requires shaped { IsShaped op.now }
+    requires among { (key : Key) → IsAmong (length ops.now) (source_in writers.now key) }
+    ensures origins { result.origins ≡ padded (map (source_in writers.now) (reads op.now)) }
+    ensures level { result.level
+        ≡ greatest (map (level_of (op_level_in ops.now)) (map (source_in writers.now) (reads op.now))) }
 {
     let mut origins = [Origin::Base(0); READS];
-    origins[0] = writers.source(op.key);
+    let target = writers.source(op.key);
+    origins[0] = target;
+    let mut level = op_level(target, ops);
     for j in 0..op.n_params as usize {
-        origins[j + 1] = writers.source(op.params[j]);
+        let origin = writers.source(op.params[j]);
+        origins[j + 1] = origin;
+        level = level.max(op_level(origin, ops));
     }
-    origins
+    Reads { origins, level }
 }
 
 /// The sources of the places that an operation uses, its target's first.

@@ -1,29 +1,25 @@
-use Rattle.std.proofs.Common.{◌≡◌, ℕ, ◌<◌, List, length, take, map, get_or, ap, ◌∙◌, arith}
+use Rattle.std.proofs.Common.{◌<◌, ◌≤◌, List, length, map, get_or, arith}
 use Rattle.std.specs.Prelude.{All}
-use Rattle.std.proofs.lemmas.List.Elements.{All-map, All-same}
+use Rattle.std.proofs.lemmas.List.Elements.{All-map}
 use Rattle.morph_base.specs.declared.key.Key.{Key}
 use Rattle.morph_base.specs.declared.operation.Op.{Op}
 use Rattle.morph_base.specs.declared.plan.Origin.{Origin}
+use Rattle.morph_base.specs.declared.plan.PlanOp.{PlanOp}
 use Rattle.morph_base.specs.Operations.{reads}
 use Rattle.morph_base.specs.Plans.{no_plan_op}
-use Rattle.precedence_graph.specs.Planned.{IsAmong, padded, op_level_in}
-use Rattle.precedence_graph.proofs.PlannedLemmas.{take-padded, levels_low}
+use Rattle.morph_base.specs.Graphs.{greatest, level_of}
+use Rattle.precedence_graph.specs.Planned.{IsAmong, op_level_in}
+use Rattle.precedence_graph.proofs.PlannedLemmas.{levels_low}
 use Rattle.precedence_graph.proofs.operations.plan_op.Goals as goal
 
-used_are : (f : Key → Origin) (op : Op) (origins used : List Origin) → used ≡ take (length (reads op)) origins → origins ≡ padded (map f (reads op)) → used ≡ map f (reads op)
-used_are f op origins used e g = e ∙ ap (take (length (reads op))) g ∙ take-padded f (reads op)
+reads_low : (ops : List PlanOp) (f : Key → Origin) (op : Op) → All (λ q. q.level ≤ length ops) ops → ((key : Key) → IsAmong (length ops) (f key))
+    → greatest (map (level_of (op_level_in ops)) (map f (reads op))) ≤ length ops
+reads_low ops f op low among =
+    levels_low (length ops) (op_level_in ops) (λ s. s < length ops) (map f (reads op)) (λ s lt. low s no_plan_op lt)
+    (All-map (IsAmong (length ops)) f (reads op) (λ k d _. among (get_or (reads op) k d)))
 
-used_among : (n : ℕ) (f : Key → Origin) (op : Op) (origins used : List Origin) → used ≡ take (length (reads op)) origins → origins ≡ padded (map f (reads op)) → ((key : Key) → IsAmong n (f key)) → All (IsAmong n) used
-used_among n f op origins used e g among =
-    All-same (IsAmong n) used (map f (reads op)) (used_are f op origins used e g) (All-map (IsAmong n) f (reads op) (λ k d _. among (get_or (reads op) k d)))
-
-pub greatest_op_level-requires : goal.greatest_op_level-requires
-greatest_op_level-requires c = used_among _ _ c.args.op.now _ _ c.used.ensures c.sources.ensures c.requires.among
-
-pub overflow_add-planned : goal.overflow_add-planned
-overflow_add-planned c =
-    omega (arith, c.greatest_op_level.ensures, levels_low (length c.args.ops.now) (op_level_in c.args.ops.now) (λ s. s < length c.args.ops.now) c.used.result.now (λ s lt. c.requires.low s no_plan_op lt) (used_among (length c.args.ops.now) _ c.args.op.now _ c.used.result.now c.used.ensures c.sources.ensures c.requires.among))
+pub overflow_add-result : goal.overflow_add-result
+overflow_add-result c = omega (arith, c.sources-level.ensures.level, reads_low c.args.ops.now _ c.args.op.now c.requires.low c.requires.among)
 
 pub returns-clause-low : goal.returns-clause-low
-returns-clause-low c =
-    omega (arith, c.greatest_op_level.ensures, levels_low (length c.args.ops.now) (op_level_in c.args.ops.now) (λ s. s < length c.args.ops.now) c.used.result.now (λ s lt. c.requires.low s no_plan_op lt) (used_among (length c.args.ops.now) _ c.args.op.now _ c.used.result.now c.used.ensures c.sources.ensures c.requires.among))
+returns-clause-low c = omega (arith, c.sources-level.ensures.level, reads_low c.args.ops.now _ c.args.op.now c.requires.low c.requires.among)

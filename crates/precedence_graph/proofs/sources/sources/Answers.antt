@@ -1,12 +1,26 @@
-use Rattle.std.proofs.Common.{◌+◌, ap, ◌∙◌, arith}
-use Rattle.std.specs.Prelude.{slice_set}
+use Rattle.std.proofs.Common.{ℕ, ◌+◌, ◌<◌, ◌∷◌, List, length, map, take, sym, ap, ◌∙◌, arith}
+use Rattle.std.specs.Prelude.{max, slice_set}
 use Rattle.morph_base.specs.declared.limits.TheConstants.{PARAMS}
+use Rattle.morph_base.specs.declared.key.Key.{Key}
+use Rattle.morph_base.specs.declared.plan.Origin.{Origin}
+use Rattle.morph_base.specs.Graphs.{greatest, level_of}
+use Rattle.precedence_graph.specs.Planned.{op_level_in}
 use Rattle.precedence_graph.specs.Writers.{source_in}
-use Rattle.precedence_graph.proofs.PlaceLemmas.{source_put}
+use Rattle.precedence_graph.proofs.PlaceLemmas.{source_put, greatest-read_more}
 use Rattle.precedence_graph.proofs.sources.sources.Goals as goal
 
 pub loop-j-preserved : goal.loop-j-preserved
 loop-j-preserved c =
-    ap (λ os. slice_set os (c.loop-j.j + 1) c.source-in-loop-j.result) c.loop-j.invariant
-    ∙ source_put (source_in c.args.writers.now) c.args.op.now.params (source_in c.args.writers.now c.args.op.now.key) c.source-in-loop-j.result _ PARAMS c.loop-j.j
-    (omega (arith, c.requires.places, c.loop-j-test.true)) (omega (arith, c.requires.held, c.loop-j-test.true)) c.source-in-loop-j.ensures
+    let find : Key → Origin = source_in c.args.writers.now in
+    let level : Origin → ℕ = level_of (op_level_in c.args.ops.now) in
+    let key : Key = c.args.op.now.key in
+    let params : List Key = c.args.op.now.params in
+    let j : ℕ = c.loop-j.j in
+    let inside : j < length params = omega (arith, c.requires.shaped.held, c.loop-j-test.true) in
+    record {
+      origins = ap (λ os. slice_set os (j + 1) c.source-origin.result) c.loop-j.invariant.origins
+          ∙ source_put find params (find key) c.source-origin.result _ PARAMS j (omega (arith, c.requires.shaped.places, c.loop-j-test.true)) inside c.source-origin.ensures;
+      level = c.max-level.ensures ∙ ap (λ n. max n c.op_level.result) c.loop-j.invariant.level
+          ∙ ap (λ n. max (greatest (map level (map find (key ∷ take j params)))) n) (c.op_level.ensures ∙ ap level c.source-origin.ensures)
+          ∙ sym (greatest-read_more level find key params j _ inside);
+    }

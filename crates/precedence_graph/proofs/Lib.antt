@@ -13,3 +13,4 @@ pub mod BlankLemmas
 pub mod GraphLemmas
 pub mod LevelLemmas
 pub mod EntryLemmas
+pub mod PlanningLemmas

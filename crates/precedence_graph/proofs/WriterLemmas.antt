@@ -25,7 +25,7 @@ module _ (x : Txns) (is : IsTxns x) (i : ℕ) (lt : i < txn_count x) where
   abbrev pub first_of : ℕ
   first_of = (txn_at x i).first
 
-  before_from_event : (t : ℕ) → t < txn_op_count x → txn_of x t < i → t < first_of
+  pub before_from_event : (t : ℕ) → t < txn_op_count x → txn_of x t < i → t < first_of
   before_from_event t in_range earlier =
       elim (cases_lt t first_of) [
         | inl less ↦ less

@@ -7,9 +7,8 @@ ghost use Rattle.precedence_graph.specs.Planned.{txn_event};
 
 use crate::dependents::dependents;
 use crate::edges::edges;
-use crate::events::plan_events;
 use crate::level_lists::{event_level_lists, op_level_lists};
-use crate::operations::plan_ops;
+use crate::planning::{Planned, plan_transactions};
 use morph_base::{OutOfMemory, Plan};
 use std::alloc::Global;
 use txn_splitter::Txns;
@@ -34,9 +33,8 @@ pub fn build(alloc: Global, txns: &Txns) -> Result<Plan, OutOfMemory>
     // Every base is 0.
     ensures blank { IfOk result (λ plan. (o j v : ℕ) → origin_at plan o j ≡ Base v → v ≡ 0) }
 {
-    let ops = plan_ops(alloc, txns)?;
+    let Planned { ops, events } = plan_transactions(alloc, txns)?;
     let planned = ops.as_slice();
-    let events = plan_events(alloc, txns, planned)?;
     let edges = edges(planned, events.as_slice());
     let reads = edges.temporal.saturating_add(edges.parametric);
     let dependents = dependents(alloc, planned, reads as usize)?;

@@ -3,12 +3,12 @@ ghost use Rattle.morph_base.specs.declared.key.Key.{Key};
 ghost use Rattle.morph_base.specs.declared.limits.TheConstants.{READS};
 ghost use Rattle.morph_base.specs.Graphs.{greatest, level_of};
 ghost use Rattle.morph_base.specs.Operations.{reads, IsShaped};
-ghost use Rattle.precedence_graph.specs.Planned.{IsAmong, padded, sources_of, op_level_in};
+ghost use Rattle.precedence_graph.specs.Planned.{IsOfEarlier, padded, sources_of, op_level_in, event_level_in};
 ghost use Rattle.precedence_graph.specs.Writers.{source_in};
 
-use crate::levels::op_level;
+use crate::levels::{event_level_of, op_level_of};
 use crate::writers::Writers;
-use morph_base::{Op, Origin, PlanOp, READS};
+use morph_base::{Op, Origin, PlanEvent, PlanOp, READS};
 
 /// Where an operation reads from.
 #[derive(Clone, Copy, Debug, PartialEq, Eq)]
@@ -17,26 +17,36 @@ pub struct Reads {
     pub origins: [Origin; READS],
     /// The greatest level of the operations among them, 0 where there is none.
     pub level: u32,
+    /// The greatest level of the events of these operations.
+    pub event_level: u32,
 }
 
-/// The sources of an operation, where `ops` has the operations before it.
-pub fn sources(op: &Op, writers: &Writers, ops: &[PlanOp]) -> Reads
+/// The sources of an operation, where `ops` has the operations before it and `events` the events before its own.
+pub fn sources(op: &Op, writers: &Writers, ops: &[PlanOp], events: &[PlanEvent]) -> Reads
     requires shaped { IsShaped op.now }
-    requires among { (key : Key) → IsAmong (length ops.now) (source_in writers.now key) }
+    requires earlier { (key : Key) → IsOfEarlier ops.now (length events.now) (source_in writers.now key) }
     ensures origins { result.origins ≡ padded (map (source_in writers.now) (reads op.now)) }
     ensures level { result.level
         ≡ greatest (map (level_of (op_level_in ops.now)) (map (source_in writers.now) (reads op.now))) }
+    ensures event_level { result.event_level ≡ greatest (map (level_of (event_level_in ops.now events.now))
+        (map (source_in writers.now) (reads op.now))) }
 {
     let mut origins = [Origin::Base(0); READS];
     let target = writers.source(op.key);
     origins[0] = target;
-    let mut level = op_level(target, ops);
+    let mut level = op_level_of(target, ops);
+    let mut event_level = event_level_of(target, ops, events);
     for j in 0..op.n_params as usize {
         let origin = writers.source(op.params[j]);
         origins[j + 1] = origin;
-        level = level.max(op_level(origin, ops));
+        level = level.max(op_level_of(origin, ops));
+        event_level = event_level.max(event_level_of(origin, ops, events));
     }
-    Reads { origins, level }
+    Reads {
+        origins,
+        level,
+        event_level,
+    }
 }
 
 /// The sources of the places that an operation uses, its target's first.

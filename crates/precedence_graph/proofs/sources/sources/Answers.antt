@@ -4,7 +4,7 @@ use Rattle.morph_base.specs.declared.limits.TheConstants.{PARAMS}
 use Rattle.morph_base.specs.declared.key.Key.{Key}
 use Rattle.morph_base.specs.declared.plan.Origin.{Origin}
 use Rattle.morph_base.specs.Graphs.{greatest, level_of}
-use Rattle.precedence_graph.specs.Planned.{op_level_in}
+use Rattle.precedence_graph.specs.Planned.{op_level_in, event_level_in}
 use Rattle.precedence_graph.specs.Writers.{source_in}
 use Rattle.precedence_graph.proofs.PlaceLemmas.{source_put, greatest-read_more}
 use Rattle.precedence_graph.proofs.sources.sources.Goals as goal
@@ -12,7 +12,8 @@ use Rattle.precedence_graph.proofs.sources.sources.Goals as goal
 pub loop-j-preserved : goal.loop-j-preserved
 loop-j-preserved c =
     let find : Key → Origin = source_in c.args.writers.now in
-    let level : Origin → ℕ = level_of (op_level_in c.args.ops.now) in
+    let of_op : Origin → ℕ = level_of (op_level_in c.args.ops.now) in
+    let of_event : Origin → ℕ = level_of (event_level_in c.args.ops.now c.args.events.now) in
     let key : Key = c.args.op.now.key in
     let params : List Key = c.args.op.now.params in
     let j : ℕ = c.loop-j.j in
@@ -20,7 +21,10 @@ loop-j-preserved c =
     record {
       origins = ap (λ os. slice_set os (j + 1) c.source-origin.result) c.loop-j.invariant.origins
           ∙ source_put find params (find key) c.source-origin.result _ PARAMS j (omega (arith, c.requires.shaped.places, c.loop-j-test.true)) inside c.source-origin.ensures;
-      level = c.max-level.ensures ∙ ap (λ n. max n c.op_level.result) c.loop-j.invariant.level
-          ∙ ap (λ n. max (greatest (map level (map find (key ∷ take j params)))) n) (c.op_level.ensures ∙ ap level c.source-origin.ensures)
-          ∙ sym (greatest-read_more level find key params j _ inside);
+      level = c.max-level.ensures ∙ ap (λ n. max n c.op_level_of.result) c.loop-j.invariant.level
+          ∙ ap (λ n. max (greatest (map of_op (map find (key ∷ take j params)))) n) (c.op_level_of.ensures ∙ ap of_op c.source-origin.ensures)
+          ∙ sym (greatest-read_more of_op find key params j _ inside);
+      event_level = c.max-event_level.ensures ∙ ap (λ n. max n c.event_level_of.result) c.loop-j.invariant.event_level
+          ∙ ap (λ n. max (greatest (map of_event (map find (key ∷ take j params)))) n) (c.event_level_of.ensures ∙ ap of_event c.source-origin.ensures)
+          ∙ sym (greatest-read_more of_event find key params j _ inside);
     }

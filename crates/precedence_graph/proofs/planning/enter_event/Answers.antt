@@ -6,7 +6,7 @@ use Rattle.morph_base.specs.Plans.{no_op}
 use Rattle.txn_splitter.specs.Txns.{txn_target}
 use Rattle.precedence_graph.specs.Writers.{entered_count, source_in}
 use Rattle.precedence_graph.proofs.EnterLemmas.{entered}
-use Rattle.precedence_graph.proofs.operations.enter_event.Goals as goal
+use Rattle.precedence_graph.proofs.planning.enter_event.Goals as goal
 
 pub loop-o-preserved : goal.loop-o-preserved
 loop-o-preserved c =

@@ -1,9 +1,7 @@
 -- The greatest of some numbers, and the numbers below n.
-use Rattle.std.proofs.Common.{◌≡◌, ℕ, ◌+◌, ◌<◌, ◌≤◌, Bool, cond, List, [], ◌∷◌, ◌++◌, length, get_or, take, map, filter, refl, ap, subst, ◌∙◌, arith}
+use Rattle.std.proofs.Common.{◌≡◌, ℕ, ◌+◌, ◌<◌, ◌≤◌, Bool, cond, List, [], ◌∷◌, ◌++◌, length, get_or, take, filter, refl, ap, subst, ◌∙◌, arith}
 use Rattle.std.specs.Prelude.{max, All}
-use Rattle.std.specs.List.{flat_map}
-use Rattle.std.proofs.lemmas.List.{take_more, map-id, map-append, append-nil}
-use Rattle.std.proofs.lemmas.Grind.{flat_map-append}
+use Rattle.std.proofs.lemmas.List.{take_more, map-id}
 use Rattle.std.proofs.lemmas.List.Elements.{filter-append, All-head, All-tail}
 use Rattle.morph_base.specs.Graphs.{greatest, below}
 use Rattle.morph_base.proofs.LevelLaws.{below_more, greatest-append, le-greatest}

@@ -1,25 +1,27 @@
 -- An operation of an event, which is planned after those before it: its sources, and the levels of their events.
-use Rattle.std.proofs.Common.{◌≡◌, ℕ, ◌+◌, ◌<◌, ◌≤◌, List, [], ◌∷◌, ◌++◌, length, get_or, take, drop, map, sym, ap, subst, ◌∙◌, arith}
-use Rattle.std.specs.Prelude.{max, All}
+use Rattle.std.proofs.Common.{◌≡◌, ℕ, ◌+◌, ◌<◌, ◌≤◌, List, [], ◌∷◌, ◌++◌, cond, length, get_or, take, drop, map, sym, ap, subst, ◌∙◌, arith}
+use Rattle.std.specs.Prelude.{max, All, count_by}
 use Rattle.std.proofs.lemmas.List.{map-append, append-nil, drop-append-le, length-drop, get_or-drop, get_or_default, get_or_append_left}
 use Rattle.std.proofs.lemmas.Grind.{flat_map-append}
 use Rattle.std.proofs.lemmas.List.Elements.{All-map, All-weaker}
+use Rattle.std.proofs.lemmas.List.Sums.{sum_by_push}
 use Rattle.morph_base.specs.declared.key.Key.{Key}
 use Rattle.morph_base.specs.declared.operation.Op.{Op}
 use Rattle.morph_base.specs.declared.plan.Origin.{Origin}
+use Rattle.morph_base.specs.declared.plan.Origin.TheVariants.{Base}
 use Rattle.morph_base.specs.declared.plan.PlanOp.{PlanOp}
 use Rattle.morph_base.specs.declared.plan.PlanEvent.{PlanEvent}
 use Rattle.morph_base.specs.Operations.{reads}
 use Rattle.morph_base.specs.Numbering.{IsWithin}
 use Rattle.morph_base.specs.Sources.{IsSource}
 use Rattle.morph_base.specs.Plans.{no_plan_op, no_event}
-use Rattle.morph_base.specs.Graphs.{greatest, level_of}
+use Rattle.morph_base.specs.Graphs.{greatest, is_written, level_of}
 use Rattle.morph_base.proofs.LevelLaws.{greatest-append}
 use Rattle.txn_splitter.specs.declared.txns.Txns.{Txns}
 use Rattle.txn_splitter.specs.Txns.{IsTxns, txn_count, txn_op_count, txn_at, txn_op_at, txn_of, txn_target}
 use Rattle.precedence_graph.specs.declared.writers.Writers.{Writers}
 use Rattle.precedence_graph.specs.Writers.{source_in}
-use Rattle.precedence_graph.specs.Planned.{IsAmong, IsOfEarlier, HasWriters, padded, sources_of, planned, op_level_in, event_level_in, event_sources_of, ArePlanned}
+use Rattle.precedence_graph.specs.Planned.{IsAmong, IsOfEarlier, HasWriters, padded, sources_of, planned, op_level_in, event_level_in, event_sources_of, targets_in, parameters_in, ArePlanned}
 use Rattle.precedence_graph.proofs.WriterLemmas.{among_first, source_at_event, base_zero}
 use Rattle.precedence_graph.proofs.PlannedLemmas.{IsAmong-more, take-padded, levels_low, levels_agree, planned_more}
 use Rattle.precedence_graph.proofs.ReadyLemmas.{source_earlier}
@@ -61,6 +63,14 @@ module _ (x : Txns) (is : IsTxns x) (i : ℕ) (lt : i < txn_count x) (writers : 
     used_is : sources_of q ≡ map find (reads op)
     used_is =
         ap (λ (p : Op). take (length (reads p)) q.origins) op_is ∙ ap (take (length (reads op))) origins_are ∙ take-padded find (reads op)
+
+    -- its counts are those of its sources
+    pub targets_with : targets_in (ops ++ q ∷ []) ≡ targets_in ops + cond (is_written (get_or q.origins 0 (Base 0))) 1 0
+    targets_with = sum_by_push (λ (p : PlanOp). cond (is_written (get_or p.origins 0 (Base 0))) 1 0) ops q
+
+    pub parameters_with : parameters_in (ops ++ q ∷ []) ≡ parameters_in ops + count_by is_written (map find (drop 1 (reads op)))
+    parameters_with =
+        sum_by_push (λ p. count_by is_written (drop 1 (sources_of p))) ops q ∙ ap (λ xs. parameters_in ops + count_by is_written (drop 1 xs)) used_is
 
     -- the levels of the events so far are read off as before
     same_levels : (events : List PlanEvent) (sources : List Origin) → All (IsAmong (length ops)) sources → map (level_of (event_level_in (ops ++ q ∷ []) events)) sources ≡ map (level_of (event_level_in ops events)) sources

@@ -1,11 +1,12 @@
-ghost use Rattle.std.specs.Prelude.{◌≡◌, length, map};
+ghost use Rattle.std.specs.Prelude.{◌≡◌, ◌≤◌, length, drop, map, count_by};
 ghost use Rattle.morph_base.specs.declared.key.Key.{Key};
-ghost use Rattle.morph_base.specs.declared.limits.TheConstants.{READS};
-ghost use Rattle.morph_base.specs.Graphs.{greatest, level_of};
+ghost use Rattle.morph_base.specs.declared.limits.TheConstants.{PARAMS, READS};
+ghost use Rattle.morph_base.specs.Graphs.{greatest, is_written, level_of};
 ghost use Rattle.morph_base.specs.Operations.{reads, IsShaped};
 ghost use Rattle.precedence_graph.specs.Planned.{IsOfEarlier, padded, sources_of, op_level_in, event_level_in};
 ghost use Rattle.precedence_graph.specs.Writers.{source_in};
 
+use crate::edges::written_count;
 use crate::levels::{event_level_of, op_level_of};
 use crate::writers::Writers;
 use morph_base::{Op, Origin, PlanEvent, PlanOp, READS};
@@ -19,6 +20,8 @@ pub struct Reads {
     pub level: u32,
     /// The greatest level of the events of these operations.
     pub event_level: u32,
+    /// How many of the parameters' sources are operations.
+    pub parameters: u32,
 }
 
 /// The sources of an operation, where `ops` has the operations before it and `events` the events before its own.
@@ -30,22 +33,28 @@ pub fn sources(op: &Op, writers: &Writers, ops: &[PlanOp], events: &[PlanEvent])
         ≡ greatest (map (level_of (op_level_in ops.now)) (map (source_in writers.now) (reads op.now))) }
     ensures event_level { result.event_level ≡ greatest (map (level_of (event_level_in ops.now events.now))
         (map (source_in writers.now) (reads op.now))) }
+    ensures parameters { result.parameters
+        ≡ count_by is_written (map (source_in writers.now) (drop 1 (reads op.now))) }
+    ensures few { result.parameters ≤ PARAMS }
 {
     let mut origins = [Origin::Base(0); READS];
     let target = writers.source(op.key);
     origins[0] = target;
     let mut level = op_level_of(target, ops);
     let mut event_level = event_level_of(target, ops, events);
+    let mut parameters: u32 = 0;
     for j in 0..op.n_params as usize {
         let origin = writers.source(op.params[j]);
         origins[j + 1] = origin;
         level = level.max(op_level_of(origin, ops));
         event_level = event_level.max(event_level_of(origin, ops, events));
+        parameters += written_count(origin);
     }
     Reads {
         origins,
         level,
         event_level,
+        parameters,
     }
 }
 

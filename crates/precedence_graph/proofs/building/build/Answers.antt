@@ -7,7 +7,7 @@ use Rattle.precedence_graph.proofs.ReadyLemmas.{all_ready, levels_positive, ops_
 use Rattle.precedence_graph.proofs.EventLemmas.{event_levels_positive, event_counts, events_few}
 use Rattle.precedence_graph.proofs.BuiltLemmas.{op_column, event_of_column, event_column, transactions_same}
 use Rattle.precedence_graph.proofs.BlankLemmas.{blank_is, plan_is}
-use Rattle.precedence_graph.proofs.GraphLemmas.{readers_of, op_lists_of, event_lists_of, temporal_of, parametric_of, logical_of, graph_is}
+use Rattle.precedence_graph.proofs.GraphLemmas.{readers_of, op_lists_of, event_lists_of, logical_of, graph_is}
 use Rattle.precedence_graph.proofs.building.build.Goals as goal
 
 pub dependents-requires-clause-ready : goal.dependents-requires-clause-ready
@@ -48,27 +48,15 @@ event_level_lists-requires-clause-few c =
     let events = c.in_ok-ops.field-0.events.items in
     omega (arith, ap length c.as_slice-2.ensures, events_few x c.requires ops events c.in_ok-ops.ensures.events)
 
-pub edges-edges-requires-clause-ready : goal.edges-edges-requires-clause-ready
-edges-edges-requires-clause-ready c =
-    let x = c.args.txns.now in
-    let ops = c.in_ok-ops.field-0.ops.items in
-    subst (λ os. All (IsReady (length os)) os) (sym c.as_slice-planned.ensures) (all_ready x c.requires ops c.in_ok-ops.ensures.ops)
-
-pub edges-edges-requires-clause-counts : goal.edges-edges-requires-clause-counts
-edges-edges-requires-clause-counts c =
+pub logical-requires-clause-counts : goal.logical-requires-clause-counts
+logical-requires-clause-counts c =
     let x = c.args.txns.now in
     let ops = c.in_ok-ops.field-0.ops.items in
     let events = c.in_ok-ops.field-0.events.items in
     subst (All (λ e. (0 < e.count) × (e.count ≤ EVENT_OPS))) (sym c.as_slice.ensures) (event_counts x c.requires ops events c.in_ok-ops.ensures.events)
 
-pub edges-edges-requires-clause-few_ops : goal.edges-edges-requires-clause-few_ops
-edges-edges-requires-clause-few_ops c =
-    let x = c.args.txns.now in
-    let ops = c.in_ok-ops.field-0.ops.items in
-    omega (arith, ap length c.as_slice-planned.ensures, ops_few x c.requires ops c.in_ok-ops.ensures.ops)
-
-pub edges-edges-requires-clause-few_events : goal.edges-edges-requires-clause-few_events
-edges-edges-requires-clause-few_events c =
+pub logical-requires-clause-few : goal.logical-requires-clause-few
+logical-requires-clause-few c =
     let x = c.args.txns.now in
     let ops = c.in_ok-ops.field-0.ops.items in
     let events = c.in_ok-ops.field-0.events.items in
@@ -83,7 +71,7 @@ returns-clause-plan c =
       dependents = c.in_ok-dependents.dependents;
       op_levels = c.in_ok-op_levels.op_levels;
       event_levels = c.in_ok-event_levels.event_levels;
-      edges = c.edges-edges.result;
+      edges = record { temporal = c.in_ok-ops.field-0.written.targets; parametric = c.in_ok-ops.field-0.written.parameters; logical = c.logical.result };
     } in
     let events_done = c.in_ok-ops.ensures.events in
     plan_is x c.requires p c.in_ok-ops.ensures.ops events_done
@@ -97,13 +85,13 @@ returns-clause-graph c =
       dependents = c.in_ok-dependents.dependents;
       op_levels = c.in_ok-op_levels.op_levels;
       event_levels = c.in_ok-event_levels.event_levels;
-      edges = c.edges-edges.result;
+      edges = record { temporal = c.in_ok-ops.field-0.written.targets; parametric = c.in_ok-ops.field-0.written.parameters; logical = c.logical.result };
     } in
     let events_done = c.in_ok-ops.ensures.events in
     let same = c.as_slice-planned.ensures in
     let same_events = c.as_slice.ensures in
     graph_is x c.requires p c.in_ok-ops.ensures.ops events_done (c.in_ok-dependents.ensures ∙ ap readers_of same) (c.in_ok-op_levels.ensures ∙ ap op_lists_of same) (c.in_ok-event_levels.ensures ∙ ap event_lists_of c.as_slice-2.ensures)
-    (c.edges-edges.ensures.temporal ∙ ap temporal_of same) (c.edges-edges.ensures.parametric ∙ ap parametric_of same) (c.edges-edges.ensures.logical ∙ ap logical_of same_events)
+    c.in_ok-ops.ensures.written.targets c.in_ok-ops.ensures.written.parameters (c.logical.ensures ∙ ap logical_of same_events)
 
 pub returns-clause-ops : goal.returns-clause-ops
 returns-clause-ops c =
@@ -114,7 +102,7 @@ returns-clause-ops c =
       dependents = c.in_ok-dependents.dependents;
       op_levels = c.in_ok-op_levels.op_levels;
       event_levels = c.in_ok-event_levels.event_levels;
-      edges = c.edges-edges.result;
+      edges = record { temporal = c.in_ok-ops.field-0.written.targets; parametric = c.in_ok-ops.field-0.written.parameters; logical = c.logical.result };
     } in
     let events_done = c.in_ok-ops.ensures.events in
     op_column x c.requires p c.in_ok-ops.ensures.ops events_done
@@ -128,7 +116,7 @@ returns-clause-events_of c =
       dependents = c.in_ok-dependents.dependents;
       op_levels = c.in_ok-op_levels.op_levels;
       event_levels = c.in_ok-event_levels.event_levels;
-      edges = c.edges-edges.result;
+      edges = record { temporal = c.in_ok-ops.field-0.written.targets; parametric = c.in_ok-ops.field-0.written.parameters; logical = c.logical.result };
     } in
     let events_done = c.in_ok-ops.ensures.events in
     event_of_column x c.requires p c.in_ok-ops.ensures.ops events_done
@@ -142,7 +130,7 @@ returns-clause-events c =
       dependents = c.in_ok-dependents.dependents;
       op_levels = c.in_ok-op_levels.op_levels;
       event_levels = c.in_ok-event_levels.event_levels;
-      edges = c.edges-edges.result;
+      edges = record { temporal = c.in_ok-ops.field-0.written.targets; parametric = c.in_ok-ops.field-0.written.parameters; logical = c.logical.result };
     } in
     let events_done = c.in_ok-ops.ensures.events in
     event_column x c.requires p c.in_ok-ops.ensures.ops events_done
@@ -156,7 +144,7 @@ returns-clause-transactions c =
       dependents = c.in_ok-dependents.dependents;
       op_levels = c.in_ok-op_levels.op_levels;
       event_levels = c.in_ok-event_levels.event_levels;
-      edges = c.edges-edges.result;
+      edges = record { temporal = c.in_ok-ops.field-0.written.targets; parametric = c.in_ok-ops.field-0.written.parameters; logical = c.logical.result };
     } in
     let events_done = c.in_ok-ops.ensures.events in
     transactions_same x c.requires p c.in_ok-ops.ensures.ops events_done
@@ -170,7 +158,7 @@ returns-clause-blank c =
       dependents = c.in_ok-dependents.dependents;
       op_levels = c.in_ok-op_levels.op_levels;
       event_levels = c.in_ok-event_levels.event_levels;
-      edges = c.edges-edges.result;
+      edges = record { temporal = c.in_ok-ops.field-0.written.targets; parametric = c.in_ok-ops.field-0.written.parameters; logical = c.logical.result };
     } in
     let events_done = c.in_ok-ops.ensures.events in
     blank_is x c.requires p c.in_ok-ops.ensures.ops events_done

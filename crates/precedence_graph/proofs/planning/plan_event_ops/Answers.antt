@@ -10,9 +10,9 @@ use Rattle.morph_base.specs.Graphs.{greatest, level_of}
 use Rattle.txn_splitter.specs.declared.txns.TxnEvent.{TxnEvent}
 use Rattle.txn_splitter.specs.Txns.{txn_at}
 use Rattle.precedence_graph.specs.Writers.{source_in}
-use Rattle.precedence_graph.specs.Planned.{IsOfEarlier, op_level_in, event_level_in, event_sources_of, members_of, ArePlanned}
+use Rattle.precedence_graph.specs.Planned.{IsOfEarlier, op_level_in, event_level_in, event_sources_of, members_of, targets_in, parameters_in, ArePlanned}
 use Rattle.precedence_graph.proofs.EventLemmas.{event_low}
-use Rattle.precedence_graph.proofs.PlanningLemmas.{find_earlier, find_low, planned_with, most_with}
+use Rattle.precedence_graph.proofs.PlanningLemmas.{find_earlier, find_low, planned_with, most_with, targets_with, parameters_with}
 use Rattle.precedence_graph.proofs.planning.plan_event_ops.Goals as goal
 
 pub sources-level-requires-clause-shaped : goal.sources-level-requires-clause-shaped
@@ -60,6 +60,13 @@ loop-o-preserved c =
       most = c.max-most.ensures ∙ ap (λ n. max n c.sources-level.result.event_level) c.loop-o.invariant.most ∙ ap (max before) event_level
           ∙ sym (most_with x c.requires.txns i c.requires.event c.args.writers.now c.requires.writers o within ops done q op refl c.sources-level.ensures.origins events)
           ∙ ap (λ (ps : List PlanOp). greatest (map (level_of (event_level_in ps events)) (event_sources_of (drop (txn_at x i).first ps)))) (sym c.add.ensures.items);
+      written = record {
+        targets = ap (λ n. n + c.from.result) c.loop-o.invariant.written.targets ∙ ap (λ n. targets_in ops + n) (c.from.ensures ∙ c.written_count.ensures.count)
+            ∙ sym (ap targets_in c.add.ensures.items ∙ targets_with x c.requires.txns i c.requires.event c.args.writers.now c.requires.writers o within ops done q op refl c.sources-level.ensures.origins);
+        parameters = ap (λ n. n + c.from-in-loop-o.result) c.loop-o.invariant.written.parameters ∙ ap (λ n. parameters_in ops + n) (c.from-in-loop-o.ensures ∙ c.sources-level.ensures.parameters)
+            ∙ sym (ap parameters_in c.add.ensures.items ∙ parameters_with x c.requires.txns i c.requires.event c.args.writers.now c.requires.writers o within ops done q op refl c.sources-level.ensures.origins);
+        few = omega (arith, c.loop-o.invariant.written.few, c.from-in-loop-o.ensures, c.sources-level.ensures.few, ap length c.add.ensures.items, length_push ops q);
+      };
     }
 
 pub returns-clause-planned : goal.returns-clause-planned

@@ -1,4 +1,4 @@
-use Rattle.std.proofs.Common.{◌≡◌, ℕ, ◌+◌, ◌<◌, ◌≤◌, List, [], ◌++◌, length, map, drop, refl, sym, ap, subst, ◌∙◌, arith}
+use Rattle.std.proofs.Common.{◌≡◌, ℕ, ◌+◌, ◌<◌, ◌≤◌, List, [], ◌++◌, length, map, drop, zero-le, refl, sym, ap, subst, ◌∙◌, arith}
 use Rattle.std.proofs.lemmas.List.{take-append-drop}
 use Rattle.std.proofs.lemmas.List.Elements.{All-same, All-nil}
 use Rattle.morph_base.specs.declared.plan.PlanOp.{PlanOp}
@@ -7,7 +7,7 @@ use Rattle.morph_base.specs.Sources.{IsSource}
 use Rattle.morph_base.specs.Graphs.{greatest, level_of}
 use Rattle.txn_splitter.specs.Txns.{txn_count, txn_at, txn_target}
 use Rattle.txn_splitter.proofs.TxnLemmas.{txn_start, txn_next, txn_last, txn_none, txn_ops_few}
-use Rattle.precedence_graph.specs.Planned.{HasWriters, event_level_in, event_sources_of, members_of, txn_event, ArePlanned, AreEventsPlanned}
+use Rattle.precedence_graph.specs.Planned.{HasWriters, event_level_in, event_sources_of, members_of, txn_event, targets_in, parameters_in, ArePlanned, AreEventsPlanned}
 use Rattle.precedence_graph.proofs.EventLemmas.{EndBy, end_by_first, end_by_next, events_grow, events_more}
 use Rattle.precedence_graph.proofs.WriterLemmas.{source_among_none}
 use Rattle.precedence_graph.proofs.planning.plan_transactions.Goals as goal
@@ -30,6 +30,11 @@ loop-i-init c =
         events_are = ap (map txn_event) c.in_ok-events.ensures.items;
         level_is = λ j lt. absurd (omega arith);
         low = All-same (λ e. e.level ≤ 0) c.in_ok-events.events.items [] c.in_ok-events.ensures.items (All-nil (λ e. e.level ≤ 0));
+      };
+      written = record {
+        targets = sym (ap targets_in c.in_ok-ops.ensures.items);
+        parameters = sym (ap parameters_in c.in_ok-ops.ensures.items);
+        few = zero-le;
       };
       writers = record {
         count = c.in_ok-writers.ensures.count ∙ sym none;
@@ -63,5 +68,6 @@ loop-i-preserved c =
       planned = subst (λ n. ArePlanned x n ops) (sym many) done;
       events = subst (AreEventsPlanned x ops (i + 1)) (sym c.add.ensures.items)
           (events_more x c.requires ops (first + (txn_at x i).count) done i events e lt (end_by_next x c.requires i lt) so_far c.event_at-ts.ensures.event level (omega (arith, c.plan_event_ops-most.ensures.low)));
+      written = c.plan_event_ops-most.ensures.written;
       writers = subst (λ n. HasWriters x n c.enter_event.new.writers) (sym many) c.enter_event.ensures;
     }

@@ -1,9 +1,11 @@
-use Rattle.std.proofs.Common.{ℕ, ◌+◌, ◌<◌, ◌∷◌, List, length, map, take, sym, ap, ◌∙◌, arith}
-use Rattle.std.specs.Prelude.{max, slice_set}
+use Rattle.std.proofs.Common.{ℕ, ◌+◌, ◌<◌, ◌∷◌, List, length, cond, get_or, map, take, sym, ap, ◌∙◌, arith}
+use Rattle.std.specs.Prelude.{max, slice_set, count_by}
+use Rattle.std.proofs.lemmas.List.{map_more}
+use Rattle.std.proofs.lemmas.List.Sums.{sum_by_push}
 use Rattle.morph_base.specs.declared.limits.TheConstants.{PARAMS}
 use Rattle.morph_base.specs.declared.key.Key.{Key}
 use Rattle.morph_base.specs.declared.plan.Origin.{Origin}
-use Rattle.morph_base.specs.Graphs.{greatest, level_of}
+use Rattle.morph_base.specs.Graphs.{greatest, is_written, level_of}
 use Rattle.precedence_graph.specs.Planned.{op_level_in, event_level_in}
 use Rattle.precedence_graph.specs.Writers.{source_in}
 use Rattle.precedence_graph.proofs.PlaceLemmas.{source_put, greatest-read_more}
@@ -27,4 +29,8 @@ loop-j-preserved c =
       event_level = c.max-event_level.ensures ∙ ap (λ n. max n c.event_level_of.result) c.loop-j.invariant.event_level
           ∙ ap (λ n. max (greatest (map of_event (map find (key ∷ take j params)))) n) (c.event_level_of.ensures ∙ ap of_event c.source-origin.ensures)
           ∙ sym (greatest-read_more of_event find key params j _ inside);
+      parameters = ap (λ n. n + c.written_count-parameters.result) c.loop-j.invariant.parameters
+          ∙ ap (λ n. count_by is_written (map find (take j params)) + n) (c.written_count-parameters.ensures.count ∙ ap (λ origin. cond (is_written origin) 1 0) c.source-origin.ensures)
+          ∙ sym (ap (count_by is_written) (map_more find params j _ inside) ∙ sum_by_push (λ origin. cond (is_written origin) 1 0) (map find (take j params)) (find (get_or params j _)));
+      few = omega (arith, c.written_count-parameters.ensures.few);
     }

@@ -4,7 +4,7 @@ ghost use Rattle.txn_splitter.specs.Txns.{IsTxns, txn_count, txn_op_count, txn_a
 ghost use Rattle.precedence_graph.specs.Planned.{HasWriters, IsWrittenOf, ArePlanned, AreEventsPlanned, event_level_in, event_sources_of, members_of};
 
 use crate::edges::{Written, written_count};
-use crate::sources::{Reads, sources};
+use crate::sources::sources;
 use crate::transactions::event_at;
 use crate::writers::Writers;
 use morph_base::{List, OutOfMemory, PlanEvent, PlanOp};
@@ -83,21 +83,16 @@ fn plan_event_ops(
     let mut most: u32 = 0;
     for o in event.first..event.first + event.count {
         let op = txns.ops.get(o as usize);
-        let Reads {
-            origins,
-            level,
-            event_level,
-            parameters,
-        } = sources(op, writers, ops.as_slice(), events);
+        let reads = sources(op, writers, ops.as_slice(), events);
         ops.add(PlanOp {
             op: *op,
             event: i as u32,
-            origins,
-            level: 1 + level,
+            origins: reads.origins,
+            level: 1 + reads.level,
         });
-        most = most.max(event_level);
-        written.targets += u64::from(written_count(origins[0]));
-        written.parameters += u64::from(parameters);
+        most = most.max(reads.event_level);
+        written.targets += u64::from(written_count(reads.origins[0]));
+        written.parameters += u64::from(reads.parameters);
     }
     most
 }

@@ -3,7 +3,7 @@ ghost use Rattle.morph_base.specs.Graphs.{greatest, level_of};
 ghost use Rattle.txn_splitter.specs.Txns.{IsTxns, txn_count, txn_op_count, txn_at};
 ghost use Rattle.precedence_graph.specs.Planned.{HasWriters, IsWrittenOf, ArePlanned, AreEventsPlanned, event_level_in, event_sources_of, members_of};
 
-use crate::edges::{Written, written_count};
+use crate::edges::Written;
 use crate::sources::sources;
 use crate::transactions::event_at;
 use crate::writers::Writers;
@@ -84,14 +84,15 @@ fn plan_event_ops(
     for o in event.first..event.first + event.count {
         let op = txns.ops.get(o as usize);
         let reads = sources(op, writers, ops.as_slice(), events);
+        let origins = reads.origins;
         ops.add(PlanOp {
             op: *op,
             event: i as u32,
-            origins: reads.origins,
+            origins,
             level: 1 + reads.level,
         });
         most = most.max(reads.event_level);
-        written.targets += u64::from(written_count(reads.origins[0]));
+        written.targets += u64::from(reads.target);
         written.parameters += u64::from(reads.parameters);
     }
     most

@@ -1,4 +1,4 @@
-ghost use Rattle.std.specs.Prelude.{◌≡◌, ◌≤◌, length, drop, map, count_by};
+ghost use Rattle.std.specs.Prelude.{◌≡◌, ◌≤◌, length, drop, map, count_by, if◌then◌else◌};
 ghost use Rattle.morph_base.specs.declared.key.Key.{Key};
 ghost use Rattle.morph_base.specs.declared.limits.TheConstants.{PARAMS, READS};
 ghost use Rattle.morph_base.specs.Graphs.{greatest, is_written, level_of};
@@ -20,6 +20,8 @@ pub struct Reads {
     pub level: u32,
     /// The greatest level of the events of these operations.
     pub event_level: u32,
+    /// 1 where the target's source is an operation, 0 where it is a base.
+    pub target: u32,
     /// How many of the parameters' sources are operations.
     pub parameters: u32,
 }
@@ -33,6 +35,7 @@ pub fn sources(op: &Op, writers: &Writers, ops: &[PlanOp], events: &[PlanEvent])
         ≡ greatest (map (level_of (op_level_in ops.now)) (map (source_in writers.now) (reads op.now))) }
     ensures event_level { result.event_level ≡ greatest (map (level_of (event_level_in ops.now events.now))
         (map (source_in writers.now) (reads op.now))) }
+    ensures target { result.target ≡ (if is_written (source_in writers.now op.now.key) then 1 else 0) }
     ensures parameters { result.parameters
         ≡ count_by is_written (map (source_in writers.now) (drop 1 (reads op.now))) }
     ensures few { result.parameters ≤ PARAMS }
@@ -54,6 +57,7 @@ pub fn sources(op: &Op, writers: &Writers, ops: &[PlanOp], events: &[PlanEvent])
         origins,
         level,
         event_level,
+        target: written_count(target),
         parameters,
     }
 }

@@ -1,12 +1,14 @@
-use Rattle.std.proofs.Common.{◌≡◌, ℕ, ◌+◌, ◌≤◌, ◌∷◌, [], List, length, take, drop, map, refl, sym, ap, subst, ◌∙◌, arith}
+use Rattle.std.proofs.Common.{◌≡◌, ℕ, ◌+◌, ◌≤◌, ◌∷◌, [], List, cond, length, get_or, take, drop, map, refl, sym, ap, subst, ◌∙◌, arith}
 use Rattle.std.specs.Prelude.{max}
 use Rattle.std.proofs.lemmas.List.{length_push, length-drop, take-append-le, take_all}
 use Rattle.morph_base.specs.declared.operation.Op.{Op}
+use Rattle.morph_base.specs.declared.plan.Origin.{Origin}
+use Rattle.morph_base.specs.declared.plan.Origin.TheVariants.{Base}
 use Rattle.morph_base.specs.declared.plan.PlanOp.{PlanOp}
 use Rattle.morph_base.specs.Operations.{reads, IsShaped}
 use Rattle.morph_base.specs.Numbering.{IsWithin}
 use Rattle.morph_base.specs.Plans.{no_op}
-use Rattle.morph_base.specs.Graphs.{greatest, level_of}
+use Rattle.morph_base.specs.Graphs.{greatest, is_written, level_of}
 use Rattle.txn_splitter.specs.declared.txns.TxnEvent.{TxnEvent}
 use Rattle.txn_splitter.specs.Txns.{txn_at}
 use Rattle.precedence_graph.specs.Writers.{source_in}
@@ -61,7 +63,7 @@ loop-o-preserved c =
           ∙ sym (most_with x c.requires.txns i c.requires.event c.args.writers.now c.requires.writers o within ops done q op refl c.sources-reads.ensures.origins events)
           ∙ ap (λ (ps : List PlanOp). greatest (map (level_of (event_level_in ps events)) (event_sources_of (drop (txn_at x i).first ps)))) (sym c.add.ensures.items);
       written = record {
-        targets = ap (λ n. n + c.from.result) c.loop-o.invariant.written.targets ∙ ap (λ n. targets_in ops + n) (c.from.ensures ∙ c.written_count.ensures.count)
+        targets = ap (λ n. n + c.from.result) c.loop-o.invariant.written.targets ∙ ap (λ n. targets_in ops + n) (c.from.ensures ∙ c.sources-reads.ensures.target ∙ sym (ap (λ (os : List Origin). cond (is_written (get_or os 0 (Base 0))) 1 0) c.sources-reads.ensures.origins))
             ∙ sym (ap targets_in c.add.ensures.items ∙ targets_with x c.requires.txns i c.requires.event c.args.writers.now c.requires.writers o within ops done q op refl c.sources-reads.ensures.origins);
         parameters = ap (λ n. n + c.from-in-loop-o.result) c.loop-o.invariant.written.parameters ∙ ap (λ n. parameters_in ops + n) (c.from-in-loop-o.ensures ∙ c.sources-reads.ensures.parameters)
             ∙ sym (ap parameters_in c.add.ensures.items ∙ parameters_with x c.requires.txns i c.requires.event c.args.writers.now c.requires.writers o within ops done q op refl c.sources-reads.ensures.origins);

@@ -41,11 +41,12 @@ op_level_in ops o = (planned ops o).level
 abbrev pub event_level_in : List PlanOp → List PlanEvent → ℕ → ℕ
 event_level_in ops events o = (slice_index_or events (planned ops o).event no_event).level
 
--- an operation has a valid shape, a source at each place, and reads from the first n operations alone
+-- an operation has a valid shape, a source at each place, reads from the first n operations alone, and from none at level 1
 pub record IsReady (n : ℕ) (q : PlanOp) : Type 0 where
   pub shaped : IsShaped q.op
   pub places : length q.origins ≡ READS
   pub among : All (IsAmong n) (sources_of q)
+  pub lowest : q.level ≤ 1 → All (IsAmong 0) (sources_of q)
 
 -- the source is a base or an operation of an event before event i
 abbrev pub IsOfEarlier : List PlanOp → ℕ → Origin → Type 0

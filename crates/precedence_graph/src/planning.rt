@@ -19,7 +19,8 @@ pub struct Planned {
     pub written: Written,
 }
 
-/// The operations in order, each with its event, its sources and its level, and the events, each with its level.
+/// The operations in order, each with its event, its sources and its level, the events, each with its level, and how many
+/// reads of operations there are.
 pub fn plan_transactions(alloc: Global, txns: &Txns) -> Result<Planned, OutOfMemory>
     requires { IsTxns txns.now }
     ensures ops { IfOk result (λ planned. ArePlanned txns.now (txn_op_count txns.now) planned.ops.items) }

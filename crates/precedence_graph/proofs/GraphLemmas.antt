@@ -14,7 +14,7 @@ use Rattle.txn_splitter.specs.declared.txns.TxnEvent.{TxnEvent}
 use Rattle.txn_splitter.specs.declared.txns.Txns.{Txns}
 use Rattle.txn_splitter.specs.Txns.{IsTxns, txn_count, txn_op_count, txn_at}
 use Rattle.txn_splitter.proofs.TxnLemmas.{txn_end}
-use Rattle.precedence_graph.specs.Planned.{sources_of, planned, event_level_in, event_sources_of, members_of, ArePlanned, AreEventsPlanned}
+use Rattle.precedence_graph.specs.Planned.{sources_of, planned, event_level_in, event_sources_of, members_of, targets_in, parameters_in, ArePlanned, AreEventsPlanned}
 use Rattle.precedence_graph.proofs.ListLemmas.{sum_by-below, map-range_is}
 use Rattle.precedence_graph.proofs.BuiltLemmas.{events_same, ops_same, event_at_same}
 
@@ -29,12 +29,6 @@ op_lists_of ops = map (λ l. filter (λ o. eqb (planned ops o).level (l + 1)) (b
 abbrev pub event_lists_of : List PlanEvent → List (List ℕ)
 event_lists_of events = map (λ l. filter (λ i. eqb (get_or events i no_event).level (l + 1)) (below (length events))) (below (greatest (map (λ e. e.level) events)))
 
-abbrev pub temporal_of : List PlanOp → ℕ
-temporal_of ops = count_by (λ q. is_written (get_or q.origins 0 (Base 0))) ops
-
-abbrev pub parametric_of : List PlanOp → ℕ
-parametric_of ops = sum_by (λ q. count_by is_written (drop 1 (sources_of q))) ops
-
 abbrev pub logical_of : List PlanEvent → ℕ
 logical_of events = sum_by (λ e. e.count * (e.count - 1) / 2) events
 
@@ -47,7 +41,7 @@ module _ (x : Txns) (is : IsTxns x) (p : Plan) (done : ArePlanned x (txn_op_coun
       ap (flat_map sources_of) (sym (map-range_is p.ops.items (txn_at x i).first (txn_at x i).count no_plan_op (omega arith))) ∙ flat_map-map sources_of (planned p.ops.items) numbers ∙ ap (λ (e : TxnEvent). flat_map (origins_of p) (range_with_len e.first e.count)) (event_at_same x is p done events_done i)
 
   pub graph_is : map (λ list. list.items) p.dependents.items ≡ readers_of p.ops.items → map (λ list. list.items) p.op_levels.items ≡ op_lists_of p.ops.items → map (λ list. list.items) p.event_levels.items ≡ event_lists_of p.events.items
-      → p.edges.temporal ≡ temporal_of p.ops.items → p.edges.parametric ≡ parametric_of p.ops.items → p.edges.logical ≡ logical_of p.events.items → IsGraph p
+      → p.edges.temporal ≡ targets_in p.ops.items → p.edges.parametric ≡ parameters_in p.ops.items → p.edges.logical ≡ logical_of p.events.items → IsGraph p
   graph_is dependents op_lists event_lists temporal parametric logical = record {
     op_level_is = λ o lt. (done.each o (omega (arith, ops_same x is p done events_done))).level_is;
     event_level_is = λ i lt. let inside : i < txn_count x = omega (arith, events_same x is p done events_done) in

@@ -1,9 +1,7 @@
 -- The greatest of some numbers, and the numbers below n.
-use Rattle.std.proofs.Common.{◌≡◌, ℕ, ◌+◌, ◌<◌, ◌≤◌, Bool, cond, List, [], ◌∷◌, ◌++◌, length, get_or, take, map, filter, refl, ap, subst, ◌∙◌, arith}
+use Rattle.std.proofs.Common.{◌≡◌, ℕ, ◌+◌, ◌<◌, ◌≤◌, Bool, cond, List, [], ◌∷◌, ◌++◌, length, get_or, take, filter, refl, ap, subst, ◌∙◌, arith}
 use Rattle.std.specs.Prelude.{max, All}
-use Rattle.std.specs.List.{flat_map}
-use Rattle.std.proofs.lemmas.List.{take_more, map-id, map-append, append-nil}
-use Rattle.std.proofs.lemmas.Grind.{flat_map-append}
+use Rattle.std.proofs.lemmas.List.{take_more, map-id}
 use Rattle.std.proofs.lemmas.List.Elements.{filter-append, All-head, All-tail}
 use Rattle.morph_base.specs.Graphs.{greatest, below}
 use Rattle.morph_base.proofs.LevelLaws.{below_more, greatest-append, le-greatest}
@@ -28,10 +26,3 @@ one_number p n = refl
 
 pub filter-below_more : (p : ℕ → Bool) (n : ℕ) → filter p (below (n + 1)) ≡ filter p (below n) ++ cond (p n) (n ∷ []) []
 filter-below_more p n = ap (filter p) (below_more n) ∙ filter-append p (below n) (n ∷ [])
-
--- the greatest over lists that are joined, one list more
-pub greatest-flat_map_more : {X Y : Type 0} (f : Y → ℕ) (h : X → List Y) (xs : List X) (i : ℕ) (d : X) → i < length xs → greatest (map f (flat_map h (take (i + 1) xs))) ≡ max (greatest (map f (flat_map h (take i xs)))) (greatest (map f (h (get_or xs i d))))
-greatest-flat_map_more f h xs i d inside =
-    let before = flat_map h (take i xs) in
-    let new = h (get_or xs i d) in
-    ap (λ ys. greatest (map f (flat_map h ys))) (take_more xs i d inside) ∙ ap (λ ys. greatest (map f ys)) (flat_map-append h (take i xs) (get_or xs i d ∷ []) ∙ ap (λ ys. before ++ ys) (append-nil new)) ∙ ap greatest (map-append f before new) ∙ greatest-append (map f before) (map f new)

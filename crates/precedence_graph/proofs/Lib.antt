@@ -12,3 +12,5 @@ pub mod BuiltLemmas
 pub mod BlankLemmas
 pub mod GraphLemmas
 pub mod LevelLemmas
+pub mod EntryLemmas
+pub mod PlanningLemmas

@@ -1,10 +1,12 @@
--- Sources put place by place.
+-- Sources put place by place, and the greatest level among them.
 use Rattle.std.proofs.Common.{◌≡◌, ℕ, suc, ◌+◌, ◌-◌, ◌<◌, List, ◌∷◌, [], ◌++◌, map, take, replicate, length, get_or, refl, ap, sym, ◌∙◌, le_refl, arith}
-use Rattle.std.specs.Prelude.{slice_set}
-use Rattle.std.proofs.lemmas.List.{set-append_right, map_more, length-map, length-take, append_assoc}
+use Rattle.std.specs.Prelude.{max, slice_set}
+use Rattle.std.proofs.lemmas.List.{set-append_right, map_more, map-append, take_more, length-map, length-take, append_assoc}
 use Rattle.morph_base.specs.declared.key.Key.{Key}
 use Rattle.morph_base.specs.declared.plan.Origin.{Origin}
 use Rattle.morph_base.specs.declared.plan.Origin.TheVariants.{Base}
+use Rattle.morph_base.specs.Graphs.{greatest}
+use Rattle.precedence_graph.proofs.GreatestLemmas.{greatest_push}
 
 put_first : (k m i : ℕ) (x : Origin) → k ≡ suc m → i ≡ 0 → slice_set (replicate k (Base 0)) i x ≡ x ∷ replicate m (Base 0)
 put_first k m i x more first = rw (more, first) refl
@@ -20,3 +22,13 @@ source_put f params a x d n j lt inside is =
     ∙ sym (append_assoc front (x ∷ []) (replicate (n - (j + 1)) (Base 0)))
     ∙ ap (λ y. (front ++ y ∷ []) ++ replicate (n - (j + 1)) (Base 0)) is
     ∙ ap (λ xs. (a ∷ xs) ++ replicate (n - (j + 1)) (Base 0)) (sym (map_more f params j d inside))
+
+-- the greatest of what is read, one parameter more
+pub greatest-read_more : (f : Origin → ℕ) (g : Key → Origin) (key : Key) (params : List Key) (j : ℕ) (d : Key) → j < length params
+    → greatest (map f (map g (key ∷ take (j + 1) params))) ≡ max (greatest (map f (map g (key ∷ take j params)))) (f (g (get_or params j d)))
+greatest-read_more f g key params j d inside =
+    let before : List Key = key ∷ take j params in
+    let new : Key = get_or params j d in
+    ap (λ keys. greatest (map f (map g (key ∷ keys)))) (take_more params j d inside)
+    ∙ ap greatest (ap (map f) (map-append g before (new ∷ [])) ∙ map-append f (map g before) (g new ∷ []))
+    ∙ greatest_push (map f (map g before)) (f (g new))

@@ -1,8 +1,9 @@
 -- An item that is linked once to each operation among some sources: one source more.
-use Rattle.std.proofs.Common.{◌≡◌, ℕ, ◌+◌, ◌<◌, Bool, true, false, cond, eqb, List, [], ◌∷◌, ◌++◌, length, get_or, take, refl, sym, ap, subst, ◌∙◌}
+use Rattle.std.proofs.Common.{◌≡◌, ℕ, ◌+◌, ◌<◌, Bool, true, false, cond, eqb, List, [], ◌∷◌, ◌++◌, length, get_or, take, refl, sym, ap, subst, ◌∙◌, arith}
 use Rattle.std.specs.Prelude.{◌||◌, All}
 use Rattle.std.specs.List.{list_any}
 use Rattle.std.proofs.lemmas.List.{append-nil}
+use Rattle.std.proofs.lemmas.List.Elements.{All-head, All-tail}
 use Rattle.std.proofs.lemmas.List.Folds.{list_any_more}
 use Rattle.std.proofs.lemmas.Bool.{eqb-true, true≢false}
 use Rattle.morph_base.specs.declared.plan.Origin.{Origin}
@@ -48,3 +49,9 @@ module _ (sources : List Origin) (j : ℕ) (inside : j < length sources) where
 
   pub read_among : (n s : ℕ) → get_or sources j (Base 0) ≡ Written s → All (IsAmong n) sources → s < n
   read_among n s is among = subst (IsAmong n) is (among j (Base 0) inside)
+
+-- where all sources are bases, no operation is among them
+pub none_read : (o : ℕ) (sources : List Origin) → All (IsAmong 0) sources → list_any (is_written_by o) sources ≡ false
+none_read o [] all = refl
+none_read o (Base v ∷ sources) all = none_read o sources (All-tail (IsAmong 0) (Base v) sources all)
+none_read o (Written s ∷ sources) all = (let below : s < 0 = All-head (IsAmong 0) (Written s) sources all in absurd (omega arith))

@@ -1,22 +1,24 @@
 -- What stands of an operation once all are planned: its shape, its places, and that it reads from earlier events.
-use Rattle.std.proofs.Common.{◌≡◌, ℕ, ◌+◌, ◌-◌, ◌*◌, ◌<◌, ◌≤◌, List, length, get_or, take, drop, map, replicate, sym, ap, subst, ◌∙◌, arith}
+use Rattle.std.proofs.Common.{◌≡◌, ℕ, ◌+◌, ◌-◌, ◌*◌, ◌<◌, ◌≤◌, List, length, get_or, take, drop, map, replicate, refl, sym, ap, subst, ◌∙◌, arith}
 use Rattle.std.specs.Prelude.{All}
-use Rattle.std.proofs.lemmas.List.{length-append, length-map, length-replicate, length-take, get_or-take, get_or-drop, get_or_default}
-use Rattle.std.proofs.lemmas.List.Elements.{All-map, All-same, All-weaker}
+use Rattle.std.proofs.lemmas.List.{length-append, length-map, length-replicate, length-take, get_or-map, get_or-take, get_or-drop, get_or_default}
+use Rattle.std.proofs.lemmas.List.Elements.{All-weaker}
 use Rattle.morph_base.specs.declared.limits.TheConstants.{READS, EVENT_OPS, EVENTS}
 use Rattle.morph_base.specs.declared.key.Key.{Key}
 use Rattle.morph_base.specs.declared.operation.Op.{Op}
 use Rattle.morph_base.specs.declared.plan.Origin.{Origin}
 use Rattle.morph_base.specs.declared.plan.Origin.TheVariants.{Base, Op as Written}
 use Rattle.morph_base.specs.declared.plan.PlanOp.{PlanOp}
-use Rattle.morph_base.specs.Operations.{reads, IsShaped}
+use Rattle.morph_base.specs.Operations.{reads, no_key, IsShaped}
 use Rattle.morph_base.specs.Sources.{IsSource}
 use Rattle.morph_base.specs.Plans.{no_plan_op}
+use Rattle.morph_base.specs.Graphs.{level_of}
 use Rattle.morph_base.proofs.PlainLaws.{length-reads}
 use Rattle.txn_splitter.specs.declared.txns.Txns.{Txns}
 use Rattle.txn_splitter.specs.Txns.{IsTxns, txn_op_count, txn_of, txn_target}
 use Rattle.txn_splitter.proofs.TxnLemmas.{txn_ops_few}
-use Rattle.precedence_graph.specs.Planned.{IsAmong, IsOfEarlier, IsReady, padded, sources_of, planned, ArePlanned}
+use Rattle.precedence_graph.specs.Planned.{IsAmong, IsOfEarlier, IsReady, padded, sources_of, planned, op_level_in, ArePlanned}
+use Rattle.precedence_graph.proofs.GreatestLemmas.{get_or-le-greatest}
 use Rattle.precedence_graph.proofs.PlannedLemmas.{take-padded, IsAmong-more}
 
 -- padded sources of a shaped operation have a place each
@@ -27,6 +29,22 @@ length-padded op xs shaped many =
     length-append xs (replicate (READS - length xs) (Base 0)) ∙ omega (arith, length-replicate (READS - length xs) (Base 0))
 
 module _ (x : Txns) (is : IsTxns x) (ops : List PlanOp) (done : ArePlanned x (txn_op_count x) ops) where
+  -- what an operation of level 1 reads is a base, since each operation has a level of at least 1
+  lowest_reads : (o : ℕ) → o < txn_op_count x → (planned ops o).level ≤ 1 → All (IsAmong 0) (sources_of (planned ops o))
+  lowest_reads o lt low k d inside = by_source (get_or (sources_of (planned ops o)) k d) refl
+    where
+      by_source : (origin : Origin) → get_or (sources_of (planned ops o)) k d ≡ origin → IsAmong 0 origin
+      by_source (Base v) is = tt
+      by_source (Written s) is =
+          let level : Origin → ℕ = level_of (op_level_in ops) in
+          let sources = sources_of (planned ops o) in
+          let earlier : s < o = subst (IsAmong o) is ((done.each o lt).among k d inside) in
+          let own = (done.each s (omega arith)).level_is in
+          let most = get_or-le-greatest (map level sources) k 0 (omega (arith, length-map sources level)) in
+          let at : get_or (map level sources) k 0 ≡ op_level_in ops s = get_or-map level sources k d 0 inside ∙ ap level is in
+          let whole = (done.each o lt).level_is in
+          absurd (omega arith)
+
   pub planned_ready : (o : ℕ) → o < txn_op_count x → IsReady (txn_op_count x) (planned ops o)
   planned_ready o lt =
       let q = done.each o lt in
@@ -35,29 +53,30 @@ module _ (x : Txns) (is : IsTxns x) (ops : List PlanOp) (done : ArePlanned x (tx
         shaped = shaped;
         places = ap length q.origins_are ∙ length-padded (planned ops o).op (map q.source (reads (planned ops o).op)) shaped (length-map (reads (planned ops o).op) q.source);
         among = All-weaker (IsAmong o) (IsAmong (txn_op_count x)) (λ origin. IsAmong-more o (txn_op_count x) origin (omega arith)) (sources_of (planned ops o)) q.among;
+        lowest = lowest_reads o lt;
       }
 
-  -- the sources of its used places are those of its keys
-  pub sources_are : (o : ℕ) (lt : o < txn_op_count x) → sources_of (planned ops o) ≡ map (done.each o lt).source (reads (planned ops o).op)
-  sources_are o lt =
-      let q = done.each o lt in
-      ap (take (length (reads (planned ops o).op))) q.origins_are ∙ take-padded q.source (reads (planned ops o).op)
-
-  source_earlier : (o : ℕ) (key : Key) (origin : Origin) → IsSource (txn_op_count x) (txn_target x) (txn_of x) (txn_of x o) key origin → IsOfEarlier ops (txn_of x o) origin
-  source_earlier o key (Base v) source = tt
-  source_earlier o key (Written s) source =
-      let many : length ops ≡ txn_op_count x = done.many in
-      let lt : s < txn_op_count x = source.itself.in_range in
-      let event_is = (done.each s lt).event_is in
-      let earlier : txn_of x s < txn_of x o = source.itself.earlier in
+module _ (x : Txns) (ops : List PlanOp) (n : ℕ) (done : ArePlanned x n ops) where
+  -- a source of event i among the planned operations is one of an earlier event
+  pub source_earlier : (i : ℕ) (key : Key) (origin : Origin) → IsSource (txn_op_count x) (txn_target x) (txn_of x) i key origin → IsAmong n origin → IsOfEarlier ops i origin
+  source_earlier i key (Base v) source among = tt
+  source_earlier i key (Written s) source among =
+      let many : length ops ≡ n = done.many in
+      let event_is = (done.each s among).event_is in
+      let earlier : txn_of x s < i = source.itself.earlier in
       (omega arith, omega arith)
 
-  pub planned_earlier : (o : ℕ) → o < txn_op_count x → All (IsOfEarlier ops (txn_of x o)) (sources_of (planned ops o))
-  planned_earlier o lt =
+  -- each operation reads from events before its own
+  pub planned_earlier : (o : ℕ) → o < n → All (IsOfEarlier ops (txn_of x o)) (sources_of (planned ops o))
+  planned_earlier o lt k d inside =
       let q = done.each o lt in
       let keys = reads (planned ops o).op in
-      All-same (IsOfEarlier ops (txn_of x o)) (sources_of (planned ops o)) (map q.source keys) (sources_are o lt)
-      (All-map (IsOfEarlier ops (txn_of x o)) q.source keys (λ k d _. source_earlier o (get_or keys k d) (q.source (get_or keys k d)) (q.source_is (get_or keys k d))))
+      let used : sources_of (planned ops o) ≡ map q.source keys = ap (take (length keys)) q.origins_are ∙ take-padded q.source keys in
+      let few : k < length keys = omega (arith, ap length used, length-map keys q.source) in
+      let is : get_or (sources_of (planned ops o)) k d ≡ q.source (get_or keys k no_key) = ap (λ xs. get_or xs k d) used ∙ get_or-map q.source keys k no_key d few in
+      source_earlier (txn_of x o) (get_or keys k no_key) (get_or (sources_of (planned ops o)) k d)
+      (subst (IsSource (txn_op_count x) (txn_target x) (txn_of x) (txn_of x o) (get_or keys k no_key)) (sym is) (q.source_is (get_or keys k no_key)))
+      (IsAmong-more o n (get_or (sources_of (planned ops o)) k d) (omega arith) (q.among k d inside))
 
 -- a fact of the operations with these numbers is one of the part of the list
 pub All-part : (P : PlanOp → Type 0) (ops : List PlanOp) (first count : ℕ) → first + count ≤ length ops → ((o : ℕ) → first ≤ o → o < first + count → P (planned ops o)) → All P (take count (drop first ops))

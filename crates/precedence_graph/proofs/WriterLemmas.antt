@@ -1,10 +1,7 @@
 -- The last writers among the first operations, and the sources that they are.
-use Rattle.std.proofs.Common.{◌≡◌, ℕ, ◌<◌, ◌≤◌, inl, inr, arith}
-use Rattle.std.proofs.Common.{Option, None, Some}
-use Rattle.std.specs.HashMap.{get}
+use Rattle.std.proofs.Common.{◌≡◌, ℕ, zero, suc, ◌<◌, ◌≤◌, inl, inr, arith}
 use Rattle.std.proofs.lemmas.Bool.{cases_lt, cases_eq}
 use Rattle.morph_base.specs.declared.key.Key.{Key}
-use Rattle.morph_base.specs.Operations.{same_key}
 use Rattle.morph_base.specs.declared.plan.Origin.{Origin}
 use Rattle.morph_base.specs.declared.plan.Origin.TheVariants.{Base, Op as Written}
 use Rattle.morph_base.specs.Sources.{Writes, IsSource}
@@ -12,7 +9,8 @@ use Rattle.morph_base.proofs.NumberLaws.{first_owned, within_event}
 use Rattle.txn_splitter.specs.declared.txns.Txns.{Txns}
 use Rattle.txn_splitter.specs.Txns.{IsTxns, txn_count, txn_op_count, txn_at, txn_of, txn_target}
 use Rattle.precedence_graph.specs.declared.writers.Writers.{Writers}
-use Rattle.precedence_graph.specs.Writers.{source_of, source_in}
+use Rattle.precedence_graph.specs.Entries.{last_passing, source_before, changes}
+use Rattle.precedence_graph.specs.Writers.{entered_count, source_in}
 use Rattle.precedence_graph.specs.Planned.{IsAmong}
 
 pub among_first : (n : ℕ) (target : ℕ → Key) (key : Key) (origin : Origin) → IsSource n target (λ _. 0) 1 key origin → IsAmong n origin
@@ -27,7 +25,7 @@ module _ (x : Txns) (is : IsTxns x) (i : ℕ) (lt : i < txn_count x) where
   abbrev pub first_of : ℕ
   first_of = (txn_at x i).first
 
-  before_from_event : (t : ℕ) → t < txn_op_count x → txn_of x t < i → t < first_of
+  pub before_from_event : (t : ℕ) → t < txn_op_count x → txn_of x t < i → t < first_of
   before_from_event t in_range earlier =
       elim (cases_lt t first_of) [
         | inl less ↦ less
@@ -66,8 +64,8 @@ module _ (x : Txns) (is : IsTxns x) (i : ℕ) (lt : i < txn_count x) where
 
 -- the base of a table is 0
 pub base_zero : (writers : Writers) (key : Key) (v : ℕ) → source_in writers key ≡ Base v → v ≡ 0
-base_zero writers key v is = of_found (get same_key writers.last key) is
+base_zero writers key v is = of_number (last_passing (changes writers.entries.items key) (entered_count writers)) is
   where
-    of_found : (found : Option ℕ) → source_of found ≡ Base v → v ≡ 0
-    of_found None e = cc
-    of_found (Some o) e = cc
+    of_number : (n : ℕ) → source_before n ≡ Base v → v ≡ 0
+    of_number zero e = cc
+    of_number (suc o) e = cc

@@ -1,3 +1,4 @@
+pub mod Entries
 pub mod Writers
 pub mod Planned
 pub mod Links

@@ -1,7 +1,7 @@
 -- What stands of a plan while it is made: operations and events over lists, and over the first of them.
-use Rattle.std.specs.Prelude.{◌≡◌, ℕ, ◌+◌, ◌-◌, ◌≤◌, ◌<◌, List, ◌++◌, length, take, drop, map, replicate, All, slice_index_or}
+use Rattle.std.specs.Prelude.{◌≡◌, ℕ, ◌+◌, ◌-◌, ◌*◌, ◌≤◌, ◌<◌, List, ◌++◌, length, take, drop, map, replicate, All, count_by, sum_by, slice_index_or}
 use Rattle.std.specs.List.{flat_map}
-use Rattle.morph_base.specs.declared.limits.TheConstants.{READS}
+use Rattle.morph_base.specs.declared.limits.TheConstants.{PARAMS, READS}
 use Rattle.morph_base.specs.declared.key.Key.{Key}
 use Rattle.morph_base.specs.declared.plan.Origin.{Origin}
 use Rattle.morph_base.specs.declared.plan.Origin.TheVariants.{Base}
@@ -11,12 +11,13 @@ use Rattle.morph_base.specs.Operations.{reads, IsShaped}
 use Rattle.morph_base.specs.Sources.{IsSource}
 use Rattle.morph_base.specs.Plans.{no_plan_op, no_event}
 use Rattle.morph_base.specs.Known.{IsKnown}
-use Rattle.morph_base.specs.Graphs.{greatest, level_of}
+use Rattle.morph_base.specs.Graphs.{greatest, is_written, level_of}
 use Rattle.txn_splitter.specs.declared.txns.TxnEvent.{TxnEvent}
 use Rattle.txn_splitter.specs.declared.txns.Txns.{Txns}
 use Rattle.txn_splitter.specs.Txns.{txn_op_count, txn_at, txn_op_at, txn_of, txn_target}
+use Rattle.precedence_graph.specs.declared.edges.Written.{Written}
 use Rattle.precedence_graph.specs.declared.writers.Writers.{Writers}
-use Rattle.precedence_graph.specs.Writers.{source_in}
+use Rattle.precedence_graph.specs.Writers.{entered_count, room_of, source_in}
 
 -- the source is a base or one of the first n operations
 abbrev pub IsAmong : ℕ → Origin → Type 0
@@ -40,19 +41,22 @@ op_level_in ops o = (planned ops o).level
 abbrev pub event_level_in : List PlanOp → List PlanEvent → ℕ → ℕ
 event_level_in ops events o = (slice_index_or events (planned ops o).event no_event).level
 
--- an operation has a valid shape, a source at each place, and reads from the first n operations alone
+-- an operation has a valid shape, a source at each place, reads from the first n operations alone, and from none at level 1
 pub record IsReady (n : ℕ) (q : PlanOp) : Type 0 where
   pub shaped : IsShaped q.op
   pub places : length q.origins ≡ READS
   pub among : All (IsAmong n) (sources_of q)
+  pub lowest : q.level ≤ 1 → All (IsAmong 0) (sources_of q)
 
 -- the source is a base or an operation of an event before event i
 abbrev pub IsOfEarlier : List PlanOp → ℕ → Origin → Type 0
 IsOfEarlier ops i = IsKnown (λ s. (s < length ops) × ((planned ops s).event < i))
 
--- the table has the last writers among the first n operations
-abbrev pub HasWriters : Txns → ℕ → Writers → Type 0
-HasWriters x n writers = (key : Key) → IsSource n (txn_target x) (λ _. 0) 1 key (source_in writers key)
+-- the table has the last writers among the first n operations, and room for the others
+pub record HasWriters (x : Txns) (n : ℕ) (writers : Writers) : Type 0 where
+  pub count : entered_count writers ≡ n
+  pub room : n + room_of writers ≡ txn_op_count x
+  pub source : (key : Key) → IsSource n (txn_target x) (λ _. 0) 1 key (source_in writers key)
 
 -- operation o of the transactions is planned in `ops`: some function gives the source of each key for its event, 0 at a base,
 -- and it reads from operations before it
@@ -65,6 +69,19 @@ pub record IsPlannedOp (x : Txns) (ops : List PlanOp) (o : ℕ) : Type 0 where
   pub origins_are : (planned ops o).origins ≡ padded (map source (reads (planned ops o).op))
   pub among : All (IsAmong o) (sources_of (planned ops o))
   pub level_is : (planned ops o).level ≡ 1 + greatest (map (level_of (op_level_in ops)) (sources_of (planned ops o)))
+
+-- how many of the operations' targets were written, and how many of their parameters
+abbrev pub targets_in : List PlanOp → ℕ
+targets_in ops = count_by (λ q. is_written (slice_index_or q.origins 0 (Base 0))) ops
+
+abbrev pub parameters_in : List PlanOp → ℕ
+parameters_in ops = sum_by (λ q. count_by is_written (drop 1 (sources_of q))) ops
+
+-- these are the counts, with a bound by the number of operations
+pub record IsWrittenOf (ops : List PlanOp) (written : Written) : Type 0 where
+  pub targets : written.targets ≡ targets_in ops
+  pub parameters : written.parameters ≡ parameters_in ops
+  pub few : written.parameters ≤ PARAMS * length ops
 
 -- the first n operations are planned, with levels of at most n
 pub record ArePlanned (x : Txns) (n : ℕ) (ops : List PlanOp) : Type 0 where

@@ -6,11 +6,10 @@ ghost use Rattle.txn_splitter.specs.Txns.{IsTxns, txn_transactions};
 ghost use Rattle.precedence_graph.specs.Planned.{txn_event};
 
 use crate::dependents::dependents;
-use crate::edges::edges;
-use crate::events::plan_events;
+use crate::edges::logical;
 use crate::level_lists::{event_level_lists, op_level_lists};
-use crate::operations::plan_ops;
-use morph_base::{OutOfMemory, Plan};
+use crate::planning::{Planned, plan_transactions};
+use morph_base::{Edges, OutOfMemory, Plan};
 use std::alloc::Global;
 use txn_splitter::Txns;
 
@@ -34,10 +33,17 @@ pub fn build(alloc: Global, txns: &Txns) -> Result<Plan, OutOfMemory>
     // Every base is 0.
     ensures blank { IfOk result (λ plan. (o j v : ℕ) → origin_at plan o j ≡ Base v → v ≡ 0) }
 {
-    let ops = plan_ops(alloc, txns)?;
+    let Planned {
+        ops,
+        events,
+        written,
+    } = plan_transactions(alloc, txns)?;
     let planned = ops.as_slice();
-    let events = plan_events(alloc, txns, planned)?;
-    let edges = edges(planned, events.as_slice());
+    let edges = Edges {
+        temporal: written.targets,
+        parametric: written.parameters,
+        logical: logical(events.as_slice()),
+    };
     let reads = edges.temporal.saturating_add(edges.parametric);
     let dependents = dependents(alloc, planned, reads as usize)?;
     let op_levels = op_level_lists(alloc, planned)?;

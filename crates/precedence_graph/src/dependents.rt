@@ -35,7 +35,10 @@ fn read_links(alloc: Global, ops: &[PlanOp], reads: usize) -> Result<List<Link>,
 {
     let mut links = List::with_room(alloc, reads)?;
     for (t, op) in ops.iter().enumerate() {
-        link_sources(&mut links, used(op), t as u32)?;
+        // An operation of level 1 reads from no operation.
+        if op.level > 1 {
+            link_sources(&mut links, used(op), t as u32)?;
+        }
     }
     Ok(links)
 }

@@ -1,51 +1,29 @@
-ghost use Rattle.std.specs.Prelude.{◌≡◌, ◌-◌, ◌*◌, ◌/◌, ◌^◌, ◌<◌, ◌≤◌, length, drop, All, count_by, sum_by, slice_index_or};
+ghost use Rattle.std.specs.Prelude.{◌≡◌, ◌-◌, ◌*◌, ◌/◌, ◌^◌, ◌<◌, ◌≤◌, length, All, sum_by, if◌then◌else◌};
 ghost use Rattle.morph_base.specs.declared.limits.TheConstants.{EVENT_OPS};
 ghost use Rattle.morph_base.specs.Graphs.{is_written};
-ghost use Rattle.precedence_graph.specs.Planned.{IsReady, sources_of};
 
-use crate::sources::used;
-use morph_base::{Edges, Origin, PlanEvent, PlanOp};
+use morph_base::{Origin, PlanEvent};
 
-/// How many dependencies there are, by kind.
-pub fn edges(ops: &[PlanOp], events: &[PlanEvent]) -> Edges
-    requires ready { All (IsReady (length ops.now)) ops.now }
-    requires counts { All (λ e. (0 < e.count) × (e.count ≤ EVENT_OPS)) events.now }
-    requires few_ops { length ops.now < 2 ^ 32 }
-    requires few_events { length events.now < 2 ^ 32 }
-    ensures temporal { result.temporal
-        ≡ count_by (λ q. is_written (slice_index_or q.origins 0 (Origin.Base 0))) ops.now }
-    ensures parametric { result.parametric ≡ sum_by (λ q. count_by is_written (drop 1 (sources_of q))) ops.now }
-    ensures logical { result.logical ≡ sum_by (λ e. e.count * (e.count - 1) / 2) events.now }
-{
-    Edges {
-        temporal: temporal(ops),
-        parametric: parametric(ops),
-        logical: logical(events),
-    }
+/// How many reads of an earlier event's operations there are: of targets, and of parameters.
+#[derive(Clone, Copy, Debug, PartialEq, Eq)]
+pub struct Written {
+    pub targets: u64,
+    pub parameters: u64,
 }
 
-/// The operations whose target was written.
-fn temporal(ops: &[PlanOp]) -> u64
-    ensures { result ≡ count_by (λ q. is_written (slice_index_or q.origins 0 (Origin.Base 0))) ops.now }
+/// 1 where the source is an operation, 0 where it is a base.
+pub fn written_count(origin: Origin) -> u32
+    ensures count { result ≡ (if is_written origin then 1 else 0) }
+    ensures few { result ≤ 1 }
 {
-    ops.iter().filter(|op| is_written(&op.origins[0])).count() as u64
-}
-
-/// The parameters that were written.
-fn parametric(ops: &[PlanOp]) -> u64
-    requires ready { All (IsReady (length ops.now)) ops.now }
-    requires few { length ops.now < 2 ^ 32 }
-    ensures { result ≡ sum_by (λ q. count_by is_written (drop 1 (sources_of q))) ops.now }
-{
-    let mut all = 0;
-    for op in ops {
-        all += written(&used(op)[1..]) as u64;
+    match origin {
+        Origin::Base(_) => 0,
+        Origin::Op(_) => 1,
     }
-    all
 }
 
 /// The pairs of operations of one event.
-fn logical(events: &[PlanEvent]) -> u64
+pub fn logical(events: &[PlanEvent]) -> u64
     requires counts { All (λ e. (0 < e.count) × (e.count ≤ EVENT_OPS)) events.now }
     requires few { length events.now < 2 ^ 32 }
     ensures { result ≡ sum_by (λ e. e.count * (e.count - 1) / 2) events.now }
@@ -66,18 +44,4 @@ fn pairs(count: u32) -> u64
 {
     let count = u64::from(count);
     count * (count - 1) / 2
-}
-
-/// How many of the sources are operations.
-fn written(sources: &[Origin]) -> usize
-    ensures { result ≡ count_by is_written sources.now }
-{
-    sources.iter().filter(|origin| is_written(origin)).count()
-}
-
-/// Whether the source is an operation.
-fn is_written(origin: &Origin) -> bool
-    ensures { result ≡ is_written origin.now }
-{
-    matches!(origin, Origin::Op(_))
 }

@@ -8,11 +8,10 @@
 mod building;
 mod dependents;
 mod edges;
-mod events;
 mod level_lists;
 mod levels;
 mod links;
-mod operations;
+mod planning;
 mod sources;
 mod transactions;
 mod writers;

@@ -1,23 +1,65 @@
-ghost use Rattle.std.specs.Prelude.{◌≡◌, length, map};
+ghost use Rattle.std.specs.Prelude.{◌≡◌, ◌≤◌, length, drop, map, count_by, if◌then◌else◌};
+ghost use Rattle.morph_base.specs.declared.key.Key.{Key};
+ghost use Rattle.morph_base.specs.declared.limits.TheConstants.{PARAMS, READS};
+ghost use Rattle.morph_base.specs.Graphs.{greatest, is_written, level_of};
 ghost use Rattle.morph_base.specs.Operations.{reads, IsShaped};
-ghost use Rattle.morph_base.specs.declared.limits.TheConstants.{READS};
-ghost use Rattle.precedence_graph.specs.Planned.{padded, sources_of};
+ghost use Rattle.precedence_graph.specs.Planned.{IsOfEarlier, padded, sources_of, op_level_in, event_level_in};
 ghost use Rattle.precedence_graph.specs.Writers.{source_in};
 
+use crate::edges::written_count;
+use crate::levels::{event_level_of, op_level_of};
 use crate::writers::Writers;
-use morph_base::{Op, Origin, PlanOp, READS};
+use morph_base::{Op, Origin, PlanEvent, PlanOp, READS};
 
-/// The source of each place of an operation, its target's first; the places that it does not use hold `Base(0)`.
-pub fn sources(op: &Op, writers: &Writers) -> [Origin; READS]
-    requires { IsShaped op.now }
-    ensures { result ≡ padded (map (source_in writers.now) (reads op.now)) }
+/// Where an operation reads from.
+#[derive(Clone, Copy, Debug, PartialEq, Eq)]
+pub struct Reads {
+    /// The source of each place, its target's first; the places that it does not use hold `Base(0)`.
+    pub origins: [Origin; READS],
+    /// The greatest level of the operations among them, 0 where there is none.
+    pub level: u32,
+    /// The greatest level of the events of these operations.
+    pub event_level: u32,
+    /// 1 where the target's source is an operation, 0 where it is a base.
+    pub target: u32,
+    /// How many of the parameters' sources are operations.
+    pub parameters: u32,
+}
+
+/// The sources of an operation, where `ops` has the operations before it and `events` the events before its own.
+pub fn sources(op: &Op, writers: &Writers, ops: &[PlanOp], events: &[PlanEvent]) -> Reads
+    requires shaped { IsShaped op.now }
+    requires earlier { (key : Key) → IsOfEarlier ops.now (length events.now) (source_in writers.now key) }
+    ensures origins { result.origins ≡ padded (map (source_in writers.now) (reads op.now)) }
+    ensures level { result.level
+        ≡ greatest (map (level_of (op_level_in ops.now)) (map (source_in writers.now) (reads op.now))) }
+    ensures event_level { result.event_level ≡ greatest (map (level_of (event_level_in ops.now events.now))
+        (map (source_in writers.now) (reads op.now))) }
+    ensures target { result.target ≡ (if is_written (source_in writers.now op.now.key) then 1 else 0) }
+    ensures parameters { result.parameters
+        ≡ count_by is_written (map (source_in writers.now) (drop 1 (reads op.now))) }
+    ensures few { result.parameters ≤ PARAMS }
 {
     let mut origins = [Origin::Base(0); READS];
-    origins[0] = writers.source(op.key);
+    let target = writers.source(op.key);
+    origins[0] = target;
+    let mut level = op_level_of(target, ops);
+    let mut event_level = event_level_of(target, ops, events);
+    let mut parameters: u32 = 0;
     for j in 0..op.n_params as usize {
-        origins[j + 1] = writers.source(op.params[j]);
+        let origin = writers.source(op.params[j]);
+        origins[j + 1] = origin;
+        level = level.max(op_level_of(origin, ops));
+        event_level = event_level.max(event_level_of(origin, ops, events));
+        parameters += written_count(origin);
     }
-    origins
+    Reads {
+        origins,
+        level,
+        event_level,
+        target: written_count(target),
+        parameters,
+    }
 }
 
 /// The sources of the places that an operation uses, its target's first.

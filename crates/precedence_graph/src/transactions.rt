@@ -1,8 +1,7 @@
-ghost use Rattle.std.specs.Prelude.{◌≡◌, ◌+◌, ◌*◌, ◌<◌, ◌≤◌, length, take, drop};
+ghost use Rattle.std.specs.Prelude.{◌≡◌, ◌+◌, ◌*◌, ◌<◌, ◌≤◌};
 ghost use Rattle.morph_base.specs.declared.limits.TheConstants.{EVENT_OPS, EVENTS};
 ghost use Rattle.txn_splitter.specs.Txns.{IsTxns, txn_count, txn_op_count, txn_at};
 
-use morph_base::PlanOp;
 use txn_splitter::{TxnEvent, Txns};
 
 /// Event `i`, whose operations are in range.
@@ -14,13 +13,4 @@ pub fn event_at(txns: &Txns, i: usize) -> TxnEvent
     ensures few { txn_op_count txns.now ≤ EVENT_OPS * EVENTS }
 {
     *txns.events.get(i)
-}
-
-/// The operations of an event.
-pub fn members(event: TxnEvent, ops: &[PlanOp]) -> &[PlanOp]
-    requires end { event.first + event.count ≤ length ops.now }
-    requires few { length ops.now ≤ EVENT_OPS * EVENTS }
-    ensures { result.now ≡ take event.count (drop event.first ops.now) }
-{
-    &ops[event.first as usize..(event.first + event.count) as usize]
 }

@@ -1,8 +1,9 @@
 -- Filling in the sources of an operation, place by place.
-use Rattle.std.proofs.Common.{◌≡◌, ℕ, zero, suc, ◌+◌, ◌-◌, ◌<◌, ◌≤◌, List, [], ◌∷◌, ◌++◌, length, map, take, drop, set, get_or, refl, ap, sym, ◌∙◌, arith, le_refl, subst}
-use Rattle.std.proofs.lemmas.List.{length-map, length-take, take_all, get_or-append_right, get_or-drop, get_or_default, drop_all, append-nil}
+use Rattle.std.proofs.Common.{◌≡◌, ℕ, zero, suc, ◌+◌, ◌-◌, ◌<◌, ◌≤◌, List, [], ◌∷◌, ◌++◌, length, map, take, drop, set, get_or, refl, ap, sym, ◌∙◌, add-one, arith, le_refl, subst}
+use Rattle.std.proofs.lemmas.List.{length-map, length-take, take_all, get_or-append_right, get_or-drop, get_or-take, get_or_default, drop_all, append-nil}
 use Rattle.std.proofs.lemmas.List.Edits.{map_over_more}
 use Rattle.morph_base.specs.declared.key.Key.{Key}
+use Rattle.morph_base.specs.declared.operation.Op.{Op}
 use Rattle.morph_base.specs.declared.plan.Origin.{Origin}
 use Rattle.morph_base.specs.declared.plan.Origin.TheVariants.{Base, Op as Written}
 use Rattle.morph_base.specs.declared.plan.PlanOp.{PlanOp}
@@ -38,6 +39,10 @@ filled_in-more s ks os j d e lt lt' = more s ks os j d e lt lt' ∙ ap (λ n. fi
 
 abbrev pub with_origins : PlanOp → List Origin → PlanOp
 with_origins q origins = record q { origins = origins }
+
+-- parameter j is read at the place after it
+pub parameter_read : (op : Op) (j : ℕ) → j < op.n_params → get_or op.params j no_key ≡ get_or (reads op) (j + 1) no_key
+parameter_read op j lt = sym (ap (λ k. get_or (reads op) k no_key) (add-one j) ∙ get_or-take op.n_params op.params j no_key lt)
 
 -- an operation filled in at its first j places, with one place more
 pub fill_one : (s : State) (q r : PlanOp) (j : ℕ) (key : Key) (origin : Origin) → r ≡ record q { origins = filled_in s (take j (reads q.op)) q.origins } →

@@ -1,12 +1,36 @@
-use Rattle.std.proofs.Common.{◌+◌, ap, ◌∙◌, arith}
-use Rattle.std.specs.Prelude.{slice_set}
+use Rattle.std.proofs.Common.{ℕ, ◌+◌, ◌<◌, ◌∷◌, List, length, cond, get_or, map, take, sym, ap, ◌∙◌, arith}
+use Rattle.std.specs.Prelude.{max, slice_set, count_by}
+use Rattle.std.proofs.lemmas.List.{map_more}
+use Rattle.std.proofs.lemmas.List.Sums.{sum_by_push}
 use Rattle.morph_base.specs.declared.limits.TheConstants.{PARAMS}
+use Rattle.morph_base.specs.declared.key.Key.{Key}
+use Rattle.morph_base.specs.declared.plan.Origin.{Origin}
+use Rattle.morph_base.specs.Graphs.{greatest, is_written, level_of}
+use Rattle.precedence_graph.specs.Planned.{op_level_in, event_level_in}
 use Rattle.precedence_graph.specs.Writers.{source_in}
-use Rattle.precedence_graph.proofs.PlaceLemmas.{source_put}
+use Rattle.precedence_graph.proofs.PlaceLemmas.{source_put, greatest-read_more}
 use Rattle.precedence_graph.proofs.sources.sources.Goals as goal
 
 pub loop-j-preserved : goal.loop-j-preserved
 loop-j-preserved c =
-    ap (λ os. slice_set os (c.loop-j.j + 1) c.source-in-loop-j.result) c.loop-j.invariant
-    ∙ source_put (source_in c.args.writers.now) c.args.op.now.params (source_in c.args.writers.now c.args.op.now.key) c.source-in-loop-j.result _ PARAMS c.loop-j.j
-    (omega (arith, c.requires.places, c.loop-j-test.true)) (omega (arith, c.requires.held, c.loop-j-test.true)) c.source-in-loop-j.ensures
+    let find : Key → Origin = source_in c.args.writers.now in
+    let of_op : Origin → ℕ = level_of (op_level_in c.args.ops.now) in
+    let of_event : Origin → ℕ = level_of (event_level_in c.args.ops.now c.args.events.now) in
+    let key : Key = c.args.op.now.key in
+    let params : List Key = c.args.op.now.params in
+    let j : ℕ = c.loop-j.j in
+    let inside : j < length params = omega (arith, c.requires.shaped.held, c.loop-j-test.true) in
+    record {
+      origins = ap (λ os. slice_set os (j + 1) c.source-origin.result) c.loop-j.invariant.origins
+          ∙ source_put find params (find key) c.source-origin.result _ PARAMS j (omega (arith, c.requires.shaped.places, c.loop-j-test.true)) inside c.source-origin.ensures;
+      level = c.max-level.ensures ∙ ap (λ n. max n c.op_level_of.result) c.loop-j.invariant.level
+          ∙ ap (λ n. max (greatest (map of_op (map find (key ∷ take j params)))) n) (c.op_level_of.ensures ∙ ap of_op c.source-origin.ensures)
+          ∙ sym (greatest-read_more of_op find key params j _ inside);
+      event_level = c.max-event_level.ensures ∙ ap (λ n. max n c.event_level_of.result) c.loop-j.invariant.event_level
+          ∙ ap (λ n. max (greatest (map of_event (map find (key ∷ take j params)))) n) (c.event_level_of.ensures ∙ ap of_event c.source-origin.ensures)
+          ∙ sym (greatest-read_more of_event find key params j _ inside);
+      parameters = ap (λ n. n + c.written_count-parameters.result) c.loop-j.invariant.parameters
+          ∙ ap (λ n. count_by is_written (map find (take j params)) + n) (c.written_count-parameters.ensures.count ∙ ap (λ origin. cond (is_written origin) 1 0) c.source-origin.ensures)
+          ∙ sym (ap (count_by is_written) (map_more find params j _ inside) ∙ sum_by_push (λ origin. cond (is_written origin) 1 0) (map find (take j params)) (find (get_or params j _)));
+      few = omega (arith, c.written_count-parameters.ensures.few);
+    }

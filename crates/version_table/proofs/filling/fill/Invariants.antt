@@ -1,4 +1,4 @@
-use Rattle.std.proofs.Common.{◌≡◌, take, length}
+use Rattle.std.proofs.Common.{◌≡◌, ◌+◌, take, length}
 use Rattle.morph_base.specs.declared.limits.TheConstants.{READS}
 use Rattle.morph_base.specs.Operations.{reads}
 use Rattle.morph_base.specs.Flat.{contents}
@@ -7,6 +7,6 @@ use Rattle.version_table.proofs.filling.fill.Given as goal
 
 abbrev pub invariant-loop-j : goal.invariant-loop-j
 invariant-loop-j l = record {
-  filled : l.op ≡ record l.initial.op { origins = filled_in (contents l.values) (take l.j (reads l.initial.op.op)) l.initial.op.origins };
+  filled : l.op ≡ record l.fn.op { origins = filled_in (contents l.values) (take (l.j + 1) (reads l.fn.op.op)) l.fn.op.origins };
   len : length l.op.origins ≡ READS;
 }

@@ -1,0 +1,73 @@
+use Rattle.std.proofs.Common.{◌≡◌, ℕ, ◌+◌, ◌<◌, ◌≤◌, List, [], ◌++◌, length, map, drop, zero-le, refl, sym, ap, subst, ◌∙◌, arith}
+use Rattle.std.proofs.lemmas.List.{take-append-drop}
+use Rattle.std.proofs.lemmas.List.Elements.{All-same, All-nil}
+use Rattle.morph_base.specs.declared.plan.PlanOp.{PlanOp}
+use Rattle.morph_base.specs.declared.plan.PlanEvent.{PlanEvent}
+use Rattle.morph_base.specs.Sources.{IsSource}
+use Rattle.morph_base.specs.Graphs.{greatest, level_of}
+use Rattle.txn_splitter.specs.Txns.{txn_count, txn_at, txn_target}
+use Rattle.txn_splitter.proofs.TxnLemmas.{txn_start, txn_next, txn_last, txn_none, txn_ops_few}
+use Rattle.precedence_graph.specs.Planned.{HasWriters, event_level_in, event_sources_of, members_of, txn_event, targets_in, parameters_in, ArePlanned, AreEventsPlanned}
+use Rattle.precedence_graph.proofs.EventLemmas.{EndBy, end_by_first, end_by_next, events_grow, events_more}
+use Rattle.precedence_graph.proofs.WriterLemmas.{source_among_none}
+use Rattle.precedence_graph.proofs.planning.plan_transactions.Goals as goal
+
+pub new-requires : goal.new-requires
+new-requires c = omega (arith, c.len.ensures, txn_ops_few c.args.txns.now c.requires)
+
+pub loop-i-init : goal.loop-i-init
+loop-i-init c =
+    let x = c.args.txns.now in
+    let ops : List PlanOp = c.in_ok-ops.ops.items in
+    let none : length ops ≡ 0 = ap length c.in_ok-ops.ensures.items in
+    record {
+      start = λ some. none ∙ sym (txn_start x c.requires some);
+      end = λ all. none ∙ sym (txn_none x c.requires (omega arith));
+      room = omega (arith, c.in_ok-ops.ensures.room);
+      event_room = omega (arith, c.in_ok-events.ensures.room, c.len-3.ensures);
+      planned = record { many = refl; each = λ o lt. absurd (omega arith); low = All-same (λ q. q.level ≤ length ops) ops [] c.in_ok-ops.ensures.items (All-nil (λ q. q.level ≤ length ops)) };
+      events = record {
+        events_are = ap (map txn_event) c.in_ok-events.ensures.items;
+        level_is = λ j lt. absurd (omega arith);
+        low = All-same (λ e. e.level ≤ 0) c.in_ok-events.events.items [] c.in_ok-events.ensures.items (All-nil (λ e. e.level ≤ 0));
+      };
+      written = record {
+        targets = sym (ap targets_in c.in_ok-ops.ensures.items);
+        parameters = sym (ap parameters_in c.in_ok-ops.ensures.items);
+        few = zero-le;
+      };
+      writers = record {
+        count = c.in_ok-writers.ensures.count ∙ sym none;
+        room = omega (arith, c.in_ok-writers.ensures.room, c.len.ensures);
+        source = λ key. subst (IsSource (length ops) (txn_target x) (λ _. 0) 1 key) (sym (c.in_ok-writers.ensures.none key)) (source_among_none (length ops) (txn_target x) key none);
+      };
+    }
+
+pub loop-i-preserved : goal.loop-i-preserved
+loop-i-preserved c =
+    let x = c.args.txns.now in
+    let i : ℕ = c.loop-i.i in
+    let lt : i < txn_count x = omega (arith, c.len-i-end.ensures, c.loop-i-test.true) in
+    let first : ℕ = (txn_at x i).first in
+    let before : List PlanOp = c.loop-i.ops.items in
+    let ops : List PlanOp = c.plan_event_ops-most.new.ops.items in
+    let events : List PlanEvent = c.loop-i.events.items in
+    let e : PlanEvent = record { ts = c.event_at-ts.result.ts; first = c.event_at-ts.result.first; count = c.event_at-ts.result.count; level = 1 + c.plan_event_ops-most.result } in
+    let done = c.plan_event_ops-most.ensures.planned in
+    let many : length ops ≡ first + (txn_at x i).count = done.many in
+    let grown : before ++ drop first ops ≡ ops = ap (λ ps. ps ++ drop first ops) (sym c.plan_event_ops-most.ensures.kept) ∙ take-append-drop first ops in
+    let so_far : AreEventsPlanned x ops i events =
+    subst (λ ps. AreEventsPlanned x ps i events) grown
+    (events_grow x c.requires before (length before) c.loop-i.invariant.planned (drop first ops) i events (omega arith) (subst (EndBy x i) (sym (c.loop-i.invariant.start lt)) (end_by_first x c.requires i lt)) c.loop-i.invariant.events) in
+    let level = ap (λ n. 1 + n) (c.plan_event_ops-most.ensures.level ∙ ap (λ (es : List PlanEvent). greatest (map (level_of (event_level_in ops es)) (event_sources_of (members_of x ops i)))) c.as_slice.ensures) in
+    record {
+      start = λ next. many ∙ sym (txn_next x c.requires i next);
+      end = λ all. many ∙ txn_last x c.requires i (omega arith);
+      room = c.plan_event_ops-most.ensures.room;
+      event_room = omega (arith, c.add.ensures.room, c.loop-i.invariant.event_room);
+      planned = subst (λ n. ArePlanned x n ops) (sym many) done;
+      events = subst (AreEventsPlanned x ops (i + 1)) (sym c.add.ensures.items)
+          (events_more x c.requires ops (first + (txn_at x i).count) done i events e lt (end_by_next x c.requires i lt) so_far c.event_at-ts.ensures.event level (omega (arith, c.plan_event_ops-most.ensures.low)));
+      written = c.plan_event_ops-most.ensures.written;
+      writers = subst (λ n. HasWriters x n c.enter_event.new.writers) (sym many) c.enter_event.ensures;
+    }

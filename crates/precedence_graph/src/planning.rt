@@ -1,0 +1,113 @@
+ghost use Rattle.std.specs.Prelude.{◌≡◌, ◌+◌, ◌<◌, ◌≤◌, length, map, take, All, IfOk};
+ghost use Rattle.morph_base.specs.Graphs.{greatest, level_of};
+ghost use Rattle.txn_splitter.specs.Txns.{IsTxns, txn_count, txn_op_count, txn_at};
+ghost use Rattle.precedence_graph.specs.Planned.{HasWriters, IsWrittenOf, ArePlanned, AreEventsPlanned, event_level_in, event_sources_of, members_of};
+
+use crate::edges::Written;
+use crate::sources::sources;
+use crate::transactions::event_at;
+use crate::writers::Writers;
+use morph_base::{List, OutOfMemory, PlanEvent, PlanOp};
+use std::alloc::Global;
+use txn_splitter::{TxnEvent, Txns};
+
+/// Operations and events as a plan has them, and how many reads of operations they have.
+#[derive(Debug, Drop)]
+pub struct Planned {
+    pub ops: List<PlanOp>,
+    pub events: List<PlanEvent>,
+    pub written: Written,
+}
+
+/// The operations in order, each with its event, its sources and its level, the events, each with its level, and how many
+/// reads of operations there are.
+pub fn plan_transactions(alloc: Global, txns: &Txns) -> Result<Planned, OutOfMemory>
+    requires { IsTxns txns.now }
+    ensures ops { IfOk result (λ planned. ArePlanned txns.now (txn_op_count txns.now) planned.ops.items) }
+    ensures events { IfOk result (λ planned.
+        AreEventsPlanned txns.now planned.ops.items (txn_count txns.now) planned.events.items) }
+    ensures written { IfOk result (λ planned. IsWrittenOf planned.ops.items planned.written) }
+{
+    let mut writers = Writers::new(alloc, txns.ops.len())?;
+    let mut ops = List::with_room(alloc, txns.ops.len())?;
+    let mut events = List::with_room(alloc, txns.events.len())?;
+    let mut written = Written {
+        targets: 0,
+        parameters: 0,
+    };
+    for i in 0..txns.events.len() {
+        let most = plan_event_ops(txns, i, &writers, events.as_slice(), &mut ops, &mut written);
+        let TxnEvent { ts, first, count } = event_at(txns, i);
+        let level = 1 + most;
+        events.add(PlanEvent {
+            ts,
+            first,
+            count,
+            level,
+        });
+        enter_event(txns, i, &mut writers);
+    }
+    Ok(Planned {
+        ops,
+        events,
+        written,
+    })
+}
+
+/// Plans the operations of event `i`, which read what the events before it wrote, and counts their reads of operations.
+/// Tells the greatest level of the events that they read from, 0 where there is none.
+fn plan_event_ops(
+    txns: &Txns,
+    i: usize,
+    writers: &Writers,
+    events: &[PlanEvent],
+    ops: &mut List<PlanOp>,
+    written: &mut Written,
+) -> u32
+    requires txns { IsTxns txns.now }
+    requires event { i < txn_count txns.now }
+    requires writers { HasWriters txns.now (txn_at txns.now i).first writers.now }
+    requires before { length events.now ≡ i }
+    requires low { All (λ e. e.level ≤ i) events.now }
+    requires room { length ops.old.items + ops.old.room ≡ txn_op_count txns.now }
+    requires planned { ArePlanned txns.now (txn_at txns.now i).first ops.old.items }
+    requires written { IsWrittenOf ops.old.items written.old }
+    ensures room { length ops.new.items + ops.new.room ≡ txn_op_count txns.now }
+    ensures planned { ArePlanned txns.now ((txn_at txns.now i).first + (txn_at txns.now i).count) ops.new.items }
+    ensures kept { take (txn_at txns.now i).first ops.new.items ≡ ops.old.items }
+    ensures level { result ≡ greatest (map (level_of (event_level_in ops.new.items events.now))
+        (event_sources_of (members_of txns.now ops.new.items i))) }
+    ensures low { result ≤ i }
+    ensures written { IsWrittenOf ops.new.items written.new }
+{
+    let event = event_at(txns, i);
+    let mut most: u32 = 0;
+    for o in event.first..event.first + event.count {
+        let op = txns.ops.get(o as usize);
+        let reads = sources(op, writers, ops.as_slice(), events);
+        let origins = reads.origins;
+        ops.add(PlanOp {
+            op: *op,
+            event: i as u32,
+            origins,
+            level: 1 + reads.level,
+        });
+        most = most.max(reads.event_level);
+        written.targets += u64::from(reads.target);
+        written.parameters += u64::from(reads.parameters);
+    }
+    most
+}
+
+/// Enters the operations of event `i` as writers.
+fn enter_event(txns: &Txns, i: usize, writers: &mut Writers)
+    requires txns { IsTxns txns.now }
+    requires event { i < txn_count txns.now }
+    requires writers { HasWriters txns.now (txn_at txns.now i).first writers.old }
+    ensures { HasWriters txns.now ((txn_at txns.now i).first + (txn_at txns.now i).count) writers.new }
+{
+    let event = event_at(txns, i);
+    for o in event.first..event.first + event.count {
+        writers.enter(txns.ops.get(o as usize).key);
+    }
+}

@@ -2,3 +2,4 @@ pub mod Evaluations
 pub mod Running
 pub mod Gathering
 pub mod Lending
+pub mod Exploring

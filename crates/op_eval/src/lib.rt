@@ -17,10 +17,12 @@
 
 mod answers;
 mod evaluating;
+mod explored;
 mod runner;
 mod runners;
 
 pub use answers::{Answers, Evaluation, Left};
 pub use evaluating::evaluate;
+pub use explored::{Explored, RunEnd};
 pub use runner::Runner;
 pub use runners::Runners;

@@ -12,3 +12,4 @@ pub mod Stopping
 pub mod Readying
 pub mod Ending
 pub mod Answering
+pub mod Completing

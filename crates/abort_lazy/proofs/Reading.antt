@@ -12,6 +12,7 @@ use Rattle.morph_base.specs.Graphs.{below}
 use Rattle.morph_base.specs.Known.{IsKnown}
 use Rattle.morph_base.proofs.OutcomeLaws.{source_precedes, keys_fit}
 use Rattle.morph_base.proofs.BoundLaws.{source-small, final-small}
+use Rattle.abort_lazy.specs.Finishing.{HasValues}
 use Rattle.abort_lazy.specs.Settling.{settled_sources}
 use Rattle.abort_lazy.proofs.Numbers.{before_first}
 
@@ -43,7 +44,7 @@ settled_sources-small p o valid lt k d inside =
 -- ---- read one after another
 
 module _ (p : Plan) (o j : ℕ) (values : List ℕ) (valid : IsPlan p) (lt : o < op_count p) (place : j < length (keys_of p o))
-    (settled : values ≡ map (final p) (below (event_at p (event_of p o)).first)) where
+    (settled : HasValues p (event_at p (event_of p o)).first values) where
   -- the source is a base, or its value stands there
   pub source_known : IsKnown (λ t. t < length values) (origin_at p o j)
   source_known = of_origin (origin_at p o j) refl
@@ -52,8 +53,8 @@ module _ (p : Plan) (o j : ℕ) (values : List ℕ) (valid : IsPlan p) (lt : o <
       of_origin (Base b) is = tt
       of_origin (Written t) is =
           let before = before_first p t o valid lt (source_precedes p o j t valid lt place is) in
-          let len : length values ≡ (event_at p (event_of p o)).first = ap length settled ∙ length-map-range_with_len (final p) 0 (event_at p (event_of p o)).first in
-          (let less : t < length values = omega arith in less)
+          let len : length values ≡ settled.many = ap length settled.are ∙ length-map-range_with_len (final p) 0 settled.many in
+          (let less : t < length values = omega (arith, before, len, settled.enough) in less)
 
   -- and it is the fold's
   pub source_read : from (slice_index values) (origin_at p o j) ≡ source p (final p) o j
@@ -63,7 +64,8 @@ module _ (p : Plan) (o j : ℕ) (values : List ℕ) (valid : IsPlan p) (lt : o <
       of_origin (Base b) is = refl
       of_origin (Written t) is =
           let before = before_first p t o valid lt (source_precedes p o j t valid lt place is) in
-          ap (λ (l : List ℕ). slice_index l t) settled ∙ get_or-map-range_with_len (final p) 0 (event_at p (event_of p o)).first t t 0 before (zero-add t)
+          let here : t < settled.many = omega (arith, before, settled.enough) in
+          ap (λ (l : List ℕ). slice_index l t) settled.are ∙ get_or-map-range_with_len (final p) 0 settled.many t t 0 here (zero-add t)
 
 -- all of them, read into the front of a list
 pub front_read : (p : Plan) (o : ℕ) (xs : List ℕ) → IsPlan p → o < op_count p → length (keys_of p o) ≤ length xs

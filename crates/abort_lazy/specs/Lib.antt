@@ -3,3 +3,4 @@ pub mod Settling
 pub mod Rooms
 pub mod Transactions
 pub mod Progress
+pub mod Finishing

@@ -7,7 +7,8 @@
 //! [`laws`] tells the first attempts without an order of execution: they are the guesses of the operations.
 //!
 //! On the board that workers share, [`settle_txn`] settles one transaction, by any runner: its operations are made
-//! ready, the event is decided, the operations are settled.
+//! ready, the event is decided, the operations are settled. Once the board is closed, [`finish`] completes what was left
+//! there.
 //!
 //! Below it stand `op_eval`, `op_words` and `interleaving_core`, for the board, and `morph_base`. On plain data a
 //! caller takes all memory first, makes the first attempts, and settles:
@@ -22,6 +23,7 @@
 #![tactic(auto)]
 
 mod attempts;
+mod finishing;
 pub mod laws;
 mod room;
 mod settling;
@@ -29,6 +31,7 @@ mod sources;
 mod transaction;
 
 pub use attempts::Attempts;
+pub use finishing::finish;
 pub use room::Room;
 pub use settling::{Redone, settle_plain};
 pub use transaction::{TxnAnswer, settle_txn};

@@ -1,6 +1,6 @@
-ghost use Rattle.std.specs.Prelude.{◌≡◌, ◌<◌, length, take, map};
-ghost use Rattle.morph_base.specs.Graphs.{below};
-ghost use Rattle.morph_base.specs.Plans.{IsPlan, op_count, event_at, event_of, keys_of, final};
+ghost use Rattle.std.specs.Prelude.{◌≡◌, ◌<◌, length, take};
+ghost use Rattle.morph_base.specs.Plans.{IsPlan, op_count, event_at, event_of, keys_of};
+ghost use Rattle.abort_lazy.specs.Finishing.{HasValues};
 ghost use Rattle.abort_lazy.specs.Settling.{settled_sources};
 
 use morph_base::{List, Plan, READS};
@@ -9,7 +9,7 @@ use morph_base::{List, Plan, READS};
 pub(crate) fn read_settled(plan: &Plan, o: usize, values: &List<u64>) -> [u64; READS]
     requires plan { IsPlan plan.now }
     requires op { o < op_count plan.now }
-    requires values { values.now.items ≡ map (final plan.now) (below (event_at plan.now (event_of plan.now o)).first) }
+    requires values { HasValues plan.now (event_at plan.now (event_of plan.now o)).first values.now.items }
     ensures long { length result ≡ READS }
     ensures values { take (length (keys_of plan.now o)) result ≡ settled_sources plan.now o }
 {

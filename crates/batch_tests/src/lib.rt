@@ -17,6 +17,8 @@ mod engine;
 #[cfg(test)]
 mod evaluations;
 #[cfg(test)]
+mod finishing;
+#[cfg(test)]
 mod four_events;
 #[cfg(test)]
 mod graph;

@@ -1,0 +1,198 @@
+-- Passes one after another, and the union over runners.
+use Rattle.std.proofs.Common.{◌≡◌, ◌≢◌, ◌⊎◌, ℕ, zero, suc, ◌+◌, ◌-◌, ◌<◌, ◌≤◌, ◌^◌, false, cond, eqb, List, [], ◌∷◌, length, get_or, set, refl, sym, ap, ◌∙◌, subst, inl, inr, arith}
+use Rattle.std.specs.Prelude.{Contains, All, count_by, slice_index_or, nat_lt}
+use Rattle.std.proofs.lemmas.Bool.{cases_eq, cases_lt, ne_eqb}
+use Rattle.std.proofs.lemmas.List.Sums.{sum_by-append}
+use Rattle.morph_base.specs.declared.plan.Plan.{Plan}
+use Rattle.morph_base.specs.Contents.{Contents}
+use Rattle.std.proofs.lemmas.List.{get_or-map}
+use Rattle.op_words.specs.declared.trail.Place.{Place}
+use Rattle.op_words.specs.declared.trail.View.{View}
+use Rattle.op_eval.specs.declared.answers.Evaluation.{Evaluation}
+use Rattle.op_eval.specs.declared.answers.Evaluation.TheVariants.{Evaluated, Blocked, Busy, Already}
+use Rattle.op_words.specs.Trails.{IsReached}
+use Rattle.op_eval.specs.Evaluations.{Tries}
+use Rattle.op_eval.specs.declared.runner.Runner.{Runner}
+use Rattle.op_words.specs.Counting.{times, place}
+use Rattle.op_eval.specs.Running.{hand_view, one_more}
+use Rattle.strata_explorer.specs.Calls.{Call, Took, Tried, Calls}
+use Rattle.strata_explorer.specs.Passes.{is_tried, names, Worked, IsEnough, IsPassed}
+use Rattle.strata_explorer.specs.Levels.{ops_of, op_of, named, total, IsStrata, AreStrata, IsWhole}
+use Rattle.strata_explorer.proofs.Turning.{contains_first, contains_later, count_first}
+use Rattle.strata_explorer.proofs.Running.{calls_keep, calls_reach, calls_places, calls_hold, calls_running, calls_tag}
+
+-- ---- answers count the evaluations
+
+up_or : (n : ℕ) → (one_more n ≡ n + 1) ⊎ (2 ^ 64 ≤ one_more n + 1)
+up_or n = elim (cases_lt n (2 ^ 64 - 1)) [ inl lt ↦ inl (omega arith) | inr past ↦ inr (omega arith) ]
+
+-- one more answer, or as many as there can be
+tries_total : (p : Plan) (cap o : ℕ) (a b : Runner) (r : Evaluation) → Tries p cap o a b r → (total a.answers + 1 ≤ total b.answers) ⊎ (2 ^ 64 ≤ total b.answers + 1)
+tries_total p cap o a b (Evaluated x y) t = let e : total b.answers ≡ one_more a.answers.evaluated + a.answers.blocked + a.answers.busy + a.answers.already = ap total t.counts in elim (up_or a.answers.evaluated) [ inl one ↦ inl (omega arith) | inr full ↦ inr (omega arith) ]
+tries_total p cap o a b (Blocked x y) t = let e : total b.answers ≡ a.answers.evaluated + one_more a.answers.blocked + a.answers.busy + a.answers.already = ap total t.counts in elim (up_or a.answers.blocked) [ inl one ↦ inl (omega arith) | inr full ↦ inr (omega arith) ]
+tries_total p cap o a b (Busy x) t = let e : total b.answers ≡ a.answers.evaluated + a.answers.blocked + one_more a.answers.busy + a.answers.already = ap total t.counts in elim (up_or a.answers.busy) [ inl one ↦ inl (omega arith) | inr full ↦ inr (omega arith) ]
+tries_total p cap o a b (Already x) t = let e : total b.answers ≡ a.answers.evaluated + a.answers.blocked + a.answers.busy + one_more a.answers.already = ap total t.counts in elim (up_or a.answers.already) [ inl one ↦ inl (omega arith) | inr full ↦ inr (omega arith) ]
+
+-- what was full stays full, by a call
+full_stays : (m n : ℕ) → (m + 1 ≤ n) ⊎ (2 ^ 64 ≤ n + 1) → 2 ^ 64 ≤ m + 1 → 2 ^ 64 ≤ n + 1
+full_stays m n more full = elim more [ inl less ↦ omega arith | inr there ↦ there ]
+
+pub calls_total : (p : Plan) (cap : ℕ) (cs : List Call) (a b : Runner) → Calls p cap cs a b → (total a.answers + count_by is_tried cs ≤ total b.answers) ⊎ (2 ^ 64 ≤ total b.answers + 1)
+calls_total p cap [] a b calls = inl (let e : total b.answers ≡ total a.answers = ap (λ r. total r.answers) calls in omega arith)
+calls_total p cap (Took c n ∷ cs) a b calls =
+    let e : total b.answers ≡ total calls.0.answers = ap total calls.2.answers in
+    let f : count_by is_tried (Took c n ∷ cs) ≡ 0 + count_by is_tried cs = count_first is_tried (Took c n) cs in
+    elim (calls_total p cap cs a calls.0 calls.1) [ inl few ↦ inl (omega arith) | inr full ↦ inr (omega arith) ]
+calls_total p cap (Tried o ∷ cs) a b calls =
+    let f : count_by is_tried (Tried o ∷ cs) ≡ 1 + count_by is_tried cs = count_first is_tried (Tried o) cs in
+    let step = tries_total p cap o calls.0 b calls.2.0 calls.2.1 in
+    elim (calls_total p cap cs a calls.0 calls.1) [
+      | inl few ↦ elim step [ inl one ↦ inl (omega arith) | inr full ↦ inr full ]
+      | inr full ↦ inr (full_stays (total calls.0.answers) (total b.answers) step full)
+    ]
+
+-- and full stays full
+pub calls_full : (p : Plan) (cap : ℕ) (cs : List Call) (a b : Runner) → Calls p cap cs a b → 2 ^ 64 ≤ total a.answers + 1 → 2 ^ 64 ≤ total b.answers + 1
+calls_full p cap cs a b calls full = elim (calls_total p cap cs a b calls) [ inl few ↦ omega arith | inr there ↦ there ]
+
+-- ---- places of one counter alone
+
+pub only_later : (l : ℕ) (c : Call) (cs : List Call) → ((k n : ℕ) → Contains (c ∷ cs) (Took k n) → k ≡ l) → (k n : ℕ) → Contains cs (Took k n) → k ≡ l
+only_later l c cs only k n found = only k n (contains_later c cs (Took k n) found)
+
+pub calls_times : (p : Plan) (cap c l : ℕ) → c ≢ l → (cs : List Call) (a b : Runner) → ((k n : ℕ) → Contains cs (Took k n) → k ≡ l) → Calls p cap cs a b → times c (hand_view b).places ≡ times c (hand_view a).places
+calls_times p cap c l other [] a b only calls = ap (λ r. times c (hand_view r).places) calls
+calls_times p cap c l other (Took k n ∷ cs) a b only calls =
+    let same : k ≡ l = only k n (contains_first (Took k n) cs) in
+    ap (λ (v : View). times c v.places) calls.2.view_is
+    ∙ sum_by-append (λ (x : Place). cond (eqb x.counter c) 1 0) (hand_view calls.0).places (place k n ∷ [])
+    ∙ ap (λ t. times c (hand_view calls.0).places + (0 + cond t 1 0)) (ne_eqb k c (λ e. other (sym e ∙ same)))
+    ∙ none_more (times c (hand_view calls.0).places)
+    ∙ calls_times p cap c l other cs a calls.0 (only_later l (Took k n) cs only) calls.1
+  where
+    none_more : (m : ℕ) → m + (0 + cond false 1 0) ≡ m
+    none_more m = omega arith
+calls_times p cap c l other (Tried q ∷ cs) a b only calls =
+    let does = calls.2.1.does in
+    ap (times c) does.goes.adds.places ∙ calls_times p cap c l other cs a calls.0 (only_later l (Tried q) cs only) calls.1
+
+pub calls_named : (p : Plan) (cap l : ℕ) (cs : List Call) (a b : Runner) → ((k n : ℕ) → Contains cs (Took k n) → k ≡ l) → Calls p cap cs a b
+    → named p (hand_view b).places ≡ named p (hand_view a).places + count_by (names (length (ops_of p l))) cs
+calls_named p cap l [] a b only calls = ap (λ r. named p (hand_view r).places) calls ∙ sum_none (named p (hand_view a).places)
+  where
+    sum_none : (m : ℕ) → m ≡ m + 0
+    sum_none m = omega arith
+calls_named p cap l (Took k n ∷ cs) a b only calls =
+    let same : k ≡ l = only k n (contains_first (Took k n) cs) in
+    let before : named p (hand_view calls.0).places ≡ named p (hand_view a).places + count_by (names (length (ops_of p l))) cs = calls_named p cap l cs a calls.0 (only_later l (Took k n) cs only) calls.1 in
+    let now : named p (hand_view b).places ≡ named p (hand_view calls.0).places + (0 + cond (nat_lt n (length (ops_of p l))) 1 0) =
+    ap (λ (v : View). named p v.places) calls.2.view_is
+    ∙ sum_by-append (λ (x : Place). cond (nat_lt x.number (length (ops_of p x.counter))) 1 0) (hand_view calls.0).places (place k n ∷ [])
+    ∙ ap (λ j. named p (hand_view calls.0).places + (0 + cond (nat_lt n (length (ops_of p j))) 1 0)) same in
+    let more : count_by (names (length (ops_of p l))) (Took k n ∷ cs) ≡ (0 + cond (nat_lt n (length (ops_of p l))) 1 0) + count_by (names (length (ops_of p l))) cs = count_first (names (length (ops_of p l))) (Took k n) cs in
+    omega arith
+calls_named p cap l (Tried q ∷ cs) a b only calls =
+    let does = calls.2.1.does in
+    let before : named p (hand_view calls.0).places ≡ named p (hand_view a).places + count_by (names (length (ops_of p l))) cs = calls_named p cap l cs a calls.0 (only_later l (Tried q) cs only) calls.1 in
+    let now : named p (hand_view b).places ≡ named p (hand_view calls.0).places = ap (named p) does.goes.adds.places in
+    let more : count_by (names (length (ops_of p l))) (Tried q ∷ cs) ≡ 0 + count_by (names (length (ops_of p l))) cs = count_first (names (length (ops_of p l))) (Tried q) cs in
+    omega arith
+
+-- ---- a pass
+
+module _ (p : Plan) (cap l : ℕ) where
+  pub strata_more : (a b : Runner) → IsStrata p l a → Worked p cap l (ops_of p l) a b → IsStrata p (l + 1) b
+  strata_more a b strata worked = record {
+    exploring = calls_running p cap worked.calls a b strata.exploring worked.made;
+    walked = λ k n found lt.
+        elim (calls_places p cap worked.calls a b worked.made k n found) [
+          | inl before ↦ calls_keep p cap (op_of p k n) worked.calls a b worked.made (strata.walked k n before lt)
+          | inr now ↦
+              let same : k ≡ l = worked.only k n now in
+              calls_reach p cap (op_of p k n) worked.calls a b worked.made
+              (subst (λ j. Contains worked.calls (Tried (op_of p j n))) (sym same) (worked.tried n (subst (λ j. Contains worked.calls (Took j n)) same now) (subst (λ j. n < length (ops_of p j)) same lt)))
+        ];
+    unused = λ c above. calls_times p cap c l (λ same. past c above same) worked.calls a b worked.only worked.made ∙ strata.unused c (omega arith);
+    counted =
+        let e : named p (hand_view b).places ≡ named p (hand_view a).places + count_by (names (length (ops_of p l))) worked.calls = calls_named p cap l worked.calls a b worked.only worked.made in
+        let few = worked.counted in
+        elim strata.counted [
+          | inr full ↦ inr (calls_full p cap worked.calls a b worked.made full)
+          | inl old ↦ elim (calls_total p cap worked.calls a b worked.made) [ inr full ↦ inr full | inl more ↦ inl (omega arith) ]
+        ];
+  }
+    where
+      past : (c : ℕ) → l + 1 ≤ c → c ≡ l → ⊥
+      past c above same = absurd (omega arith)
+
+  enough_stays : (c : ℕ) (ops : List ℕ) (cs : List Call) (a b : Runner) → Calls p cap cs a b → IsEnough c ops a → IsEnough c ops b
+  enough_stays c ops cs a b calls enough = elim enough [ inl none ↦ inl none | inr is ↦ inr (is.0, calls_hold p cap cs a b calls (place c is.0) is.1, is.2) ]
+
+  pub all_strata_more : (rs qs : List Runner) → AreStrata p l rs → IsPassed p cap l (ops_of p l) rs qs → AreStrata p (l + 1) qs
+  all_strata_more rs qs strata passed = record {
+    each = λ k d lt. let less : k < length rs = subst (λ n. k < n) passed.len lt in strata_more (slice_index_or rs k d) (slice_index_or qs k d) (strata.each k d less) (passed.each k d less);
+    enough = λ c lt.
+        elim (cases_eq c l) [
+          | inl same ↦
+              (passed.enough.0, subst (λ n. passed.enough.0 < n) (sym passed.len) passed.enough.1, λ d. subst (λ j. IsEnough j (ops_of p j) (slice_index_or qs passed.enough.0 d)) (sym same) (passed.enough.2 d))
+          | inr other ↦
+              let before = strata.enough c (below c lt other) in
+              (before.0, subst (λ n. before.0 < n) (sym passed.len) before.1, λ d. let worked = passed.each before.0 d before.1 in enough_stays c (ops_of p c) worked.calls (slice_index_or rs before.0 d) (slice_index_or qs before.0 d) worked.made (before.2 d))
+        ];
+  }
+    where
+      below : (c : ℕ) → c < l + 1 → c ≢ l → c < l
+      below c lt other = omega arith
+
+-- ---- the union: where the counter is known whole, each place was taken, and each operation of the level was reached
+pub union : (p : Plan) (level : ℕ) (rs : List Runner) → AreStrata p level rs → (d : Runner) → (l : ℕ) → l < level → IsWhole l rs → (n : ℕ) → n < length (ops_of p l)
+    → (k : ℕ) × (k < length rs) × Contains (hand_view (slice_index_or rs k d)).places (place l n) × IsReached p (op_of p l n) (hand_view (slice_index_or rs k d)).trail
+union p level rs strata d l lt whole n less =
+    let one = strata.enough l lt in
+    elim (one.2 d) [
+      | inl none ↦ absurd (omega arith)
+      | inr last ↦
+          let high : last.0 < whole.end = whole.below one.0 d one.1 last.0 last.1 in
+          let past : length (ops_of p l) ≤ last.0 + 1 = last.2 in
+          let by = whole.taken n (omega arith) in
+          (by.0, by.1, by.2 d, (strata.each by.0 d by.1).walked l n (by.2 d) less)
+    ]
+
+-- the operations of a level, as the plan's list gives them
+pub level_is : (p : Plan) (l : ℕ) → l < length p.op_levels.items → (level : Contents ℕ) → ((d : Contents ℕ) → level ≡ slice_index_or p.op_levels.items l d) → (ops : List ℕ) → ops ≡ level.items → ops ≡ ops_of p l
+level_is p l lt level at ops same = same ∙ ap (λ (x : Contents ℕ). x.items) (at level) ∙ sym (get_or-map (λ (x : Contents ℕ). x.items) p.op_levels.items l level [] lt)
+
+-- ---- the first runner alone
+
+abbrev pub first_of : List Runner → Runner → Runner
+first_of rs d = slice_index_or rs 0 d
+
+worked_none : (p : Plan) (cap c : ℕ) (ops : List ℕ) (a : Runner) → Worked p cap c ops a a
+worked_none p cap c ops a = record {
+  calls = [];
+  made = refl;
+  only = λ k n found. absurd (omega (arith, found.1));
+  tried = λ n found. absurd (omega (arith, found.1));
+  counted = omega arith;
+}
+
+pub first_passed : (p : Plan) (cap c : ℕ) (ops : List ℕ) (rs : List Runner) (a b : Runner) → 0 < length rs → Worked p cap c ops (first_of rs a) b → IsEnough c ops b → IsPassed p cap c ops rs (set rs 0 b)
+first_passed p cap c ops [] a b some worked enough = absurd (omega arith)
+first_passed p cap c ops (r ∷ rs) a b some worked enough = record {
+  len = refl;
+  each = each;
+  enough = (0, some, λ d. enough);
+}
+  where
+    each : (k : ℕ) (d : Runner) → k < length (r ∷ rs) → Worked p cap c ops (get_or (r ∷ rs) k d) (get_or (b ∷ rs) k d)
+    each zero d lt = worked
+    each (suc k) d lt = worked_none p cap c ops (get_or rs k d)
+
+pub first_set : (P : Runner → Type 0) (rs : List Runner) (b : Runner) → All P rs → P b → All P (set rs 0 b)
+first_set P [] b all holds k d lt = absurd (omega arith)
+first_set P (r ∷ rs) b all holds zero d lt = holds
+first_set P (r ∷ rs) b all holds (suc k) d lt = all (suc k) d lt
+
+-- its tag stays
+pub passed_tag : (p : Plan) (cap c : ℕ) (ops : List ℕ) (rs qs : List Runner) → 0 < length rs → IsPassed p cap c ops rs qs → (d : Runner) → (hand_view (first_of qs d)).tag ≡ (hand_view (first_of rs d)).tag
+passed_tag p cap c ops rs qs some passed d = let worked = passed.each 0 d some in calls_tag p cap worked.calls (first_of rs d) (first_of qs d) worked.made

@@ -1,0 +1,7 @@
+pub mod Turning
+pub mod Running
+pub mod Climbing
+pub mod Alone
+pub mod Lone
+pub mod Leveling
+pub mod Ends

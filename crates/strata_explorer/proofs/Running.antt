@@ -1,0 +1,174 @@
+-- What calls in turn keep of a runner.
+use Rattle.std.proofs.Common.{◌≡◌, ◌⊎◌, ℕ, ◌+◌, ◌≤◌, cond, List, [], ◌∷◌, ◌++◌, sym, ap, ◌∙◌, subst, inl, inr, arith}
+use Rattle.std.specs.Prelude.{Contains, count_by}
+use Rattle.std.proofs.lemmas.List.Elements.{Contains-append_left, Contains-append_cases}
+use Rattle.std.proofs.lemmas.List.Sums.{sum_by-append}
+use Rattle.morph_base.specs.declared.plan.Plan.{Plan}
+use Rattle.morph_base.specs.Plans.{event_count}
+use Rattle.op_words.specs.declared.trail.Item.{Item}
+use Rattle.op_words.specs.declared.trail.Place.{Place}
+use Rattle.op_words.specs.declared.trail.View.{View}
+use Rattle.op_eval.specs.declared.answers.Evaluation.{Evaluation}
+use Rattle.op_eval.specs.declared.answers.Evaluation.TheVariants.{Evaluated, Blocked, Busy, Already}
+use Rattle.interleaving_core.specs.Counts.{evaluated}
+use Rattle.op_words.specs.Trails.{loaded, IsReached}
+use Rattle.op_eval.specs.Evaluations.{EvaluationDoes, Tries}
+use Rattle.op_eval.specs.declared.answers.Answers.{Answers}
+use Rattle.op_eval.specs.declared.runner.Runner.{Runner}
+use Rattle.op_words.specs.Counting.{place}
+use Rattle.op_eval.specs.Running.{hand_view, one_more}
+use Rattle.strata_explorer.specs.Calls.{Call, Took, Tried, TakesNumber, Calls}
+use Rattle.op_eval.specs.Exploring.{stopped, is_load, loads, IsExploring}
+use Rattle.op_eval.proofs.Following.{evaluated_more}
+use Rattle.op_words.proofs.Trailing.{reached_more, reached_later}
+use Rattle.strata_explorer.proofs.Turning.{contains_first, contains_later, contains_cases, count_first}
+
+-- ---- what is reached stays so
+
+pub calls_keep : (p : Plan) (cap o : ℕ) (cs : List Call) (a b : Runner) → Calls p cap cs a b → IsReached p o (hand_view a).trail → IsReached p o (hand_view b).trail
+calls_keep p cap o [] a b calls is = subst (λ r. IsReached p o (hand_view r).trail) (sym calls) is
+calls_keep p cap o (Took c n ∷ cs) a b calls is =
+    subst (λ (v : View). IsReached p o v.trail) (sym calls.2.view_is) (calls_keep p cap o cs a calls.0 calls.1 is)
+calls_keep p cap o (Tried q ∷ cs) a b calls is =
+    let does = calls.2.1.does in
+    subst (IsReached p o) (sym does.goes.adds.trail) (reached_more does.words (calls_keep p cap o cs a calls.0 calls.1 is))
+
+pub calls_reach : (p : Plan) (cap o : ℕ) (cs : List Call) (a b : Runner) → Calls p cap cs a b → Contains cs (Tried o) → IsReached p o (hand_view b).trail
+calls_reach p cap o [] a b calls found = absurd (omega (arith, found.1))
+calls_reach p cap o (Took c n ∷ cs) a b calls found =
+    elim (contains_cases (Took c n) cs (Tried o) found) [
+      | inl same ↦ absurd (apart same)
+      | inr later ↦ subst (λ (v : View). IsReached p o v.trail) (sym calls.2.view_is) (calls_reach p cap o cs a calls.0 calls.1 later)
+    ]
+  where
+    apart : Tried o ≡ Took c n → ⊥
+    apart e = cc
+calls_reach p cap o (Tried q ∷ cs) a b calls found =
+    let does = calls.2.1.does in
+    subst (IsReached p o) (sym does.goes.adds.trail)
+    (elim (contains_cases (Tried q) cs (Tried o) found) [
+      | inl same ↦ reached_later (hand_view calls.0).trail (subst (λ k. IsReached p k does.words) (sym (op_is same)) does.reached)
+      | inr later ↦ reached_more does.words (calls_reach p cap o cs a calls.0 calls.1 later)
+    ])
+  where
+    op_is : Tried o ≡ Tried q → o ≡ q
+    op_is e = cc
+
+-- ---- places
+
+pub calls_places : (p : Plan) (cap : ℕ) (cs : List Call) (a b : Runner) → Calls p cap cs a b → (c n : ℕ) → Contains (hand_view b).places (place c n) → Contains (hand_view a).places (place c n) ⊎ Contains cs (Took c n)
+calls_places p cap [] a b calls c n found = inl (subst (λ r. Contains (hand_view r).places (place c n)) calls found)
+calls_places p cap (Took k m ∷ cs) a b calls c n found =
+    elim (Contains-append_cases (hand_view calls.0).places (place k m ∷ []) (place c n) (subst (λ (v : View). Contains v.places (place c n)) calls.2.view_is found)) [
+      | inl old ↦ elim (calls_places p cap cs a calls.0 calls.1 c n old) [ inl before ↦ inl before | inr later ↦ inr (contains_later (Took k m) cs (Took c n) later) ]
+      | inr new ↦
+          elim (contains_cases (place k m) [] (place c n) new) [
+            | inr none ↦ absurd (omega (arith, none.1))
+            | inl same ↦ inr (subst (λ x. Contains (Took k m ∷ cs) x) (took_is (ap (λ (x : Place). x.counter) same) (ap (λ (x : Place). x.number) same)) (contains_first (Took k m) cs))
+          ]
+    ]
+  where
+    took_is : c ≡ k → n ≡ m → Took k m ≡ Took c n
+    took_is e f = ap (λ x. Took x m) (sym e) ∙ ap (Took c) (sym f)
+calls_places p cap (Tried q ∷ cs) a b calls c n found =
+    let does = calls.2.1.does in
+    elim (calls_places p cap cs a calls.0 calls.1 c n (subst (λ xs. Contains xs (place c n)) does.goes.adds.places found)) [ inl before ↦ inl before | inr later ↦ inr (contains_later (Tried q) cs (Took c n) later) ]
+
+pub calls_hold : (p : Plan) (cap : ℕ) (cs : List Call) (a b : Runner) → Calls p cap cs a b → (x : Place) → Contains (hand_view a).places x → Contains (hand_view b).places x
+calls_hold p cap [] a b calls x found = subst (λ r. Contains (hand_view r).places x) (sym calls) found
+calls_hold p cap (Took k m ∷ cs) a b calls x found =
+    subst (λ (v : View). Contains v.places x) (sym calls.2.view_is) (Contains-append_left (hand_view calls.0).places (place k m ∷ []) x (calls_hold p cap cs a calls.0 calls.1 x found))
+calls_hold p cap (Tried q ∷ cs) a b calls x found =
+    let does = calls.2.1.does in
+    subst (λ xs. Contains xs x) (sym does.goes.adds.places) (calls_hold p cap cs a calls.0 calls.1 x found)
+
+-- ---- answers
+
+up_most : (n : ℕ) → one_more n ≤ n + 1
+up_most n = omega arith
+
+loads_more : (xs ys : List Item) → count_by is_load xs ≤ count_by is_load (xs ++ ys)
+loads_more xs ys = let e : count_by is_load (xs ++ ys) ≡ count_by is_load xs + count_by is_load ys = sum_by-append (λ x. cond (is_load x) 1 0) xs ys in omega arith
+
+loads_begun : (xs : List Item) (o : ℕ) (does_first : _) (rest : List Item) → count_by is_load xs + 1 ≤ count_by is_load (xs ++ loaded o does_first ∷ rest)
+loads_begun xs o w rest =
+    let e : count_by is_load (xs ++ loaded o w ∷ rest) ≡ count_by is_load xs + count_by is_load (loaded o w ∷ rest) = sum_by-append (λ x. cond (is_load x) 1 0) xs (loaded o w ∷ rest) in
+    let f : count_by is_load (loaded o w ∷ rest) ≡ 1 + count_by is_load rest = count_first is_load (loaded o w) rest in
+    omega arith
+
+module _ (p : Plan) (cap o : ℕ) (a b : Runner) (running : IsExploring p a) where
+  tried_loads : {r : Evaluation} → (does : EvaluationDoes p cap o (hand_view a) (hand_view b) r) → loads (hand_view a) + 1 ≤ loads (hand_view b)
+  tried_loads does =
+      subst (λ zs. loads (hand_view a) + 1 ≤ count_by is_load zs) (sym (does.goes.adds.trail ∙ ap (λ zs. (hand_view a).trail ++ zs) does.begins)) (loads_begun (hand_view a).trail o does.first does.rest)
+
+  answers_kept : (r : Evaluation) → (t : Tries p cap o a b r) → (b.answers.evaluated ≤ evaluated (hand_view b).events) × (stopped b.answers ≤ loads (hand_view b))
+  answers_kept (Evaluated x y) t =
+      let does = t.does in
+      let more = does.tells.finished_more in
+      let e : b.answers.evaluated ≡ one_more a.answers.evaluated = ap (λ (n : Answers). n.evaluated) t.counts in
+      let s : stopped b.answers ≡ stopped a.answers = ap stopped t.counts in
+      let old = running.finishes in
+      let few = running.stops in
+      let high = tried_loads does in
+      let most = up_most a.answers.evaluated in
+      (omega arith, omega arith)
+  answers_kept (Blocked x y) t =
+      let does = t.does in
+      let more = evaluated_more (hand_view a) (hand_view b) does.goes.adds.events in
+      let e : b.answers.evaluated ≡ a.answers.evaluated = ap (λ (n : Answers). n.evaluated) t.counts in
+      let s : stopped b.answers ≡ one_more a.answers.blocked + a.answers.busy + a.answers.already = ap stopped t.counts in
+      let old = running.finishes in
+      let few = running.stops in
+      let high = tried_loads does in
+      let most = up_most a.answers.blocked in
+      (omega arith, omega arith)
+  answers_kept (Busy x) t =
+      let does = t.does in
+      let more = evaluated_more (hand_view a) (hand_view b) does.goes.adds.events in
+      let e : b.answers.evaluated ≡ a.answers.evaluated = ap (λ (n : Answers). n.evaluated) t.counts in
+      let s : stopped b.answers ≡ a.answers.blocked + one_more a.answers.busy + a.answers.already = ap stopped t.counts in
+      let old = running.finishes in
+      let few = running.stops in
+      let high = tried_loads does in
+      let most = up_most a.answers.busy in
+      (omega arith, omega arith)
+  answers_kept (Already x) t =
+      let does = t.does in
+      let more = evaluated_more (hand_view a) (hand_view b) does.goes.adds.events in
+      let e : b.answers.evaluated ≡ a.answers.evaluated = ap (λ (n : Answers). n.evaluated) t.counts in
+      let s : stopped b.answers ≡ a.answers.blocked + a.answers.busy + one_more a.answers.already = ap stopped t.counts in
+      let old = running.finishes in
+      let few = running.stops in
+      let high = tried_loads does in
+      let most = up_most a.answers.already in
+      (omega arith, omega arith)
+
+  pub tries_running : (r : Evaluation) → Tries p cap o a b r → IsExploring p b
+  tries_running r t =
+      let does = t.does in
+      record {
+        finishes = (answers_kept r t).0;
+        stops = (answers_kept r t).1;
+        kept = ap (λ l. l.items) t.kept ∙ running.kept;
+        room = subst (λ l. event_count p ≤ l.room) (sym t.kept) running.room;
+      }
+
+pub takes_running : (p : Plan) (c n : ℕ) (a b : Runner) → IsExploring p a → TakesNumber c a b n → IsExploring p b
+takes_running p c n a b running t = record {
+  finishes = subst (λ (v : View). b.answers.evaluated ≤ evaluated v.events) (sym t.view_is) (subst (λ (k : Answers). k.evaluated ≤ evaluated (hand_view a).events) (sym t.answers) running.finishes);
+  stops = subst (λ (v : View). stopped b.answers ≤ loads v) (sym t.view_is) (subst (λ (k : Answers). stopped k ≤ loads (hand_view a)) (sym t.answers) running.stops);
+  kept = ap (λ l. l.items) t.kept ∙ running.kept;
+  room = subst (λ l. event_count p ≤ l.room) (sym t.kept) running.room;
+}
+
+pub calls_running : (p : Plan) (cap : ℕ) (cs : List Call) (a b : Runner) → IsExploring p a → Calls p cap cs a b → IsExploring p b
+calls_running p cap [] a b running calls = subst (IsExploring p) (sym calls) running
+calls_running p cap (Took c n ∷ cs) a b running calls = takes_running p c n calls.0 b (calls_running p cap cs a calls.0 running calls.1) calls.2
+calls_running p cap (Tried o ∷ cs) a b running calls = tries_running p cap o calls.0 b (calls_running p cap cs a calls.0 running calls.1) calls.2.0 calls.2.1
+
+-- ---- the hand stays the same one
+
+pub calls_tag : (p : Plan) (cap : ℕ) (cs : List Call) (a b : Runner) → Calls p cap cs a b → (hand_view b).tag ≡ (hand_view a).tag
+calls_tag p cap [] a b calls = ap (λ r. (hand_view r).tag) calls
+calls_tag p cap (Took c n ∷ cs) a b calls = ap (λ (v : View). v.tag) calls.2.view_is ∙ calls_tag p cap cs a calls.0 calls.1
+calls_tag p cap (Tried o ∷ cs) a b calls = let does = calls.2.1.does in does.goes.adds.tag ∙ calls_tag p cap cs a calls.0 calls.1

@@ -1,0 +1,239 @@
+-- Calls in turn.
+use Rattle.std.proofs.Common.{◌≡◌, ◌⊎◌, ℕ, zero, suc, ◌+◌, ◌<◌, ◌≤◌, Bool, true, false, cond, List, [], ◌∷◌, ◌++◌, length, get_or, refl, sym, ap, ◌∙◌, subst, inl, inr, arith, zero-lt-suc, suc-le-suc}
+use Rattle.std.specs.Prelude.{Contains, All, count_by, slice_index_or, nat_lt}
+use Rattle.std.proofs.lemmas.Bool.{false≢true}
+use Rattle.std.proofs.lemmas.List.Elements.{Contains-append_left, Contains-append_right, Contains-append_cases}
+use Rattle.std.proofs.lemmas.List.Sums.{sum_by-append}
+use Rattle.chain_units.specs.Places.{IsPartition}
+use Rattle.std.specs.Prelude.{slice_get, Some}
+use Rattle.std.proofs.lemmas.Option.{slice_get-get_or}
+use Rattle.std.proofs.lemmas.Bool.{eq-eqb}
+use Rattle.std.proofs.Common.{eqb}
+use Rattle.morph_base.specs.declared.plan.Plan.{Plan}
+use Rattle.op_words.specs.declared.trail.Place.{Place}
+use Rattle.op_words.specs.declared.trail.View.{View}
+use Rattle.op_eval.specs.declared.answers.Evaluation.{Evaluation}
+use Rattle.op_eval.specs.Evaluations.{Tries}
+use Rattle.op_eval.specs.declared.runner.Runner.{Runner}
+use Rattle.op_words.specs.Counting.{times, place}
+use Rattle.op_eval.specs.Exploring.{Unused}
+use Rattle.op_eval.specs.Running.{hand_view}
+use Rattle.strata_explorer.specs.Calls.{Call, Took, Tried, TakesNumber, Calls, IsFree}
+use Rattle.strata_explorer.specs.Passes.{is_tried, names, Walked, Worked, IsWorking, IsEnough}
+
+pub contains_first : {X : Type 0} (x : X) (xs : List X) → Contains (x ∷ xs) x
+contains_first x xs = (0, zero-lt-suc (length xs), refl)
+
+pub contains_later : {X : Type 0} (y : X) (xs : List X) (x : X) → Contains xs x → Contains (y ∷ xs) x
+contains_later y xs x found = (suc found.0, suc-le-suc found.1, found.2)
+
+-- an element of a list is the first one or one of the others
+pub contains_cases : {X : Type 0} (y : X) (xs : List X) (x : X) → Contains (y ∷ xs) x → (x ≡ y) ⊎ Contains xs x
+contains_cases y xs x inside = at inside.0 inside.1 inside.2
+  where
+    at : (n : ℕ) → n < length (y ∷ xs) → get_or (y ∷ xs) n x ≡ x → (x ≡ y) ⊎ Contains xs x
+    at zero lt is = inl (sym is)
+    at (suc n) lt is = inr (n, lt-from n lt, is)
+      where
+        lt-from : (j : ℕ) → suc j < suc (length xs) → j < length xs
+        lt-from j less = omega arith
+
+pub calls_append : (p : Plan) (cap : ℕ) (ds cs : List Call) (a m b : Runner) → Calls p cap cs a m → Calls p cap ds m b → Calls p cap (ds ++ cs) a b
+calls_append p cap [] cs a m b first second = subst (Calls p cap cs a) (sym second) first
+calls_append p cap (d ∷ ds) cs a m b first second = (second.0, calls_append p cap ds cs a m second.0 first second.1, second.2)
+
+pub taking_free : (c n : ℕ) {a b : Runner} → TakesNumber c a b n → IsFree a → IsFree b
+taking_free c n taken free = ap (λ (v : View). v.claim) taken.view_is ∙ free
+
+-- an operation of a unit is one of the plan's
+pub unit_inside : (units : List (List ℕ)) (many : ℕ) → IsPartition units many → (u : ℕ) (ops : List ℕ) → ops ≡ slice_index_or units u [] → (i : ℕ) → i < length ops → get_or ops i 0 < many
+unit_inside units many partition u ops same i lt =
+    partition.inside u i (get_or ops i 0) (subst (λ zs. slice_get zs i ≡ Some (get_or ops i 0)) same (slice_get-get_or ops i 0 lt))
+
+pub walked_first : (p : Plan) (cap o : ℕ) {a b : Runner} {r : Evaluation} → Tries p cap o a b r → Walked p cap o a b
+walked_first p cap o {a} {b} {r} tries = record {
+  calls = Tried o ∷ [];
+  made = (a, refl, (r, tries));
+  tried = contains_first (Tried o) [];
+  only = λ k d lt. one k d lt;
+}
+  where
+    one : (k : ℕ) (d : Call) → k < 1 → is_tried (get_or (Tried o ∷ []) k d) ≡ true
+    one zero d lt = refl
+    one (suc k) d lt = absurd (omega arith)
+
+pub walked_more : (p : Plan) (cap o q : ℕ) {a m b : Runner} {r : Evaluation} → Walked p cap o a m → Tries p cap q m b r → Walked p cap o a b
+walked_more p cap o q {a} {m} {b} {r} walked tries = record {
+  calls = Tried q ∷ walked.calls;
+  made = (m, walked.made, (r, tries));
+  tried = contains_later (Tried q) walked.calls (Tried o) walked.tried;
+  only = λ k d lt. one k d lt;
+}
+  where
+    one : (k : ℕ) (d : Call) → k < length (Tried q ∷ walked.calls) → is_tried (get_or (Tried q ∷ walked.calls) k d) ≡ true
+    one zero d lt = refl
+    one (suc k) d lt = walked.only k d (less k lt)
+      where
+        less : (k : ℕ) → suc k < suc (length walked.calls) → k < length walked.calls
+        less k lt = omega arith
+
+-- ---- only evaluations
+
+pub count_first : {X : Type 0} (t : X → Bool) (x : X) (xs : List X) → count_by t (x ∷ xs) ≡ (0 + cond (t x) 1 0) + count_by t xs
+count_first t x xs = sum_by-append (λ y. cond (t y) 1 0) (x ∷ []) xs
+
+-- where all are evaluations, none takes a place
+no_take : (cs : List Call) → All (λ c. is_tried c ≡ true) cs → (c n : ℕ) → Contains cs (Took c n) → ⊥
+no_take cs all c n found = false≢true (ap is_tried (sym found.2) ∙ all found.0 (Took c n) found.1)
+
+all_later : (x : Call) (xs : List Call) → All (λ c. is_tried c ≡ true) (x ∷ xs) → All (λ c. is_tried c ≡ true) xs
+all_later x xs all k d lt = all (suc k) d (suc-le-suc lt)
+
+pub tried_places : (p : Plan) (cap : ℕ) (cs : List Call) (a b : Runner) → Calls p cap cs a b → All (λ c. is_tried c ≡ true) cs → (hand_view b).places ≡ (hand_view a).places
+tried_places p cap [] a b calls all = ap (λ r. (hand_view r).places) calls
+tried_places p cap (Took c n ∷ cs) a b calls all = absurd (no_take (Took c n ∷ cs) all c n (contains_first (Took c n) cs))
+tried_places p cap (Tried o ∷ cs) a b calls all =
+    let does = calls.2.1.does in
+    does.goes.adds.places ∙ tried_places p cap cs a calls.0 calls.1 (all_later (Tried o) cs all)
+
+tried_names : (len : ℕ) (cs : List Call) → All (λ c. is_tried c ≡ true) cs → count_by (names len) cs ≡ 0
+tried_names len [] all = refl
+tried_names len (Took c n ∷ cs) all = absurd (no_take (Took c n ∷ cs) all c n (contains_first (Took c n) cs))
+tried_names len (Tried o ∷ cs) all = tried_names len cs (all_later (Tried o) cs all)
+
+-- one of them is counted
+one_tried : (cs : List Call) (o : ℕ) → Contains cs (Tried o) → 1 ≤ count_by is_tried cs
+one_tried [] o found = absurd (omega (arith, found.1))
+one_tried (Tried q ∷ cs) o found = let e : count_by is_tried (Tried q ∷ cs) ≡ 1 + count_by is_tried cs = count_first is_tried (Tried q) cs in omega arith
+one_tried (Took c n ∷ cs) o found =
+    elim (contains_cases (Took c n) cs (Tried o) found) [
+      | inl same ↦ absurd (apart same)
+      | inr later ↦ (let e : count_by is_tried (Took c n ∷ cs) ≡ 0 + count_by is_tried cs = count_first is_tried (Took c n) cs in let rest = one_tried cs o later in omega arith)
+    ]
+  where
+    apart : Tried o ≡ Took c n → ⊥
+    apart e = cc
+
+pub times_one : (c n : ℕ) → times c (place c n ∷ []) ≡ 1
+times_one c n = ap (λ t. 0 + cond t 1 0) (eq-eqb c c refl)
+
+-- ---- turns
+
+module _ (p : Plan) (cap c : ℕ) (ops : List ℕ) (a : Runner) where
+  pub working_none : Unused c a → IsWorking p cap c ops 0 a a
+  working_none unused = record {
+    worked = record {
+      calls = [];
+      made = refl;
+      only = λ k n found. absurd (omega (arith, found.1));
+      tried = λ n found. absurd (omega (arith, found.1));
+      counted = omega arith;
+    };
+    turns = unused;
+    last = inl refl;
+  }
+
+  module _ (turn n : ℕ) (m b : Runner) (working : IsWorking p cap c ops turn a m) (takes : TakesNumber c m b n) where
+    pub above : turn ≤ n
+    above =
+        elim working.last [
+          | inl none ↦ omega arith
+          | inr last ↦ let rises = takes.takes.rises (place c last.0) last.1 refl in let high = last.2 in omega arith
+        ]
+
+    pub turned : times c (hand_view b).places ≡ turn + 1
+    turned =
+        ap (λ (v : View). times c v.places) takes.view_is
+        ∙ sum_by-append (λ (x : Place). cond (eqb x.counter c) 1 0) (hand_view m).places (place c n ∷ [])
+        ∙ ap (λ k. k + times c (place c n ∷ [])) working.turns
+        ∙ ap (λ k. turn + k) (times_one c n)
+
+    pub got : Contains (hand_view b).places (place c n)
+    got = subst (λ (v : View). Contains v.places (place c n)) (sym takes.view_is) (Contains-append_right (hand_view m).places (place c n ∷ []) (place c n) (contains_first (place c n) []))
+
+    number_of : (k q : ℕ) → Took k q ≡ Took c n → (k ≡ c) × (q ≡ n)
+    number_of k q e = (cc, cc)
+
+    -- the place names no operation
+    pub ended : length ops ≤ n → Worked p cap c ops a b × IsEnough c ops b
+    ended past = (
+      record {
+        calls = Took c n ∷ working.worked.calls;
+        made = (m, working.worked.made, takes);
+        only = λ k q found.
+            elim (contains_cases (Took c n) working.worked.calls (Took k q) found) [
+              | inl same ↦ (number_of k q same).0
+              | inr later ↦ working.worked.only k q later
+            ];
+        tried = λ q found lt.
+            elim (contains_cases (Took c n) working.worked.calls (Took c q) found) [
+              | inl same ↦ let e = (number_of c q same).1 in absurd (omega arith)
+              | inr later ↦ contains_later (Took c n) working.worked.calls (Tried (slice_index_or ops q 0)) (working.worked.tried q later lt)
+            ];
+        counted =
+            let e : nat_lt n (length ops) ≡ false = not_lt n (length ops) past in
+            let kept = working.worked.counted in
+            let same : count_by (names (length ops)) (Took c n ∷ working.worked.calls) ≡ (0 + cond false 1 0) + count_by (names (length ops)) working.worked.calls = count_first (names (length ops)) (Took c n) working.worked.calls ∙ ap (λ t. (0 + cond t 1 0) + count_by (names (length ops)) working.worked.calls) e in
+            let zero_tried : count_by is_tried (Took c n ∷ working.worked.calls) ≡ 0 + count_by is_tried working.worked.calls = count_first is_tried (Took c n) working.worked.calls in
+            omega arith;
+      },
+      inr (n, got, omega arith),
+    )
+      where
+        not_lt : (x y : ℕ) → y ≤ x → nat_lt x y ≡ false
+        not_lt x y le = grind arith
+
+    -- the unit of its operation was walked
+    pub went_on : (e : Runner) → n < length ops → Walked p cap (slice_index_or ops n 0) b e → IsWorking p cap c ops (turn + 1) a e
+    went_on e lt walked = record {
+      worked = record {
+        calls = walked.calls ++ (Took c n ∷ working.worked.calls);
+        made = calls_append p cap walked.calls (Took c n ∷ working.worked.calls) a b e (m, working.worked.made, takes) walked.made;
+        only = λ k q found.
+            elim (Contains-append_cases walked.calls (Took c n ∷ working.worked.calls) (Took k q) found) [
+              | inl none ↦ absurd (no_take walked.calls walked.only k q none)
+              | inr there ↦
+                  elim (contains_cases (Took c n) working.worked.calls (Took k q) there) [
+                    | inl same ↦ (number_of k q same).0
+                    | inr later ↦ working.worked.only k q later
+                  ]
+            ];
+        tried = λ q found less.
+            elim (Contains-append_cases walked.calls (Took c n ∷ working.worked.calls) (Took c q) found) [
+              | inl none ↦ absurd (no_take walked.calls walked.only c q none)
+              | inr there ↦
+                  elim (contains_cases (Took c n) working.worked.calls (Took c q) there) [
+                    | inl same ↦
+                        Contains-append_left walked.calls (Took c n ∷ working.worked.calls) (Tried (slice_index_or ops q 0))
+                        (subst (λ k. Contains walked.calls (Tried (slice_index_or ops k 0))) (sym (number_of c q same).1) walked.tried)
+                    | inr later ↦
+                        Contains-append_right walked.calls (Took c n ∷ working.worked.calls) (Tried (slice_index_or ops q 0))
+                        (contains_later (Took c n) working.worked.calls (Tried (slice_index_or ops q 0)) (working.worked.tried q later less))
+                  ]
+            ];
+        counted =
+            let some : 1 ≤ count_by is_tried walked.calls = one_tried walked.calls (slice_index_or ops n 0) walked.tried in
+            let none : count_by (names (length ops)) walked.calls ≡ 0 = tried_names (length ops) walked.calls walked.only in
+            let kept = working.worked.counted in
+            let first : count_by (names (length ops)) (walked.calls ++ (Took c n ∷ working.worked.calls)) ≡ count_by (names (length ops)) walked.calls + count_by (names (length ops)) (Took c n ∷ working.worked.calls) =
+            sum_by-append (λ x. cond (names (length ops) x) 1 0) walked.calls (Took c n ∷ working.worked.calls) in
+            let second : count_by is_tried (walked.calls ++ (Took c n ∷ working.worked.calls)) ≡ count_by is_tried walked.calls + count_by is_tried (Took c n ∷ working.worked.calls) =
+            sum_by-append (λ x. cond (is_tried x) 1 0) walked.calls (Took c n ∷ working.worked.calls) in
+            let one : count_by (names (length ops)) (Took c n ∷ working.worked.calls) ≤ 1 + count_by (names (length ops)) working.worked.calls = subst (λ k. k ≤ 1 + count_by (names (length ops)) working.worked.calls) (sym (count_first (names (length ops)) (Took c n) working.worked.calls)) (cond_most (nat_lt n (length ops)) (count_by (names (length ops)) working.worked.calls)) in
+            let zero_tried : count_by is_tried (Took c n ∷ working.worked.calls) ≡ 0 + count_by is_tried working.worked.calls = count_first is_tried (Took c n) working.worked.calls in
+            omega arith;
+      };
+      turns = ap (times c) (tried_places p cap walked.calls b e walked.made walked.only) ∙ turned;
+      last = inr (n, subst (λ xs. Contains xs (place c n)) (sym (tried_places p cap walked.calls b e walked.made walked.only)) got, suc-le-suc' above);
+    }
+      where
+        suc-le-suc' : turn ≤ n → turn + 1 ≤ n + 1
+        suc-le-suc' le = omega arith
+
+        cond_most : (t : Bool) (k : ℕ) → (0 + cond t 1 0) + k ≤ 1 + k
+        cond_most true k = omega arith
+        cond_most false k = omega arith
+
+  -- all turns were made
+  pub all_turns : (b : Runner) → IsWorking p cap c ops (length ops) a b → IsEnough c ops b
+  all_turns b working = working.last

@@ -1,0 +1,33 @@
+-- What the calls of an explorer make of a runner.
+use Rattle.std.specs.Prelude.{◌≡◌, ℕ, List, [], ◌∷◌, None}
+use Rattle.morph_base.specs.declared.plan.Plan.{Plan}
+use Rattle.op_words.specs.Counting.{taking, Takes}
+use Rattle.op_eval.specs.declared.answers.Evaluation.{Evaluation}
+use Rattle.op_eval.specs.declared.runner.Runner.{Runner}
+use Rattle.op_eval.specs.Evaluations.{Tries}
+use Rattle.op_eval.specs.Running.{hand_view}
+
+-- it took a number from a counter, or tried to evaluate an operation
+pub data Call : Type 0 where
+  Took : (counter number : ℕ) → Call
+  Tried : (op : ℕ) → Call
+
+-- it holds nothing
+abbrev pub IsFree : Runner → Type 0
+IsFree r = (hand_view r).claim ≡ None
+
+-- number n was taken from counter c, and nothing else changed
+pub record TakesNumber (c : ℕ) (a b : Runner) (n : ℕ) : Type 0 where
+  pub view_is : hand_view b ≡ taking c n (hand_view a)
+  pub takes : Takes c n (hand_view a)
+  pub answers : b.answers ≡ a.answers
+  pub kept : b.kept ≡ a.kept
+
+-- one call, and calls in turn, the last first
+abbrev pub Calling : Plan → (cap : ℕ) → Call → Runner → Runner → Type 0
+Calling p cap (Took c n) a b = TakesNumber c a b n
+Calling p cap (Tried o) a b = (r : Evaluation) × Tries p cap o a b r
+
+abbrev pub Calls : Plan → (cap : ℕ) → List Call → Runner → Runner → Type 0
+Calls p cap [] a b = b ≡ a
+Calls p cap (c ∷ cs) a b = (m : Runner) × Calls p cap cs a m × Calling p cap c m b

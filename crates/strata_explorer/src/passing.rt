@@ -1,0 +1,83 @@
+//! A pass over one level, by all workers or by the first alone.
+ghost use Rattle.std.specs.Prelude.{◌≡◌, ◌<◌, All, length};
+ghost use Rattle.op_words.specs.Hands.{plan_of, cap_of, counters_of};
+ghost use Rattle.op_eval.specs.Exploring.{Unused};
+ghost use Rattle.strata_explorer.specs.Passes.{Fits, IsSeated, IsPassed};
+
+use crate::turns::Told;
+use crate::walking::work;
+use chain_units::Units;
+use morph_base::Plan;
+use op_eval::Runner;
+use op_words::Board;
+use std::thread::Threads;
+use worker_gate::{Gate, Job, run_all};
+
+/// A level with fewer operations than these is left to the first worker alone: threads would cost more than they
+/// bring.
+pub const FEW: usize = 8;
+
+/// A pass over the operations of a level, whose places workers take from a counter.
+#[derive(Drop)]
+pub(crate) struct Pass<'a, G> {
+    pub(crate) board: &'a Board,
+    pub(crate) gate: &'a G,
+    pub(crate) plan: &'a Plan,
+    pub(crate) units: &'a Units,
+    pub(crate) ops: &'a [u32],
+    pub(crate) counter: u32,
+}
+
+impl<G: Gate> Job<Runner> for Pass<'_, G> {
+    ghost use Rattle.std.specs.Prelude.{◌≡◌, ◌<◌};
+    ghost use Rattle.op_words.specs.Hands.{plan_of, cap_of, counters_of};
+    ghost use Rattle.op_eval.specs.Exploring.{Unused};
+    ghost use Rattle.strata_explorer.specs.Passes.{Fits, IsSeated, Worked, IsEnough};
+
+    ghost can_run = { λ pass runner. (pass.plan.now ≡ plan_of pass.board.now)
+        × Fits pass.plan.now pass.units.now.units pass.units.now.ops pass.ops.now
+        × (pass.counter < counters_of pass.board.now) × IsSeated pass.board.now runner × Unused pass.counter runner };
+
+    ghost changes = { λ pass before after. IsSeated pass.board.now after
+        × Worked pass.plan.now (cap_of pass.board.now) pass.counter pass.ops.now before after
+        × IsEnough pass.counter pass.ops.now after };
+
+    fn run(&self, worker: &mut Runner) {
+        let told = Told {
+            gate: self.gate,
+            worker: u32::from(worker.hand.tag()),
+        };
+        work(
+            self.board,
+            &told,
+            self.plan,
+            self.units,
+            self.ops,
+            self.counter,
+            worker,
+        )
+    }
+}
+
+/// A pass by all runners, or by the first alone where the level has fewer than [`FEW`] operations.
+pub(crate) fn pass_by<R: Threads + Sync, G: Gate>(
+    rt: &R,
+    runners: &mut [Runner],
+    pass: &Pass<'_, G>,
+)
+    requires some { 0 < length runners.old }
+    requires plan { pass.now.plan.now ≡ plan_of pass.now.board.now }
+    requires fits { Fits pass.now.plan.now pass.now.units.now.units pass.now.units.now.ops pass.now.ops.now }
+    requires in_range { pass.now.counter < counters_of pass.now.board.now }
+    requires seated { All (IsSeated pass.now.board.now) runners.old }
+    requires unused { All (Unused pass.now.counter) runners.old }
+    ensures seated { All (IsSeated pass.now.board.now) runners.new }
+    ensures does { IsPassed pass.now.plan.now (cap_of pass.now.board.now) pass.now.counter pass.now.ops.now
+        runners.old runners.new }
+{
+    if pass.ops.len() < FEW {
+        pass.run(&mut runners[0]);
+    } else {
+        run_all(rt, runners, pass);
+    }
+}

@@ -1,3 +1,4 @@
 pub mod Following
 pub mod Holding
 pub mod Seating
+pub mod Beginning

@@ -1,5 +1,5 @@
 -- Runners while a batch is explored, and what is handed on to settling.
-use Rattle.std.specs.Prelude.{◌≡◌, ℕ, ◌+◌, ◌≤◌, Bool, not, List, [], All, count_by}
+use Rattle.std.specs.Prelude.{◌≡◌, ℕ, ◌+◌, ◌≤◌, Bool, not, [], All, count_by}
 use Rattle.morph_base.specs.declared.plan.Plan.{Plan}
 use Rattle.morph_base.specs.Plans.{event_count}
 use Rattle.interleaving_core.specs.Counts.{evaluated}

@@ -96,12 +96,16 @@ fn join_all(board: &Board, root: &mut Hand, runners: &mut List<Runner>, left: &m
 }
 
 impl Runners {
+    ghost use Rattle.morph_base.specs.Plans.{event_count};
+    ghost use Rattle.op_words.specs.Hands.{plan_of};
+    ghost use Rattle.op_eval.specs.Exploring.{AreExplored};
     ghost use Rattle.op_eval.specs.Lending.{LendsRunner, LendsRunners};
 
     /// Runners for the workers from 1 on, of whom there are `workers`, each with room for what `events` events
     /// leave. The first has the root, and each other one a hand that the root makes here.
     ///
-    /// It takes its memory first; where that is refused, the root is dropped and no hand was made.
+    /// It takes its memory first; where that is refused, the root is dropped and no hand was made. A batch can be
+    /// explored with these runners, where the root took no number from a counter yet.
     pub fn new(
         alloc: Global,
         board: &Board,
@@ -117,6 +121,8 @@ impl Runners {
         ensures full { IfOk result (λ runners. spare runners ≡ 0) }
         ensures new { IfOk result (λ runners. AreNew board.now (view_of root) workers events (runners_of runners)) }
         ensures rest { IfOk result (λ runners. (view_of root).claim ≡ None → AreAtRest board.now (runners_of runners)) }
+        ensures fresh { IfOk result (λ runners. (view_of root).claim ≡ None → (view_of root).places ≡ []
+            → event_count (plan_of board.now) ≤ events → AreExplored board.now 0 runners) }
     {
         let mut runners = List::with_room(alloc, workers as usize)?;
         let mut left = empty_lists(alloc, workers as usize, events as usize)?;

@@ -52,7 +52,8 @@ fn pass_all<R: Threads + Sync, G: Gate>(
     ensures alone { 1 ≤ cap_of board.now
         → IsAlone plan.now (length plan.now.op_levels.items) runners.old runners.new }
 {
-    for level in 0..plan.op_levels.len() {
+    let levels = plan.op_levels.len();
+    for level in 0..levels {
         let pass = Pass {
             board,
             gate,

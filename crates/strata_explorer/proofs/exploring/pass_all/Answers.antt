@@ -11,13 +11,13 @@ pub loop-level-init : goal.loop-level-init
 loop-level-init g c = (refl, c.requires.seated, λ d. refl, c.requires.ready, λ some one d begins. begins)
 
 pub overflow_cast-pass : goal.overflow_cast-pass
-overflow_cast-pass g c = omega (arith, c.loop-level-test.true, c.len-level-end.ensures, small_levels c.args.plan.now c.requires.valid)
+overflow_cast-pass g c = omega (arith, c.loop-level-test.true, c.len-levels.ensures, small_levels c.args.plan.now c.requires.valid)
 
 pub pass_by-requires-clause-fits : goal.pass_by-requires-clause-fits
 pass_by-requires-clause-fits g c κs within =
     let levels = levels_of c.args.plan.now c.requires.valid c.args.units.now.units c.args.units.now.ops c.requires.units c.requires.number in
     subst (λ ops. Fits c.args.plan.now c.args.units.now.units c.args.units.now.ops ops)
-    (sym (level_is c.args.plan.now c.loop-level.level (omega (arith, c.loop-level-test.true, c.len-level-end.ensures)) _ c.get.ensures.at _ c.as_slice.ensures))
+    (sym (level_is c.args.plan.now c.loop-level.level (omega (arith, c.loop-level-test.true, c.len-levels.ensures)) _ c.get.ensures.at _ c.as_slice.ensures))
     (levels.fits c.loop-level.level)
 
 pub pass_by-requires-clause-seated : goal.pass_by-requires-clause-seated
@@ -36,7 +36,7 @@ loop-level-preserved g c =
     let levels = levels_of p c.requires.valid c.args.units.now.units c.args.units.now.ops c.requires.units c.requires.number in
     let passed =
     subst (λ ops. IsPassed p cap level ops c.loop-level.runners c.pass_by.new.runners)
-    (level_is p level (omega (arith, c.loop-level-test.true, c.len-level-end.ensures)) _ c.get.ensures.at _ c.as_slice.ensures) c.pass_by.ensures.does in (
+    (level_is p level (omega (arith, c.loop-level-test.true, c.len-levels.ensures)) _ c.get.ensures.at _ c.as_slice.ensures) c.pass_by.ensures.does in (
       passed.len ∙ is.0,
       c.pass_by.ensures.seated,
       λ d. passed_tag p cap level _ c.loop-level.runners c.pass_by.new.runners some passed d ∙ is.2 d,
@@ -54,10 +54,10 @@ returns-clause-root g c = c.loop-level.invariant.2
 
 pub returns-clause-strata : goal.returns-clause-strata
 returns-clause-strata g c =
-    let all : c.loop-level.level ≡ length c.args.plan.now.op_levels.items = omega (arith, c.loop-level-test.false, c.loop-level.auto.level-end, c.len-level-end.ensures) in
+    let all : c.loop-level.level ≡ length c.args.plan.now.op_levels.items = omega (arith, c.loop-level-test.false, c.loop-level.auto.level-end, c.len-levels.ensures) in
     subst (λ n. AreStrata c.args.plan.now n c.loop-level.runners) all c.loop-level.invariant.3
 
 pub returns-clause-alone : goal.returns-clause-alone
 returns-clause-alone g c =
-    let all : c.loop-level.level ≡ length c.args.plan.now.op_levels.items = omega (arith, c.loop-level-test.false, c.loop-level.auto.level-end, c.len-level-end.ensures) in
+    let all : c.loop-level.level ≡ length c.args.plan.now.op_levels.items = omega (arith, c.loop-level-test.false, c.loop-level.auto.level-end, c.len-levels.ensures) in
     λ first. subst (λ n. IsAlone c.args.plan.now n c.args.runners.now c.loop-level.runners) all (c.loop-level.invariant.4 first)

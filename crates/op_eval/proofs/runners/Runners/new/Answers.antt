@@ -1,6 +1,7 @@
 use Rattle.std.proofs.Common.{subst, arith}
 use Rattle.op_words.specs.Hands.{view_of}
 use Rattle.op_eval.specs.Gathering.{AreNew}
+use Rattle.op_eval.proofs.Beginning.{new_explored}
 use Rattle.op_eval.proofs.Seating.{new_at_rest}
 use Rattle.op_eval.proofs.runners.Runners.new.Goals as goal
 
@@ -20,3 +21,7 @@ returns-clause-new c =
 pub returns-clause-rest : goal.returns-clause-rest
 returns-clause-rest c free =
     new_at_rest c.args.board.now (view_of c.args.root) c.args.workers c.args.events _ c.requires.some c.requires.tag free (returns-clause-new c)
+
+pub returns-clause-fresh : goal.returns-clause-fresh
+returns-clause-fresh c free none fits =
+    new_explored c.args.board.now (view_of c.args.root) c.args.workers c.args.events _ c.requires.some c.requires.tag (returns-clause-places c) (returns-clause-new c) free none fits

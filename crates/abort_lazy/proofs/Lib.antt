@@ -12,3 +12,8 @@ pub mod Stopping
 pub mod Readying
 pub mod Ending
 pub mod Answering
+pub mod Trying
+pub mod Sweeping
+pub mod Levelling
+pub mod Advancing
+pub mod Concluding

@@ -3,3 +3,5 @@ pub mod Settling
 pub mod Rooms
 pub mod Transactions
 pub mod Progress
+pub mod Sweeps
+pub mod Runs

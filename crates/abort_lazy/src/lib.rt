@@ -24,11 +24,13 @@
 mod attempts;
 pub mod laws;
 mod room;
+mod run;
 mod settling;
 mod sources;
 mod transaction;
 
 pub use attempts::Attempts;
 pub use room::Room;
+pub use run::{SettledRun, settle_all};
 pub use settling::{Redone, settle_plain};
 pub use transaction::{TxnAnswer, settle_txn};

@@ -13,3 +13,8 @@ pub mod Readying
 pub mod Ending
 pub mod Answering
 pub mod Completing
+pub mod Trying
+pub mod Sweeping
+pub mod Levelling
+pub mod Advancing
+pub mod Concluding

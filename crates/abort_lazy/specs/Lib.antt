@@ -4,3 +4,5 @@ pub mod Rooms
 pub mod Transactions
 pub mod Progress
 pub mod Finishing
+pub mod Sweeps
+pub mod Runs

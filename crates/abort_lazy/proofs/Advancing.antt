@@ -1,0 +1,211 @@
+-- One level of events after another, by one runner and by all.
+use Rattle.std.proofs.Common.{◌≡◌, ◌≢◌, ℕ, ◌+◌, ◌<◌, ◌≤◌, false, cond, List, [], ◌∷◌, ◌++◌, length, refl, sym, ap, ◌∙◌, subst, inl, inr, arith}
+use Rattle.std.specs.Prelude.{Contains, All, slice_index_or}
+use Rattle.std.proofs.lemmas.Bool.{ne_eqb, cases_eq}
+use Rattle.std.proofs.lemmas.List.Elements.{Contains-append_cases, Contains-append_right, Contains-append_left}
+use Rattle.std.proofs.lemmas.List.Sums.{sum_by-append}
+use Rattle.morph_base.specs.declared.plan.Plan.{Plan}
+use Rattle.morph_base.specs.declared.limits.TheConstants.{EVENTS}
+use Rattle.morph_base.specs.Graphs.{IsGraph, IsValidPlan}
+use Rattle.morph_base.specs.Plans.{IsPlan, event_at, event_count}
+use Rattle.op_words.specs.declared.board.Board.{Board}
+use Rattle.op_words.specs.declared.trail.View.{View}
+use Rattle.op_words.specs.Counting.{place, times}
+use Rattle.op_words.specs.Hands.{plan_of, counters_of, IsHandOf}
+use Rattle.op_words.specs.Rule.{of_counter, one}
+use Rattle.op_words.specs.Views.{IsTrailNoted}
+use Rattle.op_eval.specs.declared.runner.Runner.{Runner}
+use Rattle.op_eval.specs.Running.{hand_view}
+use Rattle.abort_lazy.specs.declared.run.sweeping.Call.{Call}
+use Rattle.abort_lazy.specs.declared.run.sweeping.Call.TheVariants.{Took, Tried}
+use Rattle.abort_lazy.specs.Sweeps.{Calls, Swept, AreSwept, IsEnough, FitsBoard, CanSweep}
+use Rattle.abort_lazy.specs.Runs.{Rising, HasTried, IsSettling, AreSettling, events_of, event_in}
+use Rattle.abort_lazy.proofs.Levelling.{level_is, next_room, events_inside, events_few}
+use Rattle.abort_lazy.proofs.Trying.{contains_first, contains_later, contains_none, calls_free, calls_tag, calls_made, calls_joined, calls_hold, calls_left}
+
+module _ (p : Plan) where
+  calls_append : (ds cs : List Call) (a m b : Runner) → Calls p cs a m → Calls p ds m b → Calls p (ds ++ cs) a b
+  calls_append [] cs a m b first second = subst (Calls p cs a) (sym second) first
+  calls_append (d ∷ ds) cs a m b first second = (second.0, calls_append ds cs a m second.0 first second.1, second.2)
+
+  rising_append : (ds cs : List Call) → Rising p cs → Rising p ds → ((i j : ℕ) → Contains cs (Tried i) → Contains ds (Tried j) → (event_at p i).level ≤ (event_at p j).level) → Rising p (ds ++ cs)
+  rising_append [] cs first second above = first
+  rising_append (Took c n ∷ ds) cs first second above = rising_append ds cs first second (λ i j low high. above i j low (contains_later (Took c n) ds (Tried j) high))
+  rising_append (Tried k ∷ ds) cs first second above = (
+    λ i found.
+        elim (Contains-append_cases ds cs (Tried i) found) [
+          | inl now ↦ second.0 i now
+          | inr before ↦ above i k before (contains_first (Tried k) ds)
+        ],
+    rising_append ds cs first second.1 (λ i j low high. above i j low (contains_later (Tried k) ds (Tried j) high)),
+  )
+
+  -- all of one level
+  rising_level : (level : ℕ) (cs : List Call) → ((i : ℕ) → Contains cs (Tried i) → (event_at p i).level ≡ level) → Rising p cs
+  rising_level level [] all = tt
+  rising_level level (Took c n ∷ cs) all = rising_level level cs (λ i found. all i (contains_later (Took c n) cs (Tried i) found))
+  rising_level level (Tried k ∷ cs) all = (
+    λ i found.
+        let low = all i (contains_later (Tried k) cs (Tried i) found) in
+        let high = all k (contains_first (Tried k) cs) in
+        omega arith,
+    rising_level level cs (λ i found. all i (contains_later (Tried k) cs (Tried i) found)),
+  )
+
+  later_only : (l : ℕ) (c : Call) (cs : List Call) → ((k n : ℕ) → Contains (c ∷ cs) (Took k n) → k ≡ l) → (k n : ℕ) → Contains cs (Took k n) → k ≡ l
+  later_only l c cs only k n found = only k n (contains_later c cs (Took k n) found)
+
+  -- other counters are as they were
+  calls_times : (c l : ℕ) → c ≢ l → (cs : List Call) (a b : Runner) → ((k n : ℕ) → Contains cs (Took k n) → k ≡ l) → Calls p cs a b → times c (hand_view b).places ≡ times c (hand_view a).places
+  calls_times c l other [] a b only calls = ap (λ r. times c (hand_view r).places) calls
+  calls_times c l other (Took k n ∷ cs) a b only calls =
+      let same : k ≡ l = only k n (contains_first (Took k n) cs) in
+      ap (λ (v : View). times c v.places) calls.2.view
+      ∙ sum_by-append (of_counter c one) (hand_view calls.0).places (place k n ∷ [])
+      ∙ ap (λ t. times c (hand_view calls.0).places + (0 + cond t 1 0)) (ne_eqb k c (λ e. other (sym e ∙ same)))
+      ∙ none_more (times c (hand_view calls.0).places)
+      ∙ calls_times c l other cs a calls.0 (later_only l (Took k n) cs only) calls.1
+    where
+      none_more : (m : ℕ) → m + (0 + cond false 1 0) ≡ m
+      none_more m = omega arith
+  calls_times c l other (Tried q ∷ cs) a b only calls =
+      let does = calls.2.1.does in
+      ap (times c) does.goes.adds.places ∙ calls_times c l other cs a calls.0 (later_only l (Tried q) cs only) calls.1
+
+-- nothing was tried yet
+pub tried_none : (p : Plan) (from : ℕ) (a : Runner) → HasTried p from 0 a a
+tried_none p from a = record {
+  calls = [];
+  made = refl;
+  rising = tt;
+  below = λ i found. absurd (contains_none (Tried i) found);
+  only = λ c n found. absurd (contains_none (Took c n) found);
+  tried = λ l n found lt. absurd (contains_none (Took (from + l) n) found);
+  inside = λ i found. absurd (contains_none (Tried i) found);
+  left = λ x empty found. absurd (contains_none x (subst (λ zs. Contains zs x) empty found));
+}
+
+module _ (p : Plan) (valid : IsPlan p) (graph : IsGraph p) (from level : ℕ) (lt : level < length p.event_levels.items) where
+  module _ (a m b : Runner) (noted : IsTrailNoted (hand_view a)) (before : HasTried p from level a m) (swept : Swept p (from + level) (events_of p level) m b) where
+    now : (i : ℕ) → Contains swept.calls (Tried i) → (event_at p i).level ≡ level + 1
+    now i found = let is = swept.inside i found in ap (λ k. (event_at p k).level) (sym is.2) ∙ level_is p graph level is.0 lt is.1
+
+    all_calls : List Call
+    all_calls = swept.calls ++ before.calls
+
+    in_new : (x : Call) → Contains swept.calls x → Contains (swept.calls ++ before.calls) x
+    in_new x found = Contains-append_left swept.calls before.calls x found
+
+    in_old : (x : Call) → Contains before.calls x → Contains (swept.calls ++ before.calls) x
+    in_old x found = Contains-append_right swept.calls before.calls x found
+
+    made_all : Calls p (swept.calls ++ before.calls) a b
+    made_all = calls_append p swept.calls before.calls a m b before.made swept.made
+
+    rising_all : Rising p (swept.calls ++ before.calls)
+    rising_all =
+        rising_append p swept.calls before.calls before.rising (rising_level p (level + 1) swept.calls now)
+        (λ i j low high. let l = before.below i low in let h = now j high in omega (arith, l, h))
+
+    tried_more : HasTried p from (level + 1) a b
+    tried_more = record {
+      calls = swept.calls ++ before.calls;
+      made = made_all;
+      rising = rising_all;
+      below = λ i found.
+          elim (Contains-append_cases swept.calls before.calls (Tried i) found) [
+            | inl here ↦ let h = now i here in omega (arith, h)
+            | inr old ↦ let l = before.below i old in omega (arith, l)
+          ];
+      only = λ c n found.
+          elim (Contains-append_cases swept.calls before.calls (Took c n) found) [
+            | inl here ↦ (level, omega arith, swept.only c n here)
+            | inr old ↦ let is = before.only c n old in (is.0, (let less = is.1 in omega (arith, less)), is.2)
+          ];
+      tried = λ l n found less.
+          elim (Contains-append_cases swept.calls before.calls (Took (from + l) n) found) [
+            | inl here ↦
+                let is = swept.only (from + l) n here in
+                let same : l ≡ level = omega (arith, is) in
+                in_new (Tried (event_in p l n)) (subst (λ k. Contains swept.calls (Tried (event_in p k n))) (sym same)
+                (swept.tried n (subst (λ k. Contains swept.calls (Took k n)) is here) (subst (λ k. n < length (events_of p k)) same less)))
+            | inr old ↦ in_old (Tried (event_in p l n)) (before.tried l n old less)
+          ];
+      inside = λ i found.
+          elim (Contains-append_cases swept.calls before.calls (Tried i) found) [
+            | inl here ↦ let is = swept.inside i here in (level, is.0, omega arith, is.1, is.2, in_new (Took (from + level) is.0) is.3)
+            | inr old ↦ let is = before.inside i old in (is.0, is.1, (let less = is.2 in omega (arith, less)), is.3, is.4, in_old (Took (from + is.0) is.1) is.5)
+          ];
+      left = λ x empty found. calls_left p valid graph (swept.calls ++ before.calls) a b noted empty rising_all made_all x found;
+    }
+
+    pub settling_one : (board : Board) → IsHandOf board b.hand → IsSettling board p from level a m → IsSettling board p from (level + 1) a b
+    settling_one board hand old = record {
+      tried = tried_more;
+      hand = hand;
+      free = calls_free p swept.calls m b swept.made old.free;
+      unused = λ c above. calls_times p c (from + level) (λ same. absurd (omega (arith, above, same))) swept.calls m b swept.only swept.made ∙ old.unused c (omega (arith, above));
+      room = let next = next_room p graph level lt in let had = old.room in let used = swept.room in omega (arith, next, had, used);
+      tag = calls_tag p swept.calls m b swept.made ∙ old.tag;
+      made = calls_made p swept.calls m b swept.made ∙ old.made;
+      joined = calls_joined p swept.calls m b swept.made ∙ old.joined;
+    }
+
+  enough_hold : (c many : ℕ) (calls : List Call) (m b : Runner) → Calls p calls m b → IsEnough c many m → IsEnough c many b
+  enough_hold c many calls m b made is =
+      elim is [ inl none ↦ inl none | inr last ↦ inr (last.0, calls_hold p calls m b made (place c last.0) last.1, last.2) ]
+
+  pub settling_more : (board : Board) (start rs qs : List Runner) → ((k : ℕ) (d : Runner) → k < length start → IsTrailNoted (hand_view (slice_index_or start k d)))
+      → AreSettling board p from level start rs → AreSwept board p (from + level) (events_of p level) rs qs → AreSettling board p from (level + 1) start qs
+  settling_more board start rs qs noted settling swept = record {
+    len = swept.len ∙ settling.len;
+    each = λ k d less.
+        let before : k < length rs = subst (λ n. k < n) swept.len less in
+        let old = settling.each k d before in
+        let swept-one = swept.each k d before in
+        settling_one (slice_index_or start k d) (slice_index_or rs k d) (slice_index_or qs k d) (noted k d (subst (λ n. k < n) settling.len before)) old.tried swept-one board (swept.hands k d less) old;
+    enough = λ l less.
+        elim (cases_eq l level) [
+          | inl same ↦
+              let last = swept.through in (
+                last.0,
+                subst (λ n. last.0 < n) (sym swept.len) last.1,
+                λ d. let through = last.2 d in subst (λ k. IsEnough (from + k) (length (events_of p k)) (slice_index_or qs last.0 d)) (sym same) through.enough,
+              )
+          | inr other ↦
+              let old = settling.enough l (omega (arith, less, other)) in (
+                old.0,
+                subst (λ n. old.0 < n) (sym swept.len) old.1,
+                λ d. let one-swept = swept.each old.0 d old.1 in enough_hold (from + l) (length (events_of p l)) one-swept.calls (slice_index_or rs old.0 d) (slice_index_or qs old.0 d) one-swept.made (old.2 d),
+              )
+        ];
+  }
+
+-- ---- before a level is begun
+
+pub fits_level : (b : Board) (p : Plan) (from l : ℕ) → p ≡ plan_of b → IsValidPlan p → l < length p.event_levels.items → from + length p.event_levels.items ≤ counters_of b
+    → (events : List ℕ) → events ≡ events_of p l → FitsBoard b p (from + l) events
+fits_level b p from l plan valid lt counters events same = record {
+  plan = plan;
+  counter = omega (arith, lt, counters);
+  inside = subst (All (λ i. i < event_count p)) (sym same) (events_inside p valid.graph l lt);
+  few =
+      let len = ap length same in
+      let few = events_few p valid.graph l lt in
+      let most : event_count p ≤ EVENTS = valid.plan.numbering.few in
+      omega (arith, len, few, most);
+}
+
+pub can_level : (b : Board) (p : Plan) (from l : ℕ) → IsValidPlan p → l < length p.event_levels.items → (start rs : List Runner) → AreSettling b p from l start rs
+    → (events : List ℕ) → events ≡ events_of p l → All (CanSweep b (from + l) events) rs
+can_level b p from l valid lt start rs settling events same = λ k d less.
+    let ready = settling.each k d less in
+    record {
+      hand = ready.hand;
+      free = ready.free;
+      unused = ready.unused (from + l) (omega arith);
+      room = let room = ready.room in let next = next_room p valid.graph l lt in let len = ap length same in omega (arith, room, next, len);
+    }
+
+pub start_noted : (b : Board) (p : Plan) (from : ℕ) (start : List Runner) → AreSettling b p from 0 start start → (k : ℕ) (d : Runner) → k < length start → IsTrailNoted (hand_view (slice_index_or start k d))
+start_noted b p from start settling k d less = let one-ready = settling.each k d less in one-ready.hand.told.noted

@@ -1,0 +1,154 @@
+-- From what exploring left to what is closed.
+use Rattle.std.proofs.Common.{◌≡◌, ℕ, zero, suc, ◌<◌, ◌≤◌, List, [], ◌∷◌, ◌++◌, length, map, refl, sym, ap, ◌∙◌, subst, inl, inr, arith}
+use Rattle.std.specs.Prelude.{Contains, drop, take, slice_index_or}
+use Rattle.std.proofs.lemmas.List.{length-map, get_or-map}
+use Rattle.std.proofs.lemmas.List.Elements.{Contains-append_left, Contains-append_right}
+use Rattle.morph_base.specs.declared.plan.Plan.{Plan}
+use Rattle.morph_base.specs.Plans.{event_count}
+use Rattle.op_words.specs.declared.board.Board.{Board}
+use Rattle.op_words.specs.declared.trail.View.{View}
+use Rattle.op_words.specs.Closing.{IsJoined}
+use Rattle.op_words.specs.Hands.{plan_of}
+use Rattle.op_words.specs.Views.{merged, joined_of}
+use Rattle.op_eval.specs.declared.runner.Runner.{Runner}
+use Rattle.op_eval.specs.declared.runners.Runners.{Runners}
+use Rattle.op_eval.specs.Exploring.{AreExplored}
+use Rattle.op_eval.specs.Gathering.{runners_of, gathered, HasPlaces, AreAtRest}
+use Rattle.op_eval.specs.Lending.{with_runners}
+use Rattle.op_eval.specs.Running.{hand_view}
+use Rattle.abort_lazy.specs.Runs.{AreSettling, AreAllHands, root_view}
+use Rattle.abort_lazy.proofs.Levelling.{first_room}
+use Rattle.abort_lazy.proofs.Advancing.{tried_none}
+use Rattle.abort_lazy.proofs.Trying.{contains_first}
+
+pub settling_begins : (b : Board) (p : Plan) (from : ℕ) (rs : Runners) → p ≡ plan_of b → AreExplored b from rs → AreSettling b p from 0 (runners_of rs) (runners_of rs)
+settling_begins b p from rs plan explored = record {
+  len = refl;
+  each = λ k d lt.
+      let r : Runner = slice_index_or (runners_of rs) k d in
+      let exploring = explored.exploring k d lt in
+      record {
+        tried = tried_none p from r;
+        hand = explored.rest.hands k d lt;
+        free = explored.rest.free k d lt;
+        unused = λ c above. explored.unused c (omega (arith, above)) k d lt;
+        room = let room = exploring.room in let first = first_room p in let same = ap event_count plan in omega (arith, room, first, same);
+        tag = refl;
+        made = refl;
+        joined = refl;
+      };
+  enough = λ l less. absurd (omega (arith, less));
+}
+
+module _ (b : Board) (p : Plan) (from level : ℕ) (start rs : List Runner) (settling : AreSettling b p from level start rs) where
+  pub settling_rests : AreAtRest b start → AreAtRest b rs
+  settling_rests rest = record {
+    some = subst (λ n. 0 < n) (sym settling.len) rest.some;
+    hands = λ k d lt. let here = settling.each k d lt in here.hand;
+    free = λ k d lt. let here = settling.each k d lt in here.free;
+    root = λ d. let here = settling.each 0 d (subst (λ n. 0 < n) (sym settling.len) rest.some) in here.tag ∙ rest.root d;
+  }
+
+  pub settling_all : 0 < length start → AreAllHands start → AreAllHands rs
+  settling_all some all = λ t d above most.
+      let root = settling.each 0 d (subst (λ n. 0 < n) (sym settling.len) some) in
+      elim (all t d above (subst (λ n. t ≤ n) root.made most)) [
+        | inl is ↦ inl (is.0, subst (λ xs. Contains xs is.0) (sym root.joined) is.1, is.2)
+        | inr is ↦
+            let less : is.0 < length rs = subst (λ n. is.0 < n) (sym settling.len) is.2 in
+            let here = settling.each is.0 d less in
+            inr (is.0, is.1, less, here.tag ∙ is.3)
+      ]
+
+-- the runners as they were given back
+pub items_back : {X : Type 0} (xs ys : List X) → length ys ≡ length xs → take (length xs) (ys ++ drop (length ys) xs) ≡ ys
+items_back [] [] len = refl
+items_back [] (y ∷ ys) len = absurd (omega (arith, len))
+items_back (x ∷ xs) [] len = absurd (omega (arith, len))
+items_back (x ∷ xs) (y ∷ ys) len = ap (λ zs. y ∷ zs) (items_back xs ys (suc_same len))
+  where
+    suc_same : suc (length ys) ≡ suc (length xs) → length ys ≡ length xs
+    suc_same e = omega (arith, e)
+
+pub places_back : (rs : Runners) (items : List Runner) → length items ≡ length (runners_of rs) → HasPlaces rs → HasPlaces (with_runners rs items)
+places_back rs items len places = record {
+  none = places.none;
+  room = let same = ap length (items_back (runners_of rs) items len) in let room = places.room in omega (arith, same, room, len);
+}
+
+-- what stands in the place of the runners that were lent
+module _ (b : Board) (p : Plan) (from level : ℕ) (rs : Runners) (start items : List Runner) (same : start ≡ runners_of rs) (settling : AreSettling b p from level start items) where
+  back_len : length items ≡ length (runners_of rs)
+  back_len = settling.len ∙ ap length same
+
+  pub back_is : runners_of (with_runners rs items) ≡ items
+  back_is = items_back (runners_of rs) items back_len
+
+  settling_now : AreSettling b p from level (runners_of rs) items
+  settling_now = subst (λ xs. AreSettling b p from level xs items) same settling
+
+  pub settled_back : AreSettling b p from level (runners_of rs) (runners_of (with_runners rs items))
+  settled_back = subst (AreSettling b p from level (runners_of rs)) (sym back_is) settling_now
+
+  pub all_back : AreExplored b from rs → AreAllHands (runners_of rs) → AreAllHands (runners_of (with_runners rs items))
+  all_back explored all = subst AreAllHands (sym back_is) (settling_all b p from level (runners_of rs) items settling_now explored.rest.some all)
+
+  pub given_back : AreExplored b from rs → HasPlaces (with_runners rs items) × AreAtRest b (runners_of (with_runners rs items))
+  given_back explored = (
+    places_back rs items back_len explored.places,
+    subst (AreAtRest b) (sym back_is) (settling_rests b p from level (runners_of rs) items settling_now explored.rest),
+  )
+
+-- ---- joins
+
+pub gathered_made : (v : View) (ws : List View) → (gathered v ws).made ≡ v.made
+unfolding gathered
+gathered_made v [] = refl
+gathered_made v (w ∷ ws) = gathered_made (merged v w) ws
+
+pub gathered_tag : (v : View) (ws : List View) → (gathered v ws).tag ≡ v.tag
+unfolding gathered
+gathered_tag v [] = refl
+gathered_tag v (w ∷ ws) = gathered_tag (merged v w) ws
+
+gathered_root : (v : View) (ws : List View) (t : ℕ) → IsJoined v t → IsJoined (gathered v ws) t
+unfolding gathered
+gathered_root v [] t is = is
+gathered_root v (w ∷ ws) t is = gathered_root (merged v w) ws t (is.0, Contains-append_left v.joined (joined_of w ∷ []) is.0 is.1, is.2)
+
+gathered_other : (v : View) (ws : List View) (k : ℕ) (d : View) (t : ℕ) → k < length ws → (slice_index_or ws k d).tag ≡ t → IsJoined (gathered v ws) t
+unfolding gathered
+gathered_other v [] k d t lt is = absurd (omega (arith, lt))
+gathered_other v (w ∷ ws) zero d t lt is =
+    gathered_root (merged v w) ws t (joined_of w, Contains-append_right v.joined (joined_of w ∷ []) (joined_of w) (contains_first (joined_of w) []), is)
+gathered_other v (w ∷ ws) (suc k) d t lt is = gathered_other (merged v w) ws k d t (less lt) is
+  where
+    less : suc k < suc (length ws) → k < length ws
+    less l = omega (arith, l)
+
+-- the root has joined all
+pub all_joined : (d : Runner) (rs : List Runner) → AreAllHands rs → 0 < length rs → (t : ℕ) → 1 < t → t ≤ (root_view d rs).made → IsJoined (root_view d rs) t
+all_joined d [] all some t above most = absurd (omega (arith, some))
+all_joined d (r ∷ rs) all some t above most =
+    elim (all t d above (subst (λ n. t ≤ n) (gathered_made (hand_view r) (map hand_view rs)) most)) [
+      | inl is ↦ gathered_root (hand_view r) (map hand_view rs) t is
+      | inr is ↦ other is.0 is.1 is.2 is.3
+    ]
+  where
+    other : (k : ℕ) → 0 < k → k < length (r ∷ rs) → (hand_view (slice_index_or (r ∷ rs) k d)).tag ≡ t → IsJoined (gathered (hand_view r) (map hand_view rs)) t
+    other zero above lt is = absurd (omega (arith, above))
+    other (suc k) above lt is =
+        gathered_other (hand_view r) (map hand_view rs) k (hand_view d) t (subst (λ n. k < n) (sym (length-map rs hand_view)) (less lt))
+        (ap (λ (v : View). v.tag) (get_or-map hand_view rs k d (hand_view d) (less lt)) ∙ is)
+      where
+        less : suc k < suc (length rs) → k < length rs
+        less l = omega (arith, l)
+
+-- the root can close the board
+pub closes : (rs : List Runner) → 0 < length rs → (u : View) → ((d : Runner) → u ≡ root_view d rs) → ((d : Runner) → (hand_view (slice_index_or rs 0 d)).tag ≡ 1) → AreAllHands rs
+    → (u.tag ≡ 1) × ((t : ℕ) → 1 < t → t ≤ u.made → IsJoined u t)
+closes [] some u is root all = absurd (omega (arith, some))
+closes (r ∷ rs) some u is root all = (
+  ap (λ (v : View). v.tag) (is r) ∙ gathered_tag (hand_view r) (map hand_view rs) ∙ root r,
+  λ t above most. subst (λ (v : View). IsJoined v t) (sym (is r)) (all_joined r (r ∷ rs) all some t above (subst (λ (v : View). t ≤ v.made) (is r) most)),
+)

@@ -1,0 +1,205 @@
+-- Turns of a runner at one level.
+use Rattle.std.proofs.Common.{◌≡◌, ℕ, ◌+◌, ◌<◌, ◌≤◌, cond, List, [], ◌∷◌, length, refl, sym, ap, ◌∙◌, subst, inl, inr, arith, None}
+use Rattle.std.specs.Prelude.{Contains, All, slice_index_or, slice_set}
+use Rattle.std.proofs.lemmas.Bool.{cases_eq, eq-eqb}
+use Rattle.std.proofs.lemmas.List.{length-set, get_or-set_same, get_or-set_other}
+use Rattle.std.proofs.lemmas.List.Elements.{Contains-append_right}
+use Rattle.std.proofs.lemmas.List.Sums.{sum_by-append}
+use Rattle.morph_base.specs.declared.plan.Plan.{Plan}
+use Rattle.morph_base.specs.Plans.{event_count}
+use Rattle.op_words.specs.declared.board.Board.{Board}
+use Rattle.op_words.specs.declared.trail.View.{View}
+use Rattle.op_words.specs.Counting.{place, times, taking}
+use Rattle.op_words.specs.Hands.{IsHandOf}
+use Rattle.op_words.specs.Rule.{of_counter, one}
+use Rattle.op_words.specs.Views.{IsLone}
+use Rattle.op_eval.specs.declared.runner.Runner.{Runner}
+use Rattle.op_eval.specs.Exploring.{Unused}
+use Rattle.op_eval.specs.Running.{hand_view}
+use Rattle.abort_lazy.specs.declared.run.sweeping.Call.{Call}
+use Rattle.abort_lazy.specs.declared.run.sweeping.Call.TheVariants.{Took, Tried}
+use Rattle.abort_lazy.specs.Sweeps.{HasTaken, HasTriedOne, Swept, IsThrough, HasSwept, AreSwept, IsSweeping, CanSweep}
+use Rattle.abort_lazy.proofs.Trying.{contains_first, contains_later, contains_cases, contains_none, calls_lone}
+
+times_one : (c n : ℕ) → times c (place c n ∷ []) ≡ 1
+times_one c n = ap (λ t. 0 + cond t 1 0) (eq-eqb c c refl)
+
+pub times_taking : (c n : ℕ) (v : View) → times c (taking c n v).places ≡ times c v.places + 1
+times_taking c n v = sum_by-append (of_counter c one) v.places (place c n ∷ []) ∙ ap (λ k. times c v.places + k) (times_one c n)
+
+-- who took nothing
+pub swept_none : (p : Plan) (c : ℕ) (events : List ℕ) (a : Runner) → Unused c a → Swept p c events a a
+swept_none p c events a unused = record {
+  calls = [];
+  made = refl;
+  only = λ k n found. absurd (contains_none (Took k n) found);
+  tried = λ n found lt. absurd (contains_none (Took c n) found);
+  inside = λ i found. absurd (contains_none (Tried i) found);
+  room = omega arith;
+  whole = λ lone n below. absurd (omega (arith, below, unused));
+}
+
+pub sweeping_none : (b : Board) (p : Plan) (c : ℕ) (events : List ℕ) (a : Runner) → IsHandOf b a.hand → Unused c a → IsSweeping b p c events 0 a a
+sweeping_none b p c events a hand unused = record { hand = hand; swept = swept_none p c events a unused; turns = unused; last = inl refl; room = omega arith }
+
+module _ (b : Board) (p : Plan) (c : ℕ) (events : List ℕ) (a : Runner) (turn n : ℕ) (m r : Runner) (sweeping : IsSweeping b p c events turn a m) (taken : HasTaken c n m r) where
+  above : turn ≤ n
+  above =
+      elim sweeping.last [
+        | inl none ↦ omega arith
+        | inr last ↦ let rises = taken.takes.rises (place c last.0) last.1 refl in let high = last.2 in omega arith
+      ]
+
+  turned : times c (hand_view r).places ≡ turn + 1
+  turned = ap (λ (v : View). times c v.places) taken.view ∙ times_taking c n (hand_view m) ∙ ap (λ k. k + 1) sweeping.turns
+
+  got : Contains (hand_view r).places (place c n)
+  got = subst (λ (v : View). Contains v.places (place c n)) (sym taken.view) (Contains-append_right (hand_view m).places (place c n ∷ []) (place c n) (contains_first (place c n) []))
+
+  number_of : (k q : ℕ) → Took k q ≡ Took c n → (k ≡ c) × (q ≡ n)
+  number_of k q e = (cc, cc)
+
+  tried_apart : (i : ℕ) → Tried i ≡ Took c n → ⊥
+  tried_apart i e = cc
+
+  only_now : (k q : ℕ) → Contains (Took c n ∷ sweeping.swept.calls) (Took k q) → k ≡ c
+  only_now k q found = elim (contains_cases (Took c n) sweeping.swept.calls (Took k q) found) [ inl same ↦ (number_of k q same).0 | inr later ↦ sweeping.swept.only k q later ]
+
+  -- a lone root took the numbers from 0 on
+  in_turn : IsLone (hand_view a) → n ≡ turn
+  in_turn lone = taken.takes.lone (calls_lone p sweeping.swept.calls a m sweeping.swept.made lone) ∙ sweeping.turns
+
+  whole_now : IsLone (hand_view a) → (q : ℕ) → q < turn + 1 → Contains (Took c n ∷ sweeping.swept.calls) (Took c q)
+  whole_now lone q below =
+      elim (cases_eq q turn) [
+        | inl same ↦ subst (λ k. Contains (Took c n ∷ sweeping.swept.calls) (Took c k)) (in_turn lone ∙ sym same) (contains_first (Took c n) sweeping.swept.calls)
+        | inr other ↦
+            let before : q < times c (hand_view m).places = (let t = sweeping.turns in omega (arith, t, below, other)) in
+            contains_later (Took c n) sweeping.swept.calls (Took c q) (sweeping.swept.whole lone q before)
+      ]
+
+  kept_room : r.kept.room ≡ m.kept.room
+  kept_room = ap (λ l. l.room) taken.kept
+
+  pub past_end : IsHandOf b r.hand → length events ≤ n → HasSwept b p c events a r
+  past_end hand past = record {
+    hand = hand;
+    swept = record {
+      calls = Took c n ∷ sweeping.swept.calls;
+      made = (m, sweeping.swept.made, taken);
+      only = only_now;
+      tried = λ q found lt.
+          elim (contains_cases (Took c n) sweeping.swept.calls (Took c q) found) [
+            | inl same ↦ let e = (number_of c q same).1 in absurd (omega arith)
+            | inr later ↦ contains_later (Took c n) sweeping.swept.calls (Tried (slice_index_or events q 0)) (sweeping.swept.tried q later lt)
+          ];
+      inside = λ i found.
+          elim (contains_cases (Took c n) sweeping.swept.calls (Tried i) found) [
+            | inl same ↦ absurd (tried_apart i same)
+            | inr later ↦ let is = sweeping.swept.inside i later in (is.0, is.1, is.2, contains_later (Took c n) sweeping.swept.calls (Took c is.0) is.3)
+          ];
+      room = let s = sweeping.swept.room in let t = kept_room in omega (arith, s, t);
+      whole = λ lone q below. whole_now lone q (subst (λ k. q < k) turned below);
+    };
+    through = record {
+      enough = inr (n, got, omega arith);
+      alone = λ lone. let e = in_turn lone in let t = turned in omega (arith, e, t, past);
+    };
+  }
+
+  pub swept_on : (e : Runner) → IsHandOf b e.hand → n < length events → slice_index_or events n 0 < event_count p → HasTriedOne p (slice_index_or events n 0) r e → IsSweeping b p c events (turn + 1) a e
+  swept_on e hand lt in_range tries =
+      let i : ℕ = slice_index_or events n 0 in
+      let cs : List Call = sweeping.swept.calls in
+      let does = tries.does in
+      let same_places : (hand_view e).places ≡ (hand_view r).places = does.goes.adds.places in
+      record {
+        hand = hand;
+        swept = record {
+          calls = Tried i ∷ (Took c n ∷ cs);
+          made = (r, (m, sweeping.swept.made, taken), (in_range, tries));
+          only = λ k q found. elim (contains_cases (Tried i) (Took c n ∷ cs) (Took k q) found) [ inl same ↦ absurd (took_apart k q i same) | inr later ↦ only_now k q later ];
+          tried = λ q found less.
+              elim (contains_cases (Tried i) (Took c n ∷ cs) (Took c q) found) [
+                | inl same ↦ absurd (took_apart c q i same)
+                | inr there ↦
+                    elim (contains_cases (Took c n) cs (Took c q) there) [
+                      | inl same ↦ subst (λ k. Contains (Tried i ∷ (Took c n ∷ cs)) (Tried (slice_index_or events k 0))) (sym (number_of c q same).1) (contains_first (Tried i) (Took c n ∷ cs))
+                      | inr later ↦
+                          contains_later (Tried i) (Took c n ∷ cs) (Tried (slice_index_or events q 0)) (contains_later (Took c n) cs (Tried (slice_index_or events q 0)) (sweeping.swept.tried q later less))
+                    ]
+              ];
+          inside = λ k found.
+              elim (contains_cases (Tried i) (Took c n ∷ cs) (Tried k) found) [
+                | inl same ↦ (n, lt, sym (tried_is k i same), contains_later (Tried i) (Took c n ∷ cs) (Took c n) (contains_first (Took c n) cs))
+                | inr there ↦
+                    elim (contains_cases (Took c n) cs (Tried k) there) [
+                      | inl same ↦ absurd (tried_apart k same)
+                      | inr later ↦ let is = sweeping.swept.inside k later in (is.0, is.1, is.2, contains_later (Tried i) (Took c n ∷ cs) (Took c is.0) (contains_later (Took c n) cs (Took c is.0) is.3))
+                    ]
+              ];
+          room = let q = tries.room in let s = sweeping.room in let le = above in let t = kept_room in omega (arith, q, s, le, t, lt);
+          whole = λ lone q below. contains_later (Tried i) (Took c n ∷ cs) (Took c q) (whole_now lone q (subst (λ k. q < k) (ap (times c) same_places ∙ turned) below));
+        };
+        turns = ap (times c) same_places ∙ turned;
+        last = inr (n, subst (λ xs. Contains xs (place c n)) (sym same_places) got, (let le = above in omega (arith, le)));
+        room = let q = tries.room in let s = sweeping.room in let t = kept_room in omega (arith, q, s, t);
+      }
+    where
+      took_apart : (k q i : ℕ) → Took k q ≡ Tried i → ⊥
+      took_apart k q i e = cc
+
+      tried_is : (k i : ℕ) → Tried k ≡ Tried i → k ≡ i
+      tried_is k i e = cc
+
+-- all turns were made
+pub all_turns : (b : Board) (p : Plan) (c : ℕ) (events : List ℕ) (turn : ℕ) (a r : Runner) → length events ≤ turn → IsSweeping b p c events turn a r → HasSwept b p c events a r
+all_turns b p c events turn a r past sweeping = record {
+  hand = sweeping.hand;
+  swept = sweeping.swept;
+  through = record {
+    enough = elim sweeping.last [ inl none ↦ inl (omega (arith, none, past)) | inr last ↦ inr (last.0, last.1, (let high = last.2 in omega (arith, high, past))) ];
+    alone = λ lone. let t = sweeping.turns in omega (arith, t, past);
+  };
+}
+
+-- the first runner alone took part
+pub first_alone : (b : Board) (p : Plan) (c : ℕ) (events : List ℕ) (rs : List Runner) (x y : Runner) → 0 < length rs → ((d : Runner) → slice_index_or rs 0 d ≡ x)
+    → All (CanSweep b c events) rs → HasSwept b p c events x y → AreSwept b p c events rs (slice_set rs 0 y)
+first_alone b p c events rs x y some is can has = record {
+  len = length-set rs 0 y;
+  hands = λ k d lt.
+      elim (cases_eq k 0) [
+        | inl same ↦ subst (λ j. IsHandOf b (slice_index_or (slice_set rs 0 y) j d).hand) (sym same) (subst (λ (z : Runner). IsHandOf b z.hand) (sym (get_or-set_same rs 0 y d some)) has.hand)
+        | inr other ↦
+            let here = can k d (subst (λ n. k < n) (length-set rs 0 y) lt) in
+            subst (λ (z : Runner). IsHandOf b z.hand) (sym (get_or-set_other rs 0 k y d other)) here.hand
+      ];
+  each = λ k d lt.
+      elim (cases_eq k 0) [
+        | inl same ↦
+            subst (λ j. Swept p c events (slice_index_or rs j d) (slice_index_or (slice_set rs 0 y) j d)) (sym same)
+            (subst (λ z. Swept p c events (slice_index_or rs 0 d) z) (sym (get_or-set_same rs 0 y d some)) (subst (λ z. Swept p c events z y) (sym (is d)) has.swept))
+        | inr other ↦
+            let here = can k d lt in
+            subst (λ z. Swept p c events (slice_index_or rs k d) z) (sym (get_or-set_other rs 0 k y d other)) (swept_none p c events (slice_index_or rs k d) here.unused)
+      ];
+  through = (0, some, λ d. subst (λ z. IsThrough c events (slice_index_or rs 0 d) z) (sym (get_or-set_same rs 0 y d some)) (subst (λ z. IsThrough c events z y) (sym (is d)) has.through));
+}
+
+-- what a number that was taken leaves as it was
+pub taken_free : (c n : ℕ) (a b : Runner) → HasTaken c n a b → (hand_view a).claim ≡ None → (hand_view b).claim ≡ None
+taken_free c n a b taken free = ap (λ (v : View). v.claim) taken.view ∙ free
+
+pub taken_room : (c n : ℕ) (a b : Runner) → HasTaken c n a b → b.kept.room ≡ a.kept.room
+taken_room c n a b taken = ap (λ l. l.room) taken.kept
+
+-- all took part
+pub all_alike : (b : Board) (p : Plan) (c : ℕ) (events : List ℕ) (rs qs : List Runner) → 0 < length rs → length qs ≡ length rs
+    → ((k : ℕ) (d : Runner) → k < length rs → HasSwept b p c events (slice_index_or rs k d) (slice_index_or qs k d)) → AreSwept b p c events rs qs
+all_alike b p c events rs qs some len has = record {
+  len = len;
+  hands = λ k d lt. let one-has = has k d (subst (λ n. k < n) len lt) in one-has.hand;
+  each = λ k d lt. let one-has = has k d lt in one-has.swept;
+  through = (0, some, λ d. let one-has = has 0 d some in one-has.through);
+}

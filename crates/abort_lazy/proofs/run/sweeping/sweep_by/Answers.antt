@@ -1,0 +1,10 @@
+use Rattle.std.proofs.Common.{arith}
+use Rattle.std.proofs.lemmas.Grind.{common_steps}
+use Rattle.abort_lazy.proofs.Sweeping.{first_alone, all_alike}
+use Rattle.abort_lazy.proofs.run.sweeping.sweep_by.Goals as goal
+
+pub returns-then-sweep-lt8 : goal.returns-then-sweep-lt8
+returns-then-sweep-lt8 g c = record { does = first_alone _ _ _ _ _ _ _ c.requires.some (λ d. grind (arith, common_steps, c.index-runners-0.is, c.requires.some)) c.requires.can c.run.ensures }
+
+pub returns-else-sweep-lt8 : goal.returns-else-sweep-lt8
+returns-else-sweep-lt8 g c = record { does = all_alike _ _ _ _ _ _ c.requires.some c.run_all.auto.workers c.run_all.ensures }

@@ -1,0 +1,113 @@
+-- What becomes of a batch that was explored: all events are tried, level by level.
+use Rattle.std.specs.Prelude.{◌≡◌, ◌≢◌, ℕ, ◌+◌, ◌<◌, ◌≤◌, ◌⊎◌, true, false, List, [], ◌∷◌, Contains, None, drop, map, filter, nat_lt, length, slice_index_or}
+use Rattle.morph_base.specs.declared.plan.Plan.{Plan}
+use Rattle.morph_base.specs.declared.word.OpState.TheVariants.{Claimed}
+use Rattle.morph_base.specs.declared.word.OpWord.{OpWord}
+use Rattle.morph_base.specs.Graphs.{below}
+use Rattle.morph_base.specs.Plans.{event_at, event_count, InEvent}
+use Rattle.morph_base.specs.Words.{is_settled}
+use Rattle.op_words.specs.declared.board.Board.{Board}
+use Rattle.op_words.specs.declared.trail.Item.{Item}
+use Rattle.op_words.specs.declared.trail.View.{View}
+use Rattle.op_words.specs.Closing.{IsJoined}
+use Rattle.op_words.specs.Counting.{times}
+use Rattle.op_words.specs.Hands.{IsHandOf}
+use Rattle.op_words.specs.Trails.{loaded, IsSourceOf, IsShaken}
+use Rattle.op_eval.specs.declared.answers.Left.{Left}
+use Rattle.op_eval.specs.declared.runner.Runner.{Runner}
+use Rattle.op_eval.specs.Gathering.{runners_of, gathered, HasPlaces, AreAtRest}
+use Rattle.op_eval.specs.Running.{hand_view}
+use Rattle.abort_lazy.specs.declared.run.SettledRun.{SettledRun}
+use Rattle.abort_lazy.specs.declared.run.sweeping.Call.{Call}
+use Rattle.abort_lazy.specs.declared.run.sweeping.Call.TheVariants.{Took, Tried}
+use Rattle.abort_lazy.specs.Sweeps.{Calls, IsEnough}
+
+-- ---- why an event was left, over the whole trail of the hand that tried it
+
+module _ (p : Plan) (i tag : ℕ) (trail : List Item) (at : ℕ) (w : OpWord) where
+  -- a source of an operation of the event was loaded, and was not settled; this hand did not settle it either, before or later
+  pub record IsLeftBySource : Type 0 where
+    pub reader : ℕ
+    pub inside : InEvent p i reader
+    pub source : IsSourceOf p reader at
+    pub seen : Contains trail (loaded at w)
+    pub settled : is_settled w.state ≡ false
+    pub not_mine : (t : Item) → Contains trail t → t.own ≡ true → t.op ≡ at → is_settled t.word.state ≡ true → ⊥
+
+  -- an operation of the event was loaded, which another hand held, or which was disturbed, or a source of it
+  pub record IsLeftByOwn : Type 0 where
+    pub inside : InEvent p i at
+    pub seen : Contains trail (loaded at w)
+    pub cause : ((w.state ≡ Claimed) × (w.by ≢ tag)) ⊎ IsShaken p at trail
+
+  abbrev pub IsLeft : Type 0
+  IsLeft = IsLeftBySource ⊎ IsLeftByOwn
+
+-- ---- levels of events
+
+-- the events of the level of this number, from 0 on, and each of them
+abbrev pub events_of : Plan → ℕ → List ℕ
+events_of p l = slice_index_or (map (λ list. list.items) p.event_levels.items) l []
+
+abbrev pub event_in : Plan → ℕ → ℕ → ℕ
+event_in p l n = slice_index_or (events_of p l) n 0
+
+-- how many events are of a level above this one
+abbrev pub to_come : Plan → ℕ → ℕ
+to_come p level = length (filter (λ i. nat_lt level (event_at p i).level) (below (event_count p)))
+
+-- events are tried by rising level
+abbrev pub Rising : Plan → List Call → Type 0
+Rising p [] = Unit {0}
+Rising p (Took c n ∷ cs) = Rising p cs
+Rising p (Tried j ∷ cs) = ((i : ℕ) → Contains cs (Tried i) → (event_at p i).level ≤ (event_at p j).level) × Rising p cs
+
+-- ---- the runners
+
+-- what a runner did up to a level: it took numbers from the levels' counters, and tried the events of these numbers, and no others
+pub record HasTried (p : Plan) (from level : ℕ) (a b : Runner) : Type 0 where
+  pub calls : List Call
+  pub made : Calls p calls a b
+  pub rising : Rising p calls
+  pub below : (i : ℕ) → Contains calls (Tried i) → (event_at p i).level ≤ level
+  pub only : (c n : ℕ) → Contains calls (Took c n) → (l : ℕ) × (l < level) × (c ≡ from + l)
+  pub tried : (l n : ℕ) → Contains calls (Took (from + l) n) → n < length (events_of p l) → Contains calls (Tried (event_in p l n))
+  pub inside : (i : ℕ) → Contains calls (Tried i)
+      → (l : ℕ) × (n : ℕ) × (l < level) × (n < length (events_of p l)) × (event_in p l n ≡ i) × Contains calls (Took (from + l) n)
+  -- each cause that it kept is that of an event that it tried, and true of its whole trail
+  pub left : (x : Left) → a.kept.items ≡ [] → Contains b.kept.items x
+      → Contains calls (Tried x.event) × IsLeft p x.event (hand_view b).tag (hand_view b).trail x.at x.word
+
+-- it holds nothing, took nothing from the counters of the levels to come, and has room for what their events leave
+pub record IsSettling (b : Board) (p : Plan) (from level : ℕ) (before now : Runner) : Type 0 where
+  pub tried : HasTried p from level before now
+  pub hand : IsHandOf b now.hand
+  pub free : (hand_view now).claim ≡ None
+  pub unused : (c : ℕ) → from + level ≤ c → times c (hand_view now).places ≡ 0
+  pub room : to_come p level ≤ now.kept.room
+  pub tag : (hand_view now).tag ≡ (hand_view before).tag
+  pub made : (hand_view now).made ≡ (hand_view before).made
+  pub joined : (hand_view now).joined ≡ (hand_view before).joined
+
+-- all runners; for each level one of them saw its counter at the end
+pub record AreSettling (b : Board) (p : Plan) (from level : ℕ) (start rs : List Runner) : Type 0 where
+  pub len : length rs ≡ length start
+  pub each : (k : ℕ) (d : Runner) → k < length rs → IsSettling b p from level (slice_index_or start k d) (slice_index_or rs k d)
+  pub enough : (l : ℕ) → l < level → (k : ℕ) × (k < length rs) × ((d : Runner) → IsEnough (from + l) (length (events_of p l)) (slice_index_or rs k d))
+
+-- ---- the end
+
+-- each hand that the root made is that of one of the runners, or was joined before
+abbrev pub AreAllHands : List Runner → Type 0
+AreAllHands rs =
+    (t : ℕ) (d : Runner) → 1 < t → t ≤ (hand_view (slice_index_or rs 0 d)).made
+    → IsJoined (hand_view (slice_index_or rs 0 d)) t ⊎ ((k : ℕ) × (0 < k) × (k < length rs) × ((hand_view (slice_index_or rs k d)).tag ≡ t))
+
+-- the runners can be gathered
+pub record IsSettledRun (r : SettledRun) : Type 0 where
+  pub places : HasPlaces r.runners
+  pub rest : AreAtRest r.board (runners_of r.runners)
+
+-- the root's view after the others were joined into it
+abbrev pub root_view : Runner → List Runner → View
+root_view d rs = gathered (hand_view (slice_index_or rs 0 d)) (map hand_view (drop 1 rs))

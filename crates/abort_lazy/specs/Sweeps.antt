@@ -1,0 +1,105 @@
+-- Events tried in turn, by runners that take their numbers from counters.
+use Rattle.std.specs.Prelude.{◌≡◌, ℕ, ◌+◌, ◌<◌, ◌≤◌, ◌⊎◌, ◌^◌, true, false, List, [], ◌∷◌, ◌++◌, Contains, None, All, length, slice_index_or}
+use Rattle.morph_base.specs.declared.plan.Plan.{Plan}
+use Rattle.morph_base.specs.Plans.{event_at, event_count}
+use Rattle.op_words.specs.declared.board.Board.{Board}
+use Rattle.op_words.specs.Counting.{place, taking, times, Takes}
+use Rattle.op_words.specs.Hands.{plan_of, counters_of, IsHandOf}
+use Rattle.op_words.specs.Views.{IsLone}
+use Rattle.op_eval.specs.declared.answers.Evaluation.{Evaluation}
+use Rattle.op_eval.specs.declared.answers.Left.{Left}
+use Rattle.op_eval.specs.declared.runner.Runner.{Runner}
+use Rattle.op_eval.specs.Exploring.{Unused}
+use Rattle.op_eval.specs.Running.{hand_view}
+use Rattle.abort_lazy.specs.declared.run.sweeping.Call.{Call}
+use Rattle.abort_lazy.specs.declared.run.sweeping.Call.TheVariants.{Took, Tried}
+use Rattle.abort_lazy.specs.declared.transaction.TxnAnswer.{TxnAnswer}
+use Rattle.abort_lazy.specs.declared.transaction.TxnAnswer.TheVariants.{Settled as AllSettled, NotYet, Busy}
+use Rattle.abort_lazy.specs.Transactions.{TxnDoes, counted_all}
+
+-- the runner took number n from the counter, and nothing else changed
+pub record HasTaken (c n : ℕ) (a b : Runner) : Type 0 where
+  pub view : hand_view b ≡ taking c n (hand_view a)
+  pub takes : Takes c n (hand_view a)
+  pub answers : b.answers ≡ a.answers
+  pub kept : b.kept ≡ a.kept
+
+-- what is kept of an answer
+abbrev pub left_of : ℕ → TxnAnswer → List Left
+left_of i (AllSettled committed) = []
+left_of i (NotYet at w) = record { event = i; at = at; word = w; busy = false } ∷ []
+left_of i (Busy at w) = record { event = i; at = at; word = w; busy = true } ∷ []
+
+-- the runner tried event i: it keeps of the answer what is to be kept, and counted what `evaluate` answered on the way
+pub record HasTriedOne (p : Plan) (i : ℕ) (a b : Runner) : Type 0 where
+  pub answer : TxnAnswer
+  pub does : TxnDoes p i (hand_view a) (hand_view b) answer
+  pub evaluations : List Evaluation
+  pub few : length evaluations ≤ (event_at p i).count
+  pub counts : b.answers ≡ counted_all evaluations a.answers
+  pub kept : b.kept.items ≡ a.kept.items ++ left_of i answer
+  pub room : a.kept.room ≤ b.kept.room + 1
+
+-- one call; and calls one after another, the last first
+abbrev pub Calling : Plan → Call → Runner → Runner → Type 0
+Calling p (Took c n) a b = HasTaken c n a b
+Calling p (Tried i) a b = (i < event_count p) × HasTriedOne p i a b
+
+abbrev pub Calls : Plan → List Call → Runner → Runner → Type 0
+Calls p [] a b = b ≡ a
+Calls p (c ∷ cs) a b = (m : Runner) × Calls p cs a m × Calling p c m b
+
+-- the board has the plan and the counter, and the events are the plan's
+pub record FitsBoard (b : Board) (p : Plan) (c : ℕ) (events : List ℕ) : Type 0 where
+  pub plan : p ≡ plan_of b
+  pub counter : c < counters_of b
+  pub inside : All (λ i. i < event_count p) events
+  pub few : length events < 2 ^ 32
+
+-- the runner holds nothing, took nothing from the counter, and has room for what the events leave
+pub record CanSweep (b : Board) (c : ℕ) (events : List ℕ) (r : Runner) : Type 0 where
+  pub hand : IsHandOf b r.hand
+  pub free : (hand_view r).claim ≡ None
+  pub unused : Unused c r
+  pub room : length events ≤ r.kept.room
+
+-- it took numbers from the counter, and tried the events of these numbers, and no others
+pub record Swept (p : Plan) (c : ℕ) (events : List ℕ) (a b : Runner) : Type 0 where
+  pub calls : List Call
+  pub made : Calls p calls a b
+  pub only : (k n : ℕ) → Contains calls (Took k n) → k ≡ c
+  pub tried : (n : ℕ) → Contains calls (Took c n) → n < length events → Contains calls (Tried (slice_index_or events n 0))
+  pub inside : (i : ℕ) → Contains calls (Tried i)
+      → (n : ℕ) × (n < length events) × (slice_index_or events n 0 ≡ i) × Contains calls (Took c n)
+  pub room : a.kept.room ≤ b.kept.room + length events
+  -- a lone root takes the numbers from 0 on
+  pub whole : IsLone (hand_view a) → (n : ℕ) → n < times c (hand_view b).places → Contains calls (Took c n)
+
+-- the runner saw the counter at or past the last of so many numbers
+abbrev pub IsEnough : ℕ → ℕ → Runner → Type 0
+IsEnough c many r = (many ≡ 0) ⊎ ((n : ℕ) × Contains (hand_view r).places (place c n) × (many ≤ n + 1))
+
+-- it did so; a lone root took as many numbers
+pub record IsThrough (c : ℕ) (events : List ℕ) (a b : Runner) : Type 0 where
+  pub enough : IsEnough c (length events) b
+  pub alone : IsLone (hand_view a) → length events ≤ times c (hand_view b).places
+
+pub record HasSwept (b : Board) (p : Plan) (c : ℕ) (events : List ℕ) (before after : Runner) : Type 0 where
+  pub hand : IsHandOf b after.hand
+  pub swept : Swept p c events before after
+  pub through : IsThrough c events before after
+
+-- all runners took part or none but the first, and one of them saw the counter at the end
+pub record AreSwept (b : Board) (p : Plan) (c : ℕ) (events : List ℕ) (before after : List Runner) : Type 0 where
+  pub len : length after ≡ length before
+  pub hands : All (λ r. IsHandOf b r.hand) after
+  pub each : (k : ℕ) (d : Runner) → k < length before → Swept p c events (slice_index_or before k d) (slice_index_or after k d)
+  pub through : (k : ℕ) × (k < length before) × ((d : Runner) → IsThrough c events (slice_index_or before k d) (slice_index_or after k d))
+
+-- after so many turns
+pub record IsSweeping (b : Board) (p : Plan) (c : ℕ) (events : List ℕ) (turn : ℕ) (before now : Runner) : Type 0 where
+  pub hand : IsHandOf b now.hand
+  pub swept : Swept p c events before now
+  pub turns : times c (hand_view now).places ≡ turn
+  pub last : (turn ≡ 0) ⊎ ((n : ℕ) × Contains (hand_view now).places (place c n) × (turn ≤ n + 1))
+  pub room : before.kept.room ≤ now.kept.room + turn

@@ -1,0 +1,94 @@
+//! All events of a batch are settled on the shared board, event level by event level, by several runners.
+ghost use Rattle.std.specs.Prelude.{◌≡◌, ◌+◌, ◌<◌, ◌≤◌, ◌^◌, length, map};
+ghost use Rattle.morph_base.specs.Graphs.{IsValidPlan};
+ghost use Rattle.op_words.specs.Closing.{IsClosed};
+ghost use Rattle.op_words.specs.Hands.{plan_of, cap_of, counters_of};
+ghost use Rattle.op_eval.specs.declared.runner.Runner.{Runner as R};
+ghost use Rattle.op_eval.specs.Gathering.{runners_of};
+ghost use Rattle.op_eval.specs.Exploring.{IsExplored};
+ghost use Rattle.abort_lazy.specs.Runs.{AreSettling, AreAllHands, IsSettledRun, root_view};
+
+use morph_base::{List, Plan};
+use op_eval::{Explored, Left, Runner, Runners};
+use op_words::{Board, Closed};
+use std::thread::Threads;
+
+mod sweeping;
+mod taking;
+
+use sweeping::{Sweep, sweep_by};
+
+/// A board and its runners after each event of a batch was tried, before the board is closed.
+#[derive(Drop)]
+pub struct SettledRun {
+    board: Board,
+    runners: Runners,
+}
+
+/// Tries the events of each level, from the lowest on, each level with a counter of its own.
+fn settle_levels<T: Threads + Sync>(
+    rt: &T,
+    board: &Board,
+    runners: &mut [Runner],
+    plan: &Plan,
+    from: u32,
+)
+    requires plan { plan.now ≡ plan_of board.now }
+    requires valid { IsValidPlan plan.now }
+    requires some { 0 < length runners.old }
+    requires counters { from + length plan.now.event_levels.items ≤ counters_of board.now }
+    requires few { counters_of board.now < 2 ^ 32 }
+    requires ready { AreSettling board.now plan.now from 0 runners.old runners.old }
+    ensures does { AreSettling board.now plan.now from (length plan.now.event_levels.items) runners.old runners.new }
+{
+    for level in 0..plan.event_levels.len() {
+        let sweep = Sweep {
+            board,
+            plan,
+            events: plan.event_levels.get(level).as_slice(),
+            counter: from + level as u32,
+        };
+        sweep_by(rt, runners, &sweep);
+    }
+}
+
+/// Settles what exploring left: each event is tried once, event level by event level.
+///
+/// A level has a counter of its own, the first one `next_counter` of the run; its runners take numbers from it, and
+/// try the event of that number in the level. The first runner goes over a level of fewer than 8 events alone. Why an
+/// event was not settled is kept by the runner that tried it. The root alone, the only hand ever made, settles all.
+pub fn settle_all<T: Threads + Sync>(rt: &T, run: Explored, plan: &Plan) -> SettledRun
+    requires explored { IsExplored run }
+    requires plan { plan.now ≡ plan_of run.board }
+    requires valid { IsValidPlan plan.now }
+    requires counters { run.next_counter + length plan.now.event_levels.items ≤ counters_of run.board }
+    requires few { counters_of run.board < 2 ^ 32 }
+    ensures board { result.board ≡ run.board }
+    ensures run { IsSettledRun result }
+    ensures settled { AreSettling run.board plan.now run.next_counter (length plan.now.event_levels.items)
+        (runners_of run.runners) (runners_of result.runners) }
+    ensures all { AreAllHands (runners_of run.runners) → AreAllHands (runners_of result.runners) }
+{
+    let (board, mut runners, _, from) = run.parts();
+    settle_levels(rt, &board, runners.as_mut_slice(), plan, from);
+    SettledRun { board, runners }
+}
+
+impl SettledRun {
+    /// Joins the hands into the root and closes the board. It gives the closed board, and why events were not settled
+    /// by the runners that tried them, worker 1 first. The runners' hands are all those of the board.
+    ///
+    /// It takes no memory.
+    pub fn close(self, plan: &Plan) -> (Closed, List<List<Left>>)
+        requires run { IsSettledRun self }
+        requires plan { plan.now ≡ plan_of self.board }
+        requires all { AreAllHands (runners_of self.runners) }
+        ensures closed { (d : R) → IsClosed (plan_of self.board) (cap_of self.board) (counters_of self.board)
+            (root_view d (runners_of self.runners)) result.0 }
+        ensures left { result.1.items ≡ map (λ r. r.kept) (runners_of self.runners) }
+    {
+        let SettledRun { board, runners } = self;
+        let (root, left) = runners.gather(&board);
+        (board.close(plan, root), left)
+    }
+}

@@ -1,0 +1,109 @@
+//! The events of one level are tried, each by the runner that takes its number.
+ghost use Rattle.std.specs.Prelude.{◌≡◌, ◌<◌, None, All, length};
+ghost use Rattle.morph_base.specs.Plans.{event_count};
+ghost use Rattle.op_words.specs.Hands.{plan_of, IsHandOf};
+ghost use Rattle.op_eval.specs.Running.{hand_view};
+ghost use Rattle.abort_lazy.specs.Sweeps.{HasTriedOne, FitsBoard, CanSweep, HasSwept, AreSwept};
+
+use super::taking::take_number;
+use crate::transaction::{TxnAnswer, settle_txn};
+use morph_base::Plan;
+use op_eval::{Left, Runner};
+use op_words::Board;
+use std::thread::Threads;
+use worker_gate::{Job, run_all};
+
+/// The events of a level, whose numbers there workers take from a counter.
+#[derive(Drop)]
+pub struct Sweep<'a> {
+    pub board: &'a Board,
+    pub plan: &'a Plan,
+    pub events: &'a [u32],
+    pub counter: u32,
+}
+
+/// What a runner does or did. No value of it is made.
+#[derive(Clone, Copy, Debug, PartialEq, Eq)]
+pub enum Call {
+    /// It took this number from the counter.
+    Took { counter: u32, number: u64 },
+    /// It tried to settle the event.
+    Tried { event: u32 },
+}
+
+/// Tries to settle an event, and keeps why it was not settled.
+fn try_event(board: &Board, runner: &mut Runner, plan: &Plan, event: u32)
+    requires hand { IsHandOf board.now runner.old.hand }
+    requires plan { plan.now ≡ plan_of board.now }
+    requires in_range { event < event_count plan.now }
+    requires free { (hand_view runner.old).claim ≡ None }
+    requires room { 0 < runner.old.kept.room }
+    ensures hand { IsHandOf board.now runner.new.hand }
+    ensures does { HasTriedOne plan.now event runner.old runner.new }
+{
+    match settle_txn(board, runner, plan, event) {
+        TxnAnswer::Settled { .. } => {}
+        TxnAnswer::NotYet { at, word } => runner.kept.add(Left {
+            event,
+            at,
+            word,
+            busy: false,
+        }),
+        TxnAnswer::Busy { at, word } => runner.kept.add(Left {
+            event,
+            at,
+            word,
+            busy: true,
+        }),
+    }
+}
+
+/// Takes numbers from the counter, and tries the event of each, until none is left.
+fn go_over(sweep: &Sweep<'_>, runner: &mut Runner)
+    requires fits { FitsBoard sweep.now.board.now sweep.now.plan.now sweep.now.counter sweep.now.events.now }
+    requires can { CanSweep sweep.now.board.now sweep.now.counter sweep.now.events.now runner.old }
+    ensures does { HasSwept sweep.now.board.now sweep.now.plan.now sweep.now.counter sweep.now.events.now
+        runner.old runner.new }
+{
+    for turn in 0..sweep.events.len() {
+        let _turn = turn;
+        let number = take_number(sweep.board, runner, sweep.counter);
+        if number >= sweep.events.len() as u64 {
+            return;
+        }
+        try_event(
+            sweep.board,
+            runner,
+            sweep.plan,
+            sweep.events[number as usize],
+        );
+    }
+}
+
+impl Job<Runner> for Sweep<'_> {
+    ghost use Rattle.abort_lazy.specs.Sweeps.{FitsBoard, CanSweep, HasSwept};
+
+    ghost can_run = { λ job runner. FitsBoard job.board.now job.plan.now job.counter job.events.now
+        × CanSweep job.board.now job.counter job.events.now runner };
+
+    ghost changes = { λ job before after. HasSwept job.board.now job.plan.now job.counter job.events.now before after };
+
+    fn run(&self, worker: &mut Runner) {
+        go_over(self, worker)
+    }
+}
+
+/// Has the level's events tried by all runners, or by the first alone where there are fewer than 8.
+pub fn sweep_by<T: Threads + Sync>(rt: &T, runners: &mut [Runner], sweep: &Sweep<'_>)
+    requires some { 0 < length runners.old }
+    requires fits { FitsBoard sweep.now.board.now sweep.now.plan.now sweep.now.counter sweep.now.events.now }
+    requires can { All (CanSweep sweep.now.board.now sweep.now.counter sweep.now.events.now) runners.old }
+    ensures does { AreSwept sweep.now.board.now sweep.now.plan.now sweep.now.counter sweep.now.events.now
+        runners.old runners.new }
+{
+    if sweep.events.len() < 8 {
+        sweep.run(&mut runners[0]);
+    } else {
+        run_all(rt, runners, sweep);
+    }
+}

@@ -15,5 +15,6 @@ pub mod Answering
 pub mod Trying
 pub mod Sweeping
 pub mod Levelling
+pub mod Alone
 pub mod Advancing
 pub mod Concluding

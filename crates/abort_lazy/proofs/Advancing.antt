@@ -18,8 +18,9 @@ use Rattle.op_eval.specs.declared.runner.Runner.{Runner}
 use Rattle.op_eval.specs.Running.{hand_view}
 use Rattle.abort_lazy.specs.declared.run.sweeping.Call.{Call}
 use Rattle.abort_lazy.specs.declared.run.sweeping.Call.TheVariants.{Took, Tried}
-use Rattle.abort_lazy.specs.Sweeps.{Calls, Swept, AreSwept, IsEnough, FitsBoard, CanSweep}
+use Rattle.abort_lazy.specs.Sweeps.{IsThrough, Calls, Swept, AreSwept, IsEnough, FitsBoard, CanSweep}
 use Rattle.abort_lazy.specs.Runs.{Rising, HasTried, IsSettling, AreSettling, events_of, event_in}
+use Rattle.abort_lazy.proofs.Alone.{settled_alone}
 use Rattle.abort_lazy.proofs.Levelling.{level_is, next_room, events_inside, events_few}
 use Rattle.abort_lazy.proofs.Trying.{contains_first, contains_later, contains_none, calls_free, calls_tag, calls_made, calls_joined, calls_hold, calls_left}
 
@@ -179,6 +180,15 @@ module _ (p : Plan) (valid : IsPlan p) (graph : IsGraph p) (from level : ℕ) (l
                 λ d. let one-swept = swept.each old.0 d old.1 in enough_hold (from + l) (length (events_of p l)) one-swept.calls (slice_index_or rs old.0 d) (slice_index_or qs old.0 d) one-swept.made (old.2 d),
               )
         ];
+    alone = λ only d lone.
+        let some : 0 < length rs = (let len = settling.len in omega (arith, len, only)) in
+        let old = settling.each 0 d some in
+        let swept-one = swept.each 0 d some in
+        let last = swept.through in
+        let first : last.0 ≡ 0 = (let below = last.1 in let len = settling.len in omega (arith, below, len, only)) in
+        settled_alone p valid graph (from + level) level (slice_index_or start 0 d) (slice_index_or rs 0 d) (slice_index_or qs 0 d) lt
+        (record { root = old.tag ∙ lone.root; alone = old.made ∙ lone.alone }) (settling.alone only d lone) swept-one
+        (subst (λ k. IsThrough (from + level) (events_of p level) (slice_index_or rs k d) (slice_index_or qs k d)) first (last.2 d));
   }
 
 -- ---- before a level is begun

@@ -4,6 +4,7 @@ use Rattle.std.specs.Prelude.{Contains, drop, take, slice_index_or}
 use Rattle.std.proofs.lemmas.List.{length-map, get_or-map}
 use Rattle.std.proofs.lemmas.List.Elements.{Contains-append_left, Contains-append_right}
 use Rattle.morph_base.specs.declared.plan.Plan.{Plan}
+use Rattle.morph_base.specs.Graphs.{IsValidPlan}
 use Rattle.morph_base.specs.Plans.{event_count}
 use Rattle.op_words.specs.declared.board.Board.{Board}
 use Rattle.op_words.specs.declared.trail.View.{View}
@@ -16,13 +17,14 @@ use Rattle.op_eval.specs.Exploring.{AreExplored}
 use Rattle.op_eval.specs.Gathering.{runners_of, gathered, HasPlaces, AreAtRest}
 use Rattle.op_eval.specs.Lending.{with_runners}
 use Rattle.op_eval.specs.Running.{hand_view}
-use Rattle.abort_lazy.specs.Runs.{AreSettling, AreAllHands, root_view}
+use Rattle.abort_lazy.specs.Runs.{IsSettledByRoot, AreSettling, AreAllHands, root_view}
+use Rattle.abort_lazy.proofs.Alone.{alone_begins, alone_ends}
 use Rattle.abort_lazy.proofs.Levelling.{first_room}
 use Rattle.abort_lazy.proofs.Advancing.{tried_none}
 use Rattle.abort_lazy.proofs.Trying.{contains_first}
 
-pub settling_begins : (b : Board) (p : Plan) (from : ℕ) (rs : Runners) → p ≡ plan_of b → AreExplored b from rs → AreSettling b p from 0 (runners_of rs) (runners_of rs)
-settling_begins b p from rs plan explored = record {
+pub settling_begins : (b : Board) (p : Plan) (from : ℕ) (rs : Runners) → IsValidPlan p → p ≡ plan_of b → AreExplored b from rs → AreSettling b p from 0 (runners_of rs) (runners_of rs)
+settling_begins b p from rs valid plan explored = record {
   len = refl;
   each = λ k d lt.
       let r : Runner = slice_index_or (runners_of rs) k d in
@@ -38,6 +40,7 @@ settling_begins b p from rs plan explored = record {
         joined = refl;
       };
   enough = λ l less. absurd (omega (arith, less));
+  alone = λ only d lone. alone_begins p valid.plan valid.graph (slice_index_or (runners_of rs) 0 d);
 }
 
 module _ (b : Board) (p : Plan) (from level : ℕ) (start rs : List Runner) (settling : AreSettling b p from level start rs) where
@@ -98,6 +101,13 @@ module _ (b : Board) (p : Plan) (from level : ℕ) (rs : Runners) (start items :
     places_back rs items back_len explored.places,
     subst (AreAtRest b) (sym back_is) (settling_rests b p from level (runners_of rs) items settling_now explored.rest),
   )
+
+-- a lone root has settled all
+pub alone_back : (b : Board) (p : Plan) (from : ℕ) (rs : Runners) (start items : List Runner) → start ≡ runners_of rs → IsValidPlan p → AreExplored b from rs
+    → AreSettling b p from (length p.event_levels.items) start items → IsSettledByRoot p (runners_of rs) (runners_of (with_runners rs items))
+alone_back b p from rs start items same valid explored settling =
+    alone_ends p valid.plan valid.graph b from (runners_of rs) (runners_of (with_runners rs items)) (λ d. let first = explored.exploring 0 d explored.rest.some in first.kept)
+    (settled_back b p from (length p.event_levels.items) rs start items same settling)
 
 -- ---- joins
 

@@ -16,5 +16,6 @@ pub mod Completing
 pub mod Trying
 pub mod Sweeping
 pub mod Levelling
+pub mod Alone
 pub mod Advancing
 pub mod Concluding

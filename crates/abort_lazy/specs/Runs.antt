@@ -4,7 +4,7 @@ use Rattle.morph_base.specs.declared.plan.Plan.{Plan}
 use Rattle.morph_base.specs.declared.word.OpState.TheVariants.{Claimed}
 use Rattle.morph_base.specs.declared.word.OpWord.{OpWord}
 use Rattle.morph_base.specs.Graphs.{below}
-use Rattle.morph_base.specs.Plans.{event_at, event_count, InEvent}
+use Rattle.morph_base.specs.Plans.{event_at, event_count, op_count, InEvent}
 use Rattle.morph_base.specs.Words.{is_settled}
 use Rattle.op_words.specs.declared.board.Board.{Board}
 use Rattle.op_words.specs.declared.trail.Item.{Item}
@@ -13,6 +13,7 @@ use Rattle.op_words.specs.Closing.{IsJoined}
 use Rattle.op_words.specs.Counting.{times}
 use Rattle.op_words.specs.Hands.{IsHandOf}
 use Rattle.op_words.specs.Trails.{loaded, IsSourceOf, IsShaken}
+use Rattle.op_words.specs.Views.{IsLone, IsSettledSeen}
 use Rattle.op_eval.specs.declared.answers.Left.{Left}
 use Rattle.op_eval.specs.declared.runner.Runner.{Runner}
 use Rattle.op_eval.specs.Gathering.{runners_of, gathered, HasPlaces, AreAtRest}
@@ -56,6 +57,10 @@ event_in p l n = slice_index_or (events_of p l) n 0
 abbrev pub to_come : Plan → ℕ → ℕ
 to_come p level = length (filter (λ i. nat_lt level (event_at p i).level) (below (event_count p)))
 
+-- the view has a settled word of each operation of the events up to the level
+abbrev pub AreSettledUpTo : Plan → ℕ → View → Type 0
+AreSettledUpTo p level v = (i : ℕ) → i < event_count p → (event_at p i).level ≤ level → (o : ℕ) → InEvent p i o → IsSettledSeen v o
+
 -- events are tried by rising level
 abbrev pub Rising : Plan → List Call → Type 0
 Rising p [] = Unit {0}
@@ -89,11 +94,28 @@ pub record IsSettling (b : Board) (p : Plan) (from level : ℕ) (before now : Ru
   pub made : (hand_view now).made ≡ (hand_view before).made
   pub joined : (hand_view now).joined ≡ (hand_view before).joined
 
+-- a lone root has settled all up to the level, and left nothing
+pub record HasSettledAlone (p : Plan) (level : ℕ) (before now : Runner) : Type 0 where
+  pub settled : AreSettledUpTo p level (hand_view now)
+  pub none : now.kept.items ≡ before.kept.items
+
 -- all runners; for each level one of them saw its counter at the end
 pub record AreSettling (b : Board) (p : Plan) (from level : ℕ) (start rs : List Runner) : Type 0 where
   pub len : length rs ≡ length start
   pub each : (k : ℕ) (d : Runner) → k < length rs → IsSettling b p from level (slice_index_or start k d) (slice_index_or rs k d)
   pub enough : (l : ℕ) → l < level → (k : ℕ) × (k < length rs) × ((d : Runner) → IsEnough (from + l) (length (events_of p l)) (slice_index_or rs k d))
+  pub alone : length start ≡ 1 → (d : Runner) → IsLone (hand_view (slice_index_or start 0 d))
+      → HasSettledAlone p level (slice_index_or start 0 d) (slice_index_or rs 0 d)
+
+-- the runner has seen each operation settled, and left nothing
+pub record HasSettledAll (p : Plan) (r : Runner) : Type 0 where
+  pub settled : (o : ℕ) → o < op_count p → IsSettledSeen (hand_view r) o
+  pub none : r.kept.items ≡ []
+
+-- where the root is the only hand ever made
+abbrev pub IsSettledByRoot : Plan → List Runner → List Runner → Type 0
+IsSettledByRoot p start rs =
+    length start ≡ 1 → (d : Runner) → IsLone (hand_view (slice_index_or start 0 d)) → HasSettledAll p (slice_index_or rs 0 d)
 
 -- ---- the end
 

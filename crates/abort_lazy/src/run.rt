@@ -6,7 +6,7 @@ ghost use Rattle.op_words.specs.Hands.{plan_of, cap_of, counters_of};
 ghost use Rattle.op_eval.specs.declared.runner.Runner.{Runner as R};
 ghost use Rattle.op_eval.specs.Gathering.{runners_of};
 ghost use Rattle.op_eval.specs.Exploring.{IsExplored};
-ghost use Rattle.abort_lazy.specs.Runs.{AreSettling, AreAllHands, IsSettledRun, root_view};
+ghost use Rattle.abort_lazy.specs.Runs.{AreSettling, AreAllHands, IsSettledByRoot, IsSettledRun, root_view};
 
 use morph_base::{List, Plan};
 use op_eval::{Explored, Left, Runner, Runners};
@@ -67,6 +67,7 @@ pub fn settle_all<T: Threads + Sync>(rt: &T, run: Explored, plan: &Plan) -> Sett
     ensures run { IsSettledRun result }
     ensures settled { AreSettling run.board plan.now run.next_counter (length plan.now.event_levels.items)
         (runners_of run.runners) (runners_of result.runners) }
+    ensures alone { IsSettledByRoot plan.now (runners_of run.runners) (runners_of result.runners) }
     ensures all { AreAllHands (runners_of run.runners) → AreAllHands (runners_of result.runners) }
 {
     let (board, mut runners, _, from) = run.parts();

@@ -65,8 +65,7 @@ fn go_over(sweep: &Sweep<'_>, runner: &mut Runner)
     ensures does { HasSwept sweep.now.board.now sweep.now.plan.now sweep.now.counter sweep.now.events.now
         runner.old runner.new }
 {
-    for turn in 0..sweep.events.len() {
-        let _turn = turn;
+    for _turn in 0..sweep.events.len() {
         let number = take_number(sweep.board, runner, sweep.counter);
         if number >= sweep.events.len() as u64 {
             return;

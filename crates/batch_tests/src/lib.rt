@@ -33,4 +33,6 @@ mod splitting;
 #[cfg(test)]
 mod states;
 #[cfg(test)]
+mod strata;
+#[cfg(test)]
 mod unit_cuts;

@@ -36,5 +36,6 @@ mod splitting;
 mod states;
 #[cfg(test)]
 mod transactions;
+mod strata;
 #[cfg(test)]
 mod unit_cuts;

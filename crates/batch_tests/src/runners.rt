@@ -78,7 +78,7 @@ struct Ran {
 }
 
 /// The words of all operations.
-fn words_of(
+pub(crate) fn words_of(
     alloc: Global,
     board: &Board,
     root: &mut Hand,

@@ -337,7 +337,10 @@ fn counters_and_the_level_word(rt: HostRuntime) -> Result<(), Fail> {
     board.lower(&mut root, 5);
     let lowered = board.level(&mut root);
     board.reset_level(&mut root);
-    assert_eq!(rt; (first, lowered, board.level(&mut root)), (u32::MAX, 3, u32::MAX));
+    assert_eq!(rt;
+        (first, lowered, board.level(&mut root)),
+        (u32::MAX, 3, u32::MAX)
+    );
     Ok(())
 }
 

@@ -43,7 +43,13 @@ fn a_deposit_is_settled(rt: HostRuntime) -> Result<(), Fail> {
         state: OpState::Blocked,
         by: 0,
     };
-    assert_eq!(rt; settle(&board, &mut root, &plan, 1).0, Decided::NotYet { op: 0, word: blocked });
+    assert_eq!(rt;
+        settle(&board, &mut root, &plan, 1).0,
+        Decided::NotYet {
+            op: 0,
+            word: blocked
+        }
+    );
     evaluate(&board, &mut root, &plan, 0);
     evaluate(&board, &mut root, &plan, 1);
     assert_eq!(rt; board.verdict(&mut root, &plan, 0), Verdict::Good(100));
@@ -58,13 +64,19 @@ fn a_deposit_is_settled(rt: HostRuntime) -> Result<(), Fail> {
     };
     assert_eq!(rt; word.pack(), 388_127_604_605_028);
     let not = SettleAnswer::Not { at: 0, word };
-    assert_eq!(rt; settle(&board, &mut root, &plan, 0), (Decided::Committed, Some(not)));
+    assert_eq!(rt;
+        settle(&board, &mut root, &plan, 0),
+        (Decided::Committed, Some(not))
+    );
     let closed = board.close(&plan, root);
     let counts = Counts {
         evaluated: 2,
         spread: 0,
         rolled: 0,
     };
-    assert_eq!(rt; (closed.word(0), closed.decision(0), closed.counts()), (word, Some(true), counts));
+    assert_eq!(rt;
+        (closed.word(0), closed.decision(0), closed.counts()),
+        (word, Some(true), counts)
+    );
     Ok(())
 }

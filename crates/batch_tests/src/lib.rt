@@ -29,6 +29,8 @@ mod many_events;
 #[cfg(test)]
 mod runners;
 #[cfg(test)]
+mod settled_runs;
+#[cfg(test)]
 mod settling;
 #[cfg(test)]
 mod splitting;

@@ -37,7 +37,8 @@ mod splitting;
 #[cfg(test)]
 mod states;
 #[cfg(test)]
-mod transactions;
 mod strata;
+#[cfg(test)]
+mod transactions;
 #[cfg(test)]
 mod unit_cuts;

@@ -1,12 +1,12 @@
 -- One level of events after another, by one runner and by all.
-use Rattle.std.proofs.Common.{◌≡◌, ◌≢◌, ℕ, ◌+◌, ◌<◌, ◌≤◌, false, cond, List, [], ◌∷◌, ◌++◌, length, refl, sym, ap, ◌∙◌, subst, inl, inr, arith}
-use Rattle.std.specs.Prelude.{Contains, All, slice_index_or}
-use Rattle.std.proofs.lemmas.Bool.{ne_eqb, cases_eq}
+use Rattle.std.proofs.Common.{◌≡◌, ◌≢◌, ℕ, ◌+◌, ◌<◌, ◌≤◌, false, cond, eqb, List, [], ◌∷◌, ◌++◌, length, refl, sym, ap, ◌∙◌, subst, inl, inr, arith}
+use Rattle.std.specs.Prelude.{Contains, All, slice_index_or, sum_by}
+use Rattle.std.proofs.lemmas.Bool.{ne_eqb, cases_eq, cond-false}
 use Rattle.std.proofs.lemmas.List.Elements.{Contains-append_cases, Contains-append_right, Contains-append_left}
-use Rattle.std.proofs.lemmas.List.Sums.{sum_by-append}
+use Rattle.std.proofs.lemmas.List.Sums.{sum_by-append, sum_by-cons}
 use Rattle.morph_base.specs.declared.plan.Plan.{Plan}
 use Rattle.morph_base.specs.declared.limits.TheConstants.{EVENTS}
-use Rattle.morph_base.specs.Graphs.{IsGraph, IsValidPlan}
+use Rattle.morph_base.specs.Graphs.{below, IsGraph, IsValidPlan}
 use Rattle.morph_base.specs.Plans.{IsPlan, event_at, event_count}
 use Rattle.op_words.specs.declared.board.Board.{Board}
 use Rattle.op_words.specs.declared.trail.View.{View}
@@ -18,10 +18,11 @@ use Rattle.op_eval.specs.declared.runner.Runner.{Runner}
 use Rattle.op_eval.specs.Running.{hand_view}
 use Rattle.abort_lazy.specs.declared.run.sweeping.Call.{Call}
 use Rattle.abort_lazy.specs.declared.run.sweeping.Call.TheVariants.{Took, Tried}
-use Rattle.abort_lazy.specs.Sweeps.{IsThrough, Calls, Swept, AreSwept, IsEnough, FitsBoard, CanSweep}
+use Rattle.abort_lazy.specs.Sweeps.{IsThrough, Calls, Swept, AreSwept, IsEnough, FitsBoard, CanSweep, tried_by, taken_by, weight_at}
 use Rattle.abort_lazy.specs.Runs.{Rising, HasTried, IsSettling, AreSettling, events_of, event_in}
 use Rattle.abort_lazy.proofs.Alone.{settled_alone}
 use Rattle.abort_lazy.proofs.Levelling.{level_is, next_room, events_inside, events_few}
+use Rattle.abort_lazy.proofs.Summing.{sum_more, below_same}
 use Rattle.abort_lazy.proofs.Trying.{contains_first, contains_later, contains_none, calls_free, calls_tag, calls_made, calls_joined, calls_hold, calls_left}
 
 module _ (p : Plan) where
@@ -73,11 +74,26 @@ module _ (p : Plan) where
       let does = calls.2.1.does in
       ap (times c) does.goes.adds.places ∙ calls_times c l other cs a calls.0 (later_only l (Tried q) cs only) calls.1
 
+-- no number was taken from the counter
+took_none : (c : ℕ) (weight : ℕ → ℕ) (cs : List Call) → ((n : ℕ) → Contains cs (Took c n) → ⊥) → sum_by (taken_by c weight) cs ≡ 0
+took_none c weight [] none = refl
+took_none c weight (Took k n ∷ cs) none =
+    let rest = took_none c weight cs (λ m found. none m (contains_later (Took k n) cs (Took c m) found)) in
+    let first = sum_by-cons (taken_by c weight) (Took k n) cs in
+    let other : eqb k c ≡ false = ne_eqb k c (λ same. none n (subst (λ j. Contains (Took k n ∷ cs) (Took j n)) same (contains_first (Took k n) cs))) in
+    let here = cond-false (eqb k c) (weight n) 0 other in
+    omega (arith, rest, first, here)
+took_none c weight (Tried i ∷ cs) none =
+    let rest = took_none c weight cs (λ m found. none m (contains_later (Tried i) cs (Took c m) found)) in
+    let first = sum_by-cons (taken_by c weight) (Tried i) cs in
+    omega (arith, rest, first)
+
 -- nothing was tried yet
 pub tried_none : (p : Plan) (from : ℕ) (a : Runner) → HasTried p from 0 a a
 tried_none p from a = record {
   calls = [];
   made = refl;
+  turns = λ weight. refl;
   rising = tt;
   below = λ i found. absurd (contains_none (Tried i) found);
   only = λ c n found. absurd (contains_none (Took c n) found);
@@ -108,10 +124,32 @@ module _ (p : Plan) (valid : IsPlan p) (graph : IsGraph p) (from level : ℕ) (l
         rising_append p swept.calls before.calls before.rising (rising_level p (level + 1) swept.calls now)
         (λ i j low high. let l = before.below i low in let h = now j high in omega (arith, l, h))
 
+    turns_all : (weight : ℕ → ℕ)
+        → sum_by (tried_by weight) (swept.calls ++ before.calls)
+        ≡ sum_by (λ l. sum_by (taken_by (from + l) (weight_at (events_of p l) weight)) (swept.calls ++ before.calls)) (below (level + 1))
+    turns_all weight =
+        let tried = sum_by-append (tried_by weight) swept.calls before.calls in
+        let new = swept.turns weight in
+        let old = before.turns weight in
+        let more = sum_more (λ l. sum_by (of_level l) (swept.calls ++ before.calls)) level in
+        let last = sum_by-append (of_level level) swept.calls before.calls in
+        let none = took_none (from + level) (weight_at (events_of p level) weight) before.calls (λ n found. let is = before.only (from + level) n found in let low = is.1 in let same = is.2 in omega (arith, low, same)) in
+        let same =
+        below_same (λ l. sum_by (of_level l) (swept.calls ++ before.calls)) (λ l. sum_by (of_level l) before.calls) level
+        (λ l less.
+        let two = sum_by-append (of_level l) swept.calls before.calls in
+        let zero_new = took_none (from + l) (weight_at (events_of p l) weight) swept.calls (λ n found. let is = swept.only (from + l) n found in omega (arith, less, is)) in
+        omega (arith, two, zero_new)) in
+        omega (arith, tried, new, old, more, last, none, same)
+      where
+        of_level : ℕ → Call → ℕ
+        of_level l = taken_by (from + l) (weight_at (events_of p l) weight)
+
     tried_more : HasTried p from (level + 1) a b
     tried_more = record {
       calls = swept.calls ++ before.calls;
       made = made_all;
+      turns = turns_all;
       rising = rising_all;
       below = λ i found.
           elim (Contains-append_cases swept.calls before.calls (Tried i) found) [
@@ -157,8 +195,10 @@ module _ (p : Plan) (valid : IsPlan p) (graph : IsGraph p) (from level : ℕ) (l
       elim is [ inl none ↦ inl none | inr last ↦ inr (last.0, calls_hold p calls m b made (place c last.0) last.1, last.2) ]
 
   pub settling_more : (board : Board) (start rs qs : List Runner) → ((k : ℕ) (d : Runner) → k < length start → IsTrailNoted (hand_view (slice_index_or start k d)))
-      → AreSettling board p from level start rs → AreSwept board p (from + level) (events_of p level) rs qs → AreSettling board p from (level + 1) start qs
-  settling_more board start rs qs noted settling swept = record {
+      → from + (level + 1) ≤ counters_of board → AreSettling board p from level start rs → AreSwept board p (from + level) (events_of p level) rs qs
+      → AreSettling board p from (level + 1) start qs
+  settling_more board start rs qs noted counters settling swept = record {
+    counters = counters;
     len = swept.len ∙ settling.len;
     each = λ k d less.
         let before : k < length rs = subst (λ n. k < n) swept.len less in

@@ -2,14 +2,11 @@
 use Rattle.std.proofs.Common.{◌≡◌, ℕ, zero, suc, ◌+◌, ◌<◌, Bool, true, false, cond, eqb, List, [], ◌∷◌, ◌++◌, append-nil, length, get_or, refl, sym, ap, ◌∙◌, subst, inl, inr, arith}
 use Rattle.std.specs.Prelude.{Contains, filter, slice_index_or}
 use Rattle.std.proofs.lemmas.Bool.{false≢true, cases_lt, eq-eqb}
-use Rattle.std.proofs.lemmas.List.FromFn.{length-range_with_len, get_or-range_with_len}
 use Rattle.morph_base.specs.declared.plan.Plan.{Plan}
 use Rattle.morph_base.specs.Graphs.{below, IsGraph}
 use Rattle.morph_base.specs.Plans.{IsPlan, InEvent, event_at, event_of, event_count}
 use Rattle.morph_base.proofs.LevelLaws.{event_level-range}
 use Rattle.op_words.specs.declared.board.Board.{Board}
-use Rattle.op_words.specs.declared.trail.View.{View}
-use Rattle.op_words.specs.Counting.{taking}
 use Rattle.op_words.specs.Views.{IsLone, IsSettledSeen}
 use Rattle.op_eval.specs.declared.runner.Runner.{Runner}
 use Rattle.op_eval.specs.Running.{hand_view}
@@ -22,7 +19,8 @@ use Rattle.abort_lazy.specs.Sweeps.{left_of, Calls, Swept, IsThrough}
 use Rattle.abort_lazy.specs.Runs.{events_of, event_in, AreSettledUpTo, HasSettledAlone, AreSettling, IsSettledByRoot}
 use Rattle.abort_lazy.proofs.Carrying.{seen_more}
 use Rattle.abort_lazy.proofs.Levelling.{events_is, level_is, levels_len}
-use Rattle.abort_lazy.proofs.Trying.{contains_first, contains_later, contains_cases, contains_none, calls_lone, source_below}
+use Rattle.abort_lazy.proofs.Summing.{below_has}
+use Rattle.abort_lazy.proofs.Trying.{contains_first, contains_later, contains_cases, contains_none, calls_lone, seen_taken, source_below}
 
 -- ---- each event of a level stands in its list
 
@@ -54,13 +52,10 @@ module _ (p : Plan) (valid : IsPlan p) (graph : IsGraph p) where
   event_found : (l i : ℕ) → l < length p.event_levels.items → i < event_count p → (event_at p i).level ≡ l + 1 → (n : ℕ) × (n < length (events_of p l)) × (event_in p l n ≡ i)
   event_found l i lt less is = (found.0, found.1, any_default (events_of p l) found.0 0 i found.1 ∙ found.2)
     where
-      there : Contains (below (event_count p)) i
-      there = (i, subst (λ n. i < n) (sym (length-range_with_len 0 (event_count p))) less, get_or-range_with_len 0 (event_count p) i i less ∙ omega arith)
-
       found : Contains (events_of p l) i
       found =
           subst (λ xs. Contains xs i) (sym (events_is p graph l lt))
-          (contains_filter (λ k. eqb (event_at p k).level (l + 1)) (below (event_count p)) i there (eq-eqb (event_at p i).level (l + 1) is))
+          (contains_filter (λ k. eqb (event_at p k).level (l + 1)) (below (event_count p)) i (below_has (event_count p) i less) (eq-eqb (event_at p i).level (l + 1) is))
 
   -- ---- what its calls settle
 
@@ -71,9 +66,6 @@ module _ (p : Plan) (valid : IsPlan p) (graph : IsGraph p) where
 
   append_left : {X : Type 0} (xs ys : List X) → ys ≡ [] → xs ++ ys ≡ xs
   append_left xs ys none = ap (λ zs. xs ++ zs) none ∙ append-nil xs
-
-  seen_taking : (c n o : ℕ) (v : View) → IsSettledSeen v o → IsSettledSeen (taking c n v) o
-  seen_taking c n o v seen = record { note = seen.note; inside = seen.inside; op_is = seen.op_is; settled = seen.settled }
 
   record IsDone (level : ℕ) (cs : List Call) (m b : Runner) : Type 0 where
     pub before : AreSettledUpTo p level (hand_view b)
@@ -90,12 +82,12 @@ module _ (p : Plan) (valid : IsPlan p) (graph : IsGraph p) where
   calls_settle level (Took c n ∷ cs) m b lone up of_level calls =
       let done = calls_settle level cs m calls.0 lone up (λ i found. of_level i (contains_later (Took c n) cs (Tried i) found)) calls.1 in
       record {
-        before = λ i lt le o inside. subst (λ v. IsSettledSeen v o) (sym calls.2.view) (seen_taking c n o (hand_view calls.0) (done.before i lt le o inside));
+        before = λ i lt le o inside. seen_taken c n o calls.0 b calls.2 (done.before i lt le o inside);
         none = ap (λ l. l.items) calls.2.kept ∙ done.none;
         now = λ i found o inside.
             elim (contains_cases (Took c n) cs (Tried i) found) [
               | inl same ↦ absurd (apart i same)
-              | inr later ↦ subst (λ v. IsSettledSeen v o) (sym calls.2.view) (seen_taking c n o (hand_view calls.0) (done.now i later o inside))
+              | inr later ↦ seen_taken c n o calls.0 b calls.2 (done.now i later o inside)
             ];
       }
     where

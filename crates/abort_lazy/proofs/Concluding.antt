@@ -2,15 +2,14 @@
 use Rattle.std.proofs.Common.{◌≡◌, ℕ, zero, suc, ◌<◌, ◌≤◌, List, [], ◌∷◌, ◌++◌, length, map, refl, sym, ap, ◌∙◌, subst, inl, inr, arith}
 use Rattle.std.specs.Prelude.{Contains, drop, take, slice_index_or}
 use Rattle.std.proofs.lemmas.List.{length-map, get_or-map}
-use Rattle.std.proofs.lemmas.List.Elements.{Contains-append_left, Contains-append_right}
 use Rattle.morph_base.specs.declared.plan.Plan.{Plan}
 use Rattle.morph_base.specs.Graphs.{IsValidPlan}
 use Rattle.morph_base.specs.Plans.{event_count}
 use Rattle.op_words.specs.declared.board.Board.{Board}
 use Rattle.op_words.specs.declared.trail.View.{View}
 use Rattle.op_words.specs.Closing.{IsJoined}
-use Rattle.op_words.specs.Hands.{plan_of}
-use Rattle.op_words.specs.Views.{merged, joined_of}
+use Rattle.op_words.specs.Hands.{plan_of, counters_of}
+use Rattle.op_words.specs.Views.{joined_of}
 use Rattle.op_eval.specs.declared.runner.Runner.{Runner}
 use Rattle.op_eval.specs.declared.runners.Runners.{Runners}
 use Rattle.op_eval.specs.Exploring.{AreExplored}
@@ -21,10 +20,11 @@ use Rattle.abort_lazy.specs.Runs.{IsSettledByRoot, AreSettling, AreAllHands, roo
 use Rattle.abort_lazy.proofs.Alone.{alone_begins, alone_ends}
 use Rattle.abort_lazy.proofs.Levelling.{first_room}
 use Rattle.abort_lazy.proofs.Advancing.{tried_none}
-use Rattle.abort_lazy.proofs.Trying.{contains_first}
+use Rattle.abort_lazy.proofs.Gathered.{gathered_made, gathered_tag, gathered_joined, gathered_has}
 
-pub settling_begins : (b : Board) (p : Plan) (from : ℕ) (rs : Runners) → IsValidPlan p → p ≡ plan_of b → AreExplored b from rs → AreSettling b p from 0 (runners_of rs) (runners_of rs)
-settling_begins b p from rs valid plan explored = record {
+pub settling_begins : (b : Board) (p : Plan) (from : ℕ) (rs : Runners) → IsValidPlan p → p ≡ plan_of b → from ≤ counters_of b → AreExplored b from rs → AreSettling b p from 0 (runners_of rs) (runners_of rs)
+settling_begins b p from rs valid plan counters explored = record {
+  counters = omega (arith, counters);
   len = refl;
   each = λ k d lt.
       let r : Runner = slice_index_or (runners_of rs) k d in
@@ -111,30 +111,11 @@ alone_back b p from rs start items same valid explored settling =
 
 -- ---- joins
 
-pub gathered_made : (v : View) (ws : List View) → (gathered v ws).made ≡ v.made
-unfolding gathered
-gathered_made v [] = refl
-gathered_made v (w ∷ ws) = gathered_made (merged v w) ws
-
-pub gathered_tag : (v : View) (ws : List View) → (gathered v ws).tag ≡ v.tag
-unfolding gathered
-gathered_tag v [] = refl
-gathered_tag v (w ∷ ws) = gathered_tag (merged v w) ws
-
 gathered_root : (v : View) (ws : List View) (t : ℕ) → IsJoined v t → IsJoined (gathered v ws) t
-unfolding gathered
-gathered_root v [] t is = is
-gathered_root v (w ∷ ws) t is = gathered_root (merged v w) ws t (is.0, Contains-append_left v.joined (joined_of w ∷ []) is.0 is.1, is.2)
+gathered_root v ws t is = (is.0, gathered_joined v ws is.0 is.1, is.2)
 
 gathered_other : (v : View) (ws : List View) (k : ℕ) (d : View) (t : ℕ) → k < length ws → (slice_index_or ws k d).tag ≡ t → IsJoined (gathered v ws) t
-unfolding gathered
-gathered_other v [] k d t lt is = absurd (omega (arith, lt))
-gathered_other v (w ∷ ws) zero d t lt is =
-    gathered_root (merged v w) ws t (joined_of w, Contains-append_right v.joined (joined_of w ∷ []) (joined_of w) (contains_first (joined_of w) []), is)
-gathered_other v (w ∷ ws) (suc k) d t lt is = gathered_other (merged v w) ws k d t (less lt) is
-  where
-    less : suc k < suc (length ws) → k < length ws
-    less l = omega (arith, l)
+gathered_other v ws k d t lt is = (joined_of (slice_index_or ws k d), gathered_has v ws k d lt, is)
 
 -- the root has joined all
 pub all_joined : (d : Runner) (rs : List Runner) → AreAllHands rs → 0 < length rs → (t : ℕ) → 1 < t → t ≤ (root_view d rs).made → IsJoined (root_view d rs) t

@@ -355,7 +355,7 @@ lone_unseen {v} {u} {xs} goes alone trail open_own o unseen seen =
     elim (Contains-append_cases v.notes xs seen.note (subst (λ zs. Contains zs seen.note) goes.adds.notes seen.inside)) [
       | inl before ↦ unseen (record { note = seen.note; inside = before; op_is = seen.op_is; settled = seen.settled })
       | inr found ↦
-          calm_open o v.trail xs (goes.adds.calm alone) open_own (λ t inside same is. unseen (record { note = t; inside = trail.each t inside; op_is = same; settled = is })) seen.note
+          calm_open o v.trail xs (goes.adds.calm alone) (λ t inside own here. open_own t inside own) (λ t inside same is. unseen (record { note = t; inside = trail.each t inside; op_is = same; settled = is })) seen.note
           (Contains-append_right v.trail xs seen.note found) seen.op_is seen.settled
     ]
 

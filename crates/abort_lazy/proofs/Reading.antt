@@ -13,7 +13,7 @@ use Rattle.morph_base.specs.Known.{IsKnown}
 use Rattle.morph_base.proofs.OutcomeLaws.{source_precedes, keys_fit}
 use Rattle.morph_base.proofs.BoundLaws.{source-small, final-small}
 use Rattle.abort_lazy.specs.Finishing.{HasValues}
-use Rattle.abort_lazy.specs.Settling.{settled_sources}
+use Rattle.abort_lazy.specs.Finishing.{settled_sources}
 use Rattle.abort_lazy.proofs.Numbers.{before_first}
 
 -- ---- the values of the sources under an assignment, as a list

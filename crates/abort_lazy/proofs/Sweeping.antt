@@ -1,10 +1,10 @@
 -- Turns of a runner at one level.
-use Rattle.std.proofs.Common.{◌≡◌, ℕ, ◌+◌, ◌<◌, ◌≤◌, cond, List, [], ◌∷◌, length, refl, sym, ap, ◌∙◌, subst, inl, inr, arith, None}
-use Rattle.std.specs.Prelude.{Contains, All, slice_index_or, slice_set}
-use Rattle.std.proofs.lemmas.Bool.{cases_eq, eq-eqb}
+use Rattle.std.proofs.Common.{◌≡◌, ℕ, ◌+◌, ◌<◌, ◌≤◌, cond, eqb, List, [], ◌∷◌, length, get_or, refl, sym, ap, ◌∙◌, subst, inl, inr, arith, None}
+use Rattle.std.specs.Prelude.{Contains, All, nat_lt, slice_index_or, slice_set, sum_by}
+use Rattle.std.proofs.lemmas.Bool.{cases_eq, cond-true, cond-false, eq-eqb, le-ltb, lt-ltb}
 use Rattle.std.proofs.lemmas.List.{length-set, get_or-set_same, get_or-set_other}
 use Rattle.std.proofs.lemmas.List.Elements.{Contains-append_right}
-use Rattle.std.proofs.lemmas.List.Sums.{sum_by-append}
+use Rattle.std.proofs.lemmas.List.Sums.{sum_by-append, sum_by-cons}
 use Rattle.morph_base.specs.declared.plan.Plan.{Plan}
 use Rattle.morph_base.specs.Plans.{event_count}
 use Rattle.op_words.specs.declared.board.Board.{Board}
@@ -18,7 +18,7 @@ use Rattle.op_eval.specs.Exploring.{Unused}
 use Rattle.op_eval.specs.Running.{hand_view}
 use Rattle.abort_lazy.specs.declared.run.sweeping.Call.{Call}
 use Rattle.abort_lazy.specs.declared.run.sweeping.Call.TheVariants.{Took, Tried}
-use Rattle.abort_lazy.specs.Sweeps.{HasTaken, HasTriedOne, Swept, IsThrough, HasSwept, AreSwept, IsSweeping, CanSweep}
+use Rattle.abort_lazy.specs.Sweeps.{HasTaken, HasTriedOne, Swept, IsThrough, HasSwept, AreSwept, IsSweeping, CanSweep, tried_by, taken_by, weight_at}
 use Rattle.abort_lazy.proofs.Trying.{contains_first, contains_later, contains_cases, contains_none, calls_lone}
 
 times_one : (c n : ℕ) → times c (place c n ∷ []) ≡ 1
@@ -26,6 +26,33 @@ times_one c n = ap (λ t. 0 + cond t 1 0) (eq-eqb c c refl)
 
 pub times_taking : (c n : ℕ) (v : View) → times c (taking c n v).places ≡ times c v.places + 1
 times_taking c n v = sum_by-append (of_counter c one) v.places (place c n ∷ []) ∙ ap (λ k. times c v.places + k) (times_one c n)
+
+-- ---- an event is tried where its number was taken
+
+module _ (c : ℕ) (events : List ℕ) (weight : ℕ → ℕ) (n : ℕ) (cs : List Call) where
+  abbrev of_number : ℕ → ℕ
+  of_number = weight_at events weight
+
+  took_now : sum_by (taken_by c of_number) (Took c n ∷ cs) ≡ of_number n + sum_by (taken_by c of_number) cs
+  took_now = sum_by-cons (taken_by c of_number) (Took c n) cs ∙ ap (λ k. k + sum_by (taken_by c of_number) cs) (cond-true (eqb c c) (of_number n) 0 (eq-eqb c c refl))
+
+  turns_past : length events ≤ n → sum_by (tried_by weight) cs ≡ sum_by (taken_by c of_number) cs
+      → sum_by (tried_by weight) (Took c n ∷ cs) ≡ sum_by (taken_by c of_number) (Took c n ∷ cs)
+  turns_past past old =
+      let none : of_number n ≡ 0 = cond-false (nat_lt n (length events)) (weight (get_or events n 0)) 0 (le-ltb n (length events) past) in
+      let tried = sum_by-cons (tried_by weight) (Took c n) cs in
+      let took = took_now in
+      omega (arith, none, tried, took, old)
+
+  turns_on : n < length events → sum_by (tried_by weight) cs ≡ sum_by (taken_by c of_number) cs
+      → sum_by (tried_by weight) (Tried (get_or events n 0) ∷ (Took c n ∷ cs)) ≡ sum_by (taken_by c of_number) (Tried (get_or events n 0) ∷ (Took c n ∷ cs))
+  turns_on lt old =
+      let one_is : of_number n ≡ weight (get_or events n 0) = cond-true (nat_lt n (length events)) (weight (get_or events n 0)) 0 (lt-ltb n (length events) lt) in
+      let tried = sum_by-cons (tried_by weight) (Tried (get_or events n 0)) (Took c n ∷ cs) in
+      let before = sum_by-cons (tried_by weight) (Took c n) cs in
+      let took = sum_by-cons (taken_by c of_number) (Tried (get_or events n 0)) (Took c n ∷ cs) in
+      let now = took_now in
+      omega (arith, one_is, tried, before, took, now, old)
 
 -- who took nothing
 pub swept_none : (p : Plan) (c : ℕ) (events : List ℕ) (a : Runner) → Unused c a → Swept p c events a a
@@ -35,6 +62,7 @@ swept_none p c events a unused = record {
   only = λ k n found. absurd (contains_none (Took k n) found);
   tried = λ n found lt. absurd (contains_none (Took c n) found);
   inside = λ i found. absurd (contains_none (Tried i) found);
+  turns = λ weight. refl;
   room = omega arith;
   whole = λ lone n below. absurd (omega (arith, below, unused));
 }
@@ -98,6 +126,7 @@ module _ (b : Board) (p : Plan) (c : ℕ) (events : List ℕ) (a : Runner) (turn
             | inl same ↦ absurd (tried_apart i same)
             | inr later ↦ let is = sweeping.swept.inside i later in (is.0, is.1, is.2, contains_later (Took c n) sweeping.swept.calls (Took c is.0) is.3)
           ];
+      turns = λ weight. turns_past c events weight n sweeping.swept.calls past (sweeping.swept.turns weight);
       room = let s = sweeping.swept.room in let t = kept_room in omega (arith, s, t);
       whole = λ lone q below. whole_now lone q (subst (λ k. q < k) turned below);
     };
@@ -138,6 +167,7 @@ module _ (b : Board) (p : Plan) (c : ℕ) (events : List ℕ) (a : Runner) (turn
                       | inr later ↦ let is = sweeping.swept.inside k later in (is.0, is.1, is.2, contains_later (Tried i) (Took c n ∷ cs) (Took c is.0) (contains_later (Took c n) cs (Took c is.0) is.3))
                     ]
               ];
+          turns = λ weight. turns_on c events weight n cs lt (sweeping.swept.turns weight);
           room = let q = tries.room in let s = sweeping.room in let le = above in let t = kept_room in omega (arith, q, s, le, t, lt);
           whole = λ lone q below. contains_later (Tried i) (Took c n ∷ cs) (Took c q) (whole_now lone q (subst (λ k. q < k) (ap (times c) same_places ∙ turned) below));
         };

@@ -25,7 +25,7 @@ use Rattle.abort_lazy.specs.declared.run.sweeping.Call.TheVariants.{Took, Tried}
 use Rattle.abort_lazy.specs.declared.transaction.TxnAnswer.{TxnAnswer}
 use Rattle.abort_lazy.specs.declared.transaction.TxnAnswer.TheVariants.{Settled as AllSettled, NotYet, Busy}
 use Rattle.abort_lazy.specs.Transactions.{TxnDoes, IsSourceCause}
-use Rattle.abort_lazy.specs.Sweeps.{left_of, Calls}
+use Rattle.abort_lazy.specs.Sweeps.{left_of, Calls, HasTaken}
 use Rattle.abort_lazy.specs.Runs.{IsLeft, IsLeftBySource, Rising}
 use Rattle.abort_lazy.proofs.Carrying.{load_is_settled}
 use Rattle.abort_lazy.proofs.Ending.{in_range, of_event}
@@ -49,6 +49,11 @@ contains_cases y xs x inside = at inside.0 inside.1 inside.2
 
 pub contains_none : {X : Type 0} (x : X) → Contains [] x → ⊥
 contains_none x found = absurd (omega (arith, found.1))
+
+-- what was seen settled before a number was taken is so after it
+pub seen_taken : (c n o : ℕ) (a b : Runner) → HasTaken c n a b → IsSettledSeen (hand_view a) o → IsSettledSeen (hand_view b) o
+seen_taken c n o a b taken seen =
+    record { note = seen.note; inside = subst (λ (v : View). Contains v.notes seen.note) (sym taken.view) seen.inside; op_is = seen.op_is; settled = seen.settled }
 
 -- ---- what calls keep of a runner
 

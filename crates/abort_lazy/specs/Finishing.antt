@@ -3,12 +3,17 @@ use Rattle.std.specs.Prelude.{◌≡◌, ℕ, ◌+◌, ◌≤◌, List, map, if�
 use Rattle.morph_base.specs.declared.plan.Plan.{Plan}
 use Rattle.morph_base.specs.declared.plan.Settled.{Settled}
 use Rattle.morph_base.specs.declared.word.OpWord.{OpWord}
+use Rattle.morph_base.specs.Clean.{from}
 use Rattle.morph_base.specs.Graphs.{below}
-use Rattle.morph_base.specs.Plans.{op_count, final}
+use Rattle.morph_base.specs.Plans.{op_count, origins_of, final}
 use Rattle.morph_base.specs.Words.{is_settled}
 use Rattle.op_words.specs.declared.closed.Closed.{Closed}
 use Rattle.op_words.specs.declared.trail.View.{View}
 use Rattle.op_words.specs.Closing.{IsClosed}
+
+-- the settled values of the sources of operation o, place by place
+abbrev pub settled_sources : Plan → ℕ → List ℕ
+settled_sources p o = map (from (final p)) (origins_of p o)
 
 -- the worker that settled the operation with this word, 0 where nobody did
 abbrev pub settler : OpWord → ℕ

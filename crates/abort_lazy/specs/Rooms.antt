@@ -1,9 +1,9 @@
 -- The memory of a `Settled`, and how far it is filled.
-use Rattle.std.specs.Prelude.{◌≡◌, ℕ, ◌+◌, ◌≤◌, [], map, replicate}
+use Rattle.std.specs.Prelude.{◌≡◌, ℕ, ◌+◌, ◌≤◌, [], map}
 use Rattle.morph_base.specs.declared.plan.Plan.{Plan}
 use Rattle.morph_base.specs.declared.plan.Settled.{Settled}
 use Rattle.morph_base.specs.Graphs.{below}
-use Rattle.morph_base.specs.Plans.{op_count, event_count, final, verdict}
+use Rattle.morph_base.specs.Plans.{op_count, event_count, verdict}
 use Rattle.abort_lazy.specs.declared.room.Room.{Room}
 
 -- empty lists, with room for the operations and the events of the plan
@@ -14,13 +14,6 @@ pub record IsRoomFor (p : Plan) (r : Room) : Type 0 where
   pub values : op_count p ≤ r.values.room
   pub verdicts : event_count p ≤ r.committed.room
   pub workers : op_count p ≤ r.by.room
-
--- the first n operations stand settled by worker 1, and there is room for the others
-pub record AreSettledSoFar (p : Plan) (n : ℕ) (r : Settled) : Type 0 where
-  pub values : r.values.items ≡ map (final p) (below n)
-  pub workers : r.by.items ≡ replicate n 1
-  pub value_room : op_count p ≤ r.values.room + n
-  pub worker_room : op_count p ≤ r.by.room + n
 
 -- the verdicts on the first i events stand there, and there is room for the others
 pub record AreDecidedSoFar (p : Plan) (i : ℕ) (r : Settled) : Type 0 where

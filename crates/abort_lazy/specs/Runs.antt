@@ -1,5 +1,5 @@
 -- What becomes of a batch that was explored: all events are tried, level by level.
-use Rattle.std.specs.Prelude.{◌≡◌, ◌≢◌, ℕ, ◌+◌, ◌<◌, ◌≤◌, ◌⊎◌, true, false, List, [], ◌∷◌, Contains, None, drop, map, filter, nat_lt, length, slice_index_or}
+use Rattle.std.specs.Prelude.{◌≡◌, ◌≢◌, ℕ, ◌+◌, ◌<◌, ◌≤◌, ◌⊎◌, true, false, List, [], ◌∷◌, Contains, None, drop, map, filter, nat_lt, length, slice_index_or, sum_by}
 use Rattle.morph_base.specs.declared.plan.Plan.{Plan}
 use Rattle.morph_base.specs.declared.word.OpState.TheVariants.{Claimed}
 use Rattle.morph_base.specs.declared.word.OpWord.{OpWord}
@@ -11,7 +11,7 @@ use Rattle.op_words.specs.declared.trail.Item.{Item}
 use Rattle.op_words.specs.declared.trail.View.{View}
 use Rattle.op_words.specs.Closing.{IsJoined}
 use Rattle.op_words.specs.Counting.{times}
-use Rattle.op_words.specs.Hands.{IsHandOf}
+use Rattle.op_words.specs.Hands.{counters_of, IsHandOf}
 use Rattle.op_words.specs.Trails.{loaded, IsSourceOf, IsShaken}
 use Rattle.op_words.specs.Views.{IsLone, IsSettledSeen}
 use Rattle.op_eval.specs.declared.answers.Left.{Left}
@@ -21,7 +21,7 @@ use Rattle.op_eval.specs.Running.{hand_view}
 use Rattle.abort_lazy.specs.declared.run.SettledRun.{SettledRun}
 use Rattle.abort_lazy.specs.declared.run.sweeping.Call.{Call}
 use Rattle.abort_lazy.specs.declared.run.sweeping.Call.TheVariants.{Took, Tried}
-use Rattle.abort_lazy.specs.Sweeps.{Calls, IsEnough}
+use Rattle.abort_lazy.specs.Sweeps.{Calls, IsEnough, tried_by, taken_by, weight_at}
 
 -- ---- why an event was left, over the whole trail of the hand that tried it
 
@@ -69,10 +69,13 @@ Rising p (Tried j ∷ cs) = ((i : ℕ) → Contains cs (Tried i) → (event_at p
 
 -- ---- the runners
 
--- what a runner did up to a level: it took numbers from the levels' counters, and tried the events of these numbers, and no others
+-- what a runner did up to a level: it took numbers from the levels' counters, and tried the events of these numbers, each as often
+-- as its number was taken, and no others
 pub record HasTried (p : Plan) (from level : ℕ) (a b : Runner) : Type 0 where
   pub calls : List Call
   pub made : Calls p calls a b
+  pub turns : (weight : ℕ → ℕ)
+      → sum_by (tried_by weight) calls ≡ sum_by (λ l. sum_by (taken_by (from + l) (weight_at (events_of p l) weight)) calls) (below level)
   pub rising : Rising p calls
   pub below : (i : ℕ) → Contains calls (Tried i) → (event_at p i).level ≤ level
   pub only : (c n : ℕ) → Contains calls (Took c n) → (l : ℕ) × (l < level) × (c ≡ from + l)
@@ -99,8 +102,9 @@ pub record HasSettledAlone (p : Plan) (level : ℕ) (before now : Runner) : Type
   pub settled : AreSettledUpTo p level (hand_view now)
   pub none : now.kept.items ≡ before.kept.items
 
--- all runners; for each level one of them saw its counter at the end
+-- all runners; for each level, which has a counter of the board, one of them saw its counter at the end
 pub record AreSettling (b : Board) (p : Plan) (from level : ℕ) (start rs : List Runner) : Type 0 where
+  pub counters : from + level ≤ counters_of b
   pub len : length rs ≡ length start
   pub each : (k : ℕ) (d : Runner) → k < length rs → IsSettling b p from level (slice_index_or start k d) (slice_index_or rs k d)
   pub enough : (l : ℕ) → l < level → (k : ℕ) × (k < length rs) × ((d : Runner) → IsEnough (from + l) (length (events_of p l)) (slice_index_or rs k d))

@@ -1,5 +1,5 @@
 -- Events tried in turn, by runners that take their numbers from counters.
-use Rattle.std.specs.Prelude.{◌≡◌, ℕ, ◌+◌, ◌<◌, ◌≤◌, ◌⊎◌, ◌^◌, true, false, List, [], ◌∷◌, ◌++◌, Contains, None, All, length, slice_index_or}
+use Rattle.std.specs.Prelude.{◌≡◌, ℕ, ◌+◌, ◌<◌, ◌≤◌, ◌⊎◌, ◌^◌, true, false, if◌then◌else◌, nat_lt, ◌==◌, List, [], ◌∷◌, ◌++◌, Contains, None, All, length, slice_index_or, sum_by}
 use Rattle.morph_base.specs.declared.plan.Plan.{Plan}
 use Rattle.morph_base.specs.Plans.{event_at, event_count}
 use Rattle.op_words.specs.declared.board.Board.{Board}
@@ -49,6 +49,19 @@ abbrev pub Calls : Plan → List Call → Runner → Runner → Type 0
 Calls p [] a b = b ≡ a
 Calls p (c ∷ cs) a b = (m : Runner) × Calls p cs a m × Calling p c m b
 
+-- the weight of the event that a call tried, and of the number that it took from counter c
+abbrev pub tried_by : (ℕ → ℕ) → Call → ℕ
+tried_by weight (Took c n) = 0
+tried_by weight (Tried i) = weight i
+
+abbrev pub taken_by : ℕ → (ℕ → ℕ) → Call → ℕ
+taken_by c weight (Took k n) = if k == c then weight n else 0
+taken_by c weight (Tried i) = 0
+
+-- the weight of the event of this number, and 0 past the last one
+abbrev pub weight_at : List ℕ → (ℕ → ℕ) → ℕ → ℕ
+weight_at events weight n = if nat_lt n (length events) then weight (slice_index_or events n 0) else 0
+
 -- the board has the plan and the counter, and the events are the plan's
 pub record FitsBoard (b : Board) (p : Plan) (c : ℕ) (events : List ℕ) : Type 0 where
   pub plan : p ≡ plan_of b
@@ -63,7 +76,7 @@ pub record CanSweep (b : Board) (c : ℕ) (events : List ℕ) (r : Runner) : Typ
   pub unused : Unused c r
   pub room : length events ≤ r.kept.room
 
--- it took numbers from the counter, and tried the events of these numbers, and no others
+-- it took numbers from the counter, and tried the events of these numbers, each as often as its number was taken, and no others
 pub record Swept (p : Plan) (c : ℕ) (events : List ℕ) (a b : Runner) : Type 0 where
   pub calls : List Call
   pub made : Calls p calls a b
@@ -71,6 +84,7 @@ pub record Swept (p : Plan) (c : ℕ) (events : List ℕ) (a b : Runner) : Type 
   pub tried : (n : ℕ) → Contains calls (Took c n) → n < length events → Contains calls (Tried (slice_index_or events n 0))
   pub inside : (i : ℕ) → Contains calls (Tried i)
       → (n : ℕ) × (n < length events) × (slice_index_or events n 0 ≡ i) × Contains calls (Took c n)
+  pub turns : (weight : ℕ → ℕ) → sum_by (tried_by weight) calls ≡ sum_by (taken_by c (weight_at events weight)) calls
   pub room : a.kept.room ≤ b.kept.room + length events
   -- a lone root takes the numbers from 0 on
   pub whole : IsLone (hand_view a) → (n : ℕ) → n < times c (hand_view b).places → Contains calls (Took c n)

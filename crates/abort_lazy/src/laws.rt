@@ -1,22 +1,23 @@
-//! What the first attempts come to, as the contract of a function that does nothing.
+//! How much is left where few causes are kept, as the contract of a function that does nothing.
 //!
-//! A crate above cites the lemmas behind it, which stand in `proofs/`.
-ghost use Rattle.std.specs.Prelude.{◌≡◌, ℕ, ◌<◌};
+//! A crate above cites the lemma behind it, which stands in `proofs/`.
+ghost use Rattle.std.specs.Prelude.{ℕ, ◌*◌, ◌≤◌, not, List, count_by};
+ghost use Rattle.morph_base.specs.declared.limits.TheConstants.{EVENT_OPS};
 ghost use Rattle.morph_base.specs.declared.plan.Plan.{Plan};
-ghost use Rattle.morph_base.specs.Guesses.{guess, stale_count};
+ghost use Rattle.morph_base.specs.Graphs.{below};
 ghost use Rattle.morph_base.specs.Plans.{IsPlan, op_count};
-ghost use Rattle.abort_lazy.specs.declared.attempts.Attempts.{Attempts};
-ghost use Rattle.abort_lazy.specs.Attempts.{AreTried, ReadWords, value_in};
-ghost use Rattle.abort_lazy.specs.Settling.{outdated_count};
+ghost use Rattle.morph_base.specs.Words.{is_settled};
+ghost use Rattle.interleaving_core.specs.Core.{Core};
+ghost use Rattle.op_words.specs.declared.trail.View.{View};
+ghost use Rattle.op_eval.specs.declared.answers.Left.{Left};
+ghost use Rattle.abort_lazy.specs.Ended.{AreCauses, causes};
 
-/// Where each operation was tried on the values of its sources' words, each word has the operation's guess. Therefore
-/// those that [`settle_plain`](crate::settle_plain) rolls back are as many as those with a source whose guess is not
-/// its value.
+/// What [`SettledRun::close`](crate::SettledRun::close) tells of the causes bounds what is left: each operation that is
+/// not settled in the end is one of an event of which a cause is kept, and an event has at most
+/// [`EVENT_OPS`](morph_base::EVENT_OPS) operations.
 ///
-/// So the first attempts may be made in any order in which sources come first, by however many workers.
-pub fn first_attempts()
-    ensures guesses { (p : Plan) (a : Attempts) (o : ℕ) → IsPlan p → AreTried p a → ReadWords p a → o < op_count p
-        → value_in a o ≡ guess p o }
-    ensures outdated { (p : Plan) (a : Attempts) → IsPlan p → AreTried p a → ReadWords p a
-        → outdated_count p a ≡ stale_count p }
+/// So where no cause is kept, all is settled.
+pub fn few_are_left()
+    ensures { (p : Plan) (c : Core) (v : View) (lists : List (List Left)) → IsPlan p → AreCauses p c v lists
+        → count_by (λ o. not (is_settled (c.word o).state)) (below (op_count p)) ≤ EVENT_OPS * causes lists }
 {}

@@ -1,39 +1,30 @@
-//! Speculation with lazy abort on plain data: first attempts at the operations of a plan, and their settling
-//! afterwards.
+//! Speculation with lazy abort: the events of a batch are settled on the board that workers share, after it was explored
+//! in whatever way, and the rest is completed.
 //!
-//! Each operation is tried once, on the values that its sources have at the time, whatever becomes of their events.
-//! When all are tried, [`settle_plain`] goes through the events in order: what rested on a value that was not settled
-//! in the end is evaluated once more, then the event commits or aborts for good. What comes out is that of the fold.
-//! [`laws`] tells the first attempts without an order of execution: they are the guesses of the operations.
-//!
-//! On the board that workers share, [`settle_txn`] settles one transaction, by any runner: its operations are made
-//! ready, the event is decided, the operations are settled. Once the board is closed, [`finish`] completes what was left
-//! there.
-//!
-//! Below it stand `op_eval`, `op_words` and `interleaving_core`, for the board, and `morph_base`. On plain data a
-//! caller takes all memory first, makes the first attempts, and settles:
+//! [`settle_txn`] settles one transaction, by any runner: what rested on an aborted version is rolled back and evaluated
+//! again, then the event is decided and its operations are settled. [`settle_all`] tries each event of a batch once, by
+//! several workers, and keeps why an event was left. [`SettledRun::close`] ends the board, and
+//! tells that each event was tried once, and why some were left ([`laws`] bounds how much that is). [`finish`] completes what was
+//! left there, on plain data: what comes out is that of the fold, however far workers came.
 //!
 //! ```text
-//! let mut attempts = Attempts::new(alloc, &plan)?;
-//! let room = Room::new(alloc, &plan)?;
-//! let word = evaluate(&plan.ops.get(0).op, &[0], 1);    // operation 0 reads a key that has 0
-//! attempts.keep(0, &[0], word);                         // and so on, each after its sources
-//! let (settled, redone) = settle_plain(&plan, &mut attempts, room);
+//! let room = Room::new(alloc, &plan)?;                  // all memory is taken before
+//! let run = settle_all(&rt, explored, &plan);
+//! let (closed, left) = run.close(&plan);
+//! let settled = finish(&closed, &plan, room);
 //! ```
+//!
+//! Below it stand `op_eval`, `op_words` and `interleaving_core`, for the board, `worker_gate` and `morph_base`.
 #![tactic(auto)]
 
-mod attempts;
 mod finishing;
 pub mod laws;
 mod room;
 mod run;
-mod settling;
 mod sources;
 mod transaction;
 
-pub use attempts::Attempts;
 pub use finishing::finish;
 pub use room::Room;
 pub use run::{SettledRun, settle_all};
-pub use settling::{Redone, settle_plain};
 pub use transaction::{TxnAnswer, settle_txn};

@@ -1,11 +1,12 @@
 //! All events of a batch are settled on the shared board, event level by event level, by several runners.
-ghost use Rattle.std.specs.Prelude.{◌≡◌, ◌+◌, ◌<◌, ◌≤◌, ◌^◌, length, map};
+ghost use Rattle.std.specs.Prelude.{◌≡◌, ℕ, ◌+◌, ◌<◌, ◌≤◌, ◌^◌, List as Listed, length, map};
 ghost use Rattle.morph_base.specs.Graphs.{IsValidPlan};
 ghost use Rattle.op_words.specs.Closing.{IsClosed};
 ghost use Rattle.op_words.specs.Hands.{plan_of, cap_of, counters_of};
 ghost use Rattle.op_eval.specs.declared.runner.Runner.{Runner as R};
 ghost use Rattle.op_eval.specs.Gathering.{runners_of};
 ghost use Rattle.op_eval.specs.Exploring.{IsExplored};
+ghost use Rattle.abort_lazy.specs.Ended.{AreAtStart, AreTries, AreCauses};
 ghost use Rattle.abort_lazy.specs.Runs.{AreSettling, AreAllHands, IsSettledByRoot, IsSettledRun, root_view};
 
 use morph_base::{List, Plan};
@@ -79,6 +80,11 @@ impl SettledRun {
     /// Joins the hands into the root and closes the board. It gives the closed board, and why events were not settled
     /// by the runners that tried them, worker 1 first. The runners' hands are all those of the board.
     ///
+    /// Where the plan is valid, the run was settled by [`settle_all`], and its runners had left nothing before, each
+    /// event was tried once, over all of them. A cause is true of the closed board: the worker that tried the event
+    /// loaded a word that kept it from settling all of it. An event has one at most, and one where not all of it is
+    /// settled.
+    ///
     /// It takes no memory.
     pub fn close(self, plan: &Plan) -> (Closed, List<List<Left>>)
         requires run { IsSettledRun self }
@@ -87,6 +93,14 @@ impl SettledRun {
         ensures closed { (d : R) → IsClosed (plan_of self.board) (cap_of self.board) (counters_of self.board)
             (root_view d (runners_of self.runners)) result.0 }
         ensures left { result.1.items ≡ map (λ r. r.kept) (runners_of self.runners) }
+        ensures tried { (from : ℕ) (start : Listed R) → IsValidPlan plan.now → AreAtStart from start
+            → AreSettling self.board plan.now from (length plan.now.event_levels.items) start (runners_of self.runners)
+            → AreTries plan.now start (runners_of self.runners) }
+        ensures causes { (d : R) (from : ℕ) (start : Listed R)
+            (is : IsClosed plan.now (cap_of self.board) (counters_of self.board) (root_view d (runners_of self.runners)) result.0)
+            → IsValidPlan plan.now → AreAtStart from start
+            → AreSettling self.board plan.now from (length plan.now.event_levels.items) start (runners_of self.runners)
+            → AreCauses plan.now is.ends.core (root_view d (runners_of self.runners)) (map (λ list. list.items) result.1.items) }
     {
         let SettledRun { board, runners } = self;
         let (root, left) = runners.gather(&board);

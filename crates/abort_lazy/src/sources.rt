@@ -1,7 +1,6 @@
 ghost use Rattle.std.specs.Prelude.{◌≡◌, ◌<◌, length, take};
 ghost use Rattle.morph_base.specs.Plans.{IsPlan, op_count, event_at, event_of, keys_of};
-ghost use Rattle.abort_lazy.specs.Finishing.{HasValues};
-ghost use Rattle.abort_lazy.specs.Settling.{settled_sources};
+ghost use Rattle.abort_lazy.specs.Finishing.{settled_sources, HasValues};
 
 use morph_base::{List, Plan, READS};
 

@@ -12,18 +12,14 @@ use std::thread::Threads;
 use version_table::State;
 use worker_gate::FreeGate;
 
-const STRATEGY: Strategy = Strategy {
-    unit: Unit::Op,
-    explore: Explore::Strata,
-    abort: Abort::Lazy,
-};
-
-/// What a batch came to: the verdicts, how much was evaluated and rolled back, whether the state is that of the
-/// fold, and the values of accounts 0 to 2 and assets 0 to 2.
+/// What a batch came to: the verdicts, who settled each operation, how much was evaluated, spread and rolled back, how
+/// many causes were kept, whether the state is that of the fold, and the values of accounts 0 to 2 and assets 0 to 2.
 #[derive(Drop)]
 struct Ran {
     committed: Vec<bool>,
-    counts: (u64, u64),
+    by: Vec<u8>,
+    counts: (u64, u64, u64),
+    left: usize,
     is_fold: bool,
     values: Vec<Option<u64>>,
 }
@@ -54,11 +50,12 @@ fn first_values(alloc: Global, state: &State) -> Result<Vec<Option<u64>>, OutOfM
     Ok(values)
 }
 
-/// Runs a batch on a new engine, and folds it.
+/// Runs a batch on a new engine in these units, and folds it.
 fn run<R: Threads + Sync>(
     rt: &R,
     alloc: Global,
     batch: &Batch,
+    unit: Unit,
     workers: u32,
 ) -> Result<Ran, OutOfMemory>
     requires batch { IsBatch batch.now }
@@ -68,7 +65,12 @@ fn run<R: Threads + Sync>(
 {
     let mut engine = Engine::new(alloc, LAYOUT)?;
     let plan = engine.plan(alloc, batch)?;
-    let end = engine.run_batch(rt, alloc, plan, &STRATEGY, workers, &FreeGate)?;
+    let strategy = Strategy {
+        unit,
+        explore: Explore::Strata,
+        abort: Abort::Lazy,
+    };
+    let end = engine.run_batch(rt, alloc, plan, &strategy, workers, &FreeGate)?;
     let mut folded = Values::new(alloc, LAYOUT)?;
     let _outcomes = plain::fold(alloc, &mut folded, batch)?;
     told(alloc, engine.state(), &end, &folded)
@@ -78,28 +80,42 @@ fn run<R: Threads + Sync>(
 fn told(alloc: Global, state: &State, end: &BatchEnd, folded: &Values) -> Result<Ran, OutOfMemory> {
     Ok(Ran {
         committed: Vec::from_slice(alloc, end.settled.committed.as_slice())?,
-        counts: (end.evaluated, end.rolled),
+        by: Vec::from_slice(alloc, end.settled.by.as_slice())?,
+        counts: (end.counts.evaluated, end.counts.spread, end.counts.rolled),
+        left: end
+            .left
+            .as_slice()
+            .iter()
+            .filter(|list| !list.is_empty())
+            .count(),
         is_fold: (0..LAYOUT.tables).all(|table| has_values(state, folded, table)),
         values: first_values(alloc, state)?,
     })
 }
 
+/// A level of fewer than 8 operations or events is worker 1's alone.
 #[test]
 fn four_events_by_any_workers(rt: HostRuntime) -> Result<(), Fail> {
     let values = [Some(40), Some(0), Some(60), Some(0), Some(0), Some(5)];
-    for (times, workers) in [([1, 2, 3, 4], 1), ([4, 3, 2, 1], 2), ([2, 4, 1, 3], 16)] {
+    for (times, unit, workers) in [
+        ([1, 2, 3, 4], Unit::Op, 1),
+        ([4, 3, 2, 1], Unit::Chain, 2),
+        ([2, 4, 1, 3], Unit::Op, 16),
+    ] {
         let batch = batch_of(rt.alloc(), &times)?;
         assert!(rt; batch.is_valid() && batch.has_keys_in(LAYOUT));
-        let ran = run(&rt, rt.alloc(), &batch, workers)?;
+        let ran = run(&rt, rt.alloc(), &batch, unit, workers)?;
         let got = (
             ran.committed.as_slice(),
-            ran.counts,
+            ran.by.as_slice(),
+            (ran.counts, ran.left),
             ran.is_fold,
             ran.values.as_slice(),
         );
         let want = (
             [true, false, true, true].as_slice(),
-            (16, 2),
+            [1; 14].as_slice(),
+            ((16, 0, 2), 0),
             true,
             values.as_slice(),
         );

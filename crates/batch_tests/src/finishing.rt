@@ -1,5 +1,6 @@
 //! A board is closed early, and its plan completed.
-ghost use Rattle.morph_base.specs.Plans.{IsPlan};
+ghost use Rattle.std.specs.Prelude.{IfOk};
+ghost use Rattle.morph_base.specs.Plans.{IsPlan, IsSettledOf};
 
 use crate::four_events::plan;
 use abort_lazy::{Room, finish};
@@ -9,8 +10,9 @@ use std::alloc::Global;
 use std::test::Fail;
 
 /// What a plan comes to where its board is closed before anybody evaluated an operation.
-fn completed(alloc: Global, plan: &Plan) -> Result<Settled, OutOfMemory>
+pub(crate) fn completed(alloc: Global, plan: &Plan) -> Result<Settled, OutOfMemory>
     requires { IsPlan plan.now }
+    ensures { IfOk result (IsSettledOf plan.now) }
 {
     let room = Room::new(alloc, plan)?;
     let (board, root) = Board::new(alloc, plan, 1, 0)?;

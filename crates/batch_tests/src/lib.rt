@@ -7,11 +7,11 @@
 #![tactic(auto)]
 
 #[cfg(test)]
-mod attempts;
-#[cfg(test)]
 mod board;
 #[cfg(test)]
 mod choices;
+#[cfg(test)]
+mod deposits;
 #[cfg(test)]
 mod engine;
 #[cfg(test)]

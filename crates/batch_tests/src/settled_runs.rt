@@ -7,7 +7,7 @@ ghost use Rattle.op_eval.specs.Gathering.{runners_of};
 ghost use Rattle.abort_lazy.specs.Runs.{AreAllHands};
 
 use crate::four_events::plan;
-use abort_lazy::settle_all;
+use abort_lazy::{Room, finish, settle_all};
 use morph_base::{OutOfMemory, Plan};
 use op_eval::{Explored, RunEnd, Runners};
 use op_words::Board;
@@ -33,6 +33,7 @@ fn unexplored(alloc: Global, plan: &Plan, counters: u32) -> Result<Explored, Out
 fn one_runner_settles_all_levels(rt: HostRuntime) -> Result<(), Fail> {
     let plan = plan(&rt, rt.alloc())?;
     assert!(rt; plan.event_levels.len() == 4);
+    let room = Room::new(rt.alloc(), &plan)?;
     let run = unexplored(rt.alloc(), &plan, 4)?;
     let settled = settle_all(&rt, run, &plan);
     let (closed, left) = settled.close(&plan);
@@ -44,5 +45,9 @@ fn one_runner_settles_all_levels(rt: HostRuntime) -> Result<(), Fail> {
         (counts.evaluated, counts.spread, counts.rolled),
         (14, 0, 0)
     );
+    let settled = finish(&closed, &plan, room);
+    let got = (settled.committed.as_slice(), settled.by.as_slice());
+    let want = ([true, false, true, true].as_slice(), [1; 14].as_slice());
+    assert_eq!(rt; got, want);
     Ok(())
 }

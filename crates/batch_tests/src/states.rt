@@ -3,7 +3,7 @@ ghost use Rattle.std.specs.Prelude.{◌≡◌};
 ghost use Rattle.morph_base.specs.Flat.{contents};
 ghost use Rattle.morph_base.specs.Plans.{IsPlan, HasBases, IsSettledOf};
 
-use crate::attempts::settle;
+use crate::finishing::completed;
 use crate::four_events::{ACCOUNTS, ASSETS, LAYOUT, plan};
 use morph_base::{Key, OutOfMemory, Plan, Settled};
 use std::alloc::Global;
@@ -71,7 +71,7 @@ fn settle_in(rt: &impl Abort, alloc: Global, state: &mut State) -> Result<Vec<Op
 {
     let mut plan = plan(rt, alloc)?;
     state.bases(&mut plan);
-    let (settled, _redone) = settle(alloc, &plan)?.ok_or("they were not tried so")?;
+    let settled = completed(alloc, &plan)?;
     let told = versions(alloc, state, &plan, &settled)?;
     state.apply(&plan, &settled);
     Ok(told)

@@ -2,16 +2,31 @@
 use crate::four_events::plan;
 use crate::runners::words_of;
 use chain_units::units;
-use morph_base::Unit;
+use morph_base::{OpState, Unit};
 use op_eval::{Answers, RunEnd, Runners};
 use op_words::Board;
 use std::test::Fail;
 use strata_explorer::{counters, explore};
 use worker_gate::FreeGate;
 
-/// The value of each operation. The deposits of 100 and 5 come first; of the first transfer the assets fail, and what
-/// they leave is 5.
-const VALUES: [u64; 14] = [100, 5, 40, 5, 60, 0, 40, 0, 60, 5, 0, 0, 60, 5];
+/// The state and the value of each operation. The deposits of 100 and 5 come first; of the first transfer the assets
+/// fail, of the second the accounts, which find what the first left.
+const FIRST: [(OpState, u64); 14] = [
+    (OpState::Executed, 100),
+    (OpState::Executed, 5),
+    (OpState::Executed, 40),
+    (OpState::Failed, 5),
+    (OpState::Executed, 60),
+    (OpState::Failed, 0),
+    (OpState::Failed, 40),
+    (OpState::Executed, 0),
+    (OpState::Failed, 60),
+    (OpState::Executed, 5),
+    (OpState::Executed, 0),
+    (OpState::Executed, 0),
+    (OpState::Executed, 60),
+    (OpState::Executed, 5),
+];
 
 #[test]
 fn one_runner_explores(rt: HostRuntime) -> Result<(), Fail> {
@@ -36,8 +51,8 @@ fn one_runner_explores(rt: HostRuntime) -> Result<(), Fail> {
     let words = words_of(rt.alloc(), &board, &mut runner.hand, &plan)?;
     let all_right = words
         .iter()
-        .zip(VALUES.iter())
-        .all(|(word, value)| word.1 == 1 && word.2 == *value);
-    assert!(rt; words.len() == VALUES.len() && all_right);
+        .zip(FIRST.iter())
+        .all(|(word, first)| *word == (first.0, 1, first.1));
+    assert!(rt; words.len() == FIRST.len() && all_right);
     Ok(())
 }

@@ -20,7 +20,7 @@ use Rattle.morph_cli.specs.Headline.{Headline, Completes}
 use Rattle.morph_cli.proofs.Headlines.{headline, completes, told_all}
 
 -- what holds of the settings holds of what the words ask for
-asked_so : (P : Settings → Type 0) (asked : Option Settings) (s : Settings) → asked ≡ Some s → P s → IfSome asked P
+pub asked_so : (P : Settings → Type 0) (asked : Option Settings) (s : Settings) → asked ≡ Some s → P s → IfSome asked P
 asked_so P asked s is holds = subst (λ o. IfSome o P) (sym is) holds
 
 abbrev EndsBy : Settings → (told left old : Option (List ℕ)) → Result Finish Fault → (new : Option (List ℕ)) → Type 0
@@ -59,13 +59,13 @@ completes_asked asked s told left old new r status risen is status_is ends reads
 -- what is told of the call, over the whole input
 pub told_asked : (asked : Option Settings) (s : Settings) (told left : Option (List ℕ)) (r : Result Finish Fault) (status : ℕ) (t : Tally)
     (old ran : Outputs) (after : Option (List ℕ)) (risen_from risen_by risen_to : ℕ) → asked ≡ Some s → status ≡ status_of r → Ends s told left old.sink r ran.sink →
-    RunTold (telling_of s) (option_map (accepted_within (meaning_of s) INPUT_BYTES) (input_of s told)) s.notes s.workers (status_of r) t old ran →
+    RunTold (telling_of s) (option_map (accepted_within (meaning_of s) INPUT_BYTES) (input_of s told)) s (status_of r) t old ran →
     AppendsPrefix ran.notes (note_at (status_of r)) after → ((HasRisen risen_by risen_to → ⊥) → after ≡ behind ran.notes (note_at (status_of r))) →
     risen_from ≤ risen_by → risen_by ≤ risen_to →
-    IfSome asked (λ s. CallTold (telling_of s) (option_map (accepted (meaning_of s)) (input_of s told)) s.notes s.workers status t old (outputs_of ran.sink after) (HasRisen risen_from risen_to))
+    IfSome asked (λ s. CallTold (telling_of s) (option_map (accepted (meaning_of s)) (input_of s told)) s status t old (outputs_of ran.sink after) (HasRisen risen_from risen_to))
 told_asked asked s told left r status t old ran after risen_from risen_by risen_to is status_is ends run last whole first second =
-    asked_so (λ s. CallTold (telling_of s) (option_map (accepted (meaning_of s)) (input_of s told)) s.notes s.workers status t old (outputs_of ran.sink after) (HasRisen risen_from risen_to)) asked s is
-    (subst (λ n. CallTold (telling_of s) (option_map (accepted (meaning_of s)) (input_of s told)) s.notes s.workers n t old (outputs_of ran.sink after) (HasRisen risen_from risen_to)) (sym status_is)
+    asked_so (λ s. CallTold (telling_of s) (option_map (accepted (meaning_of s)) (input_of s told)) s status t old (outputs_of ran.sink after) (HasRisen risen_from risen_to)) asked s is
+    (subst (λ n. CallTold (telling_of s) (option_map (accepted (meaning_of s)) (input_of s told)) s n t old (outputs_of ran.sink after) (HasRisen risen_from risen_to)) (sym status_is)
     (record {
       ran = ran;
       run = by_told (input_of s told) ends run;
@@ -75,11 +75,11 @@ told_asked asked s told left r status t old ran after risen_from risen_by risen_
     }))
   where
     by_told : (told : Option (List ℕ)) → EndsBy s told left old.sink r ran.sink
-        → RunTold (telling_of s) (option_map (accepted_within (meaning_of s) INPUT_BYTES) told) s.notes s.workers (status_of r) t old ran
-        → RunTold (telling_of s) (option_map (accepted (meaning_of s)) told) s.notes s.workers (status_of r) t old ran
+        → RunTold (telling_of s) (option_map (accepted_within (meaning_of s) INPUT_BYTES) told) s (status_of r) t old ran
+        → RunTold (telling_of s) (option_map (accepted (meaning_of s)) told) s (status_of r) t old ran
     by_told None ends run = run
     by_told (Some input) ends run =
-        told_all (meaning_of s) (telling_of s) INPUT_BYTES input (left_by s.generated left) old.sink ran.sink r t s.notes s.workers old ran ends run
+        told_all (meaning_of s) (telling_of s) INPUT_BYTES input (left_by s.generated left) old.sink ran.sink r t s old ran ends run
 
 -- the status of a run over an input that the program makes
 made_status : (r : Result Finish Fault) → EndsMade r → IsMadeStatus (status_of r)

@@ -7,15 +7,15 @@ use Rattle.std.proofs.lemmas.List.Sorted.{length_permutation}
 use Rattle.morph_base.specs.declared.limits.TheConstants.{EVENT_OPS, EVENTS}
 use Rattle.morph_base.specs.declared.key.Layout.{Layout}
 use Rattle.morph_base.specs.declared.event.Batch.{Batch as TheBatch}
-use Rattle.morph_base.specs.declared.plan.Plan.{Plan}
 use Rattle.morph_base.specs.Transactions.{Transaction, transactions_of, by_time}
 use Rattle.morph_base.specs.States.{State, opening_state, fold_batch}
 use Rattle.morph_base.specs.Outcomes.{Fate, fates}
 use Rattle.morph_base.specs.Flat.{Kept, contents}
-use Rattle.morph_base.specs.Guesses.{stale_count}
-use Rattle.morph_base.specs.Plans.{op_count}
+use Rattle.morph_base.specs.Plans.{IsPlan, event_count, op_count}
 use Rattle.morph_base.proofs.FateLaws.{length-fates}
+use Rattle.morph_base.proofs.NumberLaws.{op_count-small}
 use Rattle.morph_base.proofs.TimeLaws.{by_time-permutes}
+use Rattle.morph_engine.specs.Accounts.{Account, IsAccount}
 use Rattle.morph_io.specs.Told.{IsAtEnd}
 use Rattle.event_reader.specs.declared.fault.ReaderFault.{ReaderFault}
 use Rattle.event_reader.specs.declared.fault.ReaderFault.TheVariants.{ReadFault, TooLong as LongInput, OutOfMemory as NoMemory}
@@ -29,13 +29,13 @@ use Rattle.morph_cli.specs.declared.fault.Fault.TheVariants.{Write, OutOfMemory 
 use Rattle.morph_cli.specs.declared.run.Finish.{Finish}
 use Rattle.morph_cli.specs.Faults.{fault_of}
 use Rattle.run_text.specs.Text.{told_lines}
-use Rattle.run_text.specs.Counts.{Adds, no_tally}
+use Rattle.run_text.specs.Counts.{Adds, HasRoom, no_tally}
 use Rattle.morph_cli.specs.Tallies.{IsMadeOf}
-use Rattle.run_text.specs.Notes.{noted, batch_note}
 use Rattle.morph_cli.specs.Outputs.{Outputs, with_both, IsCutIn}
 use Rattle.morph_cli.specs.Status.{status_of}
 use Rattle.morph_cli.specs.Apps.{telling_by}
 use Rattle.run_text.specs.declared.choices.Settings.{Settings}
+use Rattle.morph_cli.proofs.Noting.{note_of}
 use Rattle.morph_cli.proofs.Turns.{cut_text}
 use Rattle.morph_cli.proofs.Ending.{Course, Goes, Ends, IsTold, meaning_in, goes_start, goes_batch, ends_read, ends_long, ends_memory, ends_batch_cut, told_short, told_in_batch}
 
@@ -54,11 +54,9 @@ fates-many s batch told is =
 some_fates : (s : State) (batch : TheBatch) (told : List Fate) → told ≡ fates s (by_time (transactions_of batch)) → 0 < length batch.events.items → 0 < length told
 some_fates s batch told is some = let many = fates-many s batch told is in omega (arith, many, some)
 
--- what was evaluated and rolled back is what the plan asks for
-as_planned : (t t' : Tally) (p : Plan) (evaluated rolled : ℕ) (fs : List Fate) → Adds t t' p evaluated rolled fs → evaluated ≡ op_count p + rolled → rolled ≡ stale_count p →
-    Adds t t' p (op_count p + stale_count p) (stale_count p) fs
-as_planned t t' p evaluated rolled fs adds once stale =
-    subst (λ n. Adds t t' p (op_count p + n) n fs) stale (subst (λ n. Adds t t' p n rolled fs) once adds)
+-- nothing was handed out
+none_out : (t t' : Tally) (a : Account) (out taken : ℕ) (fs : List Fate) → Adds t t' a out taken fs → out ≡ 0 → taken ≡ 0 → Adds t t' a 0 0 fs
+none_out t t' a out taken fs adds none nobody = subst (λ n. Adds t t' a 0 n fs) nobody (subst (λ n. Adds t t' a n taken fs) none adds)
 
 -- what is given of a run by its settings, where at most `limit` bytes of the input are read
 abbrev pub course_of : {App : Type 0} → (App → ℕ → Meaning) → (tables : ℕ) → (name : ℕ → List ℕ) → App → Settings → (limit : ℕ) → (input : Option (List ℕ)) → Outputs → Course App
@@ -68,8 +66,7 @@ course_of event_of tables name app s limit input old = record {
   size = s.size;
   limit = limit;
   telling = telling_by s.generated tables s.size name;
-  on = s.notes;
-  workers = s.workers;
+  settings = s;
   input = input;
   old = old;
 }
@@ -113,45 +110,51 @@ module _ {App : Type 0} where
         counted = let committed = ap (λ (t : Tally). t.committed) none in let aborted = ap (λ (t : Tally). t.aborted) none in omega (arith, facts.3, committed, aborted);
       }
 
-  -- the numbers of the tally are far below what they can hold
-  pub tally_few : {c : Course App} {left : Option (List ℕ)} {new : Outputs} {r : ReaderView App} {values : Kept} {tally : Tally} {out : List ℕ} → Between c left new r values tally out →
-      (tally.batches ≤ c.limit + 1) × (tally.events ≤ c.limit + 1) × (tally.ops ≤ EVENT_OPS * EVENTS * (c.limit + 1)) × (tally.rolled ≤ EVENT_OPS * EVENTS * (c.limit + 1))
-      × (tally.evaluated ≤ 2 * EVENT_OPS * EVENTS * (c.limit + 1))
-  tally_few {c} {left} {new} {r} {values} {tally} {out} b =
+  -- the numbers of the tally have room for one batch more
+  pub has_room : {c : Course App} {left : Option (List ℕ)} {new : Outputs} {r : ReaderView App} {values : Kept} {tally : Tally} {out : List ℕ} (a : Account) (given taken : ℕ) →
+      Between c left new r values tally out → c.limit ≤ 1073741824 → IsPlan a.plan → IsAccount c.settings.workers a → given ≡ 0 → taken ≡ 0 → HasRoom tally a given taken
+  has_room {c} {left} {new} {r} {values} {tally} {out} a given taken b short valid sound none nobody =
       let t = b.goes.tallied in
-      let events = t.counts.events in
-      let evaluated = t.counts.evaluated in
-      let batches = t.few_batches in
-      let ops = t.few_ops in
-      let rolled = t.few_rolled in
+      let events = t.balanced.events in
       let counted = b.counted in
-      let number = b.number in (
-        omega (arith, events, batches, counted, number),
-        omega (arith, events, counted, number),
-        omega (arith, events, batches, ops, counted, number),
-        omega (arith, events, batches, ops, rolled, counted, number),
-        omega (arith, events, batches, ops, rolled, evaluated, counted, number),
-      )
+      let number = b.number in
+      let few_batches : tally.batches ≤ 1073741825 = let batches = t.few_batches in omega (arith, events, batches, counted, number, short) in
+      let few_ops : tally.ops ≤ EVENT_OPS * EVENTS * 1073741825 = let ops = t.few_ops in omega (arith, few_batches, ops) in
+      let more : op_count a.plan ≤ EVENT_OPS * EVENTS = op_count-small a.plan valid in
+      let more_events : event_count a.plan ≤ EVENTS = valid.numbering.few in
+      record {
+        batches = omega (arith, few_batches);
+        events = omega (arith, events, counted, number, short, more_events);
+        counts = omega (arith, counted, number, short, more_events);
+        ops = omega (arith, few_ops, more);
+        evaluated = let old = t.balanced.evaluated in let added = sound.evaluated in omega (arith, few_ops, more, old, added);
+        spread = let old = t.balanced.spread in let added = sound.spread in omega (arith, old, added);
+        rolled = let old = t.balanced.rolled in let added = sound.rolled in omega (arith, few_ops, more, old, added);
+        workers = t.counts.workers;
+        settled = let old = t.balanced.settled in let added = sound.each in omega (arith, few_ops, more, old, added);
+        handed = let old = t.balanced.handed in omega (arith, old, none);
+        stolen = let old = t.balanced.stolen in omega (arith, old, nobody);
+      }
 
   meaning_is : (c : Course App) (r : ReaderView App) → r.app ≡ c.app → r.size ≡ c.size → c.event_of r.app r.size ≡ meaning_in c
   meaning_is c r app_is size_is = ap (λ a. c.event_of a r.size) app_is ∙ ap (c.event_of c.app) size_is
 
   pub between_batch : {c : Course App} {left left' : Option (List ℕ)} {new newer : Outputs} {r r' : ReaderView App} {values values' : Kept} {tally tally' : Tally} {out out' : List ℕ}
-      (batch : TheBatch) (told : List Fate) (p : Plan) (evaluated rolled : ℕ) → Between c left new r values tally out →
+      (batch : TheBatch) (told : List Fate) (a : Account) (given taken : ℕ) → Between c left new r values tally out →
       AnswersNext (accepted_by c.event_of r left) (Ok (Batch batch)) (accepted_by c.event_of r' left') →
       Takes left left' (ShowsNext c.event_of r (Ok (Batch batch)) r') →
       0 < length batch.events.items → r.lines.number + length batch.events.items ≤ r'.lines.number → r'.lines.number ≤ r'.lines.limit + 1 →
       (r'.app ≡ r.app) × (r'.size ≡ r.size) × (r'.lines.limit ≡ r.lines.limit) → (IsTrue r'.lines.ended → IsAtEnd left') →
       (r'.lines.ended ≡ false → r.lines.ended ≡ false) → r'.live ≡ true → values'.layout ≡ values.layout →
       contents values' ≡ fold_batch batch (contents values) → told ≡ fates (contents values) (by_time (transactions_of batch)) →
-      newer ≡ with_both new (told_lines c.telling.report told) (noted c.on (batch_note tally'.batches p)) → out' ≡ [] →
-      Adds tally tally' p evaluated rolled told → evaluated ≡ op_count p + rolled → rolled ≡ stale_count p → IsMadeOf (contents values) (transactions_of batch) p →
+      newer ≡ with_both new (told_lines c.telling.report told) (note_of c.settings tally'.batches a.plan) → out' ≡ [] →
+      Adds tally tally' a given taken told → IsAccount c.settings.workers a → given ≡ 0 → taken ≡ 0 → IsMadeOf (contents values) (transactions_of batch) a.plan →
       Between c left' newer r' values' tally' out'
-  between_batch {c} {left} {left'} {new} {newer} {r} {r'} {values} {values'} {tally} {tally'} {out} {out'} batch told p evaluated rolled b answers shows some counted bound same at_end unended live layout_is
-      state fates_are written empty adds once stale made = record {
-        goes = goes_batch c left left' new newer r r' (contents values) (contents values') tally tally' batch told p b.goes (simp length-map some) answers unended
+  between_batch {c} {left} {left'} {new} {newer} {r} {r'} {values} {values'} {tally} {tally'} {out} {out'} batch told a given taken b answers shows some counted bound same at_end unended live layout_is
+      state fates_are written empty adds sound none nobody made = record {
+        goes = goes_batch c left left' new newer r r' (contents values) (contents values') tally tally' batch told a b.goes (simp length-map some) answers unended
             (subst (λ m. Takes left left' (ShowsBatch m r.closed r.lines (Ok (Batch batch)) r'.closed r'.lines)) (meaning_is c r b.app_is b.size_is) shows) state fates_are
-            written (as_planned tally tally' p evaluated rolled told adds once stale) made (some_fates (contents values) batch told fates_are some);
+            written (none_out tally tally' a given taken told adds none nobody) sound made (some_fates (contents values) batch told fates_are some);
         layout = layout_is ∙ b.layout;
         app_is = same.0 ∙ b.app_is;
         size_is = same.1 ∙ b.size_is;
@@ -199,11 +202,11 @@ module _ {App : Type 0} where
       (cut_text new (told_lines c.telling.report told) note newer cut)
 
   pub told_cut_in_batch : {c : Course App} {left : Option (List ℕ)} {new : Outputs} {r : ReaderView App} {values : Kept} {tally tally' : Tally} {out : List ℕ} {x : Result Finish Fault}
-      (left' : Option (List ℕ)) (newer : Outputs) (r' : ReaderView App) (batch : TheBatch) (told : List Fate) (p : Plan) (evaluated rolled : ℕ) → x ≡ Err Write → Between c left new r values tally out →
+      (left' : Option (List ℕ)) (newer : Outputs) (r' : ReaderView App) (batch : TheBatch) (told : List Fate) (a : Account) (given taken : ℕ) → x ≡ Err Write → Between c left new r values tally out →
       AnswersNext (accepted_by c.event_of r left) (Ok (Batch batch)) (accepted_by c.event_of r' left') → 0 < length batch.events.items →
       told ≡ fates (contents values) (by_time (transactions_of batch)) →
-      Adds tally tally' p evaluated rolled told → evaluated ≡ op_count p + rolled → rolled ≡ stale_count p → IsMadeOf (contents values) (transactions_of batch) p →
-      IsCutIn new (told_lines c.telling.report told) (noted c.on (batch_note tally'.batches p)) newer → IsTold c (status_of x) tally' newer
-  told_cut_in_batch {c} {left} {new} {r} {values} {tally} {tally'} {out} {x} left' newer r' batch told p evaluated rolled failed b answers some fates_are adds once stale made cut =
+      Adds tally tally' a given taken told → IsAccount c.settings.workers a → given ≡ 0 → taken ≡ 0 → IsMadeOf (contents values) (transactions_of batch) a.plan →
+      IsCutIn new (told_lines c.telling.report told) (note_of c.settings tally'.batches a.plan) newer → IsTold c (status_of x) tally' newer
+  told_cut_in_batch {c} {left} {new} {r} {values} {tally} {tally'} {out} {x} left' newer r' batch told a given taken failed b answers some fates_are adds sound none nobody made cut =
       told_in_batch left' newer r' (transactions_of batch) failed b.goes answers (simp length-map some) fates_are
-      (as_planned tally tally' p evaluated rolled told adds once stale) made (some_fates (contents values) batch told fates_are some) cut
+      (none_out tally tally' a given taken told adds none nobody) sound made (some_fates (contents values) batch told fates_are some) cut

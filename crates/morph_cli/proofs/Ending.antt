@@ -1,13 +1,10 @@
 -- How a run ends, by the answer that ends it.
-use Rattle.std.proofs.Common.{◌≡◌, ◌⊎◌, inl, inr, ℕ, Bool, ◌+◌, ◌-◌, ◌<◌, false, List, [], ◌∷◌, ◌++◌, length, Option, Some, None, Result, Ok, Err, refl, ap, sym, subst, ◌∙◌, arith}
+use Rattle.std.proofs.Common.{◌≡◌, ◌⊎◌, inl, inr, ℕ, ◌+◌, ◌-◌, ◌<◌, false, List, [], ◌∷◌, ◌++◌, length, Option, Some, None, Result, Ok, Err, refl, ap, sym, subst, ◌∙◌, arith}
 use Rattle.std.specs.Prelude.{option_map, IfSome}
 use Rattle.morph_base.specs.declared.event.Batch.{Batch as TheBatch}
-use Rattle.morph_base.specs.declared.plan.Plan.{Plan}
 use Rattle.morph_base.specs.Transactions.{Transaction, transactions_of, by_time}
 use Rattle.morph_base.specs.States.{State, opening_state, after_all}
-use Rattle.morph_base.specs.Guesses.{stale_count}
 use Rattle.morph_base.specs.Outcomes.{Fate, fates}
-use Rattle.morph_base.specs.Plans.{op_count}
 use Rattle.morph_io.specs.Told.{ahead, behind, AppendsPrefix}
 use Rattle.event_reader.specs.declared.cause.Cause.{Cause}
 use Rattle.event_reader.specs.Steps.{Meaning}
@@ -15,34 +12,35 @@ use Rattle.event_reader.specs.Lines.{front, within}
 use Rattle.event_reader.specs.Accepted.{Accepted, Ending, Ended, RefusedAt, CutOff, with_batch, accepted_within}
 use Rattle.event_reader.specs.declared.answers.Next.TheVariants.{Batch}
 use Rattle.event_reader.specs.Reader.{ReaderView, new_reader, accepted_by, accepted_after, accepted_next, Takes, ShowsBatch}
+use Rattle.morph_engine.specs.Accounts.{Account, IsAccount}
+use Rattle.run_text.specs.declared.choices.Settings.{Settings}
 use Rattle.run_text.specs.declared.tally.Tally.{Tally}
 use Rattle.morph_cli.specs.declared.fault.Fault.{Fault}
 use Rattle.morph_cli.specs.declared.fault.Fault.TheVariants.{Read, Write, OutOfMemory, TooLong}
 use Rattle.morph_cli.specs.declared.run.Finish.{Finish}
 use Rattle.morph_cli.specs.declared.run.Finish.TheVariants.{Complete, Refused}
-use Rattle.run_text.specs.Notes.{noted, batch_note, batch_notes, closing_notes}
+use Rattle.run_text.specs.Notes.{noted, closing_notes}
 use Rattle.morph_cli.specs.Outputs.{Outputs, with_both, with_batches, IsCutIn, IsAtLast}
 use Rattle.morph_cli.specs.Runs.{EndsSo}
 use Rattle.morph_cli.specs.Status.{status_of}
 use Rattle.run_text.specs.Counts.{Adds, no_tally}
 use Rattle.morph_cli.specs.Tallies.{IsMadeOf, RunTold}
 use Rattle.run_text.specs.Text.{Telling, event_lines, told_lines, run_state, end_text}
-use Rattle.morph_cli.proofs.Noting.{IsNoted, noted_nothing, noted_more, number_is}
+use Rattle.morph_cli.proofs.Noting.{IsNoted, note_of, notes_of, noted_nothing, noted_more, number_is}
 use Rattle.morph_cli.proofs.Running.{RunsOn, IsLast, fronts, runs_start, runs_batch, runs_ended, runs_done, runs_cut, runs_short, runs_cut_in_batch, whole_more, told_more, last_is}
 use Rattle.morph_cli.proofs.Taking.{TakesOn, takes_start, takes_batch, takes_failed}
 use Rattle.morph_cli.proofs.Tallying.{Tallied, tallied_start, tallied_more}
 use Rattle.morph_cli.proofs.Turns.{both_is, both_as, cut_as}
 
 -- what is given of a run: what the application's lines say, how many ids each of its tables has, how many bytes of the input are read, how the run is
--- told, whether the notes are on, how many workers there are, the input, and what stood in the outputs before
+-- told, its settings, the input, and what stood in the outputs before
 pub record Course (App : Type 0) : Type 0 where
   pub event_of : App → ℕ → Meaning
   pub app : App
   pub size : ℕ
   pub limit : ℕ
   pub telling : Telling
-  pub on : Bool
-  pub workers : ℕ
+  pub settings : Settings
   pub input : Option (List ℕ)
   pub old : Outputs
 
@@ -121,16 +119,16 @@ module _ {App : Type 0} where
   Ends c left x new = IfSome c.input (λ input. EndsSo (meaning_in c) c.telling c.limit input left c.old.sink x new.sink)
 
   abbrev pub IsTold : Course App → (status : ℕ) → Tally → Outputs → Type 0
-  IsTold c status t new = RunTold c.telling (accepted_in c) c.on c.workers status t c.old new
+  IsTold c status t new = RunTold c.telling (accepted_in c) c.settings status t c.old new
 
   -- between two batches of a run: some batches were done
   pub record Goes (c : Course App) (left : Option (List ℕ)) (new : Outputs) (r : ReaderView App) (s : State) (tally : Tally) : Type 0 where
     pub done : List (List Transaction)
-    pub plans : List Plan
-    pub tallied : Tallied done plans tally
+    pub accounts : List Account
+    pub tallied : Tallied c.settings.workers done accounts tally
     pub runs : RunsOn c.telling (accepted_in c) (accepted_by c.event_of r left) c.old.sink new.sink s tally done
     pub takes : TakesOn (meaning_in c) c.input left r.closed r.lines done
-    pub noted : IsNoted c.on plans c.old.notes new.notes
+    pub noted : IsNoted c.settings accounts c.old.notes new.notes
 
   -- what a new reader has to give
   given_at_start : (event_of : App → ℕ → Meaning) (app : App) (size limit : ℕ) (told : Option (List ℕ)) →
@@ -145,39 +143,39 @@ module _ {App : Type 0} where
       Goes c c.input c.old r s tally
   goes_start c r s tally new opening none = record {
     done = [];
-    plans = [];
-    tallied = tallied_start tally none;
+    accounts = [];
+    tallied = tallied_start c.settings.workers tally none;
     runs = subst (λ now. RunsOn c.telling (accepted_in c) now c.old.sink c.old.sink s tally [])
         (given_at_start c.event_of c.app c.size c.limit c.input ∙ ap (λ v. accepted_by c.event_of v c.input) (sym new))
         (runs_start c.telling (accepted_in c) c.old.sink s tally opening (ap (λ (t : Tally). t.committed) none) (ap (λ (t : Tally). t.aborted) none));
     takes = subst (λ v. TakesOn (meaning_in c) c.input c.input v.closed v.lines []) (sym new) (takes_start (meaning_in c) c.limit c.input);
-    noted = noted_nothing c.on c.old.notes;
+    noted = noted_nothing c.settings c.old.notes;
   }
 
   -- a batch was run, and counted
   tallied_batch : (c : Course App) (left : Option (List ℕ)) (new : Outputs) (r : ReaderView App) (s : State) (tally tally' : Tally) (batch : List Transaction) (told : List Fate)
-      (p : Plan) → (goes : Goes c left new r s tally) → told ≡ fates s (by_time batch) → Adds tally tally' p (op_count p + stale_count p) (stale_count p) told → IsMadeOf s batch p → 0 < length told →
-      Tallied (goes.done ++ batch ∷ []) (goes.plans ++ p ∷ []) tally'
-  tallied_batch c left new r s tally tally' batch told p goes told_is adds made events =
-      tallied_more goes.done goes.plans tally tally' batch p told goes.tallied adds (subst (λ q. IsMadeOf q batch p) goes.runs.state made)
+      (a : Account) → (goes : Goes c left new r s tally) → told ≡ fates s (by_time batch) → Adds tally tally' a 0 0 told → IsAccount c.settings.workers a → IsMadeOf s batch a.plan → 0 < length told →
+      Tallied c.settings.workers (goes.done ++ batch ∷ []) (goes.accounts ++ a ∷ []) tally'
+  tallied_batch c left new r s tally tally' batch told a goes told_is adds sound made events =
+      tallied_more c.settings.workers goes.done goes.accounts tally tally' batch a told goes.tallied adds sound (subst (λ q. IsMadeOf q batch a.plan) goes.runs.state made)
       (told_more goes.done batch s told goes.runs.state told_is) events
 
   -- a batch was done
   pub goes_batch : (c : Course App) (left left' : Option (List ℕ)) (new newer : Outputs) (r r' : ReaderView App) (s t : State) (tally tally' : Tally) (batch : TheBatch)
-      (told : List Fate) (p : Plan) → Goes c left new r s tally → 0 < length (transactions_of batch) →
+      (told : List Fate) (a : Account) → Goes c left new r s tally → 0 < length (transactions_of batch) →
       accepted_by c.event_of r left ≡ option_map (with_batch (transactions_of batch)) (accepted_by c.event_of r' left') → (r'.lines.ended ≡ false → r.lines.ended ≡ false) →
       Takes left left' (ShowsBatch (meaning_in c) r.closed r.lines (Ok (Batch batch)) r'.closed r'.lines) →
       t ≡ after_all s (by_time (transactions_of batch)) → told ≡ fates s (by_time (transactions_of batch)) →
-      newer ≡ with_both new (told_lines c.telling.report told) (noted c.on (batch_note tally'.batches p)) →
-      Adds tally tally' p (op_count p + stale_count p) (stale_count p) told → IsMadeOf s (transactions_of batch) p → 0 < length told → Goes c left' newer r' t tally'
-  goes_batch c left left' new newer r r' s t tally tally' batch told p goes some was unended took state told_is written adds made events = record {
+      newer ≡ with_both new (told_lines c.telling.report told) (note_of c.settings tally'.batches a.plan) →
+      Adds tally tally' a 0 0 told → IsAccount c.settings.workers a → IsMadeOf s (transactions_of batch) a.plan → 0 < length told → Goes c left' newer r' t tally'
+  goes_batch c left left' new newer r r' s t tally tally' batch told a goes some was unended took state told_is written adds sound made events = record {
     done = goes.done ++ transactions_of batch ∷ [];
-    plans = goes.plans ++ p ∷ [];
-    tallied = tallied_batch c left new r s tally tally' (transactions_of batch) told p goes told_is adds made events;
+    accounts = goes.accounts ++ a ∷ [];
+    tallied = tallied_batch c left new r s tally tally' (transactions_of batch) told a goes told_is adds sound made events;
     runs = runs_batch c.telling _ _ _ c.old.sink new.sink newer.sink s t tally tally' goes.done (transactions_of batch) told goes.runs was some state told_is
         (ap (λ (o : Outputs). o.sink) written) adds.committed adds.aborted;
     takes = takes_batch (meaning_in c) c.input left left' r.closed r'.closed r.lines r'.lines goes.done batch goes.takes some unended took;
-    noted = noted_more c.on goes.plans p tally'.batches c.old.notes new.notes newer.notes (number_is tally'.batches goes.tallied adds.batches) goes.noted
+    noted = noted_more c.settings goes.accounts a tally'.batches c.old.notes new.notes newer.notes (number_is tally'.batches goes.tallied adds.batches) goes.noted
         (ap (λ (o : Outputs). o.notes) written);
   }
 
@@ -267,9 +265,9 @@ module _ {App : Type 0} where
 
   -- what was written so far
   wrote : (c : Course App) (left : Option (List ℕ)) (new : Outputs) (r : ReaderView App) (s : State) (tally : Tally) (goes : Goes c left new r s tally) →
-      new ≡ with_batches c.old c.telling.report c.on goes.done goes.plans
+      new ≡ with_batches c.old c.telling.report c.settings goes.done goes.accounts
   wrote c left new r s tally goes =
-      both_is new (behind c.old.sink (event_lines c.telling.report goes.done)) (behind c.old.notes (noted c.on (batch_notes 1 goes.plans))) goes.runs.appended goes.noted
+      both_is new (behind c.old.sink (event_lines c.telling.report goes.done)) (behind c.old.notes (notes_of c.settings goes.accounts)) goes.runs.appended goes.noted
 
   -- the run was cut off between two batches
   pub told_short : {c : Course App} {left : Option (List ℕ)} {new : Outputs} {r : ReaderView App} {s : State} {tally : Tally} {x : Result Finish Fault} (e : Fault) → x ≡ Err e → (e ≡ Write → ⊥) →
@@ -277,10 +275,13 @@ module _ {App : Type 0} where
   told_short {c} {left} {new} {r} {s} {tally} {x} e failed other goes = subst (λ y. IsTold c (status_of y) tally new) (sym failed) (record {
     done = goes.done;
     rest = still (accepted_by c.event_of r left);
-    plans = goes.plans;
+    accounts = goes.accounts;
     parts = parts_are (accepted_in c) (accepted_by c.event_of r left) goes.done goes.runs.whole;
     ran = goes.tallied.ran;
+    sound = goes.tallied.sound;
     counts = goes.tallied.counts;
+    founded = goes.tallied.founded;
+    balanced = goes.tallied.balanced;
     whole = λ is. absurd (by_fault e is);
     short = λ is. wrote c left new r s tally goes;
     cut = λ is. absurd (other (by_write e is));
@@ -288,34 +289,37 @@ module _ {App : Type 0} where
 
   -- a write failed in a batch that was run
   pub told_in_batch : {c : Course App} {left : Option (List ℕ)} {new : Outputs} {r : ReaderView App} {s : State} {tally tally' : Tally} {x : Result Finish Fault}
-      {p : Plan} {told : List Fate} (left' : Option (List ℕ)) (newer : Outputs) (r' : ReaderView App) (batch : List Transaction) → x ≡ Err Write → Goes c left new r s tally →
+      {a : Account} {told : List Fate} (left' : Option (List ℕ)) (newer : Outputs) (r' : ReaderView App) (batch : List Transaction) → x ≡ Err Write → Goes c left new r s tally →
       accepted_by c.event_of r left ≡ option_map (with_batch batch) (accepted_by c.event_of r' left') → 0 < length batch → told ≡ fates s (by_time batch) →
-      Adds tally tally' p (op_count p + stale_count p) (stale_count p) told → IsMadeOf s batch p → 0 < length told →
-      IsCutIn new (told_lines c.telling.report told) (noted c.on (batch_note tally'.batches p)) newer → IsTold c (status_of x) tally' newer
-  told_in_batch {c} {left} {new} {r} {s} {tally} {tally'} {x} {p} {told} left' newer r' batch failed goes was some told_is adds made events cut =
-      let tallied = tallied_batch c left new r s tally tally' batch told p goes told_is adds made events in
+      Adds tally tally' a 0 0 told → IsAccount c.settings.workers a → IsMadeOf s batch a.plan → 0 < length told →
+      IsCutIn new (told_lines c.telling.report told) (note_of c.settings tally'.batches a.plan) newer → IsTold c (status_of x) tally' newer
+  told_in_batch {c} {left} {new} {r} {s} {tally} {tally'} {x} {a} {told} left' newer r' batch failed goes was some told_is adds sound made events cut =
+      let tallied = tallied_batch c left new r s tally tally' batch told a goes told_is adds sound made events in
       subst (λ y. IsTold c (status_of y) tally' newer) (sym failed) (record {
         done = goes.done ++ batch ∷ [];
         rest = still (accepted_by c.event_of r' left');
-        plans = goes.plans ++ p ∷ [];
+        accounts = goes.accounts ++ a ∷ [];
         parts = parts_are (accepted_in c) (accepted_by c.event_of r' left') (goes.done ++ batch ∷ [])
             (whole_more (accepted_in c) (accepted_by c.event_of r left) (accepted_by c.event_of r' left') goes.done batch goes.runs.whole was some);
         ran = tallied.ran;
+        sound = tallied.sound;
         counts = tallied.counts;
+        founded = tallied.founded;
+        balanced = tallied.balanced;
         whole = λ is. absurd (by_fault Write is);
         short = λ is. absurd (write_not_short 5 refl is);
         cut = λ is. inl (record {
           before = goes.done;
-          before_plans = goes.plans;
+          before_accounts = goes.accounts;
           batch = batch;
-          plan = p;
+          account = a;
           done_is = refl;
-          plans_is = refl;
-          cut = cut_as new (with_batches c.old c.telling.report c.on goes.done goes.plans) (told_lines c.telling.report told)
-              (told_lines c.telling.report (fates (run_state goes.done) (by_time batch))) (noted c.on (batch_note tally'.batches p)) (noted c.on (batch_note (length (goes.done ++ batch ∷ [])) p)) newer
+          accounts_is = refl;
+          cut = cut_as new (with_batches c.old c.telling.report c.settings goes.done goes.accounts) (told_lines c.telling.report told)
+              (told_lines c.telling.report (fates (run_state goes.done) (by_time batch))) (note_of c.settings tally'.batches a.plan) (note_of c.settings (length (goes.done ++ batch ∷ [])) a.plan) newer
               (wrote c left new r s tally goes)
               (ap (told_lines c.telling.report) (told_is ∙ ap (λ q. fates q (by_time batch)) goes.runs.state))
-              (ap (λ k. noted c.on (batch_note k p)) tallied.counts.batches) cut;
+              (ap (λ k. note_of c.settings k a.plan) tallied.counts.batches) cut;
         });
       })
 
@@ -337,17 +341,20 @@ module _ {App : Type 0} where
   -- the text and the tally were written there
   pub told_at_end : {c : Course App} {left : Option (List ℕ)} {new : Outputs} {r : ReaderView App} {s : State} {tally : Tally} (newer : Outputs) (status : ℕ) (ending : Ending) (text : List ℕ) →
       (status ≡ 0) ⊎ (status ≡ 3) → (ending ≡ CutOff → ⊥) → Goes c left new r s tally → IfSome (accepted_by c.event_of r left) (IsOver ending) →
-      IsLast c.telling s tally ending text → newer ≡ with_both new text (noted c.on (closing_notes c.workers tally)) → IsTold c status tally newer
+      IsLast c.telling s tally ending text → newer ≡ with_both new text (noted c.settings.notes (closing_notes c.settings.workers tally)) → IsTold c status tally newer
   told_at_end {c} {left} {new} {r} {s} {tally} newer status ending text ends reached goes over last written = record {
     done = goes.done;
     rest = [];
-    plans = goes.plans;
+    accounts = goes.accounts;
     parts = last_parts (accepted_in c) (accepted_by c.event_of r left) goes.done ending goes.runs.whole over;
     ran = goes.tallied.ran;
+    sound = goes.tallied.sound;
     counts = goes.tallied.counts;
+    founded = goes.tallied.founded;
+    balanced = goes.tallied.balanced;
     whole = λ is. (
       at_last c left new r s tally ending reached goes over,
-      both_as new (with_batches c.old c.telling.report c.on goes.done goes.plans) text (end_text c.telling goes.done ending) (noted c.on (closing_notes c.workers tally)) (noted c.on (closing_notes c.workers tally)) newer
+      both_as new (with_batches c.old c.telling.report c.settings goes.done goes.accounts) text (end_text c.telling goes.done ending) (noted c.settings.notes (closing_notes c.settings.workers tally)) (noted c.settings.notes (closing_notes c.settings.workers tally)) newer
           (wrote c left new r s tally goes) (text_is c left new r s tally ending text goes last) refl written,
     );
     short = λ is. absurd (whole_not_short status ends is);
@@ -357,19 +364,22 @@ module _ {App : Type 0} where
   -- a write failed there
   pub told_cut_at_end : {c : Course App} {left : Option (List ℕ)} {new : Outputs} {r : ReaderView App} {s : State} {tally : Tally} {x : Result Finish Fault} (newer : Outputs) (ending : Ending) (text : List ℕ) →
       x ≡ Err Write → (ending ≡ CutOff → ⊥) → Goes c left new r s tally → IfSome (accepted_by c.event_of r left) (IsOver ending) →
-      IsLast c.telling s tally ending text → IsCutIn new text (noted c.on (closing_notes c.workers tally)) newer → IsTold c (status_of x) tally newer
+      IsLast c.telling s tally ending text → IsCutIn new text (noted c.settings.notes (closing_notes c.settings.workers tally)) newer → IsTold c (status_of x) tally newer
   told_cut_at_end {c} {left} {new} {r} {s} {tally} {x} newer ending text failed reached goes over last cut = subst (λ y. IsTold c (status_of y) tally newer) (sym failed) (record {
     done = goes.done;
     rest = [];
-    plans = goes.plans;
+    accounts = goes.accounts;
     parts = last_parts (accepted_in c) (accepted_by c.event_of r left) goes.done ending goes.runs.whole over;
     ran = goes.tallied.ran;
+    sound = goes.tallied.sound;
     counts = goes.tallied.counts;
+    founded = goes.tallied.founded;
+    balanced = goes.tallied.balanced;
     whole = λ is. absurd (by_fault Write is);
     short = λ is. absurd (write_not_short 5 refl is);
     cut = λ is. inr (
       at_last c left new r s tally ending reached goes over,
-      cut_as new (with_batches c.old c.telling.report c.on goes.done goes.plans) text (end_text c.telling goes.done ending) (noted c.on (closing_notes c.workers tally)) (noted c.on (closing_notes c.workers tally)) newer
+      cut_as new (with_batches c.old c.telling.report c.settings goes.done goes.accounts) text (end_text c.telling goes.done ending) (noted c.settings.notes (closing_notes c.settings.workers tally)) (noted c.settings.notes (closing_notes c.settings.workers tally)) newer
           (wrote c left new r s tally goes) (text_is c left new r s tally ending text goes last) refl cut,
     );
   })

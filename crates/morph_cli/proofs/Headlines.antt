@@ -1,5 +1,5 @@
 -- The headline of a run, from how the run ends.
-use Rattle.std.proofs.Common.{◌≡◌, ◌⊎◌, ℕ, ◌<◌, Bool, inl, inr, List, [], ◌++◌, Option, Some, Result, Ok, Err, refl, ap, sym, subst, ◌∙◌, arith, append-nil, append_assoc}
+use Rattle.std.proofs.Common.{◌≡◌, ◌⊎◌, ℕ, ◌<◌, inl, inr, List, [], ◌++◌, Option, Some, Result, Ok, Err, refl, ap, sym, subst, ◌∙◌, arith, append-nil, append_assoc}
 use Rattle.std.specs.Prelude.{IsErrOf}
 use Rattle.morph_io.specs.Told.{behind}
 use Rattle.morph_io.proofs.Putting.{prefix_more}
@@ -14,6 +14,7 @@ use Rattle.run_text.specs.Text.{Telling, event_lines, end_text, whole_text}
 use Rattle.morph_cli.specs.Runs.{EndsSo}
 use Rattle.morph_cli.specs.Status.{status_of}
 use Rattle.morph_cli.specs.Headline.{Headline, Completes}
+use Rattle.run_text.specs.declared.choices.Settings.{Settings}
 use Rattle.run_text.specs.declared.tally.Tally.{Tally}
 use Rattle.run_text.specs.Notes.{noted, closing_notes}
 use Rattle.morph_cli.specs.Outputs.{Outputs, with_batches, IsCutIn, IsCutInBatch, IsAtLast}
@@ -142,52 +143,55 @@ module _ (meaning : Meaning) (telling : Telling) (limit : ℕ) (input : List ℕ
   }
 
   -- what is told of a run that was cut off before the end, over the whole input
-  told_within : (status : ℕ) (t : Tally) (on : Bool) (workers : ℕ) (before after : Outputs) (counted : RunTold telling (Some some) on workers status t before after) →
-      ((status ≡ 0) ⊎ (status ≡ 3) → ⊥) → (status ≡ 5 → IsCutInBatch telling.report on counted.done counted.plans before after) →
-      RunTold telling (Some all) on workers status t before after
-  told_within status t on workers before after counted unended cut =
+  told_within : (status : ℕ) (t : Tally) (s : Settings) (before after : Outputs) (counted : RunTold telling (Some some) s status t before after) →
+      ((status ≡ 0) ⊎ (status ≡ 3) → ⊥) → (status ≡ 5 → IsCutInBatch telling.report s counted.done counted.accounts before after) →
+      RunTold telling (Some all) s status t before after
+  told_within status t s before after counted unended cut =
       let first = within_is_first meaning limit input in
       record {
         done = counted.done;
         rest = counted.rest ++ first.more;
-        plans = counted.plans;
+        accounts = counted.accounts;
         parts = first.batches ∙ ap (λ l. l ++ first.more) counted.parts ∙ append_assoc counted.done counted.rest first.more;
         ran = counted.ran;
+        sound = counted.sound;
         counts = counted.counts;
+        founded = counted.founded;
+        balanced = counted.balanced;
         whole = λ is. absurd (unended is);
         short = counted.short;
         cut = λ is. inl (cut is);
       }
 
   -- and of one that came to its end
-  told_same : (status : ℕ) (t : Tally) (on : Bool) (workers : ℕ) (before after : Outputs) (ending : Ending) → (ending ≡ CutOff → ⊥) → some.ending ≡ ending →
-      RunTold telling (Some some) on workers status t before after → RunTold telling (Some all) on workers status t before after
-  told_same status t on workers before after Ended reached is counted =
-      subst (λ (a : Accepted). RunTold telling (Some a) on workers status t before after) (sym (within_ended meaning limit input is).1) counted
-  told_same status t on workers before after (RefusedAt line cause) reached is counted =
-      subst (λ (a : Accepted). RunTold telling (Some a) on workers status t before after) (sym (within_refused meaning limit input line cause is)) counted
-  told_same status t on workers before after CutOff reached is counted = absurd (reached refl)
+  told_same : (status : ℕ) (t : Tally) (s : Settings) (before after : Outputs) (ending : Ending) → (ending ≡ CutOff → ⊥) → some.ending ≡ ending →
+      RunTold telling (Some some) s status t before after → RunTold telling (Some all) s status t before after
+  told_same status t s before after Ended reached is counted =
+      subst (λ (a : Accepted). RunTold telling (Some a) s status t before after) (sym (within_ended meaning limit input is).1) counted
+  told_same status t s before after (RefusedAt line cause) reached is counted =
+      subst (λ (a : Accepted). RunTold telling (Some a) s status t before after) (sym (within_refused meaning limit input line cause is)) counted
+  told_same status t s before after CutOff reached is counted = absurd (reached refl)
 
   not_whole : (status : ℕ) → (3 < status) → (status ≡ 0) ⊎ (status ≡ 3) → ⊥
   not_whole status high (inl is) = absurd (omega (arith, is, high))
   not_whole status high (inr is) = absurd (omega (arith, is, high))
 
-  pub told_all : (left old new : Option (List ℕ)) (r : Result Finish Fault) (t : Tally) (on : Bool) (workers : ℕ) (before after : Outputs) →
-      EndsSo meaning telling limit input left old r new → RunTold telling (Some some) on workers (status_of r) t before after →
-      RunTold telling (Some all) on workers (status_of r) t before after
-  told_all left old new (Ok Complete) t on workers before after ends counted = told_same 0 t on workers before after Ended (λ is. absurd (cc)) ends.0 counted
-  told_all left old new (Ok Refused) t on workers before after (line, cause, at, appended) counted =
-      told_same 3 t on workers before after (RefusedAt line cause) (λ is. absurd (cc)) at counted
-  told_all left old new (Err Read) t on workers before after ends counted =
-      told_within 4 t on workers before after counted (not_whole 4 (omega arith)) (λ is. absurd (omega (arith, is)))
-  told_all left old new (Err OutOfMemory) t on workers before after ends counted =
-      told_within 6 t on workers before after counted (not_whole 6 (omega arith)) (λ is. absurd (omega (arith, is)))
-  told_all left old new (Err TooLong) t on workers before after ends counted =
-      told_within 7 t on workers before after counted (not_whole 7 (omega arith)) (λ is. absurd (omega (arith, is)))
-  told_all left old new (Err Write) t on workers before after ends counted = by_cut (counted.cut refl)
+  pub told_all : (left old new : Option (List ℕ)) (r : Result Finish Fault) (t : Tally) (s : Settings) (before after : Outputs) →
+      EndsSo meaning telling limit input left old r new → RunTold telling (Some some) s (status_of r) t before after →
+      RunTold telling (Some all) s (status_of r) t before after
+  told_all left old new (Ok Complete) t s before after ends counted = told_same 0 t s before after Ended (λ is. absurd (cc)) ends.0 counted
+  told_all left old new (Ok Refused) t s before after (line, cause, at, appended) counted =
+      told_same 3 t s before after (RefusedAt line cause) (λ is. absurd (cc)) at counted
+  told_all left old new (Err Read) t s before after ends counted =
+      told_within 4 t s before after counted (not_whole 4 (omega arith)) (λ is. absurd (omega (arith, is)))
+  told_all left old new (Err OutOfMemory) t s before after ends counted =
+      told_within 6 t s before after counted (not_whole 6 (omega arith)) (λ is. absurd (omega (arith, is)))
+  told_all left old new (Err TooLong) t s before after ends counted =
+      told_within 7 t s before after counted (not_whole 7 (omega arith)) (λ is. absurd (omega (arith, is)))
+  told_all left old new (Err Write) t s before after ends counted = by_cut (counted.cut refl)
     where
-      by_cut : IsCutInBatch telling.report on counted.done counted.plans before after ⊎ ((last : IsAtLast (Some some) counted.rest)
-          × IsCutIn (with_batches before telling.report on counted.done counted.plans) (end_text telling counted.done last.ending) (noted on (closing_notes workers t)) after) →
-          RunTold telling (Some all) on workers 5 t before after
-      by_cut (inl cut) = told_within 5 t on workers before after counted (not_whole 5 (omega arith)) (λ is. cut)
-      by_cut (inr last) = told_same 5 t on workers before after last.0.ending last.0.reached last.0.ends counted
+      by_cut : IsCutInBatch telling.report s counted.done counted.accounts before after ⊎ ((last : IsAtLast (Some some) counted.rest)
+          × IsCutIn (with_batches before telling.report s counted.done counted.accounts) (end_text telling counted.done last.ending) (noted s.notes (closing_notes s.workers t)) after) →
+          RunTold telling (Some all) s 5 t before after
+      by_cut (inl cut) = told_within 5 t s before after counted (not_whole 5 (omega arith)) (λ is. cut)
+      by_cut (inr last) = told_same 5 t s before after last.0.ending last.0.reached last.0.ends counted

@@ -1,5 +1,5 @@
 -- How a run ends by the application and by whose input it is.
-use Rattle.std.proofs.Common.{◌≡◌, ℕ, Bool, List, Option, Some, None, Result, Ok, Err, refl, sym, subst}
+use Rattle.std.proofs.Common.{◌≡◌, ℕ, List, Option, Some, None, Result, Ok, Err, refl, sym, subst}
 use Rattle.std.specs.Prelude.{option_map, IfSome, IsErrOf}
 use Rattle.event_reader.specs.Steps.{Meaning}
 use Rattle.event_reader.specs.Accepted.{Ended, accepted_within}
@@ -53,27 +53,27 @@ pub in_app : (s : Settings) (limit : ℕ) (told left old : Option (List ℕ)) (r
 in_app s limit told left old r new app is ends = subst (EndsIn s limit told left old r new) (sym is) ends
 
 -- what is told of the run, by whose input it is
-abbrev ToldOver : Telling → Meaning → (limit : ℕ) → Option Generated → (text : ℕ → ℕ → List ℕ) → (told : Option (List ℕ)) → (on : Bool) → (workers status : ℕ) → Tally → (old new : Outputs) → Type 0
-ToldOver telling meaning limit generated text told on workers status t old new =
-    RunTold telling (option_map (accepted_within meaning limit) (input_by generated text told)) on workers status t old new
+abbrev ToldOver : Telling → Meaning → (limit : ℕ) → Option Generated → (text : ℕ → ℕ → List ℕ) → (told : Option (List ℕ)) → Settings → (status : ℕ) → Tally → (old new : Outputs) → Type 0
+ToldOver telling meaning limit generated text told s status t old new =
+    RunTold telling (option_map (accepted_within meaning limit) (input_by generated text told)) s status t old new
 
-pub told_source : (telling : Telling) (meaning : Meaning) (limit : ℕ) (generated : Option Generated) (text : ℕ → ℕ → List ℕ) (told : Option (List ℕ)) (on : Bool) (workers status : ℕ) (t : Tally)
-    (old new : Outputs) → generated ≡ None → RunTold telling (option_map (accepted_within meaning limit) told) on workers status t old new →
-    ToldOver telling meaning limit generated text told on workers status t old new
-told_source telling meaning limit generated text told on workers status t old new none run =
-    subst (λ o. ToldOver telling meaning limit o text told on workers status t old new) (sym none) run
+pub told_source : (telling : Telling) (meaning : Meaning) (limit : ℕ) (generated : Option Generated) (text : ℕ → ℕ → List ℕ) (told : Option (List ℕ)) (s : Settings) (status : ℕ) (t : Tally)
+    (old new : Outputs) → generated ≡ None → RunTold telling (option_map (accepted_within meaning limit) told) s status t old new →
+    ToldOver telling meaning limit generated text told s status t old new
+told_source telling meaning limit generated text told s status t old new none run =
+    subst (λ o. ToldOver telling meaning limit o text told s status t old new) (sym none) run
 
-pub told_made : (telling : Telling) (meaning : Meaning) (limit : ℕ) (generated : Option Generated) (text : ℕ → ℕ → List ℕ) (told : Option (List ℕ)) (on : Bool) (workers status : ℕ) (t : Tally)
+pub told_made : (telling : Telling) (meaning : Meaning) (limit : ℕ) (generated : Option Generated) (text : ℕ → ℕ → List ℕ) (told : Option (List ℕ)) (s : Settings) (status : ℕ) (t : Tally)
     (old new : Outputs) (g : Generated) → generated ≡ Some g →
-    RunTold telling (option_map (accepted_within meaning limit) (Some (text g.seed g.events))) on workers status t old new →
-    ToldOver telling meaning limit generated text told on workers status t old new
-told_made telling meaning limit generated text told on workers status t old new g some run =
-    subst (λ o. ToldOver telling meaning limit o text told on workers status t old new) (sym some) run
+    RunTold telling (option_map (accepted_within meaning limit) (Some (text g.seed g.events))) s status t old new →
+    ToldOver telling meaning limit generated text told s status t old new
+told_made telling meaning limit generated text told s status t old new g some run =
+    subst (λ o. ToldOver telling meaning limit o text told s status t old new) (sym some) run
 
 -- and by the application
 abbrev ToldIn : Settings → (limit : ℕ) → (told : Option (List ℕ)) → (status : ℕ) → Tally → (old new : Outputs) → App → Type 0
 ToldIn s limit told status t old new app =
-    ToldOver (telling_by s.generated (tables_in app) s.size (name_in app)) (event_in app s.size) limit s.generated (generated_text (drawn_in app s.size)) told s.notes s.workers status t old new
+    ToldOver (telling_by s.generated (tables_in app) s.size (name_in app)) (event_in app s.size) limit s.generated (generated_text (drawn_in app s.size)) told s status t old new
 
 pub told_in_app : (s : Settings) (limit : ℕ) (told : Option (List ℕ)) (status : ℕ) (t : Tally) (old new : Outputs) (app : App) → s.app ≡ app →
     ToldIn s limit told status t old new app → ToldIn s limit told status t old new s.app

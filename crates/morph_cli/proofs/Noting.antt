@@ -2,11 +2,15 @@
 use Rattle.std.proofs.Common.{◌≡◌, ◌⊎◌, inl, inr, ℕ, suc, ◌+◌, ◌<◌, ◌≤◌, Bool, true, false, List, [], ◌∷◌, ◌++◌, length, Option, refl, ap, sym, ◌∙◌, arith, append-nil, append_assoc}
 use Rattle.std.proofs.lemmas.Bool.{cases_lt}
 use Rattle.morph_base.specs.declared.plan.Plan.{Plan}
+use Rattle.morph_base.specs.declared.strategy.Strategy.{Strategy}
 use Rattle.morph_base.specs.Transactions.{Transaction, by_time}
 use Rattle.morph_base.specs.States.{State, after_all}
 use Rattle.morph_io.specs.Told.{behind, behind_nil, behind_behind, HasRisen, AppendsPrefix}
+use Rattle.morph_engine.specs.Accounts.{Account}
+use Rattle.run_text.specs.declared.choices.Settings.{Settings}
 use Rattle.run_text.specs.declared.tally.Tally.{Tally}
 use Rattle.run_text.specs.Notes.{noted, batch_note, batch_notes}
+use Rattle.morph_cli.specs.Outputs.{plans_of}
 use Rattle.morph_cli.specs.Tallies.{AreRunFrom}
 use Rattle.morph_cli.proofs.Tallying.{Tallied}
 
@@ -15,52 +19,61 @@ noted_append true front back = refl
 noted_append false front back = refl
 
 -- the line of one batch more
-notes_append : (number : ℕ) (plans : List Plan) (p : Plan) → batch_notes number (plans ++ p ∷ []) ≡ batch_notes number plans ++ batch_note (number + length plans) p
+notes_append : (number : ℕ) (accounts : List Account) (a : Account) (strategy : Strategy) →
+    batch_notes number (plans_of (accounts ++ a ∷ [])) strategy ≡ batch_notes number (plans_of accounts) strategy ++ batch_note (number + length accounts) a.plan strategy
 unfolding batch_notes
-notes_append number [] p =
-    let here : number ≡ number + 0 = omega arith in append-nil (batch_note number p) ∙ ap (λ n. batch_note n p) here
-notes_append number (q ∷ qs) p =
-    let here : number + 1 + length qs ≡ number + length (q ∷ qs) = omega arith in
-    ap (λ l. batch_note number q ++ l) (notes_append (number + 1) qs p)
-    ∙ sym (append_assoc (batch_note number q) (batch_notes (number + 1) qs) (batch_note (number + 1 + length qs) p))
-    ∙ ap (λ n. (batch_note number q ++ batch_notes (number + 1) qs) ++ batch_note n p) here
+notes_append number [] a strategy =
+    let here : number ≡ number + 0 = omega arith in append-nil (batch_note number a.plan strategy) ∙ ap (λ n. batch_note n a.plan strategy) here
+notes_append number (x ∷ xs) a strategy =
+    let here : number + 1 + length xs ≡ number + length (x ∷ xs) = omega arith in
+    ap (λ l. batch_note number x.plan strategy ++ l) (notes_append (number + 1) xs a strategy)
+    ∙ sym (append_assoc (batch_note number x.plan strategy) (batch_notes (number + 1) (plans_of xs) strategy) (batch_note (number + 1 + length xs) a.plan strategy))
+    ∙ ap (λ n. (batch_note number x.plan strategy ++ batch_notes (number + 1) (plans_of xs) strategy) ++ batch_note n a.plan strategy) here
+
+-- the note of a batch, and those of several
+abbrev pub note_of : Settings → (number : ℕ) → Plan → List ℕ
+note_of s number p = noted s.notes (batch_note number p s.strategy)
+
+abbrev pub notes_of : Settings → List Account → List ℕ
+notes_of s accounts = noted s.notes (batch_notes 1 (plans_of accounts) s.strategy)
 
 -- between two batches: the lines of those that were run and written
-abbrev pub IsNoted : (on : Bool) → List Plan → (old now : Option (List ℕ)) → Type 0
-IsNoted on plans old now = now ≡ behind old (noted on (batch_notes 1 plans))
+abbrev pub IsNoted : Settings → List Account → (old now : Option (List ℕ)) → Type 0
+IsNoted s accounts old now = now ≡ behind old (notes_of s accounts)
 
-nothing : (on : Bool) → [] ≡ noted on (batch_notes 1 [])
+nothing : (on : Bool) (strategy : Strategy) → [] ≡ noted on (batch_notes 1 [] strategy)
 unfolding batch_notes
-nothing true = refl
-nothing false = refl
+nothing true strategy = refl
+nothing false strategy = refl
 
-pub noted_nothing : (on : Bool) (old : Option (List ℕ)) → IsNoted on [] old old
-noted_nothing on old = sym (behind_nil old) ∙ ap (behind old) (nothing on)
+pub noted_nothing : (s : Settings) (old : Option (List ℕ)) → IsNoted s [] old old
+noted_nothing s old = sym (behind_nil old) ∙ ap (behind old) (nothing s.notes s.strategy)
 
-one_more : (on : Bool) (plans : List Plan) (p : Plan) (number : ℕ) → number ≡ length plans + 1 →
-    noted on (batch_notes 1 plans) ++ noted on (batch_note number p) ≡ noted on (batch_notes 1 (plans ++ p ∷ []))
-one_more on plans p number is =
-    let here : number ≡ 1 + length plans = omega (arith, is) in
-    sym (noted_append on (batch_notes 1 plans) (batch_note number p))
-    ∙ ap (noted on) (ap (λ n. batch_notes 1 plans ++ batch_note n p) here ∙ sym (notes_append 1 plans p))
+one_more : (s : Settings) (accounts : List Account) (a : Account) (number : ℕ) → number ≡ length accounts + 1 →
+    notes_of s accounts ++ note_of s number a.plan ≡ notes_of s (accounts ++ a ∷ [])
+one_more s accounts a number is =
+    let here : number ≡ 1 + length accounts = omega (arith, is) in
+    sym (noted_append s.notes (batch_notes 1 (plans_of accounts) s.strategy) (batch_note number a.plan s.strategy))
+    ∙ ap (noted s.notes) (ap (λ n. batch_notes 1 (plans_of accounts) s.strategy ++ batch_note n a.plan s.strategy) here ∙ sym (notes_append 1 accounts a s.strategy))
 
-pub noted_more : (on : Bool) (plans : List Plan) (p : Plan) (number : ℕ) (old now newer : Option (List ℕ)) → number ≡ length plans + 1 → IsNoted on plans old now →
-    newer ≡ behind now (noted on (batch_note number p)) → IsNoted on (plans ++ p ∷ []) old newer
-noted_more on plans p number old now newer is so_far written =
-    written ∙ ap (λ w. behind w (noted on (batch_note number p))) so_far ∙ behind_behind old (noted on (batch_notes 1 plans)) (noted on (batch_note number p))
-    ∙ ap (behind old) (one_more on plans p number is)
+pub noted_more : (s : Settings) (accounts : List Account) (a : Account) (number : ℕ) (old now newer : Option (List ℕ)) → number ≡ length accounts + 1 → IsNoted s accounts old now →
+    newer ≡ behind now (note_of s number a.plan) → IsNoted s (accounts ++ a ∷ []) old newer
+noted_more s accounts a number old now newer is so_far written =
+    written ∙ ap (λ w. behind w (note_of s number a.plan)) so_far ∙ behind_behind old (notes_of s accounts) (note_of s number a.plan)
+    ∙ ap (behind old) (one_more s accounts a number is)
 
--- there is a plan for each batch, so its number is the next one
-ran_length : (s : State) (done : List (List Transaction)) (plans : List Plan) → AreRunFrom s done plans → length done ≡ length plans
+-- there is an account for each batch, so its number is the next one
+ran_length : (s : State) (done : List (List Transaction)) (accounts : List Account) → AreRunFrom s done accounts → length done ≡ length accounts
 unfolding AreRunFrom
 ran_length s [] [] ran = refl
-ran_length s [] (p ∷ ps) ran = absurd ran
+ran_length s [] (x ∷ xs) ran = absurd ran
 ran_length s (b ∷ bs) [] ran = absurd ran
-ran_length s (b ∷ bs) (p ∷ ps) ran = ap suc (ran_length (after_all s (by_time b)) bs ps ran.1)
+ran_length s (b ∷ bs) (x ∷ xs) ran = ap suc (ran_length (after_all s (by_time b)) bs xs ran.1)
 
-pub number_is : {done : List (List Transaction)} {plans : List Plan} {t : Tally} (number : ℕ) → Tallied done plans t → number ≡ t.batches + 1 → number ≡ length plans + 1
-number_is {done} {plans} {t} number tallied next =
-    let all = ran_length _ done plans tallied.ran in let counted = tallied.counts.batches in omega (arith, all, counted, next)
+pub number_is : {workers : ℕ} {done : List (List Transaction)} {accounts : List Account} {t : Tally} (number : ℕ) → Tallied workers done accounts t → number ≡ t.batches + 1 →
+    number ≡ length accounts + 1
+number_is {workers} {done} {accounts} {t} number tallied next =
+    let all = ran_length _ done accounts tallied.ran in let counted = tallied.counts.batches in omega (arith, all, counted, next)
 
 -- all of some bytes were appended
 pub prefix_all : (old new : Option (List ℕ)) (bytes : List ℕ) → new ≡ behind old bytes → AppendsPrefix old bytes new

@@ -1,125 +1,176 @@
 -- The tally of the batches that were run: one batch more, and at each end of a run.
-use Rattle.std.proofs.Common.{◌≡◌, ℕ, ◌+◌, ◌*◌, ◌<◌, ◌≤◌, List, [], ◌∷◌, ◌++◌, length, sum, sum_by, refl, ap, sym, subst, ◌∙◌, arith, cond}
+use Rattle.std.proofs.Common.{◌≡◌, ℕ, ◌+◌, ◌*◌, ◌<◌, ◌≤◌, All, List, [], ◌∷◌, ◌++◌, length, sum, sum_by, get_or, refl, ap, sym, subst, ◌∙◌, arith, cond}
 use Rattle.std.specs.Prelude.{not}
 use Rattle.std.proofs.lemmas.List.{length-append}
-use Rattle.std.proofs.lemmas.List.FromFn.{length-range_with_len}
-use Rattle.std.proofs.lemmas.List.Sums.{sum_by-append, sum_by_push, sum_by-le-sum_by, count_by-le-length}
+use Rattle.std.proofs.lemmas.List.Elements.{All-nil, All-cons, All-append}
+use Rattle.std.proofs.lemmas.List.Sums.{sum_by-append, sum_by-cons, sum_by_push}
 use Rattle.morph_base.specs.declared.limits.TheConstants.{EVENT_OPS, EVENTS}
-use Rattle.morph_base.specs.declared.plan.Plan.{Plan}
 use Rattle.morph_base.specs.Transactions.{Transaction, by_time}
 use Rattle.morph_base.specs.States.{State, opening_state, after_all}
 use Rattle.morph_base.specs.Outcomes.{Fate}
 use Rattle.morph_base.specs.Plans.{op_count}
-use Rattle.morph_base.specs.Graphs.{below}
-use Rattle.morph_base.specs.Guesses.{is_stale, stale_count}
+use Rattle.morph_base.specs.Guesses.{stale_count}
 use Rattle.morph_base.proofs.NumberLaws.{op_count-small}
 use Rattle.morph_base.proofs.PlainLaws.{fates-nil}
 use Rattle.morph_base.proofs.StateLaws.{after_all-append, after_all-nil}
+use Rattle.morph_engine.specs.Accounts.{Account, IsAccount, settled_by}
 use Rattle.run_text.specs.declared.tally.Tally.{Tally}
 use Rattle.run_text.specs.Text.{in_order, run_state, run_fates, committed_in, aborted_in}
-use Rattle.morph_cli.specs.Tallies.{IsMadeOf, AreRunFrom, IsTallyOf, IsBalanced}
-use Rattle.run_text.specs.Counts.{Adds, no_tally, settled_by_first}
+use Rattle.run_text.specs.Counts.{Adds, counted_to, no_tally}
+use Rattle.run_text.proofs.Workers.{counted_more, counts_of_none, settled_beyond}
+use Rattle.morph_cli.specs.Tallies.{IsMadeOf, AreRunFrom, IsTallyOf, IsFounded, IsBalanced, committed_by_workers}
 
--- between two batches: the plans of those that were done, and their tally with the bounds of its numbers
-pub record Tallied (done : List (List Transaction)) (plans : List Plan) (t : Tally) : Type 0 where
-  pub ran : AreRunFrom opening_state done plans
-  pub counts : IsTallyOf done plans t
+-- between two batches: the accounts of those that were done, and their tally with the bounds of its numbers
+pub record Tallied (workers : ℕ) (done : List (List Transaction)) (accounts : List Account) (t : Tally) : Type 0 where
+  pub ran : AreRunFrom opening_state done accounts
+  pub sound : All (IsAccount workers) accounts
+  pub counts : IsTallyOf done accounts t
+  pub founded : IsFounded workers accounts t
+  pub balanced : IsBalanced workers t
   pub few_batches : t.batches ≤ t.events
   pub few_ops : t.ops ≤ EVENT_OPS * EVENTS * t.batches
-  pub few_rolled : t.rolled ≤ t.ops
 
-pub few_stale : (p : Plan) → stale_count p ≤ op_count p
-few_stale p =
-    let few : stale_count p ≤ length (below (op_count p)) = count_by-le-length (is_stale p) (below (op_count p)) in
-    let all : length (below (op_count p)) ≡ op_count p = length-range_with_len 0 (op_count p) in
-    omega (arith, few, all)
-
-few_stales : (plans : List Plan) → sum_by stale_count plans ≤ sum_by op_count plans
-few_stales plans = sum_by-le-sum_by stale_count op_count plans few_stale
-
--- one plan more
-ran_more : (s : State) (done : List (List Transaction)) (plans : List Plan) (batch : List Transaction) (p : Plan) → AreRunFrom s done plans →
-    IsMadeOf (after_all s (in_order done)) batch p → AreRunFrom s (done ++ batch ∷ []) (plans ++ p ∷ [])
+-- one batch more
+ran_more : (s : State) (done : List (List Transaction)) (accounts : List Account) (batch : List Transaction) (a : Account) → AreRunFrom s done accounts →
+    IsMadeOf (after_all s (in_order done)) batch a.plan → AreRunFrom s (done ++ batch ∷ []) (accounts ++ a ∷ [])
 unfolding AreRunFrom
-ran_more s [] [] batch p ran made = (subst (λ r. IsMadeOf r batch p) (after_all-nil s) made, tt)
-ran_more s [] (q ∷ qs) batch p ran made = absurd ran
-ran_more s (b ∷ bs) [] batch p ran made = absurd ran
-ran_more s (b ∷ bs) (q ∷ qs) batch p ran made =
-    (ran.0, ran_more (after_all s (by_time b)) bs qs batch p ran.1 (subst (λ r. IsMadeOf r batch p) (after_all-append s (by_time b) (in_order bs)) made))
+ran_more s [] [] batch a ran made = (subst (λ r. IsMadeOf r batch a.plan) (after_all-nil s) made, tt)
+ran_more s [] (x ∷ xs) batch a ran made = absurd ran
+ran_more s (b ∷ bs) [] batch a ran made = absurd ran
+ran_more s (b ∷ bs) (x ∷ xs) batch a ran made =
+    (ran.0, ran_more (after_all s (by_time b)) bs xs batch a ran.1 (subst (λ r. IsMadeOf r batch a.plan) (after_all-append s (by_time b) (in_order bs)) made))
 
 nothing_ran : AreRunFrom opening_state [] []
 unfolding AreRunFrom
 nothing_ran = tt
 
-at_start : Tallied [] [] no_tally
-at_start = record {
+-- nothing was run yet: no worker settled anything
+pub balanced_start : (workers : ℕ) → IsBalanced workers no_tally
+balanced_start workers = record {
+  events = refl;
+  settled = refl;
+  inside = λ w above. counts_of_none w;
+  evaluated = omega arith;
+  rolled = omega arith;
+  spread = refl;
+  rest = omega arith;
+  handed = refl;
+  stolen = refl;
+  alone = λ one. record { none = refl; mine = refl; evaluated = refl };
+}
+
+at_start : (workers : ℕ) → Tallied workers [] [] no_tally
+at_start workers = record {
   ran = nothing_ran;
+  sound = All-nil (IsAccount workers);
   counts = record {
     batches = refl;
     events = refl;
     committed = ap committed_in (sym (fates-nil opening_state));
     aborted = ap aborted_in (sym (fates-nil opening_state));
     ops = refl;
-    rolled = refl;
     evaluated = refl;
-    settled_by = refl;
     spread = refl;
+    rolled = refl;
+    settled = λ w few. counts_of_none w;
+    workers = refl;
     left = refl;
     handed = refl;
     stolen = refl;
   };
+  founded = record { committed = omega arith; alone = λ one. refl };
+  balanced = balanced_start workers;
   few_batches = omega arith;
   few_ops = omega arith;
-  few_rolled = omega arith;
 }
 
-pub tallied_start : (t : Tally) → t ≡ no_tally → Tallied [] [] t
-tallied_start t is = subst (Tallied [] []) (sym is) at_start
+pub tallied_start : (workers : ℕ) (t : Tally) → t ≡ no_tally → Tallied workers [] [] t
+tallied_start workers t is = subst (Tallied workers [] []) (sym is) (at_start workers)
 
--- one batch more
-pub tallied_more : (done : List (List Transaction)) (plans : List Plan) (t t' : Tally) (batch : List Transaction) (p : Plan) (fs : List Fate) →
-    Tallied done plans t → Adds t t' p (op_count p + stale_count p) (stale_count p) fs → IsMadeOf (run_state done) batch p → run_fates (done ++ batch ∷ []) ≡ run_fates done ++ fs → 0 < length fs →
-    Tallied (done ++ batch ∷ []) (plans ++ p ∷ []) t'
-tallied_more done plans t t' batch p fs so_far adds made told some =
-    let counts = so_far.counts in
-    let few_ops : op_count p ≤ EVENT_OPS * EVENTS = op_count-small p made.valid.plan in
-    let few_rolled : stale_count p ≤ op_count p = few_stale p in
-    record {
-      ran = ran_more opening_state done plans batch p so_far.ran made;
-      counts = record {
+first_of_sum : (xs : List ℕ) → get_or xs 0 0 ≤ sum xs
+first_of_sum [] = omega arith
+first_of_sum (x ∷ xs) = let whole = sum_by-cons (λ n. n) x xs in omega (arith, whole)
+
+-- what one account more adds to a sum over accounts
+adds_one : (f : Account → ℕ) (accounts : List Account) (a : Account) (old new : ℕ) → new ≡ old + f a → old ≡ sum_by f accounts → new ≡ sum_by f (accounts ++ a ∷ [])
+adds_one f accounts a old new adds so_far = adds ∙ ap (λ k. k + f a) so_far ∙ sym (sum_by_push f accounts a)
+
+module _ (workers : ℕ) (done : List (List Transaction)) (accounts : List Account) (t t' : Tally) (batch : List Transaction) (a : Account) (fs : List Fate)
+    (so_far : Tallied workers done accounts t) (adds : Adds t t' a 0 0 fs) (sound : IsAccount workers a) where
+  counts_more : run_fates (done ++ batch ∷ []) ≡ run_fates done ++ fs → IsTallyOf (done ++ batch ∷ []) (accounts ++ a ∷ []) t'
+  counts_more told =
+      let counts = so_far.counts in
+      record {
         batches = let before = counts.batches in let now = adds.batches in let long : length (done ++ batch ∷ []) ≡ length done + 1 = length-append done (batch ∷ []) in
             omega (arith, before, now, long);
         events = let before = counts.events in let now = adds.events in let all = adds.both in omega (arith, before, now, all);
         committed = adds.committed ∙ ap (λ k. k + committed_in fs) counts.committed ∙ sym (sum_by-append (λ (f : Fate). cond f.committed 1 0) (run_fates done) fs) ∙ ap committed_in (sym told);
         aborted = adds.aborted ∙ ap (λ k. k + aborted_in fs) counts.aborted ∙ sym (sum_by-append (λ (f : Fate). cond (not f.committed) 1 0) (run_fates done) fs) ∙ ap aborted_in (sym told);
-        ops = adds.ops ∙ ap (λ k. k + op_count p) counts.ops ∙ sym (sum_by_push op_count plans p);
-        rolled = adds.rolled_more ∙ ap (λ k. k + stale_count p) counts.rolled ∙ sym (sum_by_push stale_count plans p);
-        evaluated = let before = counts.evaluated in let now = adds.evaluated_more in let ops = adds.ops in let rolled = adds.rolled_more in omega (arith, before, now, ops, rolled);
-        settled_by = adds.settled_by;
-        spread = adds.spread ∙ counts.spread;
-        left = adds.left ∙ counts.left;
-        handed = adds.handed ∙ counts.handed;
-        stolen = adds.stolen ∙ counts.stolen;
-      };
-      few_batches = let before = so_far.few_batches in let now = adds.batches in let events = adds.events in omega (arith, before, now, events, some);
-      few_ops = let before = so_far.few_ops in let now = adds.batches in let ops = adds.ops in omega (arith, before, now, ops, few_ops);
-      few_rolled = let before = so_far.few_rolled in let now = adds.rolled_more in let ops = adds.ops in omega (arith, before, now, ops, few_rolled);
-    }
+        ops = adds_one (λ a. op_count a.plan) accounts a t.ops t'.ops adds.ops counts.ops;
+        evaluated = adds_one (λ a. a.counts.evaluated) accounts a t.evaluated t'.evaluated adds.evaluated counts.evaluated;
+        spread = adds_one (λ a. a.counts.spread) accounts a t.spread t'.spread adds.spread counts.spread;
+        rolled = adds_one (λ a. a.counts.rolled) accounts a t.rolled t'.rolled adds.rolled counts.rolled;
+        settled = λ w few. adds_one (λ a. settled_by a.by w) accounts a (get_or t.settled_by w 0) (get_or t'.settled_by w 0) (adds.settled w few) (counts.settled w few);
+        workers = adds.workers;
+        left = adds.left ∙ ap (λ k. counted_to (k + a.left)) counts.left ∙ counted_more (sum_by (λ a. a.left) accounts) a.left ∙ ap counted_to (sym (sum_by_push (λ a. a.left) accounts a));
+        handed = let before = counts.handed in let now = adds.handed in omega (arith, before, now);
+        stolen = let before = counts.stolen in let now = adds.stolen in omega (arith, before, now);
+      }
 
--- the numbers of a tally go together
-all_settled : (ops : ℕ) → sum (settled_by_first ops) ≡ ops
-all_settled ops = omega arith
+  founded_more : IsFounded workers (accounts ++ a ∷ []) t'
+  founded_more =
+      let before = so_far.founded in
+      record {
+        committed =
+            let old = before.committed in let new = sound.committed in let now = adds.evaluated in let all = sum_by_push committed_by_workers accounts a in
+            omega (arith, old, new, now, all);
+        alone = λ one. adds_one (λ a. stale_count a.plan) accounts a t.rolled t'.rolled (adds.rolled ∙ ap (λ k. t.rolled + k) (sound.alone one).rolled) (before.alone one);
+      }
 
-pub balanced : (done : List (List Transaction)) (plans : List Plan) (t : Tally) → IsTallyOf done plans t → IsBalanced t
-balanced done plans t counts = record {
-  events = sym counts.events;
-  settled = ap sum counts.settled_by ∙ all_settled t.ops;
-  evaluated = counts.evaluated;
-  few =
-      let evaluated = counts.evaluated in let rolled = counts.rolled in let ops = counts.ops in let few = few_stales plans in
-      omega (arith, evaluated, rolled, ops, few);
-  spread = counts.spread;
-  left = counts.left;
-  handed = counts.handed;
-  stolen = counts.stolen;
-}
+  balanced_more : IsBalanced workers t'
+  balanced_more =
+      let before = so_far.balanced in
+      let ops = adds.ops in
+      let each = sound.each in
+      record {
+        events = let old = before.events in let now = adds.events in let all = adds.both in omega (arith, old, now, all);
+        settled = let old = before.settled in let now = adds.settled_all in omega (arith, old, now, ops, each);
+        inside = λ w above. settled_beyond t t' a workers w adds.settled adds.workers sound.inside above (before.inside w above);
+        evaluated = let old = before.evaluated in let new = sound.evaluated in let now = adds.evaluated in omega (arith, old, new, now, ops);
+        rolled = let old = before.rolled in let new = sound.rolled in let now = adds.rolled in omega (arith, old, new, now, ops);
+        spread = let old = before.spread in let new = sound.spread in let now = adds.spread in omega (arith, old, new, now);
+        rest =
+            let old = before.rest in
+            let new = sound.rest in
+            let now = adds.settled 0 (omega arith) in
+            let left = adds.left in
+            let all = adds.settled_all in
+            let settled = before.settled in
+            let fits = adds.fits in
+            let part = first_of_sum t'.settled_by in
+            omega (arith, old, new, now, left, all, settled, each, ops, fits, part);
+        handed = let old = before.handed in let now = adds.handed in omega (arith, old, now);
+        stolen = let old = before.stolen in let now = adds.stolen in omega (arith, old, now);
+        alone = λ one.
+            let old = before.alone one in
+            let new = sound.alone one in
+            record {
+              none = let zero = old.none in let none = new.none in let now = adds.left in omega (arith, zero, none, now);
+              mine = let all = old.mine in let mine = new.mine in let now = adds.settled 1 (omega arith) in omega (arith, all, mine, now, ops);
+              evaluated = let all = old.evaluated in let more = new.evaluated in let rolled = adds.rolled in let now = adds.evaluated in omega (arith, all, more, rolled, now, ops);
+            };
+      }
+
+  pub tallied_more : IsMadeOf (run_state done) batch a.plan → run_fates (done ++ batch ∷ []) ≡ run_fates done ++ fs → 0 < length fs →
+      Tallied workers (done ++ batch ∷ []) (accounts ++ a ∷ []) t'
+  tallied_more made told some =
+      let few_ops : op_count a.plan ≤ EVENT_OPS * EVENTS = op_count-small a.plan made.valid.plan in
+      record {
+        ran = ran_more opening_state done accounts batch a so_far.ran made;
+        sound = All-append (IsAccount workers) accounts (a ∷ []) so_far.sound (All-cons (IsAccount workers) a [] sound (All-nil (IsAccount workers)));
+        counts = counts_more told;
+        founded = founded_more;
+        balanced = balanced_more;
+        few_batches = let before = so_far.few_batches in let now = adds.batches in let events = adds.events in omega (arith, before, now, events, some);
+        few_ops = let before = so_far.few_ops in let now = adds.batches in let ops = adds.ops in omega (arith, before, now, ops, few_ops);
+      }

@@ -1,11 +1,13 @@
 -- What stands in the sink and in the notes, by the order of the writes: the lines of a batch, its note, then the lines of the next one; at the end
 -- the closing or the refused text, and then the tally.
-use Rattle.std.specs.Prelude.{◌≡◌, ℕ, ◌⊎◌, Bool, List, [], ◌∷◌, ◌++◌, length, Option, IfSome, Result, Ok, Err}
+use Rattle.std.specs.Prelude.{◌≡◌, ℕ, ◌⊎◌, List, [], ◌∷◌, ◌++◌, length, Option, IfSome, Result, Ok, Err, map}
 use Rattle.morph_base.specs.declared.plan.Plan.{Plan}
 use Rattle.morph_base.specs.Transactions.{Transaction, by_time}
+use Rattle.morph_engine.specs.Accounts.{Account}
 use Rattle.morph_base.specs.Outcomes.{fates}
 use Rattle.morph_io.specs.Told.{behind, AppendsPrefix}
 use Rattle.event_reader.specs.Accepted.{Accepted, Ending, CutOff}
+use Rattle.run_text.specs.declared.choices.Settings.{Settings}
 use Rattle.run_text.specs.declared.report.Report.{Report}
 use Rattle.run_text.specs.Text.{event_lines, told_lines, run_state}
 use Rattle.run_text.specs.Notes.{noted, batch_note, batch_notes}
@@ -32,20 +34,24 @@ abbrev pub Tells : {T E : Type 0} → Result T E → Outputs → (text note : Li
 Tells (Ok done) old text note new = new ≡ with_both old text note
 Tells (Err fault) old text note new = IsCutIn old text note new
 
--- batches that were run by these plans were written and noted, whole
-abbrev pub with_batches : Outputs → Report → (on : Bool) → List (List Transaction) → List Plan → Outputs
-with_batches old report on batches plans = with_both old (event_lines report batches) (noted on (batch_notes 1 plans))
+-- the plans of batches that were run
+abbrev pub plans_of : List Account → List Plan
+plans_of accounts = map (λ (a : Account). a.plan) accounts
+
+-- batches that were run with these accounts were written and noted, whole
+abbrev pub with_batches : Outputs → Report → Settings → List (List Transaction) → List Account → Outputs
+with_batches old report s batches accounts = with_both old (event_lines report batches) (noted s.notes (batch_notes 1 (plans_of accounts) s.strategy))
 
 -- a write failed at the last of the batches that were run; those before it were written and noted, whole
-pub record IsCutInBatch (report : Report) (on : Bool) (done : List (List Transaction)) (plans : List Plan) (old new : Outputs) : Type 0 where
+pub record IsCutInBatch (report : Report) (s : Settings) (done : List (List Transaction)) (accounts : List Account) (old new : Outputs) : Type 0 where
   pub before : List (List Transaction)
-  pub before_plans : List Plan
+  pub before_accounts : List Account
   pub batch : List Transaction
-  pub plan : Plan
+  pub account : Account
   pub done_is : done ≡ before ++ batch ∷ []
-  pub plans_is : plans ≡ before_plans ++ plan ∷ []
-  pub cut : IsCutIn (with_batches old report on before before_plans) (told_lines report (fates (run_state before) (by_time batch)))
-      (noted on (batch_note (length done) plan)) new
+  pub accounts_is : accounts ≡ before_accounts ++ account ∷ []
+  pub cut : IsCutIn (with_batches old report s before before_accounts) (told_lines report (fates (run_state before) (by_time batch)))
+      (noted s.notes (batch_note (length done) account.plan s.strategy)) new
 
 -- the end of the input or a refused line was reached, and no batch is left
 pub record IsAtLast (told : Option Accepted) (rest : List (List Transaction)) : Type 0 where

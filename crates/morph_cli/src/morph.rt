@@ -50,7 +50,7 @@ fn run_over<R: Threads + Sync, A: EventApp + Copy, S: Source, K: Sink, N: Sink, 
         (option_map (accepted_within (A.event_of app settings.size) INPUT_BYTES)
         (input_by settings.generated (generated_text (A.generated app settings.size))
         (S.left source.old)))
-        settings.notes settings.workers (status_of result) tally.new
+        settings (status_of result) tally.new
         (outputs_of (K.written sink.old) (N.written notes.old))
         (outputs_of (K.written sink.new) (N.written notes.new)) }
     ensures notes_faults { N.faults notes.old ≤ N.faults notes.new }
@@ -85,7 +85,7 @@ fn run_made<R: Threads + Sync, A: EventApp + Copy, K: Sink, N: Sink, G: Gate>(
         RunTold (telling_for settings (A.table_count app) (A.name_of app))
         (option_map (accepted_within (A.event_of app settings.size) INPUT_BYTES)
         (Some (generated_text (A.generated app settings.size) generated.seed generated.events)))
-        settings.notes settings.workers (status_of result) tally.new
+        settings (status_of result) tally.new
         (outputs_of (K.written sink.old) (N.written notes.old))
         (outputs_of (K.written sink.new) (N.written notes.new)) }
     ensures notes_faults { N.faults notes.old ≤ N.faults notes.new }
@@ -116,7 +116,7 @@ fn run_app<R: Threads + Sync, S: Source, K: Sink, N: Sink, G: Gate>(
     ensures told { RunTold (telling_of settings)
         (option_map (accepted_within (meaning_of settings) INPUT_BYTES)
         (input_of settings (S.left source.old)))
-        settings.notes settings.workers (status_of result) tally.new
+        settings (status_of result) tally.new
         (outputs_of (K.written sink.old) (N.written notes.old))
         (outputs_of (K.written sink.new) (N.written notes.new)) }
     ensures notes_faults { N.faults notes.old ≤ N.faults notes.new }
@@ -194,11 +194,13 @@ pub fn morph<R: Threads + Sync, S: Source, K: Sink, N: Sink, G: Gate>(
     ensures told { IfSome (settings_of (map (λ word. word.items) words.now)) (λ s.
         CallTold (telling_of s)
         (option_map (accepted (meaning_of s)) (input_of s (S.left source.old)))
-        s.notes s.workers result.status result.tally
+        s result.status result.tally
         (outputs_of (K.written sink.old) (N.written notes.old))
         (outputs_of (K.written sink.new) (N.written notes.new))
         (HasRisen (N.faults notes.old) (N.faults notes.new))) }
-    ensures balanced { IsBalanced result.tally }
+    ensures balanced { IfSome (settings_of (map (λ word. word.items) words.now))
+        (λ s. IsBalanced s.workers result.tally) }
+    ensures uncounted { result.status ≡ 2 → result.tally ≡ no_tally }
     ensures note { result.status ≡ 2
         → AppendsPrefix (N.written notes.old) (note_at result.status) (N.written notes.new) }
     ensures whole_note { result.status ≡ 2

@@ -53,7 +53,7 @@ pub fn run<R: Threads + Sync, A: EventApp + Copy, S: Source, K: Sink, N: Sink, G
         RunTold (telling_for settings (A.table_count app) (A.name_of app))
         (option_map (accepted_within (A.event_of app settings.size) INPUT_BYTES)
         (S.left source.old))
-        settings.notes settings.workers (status_of result) tally.new
+        settings (status_of result) tally.new
         (outputs_of (K.written sink.old) (N.written notes.old))
         (outputs_of (K.written sink.new) (N.written notes.new)) }
     ensures source_faults { S.faults source.old ≤ S.faults source.new }
@@ -91,7 +91,7 @@ fn run_batches<R: Threads + Sync, A: EventApp + Copy, S: Source, K: Sink, N: Sin
         RunTold (telling_for settings (A.table_count app) (A.name_of app))
         (option_map (accepted_within (A.event_of app settings.size) INPUT_BYTES)
         (S.left source.old))
-        settings.notes settings.workers (status_of result) tally.new
+        settings (status_of result) tally.new
         (outputs_of (K.written sink.old) (N.written notes.old))
         (outputs_of (K.written sink.new) (N.written notes.new)) }
     ensures source_faults { S.faults source.old ≤ S.faults source.new }
@@ -104,7 +104,7 @@ fn run_batches<R: Threads + Sync, A: EventApp + Copy, S: Source, K: Sink, N: Sin
     'batches: loop {
         match progress.reader.next_batch(job.host.alloc, source)? {
             Next::Batch(batch) => {
-                let end = run_batch(job.host, &mut progress.engine, &batch, job.settings.workers)?;
+                let end = run_batch(job.host, &mut progress.engine, &batch, &job.settings)?;
                 tally.add(&end);
                 tell_batch(
                     &mut progress.out,

@@ -3,8 +3,10 @@ mod apps;
 mod faults;
 mod inputs;
 mod lines;
+mod meeting;
 mod notes;
 mod tallies;
+mod units;
 
 use crate::ended::Ended;
 use crate::morph::morph;

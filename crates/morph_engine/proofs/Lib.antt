@@ -1,7 +1,8 @@
-pub mod Sources
-pub mod LevelOps
-pub mod Trying
-pub mod Keeping
-pub mod Cutting
 pub mod Told
 pub mod InKeys
+pub mod EventLevels
+pub mod Preparing
+pub mod Alone
+pub mod Reaching
+pub mod Ending
+pub mod Accounting

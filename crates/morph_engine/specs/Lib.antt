@@ -1,3 +1,3 @@
-pub mod Parts
-pub mod Tries
 pub mod Fates
+pub mod Accounts
+pub mod Runs

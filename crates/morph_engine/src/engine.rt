@@ -1,4 +1,4 @@
-ghost use Rattle.std.specs.Prelude.{◌≡◌, ◌+◌, ◌≤◌, IfOk, OnOk, OnErr};
+ghost use Rattle.std.specs.Prelude.{◌≡◌, ℕ, ◌≤◌, IfOk, OnOk, OnErr, map};
 ghost use Rattle.morph_base.specs.Limits.{most_workers};
 ghost use Rattle.morph_base.specs.Flat.{contents};
 ghost use Rattle.morph_base.specs.States.{opening_state};
@@ -6,12 +6,17 @@ ghost use Rattle.morph_base.specs.Transactions.{IsBatch, BatchKeysIn};
 ghost use Rattle.morph_base.specs.Outcomes.{fates};
 ghost use Rattle.morph_base.specs.Plans.{HasBases, IsPlanOf, IsSettledOf, PlanKeysIn, event_count, op_count, state_at, transactions};
 ghost use Rattle.morph_base.specs.Graphs.{IsValidPlan};
-ghost use Rattle.morph_base.specs.Guesses.{stale_count};
+ghost use Rattle.morph_engine.specs.Accounts.{IsAccount, account_of};
 ghost use Rattle.morph_engine.specs.Fates.{settled_fates};
+ghost use Rattle.morph_engine.specs.Runs.{HasRun};
+ghost use Rattle.op_words.specs.Closing.{IsClosed};
+ghost use Rattle.op_words.specs.Hands.{counts_of};
+ghost use Rattle.op_words.specs.declared.trail.View.{View as RootView};
 
-use crate::levels::try_levels;
-use abort_lazy::{Attempts, Room, settle_plain};
-use morph_base::{Abort, Batch, Explore, Layout, OutOfMemory, Plan, Settled, Strategy};
+use crate::prepared::{Prepared, Ran};
+use morph_base::{Abort, Batch, Explore, Layout, List, OutOfMemory, Plan, Settled, Strategy};
+use op_eval::Left;
+use op_words::{Closed, Counts};
 use precedence_graph::build;
 use std::alloc::Global;
 use std::marker::Model;
@@ -26,18 +31,24 @@ pub struct Engine {
     state: State,
 }
 
-/// What a batch came to: its plan, and what was settled of it.
+/// What a batch came to: its plan, what was settled of it, and how.
 ///
 /// Event `i` of the plan has its timestamp there, its verdict at `committed[i]`, and the values of its operations in
 /// `values` from its `first` on, `count` of them.
-#[derive(Debug, Drop)]
+#[derive(Drop)]
 pub struct BatchEnd {
     pub plan: Plan,
     pub settled: Settled,
-    /// How often an operation was evaluated: each once, and once more each that was rolled back.
-    pub evaluated: u64,
-    /// How many operations were rolled back, since a source came to another value than they had read.
-    pub rolled: u64,
+    /// The board of this batch after its end, with the words, decisions and counts that workers left on it.
+    pub closed: Closed,
+    /// Why events were left to the plain finish, by the worker that tried them, worker 1 first.
+    pub left: List<List<Left>>,
+    /// How often operations were evaluated, spread and rolled back on the board.
+    pub counts: Counts,
+    /// How many operations were handed out to workers, and how many of these another worker took: 0 where a batch is
+    /// explored by strata.
+    pub handed: u64,
+    pub stolen: u64,
 }
 
 impl Model for Engine {
@@ -84,11 +95,16 @@ impl Engine {
     /// Runs a plan that was made from the present state: the state becomes the fold of its events.
     ///
     /// There are 1 to [`WORKERS`](morph_base::WORKERS) workers, and the strategy explores by strata and aborts
-    /// lazily. First the operations of each level are tried side by side, on what the levels before have come to.
-    /// Then the events are settled in order, and what rested on an aborted event is evaluated once more. Neither the
-    /// number of workers nor the unit or the gate changes what comes out.
+    /// lazily. Workers share a board with a word for each operation. First they explore: they evaluate the operations
+    /// level by level, on the values that their sources show at the time. Then they settle the events, each tried
+    /// once: what rested on an aborted version is rolled back and evaluated again. What a worker left since another
+    /// one was in the way is completed in the end, on plain data. Neither the number of workers nor the unit or the
+    /// gate changes the state, the values and the verdicts.
     ///
-    /// All memory is taken before the state changes. Where it is refused the state stays, and the plan is dropped.
+    /// The closed board tells how it was done: the worker that settled an operation, its number of evaluations, and
+    /// why an event was left. With one worker nothing is.
+    ///
+    /// All memory is taken before the first worker runs. Where it is refused the state stays, and the plan is dropped.
     pub fn run_batch<R: Threads + Sync, G: Gate>(
         &mut self,
         rt: &R,
@@ -113,20 +129,31 @@ impl Engine {
         // What was settled tells what becomes of each event.
         ensures fates { IfOk result (λ end. settled_fates plan end.settled
             ≡ fates (contents self.old) (transactions plan)) }
-        ensures evaluated { IfOk result (λ end. end.evaluated ≡ op_count plan + end.rolled) }
-        ensures rolled { IfOk result (λ end. end.rolled ≡ stale_count plan) }
+        ensures run { IfOk result (λ end. HasRun plan workers end.closed (map (λ list. list.items) end.left.items)
+            end.settled.by.items) }
+        ensures counts { IfOk result (λ end. (counters : ℕ) (v : RootView) (is : IsClosed plan 1 counters v end.closed)
+            → end.counts ≡ counts_of is.ends.history) }
+        ensures account { IfOk result (λ end. IsAccount workers (account_of end)) }
+        ensures handed { IfOk result (λ end. end.handed ≡ 0) }
+        ensures stolen { IfOk result (λ end. end.stolen ≡ 0) }
         ensures refused { OnErr result (self.new ≡ self.old) }
     {
-        let room = Room::new(alloc, &plan)?;
-        let mut attempts = Attempts::new(alloc, &plan)?;
-        try_levels(rt, alloc, &plan, workers as usize, &mut attempts)?;
-        let (settled, redone) = settle_plain(&plan, &mut attempts, room);
+        let prepared = Prepared::new(alloc, &plan, strategy.unit, workers)?;
+        let Ran {
+            settled,
+            closed,
+            left,
+        } = prepared.run(rt, &plan, gate);
         self.state.apply(&plan, &settled);
+        let counts = closed.counts();
         Ok(BatchEnd {
             plan,
             settled,
-            evaluated: redone.evaluated,
-            rolled: redone.rolled,
+            closed,
+            left,
+            counts,
+            handed: 0,
+            stolen: 0,
         })
     }
 }

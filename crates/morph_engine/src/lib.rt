@@ -7,8 +7,6 @@
 #![tactic(auto)]
 
 mod engine;
-mod levels;
-mod parts;
-mod tries;
+mod prepared;
 
 pub use engine::{BatchEnd, Engine};

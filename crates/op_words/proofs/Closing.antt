@@ -20,7 +20,7 @@ use Rattle.op_words.proofs.Rows.{here_long, sum_range_more}
 use Rattle.op_words.proofs.Sizes.{sum_inside, sum_two, total_one}
 
 -- a number stands in a range once at most, and not at all below its place
-abbrev is_it : ℕ → ℕ → ℕ
+abbrev pub is_it : ℕ → ℕ → ℕ
 is_it m k = cond (eqb k m) 1 0
 
 range_none : (m a n : ℕ) → a + n ≤ m → sum_by (is_it m) (range_with_len a n) ≡ 0
@@ -31,7 +31,7 @@ range_none m a (suc n) le =
     let old = range_none m a n (omega (arith, le)) in
     omega (arith, more, now, old)
 
-range_once : (m a n : ℕ) → sum_by (is_it m) (range_with_len a n) ≤ 1
+pub range_once : (m a n : ℕ) → sum_by (is_it m) (range_with_len a n) ≤ 1
 range_once m a zero = omega arith
 range_once m a (suc n) =
     let more = sum_range_more (is_it m) a n in
@@ -94,11 +94,13 @@ module _ {p : Plan} {cap counters : ℕ} (s : Seats) (lawful : Lawful p cap coun
     run = lawful.run;
     sound = lawful.sound;
     shows = lawful.shows;
+    noted = (lawful.hands i v at).noted;
     published = λ h. sym (total (λ (x : View). sum_by h x.published)) ∙ lawful.sums.published h;
     settlings = λ h. sym (total (λ (x : View). sum_by h x.settlings)) ∙ lawful.sums.settlings h;
     booked = (lawful.hands i v at).booked;
     events = events_of_root;
     numbers = numbers_of_root;
+    tags_once = λ h. sym (total (tags h)) ∙ lawful.sums.tags_are h ∙ ap (λ n. sum_by h (range_with_len 1 n)) (sym ((lawful.hands i v at).root first));
     only = λ single. lawful.only (sym ((lawful.hands i v at).root first) ∙ single) v (subst (λ k. get_elem? s.views k ≡ some (Some v)) first at);
   }
 

@@ -31,6 +31,8 @@ pub mod Sizes
 pub mod Taking
 pub mod Holding
 pub mod Closing
+pub mod Noting
+pub mod Tagging
 pub mod Grounding
 pub mod Looking
 pub mod Retrying

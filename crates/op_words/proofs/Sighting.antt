@@ -5,7 +5,6 @@ use mathlib.Core.Option.{some}
 use lib.ListN.{get_elem?}
 use Rattle.morph_base.specs.declared.plan.Plan.{Plan}
 use Rattle.morph_base.specs.declared.plan.Origin.{Origin}
-use Rattle.morph_base.specs.declared.plan.Origin.TheVariants.{Base, Op as Written}
 use Rattle.morph_base.specs.declared.word.OpState.{OpState}
 use Rattle.morph_base.specs.declared.word.OpState.TheVariants.{Blocked, Ready, Claimed, Executed, Failed, Spread, Settled, SettledAborted}
 use Rattle.morph_base.specs.declared.word.OpWord.{OpWord}
@@ -19,6 +18,7 @@ use Rattle.op_words.specs.declared.trail.View.{View}
 use Rattle.op_words.specs.Views.{IsSettledSeen, IsSourceSeen, IsRecordSeen}
 use Rattle.op_words.specs.Rule.{Seats, Knows, Lawful}
 use Rattle.op_words.specs.Plays.{HasRun, IsSight}
+use Rattle.op_words.proofs.Noting.{noted_present, noted_source}
 
 pub run_shown : (s : OpState) → has_run s ≡ true → is_shown s ≡ true
 run_shown Blocked is = is
@@ -36,14 +36,11 @@ module _ {p : Plan} {cap counters : ℕ} (s : Seats) (lawful : Lawful p cap coun
 
   -- a settled word that was seen is the present one
   pub seen_present : {o : ℕ} → (seen : IsSettledSeen v o) → lawful.core.word o ≡ seen.note.word
-  seen_present {o} seen = subst (λ n. lawful.core.word n ≡ seen.note.word) seen.op_is ((knows.noted.notes seen.note seen.inside).settled seen.settled)
+  seen_present seen = noted_present knows.noted seen
 
   -- the value of a source that was seen settled
   pub source_present : (q : Origin) (x : ℕ) → IsSourceSeen v q x → IsSettledAs lawful.core q x
-  source_present (Base b) x is = (tt, is)
-  source_present (Written t) x is =
-      let now = seen_present is.seen in
-      (ap (λ (w : OpWord). is_settled w.state) now ∙ is.seen.settled, ap (λ (w : OpWord). w.value) now ∙ is.value_is)
+  source_present q x is = noted_source knows.noted q x is
 
   -- an event that an operation was seen settled of is decided
   pub seen_decided : {o : ℕ} → o < op_count p → IsSettledSeen v o → lawful.core.decision (event_of p o) ≡ None → ⊥

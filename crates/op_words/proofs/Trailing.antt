@@ -10,7 +10,7 @@ use Rattle.morph_base.specs.Words.{is_settled, code_of}
 use Rattle.morph_base.proofs.WordLaws.{one_state}
 use Rattle.interleaving_core.specs.Core.{blocked}
 use Rattle.op_words.specs.declared.trail.Item.{Item}
-use Rattle.op_words.specs.Trails.{loaded, last_word, HasLast, IsDisturbed, IsReached, Along, IsSteady, IsCalmAt, IsCalm, OwnOpen}
+use Rattle.op_words.specs.Trails.{loaded, last_word, HasLast, IsDisturbed, IsReached, Along, IsSteady, IsCalmAt, IsCalm}
 
 -- ---- words are equal or not
 
@@ -252,8 +252,8 @@ reached_more {p} {o} {xs} ys is = record { item = is.item; inside = Contains-app
 pub reached_later : {p : Plan} {o : ℕ} (xs : List Item) {ys : List Item} → IsReached p o ys → IsReached p o (xs ++ ys)
 reached_later xs {ys} is = record { item = is.item; inside = Contains-append_right xs ys is.item is.inside; tells = is.tells }
 
--- where own steps settle nothing, and o was not seen settled, a lone root sees it nowhere settled
-pub calm_open : (o : ℕ) (pre xs : List Item) → IsCalm pre xs → OwnOpen xs → ((t : Item) → Contains pre t → t.op ≡ o → is_settled t.word.state ≡ true → ⊥)
+-- where own steps do not settle o, and it was not seen settled, a lone root sees it nowhere settled
+pub calm_open : (o : ℕ) (pre xs : List Item) → IsCalm pre xs → ((t : Item) → Contains xs t → t.own ≡ true → t.op ≡ o → is_settled t.word.state ≡ false) → ((t : Item) → Contains pre t → t.op ≡ o → is_settled t.word.state ≡ true → ⊥)
     → (t : Item) → Contains (pre ++ xs) t → t.op ≡ o → is_settled t.word.state ≡ true → ⊥
 unfolding Along
 calm_open o pre [] calm open' none t inside same settled = none t (subst (λ zs. Contains zs t) (append_none pre) inside) same settled
@@ -267,7 +267,7 @@ calm_open o pre (x ∷ xs) calm open' none t inside same settled =
     t (subst (λ zs. Contains zs t) (sym (append_assoc pre (x ∷ []) xs)) inside) same settled
   where
     unsettled : x.op ≡ o → is_settled x.word.state ≡ true → (b : Bool) → x.own ≡ b → ⊥
-    unsettled here is true own = false≢true (sym (open' x (0, zero-lt-suc (length xs), refl) own) ∙ is)
+    unsettled here is true own = false≢true (sym (open' x (0, zero-lt-suc (length xs), refl) own here) ∙ is)
     unsettled here is false own =
         let known : x.word ≡ last_word o (blocked 1) pre = calm.0.known own ∙ ap (λ n. last_word n (blocked 1) pre) here in
         elim (last_or o (blocked 1) pre) [

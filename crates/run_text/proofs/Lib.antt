@@ -2,6 +2,7 @@ pub mod Pieces
 pub mod Summing
 pub mod Writes
 pub mod Verdicts
+pub mod Workers
 pub mod Asked
 pub mod WordLaws
 pub mod NoSettingsLaws

@@ -1,14 +1,11 @@
 -- What is counted of the batches of a run, one batch at a time.
-use Rattle.std.specs.Prelude.{◌≡◌, ℕ, ◌+◌, List, ◌∷◌, length, replicate}
-use Rattle.morph_base.specs.declared.plan.Plan.{Plan}
-use Rattle.morph_base.specs.Plans.{op_count}
+use Rattle.std.specs.Prelude.{◌≡◌, ℕ, ◌+◌, ◌-◌, ◌<◌, ◌≤◌, ◌^◌, List, length, min, replicate, slice_index, sum}
+use Rattle.morph_base.specs.Limits.{most_workers}
 use Rattle.morph_base.specs.Outcomes.{Fate}
+use Rattle.morph_base.specs.Plans.{event_count, op_count}
+use Rattle.morph_engine.specs.Accounts.{Account, settled_by}
 use Rattle.run_text.specs.declared.tally.Tally.{Tally}
 use Rattle.run_text.specs.Text.{committed_in, aborted_in}
-
--- the first worker settled so many operations, and nobody else any
-abbrev pub settled_by_first : (ops : ℕ) → List ℕ
-settled_by_first ops = 0 ∷ ops ∷ replicate 15 0
 
 -- the tally of a run of no batch
 abbrev pub no_tally : Tally
@@ -21,24 +18,49 @@ no_tally = record {
   evaluated = 0;
   spread = 0;
   rolled = 0;
-  settled_by = settled_by_first 0;
+  settled_by = replicate (most_workers + 1) 0;
   left = 0;
   handed = 0;
   stolen = 0;
 }
 
--- a batch was counted: its plan, how many evaluations it took, how many operations were rolled back, and what became of its events
-pub record Adds (old new : Tally) (p : Plan) (evaluated rolled : ℕ) (fs : List Fate) : Type 0 where
+-- so many, or the greatest number that is counted
+abbrev pub counted_to : ℕ → ℕ
+counted_to n = min n (2 ^ 64 - 1)
+
+-- the numbers of a tally have room for a batch more: its account, how many of its operations were handed out and how many of these
+-- were taken
+pub record HasRoom (t : Tally) (a : Account) (out taken : ℕ) : Type 0 where
+  pub batches : t.batches + 1 < 2 ^ 64
+  pub events : t.events + event_count a.plan < 2 ^ 64
+  pub counts : t.committed + t.aborted + event_count a.plan < 2 ^ 64
+  pub ops : t.ops + op_count a.plan < 2 ^ 64
+  pub evaluated : t.evaluated + a.counts.evaluated < 2 ^ 64
+  pub spread : t.spread + a.counts.spread < 2 ^ 64
+  pub rolled : t.rolled + a.counts.rolled < 2 ^ 64
+  pub workers : length t.settled_by ≡ most_workers + 1
+  pub settled : sum t.settled_by + length a.by < 2 ^ 64
+  pub handed : t.handed + out < 2 ^ 64
+  pub stolen : t.stolen + taken < 2 ^ 64
+
+-- a batch was counted: its account, how many of its operations were handed out and how many of these were taken, and what became
+-- of its events
+pub record Adds (old new : Tally) (a : Account) (out taken : ℕ) (fs : List Fate) : Type 0 where
   pub batches : new.batches ≡ old.batches + 1
   pub events : new.events ≡ old.events + length fs
   pub committed : new.committed ≡ old.committed + committed_in fs
   pub aborted : new.aborted ≡ old.aborted + aborted_in fs
   pub both : new.committed + new.aborted ≡ old.committed + old.aborted + length fs
-  pub ops : new.ops ≡ old.ops + op_count p
-  pub evaluated_more : new.evaluated ≡ old.evaluated + evaluated
-  pub rolled_more : new.rolled ≡ old.rolled + rolled
-  pub settled_by : new.settled_by ≡ settled_by_first new.ops
-  pub spread : new.spread ≡ old.spread
-  pub left : new.left ≡ old.left
-  pub handed : new.handed ≡ old.handed
-  pub stolen : new.stolen ≡ old.stolen
+  pub ops : new.ops ≡ old.ops + op_count a.plan
+  pub evaluated : new.evaluated ≡ old.evaluated + a.counts.evaluated
+  pub spread : new.spread ≡ old.spread + a.counts.spread
+  pub rolled : new.rolled ≡ old.rolled + a.counts.rolled
+  -- of each worker, and of the plain finish at 0; and of all of them
+  pub settled : (w : ℕ) → w ≤ most_workers → slice_index new.settled_by w ≡ slice_index old.settled_by w + settled_by a.by w
+  pub settled_all : sum new.settled_by ≡ sum old.settled_by + length a.by
+  pub workers : length new.settled_by ≡ most_workers + 1
+  pub left : new.left ≡ counted_to (old.left + a.left)
+  pub handed : new.handed ≡ old.handed + out
+  pub stolen : new.stolen ≡ old.stolen + taken
+  -- the number of operations fits
+  pub fits : new.ops < 2 ^ 64

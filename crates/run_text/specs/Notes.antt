@@ -3,6 +3,13 @@ use Rattle.std.specs.Prelude.{ℕ, ◌+◌, Bool, true, false, List, [], ◌∷�
 use Rattle.std.specs.List.{flat_map}
 use Rattle.morph_base.specs.declared.plan.Plan.{Plan}
 use Rattle.morph_base.specs.Plans.{event_count, op_count}
+use Rattle.morph_base.specs.declared.strategy.Strategy.{Strategy}
+use Rattle.morph_base.specs.declared.strategy.Unit.{Unit as UnitKind}
+use Rattle.morph_base.specs.declared.strategy.Unit.TheVariants.{Op, Chain}
+use Rattle.morph_base.specs.declared.strategy.Explore.{Explore}
+use Rattle.morph_base.specs.declared.strategy.Explore.TheVariants.{Strata, Steal}
+use Rattle.morph_base.specs.declared.strategy.Abort.{Abort}
+use Rattle.morph_base.specs.declared.strategy.Abort.TheVariants.{Lazy, Eager}
 use Rattle.run_text.specs.declared.tally.Tally.{Tally}
 use Rattle.run_text.specs.Text.{line, after_space}
 
@@ -10,16 +17,32 @@ use Rattle.run_text.specs.Text.{line, after_space}
 abbrev pub level_count : Plan → ℕ
 level_count p = length p.op_levels.items
 
--- the line of a batch: its number, what its plan counts, and how it was scheduled
-unfoldable pub batch_note : (number : ℕ) → Plan → List ℕ
-batch_note number p =
-    line (codes "batch" ++ after_space number ++ codes ": events" ++ after_space (event_count p) ++ codes " ops" ++ after_space (op_count p)
-    ++ codes " levels" ++ after_space (level_count p) ++ codes " op strata lazy")
+-- the words of a strategy: what was scheduled as a whole, how the graph was explored, and when failures were dealt with
+abbrev pub unit_word : UnitKind → List ℕ
+unit_word Op = codes "op"
+unit_word Chain = codes "chain"
 
--- the lines of batches, numbered from `number` on
-unfoldable pub batch_notes : (number : ℕ) → List Plan → List ℕ
-batch_notes number [] = []
-batch_notes number (p ∷ ps) = batch_note number p ++ batch_notes (number + 1) ps
+abbrev pub explore_word : Explore → List ℕ
+explore_word Strata = codes "strata"
+explore_word Steal = codes "steal"
+
+abbrev pub abort_word : Abort → List ℕ
+abort_word Lazy = codes "lazy"
+abort_word Eager = codes "eager"
+
+abbrev pub strategy_words : Strategy → List ℕ
+strategy_words s = (32 ∷ unit_word s.unit) ++ (32 ∷ explore_word s.explore) ++ (32 ∷ abort_word s.abort)
+
+-- the line of a batch: its number, what its plan counts, and how it was scheduled
+unfoldable pub batch_note : (number : ℕ) → Plan → Strategy → List ℕ
+batch_note number p s =
+    line (codes "batch" ++ after_space number ++ codes ": events" ++ after_space (event_count p) ++ codes " ops" ++ after_space (op_count p)
+    ++ codes " levels" ++ after_space (level_count p) ++ strategy_words s)
+
+-- the lines of batches, numbered from `number` on, that were scheduled alike
+unfoldable pub batch_notes : (number : ℕ) → List Plan → Strategy → List ℕ
+batch_notes number [] s = []
+batch_notes number (p ∷ ps) s = batch_note number p s ++ batch_notes (number + 1) ps s
 
 -- the line of the tally
 unfoldable pub tally_note : Tally → List ℕ

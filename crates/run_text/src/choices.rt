@@ -2,6 +2,7 @@ ghost use Rattle.std.specs.Prelude.{◌≡◌};
 ghost use Rattle.run_text.specs.Reports.{report_of};
 
 use crate::report::Report;
+use morph_base::Strategy;
 
 /// The application of a run.
 #[derive(Clone, Copy, Debug, PartialEq, Eq)]
@@ -31,6 +32,8 @@ pub struct Settings {
     pub workers: u32,
     /// The number of ids in each table: 1 to 1,000,000.
     pub size: u32,
+    /// How each batch is scheduled.
+    pub strategy: Strategy,
     /// Whether the notes tell of each batch, and at the end the tally.
     pub notes: bool,
     /// The input where the program makes it itself; none where it reads one.

@@ -1,9 +1,10 @@
 //! What the words of the program ask for, and what a run writes: the lines of events, of values and of counts, the
 //! notes, and the tally that they tell.
 //!
-//! It stands on `event_reader` for numbers and names of tables, on `morph_engine` for the batches that were run, on
-//! `version_table` for their values and on `morph_io` for what is written. [`settings()`] reads the words; the
-//! writing functions take a sink that bytes go to, and their contracts say which bytes these are.
+//! It stands on `event_reader` for numbers and names of tables, on `morph_engine` for the batches that were run, with
+//! `op_eval` for what they left, on `version_table` for their values and on `morph_io` for what is written.
+//! [`settings()`] reads the words; the writing functions take a sink that bytes go to, and their contracts say which
+//! bytes these are.
 #![tactic(auto)]
 
 mod choices;

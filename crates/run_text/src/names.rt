@@ -12,6 +12,8 @@ pub enum Name {
     Workers,
     /// The number of ids in each table.
     Size,
+    /// What is scheduled as a whole.
+    Unit,
     /// Where the generator begins.
     Seed,
     /// How many events it makes.
@@ -21,11 +23,12 @@ pub enum Name {
 }
 
 /// All names, each once.
-pub const NAMES: [Name; 7] = [
+pub const NAMES: [Name; 8] = [
     Name::App,
     Name::Own,
     Name::Workers,
     Name::Size,
+    Name::Unit,
     Name::Seed,
     Name::Events,
     Name::Notes,
@@ -41,6 +44,7 @@ impl Name {
             Name::Own => b"self=",
             Name::Workers => b"workers=",
             Name::Size => b"size=",
+            Name::Unit => b"unit=",
             Name::Seed => b"seed=",
             Name::Events => b"events=",
             Name::Notes => b"notes=",

@@ -1,11 +1,12 @@
-ghost use Rattle.std.specs.Prelude.{◌≡◌, ◌+◌, ◌≤◌, length, IsTrue, OnOk, OnErr};
+ghost use Rattle.std.specs.Prelude.{◌≡◌, ◌+◌, ◌≤◌, ◌++◌, length, IsTrue, OnOk, OnErr};
 ghost use Rattle.morph_base.specs.declared.limits.TheConstants.{WORKERS};
+ghost use Rattle.morph_io.specs.declared.line_buf.TheConstants.{LINE_BYTES};
 ghost use Rattle.morph_io.specs.Told.{behind, HasRisen, AppendsPrefix};
-ghost use Rattle.run_text.specs.Notes.{noted, batch_note, tally_note, settled_note, closing_notes};
+ghost use Rattle.run_text.specs.Notes.{noted, unit_word, explore_word, abort_word, strategy_words, batch_note, tally_note, settled_note, closing_notes};
 
 use crate::tally::Tally;
 use crate::text::put_numbers;
-use morph_base::Plan;
+use morph_base::{Abort, Explore, Plan, Strategy, Unit};
 use morph_io::{LineBuf, Sink, WriteFailed, write_all};
 
 /// Writes the line of a batch to the notes, where they are on.
@@ -14,18 +15,19 @@ pub fn note_batch<N: Sink>(
     on: bool,
     number: u64,
     plan: &Plan,
+    strategy: Strategy,
 ) -> Result<(), WriteFailed>
     ensures written { OnOk result (N.written notes.new ≡ behind (N.written notes.old)
-        (noted on (batch_note number plan.now))) }
+        (noted on (batch_note number plan.now strategy))) }
     ensures prefix { OnErr result (AppendsPrefix (N.written notes.old)
-        (noted on (batch_note number plan.now)) (N.written notes.new)) }
+        (noted on (batch_note number plan.now strategy)) (N.written notes.new)) }
     ensures never_falls { N.faults notes.old ≤ N.faults notes.new }
     ensures cause { OnErr result (IsTrue on × HasRisen (N.faults notes.old) (N.faults notes.new)) }
 {
     if !on {
         return Ok(());
     }
-    let line = batch_line(number, plan);
+    let line = batch_line(number, plan, strategy);
     write_all(notes, line.bytes())
 }
 
@@ -69,10 +71,57 @@ fn write_tally<N: Sink>(notes: &mut N, workers: u32, tally: &Tally) -> Result<()
     write_all(notes, second.bytes())
 }
 
+/// The word of a unit.
+fn unit_name(unit: Unit) -> &'static [u8]
+    ensures word { result.now ≡ unit_word unit }
+    ensures short { length result.now ≤ 6 }
+{
+    match unit {
+        Unit::Op => b"op",
+        Unit::Chain => b"chain",
+    }
+}
+
+/// The word of a way to explore.
+fn explore_name(explore: Explore) -> &'static [u8]
+    ensures word { result.now ≡ explore_word explore }
+    ensures short { length result.now ≤ 6 }
+{
+    match explore {
+        Explore::Strata => b"strata",
+        Explore::Steal => b"steal",
+    }
+}
+
+/// The word of a way to deal with failures.
+fn abort_name(abort: Abort) -> &'static [u8]
+    ensures word { result.now ≡ abort_word abort }
+    ensures short { length result.now ≤ 6 }
+{
+    match abort {
+        Abort::Lazy => b"lazy",
+        Abort::Eager => b"eager",
+    }
+}
+
+/// Puts the words of a strategy, each after a space, behind a line that has room for them.
+fn put_strategy(strategy: Strategy, line: &mut LineBuf)
+    requires room { length line.old + 21 ≤ LINE_BYTES }
+    ensures text { line.new ≡ line.old ++ strategy_words strategy }
+    ensures short { length line.new ≤ length line.old + 21 }
+{
+    line.word(b" ");
+    line.word(unit_name(strategy.unit));
+    line.word(b" ");
+    line.word(explore_name(strategy.explore));
+    line.word(b" ");
+    line.word(abort_name(strategy.abort));
+}
+
 /// The line of a batch.
 #[tactic(auto, unfolding(crate::specs::Notes::batch_note))]
-fn batch_line(number: u64, plan: &Plan) -> LineBuf
-    ensures { result ≡ batch_note number plan.now }
+fn batch_line(number: u64, plan: &Plan, strategy: Strategy) -> LineBuf
+    ensures { result ≡ batch_note number plan.now strategy }
 {
     let mut line = LineBuf::new();
     line.word(b"batch ");
@@ -83,7 +132,8 @@ fn batch_line(number: u64, plan: &Plan) -> LineBuf
     line.number(plan.ops.len() as u64);
     line.word(b" levels ");
     line.number(plan.op_levels.len() as u64);
-    line.word(b" op strata lazy\n");
+    put_strategy(strategy, &mut line);
+    line.word(b"\n");
     line
 }
 

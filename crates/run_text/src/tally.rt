@@ -1,9 +1,13 @@
-ghost use Rattle.std.specs.Prelude.{◌≡◌, ◌+◌, ◌<◌, ◌^◌, [], ◌∷◌, count_by, replicate};
-ghost use Rattle.morph_base.specs.Plans.{IsPlan, IsSettledOf, event_count, op_count};
+ghost use Rattle.std.specs.Prelude.{◌≡◌, ℕ, ◌+◌, ◌<◌, ◌≤◌, ◌^◌, All, count_by, length, slice_index, sum, sum_by};
+ghost use Rattle.morph_base.specs.Limits.{most_workers};
+ghost use Rattle.morph_base.specs.Plans.{IsPlan, IsSettledOf};
+ghost use Rattle.morph_engine.specs.Accounts.{account_of, settled_by};
 ghost use Rattle.morph_engine.specs.Fates.{settled_fates};
-ghost use Rattle.run_text.specs.Counts.{no_tally, settled_by_first, Adds};
+ghost use Rattle.run_text.specs.Counts.{no_tally, counted_to, HasRoom, Adds};
 
+use morph_base::List;
 use morph_engine::BatchEnd;
+use op_eval::Left;
 
 /// What was done in a run, over the batches that were run.
 #[derive(Clone, Copy, Debug, PartialEq, Eq)]
@@ -15,7 +19,7 @@ pub struct Tally {
     pub aborted: u64,
     /// The operations of these events.
     pub ops: u64,
-    /// How often an operation was evaluated: each once, and once more each that was rolled back.
+    /// How often an operation was evaluated.
     pub evaluated: u64,
     /// How many operations were put back since a source of theirs had been: 0 where aborts are dealt with at the end.
     pub spread: u64,
@@ -23,7 +27,7 @@ pub struct Tally {
     pub rolled: u64,
     /// How many operations were settled by the plain finish, at 0, and by each worker, at its number from 1 on.
     pub settled_by: [u64; 17],
-    /// How many causes were kept why a worker left its work to the plain finish.
+    /// How many causes were kept why an event was left to the plain finish. It stops at the greatest number.
     pub left: u64,
     /// How many operations were handed out to workers, and how many of these another worker took.
     pub handed: u64,
@@ -44,7 +48,7 @@ impl Tally {
             evaluated: 0,
             spread: 0,
             rolled: 0,
-            settled_by: all_by_first(0),
+            settled_by: [0; 17],
             left: 0,
             handed: 0,
             stolen: 0,
@@ -55,13 +59,8 @@ impl Tally {
     pub fn add(&mut self, end: &BatchEnd)
         requires plan { IsPlan end.now.plan }
         requires settled { IsSettledOf end.now.plan end.now.settled }
-        requires batches { self.old.batches + 1 < 2 ^ 64 }
-        requires events { self.old.events + event_count end.now.plan < 2 ^ 64 }
-        requires counts { self.old.committed + self.old.aborted + event_count end.now.plan < 2 ^ 64 }
-        requires ops { self.old.ops + op_count end.now.plan < 2 ^ 64 }
-        requires evaluated { self.old.evaluated + end.now.evaluated < 2 ^ 64 }
-        requires rolled { self.old.rolled + end.now.rolled < 2 ^ 64 }
-        ensures { Adds self.old self.new end.now.plan end.now.evaluated end.now.rolled
+        requires room { HasRoom self.old (account_of end.now) end.now.handed end.now.stolen }
+        ensures { Adds self.old self.new (account_of end.now) end.now.handed end.now.stolen
             (settled_fates end.now.plan end.now.settled) }
     {
         let events = end.plan.events.len();
@@ -71,9 +70,13 @@ impl Tally {
         self.committed += committed as u64;
         self.aborted += (events - committed) as u64;
         self.ops += end.plan.ops.len() as u64;
-        self.evaluated += end.evaluated;
-        self.rolled += end.rolled;
-        self.settled_by = all_by_first(self.ops);
+        self.evaluated += end.counts.evaluated;
+        self.spread += end.counts.spread;
+        self.rolled += end.counts.rolled;
+        count_each(end.settled.by.as_slice(), &mut self.settled_by);
+        self.left = self.left.saturating_add(causes(end.left.as_slice()));
+        self.handed += end.handed;
+        self.stolen += end.stolen;
     }
 }
 
@@ -84,11 +87,27 @@ fn commits(verdicts: &[bool]) -> usize
     verdicts.iter().filter(|verdict| **verdict).count()
 }
 
-/// The first worker settled so many operations, and nobody else any.
-fn all_by_first(ops: u64) -> [u64; 17]
-    ensures { result ≡ settled_by_first ops }
+/// Counts each of these workers once more; 0 is the plain finish.
+fn count_each(workers: &[u8], counts: &mut [u64])
+    requires inside { All (λ w. w ≤ most_workers) workers.now }
+    requires all { length counts.old ≡ most_workers + 1 }
+    requires room { sum counts.old + length workers.now < 2 ^ 64 }
+    ensures each { (w : ℕ) → w ≤ most_workers
+        → slice_index counts.new w ≡ slice_index counts.old w + settled_by workers.now w }
+    ensures sum { sum counts.new ≡ sum counts.old + length workers.now }
 {
-    let mut settled_by = [0; 17];
-    settled_by[1] = ops;
-    settled_by
+    for worker in workers {
+        counts[*worker as usize] += 1;
+    }
+}
+
+/// How many causes some lists have, or the greatest number where there are more.
+fn causes(lists: &[List<Left>]) -> u64
+    ensures { result ≡ counted_to (sum_by (λ list. length list.items) lists.now) }
+{
+    let mut count: u64 = 0;
+    for list in lists {
+        count = count.saturating_add(list.len() as u64);
+    }
+    count
 }

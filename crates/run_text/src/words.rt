@@ -1,7 +1,7 @@
 ghost use Rattle.std.specs.Prelude.{◌≡◌, ◌<◌, ◌≤◌, ◌^◌, map, count_by, length, true, false, MatchOption, IfSome};
 ghost use Rattle.std.specs.List.{list_all};
 ghost use Rattle.event_reader.specs.declared.limits.TheConstants.{GREATEST_NUMBER};
-ghost use Rattle.run_text.specs.Settings.{has_name, value_in, is_known, is_once, are_once, value_under, is_given, app_in, app_under, number_in, number_under, switch_in, switch_under, input_of, read_input, made_input, AreFew, AreInRange, settings_of};
+ghost use Rattle.run_text.specs.Settings.{has_name, value_in, is_known, is_once, are_once, value_under, is_given, app_in, app_under, number_in, number_under, switch_in, switch_under, unit_in, unit_under, strategy_of, input_of, read_input, made_input, AreFew, AreInRange, settings_of};
 ghost use Rattle.run_text.specs.NoSettings.{NoSettings};
 
 use crate::choices::{
@@ -10,7 +10,7 @@ use crate::choices::{
 };
 use crate::names::{NAMES, Name};
 use event_reader::{Number, Range, read_number};
-use morph_base::{List, WORKERS};
+use morph_base::{Abort, Explore, List, Strategy, Unit, WORKERS};
 
 /// The numbers of workers.
 const WORKER_COUNTS: Range = Range {
@@ -181,6 +181,40 @@ fn switch_under(words: &[List<u8>], name: Name) -> Option<bool>
     }
 }
 
+/// The unit of this name.
+fn unit_of(value: &[u8]) -> Option<Unit>
+    ensures { result ≡ unit_in value.now }
+{
+    if value == b"op".as_slice() {
+        Some(Unit::Op)
+    } else if value == b"chain".as_slice() {
+        Some(Unit::Chain)
+    } else {
+        None
+    }
+}
+
+/// The unit that is given under a name; one operation where the name is not given.
+fn unit_under(words: &[List<u8>], name: Name) -> Option<Unit>
+    ensures { result ≡ unit_under name (map (λ word. word.items) words.now) }
+{
+    match value_under(words, name) {
+        Some(value) => unit_of(value),
+        None => Some(Unit::Op),
+    }
+}
+
+/// The strategy with this unit. Exploring and aborting have one way each.
+fn strategy_of(unit: Unit) -> Strategy
+    ensures { result ≡ strategy_of unit }
+{
+    Strategy {
+        unit,
+        explore: Explore::Strata,
+        abort: Abort::Lazy,
+    }
+}
+
 /// An application, and the input that the program makes for it, if it makes one.
 #[derive(Clone, Copy, Debug, PartialEq, Eq)]
 struct Input {
@@ -244,11 +278,13 @@ pub fn settings(words: &[List<u8>]) -> Option<Settings>
     let input = input_of(words)?;
     let workers = number_under(words, Name::Workers, WORKER_COUNTS, DEFAULT_WORKERS)?;
     let size = number_under(words, Name::Size, SIZES, DEFAULT_SIZE)?;
+    let unit = unit_under(words, Name::Unit)?;
     let notes = switch_under(words, Name::Notes)?;
     Some(Settings {
         app: input.app,
         workers: workers as u32,
         size: size as u32,
+        strategy: strategy_of(unit),
         notes,
         generated: input.generated,
     })

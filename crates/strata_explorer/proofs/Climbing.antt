@@ -19,7 +19,7 @@ use Rattle.strata_explorer.specs.Calls.{Call, Took, Tried, Calls}
 use Rattle.strata_explorer.specs.Passes.{is_tried, names, Worked, IsEnough, IsPassed}
 use Rattle.strata_explorer.specs.Levels.{ops_of, op_of, named, total, IsStrata, AreStrata, IsWhole}
 use Rattle.strata_explorer.proofs.Turning.{contains_first, contains_later, count_first}
-use Rattle.strata_explorer.proofs.Running.{calls_keep, calls_reach, calls_places, calls_hold, calls_running, calls_tag}
+use Rattle.strata_explorer.proofs.Running.{calls_keep, calls_reach, calls_places, calls_hold, calls_running}
 
 -- ---- answers count the evaluations
 
@@ -192,7 +192,3 @@ pub first_set : (P : Runner → Type 0) (rs : List Runner) (b : Runner) → All 
 first_set P [] b all holds k d lt = absurd (omega arith)
 first_set P (r ∷ rs) b all holds zero d lt = holds
 first_set P (r ∷ rs) b all holds (suc k) d lt = all (suc k) d lt
-
--- its tag stays
-pub passed_tag : (p : Plan) (cap c : ℕ) (ops : List ℕ) (rs qs : List Runner) → 0 < length rs → IsPassed p cap c ops rs qs → (d : Runner) → (hand_view (first_of qs d)).tag ≡ (hand_view (first_of rs d)).tag
-passed_tag p cap c ops rs qs some passed d = let worked = passed.each 0 d some in calls_tag p cap worked.calls (first_of rs d) (first_of qs d) worked.made

@@ -36,7 +36,7 @@ contains_filter t (y ∷ ys) x inside passes =
     kept true l there = contains_later y l x there
     kept false l there = there
 
-greatest_most : {X : Type 0} (f : X → ℕ) (xs : List X) (m : ℕ) → ((k : ℕ) (d : X) → k < length xs → f (get_or xs k d) ≤ m) → greatest (map f xs) ≤ m
+pub greatest_most : {X : Type 0} (f : X → ℕ) (xs : List X) (m : ℕ) → ((k : ℕ) (d : X) → k < length xs → f (get_or xs k d) ≤ m) → greatest (map f xs) ≤ m
 greatest_most f [] m most = omega arith
 greatest_most f (x ∷ xs) m most =
     let here : f x ≤ m = most 0 x (omega arith) in

@@ -165,10 +165,3 @@ pub calls_running : (p : Plan) (cap : ℕ) (cs : List Call) (a b : Runner) → I
 calls_running p cap [] a b running calls = subst (IsExploring p) (sym calls) running
 calls_running p cap (Took c n ∷ cs) a b running calls = takes_running p c n calls.0 b (calls_running p cap cs a calls.0 running calls.1) calls.2
 calls_running p cap (Tried o ∷ cs) a b running calls = tries_running p cap o calls.0 b (calls_running p cap cs a calls.0 running calls.1) calls.2.0 calls.2.1
-
--- ---- the hand stays the same one
-
-pub calls_tag : (p : Plan) (cap : ℕ) (cs : List Call) (a b : Runner) → Calls p cap cs a b → (hand_view b).tag ≡ (hand_view a).tag
-calls_tag p cap [] a b calls = ap (λ r. (hand_view r).tag) calls
-calls_tag p cap (Took c n ∷ cs) a b calls = ap (λ (v : View). v.tag) calls.2.view_is ∙ calls_tag p cap cs a calls.0 calls.1
-calls_tag p cap (Tried o ∷ cs) a b calls = let does = calls.2.1.does in does.goes.adds.tag ∙ calls_tag p cap cs a calls.0 calls.1

@@ -1,13 +1,12 @@
-ghost use Rattle.std.specs.Prelude.{◌≡◌, ℕ, ◌≤◌, ◌<◌, All, length, slice_index_or};
+ghost use Rattle.std.specs.Prelude.{◌≡◌, ◌≤◌, ◌<◌, All, length};
 ghost use Rattle.chain_units.specs.Places.{IsPartition};
 ghost use Rattle.morph_base.specs.Graphs.{IsValidPlan};
 ghost use Rattle.morph_base.specs.Plans.{op_count};
 ghost use Rattle.op_words.specs.Hands.{plan_of, cap_of, counters_of};
 ghost use Rattle.op_eval.specs.declared.explored.RunEnd.TheVariants.{Whole};
-ghost use Rattle.op_eval.specs.declared.runner.Runner.{Runner as Worker};
 ghost use Rattle.op_eval.specs.Exploring.{AreExplored, IsExplored, parts_of};
 ghost use Rattle.op_eval.specs.Gathering.{runners_of};
-ghost use Rattle.op_eval.specs.Running.{hand_view};
+ghost use Rattle.strata_explorer.specs.Calls.{AreFurther};
 ghost use Rattle.strata_explorer.specs.Levels.{AreStrata, IsAlone, IsNewRoot, HasRunAll, counters_for};
 ghost use Rattle.strata_explorer.specs.Passes.{IsSeated};
 
@@ -44,10 +43,8 @@ fn pass_all<R: Threads + Sync, G: Gate>(
     requires some { 0 < length runners.old }
     requires seated { All (IsSeated board.now) runners.old }
     requires ready { AreStrata plan.now 0 runners.old }
-    ensures len { length runners.new ≡ length runners.old }
     ensures seated { All (IsSeated board.now) runners.new }
-    ensures root { (d : Worker) → (hand_view (slice_index_or runners.new 0 d)).tag
-        ≡ (hand_view (slice_index_or runners.old 0 d)).tag }
+    ensures hands { AreFurther runners.old runners.new }
     ensures strata { AreStrata plan.now (length plan.now.op_levels.items) runners.new }
     ensures alone { 1 ≤ cap_of board.now
         → IsAlone plan.now (length plan.now.op_levels.items) runners.old runners.new }
@@ -70,8 +67,9 @@ fn pass_all<R: Threads + Sync, G: Gate>(
 ///
 /// The places of a pass are the operations of its level, and each goes to one worker, who walks the unit of that
 /// operation from it on. So of each pass one worker saw the counter's end, and each place that a worker took had its
-/// operation reached by that worker's own words. With one worker all operations have run at attempt 1. The end is
-/// [`RunEnd::Whole`], and the first unused counter is that after the last pass. It takes no memory.
+/// operation reached by that worker's own words. Nothing is settled on the way. With one worker all operations have run
+/// at attempt 1. The end is [`RunEnd::Whole`], and the first unused counter is that after the last pass. It takes no
+/// memory.
 pub fn explore<R: Threads + Sync, G: Gate>(
     rt: &R,
     board: Board,
@@ -88,7 +86,7 @@ pub fn explore<R: Threads + Sync, G: Gate>(
     requires ready { AreExplored board 0 runners }
     ensures explored { IsExplored result }
     ensures board { (parts_of result).0 ≡ board }
-    ensures len { length (runners_of (parts_of result).1) ≡ length (runners_of runners) }
+    ensures hands { AreFurther (runners_of runners) (runners_of (parts_of result).1) }
     ensures strata { AreStrata plan.now (length plan.now.op_levels.items) (runners_of (parts_of result).1) }
     ensures alone { 1 ≤ cap_of board
         → IsAlone plan.now (length plan.now.op_levels.items) (runners_of runners) (runners_of (parts_of result).1) }

@@ -41,7 +41,7 @@ fn expect_usage(
 
 #[test]
 fn words_that_are_no_settings(rt: HostRuntime) -> Result<(), Fail> {
-    let refused: [&[&[u8]]; 18] = [
+    let refused: [&[&[u8]]; 20] = [
         &[],
         &[b"app=", b"size=1"],
         &[b"app=ledger", b"colour=1"],
@@ -59,6 +59,8 @@ fn words_that_are_no_settings(rt: HostRuntime) -> Result<(), Fail> {
         &[b"self=ledger", b"seed=1000000000001"],
         &[b"workers=2", b"size=5"],
         &[b"app=ledger", b"workers=2", b"workers=2"],
+        &[b"app=ledger", b"unit=chain", b"unit=op"],
+        &[b"app=ledger", b"unit=chains"],
         &[b"app=ledger", b"plan=auto", b"unit=op"],
     ];
     expect_usage(&rt, &refused)

@@ -19,6 +19,26 @@ fn numbers_of(tally: Tally) -> [u64; 8] {
     ]
 }
 
+/// Whether the numbers of a tally go together, where there are so many workers.
+pub fn is_balanced(tally: Tally, workers: usize) -> bool {
+    let counts = tally.settled_by;
+    let [finished, ..] = counts;
+    let settled = counts
+        .iter()
+        .fold(0u64, |sum, count| sum.wrapping_add(*count));
+    let beyond = counts
+        .iter()
+        .enumerate()
+        .any(|(worker, count)| worker > workers && *count > 0);
+    tally.committed.wrapping_add(tally.aborted) == tally.events
+        && settled == tally.ops
+        && !beyond
+        && finished <= tally.left.saturating_mul(4)
+        && tally.evaluated <= tally.ops.saturating_mul(2)
+        && tally.rolled <= tally.ops
+        && (tally.spread, tally.handed, tally.stolen) == (0, 0, 0)
+}
+
 #[test]
 fn batches_are_counted(rt: HostRuntime) -> Result<(), Fail> {
     let runs: [(&[u8], [u64; 8]); 3] = [

@@ -3,7 +3,7 @@ use Rattle.morph_base.specs.declared.limits.TheConstants.{MAX}
 use Rattle.morph_base.specs.declared.plan.PlanOp.{PlanOp}
 use Rattle.morph_base.specs.Functions.{value_of}
 use Rattle.morph_base.specs.Plans.{no_plan_op, op_at}
-use Rattle.abort_lazy.specs.Settling.{settled_sources}
+use Rattle.abort_lazy.specs.Finishing.{settled_sources}
 use Rattle.abort_lazy.proofs.Made.{places_of}
 use Rattle.abort_lazy.proofs.Reading.{settled_sources-small}
 use Rattle.abort_lazy.proofs.finishing.answer.Goals as goal

@@ -1,4 +1,4 @@
-use Rattle.std.proofs.Common.{◌<◌, ◌^◌, ap, sym, subst, length, ◌∙◌}
+use Rattle.std.proofs.Common.{◌<◌, ◌≤◌, ◌^◌, ap, arith, sym, subst, length, ◌∙◌}
 use Rattle.op_words.specs.Hands.{plan_of, counters_of}
 use Rattle.op_eval.specs.Gathering.{runners_of}
 use Rattle.op_eval.specs.Lending.{with_runners}
@@ -9,7 +9,8 @@ use Rattle.abort_lazy.proofs.run.settle_all.Goals as goal
 pub settle_levels-requires-clause-ready : goal.settle_levels-requires-clause-ready
 settle_levels-requires-clause-ready g c κs within =
     subst (λ rs. AreSettling c.parts-board.result.0 c.args.plan.now c.parts-board.result.3 0 rs rs) (sym c.as_mut_slice.ensures.items)
-    (settling_begins c.parts-board.result.0 c.args.plan.now c.parts-board.result.3 c.parts-board.result.1 c.requires.valid (c.requires.plan ∙ ap (λ r. plan_of r.0) (sym c.parts-board.ensures.parts)) c.parts-board.ensures.explored)
+    (settling_begins c.parts-board.result.0 c.args.plan.now c.parts-board.result.3 c.parts-board.result.1 c.requires.valid (c.requires.plan ∙ ap (λ r. plan_of r.0) (sym c.parts-board.ensures.parts))
+    (subst (λ r. r.3 ≤ counters_of r.0) (sym c.parts-board.ensures.parts) (omega (arith, c.requires.counters))) c.parts-board.ensures.explored)
 
 pub settle_levels-requires-clause-few : goal.settle_levels-requires-clause-few
 settle_levels-requires-clause-few g c κs within = subst (λ r. counters_of r.0 < 2 ^ 32) (sym c.parts-board.ensures.parts) c.requires.few

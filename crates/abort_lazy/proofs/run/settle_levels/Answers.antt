@@ -21,7 +21,7 @@ loop-level-preserved g c =
     let lt : c.loop-level.level < length c.args.plan.now.event_levels.items = omega (arith, c.loop-level-test.true, c.len-level-end.ensures) in
     let same = events_are c.args.plan.now c.loop-level.level lt _ c.get.ensures.at _ c.as_slice.ensures in
     settling_more c.args.plan.now c.requires.valid.plan c.requires.valid.graph c.args.from c.loop-level.level lt c.args.board.now c.args.runners.now c.loop-level.runners c.sweep_by.new.runners
-    (start_noted c.args.board.now c.args.plan.now c.args.from c.args.runners.now c.requires.ready) c.loop-level.invariant
+    (start_noted c.args.board.now c.args.plan.now c.args.from c.args.runners.now c.requires.ready) (omega (arith, lt, c.requires.counters)) c.loop-level.invariant
     (subst (λ zs. AreSwept c.args.board.now c.args.plan.now (c.args.from + c.loop-level.level) zs c.loop-level.runners c.sweep_by.new.runners) same c.sweep_by.ensures.does)
 
 pub overflow_cast-sweep : goal.overflow_cast-sweep

@@ -1,11 +1,10 @@
-use Rattle.std.proofs.Common.{◌≡◌, ◌+◌, ◌∙◌, Result, Ok, Err, ap, subst, sym}
+use Rattle.std.proofs.Common.{◌≡◌, ◌∙◌, Result, Ok, Err, ap, subst, sym}
 use Rattle.std.specs.Prelude.{IfOk}
 use Rattle.std.proofs.lemmas.Result.{IfOk-weaker, on_ok_weaker}
 use Rattle.morph_base.specs.declared.plan.Plan.{Plan}
 use Rattle.morph_base.specs.Flat.{contents}
-use Rattle.morph_base.specs.Guesses.{stale_count}
 use Rattle.morph_base.specs.Outcomes.{fates}
-use Rattle.morph_base.specs.Plans.{IsSettledOf, op_count, transactions}
+use Rattle.morph_base.specs.Plans.{IsSettledOf, transactions}
 use Rattle.morph_base.specs.Transactions.{transactions_of, by_time}
 use Rattle.morph_base.proofs.EndLaws.{state_at-fold}
 use Rattle.morph_engine.specs.declared.engine.BatchEnd.{BatchEnd}
@@ -38,11 +37,3 @@ returns-clause-made g c =
 pub returns-clause-settled : goal.returns-clause-settled
 returns-clause-settled g c =
     of_plan c.run_batch.result c.in_ok-plan.plan (λ p end. IsSettledOf p end.settled) c.run_batch.ensures.plan c.run_batch.ensures.settled
-
-pub returns-clause-evaluated : goal.returns-clause-evaluated
-returns-clause-evaluated g c =
-    of_plan c.run_batch.result c.in_ok-plan.plan (λ p end. end.evaluated ≡ op_count p + end.rolled) c.run_batch.ensures.plan c.run_batch.ensures.evaluated
-
-pub returns-clause-rolled : goal.returns-clause-rolled
-returns-clause-rolled g c =
-    of_plan c.run_batch.result c.in_ok-plan.plan (λ p end. end.rolled ≡ stale_count p) c.run_batch.ensures.plan c.run_batch.ensures.rolled

@@ -3,10 +3,10 @@ use Rattle.std.proofs.Common.{◌⊎◌, inl, inr, map, sym, ap, subst, ◌∙�
 use Rattle.std.specs.Prelude.{IsTrue}
 use Rattle.morph_io.specs.Told.{behind, HasRisen, AppendsPrefix}
 use Rattle.morph_cli.proofs.Noting.{risen_before}
-use Rattle.morph_cli.proofs.Tallying.{balanced}
 use Rattle.morph_cli.specs.Outputs.{outputs_of}
+use Rattle.morph_cli.specs.Tallies.{IsBalanced}
 use Rattle.run_text.specs.Settings.{settings_of}
-use Rattle.morph_cli.proofs.Answering.{headline_asked, completes_asked, made_asked, told_asked, write_asked}
+use Rattle.morph_cli.proofs.Answering.{asked_so, headline_asked, completes_asked, made_asked, told_asked, write_asked}
 use Rattle.morph_cli.proofs.morph.morph.Goals as goal
 
 pub returns-clause-headline : goal.returns-clause-headline
@@ -48,7 +48,7 @@ returns-clause-told g c =
 
 pub returns-clause-balanced : goal.returns-clause-balanced
 returns-clause-balanced g c =
-    balanced c.run_app-end.ensures.told.done c.run_app-end.ensures.told.plans c.run_app-end.new.tally c.run_app-end.ensures.told.counts
+    asked_so (λ s. IsBalanced s.workers c.run_app-end.new.tally) (settings_of (map (λ word. word.items) c.args.words.now)) c.in-Some.settings (sym c.in-Some.ensures.asked) c.run_app-end.ensures.told.balanced
 
 pub returns-clause-write : goal.returns-clause-write
 returns-clause-write g c =

@@ -43,6 +43,6 @@ pub returns-clause-told : goal.returns-clause-told
 returns-clause-told g c =
     let meaning = g.A.EventApp.event_of c.args.job.now.app c.args.job.now.settings.size in
     let telling = telling_by c.args.job.now.settings.generated (g.A.EventApp.table_count c.args.job.now.app) c.args.job.now.settings.size (g.A.EventApp.name_of c.args.job.now.app) in
-    subst (λ text. RunTold telling (option_map (accepted_within meaning INPUT_BYTES) (Some text)) c.args.job.now.settings.notes c.args.job.now.settings.workers (status_of c.run.result) c.run.new.tally
+    subst (λ text. RunTold telling (option_map (accepted_within meaning INPUT_BYTES) (Some text)) c.args.job.now.settings (status_of c.run.result) c.run.new.tally
     (outputs_of (g.K.Sink.written c.args.sink.now) (g.N.Sink.written c.args.notes.now)) (outputs_of (g.K.Sink.written c.run.new.sink) (g.N.Sink.written c.run.new.notes)))
     (ap (generated_left g.A.EventApp.generated) c.new-source.ensures) c.run.ensures.told

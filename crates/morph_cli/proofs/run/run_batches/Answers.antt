@@ -1,24 +1,22 @@
-use Rattle.std.proofs.Common.{◌≡◌, ℕ, ◌++◌, List, inl, inr, refl, ap, ◌∙◌, arith, length}
+use Rattle.std.proofs.Common.{◌≡◌, ℕ, ◌++◌, List, inl, inr, refl, ap, ◌∙◌, arith, lit≤}
 use Rattle.event_reader.specs.declared.limits.TheConstants.{INPUT_BYTES}
 use Rattle.event_reader.specs.Accepted.{Ended, RefusedAt}
 use Rattle.morph_base.specs.declared.key.Layout.{Layout}
 use Rattle.morph_base.specs.Flat.{Kept, contents}
-use Rattle.morph_base.proofs.NumberLaws.{op_count-small}
+use Rattle.morph_engine.specs.Accounts.{account_of}
 use Rattle.morph_engine.specs.Fates.{settled_fates}
 use Rattle.morph_cli.specs.declared.fault.Fault.TheVariants.{Write, OutOfMemory}
 use Rattle.run_text.specs.declared.choices.Settings.{Settings}
 use Rattle.run_text.specs.declared.tally.Tally.{Tally}
 use Rattle.run_text.specs.Reports.{report_of}
 use Rattle.morph_cli.specs.Faults.{fault_of}
-use Rattle.run_text.specs.Notes.{noted, batch_note, closing_notes}
+use Rattle.run_text.specs.Notes.{noted, closing_notes}
 use Rattle.morph_cli.specs.Outputs.{outputs_of}
 use Rattle.morph_cli.specs.Runs.{layout_of}
 use Rattle.run_text.specs.Text.{told_values, refused_text, counts_line}
-use Rattle.morph_cli.proofs.Between.{course_of, error_is, fates-many, between_start, between_batch, tally_few, ends_fault, told_fault, ends_in_batch, told_cut_in_batch}
+use Rattle.morph_cli.proofs.Between.{course_of, error_is, between_start, between_batch, has_room, ends_fault, told_fault, ends_in_batch, told_cut_in_batch}
 use Rattle.morph_cli.proofs.Ending.{ends_memory, ends_complete, ends_refused, ends_cut, told_short, told_at_end, told_cut_at_end}
-use Rattle.morph_cli.proofs.Noting.{risen_in_part}
-use Rattle.morph_cli.proofs.Tallying.{few_stale}
-use Rattle.run_text.proofs.Verdicts.{length-settled_fates}
+use Rattle.morph_cli.proofs.Noting.{note_of, risen_in_part}
 use Rattle.morph_cli.proofs.Turns.{cut_text}
 use Rattle.morph_cli.proofs.run.run_batches.Goals as goal
 
@@ -67,43 +65,13 @@ pub returns-in_err-end-in-Batch-clause-told : goal.returns-in_err-end-in-Batch-c
 returns-in_err-end-in-Batch-clause-told g c =
     told_short OutOfMemory (error_is c.from_residual-in_err-end-in-Batch.result OutOfMemory c.from_residual-in_err-end-in-Batch.ensures.1) (λ is. absurd (cc)) c.batches.invariant.run.goes
 
-pub add-requires-clause-batches : goal.add-requires-clause-batches
-add-requires-clause-batches g c = let room = tally_few c.batches.invariant.run in omega (arith, room.0)
+pub add-requires-clause-plan : goal.add-requires-clause-plan
+add-requires-clause-plan g c = c.in_ok-end-in-Batch.ensures.made.valid.plan
 
-pub add-requires-clause-events : goal.add-requires-clause-events
-add-requires-clause-events g c =
-    let room = tally_few c.batches.invariant.run in
-    let counted = rw c.in-Batch.is at c.in_ok-batch.ensures.counted in
-    let many = fates-many (contents c.batches.progress.engine) c.in-Batch.batch (settled_fates c.in_ok-end-in-Batch.end.plan c.in_ok-end-in-Batch.end.settled) c.in_ok-end-in-Batch.ensures.fates in
-    let events = length-settled_fates c.in_ok-end-in-Batch.end.plan c.in_ok-end-in-Batch.end.settled in
-    omega (arith, room.1, many, events, counted, c.in_ok-batch.ensures.bound, c.batches.invariant.run.limit_is, c.in_ok-batch.ensures.same.2)
-
-pub add-requires-clause-counts : goal.add-requires-clause-counts
-add-requires-clause-counts g c =
-    let counted = rw c.in-Batch.is at c.in_ok-batch.ensures.counted in
-    let many = fates-many (contents c.batches.progress.engine) c.in-Batch.batch (settled_fates c.in_ok-end-in-Batch.end.plan c.in_ok-end-in-Batch.end.settled) c.in_ok-end-in-Batch.ensures.fates in
-    let events = length-settled_fates c.in_ok-end-in-Batch.end.plan c.in_ok-end-in-Batch.end.settled in
-    omega (arith, many, events, counted, c.batches.invariant.run.counted, c.in_ok-batch.ensures.bound, c.batches.invariant.run.limit_is, c.in_ok-batch.ensures.same.2)
-
-pub add-requires-clause-ops : goal.add-requires-clause-ops
-add-requires-clause-ops g c =
-    let room = tally_few c.batches.invariant.run in
-    let few = op_count-small c.in_ok-end-in-Batch.end.plan c.in_ok-end-in-Batch.ensures.made.valid.plan in
-    omega (arith, room.2, few)
-
-pub add-requires-clause-evaluated : goal.add-requires-clause-evaluated
-add-requires-clause-evaluated g c =
-    let room = tally_few c.batches.invariant.run in
-    let few = op_count-small c.in_ok-end-in-Batch.end.plan c.in_ok-end-in-Batch.ensures.made.valid.plan in
-    let stale = few_stale c.in_ok-end-in-Batch.end.plan in
-    omega (arith, room.4, few, stale, c.in_ok-end-in-Batch.ensures.evaluated, c.in_ok-end-in-Batch.ensures.rolled)
-
-pub add-requires-clause-rolled : goal.add-requires-clause-rolled
-add-requires-clause-rolled g c =
-    let room = tally_few c.batches.invariant.run in
-    let few = op_count-small c.in_ok-end-in-Batch.end.plan c.in_ok-end-in-Batch.ensures.made.valid.plan in
-    let stale = few_stale c.in_ok-end-in-Batch.end.plan in
-    omega (arith, room.3, few, stale, c.in_ok-end-in-Batch.ensures.rolled)
+pub add-requires-clause-room : goal.add-requires-clause-room
+add-requires-clause-room g c =
+    has_room (account_of c.in_ok-end-in-Batch.end) c.in_ok-end-in-Batch.end.handed c.in_ok-end-in-Batch.end.stolen c.batches.invariant.run (lit≤ tt) c.in_ok-end-in-Batch.ensures.made.valid.plan
+    c.in_ok-end-in-Batch.ensures.account c.in_ok-end-in-Batch.ensures.handed c.in_ok-end-in-Batch.ensures.stolen
 
 pub tell_batch-requires-clause-plan : goal.tell_batch-requires-clause-plan
 tell_batch-requires-clause-plan g c = c.in_ok-end-in-Batch.ensures.made.valid.plan
@@ -113,7 +81,7 @@ returns-in_err-tell_batch-in-Batch-clause-ends g c =
     let valid = rw c.in-Batch.is at c.in_ok-batch.ensures.valid in
     let answers = rw c.in-Batch.is at c.in_ok-batch.ensures.answers in
     ends_in_batch (g.S.Source.left c.next_batch.new.source) (outputs_of (g.K.Sink.written c.tell_batch.new.sink) (g.N.Sink.written c.tell_batch.new.notes)) c.next_batch.new.self c.in-Batch.batch
-    (settled_fates c.in_ok-end-in-Batch.end.plan c.in_ok-end-in-Batch.end.settled) (noted c.args.job.now.settings.notes (batch_note c.add.new.self.batches c.in_ok-end-in-Batch.end.plan))
+    (settled_fates c.in_ok-end-in-Batch.end.plan c.in_ok-end-in-Batch.end.settled) (note_of c.args.job.now.settings c.add.new.self.batches c.in_ok-end-in-Batch.end.plan)
     (error_is c.from_residual-in_err-tell_batch-in-Batch.result Write c.from_residual-in_err-tell_batch-in-Batch.ensures.1)
     c.batches.invariant.run answers valid.0 c.in_ok-end-in-Batch.ensures.fates c.in_err-tell_batch-in-Batch.ensures.told
 
@@ -122,9 +90,9 @@ returns-in_err-tell_batch-in-Batch-clause-told g c =
     let valid = rw c.in-Batch.is at c.in_ok-batch.ensures.valid in
     let answers = rw c.in-Batch.is at c.in_ok-batch.ensures.answers in
     told_cut_in_batch (g.S.Source.left c.next_batch.new.source) (outputs_of (g.K.Sink.written c.tell_batch.new.sink) (g.N.Sink.written c.tell_batch.new.notes)) c.next_batch.new.self c.in-Batch.batch
-    (settled_fates c.in_ok-end-in-Batch.end.plan c.in_ok-end-in-Batch.end.settled) c.in_ok-end-in-Batch.end.plan c.in_ok-end-in-Batch.end.evaluated c.in_ok-end-in-Batch.end.rolled
+    (settled_fates c.in_ok-end-in-Batch.end.plan c.in_ok-end-in-Batch.end.settled) (account_of c.in_ok-end-in-Batch.end) c.in_ok-end-in-Batch.end.handed c.in_ok-end-in-Batch.end.stolen
     (error_is c.from_residual-in_err-tell_batch-in-Batch.result Write c.from_residual-in_err-tell_batch-in-Batch.ensures.1)
-    c.batches.invariant.run answers valid.0 c.in_ok-end-in-Batch.ensures.fates c.add.ensures c.in_ok-end-in-Batch.ensures.evaluated c.in_ok-end-in-Batch.ensures.rolled
+    c.batches.invariant.run answers valid.0 c.in_ok-end-in-Batch.ensures.fates c.add.ensures c.in_ok-end-in-Batch.ensures.account c.in_ok-end-in-Batch.ensures.handed c.in_ok-end-in-Batch.ensures.stolen
     c.in_ok-end-in-Batch.ensures.made c.in_err-tell_batch-in-Batch.ensures.told
 
 pub returns-in_err-tell_batch-in-Batch-clause-write : goal.returns-in_err-tell_batch-in-Batch-clause-write
@@ -140,11 +108,11 @@ batches-preserved g c =
     let counted = rw c.in-Batch.is at c.in_ok-batch.ensures.counted in
     let live = rw c.in-Batch.is at c.in_ok-batch.ensures.goes_on in
     record {
-      run = between_batch c.in-Batch.batch (settled_fates c.in_ok-end-in-Batch.end.plan c.in_ok-end-in-Batch.end.settled) c.in_ok-end-in-Batch.end.plan c.in_ok-end-in-Batch.end.evaluated c.in_ok-end-in-Batch.end.rolled
+      run = between_batch c.in-Batch.batch (settled_fates c.in_ok-end-in-Batch.end.plan c.in_ok-end-in-Batch.end.settled) (account_of c.in_ok-end-in-Batch.end) c.in_ok-end-in-Batch.end.handed c.in_ok-end-in-Batch.end.stolen
           c.batches.invariant.run answers shows valid.0 counted c.in_ok-batch.ensures.bound
           c.in_ok-batch.ensures.same c.in_ok-batch.ensures.at_end c.in_ok-batch.ensures.unended live c.in_ok-end-in-Batch.ensures.layout
           c.in_ok-end-in-Batch.ensures.state c.in_ok-end-in-Batch.ensures.fates c.in_ok-tell_batch-in-Batch.ensures.told c.in_ok-tell_batch-in-Batch.ensures.empty
-          c.add.ensures c.in_ok-end-in-Batch.ensures.evaluated c.in_ok-end-in-Batch.ensures.rolled c.in_ok-end-in-Batch.ensures.made;
+          c.add.ensures c.in_ok-end-in-Batch.ensures.account c.in_ok-end-in-Batch.ensures.handed c.in_ok-end-in-Batch.ensures.stolen c.in_ok-end-in-Batch.ensures.made;
       source_faults = omega (arith, c.batches.invariant.source_faults, c.in_ok-batch.ensures.never_falls);
       sink_faults = omega (arith, c.batches.invariant.sink_faults, c.in_ok-tell_batch-in-Batch.ensures.sink_faults);
       notes_faults = omega (arith, c.batches.invariant.notes_faults, c.in_ok-tell_batch-in-Batch.ensures.notes_faults);
@@ -153,10 +121,10 @@ batches-preserved g c =
 -- ---- the end
 
 pub tell_closing-requires-clause-all : goal.tell_closing-requires-clause-all
-tell_closing-requires-clause-all g c = ap length c.batches.invariant.run.goes.tallied.counts.settled_by
+tell_closing-requires-clause-all g c = c.batches.invariant.run.goes.tallied.counts.workers
 
 pub tell_refused-requires-clause-all : goal.tell_refused-requires-clause-all
-tell_refused-requires-clause-all g c = ap length c.batches.invariant.run.goes.tallied.counts.settled_by
+tell_refused-requires-clause-all g c = c.batches.invariant.run.goes.tallied.counts.workers
 
 pub returns-in-End-clause-ends : goal.returns-in-End-clause-ends
 returns-in-End-clause-ends g c =

@@ -3,4 +3,4 @@ use Rattle.run_text.proofs.Writes.{unwritten}
 use Rattle.run_text.proofs.notes.note_batch.Goals as goal
 
 pub returns-then-not-on-clause-written : goal.returns-then-not-on-clause-written
-returns-then-not-on-clause-written g c = unwritten c.args.on (g.N.Sink.written c.args.notes.now) (batch_note c.args.number c.args.plan.now) c.if-not-on.true
+returns-then-not-on-clause-written g c = unwritten c.args.on (g.N.Sink.written c.args.notes.now) (batch_note c.args.number c.args.plan.now c.args.strategy) c.if-not-on.true

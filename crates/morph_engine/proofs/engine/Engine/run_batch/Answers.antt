@@ -1,18 +1,26 @@
-use Rattle.std.proofs.Common.{◌∙◌, sym, subst}
-use Rattle.morph_base.specs.Flat.{Kept, contents}
-use Rattle.morph_base.specs.Plans.{HasBases}
-use Rattle.abort_lazy.proofs.Outdated.{outdated_are_stale}
+use Rattle.std.proofs.Common.{length, map, sum_by, subst}
+use Rattle.morph_base.specs.Contents.{Contents}
+use Rattle.morph_base.specs.declared.plan.Plan.{Plan}
+use Rattle.morph_base.specs.Flat.{contents}
+use Rattle.op_eval.specs.declared.answers.Left.{Left}
+use Rattle.morph_engine.specs.Runs.{HasRun}
+use Rattle.morph_engine.proofs.Accounting.{is_account, causes_in}
 use Rattle.morph_engine.proofs.Told.{settled_fates-are}
 use Rattle.morph_engine.proofs.engine.Engine.run_batch.Goals as goal
 
-pub apply-requires-clause-bases : goal.apply-requires-clause-bases
-apply-requires-clause-bases g c = subst (λ (k : Kept). HasBases c.args.plan (contents k)) (sym c.self.view_is) c.requires.bases
-
 pub returns-clause-fates : goal.returns-clause-fates
 returns-clause-fates g c =
-    settled_fates-are c.args.plan c.settle_plain-settled.result.0 c.requires.plan.plan c.settle_plain-settled.ensures.settled (contents c.args.self.now) c.requires.bases
+    settled_fates-are c.args.plan c.run-settled.result.settled c.requires.plan.plan c.run-settled.ensures.settled (contents c.args.self.now) c.requires.bases
 
-pub returns-clause-rolled : goal.returns-clause-rolled
-returns-clause-rolled g c =
-    c.settle_plain-settled.ensures.rolled
-    ∙ outdated_are_stale c.args.plan c.try_levels.new.attempts c.requires.plan.plan c.in_ok-try_levels.ensures.tried c.in_ok-try_levels.ensures.read
+pub returns-clause-counts : goal.returns-clause-counts
+returns-clause-counts g c = λ counters v is. c.counts-counts.ensures c.args.plan 1 counters v is
+
+pub returns-clause-account : goal.returns-clause-account
+returns-clause-account g c =
+    let p : Plan = c.args.plan in
+    let closed = c.run-settled.result.closed in
+    let lists = map (λ (l : Contents Left). l.items) c.run-settled.result.left.items in
+    let by = c.run-settled.result.settled.by.items in
+    let ran : HasRun p c.args.workers closed lists by = subst (λ n. HasRun p n closed lists by) c.in_ok-prepared.ensures.workers c.run-settled.ensures.ran in
+    is_account p c.requires.plan.plan c.args.workers closed lists by ran c.run-settled.ensures.settled.workers c.counts-counts.result
+    (c.counts-counts.ensures p 1 ran.counters ran.view ran.ended) (sum_by (λ (l : Contents Left). length l.items) c.run-settled.result.left.items) (causes_in c.run-settled.result.left.items)

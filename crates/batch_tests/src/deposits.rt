@@ -1,0 +1,68 @@
+//! Many deposits of 1 on accounts and assets, so many that levels are shared out among workers.
+ghost use Rattle.morph_base.specs.Graphs.{IsValidPlan};
+
+use crate::four_events::{ACCOUNTS, ASSETS, plan_for};
+use crate::runners::words_of;
+use chain_units::units;
+use morph_base::{Batch, Event, Func, Key, List, Op, OpState, OutOfMemory, Plan, Unit};
+use op_eval::{RunEnd, Runners};
+use op_words::Board;
+use std::alloc::Global;
+use std::test::Fail;
+use std::thread::Threads;
+use strata_explorer::{counters, explore};
+use worker_gate::FreeGate;
+
+/// How many accounts, and as many assets, there are deposits on.
+const IDS: u64 = 2_000;
+
+/// So many events, each a deposit on the account and on the asset of the next id, from 0 on again after the last one.
+fn batch_of(alloc: Global, count: u64) -> Result<Batch, OutOfMemory> {
+    let mut events = List::new(alloc);
+    for event in 0..count {
+        let id = (event % IDS) as u32;
+        let ops = List::from_slice(
+            alloc,
+            &[
+                Op::new(Func::Add, Key::of(ACCOUNTS, id), &[], 1),
+                Op::new(Func::Add, Key::of(ASSETS, id), &[], 1),
+            ],
+        )?;
+        events.push(Event { ts: event + 1, ops })?;
+    }
+    Ok(Batch { events })
+}
+
+/// Whether exploring a plan by four workers ends after all levels, with each operation executed at attempt 1: those of
+/// the first deposit on an id with value 1, those of the second with 2.
+fn four_explore<R: Threads + Sync>(
+    rt: &R,
+    alloc: Global,
+    plan: &Plan,
+    unit: Unit,
+) -> Result<bool, OutOfMemory>
+    requires valid { IsValidPlan plan.now }
+{
+    let units = units(alloc, plan, unit)?;
+    let (board, root) = Board::new(alloc, plan, 1, counters(plan))?;
+    let runners = Runners::new(alloc, &board, root, 4, plan.events.len() as u32)?;
+    let explored = explore(rt, board, runners, plan, &units, &FreeGate);
+    let (board, mut runners, end, _) = explored.parts();
+    let runner = runners.runner(1);
+    let words = words_of(alloc, &board, &mut runner.hand, plan)?;
+    let all_ran = words.iter().enumerate().all(|(op, word)| {
+        let value = if op as u64 / 2 < IDS { 1 } else { 2 };
+        *word == (OpState::Executed, 1, value)
+    });
+    Ok(end == RunEnd::Whole && words.len() as u64 == 4 * IDS && all_ran)
+}
+
+#[test]
+fn four_runners_explore_two_rounds(rt: HostRuntime) -> Result<(), Fail> {
+    let plan = plan_for(&rt, rt.alloc(), &batch_of(rt.alloc(), 2 * IDS)?)?;
+    for unit in [Unit::Op, Unit::Chain] {
+        let all_ran = four_explore(&rt, rt.alloc(), &plan, unit)?;
+        assert!(rt; all_ran, "{unit:?}");
+    }
+    Ok(())
+}

@@ -1,0 +1,159 @@
+-- What a batch counts, from what its closed board shows.
+use Rattle.std.proofs.Common.{◌≡◌, ℕ, ◌+◌, ◌*◌, ◌<◌, ◌≤◌, Bool, true, false, cond, not, eqb, List, length, map, refl, sym, ap, ◌∙◌, subst, inl, inr, arith}
+use Rattle.std.specs.Prelude.{count_by, slice_index, sum_by}
+use Rattle.std.proofs.lemmas.Bool.{false≢true, cases_Bool, cond-true, cond-false, eq-eqb, eqb-true, and_parts}
+use Rattle.std.proofs.lemmas.List.{get_or_default}
+use Rattle.morph_base.specs.declared.limits.TheConstants.{EVENT_OPS, EVENTS}
+use Rattle.morph_base.specs.declared.plan.Plan.{Plan}
+use Rattle.morph_base.specs.Contents.{Contents}
+use Rattle.morph_base.specs.Graphs.{below}
+use Rattle.morph_base.specs.Plans.{IsPlan, op_count, event_of, verdict}
+use Rattle.morph_base.specs.Words.{is_settled}
+use Rattle.morph_base.proofs.NumberLaws.{op_count-small}
+use Rattle.interleaving_core.specs.declared.event.CoreEvent.{CoreEvent}
+use Rattle.interleaving_core.specs.Core.{Core}
+use Rattle.interleaving_core.specs.Counts.{evaluated, rolled, is_committed}
+use Rattle.interleaving_core.proofs.Bounds.{spreads-rolled, evaluated-spreads, no_spread}
+use Rattle.interleaving_core.proofs.Committed.{settled-evaluated}
+use Rattle.interleaving_core.proofs.Sources.{settled_cases}
+use Rattle.interleaving_core.proofs.Stale.{one_small}
+use Rattle.op_words.specs.declared.answers.Counts.{Counts}
+use Rattle.op_words.specs.declared.closed.Closed.{Closed}
+use Rattle.op_words.specs.Hands.{counts_of, up_to}
+use Rattle.op_words.proofs.Sizes.{range_size}
+use Rattle.op_eval.specs.declared.answers.Left.{Left}
+use Rattle.abort_lazy.specs.Ended.{causes}
+use Rattle.abort_lazy.proofs.Causing.{settler_within}
+use Rattle.abort_lazy.proofs.Covering.{few_left}
+use Rattle.abort_lazy.proofs.Summing.{below_least, below_same, sum_map, sum_places}
+use Rattle.morph_engine.specs.Accounts.{Account, settled_by, is_committed_by_worker, IsAccount, IsAccountAlone}
+use Rattle.morph_engine.specs.Runs.{HasRun}
+
+up_to_same : (n : ℕ) → n < 2000000 → up_to n ≡ n
+up_to_same n small = omega arith
+
+-- a test that passes only where another does counts no more
+fewer : (a b : Bool) → (a ≡ true → b ≡ true) → cond a 1 0 ≤ cond b 1 0
+fewer true b implies = let one = cond-true {A = ℕ} b 1 0 (implies refl) in omega (arith, one)
+fewer false b implies = omega arith
+
+module _ (p : Plan) (valid : IsPlan p) (workers : ℕ) (closed : Closed) (lists : List (List Left)) (by : List ℕ) (run : HasRun p workers closed lists by) (each : length by ≡ op_count p) (counts : Counts)
+    (counted : counts ≡ counts_of run.ended.ends.history) (left : ℕ) (kept : left ≡ causes lists) where
+  abbrev core : Core
+  core = run.ended.ends.core
+
+  abbrev account : Account
+  account = record { plan = p; by = by; counts = counts; left = left }
+
+  -- ---- who settled an operation
+
+  settled_by_tag : (o : ℕ) → o < op_count p → is_settled (core.word o).state ≡ true → slice_index by o ≡ (core.word o).by
+  settled_by_tag o lt now = run.tags o lt ∙ cond-true (is_settled (core.word o).state) (core.word o).by 0 now
+
+  left_open : (o : ℕ) → o < op_count p → is_settled (core.word o).state ≡ false → slice_index by o ≡ 0
+  left_open o lt now = run.tags o lt ∙ cond-false (is_settled (core.word o).state) (core.word o).by 0 now
+
+  within : (o : ℕ) → o < op_count p → slice_index by o ≤ workers
+  within o lt =
+      elim (cases_Bool (is_settled (core.word o).state)) [
+        | inl now ↦ let is = settled_by_tag o lt now in let most = (settler_within run.ended.ends o lt now).1 in let made = run.hands in omega (arith, is, most, made)
+        | inr now ↦ let is = left_open o lt now in omega (arith, is)
+      ]
+
+  by_nobody : (o : ℕ) → o < op_count p → slice_index by o ≡ 0 → not (is_settled (core.word o).state) ≡ true
+  by_nobody o lt none =
+      elim (cases_Bool (is_settled (core.word o).state)) [
+        | inl now ↦ let is = settled_by_tag o lt now in let least = (settler_within run.ended.ends o lt now).0 in absurd (omega (arith, none, is, least))
+        | inr now ↦ ap not now
+      ]
+
+  committed_there : (o : ℕ) → o < op_count p → is_committed_by_worker p by o ≡ true → is_committed (core.word o).state ≡ true
+  committed_there o lt is =
+      let both = and_parts (verdict p (event_of p o)) (not (eqb (slice_index by o) 0)) is in
+      elim (cases_Bool (is_settled (core.word o).state)) [
+        | inr now ↦ absurd (false≢true (ap not (sym (eq-eqb (slice_index by o) 0 (left_open o lt now))) ∙ both.1))
+        | inl now ↦
+            elim (settled_cases (core.word o).state now) [
+              | inl state ↦ ap is_committed state
+              | inr state ↦
+                  let decided = run.ended.ends.sound.decided (event_of p o) false ((run.ended.ends.sound.each_op o lt).aborted state).decided in
+                  absurd (false≢true (sym decided.1 ∙ both.0))
+            ]
+      ]
+
+  -- ---- over all operations
+
+  -- the entries of the list one by one
+  by_each : (q : ℕ → Bool) → count_by q by ≡ sum_by (λ o. cond (q (slice_index by o)) 1 0) (below (op_count p))
+  by_each q = sum_places (λ t. cond (q t) 1 0) by 0 ∙ ap (λ n. sum_by (λ o. cond (q (slice_index by o)) 1 0) (below n)) each
+
+  few_by_nobody : settled_by by 0 ≤ EVENT_OPS * left
+  few_by_nobody =
+      let open_ops = few_left p valid core run.view lists run.left in
+      let all = by_each (λ t. eqb t 0) in
+      let least =
+      below_least (λ o. cond (eqb (slice_index by o) 0) 1 0) (λ o. cond (not (is_settled (core.word o).state)) 1 0) (op_count p)
+      (λ o lt. fewer (eqb (slice_index by o) 0) (not (is_settled (core.word o).state)) (λ is. by_nobody o lt (eqb-true (slice_index by o) 0 is))) in
+      let same : EVENT_OPS * left ≡ EVENT_OPS * causes lists = ap (λ n. EVENT_OPS * n) kept in
+      omega (arith, open_ops, all, least, same)
+
+  abbrev history : List CoreEvent
+  history = run.ended.ends.history
+
+  small : op_count p ≤ EVENT_OPS * EVENTS
+  small = op_count-small p valid
+
+  few_evaluated : evaluated history ≤ 2 * op_count p
+  few_evaluated = let all = evaluated-spreads p 1 valid one_small history core run.ended.ends.run in omega (arith, all)
+
+  few_rolled : rolled history ≤ op_count p
+  few_rolled = let all = spreads-rolled p 1 valid one_small history core run.ended.ends.run in omega (arith, all)
+
+  evaluated_is : counts.evaluated ≡ evaluated history
+  evaluated_is = ap (λ (n : Counts). n.evaluated) counted ∙ up_to_same (evaluated history) (let few = few_evaluated in let all = small in omega (arith, few, all))
+
+  rolled_is : counts.rolled ≡ rolled history
+  rolled_is = ap (λ (n : Counts). n.rolled) counted ∙ up_to_same (rolled history) (let few = few_rolled in let all = small in omega (arith, few, all))
+
+  spread_is : counts.spread ≡ 0
+  spread_is = ap (λ (n : Counts). n.spread) counted ∙ ap up_to (no_spread p 1 valid one_small history core run.ended.ends.run refl)
+
+  committed_few : count_by (is_committed_by_worker p by) (below (op_count p)) ≤ counts.evaluated
+  committed_few =
+      let least =
+      below_least (λ o. cond (is_committed_by_worker p by o) 1 0) (λ o. cond (is_committed (core.word o).state) 1 0) (op_count p)
+      (λ o lt. fewer (is_committed_by_worker p by o) (is_committed (core.word o).state) (committed_there o lt)) in
+      let all = settled-evaluated p 1 valid one_small history core run.ended.ends.run in
+      let is = evaluated_is in
+      omega (arith, least, all, is)
+
+  alone : workers ≡ 1 → IsAccountAlone account
+  alone one =
+      let lone = run.alone one in
+      record {
+        none = kept ∙ lone.none;
+        mine =
+            by_each (λ t. eqb t 1)
+            ∙ below_same (λ o. cond (eqb (slice_index by o) 1) 1 0) (λ o. 1) (op_count p) (λ o lt. cond-true (eqb (slice_index by o) 1) 1 0 (eq-eqb (slice_index by o) 1 (lone.mine o lt)))
+            ∙ range_size 0 (op_count p);
+        evaluated = evaluated_is ∙ lone.evaluated_is ∙ ap (λ n. op_count p + n) (sym rolled_is);
+        rolled = rolled_is ∙ lone.rolled_is;
+      }
+
+  pub is_account : IsAccount workers account
+  is_account = record {
+    each = each;
+    inside = λ k d lt.
+        let less : k < op_count p = subst (λ n. k < n) each lt in
+        subst (λ t. t ≤ workers) (get_or_default by k 0 d lt) (within k less);
+    evaluated = let few = few_evaluated in let is = evaluated_is in omega (arith, few, is);
+    spread = spread_is;
+    rolled = let few = few_rolled in let is = rolled_is in omega (arith, few, is);
+    committed = committed_few;
+    rest = few_by_nobody;
+    alone = alone;
+  }
+
+-- how many causes lists have
+pub causes_in : (ls : List (Contents Left)) → sum_by (λ (l : Contents Left). length l.items) ls ≡ causes (map (λ (l : Contents Left). l.items) ls)
+causes_in ls = sym (sum_map length (λ (l : Contents Left). l.items) ls)

@@ -1,0 +1,217 @@
+-- A batch from its runners at the start to its closed board.
+use Rattle.std.proofs.Common.{◌≡◌, ℕ, ◌+◌, ◌-◌, ◌<◌, ◌≤◌, true, List, [], ◌∷◌, ◌++◌, length, map, refl, sym, ap, ◌∙◌, subst, inr, arith}
+use Rattle.std.specs.Prelude.{Contains, drop, slice_index, slice_index_or}
+use Rattle.std.proofs.lemmas.Bool.{cond-true}
+use Rattle.std.proofs.lemmas.List.{length-map}
+use Rattle.morph_base.specs.Contents.{Contents}
+use Rattle.morph_base.specs.declared.plan.Plan.{Plan}
+use Rattle.morph_base.specs.declared.word.OpWord.{OpWord}
+use Rattle.morph_base.specs.Graphs.{IsValidPlan}
+use Rattle.morph_base.specs.Guesses.{stale_count}
+use Rattle.morph_base.specs.Plans.{op_count}
+use Rattle.morph_base.specs.Words.{is_settled}
+use Rattle.interleaving_core.specs.Core.{places}
+use Rattle.interleaving_core.specs.Counts.{evaluated, rolled}
+use Rattle.op_words.specs.declared.board.Board.{Board}
+use Rattle.op_words.specs.declared.closed.Closed.{Closed}
+use Rattle.op_words.specs.declared.trail.View.{View}
+use Rattle.op_words.specs.Closing.{Ends, IsClosed, words_of}
+use Rattle.op_words.specs.Hands.{plan_of, cap_of}
+use Rattle.op_words.specs.Trails.{IsCalm}
+use Rattle.op_words.specs.Views.{IsLone, IsSettledSeen}
+use Rattle.op_words.proofs.Noting.{noted_present}
+use Rattle.op_words.proofs.Trailing.{calm_open}
+use Rattle.op_eval.specs.declared.answers.Left.{Left}
+use Rattle.op_eval.specs.declared.explored.Explored.{Explored}
+use Rattle.op_eval.specs.declared.runner.Runner.{Runner}
+use Rattle.op_eval.specs.Exploring.{AreExplored}
+use Rattle.op_eval.specs.Gathering.{gathered, runners_of}
+use Rattle.op_eval.specs.Running.{hand_view}
+use Rattle.strata_explorer.specs.Calls.{IsFurther, AreFurther}
+use Rattle.strata_explorer.specs.Levels.{AreStrata, HasRunAll, IsNewRoot}
+use Rattle.abort_lazy.specs.Ended.{AreAtStart, AreCauses, causes}
+use Rattle.abort_lazy.specs.Finishing.{settler}
+use Rattle.abort_lazy.specs.Runs.{AreAllHands, AreSettling, HasSettledAll, IsSettledByRoot, root_view}
+use Rattle.abort_lazy.proofs.Causing.{settler_within}
+use Rattle.abort_lazy.proofs.Gathered.{gathered_made}
+use Rattle.abort_lazy.proofs.Made.{places_some}
+use Rattle.morph_engine.specs.declared.prepared.Prepared.{Prepared}
+use Rattle.morph_engine.specs.Runs.{AreFirst, IsPrepared, HasRunAlone, HasRun}
+use Rattle.morph_engine.proofs.Alone.{IsLoneRun, evaluated_alone, rolled_alone}
+use Rattle.morph_engine.proofs.Reaching.{places_reached}
+
+-- ---- runners
+
+-- the first one
+pub some_runner : (rs : List Runner) → 0 < length rs → Runner
+some_runner [] some = absurd (omega (arith, some))
+some_runner (r ∷ rs) some = r
+
+-- the root's view of so many hands
+root_made : (d : Runner) (rs : List Runner) → 0 < length rs → (root_view d rs).made ≡ (hand_view (slice_index_or rs 0 d)).made
+root_made d rs some = gathered_made (hand_view (slice_index_or rs 0 d)) (map hand_view (drop 1 rs))
+
+-- one that was alone is the root
+single_root : (d : Runner) (rs : List Runner) → length rs ≡ 1 → root_view d rs ≡ hand_view (slice_index_or rs 0 d)
+unfolding gathered
+single_root d [] one = absurd (omega (arith, one))
+single_root d (r ∷ []) one = refl
+single_root d (r ∷ q ∷ rs) one = absurd (omega (arith, one))
+
+single_kept : (rs : List Runner) → length rs ≡ 1 → ((d : Runner) → (slice_index_or rs 0 d).kept.items ≡ []) → causes (map (λ (l : Contents Left). l.items) (map (λ r. r.kept) rs)) ≡ 0
+single_kept [] one none = refl
+single_kept (r ∷ []) one none = ap (λ l. causes (l ∷ [])) (none r)
+single_kept (r ∷ q ∷ rs) one none = absurd (omega (arith, one))
+
+-- a board that was made for the plan with one attempt more than the first
+pub closed_at : (p : Plan) (b : Board) (n : ℕ) (v : View) (c : Closed) → plan_of b ≡ p → cap_of b ≡ 1 → IsClosed (plan_of b) (cap_of b) n v c → IsClosed p 1 n v c
+closed_at p b n v c plan cap is = subst (λ (z : Plan × ℕ). IsClosed z.0 z.1 n v c) (λ a. (plan a, cap a)) is
+
+-- ---- hands that further hands come from
+
+further_first : (before rs : List Runner) → AreFurther before rs → AreFirst before → (k : ℕ) (d : Runner) → k < length rs → (hand_view (slice_index_or rs k d)).tag ≡ k + 1
+further_first before rs further first k d lt =
+    let less : k < length before = subst (λ n. k < n) further.len lt in
+    (further.each k d less).tag ∙ first.tags k d less
+
+further_all : (before rs : List Runner) → 0 < length before → AreFurther before rs → AreFirst before → AreAllHands rs
+further_all before rs some further first t d above most =
+    let made = (further.each 0 d some).made ∙ first.made d in
+    let less : t - 1 < length rs = (let many = further.len in omega arith) in
+    inr (t - 1, omega arith, less, further_first before rs further first (t - 1) d less ∙ omega arith)
+
+-- a root that loaded and left nothing before has seen nothing settled
+further_unseen : (a b : Runner) → IsFurther a b → (hand_view a).trail ≡ [] → (hand_view a).notes ≡ [] → IsLone (hand_view a) → (o : ℕ) → IsSettledSeen (hand_view b) o → ⊥
+further_unseen a b further no_trail no_notes lone o seen =
+    let inside : Contains ([] ++ further.words) seen.note = subst (λ l. Contains l seen.note) (further.notes ∙ ap (λ l. l ++ further.words) no_notes) seen.inside in
+    calm_open o [] further.words (subst (λ l. IsCalm l further.words) no_trail (further.calm lone)) (λ t found own here. further.open_own t found own)
+    (λ t found here settled. absurd (omega (arith, found.1))) seen.note inside seen.op_is seen.settled
+
+module _ (p : Plan) (valid : IsValidPlan p) (x : Prepared) (prepared : IsPrepared p x) (e : Explored) (rs : List Runner) (explored : AreExplored e.board e.next_counter e.runners)
+    (same_board : e.board ≡ x.board) (further : AreFurther (runners_of x.runners) (runners_of e.runners)) (strata : AreStrata p (length p.op_levels.items) (runners_of e.runners))
+    (ran : IsNewRoot (runners_of x.runners) → HasRunAll p (runners_of e.runners)) (next : e.next_counter ≡ length p.op_levels.items)
+    (settling : AreSettling e.board p e.next_counter (length p.event_levels.items) (runners_of e.runners) rs) (by_root : IsSettledByRoot p (runners_of e.runners) rs) where
+  abbrev before : List Runner
+  before = runners_of x.runners
+
+  abbrev mid : List Runner
+  mid = runners_of e.runners
+
+  some_before : 0 < length before
+  some_before = prepared.ready.rest.some
+
+  some_mid : 0 < length mid
+  some_mid = subst (λ n. 0 < n) (sym further.len) some_before
+
+  pub some_after : 0 < length rs
+  some_after = subst (λ n. 0 < n) (sym settling.len) some_mid
+
+  pub all_made : AreAllHands mid
+  all_made = further_all before mid some_before further prepared.first
+
+  pub begun : AreAtStart e.next_counter mid
+  begun = record {
+    unused = explored.unused;
+    none_kept = λ k d lt. (explored.exploring k d lt).kept;
+    none_joined = λ d. (further.each 0 d some_before).joined ∙ prepared.first.joined d;
+    tags = further_first before mid further prepared.first;
+  }
+
+  many : length rs ≡ length before
+  many = settling.len ∙ further.len
+
+  made_is : (d : Runner) → (hand_view (slice_index_or rs 0 d)).made ≡ length before
+  made_is d = (settling.each 0 d some_after).made ∙ (further.each 0 d some_before).made ∙ prepared.first.made d
+
+  none_joined : (d : Runner) → (hand_view (slice_index_or rs 0 d)).joined ≡ []
+  none_joined d = (settling.each 0 d some_after).joined ∙ begun.none_joined d
+
+  -- ---- one worker
+
+  module _ (one : length before ≡ 1) (d : Runner) where
+    first_lone : IsLone (hand_view (slice_index_or before 0 d))
+    first_lone = record { root = prepared.first.tags 0 d some_before; alone = prepared.first.made d ∙ one }
+
+    new_root : IsNewRoot before
+    new_root = record {
+      one = one;
+      lone = λ q. record { root = prepared.first.tags 0 q some_before; alone = prepared.first.made q ∙ one };
+      fresh = prepared.first.trail;
+    }
+
+    mid_lone : IsLone (hand_view (slice_index_or mid 0 d))
+    mid_lone = let more = further.each 0 d some_before in record { root = more.tag ∙ first_lone.root; alone = more.made ∙ first_lone.alone }
+
+    settled_all : HasSettledAll p (slice_index_or rs 0 d)
+    settled_all = by_root (further.len ∙ one) d mid_lone
+
+    lone_run : IsLoneRun p (slice_index_or mid 0 d) (slice_index_or rs 0 d)
+    lone_run =
+        let hand = explored.rest.hands 0 d some_mid in
+        let here = settling.each 0 d some_after in
+        record {
+          lone = mid_lone;
+          told = hand.told;
+          plan = hand.plan ∙ ap plan_of same_board ∙ prepared.plan;
+          cap = hand.cap ∙ ap cap_of same_board ∙ prepared.cap;
+          ran = ran new_root d;
+          unseen = further_unseen (slice_index_or before 0 d) (slice_index_or mid 0 d) (further.each 0 d some_before) (prepared.first.trail d) (prepared.first.notes d) first_lone;
+          calls = here.tried.calls;
+          made = here.tried.made;
+          none = settled_all.none;
+          settled = settled_all.settled;
+          alone = made_is d ∙ one;
+        }
+
+  -- ---- the closed board
+
+  abbrev pub any : Runner
+  any = some_runner rs some_after
+
+  module _ (counters : ℕ) (fits : length p.op_levels.items ≤ counters) (closed : Closed) (is : IsClosed p 1 counters (root_view any rs) closed) (left : List (Contents Left)) (kept : left ≡ map (λ r. r.kept) rs)
+      (why : AreCauses p is.ends.core (root_view any rs) (map (λ (l : Contents Left). l.items) left)) (by : List ℕ) (tags : (o : ℕ) → o < op_count p → slice_index by o ≡ settler (is.ends.core.word o)) where
+    settled_by_one : length before ≡ 1 → (o : ℕ) → o < op_count p → slice_index by o ≡ 1
+    settled_by_one one o lt =
+        let seen = (settled_all one any).settled o lt in
+        let root = single_root any rs (many ∙ one) in
+        let present : IsSettledSeen (root_view any rs) o = subst (λ v. IsSettledSeen v o) (sym root) seen in
+        let now : is_settled (is.ends.core.word o).state ≡ true = ap (λ (w : OpWord). is_settled w.state) (noted_present is.ends.noted present) ∙ present.settled in
+        let within = settler_within is.ends o lt now in
+        let made = root_made any rs some_after ∙ made_is any ∙ one in
+        let least = within.0 in
+        let most = within.1 in
+        tags o lt ∙ cond-true (is_settled (is.ends.core.word o).state) (is.ends.core.word o).by 0 now ∙ omega (arith, least, most, made)
+
+    some_places : (o : ℕ) → o < op_count p → 0 < places p o
+    some_places o lt = (places_some p o valid.plan lt).0
+
+    alone : length before ≡ 1 → HasRunAlone p is.ends.history (map (λ (l : Contents Left). l.items) left) by
+    alone one =
+        let run = lone_run one any in
+        let root = sym (single_root any rs (many ∙ one)) in
+        let b = slice_index_or rs 0 any in
+        record {
+          none = ap (λ l. causes (map (λ (q : Contents Left). q.items) l)) kept ∙ single_kept rs (many ∙ one) (λ d. (settled_all one d).none);
+          mine = settled_by_one one;
+          evaluated_is =
+              subst (λ v. (z : Ends p 1 counters (words_of closed) v) → evaluated z.history ≡ op_count p + rolled z.history) root
+              (λ z. evaluated_alone p valid.plan some_places (slice_index_or mid 0 any) b run z) is.ends;
+          rolled_is =
+              subst (λ v. (z : Ends p 1 counters (words_of closed) v) → rolled z.history ≡ stale_count p) root
+              (λ z. rolled_alone p valid.plan some_places (slice_index_or mid 0 any) b run z) is.ends;
+        }
+
+    pub has_run : HasRun p (length before) closed (map (λ (l : Contents Left). l.items) left) by
+    has_run = record {
+      counters = counters;
+      view = root_view any rs;
+      ended = is;
+      hands = root_made any rs some_after ∙ made_is any;
+      len = length-map left (λ (l : Contents Left). l.items) ∙ ap length kept ∙ length-map rs (λ r. r.kept) ∙ many;
+      tags = tags;
+      left = why;
+      places = λ l n low less.
+          places_reached e.board p (length p.op_levels.items) (length p.event_levels.items) mid rs
+          (subst (λ from. AreSettling e.board p from (length p.event_levels.items) mid rs) next settling) strata any is.ends fits some_after (none_joined any) l n low less;
+      alone = alone;
+    }

@@ -1,0 +1,178 @@
+-- Each place of each level's pass was taken, and its operation reached, as the closed board shows it.
+use Rattle.std.proofs.Common.{◌≡◌, ℕ, zero, suc, ◌+◌, ◌<◌, ◌≤◌, eqb, List, [], ◌∷◌, length, map, refl, sym, ap, ◌∙◌, subst, inl, inr, arith}
+use Rattle.std.specs.Prelude.{Contains, slice_index, slice_index_or, sum_by}
+use Rattle.std.proofs.lemmas.Bool.{cases_eq, cond-true, cond-false, eq-eqb, ne_eqb}
+use Rattle.std.proofs.lemmas.List.{length-map, get_or-map, get_or_default}
+use Rattle.std.proofs.lemmas.List.Elements.{Contains-append_cases}
+use Rattle.std.proofs.lemmas.List.Sums.{sum_by-cons, get_or-le-sum_by}
+use Rattle.morph_base.specs.declared.plan.Plan.{Plan}
+use Rattle.morph_base.specs.Graphs.{below}
+use Rattle.op_words.specs.declared.board.Board.{Board}
+use Rattle.op_words.specs.declared.trail.Place.{Place}
+use Rattle.op_words.specs.declared.trail.View.{View}
+use Rattle.op_words.specs.Closing.{Ends}
+use Rattle.op_words.specs.Counting.{place}
+use Rattle.op_words.specs.Layout.{counter_base}
+use Rattle.op_words.specs.Rule.{of_counter}
+use Rattle.op_words.specs.Trails.{IsReached}
+use Rattle.op_words.specs.Views.{merged, joined_of}
+use Rattle.op_words.proofs.Closing.{is_it}
+use Rattle.op_words.proofs.Sizes.{sum_inside}
+use Rattle.op_words.proofs.Trailing.{reached_more}
+use Rattle.op_eval.specs.declared.runner.Runner.{Runner}
+use Rattle.op_eval.specs.Gathering.{gathered}
+use Rattle.op_eval.specs.Running.{hand_view}
+use Rattle.strata_explorer.specs.Levels.{ops_of, op_of, AreStrata, IsWhole}
+use Rattle.strata_explorer.proofs.Climbing.{union}
+use Rattle.abort_lazy.specs.declared.run.sweeping.Call.{Call}
+use Rattle.abort_lazy.specs.declared.run.sweeping.Call.TheVariants.{Took, Tried}
+use Rattle.abort_lazy.specs.Runs.{AreSettling, root_view}
+use Rattle.abort_lazy.specs.Sweeps.{Calls}
+use Rattle.abort_lazy.proofs.Gathered.{gathered_has, gathered_tag, gathered_trail}
+use Rattle.abort_lazy.proofs.Summing.{below_has, below_some, sum_places}
+use Rattle.abort_lazy.proofs.Taking.{weights_of, root_taken, taken_below}
+use Rattle.abort_lazy.proofs.Trying.{contains_first, contains_later, calls_hold}
+use Rattle.morph_engine.specs.Runs.{HasHand, IsPlaceReached}
+
+-- ---- while events are tried
+
+module _ (p : Plan) where
+  -- a place of a counter that was not used then was taken before
+  calls_back : (c n : ℕ) (cs : List Call) (a b : Runner) → ((m : ℕ) → Contains cs (Took c m) → ⊥) → Calls p cs a b → Contains (hand_view b).places (place c n) → Contains (hand_view a).places (place c n)
+  calls_back c n [] a b unused calls found = subst (λ r. Contains (hand_view r).places (place c n)) calls found
+  calls_back c n (Took k m ∷ cs) a b unused calls found =
+      elim (Contains-append_cases (hand_view calls.0).places (place k m ∷ []) (place c n) (subst (λ (v : View). Contains v.places (place c n)) calls.2.view found)) [
+        | inl old ↦ calls_back c n cs a calls.0 (λ j inside. unused j (contains_later (Took k m) cs (Took c j) inside)) calls.1 old
+        | inr new ↦ absurd (unused m (subst (λ j. Contains (Took k m ∷ cs) (Took j m)) (sym (its new)) (contains_first (Took k m) cs)))
+      ]
+    where
+      its : Contains (place k m ∷ []) (place c n) → c ≡ k
+      its inside = at inside.0 inside.1 inside.2
+        where
+          at : (j : ℕ) → j < 1 → slice_index_or (place k m ∷ []) j (place c n) ≡ place c n → c ≡ k
+          at zero lt is = ap (λ (x : Place). x.counter) (sym is)
+          at (suc j) lt is = absurd (omega (arith, lt))
+  calls_back c n (Tried i ∷ cs) a b unused calls found =
+      let does = calls.2.1.does in
+      calls_back c n cs a calls.0 (λ j inside. unused j (contains_later (Tried i) cs (Took c j) inside)) calls.1 (subst (λ xs. Contains xs (place c n)) does.goes.adds.places found)
+
+  -- what was reached stays so
+  calls_reached : (o : ℕ) (cs : List Call) (a b : Runner) → Calls p cs a b → IsReached p o (hand_view a).trail → IsReached p o (hand_view b).trail
+  calls_reached o [] a b calls is = subst (λ r. IsReached p o (hand_view r).trail) (sym calls) is
+  calls_reached o (Took c n ∷ cs) a b calls is = subst (λ (v : View). IsReached p o v.trail) (sym calls.2.view) (calls_reached o cs a calls.0 calls.1 is)
+  calls_reached o (Tried i ∷ cs) a b calls is =
+      let does = calls.2.1.does in
+      subst (IsReached p o) (sym does.goes.adds.trail) (reached_more does.words (calls_reached o cs a calls.0 calls.1 is))
+
+-- ---- the root has each runner's hand
+
+gathered_places : (v : View) (ws : List View) → (gathered v ws).places ≡ v.places
+unfolding gathered
+gathered_places v [] = refl
+gathered_places v (w ∷ ws) = gathered_places (merged v w) ws
+
+root_hand : (d : Runner) (rs : List Runner) (k : ℕ) → k < length rs
+    → HasHand (root_view d rs) (hand_view (slice_index_or rs k d)).tag (hand_view (slice_index_or rs k d)).trail (hand_view (slice_index_or rs k d)).places
+root_hand d [] k lt = absurd (omega (arith, lt))
+root_hand d (r ∷ rs) zero lt = inl (gathered_tag (hand_view r) (map hand_view rs), gathered_trail (hand_view r) (map hand_view rs), gathered_places (hand_view r) (map hand_view rs))
+root_hand d (r ∷ rs) (suc k) lt =
+    inr (
+      joined_of (hand_view (slice_index_or rs k d)),
+      subst (λ w. Contains (root_view d (r ∷ rs)).joined (joined_of w)) (get_or-map hand_view rs k d (hand_view d) (less lt))
+          (gathered_has (hand_view r) (map hand_view rs) k (hand_view d) (subst (λ n. k < n) (sym (length-map rs hand_view)) (less lt))),
+      refl,
+      refl,
+      refl,
+    )
+  where
+    less : suc k < suc (length rs) → k < length rs
+    less l = omega (arith, l)
+
+-- ---- numbers
+
+-- a number with weight was taken
+some_place : (c n : ℕ) (xs : List Place) → 1 ≤ sum_by (of_counter c (is_it n)) xs → Contains xs (place c n)
+some_place c n [] some = absurd (omega (arith, some))
+some_place c n (x ∷ xs) some =
+    elim (cases_eq x.counter c) [
+      | inl same ↦ elim (cases_eq x.number n) [
+        | inl this ↦ subst (Contains (x ∷ xs)) (ap (λ k. place k x.number) same ∙ ap (place c) this) (contains_first x xs)
+        | inr other ↦
+            let none : of_counter c (is_it n) x ≡ 0 = cond-true (eqb x.counter c) (is_it n x.number) 0 (eq-eqb x.counter c same) ∙ cond-false (eqb x.number n) 1 0 (ne_eqb x.number n other) in
+            later (λ more. some_place c n xs more) none
+      ]
+      | inr other ↦
+          let none : of_counter c (is_it n) x ≡ 0 = cond-false (eqb x.counter c) (is_it n x.number) 0 (ne_eqb x.counter c other) in
+          later (λ more. some_place c n xs more) none
+    ]
+  where
+    later : (1 ≤ sum_by (of_counter c (is_it n)) xs → Contains xs (place c n)) → of_counter c (is_it n) x ≡ 0 → Contains (x ∷ xs) (place c n)
+    later rest none = contains_later x xs (place c n) (rest (let whole = sum_by-cons (of_counter c (is_it n)) x xs in omega (arith, some, none, whole)))
+
+place_counts : (c n : ℕ) (xs : List Place) → Contains xs (place c n) → 1 ≤ sum_by (of_counter c (is_it n)) xs
+place_counts c n xs found =
+    let inside = sum_inside (of_counter c (is_it n)) xs (place c n) found in
+    let it : of_counter c (is_it n) (place c n) ≡ is_it n n = cond-true (eqb c c) (is_it n n) 0 (eq-eqb c c refl) in
+    let is : is_it n n ≡ 1 = cond-true (eqb n n) 1 0 (eq-eqb n n refl) in
+    omega (arith, inside, it, is)
+
+module _ (b : Board) (p : Plan) (from level : ℕ) (start rs : List Runner) (settling : AreSettling b p from level start rs) (strata : AreStrata p from start) {cap counters : ℕ} {ws : List ℕ} (d : Runner)
+    (end : Ends p cap counters ws (root_view d rs)) (fits : from ≤ counters) (some : 0 < length rs) (none : (hand_view (slice_index_or rs 0 d)).joined ≡ []) where
+  in_counters : (l : ℕ) → l < from → l < counters
+  in_counters l lt = omega (arith, lt, fits)
+
+  there : (k : ℕ) → k < length start → k < length rs
+  there k lt = subst (λ n. k < n) (sym settling.len) lt
+
+  -- events are tried with other counters
+  unused : (l : ℕ) → l < from → (k : ℕ) (e : Runner) (lt : k < length rs) (m : ℕ) → let here = settling.each k e lt in Contains here.tried.calls (Took l m) → ⊥
+  unused l low k e lt m found = let here = settling.each k e lt in let only = here.tried.only l m found in let is = only.2 in absurd (omega (arith, low, is))
+
+  all_taken : (l n : ℕ) → l < from → n < slice_index ws (counter_base p + l) → (k : ℕ) × (k < length rs) × Contains (hand_view (slice_index_or rs k d)).places (place l n)
+  all_taken l n low less =
+      let end_is : ℕ = slice_index ws (counter_base p + l) in
+      let counted = sum_inside (is_it n) (below end_is) n (below_has end_is n less) in
+      let it : is_it n n ≡ 1 = cond-true (eqb n n) 1 0 (eq-eqb n n refl) in
+      let numbers = end.numbers l (in_counters l low) (is_it n) in
+      let total = root_taken l (is_it n) d rs some none in
+      let places = sum_places (weights_of l (is_it n)) rs d in
+      let one = below_some (λ k. weights_of l (is_it n) (slice_index_or rs k d)) (length rs) (omega (arith, counted, it, numbers, total, places)) in
+      (one.0, one.1, some_place l n (hand_view (slice_index_or rs one.0 d)).places one.2)
+
+  -- the numbers of a level's counter are those below what it shows in the end
+  whole : (l : ℕ) → l < from → IsWhole l start
+  whole l low = record {
+    end = slice_index ws (counter_base p + l);
+    below = λ k e less n found.
+        let here = settling.each k e (there k less) in
+        let held = calls_hold p here.tried.calls (slice_index_or start k e) (slice_index_or rs k e) here.tried.made (place l n) found in
+        let counts = place_counts l n (hand_view (slice_index_or rs k e)).places held in
+        let part = get_or-le-sum_by (weights_of l (is_it n)) rs k e (there k less) in
+        let total = root_taken l (is_it n) d rs some none in
+        taken_below end l (in_counters l low) n (omega (arith, counts, part, total));
+    taken = λ n less.
+        let one = all_taken l n low less in (
+          one.0,
+          subst (λ m. one.0 < m) settling.len one.1,
+          λ e.
+              let here = settling.each one.0 e one.1 in
+              calls_back p l n here.tried.calls (slice_index_or start one.0 e) (slice_index_or rs one.0 e) (unused l low one.0 e one.1) here.tried.made
+              (subst (λ r. Contains (hand_view r).places (place l n)) (get_or_default rs one.0 d e one.1) one.2),
+        );
+  }
+
+  pub places_reached : (l n : ℕ) → l < from → n < length (ops_of p l) → IsPlaceReached p (root_view d rs) l n
+  places_reached l n low less =
+      let one = union p from start strata d l low (whole l low) n less in
+      let lt = there one.0 one.1 in
+      let here = settling.each one.0 d lt in
+      let a = slice_index_or start one.0 d in
+      let b = slice_index_or rs one.0 d in
+      record {
+        tag = (hand_view b).tag;
+        trail = (hand_view b).trail;
+        places = (hand_view b).places;
+        hand = root_hand d rs one.0 lt;
+        taken = calls_hold p here.tried.calls a b here.tried.made (place l n) one.2;
+        reached = calls_reached p (op_of p l n) here.tried.calls a b here.tried.made one.3;
+      }

@@ -1,0 +1,48 @@
+use Rattle.std.proofs.Common.{◌≤◌, ◌*◌, sym, ap, ◌∙◌, subst, arith}
+use Rattle.morph_base.specs.declared.limits.TheConstants.{EVENT_OPS, EVENTS}
+use Rattle.morph_base.specs.Plans.{op_count, event_count}
+use Rattle.morph_base.proofs.NumberLaws.{op_count-small}
+use Rattle.chain_units.specs.Places.{IsPartition}
+use Rattle.chain_units.proofs.Partition.{each_in_one}
+use Rattle.op_words.specs.declared.trail.View.{View}
+use Rattle.op_words.specs.Hands.{view_of}
+use Rattle.op_eval.specs.Gathering.{runners_of}
+use Rattle.strata_explorer.proofs.Leveling.{small_levels}
+use Rattle.morph_engine.proofs.EventLevels.{small_event_levels}
+use Rattle.morph_engine.proofs.Preparing.{IsUntouched, first_runners}
+use Rattle.morph_engine.proofs.prepared.Prepared.new.Goals as goal
+
+pub units-requires : goal.units-requires
+units-requires c = let few : op_count c.args.plan.now ≤ EVENT_OPS * EVENTS = op_count-small c.args.plan.now c.requires.valid.plan in omega (arith, few)
+
+pub overflow_cast-counters : goal.overflow_cast-counters
+overflow_cast-counters c = let few = small_event_levels c.args.plan.now c.requires.valid in omega (arith, few, c.len.ensures)
+
+pub overflow_add-counters : goal.overflow_add-counters
+overflow_add-counters c =
+    let few = small_event_levels c.args.plan.now c.requires.valid in
+    let levels = small_levels c.args.plan.now c.requires.valid in
+    omega (arith, few, levels, c.len.ensures, c.counters.ensures)
+
+pub returns-clause-prepared : goal.returns-clause-prepared
+returns-clause-prepared c =
+    let seen = c.in_ok-board.ensures.view in
+    let board = c.in_ok-board.board in
+    let untouched : IsUntouched (view_of c.in_ok-board.root) =
+    record {
+      tag = ap (λ (v : View). v.tag) seen;
+      made = ap (λ (v : View). v.made) seen;
+      joined = ap (λ (v : View). v.joined) seen;
+      trail = ap (λ (v : View). v.trail) seen;
+      notes = ap (λ (v : View). v.notes) seen;
+    } in
+    record {
+      plan = c.in_ok-board.ensures.plan;
+      cap = c.in_ok-board.ensures.cap;
+      counters = c.in_ok-board.ensures.counters ∙ omega (arith, c.counters.ensures, c.len.ensures);
+      partition = subst (λ us. IsPartition us (op_count c.args.plan.now)) (sym c.in_ok-units.ensures.units) (each_in_one c.args.plan.now c.args.unit);
+      number = c.in_ok-units.ensures.ops;
+      ready = c.in_ok-runners.ensures.fresh (ap (λ (v : View). v.claim) seen) (ap (λ (v : View). v.places) seen) (let same = ap event_count c.in_ok-board.ensures.plan in omega (arith, same, c.len-2.ensures));
+      first = first_runners board (view_of c.in_ok-board.root) c.args.workers _ (runners_of c.in_ok-runners.runners) c.in_ok-runners.ensures.new untouched c.requires.some;
+      room = c.in_ok-room.ensures;
+    }

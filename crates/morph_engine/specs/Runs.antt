@@ -1,0 +1,86 @@
+-- What a batch takes its memory for, and what its board shows after its end.
+use Rattle.std.specs.Prelude.{◌≡◌, ℕ, ◌+◌, ◌<◌, ◌⊎◌, List, [], Contains, length, slice_index, slice_index_or}
+use Rattle.morph_base.specs.declared.plan.Plan.{Plan}
+use Rattle.morph_base.specs.Guesses.{stale_count}
+use Rattle.morph_base.specs.Plans.{op_count}
+use Rattle.chain_units.specs.Places.{IsPartition}
+use Rattle.interleaving_core.specs.declared.event.CoreEvent.{CoreEvent}
+use Rattle.interleaving_core.specs.Counts.{evaluated, rolled}
+use Rattle.op_words.specs.declared.closed.Closed.{Closed}
+use Rattle.op_words.specs.declared.trail.Item.{Item}
+use Rattle.op_words.specs.declared.trail.Joined.{Joined}
+use Rattle.op_words.specs.declared.trail.Place.{Place}
+use Rattle.op_words.specs.declared.trail.View.{View}
+use Rattle.op_words.specs.Closing.{IsClosed}
+use Rattle.op_words.specs.Counting.{place}
+use Rattle.op_words.specs.Hands.{plan_of, cap_of, counters_of}
+use Rattle.op_words.specs.Trails.{IsReached}
+use Rattle.op_eval.specs.declared.answers.Left.{Left}
+use Rattle.op_eval.specs.declared.runner.Runner.{Runner}
+use Rattle.op_eval.specs.Exploring.{AreExplored}
+use Rattle.op_eval.specs.Gathering.{runners_of}
+use Rattle.op_eval.specs.Running.{hand_view}
+use Rattle.strata_explorer.specs.Levels.{counters_for, ops_of, op_of}
+use Rattle.abort_lazy.specs.Ended.{AreCauses, causes}
+use Rattle.abort_lazy.specs.Finishing.{settler}
+use Rattle.abort_lazy.specs.Rooms.{IsRoomFor}
+use Rattle.morph_engine.specs.declared.prepared.Prepared.{Prepared}
+
+-- ---- before
+
+-- the runners' hands are all that were made, worker w has tag w, and they have loaded, left and joined nothing
+pub record AreFirst (rs : List Runner) : Type 0 where
+  pub tags : (k : ℕ) (d : Runner) → k < length rs → (hand_view (slice_index_or rs k d)).tag ≡ k + 1
+  pub made : (d : Runner) → (hand_view (slice_index_or rs 0 d)).made ≡ length rs
+  pub joined : (d : Runner) → (hand_view (slice_index_or rs 0 d)).joined ≡ []
+  pub trail : (d : Runner) → (hand_view (slice_index_or rs 0 d)).trail ≡ []
+  pub notes : (d : Runner) → (hand_view (slice_index_or rs 0 d)).notes ≡ []
+
+-- a board for the plan with one attempt more than the first and a counter for each level, units, runners that can explore, and
+-- room for what is settled
+pub record IsPrepared (p : Plan) (x : Prepared) : Type 0 where
+  pub plan : plan_of x.board ≡ p
+  pub cap : cap_of x.board ≡ 1
+  pub counters : counters_of x.board ≡ counters_for p + length p.event_levels.items
+  pub partition : IsPartition x.units.units (op_count p)
+  pub number : x.units.ops ≡ op_count p
+  pub ready : AreExplored x.board 0 x.runners
+  pub first : AreFirst (runners_of x.runners)
+  pub room : IsRoomFor p x.room
+
+-- ---- after
+
+-- the root, or a hand that was joined into it, has this tag, and left this trail and these places
+abbrev pub HasHand : View → (tag : ℕ) → List Item → List Place → Type 0
+HasHand v tag trail places =
+    ((v.tag ≡ tag) × (v.trail ≡ trail) × (v.places ≡ places))
+    ⊎ ((x : Joined) × Contains v.joined x × (x.tag ≡ tag) × (x.trail ≡ trail) × (x.places ≡ places))
+
+-- place n of the pass over level l was taken by a hand, in whose trail its operation was reached
+pub record IsPlaceReached (p : Plan) (v : View) (l n : ℕ) : Type 0 where
+  pub tag : ℕ
+  pub trail : List Item
+  pub places : List Place
+  pub hand : HasHand v tag trail places
+  pub taken : Contains places (place l n)
+  pub reached : IsReached p (op_of p l n) trail
+
+-- a lone root leaves nothing, and settles all; what is evaluated twice are the operations with a source whose guess is not its value
+pub record HasRunAlone (p : Plan) (history : List CoreEvent) (lists : List (List Left)) (by : List ℕ) : Type 0 where
+  pub none : causes lists ≡ 0
+  pub mine : (o : ℕ) → o < op_count p → slice_index by o ≡ 1
+  pub evaluated_is : evaluated history ≡ op_count p + rolled history
+  pub rolled_is : rolled history ≡ stale_count p
+
+-- a batch was run by so many workers: the closed board is that of its plan; each operation has the worker that settled it there, 0
+-- where nobody did; why events were left, by worker; and each place of each level's pass was taken, and its operation reached
+pub record HasRun (p : Plan) (workers : ℕ) (closed : Closed) (lists : List (List Left)) (by : List ℕ) : Type 0 where
+  pub counters : ℕ
+  pub view : View
+  pub ended : IsClosed p 1 counters view closed
+  pub hands : view.made ≡ workers
+  pub len : length lists ≡ workers
+  pub tags : (o : ℕ) → o < op_count p → slice_index by o ≡ settler (ended.ends.core.word o)
+  pub left : AreCauses p ended.ends.core view lists
+  pub places : (l n : ℕ) → l < length p.op_levels.items → n < length (ops_of p l) → IsPlaceReached p view l n
+  pub alone : workers ≡ 1 → HasRunAlone p ended.ends.history lists by

@@ -1,0 +1,90 @@
+//! What a batch takes its memory for, and its run on that, which takes none.
+ghost use Rattle.std.specs.Prelude.{◌≡◌, ◌≤◌, IfOk, length, map};
+ghost use Rattle.morph_base.specs.Graphs.{IsValidPlan};
+ghost use Rattle.morph_base.specs.Limits.{most_workers};
+ghost use Rattle.morph_base.specs.Plans.{IsSettledOf};
+ghost use Rattle.op_eval.specs.Gathering.{runners_of};
+ghost use Rattle.morph_engine.specs.Runs.{IsPrepared, HasRun};
+
+use abort_lazy::{Room, finish, settle_all};
+use chain_units::{Units, units};
+use morph_base::{List, OutOfMemory, Plan, Settled, Unit};
+use op_eval::{Left, Runners};
+use op_words::{Board, Closed};
+use std::alloc::Global;
+use std::thread::Threads;
+use strata_explorer::{counters, explore};
+use worker_gate::Gate;
+
+/// The last attempt at which an operation may read what is not settled: with lazy abort each has one more, on settled
+/// values.
+const CAP: u8 = 1;
+
+/// All that a batch takes its memory for, before its first worker runs.
+#[derive(Drop)]
+pub(crate) struct Prepared {
+    units: Units,
+    board: Board,
+    runners: Runners,
+    room: Room,
+}
+
+/// What the workers and the plain finish made of a batch.
+#[derive(Drop)]
+pub(crate) struct Ran {
+    pub(crate) settled: Settled,
+    pub(crate) closed: Closed,
+    pub(crate) left: List<List<Left>>,
+}
+
+impl Prepared {
+    /// Takes the memory for a plan in these units and so many workers.
+    pub(crate) fn new(
+        alloc: Global,
+        plan: &Plan,
+        unit: Unit,
+        workers: u32,
+    ) -> Result<Self, OutOfMemory>
+        requires valid { IsValidPlan plan.now }
+        requires some { 1 ≤ workers }
+        requires few { workers ≤ most_workers }
+        ensures prepared { IfOk result (IsPrepared plan.now) }
+        ensures workers { IfOk result (λ made. length (runners_of made.runners) ≡ workers) }
+    {
+        let units = units(alloc, plan, unit)?;
+        let counters = counters(plan) + plan.event_levels.len() as u32;
+        let (board, root) = Board::new(alloc, plan, CAP, counters)?;
+        let runners = Runners::new(alloc, &board, root, workers, plan.events.len() as u32)?;
+        let room = Room::new(alloc, plan)?;
+        Ok(Prepared {
+            units,
+            board,
+            runners,
+            room,
+        })
+    }
+
+    /// Explores and settles the plan side by side, closes the board, and completes what was left.
+    pub(crate) fn run<R: Threads + Sync, G: Gate>(self, rt: &R, plan: &Plan, gate: &G) -> Ran
+        requires valid { IsValidPlan plan.now }
+        requires prepared { IsPrepared plan.now self }
+        ensures settled { IsSettledOf plan.now result.settled }
+        ensures ran { HasRun plan.now (length (runners_of self.runners)) result.closed
+            (map (λ list. list.items) result.left.items) result.settled.by.items }
+    {
+        let Prepared {
+            units,
+            board,
+            runners,
+            room,
+        } = self;
+        let explored = explore(rt, board, runners, plan, &units, gate);
+        let (closed, left) = settle_all(rt, explored, plan).close(plan);
+        let settled = finish(&closed, plan, room);
+        Ran {
+            settled,
+            closed,
+            left,
+        }
+    }
+}

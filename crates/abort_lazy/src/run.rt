@@ -97,10 +97,12 @@ impl SettledRun {
             → AreSettling self.board plan.now from (length plan.now.event_levels.items) start (runners_of self.runners)
             → AreTries plan.now start (runners_of self.runners) }
         ensures causes { (d : R) (from : ℕ) (start : Listed R)
-            (is : IsClosed plan.now (cap_of self.board) (counters_of self.board) (root_view d (runners_of self.runners)) result.0)
+            (is : IsClosed plan.now (cap_of self.board) (counters_of self.board)
+            (root_view d (runners_of self.runners)) result.0)
             → IsValidPlan plan.now → AreAtStart from start
             → AreSettling self.board plan.now from (length plan.now.event_levels.items) start (runners_of self.runners)
-            → AreCauses plan.now is.ends.core (root_view d (runners_of self.runners)) (map (λ list. list.items) result.1.items) }
+            → AreCauses plan.now is.ends.core (root_view d (runners_of self.runners))
+            (map (λ list. list.items) result.1.items) }
     {
         let SettledRun { board, runners } = self;
         let (root, left) = runners.gather(&board);

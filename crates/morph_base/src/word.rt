@@ -105,21 +105,32 @@ impl OpState {
         }
     }
 
+    /// The state of a number that one has.
+    fn at_code(code: u64) -> OpState
+        requires { code < 8 }
+        ensures { code_of result ≡ code }
+    {
+        match code {
+            0 => OpState::Blocked,
+            1 => OpState::Ready,
+            2 => OpState::Claimed,
+            3 => OpState::Executed,
+            4 => OpState::Failed,
+            5 => OpState::Spread,
+            6 => OpState::Settled,
+            _ => OpState::SettledAborted,
+        }
+    }
+
     /// The state of this number.
     fn of_code(code: u64) -> Option<OpState>
         ensures state { IfSome result (λ state. code_of state ≡ code) }
         ensures every { (state : OpState) → code_of state ≡ code → result ≡ Some state }
     {
-        match code {
-            0 => Some(OpState::Blocked),
-            1 => Some(OpState::Ready),
-            2 => Some(OpState::Claimed),
-            3 => Some(OpState::Executed),
-            4 => Some(OpState::Failed),
-            5 => Some(OpState::Spread),
-            6 => Some(OpState::Settled),
-            7 => Some(OpState::SettledAborted),
-            _ => None,
+        if code < 8 {
+            Some(OpState::at_code(code))
+        } else {
+            None
         }
     }
 }
@@ -164,6 +175,20 @@ impl OpWord {
     {
         let state = self.state.code() + 16 * u64::from(self.by);
         self.value + VALUES * (u64::from(self.attempt) + 16 * state)
+    }
+
+    /// The word in range that packs to this number, where it is known that one does: nothing is checked of it.
+    pub fn of_packed(n: u64) -> OpWord
+        requires { (w : OpWord) × IsWord w × (packed w ≡ n) }
+        ensures { (w : OpWord) → IsWord w → packed w ≡ n → result ≡ w }
+    {
+        let above = n / VALUES;
+        OpWord {
+            value: n % VALUES,
+            attempt: (above % 16) as u8,
+            state: OpState::at_code(above / 16 % 16),
+            by: (above / 256) as u8,
+        }
     }
 
     /// The word in range that packs to this number; `None` exactly where there is none.

@@ -44,10 +44,7 @@ impl Closed {
         ensures word { (p : Plan) (cap counters : ℕ) (v : View) (is : IsClosed p cap counters v self.now)
             → op < op_count p → result ≡ is.ends.core.word op }
     {
-        let Some(word) = OpWord::unpack(self.table.word(op as usize)) else {
-            unreachable!()
-        };
-        word
+        OpWord::of_packed(self.table.word(op as usize))
     }
 
     /// Whether an event was committed, `None` exactly where nothing was decided.

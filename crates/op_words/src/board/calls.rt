@@ -220,11 +220,12 @@ impl Board {
         ensures hand { IsHandOf self.now hand.new }
         ensures does { FinishDoes plan.now (cap_of self.now) op (view_of hand.old) (view_of hand.new) result }
     {
-        let Some(holding) = hand.held else {
+        let Some(holding) = &hand.held else {
             unreachable!()
         };
         let answer = holding.answer(plan);
-        self.end(hand, op, holding.word(answer));
+        let word = holding.word(answer);
+        self.end(hand, op, word);
         Outcome::of(answer)
     }
 

@@ -27,10 +27,7 @@ impl Board {
         ensures { Looked self.now op hand.old hand.new result }
     {
         let n = self.table.shared.load::<Look>(&mut hand.seat, op as usize);
-        let Some(word) = OpWord::unpack(n) else {
-            unreachable!()
-        };
-        word
+        OpWord::of_packed(n)
     }
 
     /// A load of the first word that the view does not note.
@@ -119,15 +116,15 @@ impl Board {
         ensures { (o a : ℕ) (xs : List ℕ) → Holds (view_of hand.old) o a xs
             → Kept self.now o a xs value hand.old hand.new }
     {
-        let Some(holding) = hand.held else {
+        let Some(holding) = &mut hand.held else {
             unreachable!()
         };
         let place = holding.op as usize * READS + holding.count as usize;
         let record = pack_record(value, holding.attempt);
+        holding.put(value);
         self.table
             .shared
             .store::<Keep>(&mut hand.seat, plan.ops.len() + place, record);
-        hand.held = Some(holding.with(value));
     }
 
     /// Claimed becomes executed or failed, by the hand that holds the operation: nobody else changes its word

@@ -10,20 +10,18 @@ use super::Holding;
 use morph_base::{OpState, OpWord, Plan, eval};
 
 impl Holding {
-    /// With the value of the next place.
-    pub(super) fn with(self, value: u64) -> Holding
-        requires fits { Fits self }
-        requires few { self.count < READS }
+    /// Adds the value of the next place.
+    pub(super) fn put(&mut self, value: u64)
+        requires fits { Fits self.old }
+        requires few { self.old.count < READS }
         requires value { value ≤ MAX }
-        ensures op { result.op ≡ self.op }
-        ensures attempt { result.attempt ≡ self.attempt }
-        ensures values { fetched_of result ≡ fetched_of self ++ value ∷ [] }
-        ensures fits { Fits result }
+        ensures op { self.new.op ≡ self.old.op }
+        ensures attempt { self.new.attempt ≡ self.old.attempt }
+        ensures values { fetched_of self.new ≡ fetched_of self.old ++ value ∷ [] }
+        ensures fits { Fits self.new }
     {
-        let mut more = self;
-        more.values[self.count as usize] = value;
-        more.count += 1;
-        more
+        self.values[self.count as usize] = value;
+        self.count += 1;
     }
 
     /// What the operation's function makes of the values of all its places.

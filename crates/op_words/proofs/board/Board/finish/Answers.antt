@@ -16,6 +16,6 @@ returns-clause-does c =
     let parts = held_parts c.args.hand.now c.in-Some.holding o q.0 q.1 (kept c.requires.hand) c.in-Some.is q.2 in
     let answer : c.answer-answer.result ≡ value_of (op_at p o).op q.1 =
     c.answer-answer.ensures.value ∙ ap (λ (z : ℕ × List ℕ). value_of (op_at p z.0).op z.1) (λ i. (parts.0 i, parts.2 i)) in
-    let word : c.word.result ≡ finished (op_at p o).op q.0 q.1 =
-    c.word.ensures.word ∙ ap (λ (z : ℕ × List ℕ). ended z.0 z.1 c.answer-answer.result) (λ i. (parts.1 i, parts.2 i)) ∙ ap (ended q.0 q.1) answer in
-    finish_does c.args.self.now p _ o c.args.hand.now c.end.new.hand c.word.result q.0 q.1 q.2 q.3 word (λ n ys held. c.end.ensures n ys held) c.of.result (c.of.ensures ∙ ap answer_of answer)
+    let word : c.word-word.result ≡ finished (op_at p o).op q.0 q.1 =
+    c.word-word.ensures.word ∙ ap (λ (z : ℕ × List ℕ). ended z.0 z.1 c.answer-answer.result) (λ i. (parts.1 i, parts.2 i)) ∙ ap (ended q.0 q.1) answer in
+    finish_does c.args.self.now p _ o c.args.hand.now c.end.new.hand c.word-word.result q.0 q.1 q.2 q.3 word (λ n ys held. c.end.ensures n ys held) c.of.result (c.of.ensures ∙ ap answer_of answer)

@@ -22,7 +22,7 @@ use Rattle.op_words.specs.declared.answers.Readied.TheVariants.{Made, Not as Unm
 use Rattle.op_words.specs.declared.answers.Outcome.{Outcome}
 use Rattle.op_words.specs.Trails.{loaded, left, HasLast, IsDisturbed, IsReached, IsSourceOf, OwnOn, OwnOpen, NoneOwn}
 use Rattle.op_words.specs.Views.{Agrees, Adds, Goes, Holds}
-use Rattle.op_words.specs.Calls.{Elsewhere, IsRead, PeekDoes, MakeDoes, ClaimDoes, FetchDoes, FinishDoes, GiveBackDoes}
+use Rattle.op_words.specs.Calls.{Elsewhere, IsRead, IsUsed, IsTaken, PeekDoes, MakeDoes, ClaimDoes, FetchDoes, FinishDoes, GiveBackDoes}
 use Rattle.op_words.proofs.Trailing.{cases_word, last_item, last_later, one_last, disturbed_later, disturbed_more}
 use Rattle.op_eval.specs.declared.answers.Evaluation.TheVariants.{Evaluated, Blocked as BlockedOn, Busy as BusyAt, Already}
 use Rattle.op_eval.specs.Evaluations.{EvaluationDoes, IsEvaluatingSoFar, SoFar, IsFetchedUpTo, IsStopped}
@@ -38,7 +38,7 @@ read_later xs ys (Base b) x read = read
 read_later xs ys (Written s) x read = (read.0, Contains-append_right xs ys (loaded s read.0) read.1, read.2)
 
 pub fetched_none : (p : Plan) (o a : ℕ) (v : View) → Agrees v → Holds v o a [] → IsFetchedUpTo p o a 0 v v
-fetched_none p o a v agrees holds = record { words = []; adds = adds_none v agrees; elsewhere = λ t found. absurd (not-suc-le-zero found.1); values = []; holds = holds; count = refl; read = λ k lt. absurd (not-suc-le-zero lt) }
+fetched_none p o a v agrees holds = record { words = []; adds = adds_none v agrees; elsewhere = λ t found. absurd (not-suc-le-zero found.1); values = []; holds = holds; count = refl; read = λ k lt. absurd (not-suc-le-zero lt); valued = λ k s lt. absurd (not-suc-le-zero lt) }
 
 both_elsewhere : (o : ℕ) (xs ys : List Item) → Elsewhere o xs → Elsewhere o ys → Elsewhere o (xs ++ ys)
 both_elsewhere o xs ys first second t inside = elim (Contains-append_cases xs ys t inside) [ inl found ↦ first t found | inr found ↦ second t found ]
@@ -63,6 +63,16 @@ fetched_more p cap o a j {v} {m} {u} {x} up does =
                 let less : k < j = omega arith in
                 subst (IsRead (up.words ++ does.words) (origin_at p o k)) (sym (get_or-append up.values (x ∷ []) 0 k (omega arith)))
                 (read_more up.words does.words (origin_at p o k) (slice_index up.values k) (up.read k less))
+          ];
+      valued = λ k s lt is.
+          elim (cases_eq k j) [
+            | inl same ↦
+                let used : IsUsed p cap o m u does.words a s x = subst (λ q. IsTaken p cap o m u does.words a q x) (subst (λ n. origin_at p o n ≡ Written s) same is) tells.taken in
+                (used.word, Contains-append_right up.words does.words (loaded s used.word) (subst (λ zs. Contains zs (loaded s used.word)) (sym used.words) (0, omega arith, refl)), used.shown)
+            | inr other ↦
+                let less : k < j = omega arith in
+                let old = up.valued k s less is in
+                (old.0, Contains-append_left up.words does.words (loaded s old.0) old.1, old.2)
           ];
     }
   where
@@ -363,6 +373,13 @@ module _ (p : Plan) (cap o : ℕ) {start v : View} {xs : List Item} {w : OpWord}
             read = λ j lt.
                 read_later xs (claim.words ++ (ys ++ zs)) (origin_at p o j) (slice_index fetched.values j)
                 (read_later claim.words (ys ++ zs) (origin_at p o j) (slice_index fetched.values j) (read_more ys zs (origin_at p o j) (slice_index fetched.values j) (fetched.read j lt)));
+            sources = λ s source.
+                let at = fetched.valued source.place s source.in_places source.source_is in (
+                  at.0,
+                  Contains-append_right xs (claim.words ++ (ys ++ zs)) (loaded s at.0)
+                      (Contains-append_right claim.words (ys ++ zs) (loaded s at.0) (Contains-append_left ys zs (loaded s at.0) at.1)),
+                  at.2,
+                );
           };
           reached = reached_own (left o tells.word) there refl (λ same. false≢true (ap (λ (x : OpWord). has_run x.state) (sym same) ∙ tells.ran));
         }

@@ -1,6 +1,7 @@
 -- What evaluating an operation tells: of each answer its cause, by the words that were loaded and left in the call.
 use Rattle.std.specs.Prelude.{◌≡◌, ◌≢◌, ℕ, ◌+◌, ◌<◌, ◌⊎◌, true, false, List, [], ◌∷◌, length, Contains, Option, Some, None, slice_index}
 use Rattle.morph_base.specs.declared.plan.Plan.{Plan}
+use Rattle.morph_base.specs.declared.plan.Origin.TheVariants.{Op as Written}
 use Rattle.morph_base.specs.declared.word.OpState.TheVariants.{Claimed}
 use Rattle.morph_base.specs.declared.word.OpWord.{OpWord}
 use Rattle.morph_base.specs.Functions.{value_of}
@@ -20,6 +21,10 @@ use Rattle.op_eval.specs.declared.evaluating.Stopped.{Stopped}
 use Rattle.op_eval.specs.declared.runner.Runner.{Runner}
 use Rattle.op_eval.specs.Running.{hand_view, counted}
 
+-- operation s was loaded with a value
+abbrev pub IsValued : List Item → ℕ → Type 0
+IsValued xs s = (w : OpWord) × Contains xs (loaded s w) × (is_idle w.state ≡ false)
+
 module _ (p : Plan) (cap o : ℕ) (v u : View) (xs : List Item) where
   -- evaluated: it was found idle, and left as what its function makes of the values that were loaded of its sources. `first`
   -- is the word that the call loaded first
@@ -38,6 +43,7 @@ module _ (p : Plan) (cap o : ℕ) (v u : View) (xs : List Item) where
     pub finished_more : evaluated v.events < evaluated u.events
     pub records : HasRecordsSeen p u o word values
     pub read : (j : ℕ) → j < places p o → IsRead xs (origin_at p o j) (slice_index values j)
+    pub sources : (s : ℕ) → IsSourceOf p o s → IsValued xs s
 
   -- a source has no value, or at the last attempt is not settled
   pub record IsBlocked (first : OpWord) (at : ℕ) (w : OpWord) : Type 0 where
@@ -114,6 +120,7 @@ pub record IsFetchedUpTo (p : Plan) (o a j : ℕ) (v u : View) : Type 0 where
   pub holds : Holds u o a values
   pub count : length values ≡ j
   pub read : (k : ℕ) → k < j → IsRead words (origin_at p o k) (slice_index values k)
+  pub valued : (k s : ℕ) → k < j → origin_at p o k ≡ Written s → IsValued words s
 
 -- a source stopped it
 pub record IsStopped (p : Plan) (cap o a : ℕ) (v u : View) (at : ℕ) (w : OpWord) : Type 0 where

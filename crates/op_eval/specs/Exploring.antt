@@ -20,6 +20,10 @@ use Rattle.op_eval.specs.Gathering.{runners_of, HasPlaces, AreAtRest}
 abbrev pub stopped : Answers → ℕ
 stopped n = n.blocked + n.busy + n.already
 
+-- all answers
+abbrev pub total : Answers → ℕ
+total n = n.evaluated + n.blocked + n.busy + n.already
+
 -- how many words the hand loaded
 abbrev pub is_load : Item → Bool
 is_load t = not t.own

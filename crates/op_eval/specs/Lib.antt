@@ -3,3 +3,5 @@ pub mod Running
 pub mod Gathering
 pub mod Lending
 pub mod Exploring
+pub mod Further
+pub mod Alone

@@ -1,41 +1,24 @@
 -- Passes one after another, and the union over runners.
-use Rattle.std.proofs.Common.{◌≡◌, ◌≢◌, ◌⊎◌, ℕ, zero, suc, ◌+◌, ◌-◌, ◌<◌, ◌≤◌, ◌^◌, false, cond, eqb, List, [], ◌∷◌, length, get_or, set, refl, sym, ap, ◌∙◌, subst, inl, inr, arith}
+use Rattle.std.proofs.Common.{◌≡◌, ◌≢◌, ◌⊎◌, ℕ, zero, suc, ◌+◌, ◌<◌, ◌≤◌, ◌^◌, false, cond, eqb, List, [], ◌∷◌, length, get_or, set, refl, sym, ap, ◌∙◌, subst, inl, inr, arith}
 use Rattle.std.specs.Prelude.{Contains, All, count_by, slice_index_or, nat_lt}
-use Rattle.std.proofs.lemmas.Bool.{cases_eq, cases_lt, ne_eqb}
+use Rattle.std.proofs.lemmas.Bool.{cases_eq, ne_eqb}
 use Rattle.std.proofs.lemmas.List.Sums.{sum_by-append}
 use Rattle.morph_base.specs.declared.plan.Plan.{Plan}
 use Rattle.morph_base.specs.Contents.{Contents}
 use Rattle.std.proofs.lemmas.List.{get_or-map}
 use Rattle.op_words.specs.declared.trail.Place.{Place}
 use Rattle.op_words.specs.declared.trail.View.{View}
-use Rattle.op_eval.specs.declared.answers.Evaluation.{Evaluation}
-use Rattle.op_eval.specs.declared.answers.Evaluation.TheVariants.{Evaluated, Blocked, Busy, Already}
 use Rattle.op_words.specs.Trails.{IsReached}
-use Rattle.op_eval.specs.Evaluations.{Tries}
 use Rattle.op_eval.specs.declared.runner.Runner.{Runner}
 use Rattle.op_words.specs.Counting.{times, place}
-use Rattle.op_eval.specs.Running.{hand_view, one_more}
+use Rattle.op_eval.specs.Exploring.{total}
+use Rattle.op_eval.specs.Running.{hand_view}
+use Rattle.op_eval.proofs.Totals.{tries_total, full_stays}
 use Rattle.strata_explorer.specs.Calls.{Call, Took, Tried, Calls}
 use Rattle.strata_explorer.specs.Passes.{is_tried, names, Worked, IsEnough, IsPassed}
-use Rattle.strata_explorer.specs.Levels.{ops_of, op_of, named, total, IsStrata, AreStrata, IsWhole}
+use Rattle.strata_explorer.specs.Levels.{ops_of, op_of, named, IsStrata, AreStrata, IsWhole}
 use Rattle.strata_explorer.proofs.Turning.{contains_first, contains_later, count_first}
 use Rattle.strata_explorer.proofs.Running.{calls_keep, calls_reach, calls_places, calls_hold, calls_running}
-
--- ---- answers count the evaluations
-
-up_or : (n : ℕ) → (one_more n ≡ n + 1) ⊎ (2 ^ 64 ≤ one_more n + 1)
-up_or n = elim (cases_lt n (2 ^ 64 - 1)) [ inl lt ↦ inl (omega arith) | inr past ↦ inr (omega arith) ]
-
--- one more answer, or as many as there can be
-tries_total : (p : Plan) (cap o : ℕ) (a b : Runner) (r : Evaluation) → Tries p cap o a b r → (total a.answers + 1 ≤ total b.answers) ⊎ (2 ^ 64 ≤ total b.answers + 1)
-tries_total p cap o a b (Evaluated x y) t = let e : total b.answers ≡ one_more a.answers.evaluated + a.answers.blocked + a.answers.busy + a.answers.already = ap total t.counts in elim (up_or a.answers.evaluated) [ inl one ↦ inl (omega arith) | inr full ↦ inr (omega arith) ]
-tries_total p cap o a b (Blocked x y) t = let e : total b.answers ≡ a.answers.evaluated + one_more a.answers.blocked + a.answers.busy + a.answers.already = ap total t.counts in elim (up_or a.answers.blocked) [ inl one ↦ inl (omega arith) | inr full ↦ inr (omega arith) ]
-tries_total p cap o a b (Busy x) t = let e : total b.answers ≡ a.answers.evaluated + a.answers.blocked + one_more a.answers.busy + a.answers.already = ap total t.counts in elim (up_or a.answers.busy) [ inl one ↦ inl (omega arith) | inr full ↦ inr (omega arith) ]
-tries_total p cap o a b (Already x) t = let e : total b.answers ≡ a.answers.evaluated + a.answers.blocked + a.answers.busy + one_more a.answers.already = ap total t.counts in elim (up_or a.answers.already) [ inl one ↦ inl (omega arith) | inr full ↦ inr (omega arith) ]
-
--- what was full stays full, by a call
-full_stays : (m n : ℕ) → (m + 1 ≤ n) ⊎ (2 ^ 64 ≤ n + 1) → 2 ^ 64 ≤ m + 1 → 2 ^ 64 ≤ n + 1
-full_stays m n more full = elim more [ inl less ↦ omega arith | inr there ↦ there ]
 
 pub calls_total : (p : Plan) (cap : ℕ) (cs : List Call) (a b : Runner) → Calls p cap cs a b → (total a.answers + count_by is_tried cs ≤ total b.answers) ⊎ (2 ^ 64 ≤ total b.answers + 1)
 calls_total p cap [] a b calls = inl (let e : total b.answers ≡ total a.answers = ap (λ r. total r.answers) calls in omega arith)

@@ -2,7 +2,6 @@ pub mod Turning
 pub mod Running
 pub mod Further
 pub mod Climbing
-pub mod Alone
 pub mod Lone
 pub mod Leveling
 pub mod Ends

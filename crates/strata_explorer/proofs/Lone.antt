@@ -15,17 +15,14 @@ use Rattle.op_eval.specs.Running.{hand_view}
 use Rattle.op_words.proofs.Adding.{lone_more}
 use Rattle.op_words.proofs.Trailing.{last-none}
 use Rattle.interleaving_core.specs.Core.{blocked}
-use Rattle.morph_base.proofs.OutcomeLaws.{source_precedes}
-use Rattle.strata_explorer.proofs.Alone.{IsBegun, explores, keeps_ran, runs_it}
+use Rattle.op_eval.specs.Alone.{Ran, IsNewRoot, HasRunAll}
+use Rattle.op_eval.proofs.Alone.{IsBegun, come_first, explores, keeps_ran, runs_it}
 use Rattle.strata_explorer.specs.Calls.{Call, Took, Tried, TakesNumber, Calls}
 use Rattle.strata_explorer.specs.Passes.{Worked, IsEnough, IsPassed}
-use Rattle.strata_explorer.specs.Levels.{ops_of, op_of, Ran, AreLevels, AreStrata, IsLoneStrata, IsAlone, IsNewRoot, HasRunAll}
+use Rattle.strata_explorer.specs.Levels.{ops_of, op_of, AreLevels, AreStrata, IsLoneStrata, IsAlone}
 use Rattle.strata_explorer.proofs.Turning.{contains_first, contains_later, contains_cases, count_first, times_one}
 use Rattle.strata_explorer.proofs.Running.{calls_places}
 use Rattle.strata_explorer.proofs.Climbing.{only_later}
-
-come_first : (p : Plan) (o : ℕ) → IsPlan p → o < op_count p → ComeFirst p o
-come_first p o valid lt s source = (source_precedes p o source.place s valid lt source.in_places source.source_is).number_before
 
 pub taking_lone : (c n : ℕ) {a b : Runner} → TakesNumber c a b n → IsLone (hand_view a) → IsLone (hand_view b)
 taking_lone c n taken lone = subst IsLone (sym taken.view_is) (record { root = lone.root; alone = lone.alone })

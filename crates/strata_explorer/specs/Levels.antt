@@ -1,29 +1,20 @@
 -- What passes over the levels, one after the other, make of runners.
-use Rattle.std.specs.Prelude.{◌≡◌, ℕ, ◌+◌, ◌*◌, ◌≤◌, ◌<◌, ◌^◌, ◌⊎◌, true, List, [], Contains, map, count_by, nat_lt, length, slice_index_or}
+use Rattle.std.specs.Prelude.{◌≡◌, ℕ, ◌+◌, ◌*◌, ◌≤◌, ◌<◌, ◌^◌, ◌⊎◌, List, [], Contains, map, count_by, nat_lt, length, slice_index_or}
 use Rattle.morph_base.specs.declared.plan.Plan.{Plan}
 use Rattle.morph_base.specs.Plans.{op_count}
-use Rattle.interleaving_core.specs.Core.{blocked, has_run}
-use Rattle.op_words.specs.declared.trail.Item.{Item}
 use Rattle.op_words.specs.declared.trail.Place.{Place}
 use Rattle.op_words.specs.Counting.{place}
-use Rattle.op_words.specs.Trails.{IsReached, IsSourceOf, last_word}
+use Rattle.op_words.specs.Trails.{IsReached, IsSourceOf}
 use Rattle.op_words.specs.Views.{IsLone}
-use Rattle.op_eval.specs.declared.answers.Answers.{Answers}
 use Rattle.op_eval.specs.declared.runner.Runner.{Runner}
-use Rattle.op_eval.specs.Exploring.{IsExploring, Unused}
+use Rattle.op_eval.specs.Alone.{Ran, NotBegun}
+use Rattle.op_eval.specs.Exploring.{IsExploring, Unused, total}
 use Rattle.op_eval.specs.Running.{hand_view}
 use Rattle.strata_explorer.specs.Passes.{Fits, IsEnough}
 
 -- how many counters a board has for the passes over a plan
 abbrev pub counters_for : Plan → ℕ
 counters_for p = 4 * length p.op_levels.items + 64
-
--- the last word of o: not begun, or executed or failed at attempt 1
-abbrev pub Ran : List Item → (o : ℕ) → Type 0
-Ran trail o = (has_run (last_word o (blocked 1) trail).state ≡ true) × ((last_word o (blocked 1) trail).attempt ≡ 1)
-
-abbrev pub NotBegun : List Item → (o : ℕ) → Type 0
-NotBegun trail o = last_word o (blocked 1) trail ≡ blocked 1
 
 -- the operations of the level of this number, from 0 on
 abbrev pub ops_of : Plan → ℕ → List ℕ
@@ -35,10 +26,6 @@ op_of p l n = slice_index_or (ops_of p l) n 0
 -- how many of the numbers taken name an operation of their level
 abbrev pub named : Plan → List Place → ℕ
 named p xs = count_by (λ x. nat_lt x.number (length (ops_of p x.counter))) xs
-
--- all answers
-abbrev pub total : Answers → ℕ
-total n = n.evaluated + n.blocked + n.busy + n.already
 
 -- levels as a valid plan has them: all of the plan's operations, sources in lower ones
 pub record AreLevels (p : Plan) (units : List (List ℕ)) (many : ℕ) : Type 0 where
@@ -69,16 +56,6 @@ pub record IsLoneStrata (p : Plan) (level : ℕ) (r : Runner) : Type 0 where
 -- where the runners are one lone root that begins, it explores alone
 abbrev pub IsAlone : Plan → (level : ℕ) → List Runner → List Runner → Type 0
 IsAlone p level start rs = length start ≡ 1 → (d : Runner) → IsLoneStrata p 0 (slice_index_or start 0 d) → IsLoneStrata p level (slice_index_or rs 0 d)
-
--- the runners are one root, the only hand made, which has loaded and left nothing yet
-pub record IsNewRoot (rs : List Runner) : Type 0 where
-  pub one : length rs ≡ 1
-  pub lone : (d : Runner) → IsLone (hand_view (slice_index_or rs 0 d))
-  pub fresh : (d : Runner) → (hand_view (slice_index_or rs 0 d)).trail ≡ []
-
--- the first runner knows each operation last as executed or failed at attempt 1
-abbrev pub HasRunAll : Plan → List Runner → Type 0
-HasRunAll p rs = (d : Runner) (o : ℕ) → o < op_count p → Ran (hand_view (slice_index_or rs 0 d)).trail o
 
 -- the numbers of a counter that runners took are those below some number
 pub record IsWhole (c : ℕ) (rs : List Runner) : Type 0 where

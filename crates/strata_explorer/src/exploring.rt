@@ -3,11 +3,12 @@ ghost use Rattle.chain_units.specs.Places.{IsPartition};
 ghost use Rattle.morph_base.specs.Graphs.{IsValidPlan};
 ghost use Rattle.morph_base.specs.Plans.{op_count};
 ghost use Rattle.op_words.specs.Hands.{plan_of, cap_of, counters_of};
+ghost use Rattle.op_eval.specs.Alone.{IsNewRoot, HasRunAll};
+ghost use Rattle.op_eval.specs.Further.{AreFurther};
 ghost use Rattle.op_eval.specs.declared.explored.RunEnd.TheVariants.{Whole};
 ghost use Rattle.op_eval.specs.Exploring.{AreExplored, IsExplored, parts_of};
 ghost use Rattle.op_eval.specs.Gathering.{runners_of};
-ghost use Rattle.strata_explorer.specs.Calls.{AreFurther};
-ghost use Rattle.strata_explorer.specs.Levels.{AreStrata, IsAlone, IsNewRoot, HasRunAll, counters_for};
+ghost use Rattle.strata_explorer.specs.Levels.{AreStrata, IsAlone, counters_for};
 ghost use Rattle.strata_explorer.specs.Passes.{IsSeated};
 
 use crate::passing::{Pass, pass_by};

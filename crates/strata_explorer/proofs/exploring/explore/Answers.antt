@@ -1,7 +1,7 @@
 use Rattle.std.proofs.Common.{arith, sym, subst, length, ◌<◌}
 use Rattle.op_eval.specs.Exploring.{parts_of}
 use Rattle.op_eval.specs.Gathering.{runners_of}
-use Rattle.strata_explorer.specs.Calls.{AreFurther}
+use Rattle.op_eval.specs.Further.{AreFurther}
 use Rattle.strata_explorer.specs.Levels.{AreStrata, IsAlone}
 use Rattle.strata_explorer.proofs.Ends.{strata_none, handed_on, handed_back}
 use Rattle.strata_explorer.proofs.Lone.{lone_root_ran}

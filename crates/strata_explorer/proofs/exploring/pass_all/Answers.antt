@@ -3,7 +3,8 @@ use Rattle.op_words.specs.Hands.{cap_of}
 use Rattle.strata_explorer.specs.Passes.{Fits, IsPassed}
 use Rattle.strata_explorer.specs.Levels.{AreStrata, IsAlone}
 use Rattle.strata_explorer.proofs.Climbing.{all_strata_more, level_is}
-use Rattle.strata_explorer.proofs.Further.{all_same, passed_further}
+use Rattle.op_eval.proofs.Further.{all_same}
+use Rattle.strata_explorer.proofs.Further.{passed_further}
 use Rattle.strata_explorer.proofs.Leveling.{levels_of, small_levels}
 use Rattle.strata_explorer.proofs.Lone.{alone_more}
 use Rattle.strata_explorer.proofs.exploring.pass_all.Goals as goal

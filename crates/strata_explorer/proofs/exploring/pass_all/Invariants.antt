@@ -1,6 +1,6 @@
 use Rattle.std.specs.Prelude.{◌≤◌, All}
 use Rattle.op_words.specs.Hands.{cap_of}
-use Rattle.strata_explorer.specs.Calls.{AreFurther}
+use Rattle.op_eval.specs.Further.{AreFurther}
 use Rattle.strata_explorer.specs.Levels.{AreStrata, IsAlone}
 use Rattle.strata_explorer.specs.Passes.{IsSeated}
 use Rattle.strata_explorer.proofs.exploring.pass_all.Given as goal

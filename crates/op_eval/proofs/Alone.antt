@@ -11,19 +11,24 @@ use Rattle.interleaving_core.specs.Core.{blocked, has_run}
 use Rattle.op_words.specs.declared.answers.Outcome.{Outcome}
 use Rattle.op_words.specs.declared.trail.Item.{Item}
 use Rattle.op_words.specs.declared.trail.View.{View}
-use Rattle.op_words.specs.Trails.{loaded, last_word, HasLast, IsDisturbed, IsSourceOf, IsCalmAt, IsCalm, Along, ComeFirst}
+use Rattle.op_words.specs.Trails.{loaded, last_word, HasLast, IsDisturbed, IsSourceOf, IsCalmAt, IsCalm, Along, ComeFirst, OwnOn, NoneOwn}
 use Rattle.op_words.specs.Views.{IsLone, Goes}
 use Rattle.op_words.proofs.Trailing.{last-none, last-append, last-one, last-skip, last_or, along_contains, calm_undisturbed}
+use Rattle.morph_base.specs.Plans.{IsPlan, op_count}
+use Rattle.morph_base.proofs.OutcomeLaws.{source_precedes}
 use Rattle.op_eval.specs.declared.answers.Evaluation.{Evaluation}
 use Rattle.op_eval.specs.declared.answers.Evaluation.TheVariants.{Evaluated, Blocked as BlockedOn, Busy as BusyAt, Already}
 use Rattle.op_eval.specs.Evaluations.{EvaluationDoes}
 use Rattle.op_eval.proofs.Following.{one_is_last}
-use Rattle.strata_explorer.specs.Levels.{Ran, NotBegun}
+use Rattle.op_eval.specs.Alone.{Ran, NotBegun}
 
-lone_unclaimed : {v u : View} {xs : List Item} → Goes v u xs → IsLone v → {o : ℕ} {w : OpWord} → Contains xs (loaded o w) → w.state ≡ Claimed → ⊥
+pub come_first : (p : Plan) (o : ℕ) → IsPlan p → o < op_count p → ComeFirst p o
+come_first p o valid lt s source = (source_precedes p o source.place s valid lt source.in_places source.source_is).number_before
+
+pub lone_unclaimed : {v u : View} {xs : List Item} → Goes v u xs → IsLone v → {o : ℕ} {w : OpWord} → Contains xs (loaded o w) → w.state ≡ Claimed → ⊥
 lone_unclaimed {v} {u} {xs} goes lone {o} {w} found claimed = let at = along_contains IsCalmAt v.trail xs (goes.adds.calm lone) (loaded o w) found in at.3.free refl claimed
 
-lone_undisturbed : {v u : View} {xs : List Item} → Goes v u xs → IsLone v → {o : ℕ} → IsDisturbed o xs → ⊥
+pub lone_undisturbed : {v u : View} {xs : List Item} → Goes v u xs → IsLone v → {o : ℕ} → IsDisturbed o xs → ⊥
 lone_undisturbed {v} {u} {xs} goes lone {o} is = calm_undisturbed v.trail xs (goes.adds.calm lone) o is
 
 -- ---- what a lone root loads
@@ -36,7 +41,7 @@ tail_of : (pre : List Item) (x : Item) (xs : List Item) → IsCalm pre (x ∷ xs
 unfolding Along
 tail_of pre x xs calm = calm.1
 
-head_known : (pre : List Item) (o : ℕ) (w : OpWord) (xs : List Item) → IsCalm pre (loaded o w ∷ xs) → w ≡ last_word o (blocked 1) pre
+pub head_known : (pre : List Item) (o : ℕ) (w : OpWord) (xs : List Item) → IsCalm pre (loaded o w ∷ xs) → w ≡ last_word o (blocked 1) pre
 head_known pre o w xs calm = (head_of pre (loaded o w) xs calm).known refl
 
 -- where it left nothing on s, it loads what it knew
@@ -120,11 +125,36 @@ calm_last s pre xs calm loads =
       | inl found ↦ sym found.3 ∙ calm_keeps s pre xs calm loads found.0 found.1 found.2
     ]
 
+-- what calls make of a lone root's words, whose own steps are on one operation alone
+module _ {v u : View} {xs : List Item} (goes : Goes v u xs) (lone : IsLone v) where
+  pub knew_first : (o : ℕ) (w : OpWord) (rest : List Item) → xs ≡ loaded o w ∷ rest → w ≡ last_word o (blocked 1) v.trail
+  knew_first o w rest begins = head_known v.trail o w rest (subst (IsCalm v.trail) begins (goes.adds.calm lone))
+
+  pub left_last : (o : ℕ) (w : OpWord) → HasLast o xs w → last_word o (blocked 1) u.trail ≡ w
+  left_last o w last = ap (last_word o (blocked 1)) goes.adds.trail ∙ last-append o (blocked 1) v.trail xs ∙ last.is (last_word o (blocked 1) v.trail)
+
+  pub none_changed : NoneOwn xs → (k : ℕ) → last_word k (blocked 1) u.trail ≡ last_word k (blocked 1) v.trail
+  none_changed none k = ap (last_word k (blocked 1)) goes.adds.trail ∙ calm_last k v.trail xs (goes.adds.calm lone) (λ t found _. none t found)
+
+  module _ (o : ℕ) (own : OwnOn o xs) where
+    not_own : (k : ℕ) → k ≢ o → (t : Item) → Contains xs t → t.op ≡ k → t.own ≡ false
+    not_own k other t found here = at t.own refl
+      where
+        at : (b : Bool) → t.own ≡ b → t.own ≡ false
+        at true is = absurd (other (sym here ∙ own t found is))
+        at false is = is
+
+    pub others_same : (k : ℕ) → k ≢ o → last_word k (blocked 1) u.trail ≡ last_word k (blocked 1) v.trail
+    others_same k other = ap (last_word k (blocked 1)) goes.adds.trail ∙ calm_last k v.trail xs (goes.adds.calm lone) (not_own k other)
+
+    pub knew_other : (k : ℕ) → k ≢ o → (w : OpWord) → Contains xs (loaded k w) → w ≡ last_word k (blocked 1) v.trail
+    knew_other k other w found = calm_keeps k v.trail xs (goes.adds.calm lone) (not_own k other) (loaded k w) found refl
+
 -- each operation is not begun, or ran
 pub record IsBegun (trail : List Item) : Type 0 where
   pub each : (o : ℕ) → NotBegun trail o ⊎ Ran trail o
 
-run_valued : (s : OpState) → has_run s ≡ true → is_idle s ≡ false
+pub run_valued : (s : OpState) → has_run s ≡ true → is_idle s ≡ false
 run_valued Blocked ran = absurd (false≢true ran)
 run_valued Ready ran = absurd (false≢true ran)
 run_valued Claimed ran = absurd (false≢true ran)
@@ -134,25 +164,19 @@ run_valued Spread ran = absurd (false≢true ran)
 run_valued Settled ran = absurd (false≢true ran)
 run_valued SettledAborted ran = absurd (false≢true ran)
 
-module _ {p : Plan} {cap o : ℕ} {v u : View} (lone : IsLone v) (first_ones : ComeFirst p o) (some : 1 ≤ cap) (exploring : IsBegun v.trail) (r : Evaluation) (does : EvaluationDoes p cap o v u r) where
+module _ {p : Plan} {cap o : ℕ} {v u : View} (lone : IsLone v) (r : Evaluation) (does : EvaluationDoes p cap o v u r) where
   -- every other operation stays
-  others_stay : (k : ℕ) → k ≢ o → last_word k (blocked 1) u.trail ≡ last_word k (blocked 1) v.trail
-  others_stay k other =
-      ap (last_word k (blocked 1)) does.goes.adds.trail
-      ∙ calm_last k v.trail does.words (does.goes.adds.calm lone) (λ t found here. not_own t found here t.own refl)
-    where
-      not_own : (t : Item) → Contains does.words t → t.op ≡ k → (b : Bool) → t.own ≡ b → t.own ≡ false
-      not_own t found here true is = absurd (other (sym here ∙ does.own t found is))
-      not_own t found here false is = is
+  pub others_stay : (k : ℕ) → k ≢ o → last_word k (blocked 1) u.trail ≡ last_word k (blocked 1) v.trail
+  others_stay = others_same does.goes lone o does.own
 
-  first_known : does.first ≡ last_word o (blocked 1) v.trail
-  first_known = head_known v.trail o does.first does.rest (subst (IsCalm v.trail) does.begins (does.goes.adds.calm lone))
+  pub first_known : does.first ≡ last_word o (blocked 1) v.trail
+  first_known = knew_first does.goes lone o does.first does.rest does.begins
 
-  last_now : (z : OpWord) → HasLast o does.words z → last_word o (blocked 1) u.trail ≡ z
-  last_now z last = ap (last_word o (blocked 1)) does.goes.adds.trail ∙ last-append o (blocked 1) v.trail does.words ∙ last.is (last_word o (blocked 1) v.trail)
+  pub last_now : (z : OpWord) → HasLast o does.words z → last_word o (blocked 1) u.trail ≡ z
+  last_now = left_last does.goes lone o
 
   -- an operation that ran stays so
-  ran_stays : Ran v.trail o → Ran u.trail o
+  pub ran_stays : Ran v.trail o → Ran u.trail o
   ran_stays ran = of_answer r does first_known last_now
     where
       of_answer : (r : Evaluation) → (d : EvaluationDoes p cap o v u r) → d.first ≡ last_word o (blocked 1) v.trail → ((z : OpWord) → HasLast o d.words z → last_word o (blocked 1) u.trail ≡ z) → Ran u.trail o
@@ -164,9 +188,18 @@ module _ {p : Plan} {cap o : ℕ} {v u : View} (lone : IsLone v) (first_ones : C
           let same : last_word o (blocked 1) u.trail ≡ last_word o (blocked 1) v.trail = now z (subst (λ zs. HasLast o zs z) (sym d.tells.only) (one_is_last (loaded o z))) ∙ one in
           (ap (λ (w : OpWord). has_run w.state) same ∙ ran.0, ap (λ (w : OpWord). w.attempt) same ∙ ran.1)
 
+  -- what ran stays so
+  pub ran_kept : (k : ℕ) → Ran v.trail k → Ran u.trail k
+  ran_kept k ran =
+      elim (cases_eq k o) [
+        | inr other ↦ subst (λ (w : OpWord). (has_run w.state ≡ true) × (w.attempt ≡ 1)) (sym (others_stay k other)) ran
+        | inl same ↦ subst (Ran u.trail) (sym same) (ran_stays (subst (Ran v.trail) same ran))
+      ]
+
+module _ {p : Plan} {cap o : ℕ} {v u : View} (lone : IsLone v) (first_ones : ComeFirst p o) (some : 1 ≤ cap) (exploring : IsBegun v.trail) (r : Evaluation) (does : EvaluationDoes p cap o v u r) where
   -- one that was not begun runs where its sources ran, and else stays
   begins_or : NotBegun v.trail o → (NotBegun u.trail o ⊎ Ran u.trail o) × (((s : ℕ) → IsSourceOf p o s → Ran v.trail s) → Ran u.trail o)
-  begins_or fresh = of_answer r does first_known last_now
+  begins_or fresh = of_answer r does (first_known lone r does) (last_now lone r does)
     where
       of_answer : (r : Evaluation) → (d : EvaluationDoes p cap o v u r) → d.first ≡ last_word o (blocked 1) v.trail → ((z : OpWord) → HasLast o d.words z → last_word o (blocked 1) u.trail ≡ z)
           → (NotBegun u.trail o ⊎ Ran u.trail o) × (((s : ℕ) → IsSourceOf p o s → Ran v.trail s) → Ran u.trail o)
@@ -197,16 +230,12 @@ module _ {p : Plan} {cap o : ℕ} {v u : View} (lone : IsLone v) (first_ones : C
   pub explores : (k : ℕ) → NotBegun u.trail k ⊎ Ran u.trail k
   explores k =
       elim (cases_eq k o) [
-        | inr other ↦ subst (λ (w : OpWord). (w ≡ blocked 1) ⊎ ((has_run w.state ≡ true) × (w.attempt ≡ 1))) (sym (others_stay k other)) (exploring.each k)
-        | inl same ↦ subst (λ n. NotBegun u.trail n ⊎ Ran u.trail n) (sym same) (elim (exploring.each o) [ inl fresh ↦ (begins_or fresh).0 | inr ran ↦ inr (ran_stays ran) ])
+        | inr other ↦ subst (λ (w : OpWord). (w ≡ blocked 1) ⊎ ((has_run w.state ≡ true) × (w.attempt ≡ 1))) (sym (others_stay lone r does k other)) (exploring.each k)
+        | inl same ↦ subst (λ n. NotBegun u.trail n ⊎ Ran u.trail n) (sym same) (elim (exploring.each o) [ inl fresh ↦ (begins_or fresh).0 | inr ran ↦ inr (ran_stays lone r does ran) ])
       ]
 
   pub keeps_ran : (k : ℕ) → Ran v.trail k → Ran u.trail k
-  keeps_ran k ran =
-      elim (cases_eq k o) [
-        | inr other ↦ subst (λ (w : OpWord). (has_run w.state ≡ true) × (w.attempt ≡ 1)) (sym (others_stay k other)) ran
-        | inl same ↦ subst (Ran u.trail) (sym same) (ran_stays (subst (Ran v.trail) same ran))
-      ]
+  keeps_ran = ran_kept lone r does
 
   pub runs_it : ((s : ℕ) → IsSourceOf p o s → Ran v.trail s) → Ran u.trail o
-  runs_it sources = elim (exploring.each o) [ inl fresh ↦ (begins_or fresh).1 sources | inr ran ↦ ran_stays ran ]
+  runs_it sources = elim (exploring.each o) [ inl fresh ↦ (begins_or fresh).1 sources | inr ran ↦ ran_stays lone r does ran ]

@@ -14,10 +14,10 @@ use strata_explorer::{counters, explore};
 use worker_gate::FreeGate;
 
 /// How many accounts, and as many assets, there are deposits on.
-const IDS: u64 = 2_000;
+pub(crate) const IDS: u64 = 2_000;
 
 /// So many events, each a deposit on the account and on the asset of the next id, from 0 on again after the last one.
-fn batch_of(alloc: Global, count: u64) -> Result<Batch, OutOfMemory> {
+pub(crate) fn batch_of(alloc: Global, count: u64) -> Result<Batch, OutOfMemory> {
     let mut events = List::new(alloc);
     for event in 0..count {
         let id = (event % IDS) as u32;
@@ -33,8 +33,7 @@ fn batch_of(alloc: Global, count: u64) -> Result<Batch, OutOfMemory> {
     Ok(Batch { events })
 }
 
-/// Whether exploring a plan by four workers ends after all levels, with each operation executed at attempt 1: those of
-/// the first deposit on an id with value 1, those of the second with 2.
+/// Whether exploring a plan by four workers ends after all levels, with the words of two rounds.
 fn four_explore<R: Threads + Sync>(
     rt: &R,
     alloc: Global,
@@ -50,11 +49,17 @@ fn four_explore<R: Threads + Sync>(
     let (board, mut runners, end, _) = explored.parts();
     let runner = runners.runner(1);
     let words = words_of(alloc, &board, &mut runner.hand, plan)?;
+    Ok(end == RunEnd::Whole && are_two_rounds(&words))
+}
+
+/// Whether two deposits on each id left these words: executed at attempt 1, those of the first with value 1, those of
+/// the second with 2.
+pub(crate) fn are_two_rounds(words: &Vec<(OpState, u8, u64)>) -> bool {
     let all_ran = words.iter().enumerate().all(|(op, word)| {
         let value = if op as u64 / 2 < IDS { 1 } else { 2 };
         *word == (OpState::Executed, 1, value)
     });
-    Ok(end == RunEnd::Whole && words.len() as u64 == 4 * IDS && all_ran)
+    words.len() as u64 == 4 * IDS && all_ran
 }
 
 #[test]

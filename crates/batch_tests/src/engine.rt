@@ -50,12 +50,12 @@ fn first_values(alloc: Global, state: &State) -> Result<Vec<Option<u64>>, OutOfM
     Ok(values)
 }
 
-/// Runs a batch on a new engine in these units, and folds it.
+/// Runs a batch on a new engine in these units, explored in this way, and folds it.
 fn run<R: Threads + Sync>(
     rt: &R,
     alloc: Global,
     batch: &Batch,
-    unit: Unit,
+    how: (Unit, Explore),
     workers: u32,
 ) -> Result<Ran, OutOfMemory>
     requires batch { IsBatch batch.now }
@@ -65,9 +65,10 @@ fn run<R: Threads + Sync>(
 {
     let mut engine = Engine::new(alloc, LAYOUT)?;
     let plan = engine.plan(alloc, batch)?;
+    let (unit, explore) = how;
     let strategy = Strategy {
         unit,
-        explore: Explore::Strata,
+        explore,
         abort: Abort::Lazy,
     };
     let end = engine.run_batch(rt, alloc, plan, &strategy, workers, &FreeGate)?;
@@ -93,18 +94,22 @@ fn told(alloc: Global, state: &State, end: &BatchEnd, folded: &Values) -> Result
     })
 }
 
-/// A level of fewer than 8 operations or events is worker 1's alone.
+/// A level of fewer than 8 operations or events is worker 1's alone, and so is the settling of few events however they
+/// were explored.
 #[test]
 fn four_events_by_any_workers(rt: HostRuntime) -> Result<(), Fail> {
     let values = [Some(40), Some(0), Some(60), Some(0), Some(0), Some(5)];
-    for (times, unit, workers) in [
-        ([1, 2, 3, 4], Unit::Op, 1),
-        ([4, 3, 2, 1], Unit::Chain, 2),
-        ([2, 4, 1, 3], Unit::Op, 16),
+    for (times, how, workers) in [
+        ([1, 2, 3, 4], (Unit::Op, Explore::Strata), 1),
+        ([4, 3, 2, 1], (Unit::Chain, Explore::Strata), 2),
+        ([2, 4, 1, 3], (Unit::Op, Explore::Strata), 16),
+        ([1, 2, 3, 4], (Unit::Op, Explore::Steal), 1),
+        ([3, 1, 4, 2], (Unit::Chain, Explore::Steal), 2),
+        ([2, 4, 1, 3], (Unit::Op, Explore::Steal), 16),
     ] {
         let batch = batch_of(rt.alloc(), &times)?;
         assert!(rt; batch.is_valid() && batch.has_keys_in(LAYOUT));
-        let ran = run(&rt, rt.alloc(), &batch, unit, workers)?;
+        let ran = run(&rt, rt.alloc(), &batch, how, workers)?;
         let got = (
             ran.committed.as_slice(),
             ran.by.as_slice(),
@@ -119,7 +124,7 @@ fn four_events_by_any_workers(rt: HostRuntime) -> Result<(), Fail> {
             true,
             values.as_slice(),
         );
-        assert_eq!(rt; got, want, "{times:?} by {workers}");
+        assert_eq!(rt; got, want, "{times:?} {how:?} by {workers}");
     }
     Ok(())
 }

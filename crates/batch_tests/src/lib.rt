@@ -23,6 +23,8 @@ mod four_events;
 #[cfg(test)]
 mod graph;
 #[cfg(test)]
+mod handing;
+#[cfg(test)]
 mod machine;
 #[cfg(test)]
 mod many_events;

@@ -54,10 +54,6 @@ fates-many s batch told is =
 some_fates : (s : State) (batch : TheBatch) (told : List Fate) → told ≡ fates s (by_time (transactions_of batch)) → 0 < length batch.events.items → 0 < length told
 some_fates s batch told is some = let many = fates-many s batch told is in omega (arith, many, some)
 
--- nothing was handed out
-none_out : (t t' : Tally) (a : Account) (out taken : ℕ) (fs : List Fate) → Adds t t' a out taken fs → out ≡ 0 → taken ≡ 0 → Adds t t' a 0 0 fs
-none_out t t' a out taken fs adds none nobody = subst (λ n. Adds t t' a 0 n fs) nobody (subst (λ n. Adds t t' a n taken fs) none adds)
-
 -- what is given of a run by its settings, where at most `limit` bytes of the input are read
 abbrev pub course_of : {App : Type 0} → (App → ℕ → Meaning) → (tables : ℕ) → (name : ℕ → List ℕ) → App → Settings → (limit : ℕ) → (input : Option (List ℕ)) → Outputs → Course App
 course_of event_of tables name app s limit input old = record {
@@ -111,9 +107,9 @@ module _ {App : Type 0} where
       }
 
   -- the numbers of the tally have room for one batch more
-  pub has_room : {c : Course App} {left : Option (List ℕ)} {new : Outputs} {r : ReaderView App} {values : Kept} {tally : Tally} {out : List ℕ} (a : Account) (given taken : ℕ) →
-      Between c left new r values tally out → c.limit ≤ 1073741824 → IsPlan a.plan → IsAccount c.settings.workers a → given ≡ 0 → taken ≡ 0 → HasRoom tally a given taken
-  has_room {c} {left} {new} {r} {values} {tally} {out} a given taken b short valid sound none nobody =
+  pub has_room : {c : Course App} {left : Option (List ℕ)} {new : Outputs} {r : ReaderView App} {values : Kept} {tally : Tally} {out : List ℕ} (a : Account) →
+      Between c left new r values tally out → c.limit ≤ 1073741824 → IsPlan a.plan → IsAccount c.settings.strategy.explore c.settings.workers a → HasRoom tally a
+  has_room {c} {left} {new} {r} {values} {tally} {out} a b short valid sound =
       let t = b.goes.tallied in
       let events = t.balanced.events in
       let counted = b.counted in
@@ -132,15 +128,13 @@ module _ {App : Type 0} where
         rolled = let old = t.balanced.rolled in let added = sound.rolled in omega (arith, few_ops, more, old, added);
         workers = t.counts.workers;
         settled = let old = t.balanced.settled in let added = sound.each in omega (arith, few_ops, more, old, added);
-        handed = let old = t.balanced.handed in omega (arith, old, none);
-        stolen = let old = t.balanced.stolen in omega (arith, old, nobody);
       }
 
   meaning_is : (c : Course App) (r : ReaderView App) → r.app ≡ c.app → r.size ≡ c.size → c.event_of r.app r.size ≡ meaning_in c
   meaning_is c r app_is size_is = ap (λ a. c.event_of a r.size) app_is ∙ ap (c.event_of c.app) size_is
 
   pub between_batch : {c : Course App} {left left' : Option (List ℕ)} {new newer : Outputs} {r r' : ReaderView App} {values values' : Kept} {tally tally' : Tally} {out out' : List ℕ}
-      (batch : TheBatch) (told : List Fate) (a : Account) (given taken : ℕ) → Between c left new r values tally out →
+      (batch : TheBatch) (told : List Fate) (a : Account) → Between c left new r values tally out →
       AnswersNext (accepted_by c.event_of r left) (Ok (Batch batch)) (accepted_by c.event_of r' left') →
       Takes left left' (ShowsNext c.event_of r (Ok (Batch batch)) r') →
       0 < length batch.events.items → r.lines.number + length batch.events.items ≤ r'.lines.number → r'.lines.number ≤ r'.lines.limit + 1 →
@@ -148,13 +142,13 @@ module _ {App : Type 0} where
       (r'.lines.ended ≡ false → r.lines.ended ≡ false) → r'.live ≡ true → values'.layout ≡ values.layout →
       contents values' ≡ fold_batch batch (contents values) → told ≡ fates (contents values) (by_time (transactions_of batch)) →
       newer ≡ with_both new (told_lines c.telling.report told) (note_of c.settings tally'.batches a.plan) → out' ≡ [] →
-      Adds tally tally' a given taken told → IsAccount c.settings.workers a → given ≡ 0 → taken ≡ 0 → IsMadeOf (contents values) (transactions_of batch) a.plan →
+      Adds tally tally' a told → IsAccount c.settings.strategy.explore c.settings.workers a → IsMadeOf (contents values) (transactions_of batch) a.plan →
       Between c left' newer r' values' tally' out'
-  between_batch {c} {left} {left'} {new} {newer} {r} {r'} {values} {values'} {tally} {tally'} {out} {out'} batch told a given taken b answers shows some counted bound same at_end unended live layout_is
-      state fates_are written empty adds sound none nobody made = record {
+  between_batch {c} {left} {left'} {new} {newer} {r} {r'} {values} {values'} {tally} {tally'} {out} {out'} batch told a b answers shows some counted bound same at_end unended live layout_is
+      state fates_are written empty adds sound made = record {
         goes = goes_batch c left left' new newer r r' (contents values) (contents values') tally tally' batch told a b.goes (simp length-map some) answers unended
             (subst (λ m. Takes left left' (ShowsBatch m r.closed r.lines (Ok (Batch batch)) r'.closed r'.lines)) (meaning_is c r b.app_is b.size_is) shows) state fates_are
-            written (none_out tally tally' a given taken told adds none nobody) sound made (some_fates (contents values) batch told fates_are some);
+            written adds sound made (some_fates (contents values) batch told fates_are some);
         layout = layout_is ∙ b.layout;
         app_is = same.0 ∙ b.app_is;
         size_is = same.1 ∙ b.size_is;
@@ -202,11 +196,11 @@ module _ {App : Type 0} where
       (cut_text new (told_lines c.telling.report told) note newer cut)
 
   pub told_cut_in_batch : {c : Course App} {left : Option (List ℕ)} {new : Outputs} {r : ReaderView App} {values : Kept} {tally tally' : Tally} {out : List ℕ} {x : Result Finish Fault}
-      (left' : Option (List ℕ)) (newer : Outputs) (r' : ReaderView App) (batch : TheBatch) (told : List Fate) (a : Account) (given taken : ℕ) → x ≡ Err Write → Between c left new r values tally out →
+      (left' : Option (List ℕ)) (newer : Outputs) (r' : ReaderView App) (batch : TheBatch) (told : List Fate) (a : Account) → x ≡ Err Write → Between c left new r values tally out →
       AnswersNext (accepted_by c.event_of r left) (Ok (Batch batch)) (accepted_by c.event_of r' left') → 0 < length batch.events.items →
       told ≡ fates (contents values) (by_time (transactions_of batch)) →
-      Adds tally tally' a given taken told → IsAccount c.settings.workers a → given ≡ 0 → taken ≡ 0 → IsMadeOf (contents values) (transactions_of batch) a.plan →
+      Adds tally tally' a told → IsAccount c.settings.strategy.explore c.settings.workers a → IsMadeOf (contents values) (transactions_of batch) a.plan →
       IsCutIn new (told_lines c.telling.report told) (note_of c.settings tally'.batches a.plan) newer → IsTold c (status_of x) tally' newer
-  told_cut_in_batch {c} {left} {new} {r} {values} {tally} {tally'} {out} {x} left' newer r' batch told a given taken failed b answers some fates_are adds sound none nobody made cut =
+  told_cut_in_batch {c} {left} {new} {r} {values} {tally} {tally'} {out} {x} left' newer r' batch told a failed b answers some fates_are adds sound made cut =
       told_in_batch left' newer r' (transactions_of batch) failed b.goes answers (simp length-map some) fates_are
-      (none_out tally tally' a given taken told adds none nobody) sound made (some_fates (contents values) batch told fates_are some) cut
+      adds sound made (some_fates (contents values) batch told fates_are some) cut

@@ -125,7 +125,7 @@ module _ {App : Type 0} where
   pub record Goes (c : Course App) (left : Option (List ℕ)) (new : Outputs) (r : ReaderView App) (s : State) (tally : Tally) : Type 0 where
     pub done : List (List Transaction)
     pub accounts : List Account
-    pub tallied : Tallied c.settings.workers done accounts tally
+    pub tallied : Tallied c.settings.strategy.explore c.settings.workers done accounts tally
     pub runs : RunsOn c.telling (accepted_in c) (accepted_by c.event_of r left) c.old.sink new.sink s tally done
     pub takes : TakesOn (meaning_in c) c.input left r.closed r.lines done
     pub noted : IsNoted c.settings accounts c.old.notes new.notes
@@ -144,7 +144,7 @@ module _ {App : Type 0} where
   goes_start c r s tally new opening none = record {
     done = [];
     accounts = [];
-    tallied = tallied_start c.settings.workers tally none;
+    tallied = tallied_start c.settings.strategy.explore c.settings.workers tally none;
     runs = subst (λ now. RunsOn c.telling (accepted_in c) now c.old.sink c.old.sink s tally [])
         (given_at_start c.event_of c.app c.size c.limit c.input ∙ ap (λ v. accepted_by c.event_of v c.input) (sym new))
         (runs_start c.telling (accepted_in c) c.old.sink s tally opening (ap (λ (t : Tally). t.committed) none) (ap (λ (t : Tally). t.aborted) none));
@@ -154,10 +154,10 @@ module _ {App : Type 0} where
 
   -- a batch was run, and counted
   tallied_batch : (c : Course App) (left : Option (List ℕ)) (new : Outputs) (r : ReaderView App) (s : State) (tally tally' : Tally) (batch : List Transaction) (told : List Fate)
-      (a : Account) → (goes : Goes c left new r s tally) → told ≡ fates s (by_time batch) → Adds tally tally' a 0 0 told → IsAccount c.settings.workers a → IsMadeOf s batch a.plan → 0 < length told →
-      Tallied c.settings.workers (goes.done ++ batch ∷ []) (goes.accounts ++ a ∷ []) tally'
+      (a : Account) → (goes : Goes c left new r s tally) → told ≡ fates s (by_time batch) → Adds tally tally' a told → IsAccount c.settings.strategy.explore c.settings.workers a → IsMadeOf s batch a.plan → 0 < length told →
+      Tallied c.settings.strategy.explore c.settings.workers (goes.done ++ batch ∷ []) (goes.accounts ++ a ∷ []) tally'
   tallied_batch c left new r s tally tally' batch told a goes told_is adds sound made events =
-      tallied_more c.settings.workers goes.done goes.accounts tally tally' batch a told goes.tallied adds sound (subst (λ q. IsMadeOf q batch a.plan) goes.runs.state made)
+      tallied_more c.settings.strategy.explore c.settings.workers goes.done goes.accounts tally tally' batch a told goes.tallied adds sound (subst (λ q. IsMadeOf q batch a.plan) goes.runs.state made)
       (told_more goes.done batch s told goes.runs.state told_is) events
 
   -- a batch was done
@@ -167,7 +167,7 @@ module _ {App : Type 0} where
       Takes left left' (ShowsBatch (meaning_in c) r.closed r.lines (Ok (Batch batch)) r'.closed r'.lines) →
       t ≡ after_all s (by_time (transactions_of batch)) → told ≡ fates s (by_time (transactions_of batch)) →
       newer ≡ with_both new (told_lines c.telling.report told) (note_of c.settings tally'.batches a.plan) →
-      Adds tally tally' a 0 0 told → IsAccount c.settings.workers a → IsMadeOf s (transactions_of batch) a.plan → 0 < length told → Goes c left' newer r' t tally'
+      Adds tally tally' a told → IsAccount c.settings.strategy.explore c.settings.workers a → IsMadeOf s (transactions_of batch) a.plan → 0 < length told → Goes c left' newer r' t tally'
   goes_batch c left left' new newer r r' s t tally tally' batch told a goes some was unended took state told_is written adds sound made events = record {
     done = goes.done ++ transactions_of batch ∷ [];
     accounts = goes.accounts ++ a ∷ [];
@@ -291,7 +291,7 @@ module _ {App : Type 0} where
   pub told_in_batch : {c : Course App} {left : Option (List ℕ)} {new : Outputs} {r : ReaderView App} {s : State} {tally tally' : Tally} {x : Result Finish Fault}
       {a : Account} {told : List Fate} (left' : Option (List ℕ)) (newer : Outputs) (r' : ReaderView App) (batch : List Transaction) → x ≡ Err Write → Goes c left new r s tally →
       accepted_by c.event_of r left ≡ option_map (with_batch batch) (accepted_by c.event_of r' left') → 0 < length batch → told ≡ fates s (by_time batch) →
-      Adds tally tally' a 0 0 told → IsAccount c.settings.workers a → IsMadeOf s batch a.plan → 0 < length told →
+      Adds tally tally' a told → IsAccount c.settings.strategy.explore c.settings.workers a → IsMadeOf s batch a.plan → 0 < length told →
       IsCutIn new (told_lines c.telling.report told) (note_of c.settings tally'.batches a.plan) newer → IsTold c (status_of x) tally' newer
   told_in_batch {c} {left} {new} {r} {s} {tally} {tally'} {x} {a} {told} left' newer r' batch failed goes was some told_is adds sound made events cut =
       let tallied = tallied_batch c left new r s tally tally' batch told a goes told_is adds sound made events in

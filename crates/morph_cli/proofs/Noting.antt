@@ -3,6 +3,7 @@ use Rattle.std.proofs.Common.{◌≡◌, ◌⊎◌, inl, inr, ℕ, suc, ◌+◌,
 use Rattle.std.proofs.lemmas.Bool.{cases_lt}
 use Rattle.morph_base.specs.declared.plan.Plan.{Plan}
 use Rattle.morph_base.specs.declared.strategy.Strategy.{Strategy}
+use Rattle.morph_base.specs.declared.strategy.Explore.{Explore}
 use Rattle.morph_base.specs.Transactions.{Transaction, by_time}
 use Rattle.morph_base.specs.States.{State, after_all}
 use Rattle.morph_io.specs.Told.{behind, behind_nil, behind_behind, HasRisen, AppendsPrefix}
@@ -70,9 +71,9 @@ ran_length s [] (x ∷ xs) ran = absurd ran
 ran_length s (b ∷ bs) [] ran = absurd ran
 ran_length s (b ∷ bs) (x ∷ xs) ran = ap suc (ran_length (after_all s (by_time b)) bs xs ran.1)
 
-pub number_is : {workers : ℕ} {done : List (List Transaction)} {accounts : List Account} {t : Tally} (number : ℕ) → Tallied workers done accounts t → number ≡ t.batches + 1 →
+pub number_is : {explore : Explore} {workers : ℕ} {done : List (List Transaction)} {accounts : List Account} {t : Tally} (number : ℕ) → Tallied explore workers done accounts t → number ≡ t.batches + 1 →
     number ≡ length accounts + 1
-number_is {workers} {done} {accounts} {t} number tallied next =
+number_is {explore} {workers} {done} {accounts} {t} number tallied next =
     let all = ran_length _ done accounts tallied.ran in let counted = tallied.counts.batches in omega (arith, all, counted, next)
 
 -- all of some bytes were appended

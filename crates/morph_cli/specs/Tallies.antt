@@ -2,11 +2,14 @@
 use Rattle.std.specs.Prelude.{◌≡◌, ℕ, ◌+◌, ◌*◌, ◌<◌, ◌≤◌, ◌⊎◌, All, List, [], ◌∷◌, ◌++◌, count_by, length, slice_index, sum, sum_by, Option, IfSome}
 use Rattle.morph_base.specs.Limits.{most_workers}
 use Rattle.morph_base.specs.declared.plan.Plan.{Plan}
+use Rattle.morph_base.specs.declared.strategy.Explore.{Explore}
+use Rattle.morph_base.specs.declared.strategy.Explore.TheVariants.{Strata, Steal}
 use Rattle.morph_base.specs.Transactions.{Transaction, by_time}
 use Rattle.morph_base.specs.States.{State, opening_state, after_all}
 use Rattle.morph_base.specs.Plans.{HasBases, op_count, transactions}
 use Rattle.morph_base.specs.Graphs.{IsValidPlan, below}
 use Rattle.morph_base.specs.Guesses.{stale_count}
+use Rattle.steal_explorer.specs.Dealing.{level_one}
 use Rattle.morph_engine.specs.Accounts.{Account, IsAccount, is_committed_by_worker, settled_by}
 use Rattle.event_reader.specs.Accepted.{Accepted}
 use Rattle.run_text.specs.Counts.{counted_to}
@@ -35,6 +38,10 @@ AreRunFrom s (batch ∷ batches) (a ∷ accounts) = IsMadeOf s batch a.plan × A
 abbrev pub committed_by_workers : Account → ℕ
 committed_by_workers a = count_by (is_committed_by_worker a.plan a.by) (below (op_count a.plan))
 
+-- how many operations of level 1 its plan has
+abbrev pub level_one_count : Account → ℕ
+level_one_count a = length (level_one a.plan)
+
 -- the tally of batches that were run: what became of their events, and the sums over their accounts
 pub record IsTallyOf (done : List (List Transaction)) (accounts : List Account) (t : Tally) : Type 0 where
   pub batches : t.batches ≡ length done
@@ -49,23 +56,28 @@ pub record IsTallyOf (done : List (List Transaction)) (accounts : List Account) 
   pub settled : (w : ℕ) → w ≤ most_workers → slice_index t.settled_by w ≡ sum_by (λ a. settled_by a.by w) accounts
   pub workers : length t.settled_by ≡ most_workers + 1
   pub left : t.left ≡ counted_to (sum_by (λ a. a.left) accounts)
-  pub handed : t.handed ≡ 0
-  pub stolen : t.stolen ≡ 0
+  pub handed : t.handed ≡ counted_to (sum_by (λ a. a.handed) accounts)
+  pub stolen : t.stolen ≡ counted_to (sum_by (λ a. a.stolen) accounts)
 
--- the laws of a tally that name its plans: each operation of a committed event that a worker settled was evaluated, and with one
--- worker what was rolled back are the operations with a source whose guess is not its value
-pub record IsFounded (workers : ℕ) (accounts : List Account) (t : Tally) : Type 0 where
+-- the laws of a tally that name its plans: each operation of a committed event that a worker settled was evaluated, by deques each
+-- operation of level 1 was handed out, and with one worker what was rolled back are the operations with a source whose guess is not
+-- its value
+pub record IsFounded (explore : Explore) (workers : ℕ) (accounts : List Account) (t : Tally) : Type 0 where
   pub committed : sum_by committed_by_workers accounts ≤ t.evaluated
+  pub dealt : explore ≡ Steal → counted_to (sum_by level_one_count accounts) ≤ t.handed
   pub alone : workers ≡ 1 → t.rolled ≡ sum_by (λ a. stale_count a.plan) accounts
 
--- with one worker nothing is left, it settles all, and each operation is evaluated once, and once more where it was rolled back
-pub record IsBalancedAlone (t : Tally) : Type 0 where
+-- with one worker nothing is left, it settles all, and each operation is evaluated once, and once more where it was rolled back.
+-- Nothing is stolen, and by deques each operation is handed out once
+pub record IsBalancedAlone (explore : Explore) (t : Tally) : Type 0 where
   pub none : t.left ≡ 0
   pub mine : slice_index t.settled_by 1 ≡ t.ops
   pub evaluated : t.evaluated ≡ t.ops + t.rolled
+  pub handed : explore ≡ Steal → t.handed ≡ t.ops
+  pub stolen : t.stolen ≡ 0
 
--- how the numbers of a tally go together where there are so many workers, whatever is told of the input
-pub record IsBalanced (workers : ℕ) (t : Tally) : Type 0 where
+-- how the numbers of a tally go together where batches are explored so and there are so many workers, whatever is told of the input
+pub record IsBalanced (explore : Explore) (workers : ℕ) (t : Tally) : Type 0 where
   pub events : t.committed + t.aborted ≡ t.events
   pub settled : sum t.settled_by ≡ t.ops
   pub inside : (w : ℕ) → workers < w → slice_index t.settled_by w ≡ 0
@@ -73,9 +85,9 @@ pub record IsBalanced (workers : ℕ) (t : Tally) : Type 0 where
   pub rolled : t.rolled ≤ t.ops
   pub spread : t.spread ≡ 0
   pub rest : slice_index t.settled_by 0 ≤ 4 * t.left
-  pub handed : t.handed ≡ 0
-  pub stolen : t.stolen ≡ 0
-  pub alone : workers ≡ 1 → IsBalancedAlone t
+  pub stolen : t.stolen ≤ t.handed
+  pub by_strata : explore ≡ Strata → t.handed ≡ 0
+  pub alone : workers ≡ 1 → IsBalancedAlone explore t
 
 -- what is told of a run by its status: some first ones of the accepted batches were run, each by a valid plan from the state
 -- before it, these are counted, and the lines and the notes of these, in turn, are what was written. At 0 and 3 they are all
@@ -85,10 +97,10 @@ pub record RunTold (telling : Telling) (told : Option Accepted) (s : Settings) (
   pub accounts : List Account
   pub parts : IfSome told (λ all. all.batches ≡ done ++ rest)
   pub ran : AreRunFrom opening_state done accounts
-  pub sound : All (IsAccount s.workers) accounts
+  pub sound : All (IsAccount s.strategy.explore s.workers) accounts
   pub counts : IsTallyOf done accounts t
-  pub founded : IsFounded s.workers accounts t
-  pub balanced : IsBalanced s.workers t
+  pub founded : IsFounded s.strategy.explore s.workers accounts t
+  pub balanced : IsBalanced s.strategy.explore s.workers t
   -- the end was written behind the batches, and the tally was noted
   pub whole : (status ≡ 0) ⊎ (status ≡ 3) → (last : IsAtLast told rest)
       × (new ≡ with_both (with_batches old telling.report s done accounts) (end_text telling done last.ending) (noted s.notes (closing_notes s.workers t)))

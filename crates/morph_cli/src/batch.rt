@@ -34,9 +34,8 @@ pub fn run_batch<R: Threads + Sync, G: Gate>(
     ensures made { IfOk result (λ end.
         IsMadeOf (contents engine.old) (transactions_of batch.now) end.plan) }
     ensures settled { IfOk result (λ end. IsSettledOf end.plan end.settled) }
-    ensures account { IfOk result (λ end. IsAccount settings.now.workers (account_of end)) }
-    ensures handed { IfOk result (λ end. end.handed ≡ 0) }
-    ensures stolen { IfOk result (λ end. end.stolen ≡ 0) }
+    ensures account { IfOk result (λ end.
+        IsAccount settings.now.strategy.explore settings.now.workers (account_of end)) }
     ensures refused { OnErr result (engine.new ≡ engine.old) }
 {
     let plan = engine.plan(host.alloc, batch)?;

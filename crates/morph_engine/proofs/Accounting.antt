@@ -1,13 +1,17 @@
 -- What a batch counts, from what its closed board shows.
-use Rattle.std.proofs.Common.{◌≡◌, ℕ, ◌+◌, ◌*◌, ◌<◌, ◌≤◌, Bool, true, false, cond, not, eqb, List, length, map, refl, sym, ap, ◌∙◌, subst, inl, inr, arith}
+use Rattle.std.proofs.Common.{◌≡◌, ◌⊎◌, ℕ, ◌+◌, ◌*◌, ◌<◌, ◌≤◌, Bool, true, false, cond, not, eqb, List, length, map, refl, sym, ap, ◌∙◌, subst, inl, inr, arith}
 use Rattle.std.specs.Prelude.{count_by, slice_index, sum_by}
 use Rattle.std.proofs.lemmas.Bool.{false≢true, cases_Bool, cond-true, cond-false, eq-eqb, eqb-true, and_parts}
 use Rattle.std.proofs.lemmas.List.{get_or_default}
+use Rattle.std.proofs.lemmas.List.FromFn.{length-range_with_len}
+use Rattle.std.proofs.lemmas.List.Sums.{count_by-le-length, length-filter}
 use Rattle.morph_base.specs.declared.limits.TheConstants.{EVENT_OPS, EVENTS}
 use Rattle.morph_base.specs.declared.plan.Plan.{Plan}
+use Rattle.morph_base.specs.declared.strategy.Explore.{Explore}
+use Rattle.morph_base.specs.declared.strategy.Explore.TheVariants.{Strata, Steal}
 use Rattle.morph_base.specs.Contents.{Contents}
 use Rattle.morph_base.specs.Graphs.{below}
-use Rattle.morph_base.specs.Plans.{IsPlan, op_count, event_of, verdict}
+use Rattle.morph_base.specs.Plans.{IsPlan, op_at, op_count, event_of, verdict}
 use Rattle.morph_base.specs.Words.{is_settled}
 use Rattle.morph_base.proofs.NumberLaws.{op_count-small}
 use Rattle.interleaving_core.specs.declared.event.CoreEvent.{CoreEvent}
@@ -26,24 +30,73 @@ use Rattle.abort_lazy.specs.Ended.{causes}
 use Rattle.abort_lazy.proofs.Causing.{settler_within}
 use Rattle.abort_lazy.proofs.Covering.{few_left}
 use Rattle.abort_lazy.proofs.Summing.{below_least, below_same, sum_map, sum_places}
+use Rattle.steal_explorer.specs.Dealing.{level_one}
 use Rattle.morph_engine.specs.Accounts.{Account, settled_by, is_committed_by_worker, IsAccount, IsAccountAlone}
+use Rattle.morph_engine.specs.Exploring.{Items, AreBalanced, AreOwnOnce}
 use Rattle.morph_engine.specs.Runs.{HasRun}
+use Rattle.morph_engine.proofs.HandingOut.{one, weight_one}
 
 up_to_same : (n : ℕ) → n < 2000000 → up_to n ≡ n
 up_to_same n small = omega arith
+
+explore_cases : (e : Explore) → (e ≡ Strata) ⊎ (e ≡ Steal)
+explore_cases Strata = inl refl
+explore_cases Steal = inr refl
 
 -- a test that passes only where another does counts no more
 fewer : (a b : Bool) → (a ≡ true → b ≡ true) → cond a 1 0 ≤ cond b 1 0
 fewer true b implies = let one = cond-true {A = ℕ} b 1 0 (implies refl) in omega (arith, one)
 fewer false b implies = omega arith
 
-module _ (p : Plan) (valid : IsPlan p) (workers : ℕ) (closed : Closed) (lists : List (List Left)) (by : List ℕ) (run : HasRun p workers closed lists by) (each : length by ≡ op_count p) (counts : Counts)
+-- ---- what was handed out
+
+up_to_least : (m n : ℕ) → m ≤ n → up_to m ≤ up_to n
+up_to_least m n least = omega arith
+
+module _ (p : Plan) (valid : IsPlan p) (handed stolen : ℕ) where
+  module _ (x : Items) (balanced : AreBalanced p x handed stolen) where
+    -- each operation weighs 1
+    stolen_few : stolen ≤ handed
+    stolen_few =
+        let pushed = weight_one x.pushed in
+        let taken = balanced.balance one in
+        let part = balanced.by_steals one in
+        let some = weight_one x.stolen in
+        let all = up_to_least (length x.stolen) (length x.pushed) (omega arith) in
+        let a = balanced.stolen_is in
+        let b = balanced.handed_is in
+        omega (arith, all, a, b)
+
+    dealt_least : length (level_one p) ≤ handed
+    dealt_least =
+        let pushed = weight_one x.pushed in
+        let level = weight_one (level_one p) in
+        let part = balanced.dealt one in
+        let small = op_count-small p valid in
+        let within = count_by-le-length (λ o. eqb (op_at p o).level 1) (below (op_count p)) in
+        let passing = length-filter (λ o. eqb (op_at p o).level 1) (below (op_count p)) in
+        let all = length-range_with_len 0 (op_count p) in
+        let is = balanced.handed_is in
+        omega arith
+
+    handed_once : AreOwnOnce p x → handed ≡ op_count p
+    handed_once own =
+        let all = range_size 0 (op_count p) in
+        let many : length x.pushed ≡ op_count p = sym (weight_one x.pushed) ∙ own.once one ∙ all in
+        let small = op_count-small p valid in
+        balanced.handed_is ∙ ap up_to many ∙ up_to_same (op_count p) (omega (arith, small))
+
+    none_stolen : AreOwnOnce p x → stolen ≡ 0
+    none_stolen own = balanced.stolen_is ∙ ap (λ (l : List ℕ). up_to (length l)) own.own
+
+module _ (p : Plan) (valid : IsPlan p) (explore : Explore) (workers : ℕ) (closed : Closed) (lists : List (List Left)) (by : List ℕ) (handed stolen : ℕ) (run : HasRun p explore workers closed lists by handed stolen)
+    (each : length by ≡ op_count p) (counts : Counts)
     (counted : counts ≡ counts_of run.ended.ends.history) (left : ℕ) (kept : left ≡ causes lists) where
   abbrev core : Core
   core = run.ended.ends.core
 
   abbrev account : Account
-  account = record { plan = p; by = by; counts = counts; left = left }
+  account = record { plan = p; by = by; counts = counts; left = left; handed = handed; stolen = stolen }
 
   -- ---- who settled an operation
 
@@ -127,7 +180,29 @@ module _ (p : Plan) (valid : IsPlan p) (workers : ℕ) (closed : Closed) (lists 
       let is = evaluated_is in
       omega (arith, least, all, is)
 
-  alone : workers ≡ 1 → IsAccountAlone account
+  -- ---- what was handed out, by strata and by deques
+
+  stolen_within : stolen ≤ handed
+  stolen_within =
+      elim (explore_cases explore) [
+        | inl strata ↦ let none = run.unhanded strata in let zero = none.1 in omega (arith, zero)
+        | inr steal ↦ let out = run.handed_out steal in stolen_few p valid handed stolen out.items out.balanced
+      ]
+
+  dealt_within : explore ≡ Steal → length (level_one p) ≤ handed
+  dealt_within steal = let out = run.handed_out steal in dealt_least p valid handed stolen out.items out.balanced
+
+  handed_alone : workers ≡ 1 → explore ≡ Steal → handed ≡ op_count p
+  handed_alone only steal = let out = run.handed_out steal in handed_once p valid handed stolen out.items out.balanced (out.alone only)
+
+  stolen_alone : workers ≡ 1 → stolen ≡ 0
+  stolen_alone only =
+      elim (explore_cases explore) [
+        | inl strata ↦ (run.unhanded strata).1
+        | inr steal ↦ let out = run.handed_out steal in none_stolen p valid handed stolen out.items out.balanced (out.alone only)
+      ]
+
+  alone : workers ≡ 1 → IsAccountAlone explore account
   alone one =
       let lone = run.alone one in
       record {
@@ -138,9 +213,11 @@ module _ (p : Plan) (valid : IsPlan p) (workers : ℕ) (closed : Closed) (lists 
             ∙ range_size 0 (op_count p);
         evaluated = evaluated_is ∙ lone.evaluated_is ∙ ap (λ n. op_count p + n) (sym rolled_is);
         rolled = rolled_is ∙ lone.rolled_is;
+        handed = handed_alone one;
+        stolen = stolen_alone one;
       }
 
-  pub is_account : IsAccount workers account
+  pub is_account : IsAccount explore workers account
   is_account = record {
     each = each;
     inside = λ k d lt.
@@ -151,6 +228,9 @@ module _ (p : Plan) (valid : IsPlan p) (workers : ℕ) (closed : Closed) (lists 
     rolled = let few = few_rolled in let is = rolled_is in omega (arith, few, is);
     committed = committed_few;
     rest = few_by_nobody;
+    stolen = stolen_within;
+    dealt = dealt_within;
+    by_strata = λ strata. (run.unhanded strata).0;
     alone = alone;
   }
 

@@ -33,7 +33,7 @@ use Rattle.op_words.proofs.Sighting.{run_shown}
 use Rattle.op_words.proofs.Sizes.{range_size}
 use Rattle.op_eval.specs.declared.runner.Runner.{Runner}
 use Rattle.op_eval.specs.Running.{hand_view}
-use Rattle.strata_explorer.specs.Levels.{Ran}
+use Rattle.op_eval.specs.Alone.{Ran}
 use Rattle.abort_lazy.specs.declared.run.sweeping.Call.{Call}
 use Rattle.abort_lazy.specs.declared.run.sweeping.Call.TheVariants.{Took, Tried}
 use Rattle.abort_lazy.specs.Sweeps.{Calls}

@@ -5,6 +5,8 @@ use Rattle.std.proofs.lemmas.Bool.{cond-true}
 use Rattle.std.proofs.lemmas.List.{length-map}
 use Rattle.morph_base.specs.Contents.{Contents}
 use Rattle.morph_base.specs.declared.plan.Plan.{Plan}
+use Rattle.morph_base.specs.declared.strategy.Explore.{Explore}
+use Rattle.morph_base.specs.declared.strategy.Explore.TheVariants.{Strata, Steal}
 use Rattle.morph_base.specs.declared.word.OpWord.{OpWord}
 use Rattle.morph_base.specs.Graphs.{IsValidPlan}
 use Rattle.morph_base.specs.Guesses.{stale_count}
@@ -27,8 +29,9 @@ use Rattle.op_eval.specs.declared.runner.Runner.{Runner}
 use Rattle.op_eval.specs.Exploring.{AreExplored}
 use Rattle.op_eval.specs.Gathering.{gathered, runners_of}
 use Rattle.op_eval.specs.Running.{hand_view}
-use Rattle.strata_explorer.specs.Calls.{IsFurther, AreFurther}
-use Rattle.strata_explorer.specs.Levels.{AreStrata, HasRunAll, IsNewRoot}
+use Rattle.op_eval.specs.Alone.{IsNewRoot, HasRunAll}
+use Rattle.op_eval.specs.Further.{IsFurther, AreFurther}
+use Rattle.strata_explorer.specs.Levels.{ops_of}
 use Rattle.abort_lazy.specs.Ended.{AreAtStart, AreCauses, causes}
 use Rattle.abort_lazy.specs.Finishing.{settler}
 use Rattle.abort_lazy.specs.Runs.{AreAllHands, AreSettling, HasSettledAll, IsSettledByRoot, root_view}
@@ -36,9 +39,10 @@ use Rattle.abort_lazy.proofs.Causing.{settler_within}
 use Rattle.abort_lazy.proofs.Gathered.{gathered_made}
 use Rattle.abort_lazy.proofs.Made.{places_some}
 use Rattle.morph_engine.specs.declared.prepared.Prepared.{Prepared}
-use Rattle.morph_engine.specs.Runs.{AreFirst, IsPrepared, HasRunAlone, HasRun}
+use Rattle.morph_engine.specs.Exploring.{HavePassed, HaveHanded, HasExploredBy}
+use Rattle.morph_engine.specs.Runs.{AreFirst, IsPrepared, IsPlaceReached, IsHandedOut, HasRunAlone, HasRun}
 use Rattle.morph_engine.proofs.Alone.{IsLoneRun, evaluated_alone, rolled_alone}
-use Rattle.morph_engine.proofs.Reaching.{places_reached}
+use Rattle.morph_engine.proofs.Reaching.{item_reached, places_reached}
 
 -- ---- runners
 
@@ -88,8 +92,7 @@ further_unseen a b further no_trail no_notes lone o seen =
     (λ t found here settled. absurd (omega (arith, found.1))) seen.note inside seen.op_is seen.settled
 
 module _ (p : Plan) (valid : IsValidPlan p) (x : Prepared) (prepared : IsPrepared p x) (e : Explored) (rs : List Runner) (explored : AreExplored e.board e.next_counter e.runners)
-    (same_board : e.board ≡ x.board) (further : AreFurther (runners_of x.runners) (runners_of e.runners)) (strata : AreStrata p (length p.op_levels.items) (runners_of e.runners))
-    (ran : IsNewRoot (runners_of x.runners) → HasRunAll p (runners_of e.runners)) (next : e.next_counter ≡ length p.op_levels.items)
+    (same_board : e.board ≡ x.board) (further : AreFurther (runners_of x.runners) (runners_of e.runners)) (ran : IsNewRoot (runners_of x.runners) → HasRunAll p (runners_of e.runners))
     (settling : AreSettling e.board p e.next_counter (length p.event_levels.items) (runners_of e.runners) rs) (by_root : IsSettledByRoot p (runners_of e.runners) rs) where
   abbrev before : List Runner
   before = runners_of x.runners
@@ -201,17 +204,39 @@ module _ (p : Plan) (valid : IsValidPlan p) (x : Prepared) (prepared : IsPrepare
               (λ z. rolled_alone p valid.plan some_places (slice_index_or mid 0 any) b run z) is.ends;
         }
 
-    pub has_run : HasRun p (length before) closed (map (λ (l : Contents Left). l.items) left) by
-    has_run = record {
-      counters = counters;
-      view = root_view any rs;
-      ended = is;
-      hands = root_made any rs some_after ∙ made_is any;
-      len = length-map left (λ (l : Contents Left). l.items) ∙ ap length kept ∙ length-map rs (λ r. r.kept) ∙ many;
-      tags = tags;
-      left = why;
-      places = λ l n low less.
+    module _ (explore : Explore) (handed stolen : ℕ) (way : HasExploredBy explore p before e handed stolen) where
+      by_strata : explore ≡ Strata → HavePassed p e handed stolen
+      by_strata same = subst (λ by. HasExploredBy by p before e handed stolen) same way
+
+      by_deques : explore ≡ Steal → HaveHanded p before e handed stolen
+      by_deques same = subst (λ by. HasExploredBy by p before e handed stolen) same way
+
+      all_places : HavePassed p e handed stolen → (l n : ℕ) → l < length p.op_levels.items → n < length (ops_of p l) → IsPlaceReached p (root_view any rs) l n
+      all_places passed l n low less =
           places_reached e.board p (length p.op_levels.items) (length p.event_levels.items) mid rs
-          (subst (λ from. AreSettling e.board p from (length p.event_levels.items) mid rs) next settling) strata any is.ends fits some_after (none_joined any) l n low less;
-      alone = alone;
-    }
+          (subst (λ from. AreSettling e.board p from (length p.event_levels.items) mid rs) passed.passes settling) passed.strata any is.ends fits some_after (none_joined any) l n low less
+
+      all_items : HaveHanded p before e handed stolen → IsHandedOut p (length before) (root_view any rs) handed stolen
+      all_items out = record {
+        items = out.items;
+        balanced = out.balanced;
+        reached = λ o found.
+            let at = out.reached o found in
+            item_reached e.board p e.next_counter (length p.event_levels.items) mid rs settling any o (out.inside o found) at.0 at.1 at.2;
+        alone = λ one. out.alone (new_root one any);
+      }
+
+      pub has_run : HasRun p explore (length before) closed (map (λ (l : Contents Left). l.items) left) by handed stolen
+      has_run = record {
+        counters = counters;
+        view = root_view any rs;
+        ended = is;
+        hands = root_made any rs some_after ∙ made_is any;
+        len = length-map left (λ (l : Contents Left). l.items) ∙ ap length kept ∙ length-map rs (λ r. r.kept) ∙ many;
+        tags = tags;
+        left = why;
+        places = λ same. all_places (by_strata same);
+        unhanded = λ same. let passed = by_strata same in (passed.none_handed, passed.none_stolen);
+        handed_out = λ same. all_items (by_deques same);
+        alone = alone;
+      }

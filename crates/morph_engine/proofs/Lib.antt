@@ -4,5 +4,6 @@ pub mod EventLevels
 pub mod Preparing
 pub mod Alone
 pub mod Reaching
+pub mod HandingOut
 pub mod Ending
 pub mod Accounting

@@ -1,4 +1,4 @@
--- Each place of each level's pass was taken, and its operation reached, as the closed board shows it.
+-- What was taken was reached, as the closed board shows it: each place of each level's pass, and each operation from a deque.
 use Rattle.std.proofs.Common.{◌≡◌, ℕ, zero, suc, ◌+◌, ◌<◌, ◌≤◌, eqb, List, [], ◌∷◌, length, map, refl, sym, ap, ◌∙◌, subst, inl, inr, arith}
 use Rattle.std.specs.Prelude.{Contains, slice_index, slice_index_or, sum_by}
 use Rattle.std.proofs.lemmas.Bool.{cases_eq, cond-true, cond-false, eq-eqb, ne_eqb}
@@ -7,6 +7,7 @@ use Rattle.std.proofs.lemmas.List.Elements.{Contains-append_cases}
 use Rattle.std.proofs.lemmas.List.Sums.{sum_by-cons, get_or-le-sum_by}
 use Rattle.morph_base.specs.declared.plan.Plan.{Plan}
 use Rattle.morph_base.specs.Graphs.{below}
+use Rattle.morph_base.specs.Plans.{op_count}
 use Rattle.op_words.specs.declared.board.Board.{Board}
 use Rattle.op_words.specs.declared.trail.Place.{Place}
 use Rattle.op_words.specs.declared.trail.View.{View}
@@ -32,7 +33,7 @@ use Rattle.abort_lazy.proofs.Gathered.{gathered_has, gathered_tag, gathered_trai
 use Rattle.abort_lazy.proofs.Summing.{below_has, below_some, sum_places}
 use Rattle.abort_lazy.proofs.Taking.{weights_of, root_taken, taken_below}
 use Rattle.abort_lazy.proofs.Trying.{contains_first, contains_later, calls_hold}
-use Rattle.morph_engine.specs.Runs.{HasHand, IsPlaceReached}
+use Rattle.morph_engine.specs.Runs.{HasHand, IsPlaceReached, IsItemReached}
 
 -- ---- while events are tried
 
@@ -87,6 +88,22 @@ root_hand d (r ∷ rs) (suc k) lt =
   where
     less : suc k < suc (length rs) → k < length rs
     less l = omega (arith, l)
+
+-- what a runner had reached before events were tried
+module _ (b : Board) (p : Plan) (from level : ℕ) (start rs : List Runner) (settling : AreSettling b p from level start rs) (d : Runner) where
+  pub item_reached : (o : ℕ) → o < op_count p → (k : ℕ) → k < length start → ((e : Runner) → IsReached p o (hand_view (slice_index_or start k e)).trail) → IsItemReached p (root_view d rs) o
+  item_reached o in_range k lt reached =
+      let there = subst (λ n. k < n) (sym settling.len) lt in
+      let here = settling.each k d there in
+      let b = slice_index_or rs k d in
+      record {
+        in_range = in_range;
+        tag = (hand_view b).tag;
+        trail = (hand_view b).trail;
+        places = (hand_view b).places;
+        hand = root_hand d rs k there;
+        reached = calls_reached p o here.tried.calls (slice_index_or start k d) b here.tried.made (reached d);
+      }
 
 -- ---- numbers
 

@@ -1,22 +1,35 @@
 -- What a batch counts: who settled its operations, and how the numbers go together.
 use Rattle.std.specs.Prelude.{◌≡◌, ℕ, ◌+◌, ◌*◌, ◌≤◌, ◌==◌, ◌&&◌, Bool, not, List, All, length, count_by, sum_by, slice_index}
 use Rattle.morph_base.specs.declared.plan.Plan.{Plan}
+use Rattle.morph_base.specs.declared.strategy.Explore.{Explore}
+use Rattle.morph_base.specs.declared.strategy.Explore.TheVariants.{Strata, Steal}
 use Rattle.morph_base.specs.Graphs.{below}
 use Rattle.morph_base.specs.Guesses.{stale_count}
 use Rattle.morph_base.specs.Plans.{op_count, event_of, verdict}
 use Rattle.op_words.specs.declared.answers.Counts.{Counts}
+use Rattle.steal_explorer.specs.Dealing.{level_one}
 use Rattle.morph_engine.specs.declared.engine.BatchEnd.{BatchEnd}
 
 -- of a batch: its plan, for each operation the worker that settled it, or 0 where the plain finish did, how often operations were
--- evaluated, spread and rolled back, and how many causes were kept why an event was left to the plain finish
+-- evaluated, spread and rolled back, how many causes were kept why an event was left to the plain finish, and how many operations
+-- were handed out to workers and stolen
 pub record Account : Type 0 where
   pub plan : Plan
   pub by : List ℕ
   pub counts : Counts
   pub left : ℕ
+  pub handed : ℕ
+  pub stolen : ℕ
 
 abbrev pub account_of : BatchEnd → Account
-account_of e = record { plan = e.plan; by = e.settled.by.items; counts = e.counts; left = sum_by (λ list. length list.items) e.left.items }
+account_of e = record {
+  plan = e.plan;
+  by = e.settled.by.items;
+  counts = e.counts;
+  left = sum_by (λ list. length list.items) e.left.items;
+  handed = e.handed;
+  stolen = e.stolen;
+}
 
 -- how many operations this worker settled
 abbrev pub settled_by : List ℕ → ℕ → ℕ
@@ -27,15 +40,17 @@ abbrev pub is_committed_by_worker : Plan → List ℕ → ℕ → Bool
 is_committed_by_worker p by o = verdict p (event_of p o) && not (slice_index by o == 0)
 
 -- with one worker nothing is left, it settles all, and what is evaluated twice are the operations with a source whose guess is
--- not its value
-pub record IsAccountAlone (a : Account) : Type 0 where
+-- not its value. Nothing is stolen, and by deques each operation is handed out once
+pub record IsAccountAlone (explore : Explore) (a : Account) : Type 0 where
   pub none : a.left ≡ 0
   pub mine : settled_by a.by 1 ≡ op_count a.plan
   pub evaluated : a.counts.evaluated ≡ op_count a.plan + a.counts.rolled
   pub rolled : a.counts.rolled ≡ stale_count a.plan
+  pub handed : explore ≡ Steal → a.handed ≡ op_count a.plan
+  pub stolen : a.stolen ≡ 0
 
--- how the numbers of a batch go together that so many workers ran with lazy abort
-pub record IsAccount (workers : ℕ) (a : Account) : Type 0 where
+-- how the numbers of a batch go together that was explored so, and that so many workers ran with lazy abort
+pub record IsAccount (explore : Explore) (workers : ℕ) (a : Account) : Type 0 where
   pub each : length a.by ≡ op_count a.plan
   pub inside : All (λ t. t ≤ workers) a.by
   pub evaluated : a.counts.evaluated ≤ 2 * op_count a.plan
@@ -43,4 +58,7 @@ pub record IsAccount (workers : ℕ) (a : Account) : Type 0 where
   pub rolled : a.counts.rolled ≤ op_count a.plan
   pub committed : count_by (is_committed_by_worker a.plan a.by) (below (op_count a.plan)) ≤ a.counts.evaluated
   pub rest : settled_by a.by 0 ≤ 4 * a.left
-  pub alone : workers ≡ 1 → IsAccountAlone a
+  pub stolen : a.stolen ≤ a.handed
+  pub dealt : explore ≡ Steal → length (level_one a.plan) ≤ a.handed
+  pub by_strata : explore ≡ Strata → a.handed ≡ 0
+  pub alone : workers ≡ 1 → IsAccountAlone explore a

@@ -1,3 +1,4 @@
 pub mod Fates
 pub mod Accounts
+pub mod Exploring
 pub mod Runs

@@ -1,6 +1,8 @@
 -- What a batch takes its memory for, and what its board shows after its end.
 use Rattle.std.specs.Prelude.{◌≡◌, ℕ, ◌+◌, ◌<◌, ◌⊎◌, List, [], Contains, length, slice_index, slice_index_or}
 use Rattle.morph_base.specs.declared.plan.Plan.{Plan}
+use Rattle.morph_base.specs.declared.strategy.Explore.{Explore}
+use Rattle.morph_base.specs.declared.strategy.Explore.TheVariants.{Strata, Steal}
 use Rattle.morph_base.specs.Guesses.{stale_count}
 use Rattle.morph_base.specs.Plans.{op_count}
 use Rattle.chain_units.specs.Places.{IsPartition}
@@ -25,6 +27,7 @@ use Rattle.abort_lazy.specs.Ended.{AreCauses, causes}
 use Rattle.abort_lazy.specs.Finishing.{settler}
 use Rattle.abort_lazy.specs.Rooms.{IsRoomFor}
 use Rattle.morph_engine.specs.declared.prepared.Prepared.{Prepared}
+use Rattle.morph_engine.specs.Exploring.{IsSupply, Items, AreBalanced, AreOwnOnce}
 
 -- ---- before
 
@@ -36,8 +39,8 @@ pub record AreFirst (rs : List Runner) : Type 0 where
   pub trail : (d : Runner) → (hand_view (slice_index_or rs 0 d)).trail ≡ []
   pub notes : (d : Runner) → (hand_view (slice_index_or rs 0 d)).notes ≡ []
 
--- a board for the plan with one attempt more than the first and a counter for each level, units, runners that can explore, and
--- room for what is settled
+-- a board for the plan with one attempt more than the first and a counter for each level, units, runners that can explore, what
+-- they take operations from, and room for what is settled
 pub record IsPrepared (p : Plan) (x : Prepared) : Type 0 where
   pub plan : plan_of x.board ≡ p
   pub cap : cap_of x.board ≡ 1
@@ -46,6 +49,7 @@ pub record IsPrepared (p : Plan) (x : Prepared) : Type 0 where
   pub number : x.units.ops ≡ op_count p
   pub ready : AreExplored x.board 0 x.runners
   pub first : AreFirst (runners_of x.runners)
+  pub supply : IsSupply p (length (runners_of x.runners)) x.supply
   pub room : IsRoomFor p x.room
 
 -- ---- after
@@ -65,6 +69,22 @@ pub record IsPlaceReached (p : Plan) (v : View) (l n : ℕ) : Type 0 where
   pub taken : Contains places (place l n)
   pub reached : IsReached p (op_of p l n) trail
 
+-- operation o was reached in the trail of a hand
+pub record IsItemReached (p : Plan) (v : View) (o : ℕ) : Type 0 where
+  pub in_range : o < op_count p
+  pub tag : ℕ
+  pub trail : List Item
+  pub places : List Place
+  pub hand : HasHand v tag trail places
+  pub reached : IsReached p o trail
+
+-- operations were handed out to so many workers, and what one took was reached. One alone pushed and took each once
+pub record IsHandedOut (p : Plan) (workers : ℕ) (v : View) (handed stolen : ℕ) : Type 0 where
+  pub items : Items
+  pub balanced : AreBalanced p items handed stolen
+  pub reached : (x : ℕ) → Contains items.taken x → IsItemReached p v x
+  pub alone : workers ≡ 1 → AreOwnOnce p items
+
 -- a lone root leaves nothing, and settles all; what is evaluated twice are the operations with a source whose guess is not its value
 pub record HasRunAlone (p : Plan) (history : List CoreEvent) (lists : List (List Left)) (by : List ℕ) : Type 0 where
   pub none : causes lists ≡ 0
@@ -72,9 +92,10 @@ pub record HasRunAlone (p : Plan) (history : List CoreEvent) (lists : List (List
   pub evaluated_is : evaluated history ≡ op_count p + rolled history
   pub rolled_is : rolled history ≡ stale_count p
 
--- a batch was run by so many workers: the closed board is that of its plan; each operation has the worker that settled it there, 0
--- where nobody did; why events were left, by worker; and each place of each level's pass was taken, and its operation reached
-pub record HasRun (p : Plan) (workers : ℕ) (closed : Closed) (lists : List (List Left)) (by : List ℕ) : Type 0 where
+-- a batch was explored so and run by so many workers: the closed board is that of its plan; each operation has the worker that
+-- settled it there, 0 where nobody did; why events were left, by worker; and how many operations were handed out and stolen. By
+-- strata each place of each level's pass was taken, and its operation reached
+pub record HasRun (p : Plan) (explore : Explore) (workers : ℕ) (closed : Closed) (lists : List (List Left)) (by : List ℕ) (handed stolen : ℕ) : Type 0 where
   pub counters : ℕ
   pub view : View
   pub ended : IsClosed p 1 counters view closed
@@ -82,5 +103,7 @@ pub record HasRun (p : Plan) (workers : ℕ) (closed : Closed) (lists : List (Li
   pub len : length lists ≡ workers
   pub tags : (o : ℕ) → o < op_count p → slice_index by o ≡ settler (ended.ends.core.word o)
   pub left : AreCauses p ended.ends.core view lists
-  pub places : (l n : ℕ) → l < length p.op_levels.items → n < length (ops_of p l) → IsPlaceReached p view l n
+  pub places : explore ≡ Strata → (l n : ℕ) → l < length p.op_levels.items → n < length (ops_of p l) → IsPlaceReached p view l n
+  pub unhanded : explore ≡ Strata → (handed ≡ 0) × (stolen ≡ 0)
+  pub handed_out : explore ≡ Steal → IsHandedOut p workers view handed stolen
   pub alone : workers ≡ 1 → HasRunAlone p ended.ends.history lists by

@@ -14,7 +14,7 @@ ghost use Rattle.op_words.specs.Hands.{counts_of};
 ghost use Rattle.op_words.specs.declared.trail.View.{View as RootView};
 
 use crate::prepared::{Prepared, Ran};
-use morph_base::{Abort, Batch, Explore, Layout, List, OutOfMemory, Plan, Settled, Strategy};
+use morph_base::{Abort, Batch, Layout, List, OutOfMemory, Plan, Settled, Strategy};
 use op_eval::Left;
 use op_words::{Closed, Counts};
 use precedence_graph::build;
@@ -45,8 +45,8 @@ pub struct BatchEnd {
     pub left: List<List<Left>>,
     /// How often operations were evaluated, spread and rolled back on the board.
     pub counts: Counts,
-    /// How many operations were handed out to workers, and how many of these another worker took: 0 where a batch is
-    /// explored by strata.
+    /// How many operations were handed out to workers by deques, and how many of these a worker took from another's: 0
+    /// where a batch is explored by strata.
     pub handed: u64,
     pub stolen: u64,
 }
@@ -94,15 +94,18 @@ impl Engine {
 
     /// Runs a plan that was made from the present state: the state becomes the fold of its events.
     ///
-    /// There are 1 to [`WORKERS`](morph_base::WORKERS) workers, and the strategy explores by strata and aborts
-    /// lazily. Workers share a board with a word for each operation. First they explore: they evaluate the operations
-    /// level by level, on the values that their sources show at the time. Then they settle the events, each tried
+    /// There are 1 to [`WORKERS`](morph_base::WORKERS) workers, and the strategy aborts lazily. Workers share a board
+    /// with a word for each operation. First they explore: they evaluate the operations, on the values that their
+    /// sources show at the time. By strata they go level by level, and take the operations of each from a counter.
+    /// Where they steal, each has a deque of operations: those of level 1 are dealt to all, what an evaluation made
+    /// ready is pushed, and a worker with nothing left steals from another. Then they settle the events, each tried
     /// once: what rested on an aborted version is rolled back and evaluated again. What a worker left since another
-    /// one was in the way is completed in the end, on plain data. Neither the number of workers nor the unit or the
-    /// gate changes the state, the values and the verdicts.
+    /// one was in the way is completed in the end, on plain data. Neither the number of workers nor the strategy or
+    /// the gate changes the state, the values and the verdicts.
     ///
     /// The closed board tells how it was done: the worker that settled an operation, its number of evaluations, and
-    /// why an event was left. With one worker nothing is.
+    /// why an event was left. With one worker nothing is. What exploring took was reached in a worker's trail: by
+    /// strata each place of each level, and by deques each operation that was handed out and did not stay behind.
     ///
     /// All memory is taken before the first worker runs. Where it is refused the state stays, and the plan is dropped.
     pub fn run_batch<R: Threads + Sync, G: Gate>(
@@ -117,7 +120,6 @@ impl Engine {
         requires plan { IsValidPlan plan }
         requires bases { HasBases plan (contents self.old) }
         requires keys { PlanKeysIn plan self.old.layout }
-        requires explore { strategy.now.explore ≡ Explore.Strata }
         requires abort { strategy.now.abort ≡ Abort.Lazy }
         requires some { 1 ≤ workers }
         requires few { workers ≤ most_workers }
@@ -129,20 +131,19 @@ impl Engine {
         // What was settled tells what becomes of each event.
         ensures fates { IfOk result (λ end. settled_fates plan end.settled
             ≡ fates (contents self.old) (transactions plan)) }
-        ensures run { IfOk result (λ end. HasRun plan workers end.closed (map (λ list. list.items) end.left.items)
-            end.settled.by.items) }
+        ensures run { IfOk result (λ end. HasRun plan strategy.now.explore workers end.closed
+            (map (λ list. list.items) end.left.items) end.settled.by.items end.handed end.stolen) }
         ensures counts { IfOk result (λ end. (counters : ℕ) (v : RootView) (is : IsClosed plan 1 counters v end.closed)
             → end.counts ≡ counts_of is.ends.history) }
-        ensures account { IfOk result (λ end. IsAccount workers (account_of end)) }
-        ensures handed { IfOk result (λ end. end.handed ≡ 0) }
-        ensures stolen { IfOk result (λ end. end.stolen ≡ 0) }
+        ensures account { IfOk result (λ end. IsAccount strategy.now.explore workers (account_of end)) }
         ensures refused { OnErr result (self.new ≡ self.old) }
     {
-        let prepared = Prepared::new(alloc, &plan, strategy.unit, workers)?;
+        let prepared = Prepared::new(alloc, &plan, strategy, workers)?;
         let Ran {
             settled,
             closed,
             left,
+            tallied,
         } = prepared.run(rt, &plan, gate);
         self.state.apply(&plan, &settled);
         let counts = closed.counts();
@@ -152,8 +153,8 @@ impl Engine {
             closed,
             left,
             counts,
-            handed: 0,
-            stolen: 0,
+            handed: tallied.handed,
+            stolen: tallied.stolen,
         })
     }
 }

@@ -7,6 +7,7 @@
 #![tactic(auto)]
 
 mod engine;
+mod exploring;
 mod prepared;
 
 pub use engine::{BatchEnd, Engine};

@@ -4,16 +4,18 @@ ghost use Rattle.morph_base.specs.Graphs.{IsValidPlan};
 ghost use Rattle.morph_base.specs.Limits.{most_workers};
 ghost use Rattle.morph_base.specs.Plans.{IsSettledOf};
 ghost use Rattle.op_eval.specs.Gathering.{runners_of};
+ghost use Rattle.morph_engine.specs.Exploring.{explore_of};
 ghost use Rattle.morph_engine.specs.Runs.{IsPrepared, HasRun};
 
+use crate::exploring::{Supply, Tallied, explore_by};
 use abort_lazy::{Room, finish, settle_all};
 use chain_units::{Units, units};
-use morph_base::{List, OutOfMemory, Plan, Settled, Unit};
+use morph_base::{List, OutOfMemory, Plan, Settled, Strategy};
 use op_eval::{Left, Runners};
 use op_words::{Board, Closed};
 use std::alloc::Global;
 use std::thread::Threads;
-use strata_explorer::{counters, explore};
+use strata_explorer::counters;
 use worker_gate::Gate;
 
 /// The last attempt at which an operation may read what is not settled: with lazy abort each has one more, on settled
@@ -26,6 +28,7 @@ pub(crate) struct Prepared {
     units: Units,
     board: Board,
     runners: Runners,
+    supply: Supply,
     room: Room,
 }
 
@@ -35,14 +38,15 @@ pub(crate) struct Ran {
     pub(crate) settled: Settled,
     pub(crate) closed: Closed,
     pub(crate) left: List<List<Left>>,
+    pub(crate) tallied: Tallied,
 }
 
 impl Prepared {
-    /// Takes the memory for a plan in these units and so many workers.
+    /// Takes the memory for a plan, by a strategy's unit and exploration and for so many workers.
     pub(crate) fn new(
         alloc: Global,
         plan: &Plan,
-        unit: Unit,
+        strategy: &Strategy,
         workers: u32,
     ) -> Result<Self, OutOfMemory>
         requires valid { IsValidPlan plan.now }
@@ -50,16 +54,19 @@ impl Prepared {
         requires few { workers ≤ most_workers }
         ensures prepared { IfOk result (IsPrepared plan.now) }
         ensures workers { IfOk result (λ made. length (runners_of made.runners) ≡ workers) }
+        ensures explore { IfOk result (λ made. explore_of made.supply ≡ strategy.now.explore) }
     {
-        let units = units(alloc, plan, unit)?;
+        let units = units(alloc, plan, strategy.unit)?;
         let counters = counters(plan) + plan.event_levels.len() as u32;
         let (board, root) = Board::new(alloc, plan, CAP, counters)?;
         let runners = Runners::new(alloc, &board, root, workers, plan.events.len() as u32)?;
+        let supply = Supply::new(alloc, plan, strategy.explore, workers)?;
         let room = Room::new(alloc, plan)?;
         Ok(Prepared {
             units,
             board,
             runners,
+            supply,
             room,
         })
     }
@@ -69,22 +76,25 @@ impl Prepared {
         requires valid { IsValidPlan plan.now }
         requires prepared { IsPrepared plan.now self }
         ensures settled { IsSettledOf plan.now result.settled }
-        ensures ran { HasRun plan.now (length (runners_of self.runners)) result.closed
-            (map (λ list. list.items) result.left.items) result.settled.by.items }
+        ensures ran { HasRun plan.now (explore_of self.supply) (length (runners_of self.runners)) result.closed
+            (map (λ list. list.items) result.left.items) result.settled.by.items result.tallied.handed
+            result.tallied.stolen }
     {
         let Prepared {
             units,
             board,
             runners,
+            supply,
             room,
         } = self;
-        let explored = explore(rt, board, runners, plan, &units, gate);
+        let (explored, tallied) = explore_by(rt, board, runners, supply, plan, &units, gate);
         let (closed, left) = settle_all(rt, explored, plan).close(plan);
         let settled = finish(&closed, plan, room);
         Ran {
             settled,
             closed,
             left,
+            tallied,
         }
     }
 }

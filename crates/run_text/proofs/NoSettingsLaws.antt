@@ -7,25 +7,26 @@ use Rattle.std.proofs.lemmas.List.Folds.{list_all_at}
 use Rattle.event_reader.specs.Numbers.{value_of}
 use Rattle.event_reader.specs.declared.ranges.Range.{Range}
 use Rattle.morph_base.specs.declared.strategy.Unit.{Unit as UnitKind}
+use Rattle.morph_base.specs.declared.strategy.Explore.{Explore as ExploreKind}
 use Rattle.run_text.specs.declared.names.Name.{Name}
-use Rattle.run_text.specs.declared.names.Name.TheVariants.{App as AppName, Own, Workers, Size, Unit as UnitName, Seed, Events, Notes}
+use Rattle.run_text.specs.declared.names.Name.TheVariants.{App as AppName, Own, Workers, Size, Unit as UnitName, Explore as ExploreName, Seed, Events, Notes}
 use Rattle.run_text.specs.declared.choices.App.{App}
 use Rattle.run_text.specs.declared.choices.Settings.{Settings}
 use Rattle.run_text.specs.declared.words.Input.{Input}
-use Rattle.run_text.specs.Settings.{all_names, has_equals, name_of, has_name, is_known, is_once, are_once, value_under, is_given, app_in, some_app, app_given, app_under, number_given, number_under, says_in, switch_in, switch_given, switch_under, unit_in, unit_given, unit_under, worker_counts, sizes, seeds, event_counts, read_input, made_of, made_input, input_by, input_of, settings_by, settings_of}
+use Rattle.run_text.specs.Settings.{all_names, has_equals, name_of, has_name, is_known, is_once, are_once, value_under, is_given, app_in, some_app, app_given, app_under, number_given, number_under, says_in, switch_in, switch_given, switch_under, unit_in, unit_given, unit_under, explore_in, explore_given, explore_under, worker_counts, sizes, seeds, event_counts, read_input, made_of, made_input, input_by, input_of, settings_by, settings_of}
 use Rattle.run_text.specs.NoSettings.{is_name, is_value_of, NoSettings, no_equals, unknown_name, given_twice, other_value, both_inputs, no_input, made_alone}
 
 -- ---- the names
 
 -- a word has a name that there is where it has an `=`, and what stands before it is such a name
-by_any : (any a b c d e f g h : Bool) →
-    ((any && a) || ((any && b) || ((any && c) || ((any && d) || ((any && e) || ((any && f) || ((any && g) || ((any && h) || false))))))))
-    ≡ (any && (a || (b || (c || (d || (e || (f || (g || (h || false)))))))))
-by_any true a b c d e f g h = refl
-by_any false a b c d e f g h = refl
+by_any : (any a b c d e f g h i : Bool) →
+    ((any && a) || ((any && b) || ((any && c) || ((any && d) || ((any && e) || ((any && f) || ((any && g) || ((any && h) || ((any && i) || false)))))))))
+    ≡ (any && (a || (b || (c || (d || (e || (f || (g || (h || (i || false))))))))))
+by_any true a b c d e f g h i = refl
+by_any false a b c d e f g h i = refl
 
 known_by : (word : List ℕ) → is_known word ≡ (has_equals word && is_name (name_of word))
-known_by word = by_any (has_equals word) _ _ _ _ _ _ _ _
+known_by word = by_any (has_equals word) _ _ _ _ _ _ _ _ _
 
 exchange : (a b c d : Bool) → ((a && b) && (c && d)) ≡ ((a && c) && (b && d))
 exchange true true c d = refl
@@ -54,9 +55,10 @@ all_false test Own is = list_all_at test all_names 1 Own (lit< tt) is
 all_false test Workers is = list_all_at test all_names 2 Workers (lit< tt) is
 all_false test Size is = list_all_at test all_names 3 Size (lit< tt) is
 all_false test UnitName is = list_all_at test all_names 4 UnitName (lit< tt) is
-all_false test Seed is = list_all_at test all_names 5 Seed (lit< tt) is
-all_false test Events is = list_all_at test all_names 6 Events (lit< tt) is
-all_false test Notes is = list_all_at test all_names 7 Notes (lit< tt) is
+all_false test ExploreName is = list_all_at test all_names 5 ExploreName (lit< tt) is
+all_false test Seed is = list_all_at test all_names 6 Seed (lit< tt) is
+all_false test Events is = list_all_at test all_names 7 Events (lit< tt) is
+all_false test Notes is = list_all_at test all_names 8 Notes (lit< tt) is
 
 -- ---- the values
 
@@ -91,6 +93,10 @@ unit_none : (given : Option (List ℕ)) → unit_given given ≡ None → (value
 unit_none None is = absurd (cc)
 unit_none (Some value) is = (value, refl, something (unit_in value) is)
 
+explore_none : (given : Option (List ℕ)) → explore_given given ≡ None → (value : List ℕ) × (given ≡ Some value) × (is_some (explore_in value) ≡ false)
+explore_none None is = absurd (cc)
+explore_none (Some value) is = (value, refl, something (explore_in value) is)
+
 -- an application is given with a value that is none, or not, or it is one
 data Given (given : Option (List ℕ)) : Type 0 where
   given_other : (value : List ℕ) → given ≡ Some value → is_some (app_in value) ≡ false → app_given given ≡ None → Given given
@@ -109,7 +115,7 @@ given_cases (Some value) = by_app (app_in value) refl
 
 abbrev rest_of : List (List ℕ) → Option Settings
 rest_of words =
-    settings_by (input_of words) (number_under Workers worker_counts 1 words) (number_under Size sizes 10000 words) (unit_under UnitName words) (switch_under Notes words)
+    settings_by (input_of words) (number_under Workers worker_counts 1 words) (number_under Size sizes 10000 words) (unit_under UnitName words) (explore_under ExploreName words) (switch_under Notes words)
 
 by_rest : (words : List (List ℕ)) → rest_of words ≡ None → settings_of words ≡ None
 by_rest words is = by_test (list_all is_known words && are_once words)
@@ -118,31 +124,39 @@ by_rest words is = by_test (list_all is_known words && are_once words)
     by_test true = is
     by_test false = refl
 
-no_workers : (i : Option Input) (w s : Option ℕ) (u : Option UnitKind) (n : Option Bool) → w ≡ None → settings_by i w s u n ≡ None
-no_workers None w s u n is = refl
-no_workers (Some i) w s u n is = ap (λ w. settings_by (Some i) w s u n) is
+no_workers : (i : Option Input) (w s : Option ℕ) (u : Option UnitKind) (e : Option ExploreKind) (n : Option Bool) → w ≡ None → settings_by i w s u e n ≡ None
+no_workers None w s u e n is = refl
+no_workers (Some i) w s u e n is = ap (λ w. settings_by (Some i) w s u e n) is
 
-no_size : (i : Option Input) (w s : Option ℕ) (u : Option UnitKind) (n : Option Bool) → s ≡ None → settings_by i w s u n ≡ None
-no_size None w s u n is = refl
-no_size (Some i) None s u n is = refl
-no_size (Some i) (Some w) s u n is = ap (λ s. settings_by (Some i) (Some w) s u n) is
+no_size : (i : Option Input) (w s : Option ℕ) (u : Option UnitKind) (e : Option ExploreKind) (n : Option Bool) → s ≡ None → settings_by i w s u e n ≡ None
+no_size None w s u e n is = refl
+no_size (Some i) None s u e n is = refl
+no_size (Some i) (Some w) s u e n is = ap (λ s. settings_by (Some i) (Some w) s u e n) is
 
-no_unit : (i : Option Input) (w s : Option ℕ) (u : Option UnitKind) (n : Option Bool) → u ≡ None → settings_by i w s u n ≡ None
-no_unit None w s u n is = refl
-no_unit (Some i) None s u n is = refl
-no_unit (Some i) (Some w) None u n is = refl
-no_unit (Some i) (Some w) (Some s) u n is = ap (λ u. settings_by (Some i) (Some w) (Some s) u n) is
+no_unit : (i : Option Input) (w s : Option ℕ) (u : Option UnitKind) (e : Option ExploreKind) (n : Option Bool) → u ≡ None → settings_by i w s u e n ≡ None
+no_unit None w s u e n is = refl
+no_unit (Some i) None s u e n is = refl
+no_unit (Some i) (Some w) None u e n is = refl
+no_unit (Some i) (Some w) (Some s) u e n is = ap (λ u. settings_by (Some i) (Some w) (Some s) u e n) is
 
-no_notes : (i : Option Input) (w s : Option ℕ) (u : Option UnitKind) (n : Option Bool) → n ≡ None → settings_by i w s u n ≡ None
-no_notes None w s u n is = refl
-no_notes (Some i) None s u n is = refl
-no_notes (Some i) (Some w) None u n is = refl
-no_notes (Some i) (Some w) (Some s) None n is = refl
-no_notes (Some i) (Some w) (Some s) (Some u) n is = ap (settings_by (Some i) (Some w) (Some s) (Some u)) is
+no_explore : (i : Option Input) (w s : Option ℕ) (u : Option UnitKind) (e : Option ExploreKind) (n : Option Bool) → e ≡ None → settings_by i w s u e n ≡ None
+no_explore None w s u e n is = refl
+no_explore (Some i) None s u e n is = refl
+no_explore (Some i) (Some w) None u e n is = refl
+no_explore (Some i) (Some w) (Some s) None e n is = refl
+no_explore (Some i) (Some w) (Some s) (Some u) e n is = ap (λ e. settings_by (Some i) (Some w) (Some s) (Some u) e n) is
+
+no_notes : (i : Option Input) (w s : Option ℕ) (u : Option UnitKind) (e : Option ExploreKind) (n : Option Bool) → n ≡ None → settings_by i w s u e n ≡ None
+no_notes None w s u e n is = refl
+no_notes (Some i) None s u e n is = refl
+no_notes (Some i) (Some w) None u e n is = refl
+no_notes (Some i) (Some w) (Some s) None e n is = refl
+no_notes (Some i) (Some w) (Some s) (Some u) None n is = refl
+no_notes (Some i) (Some w) (Some s) (Some u) (Some e) n is = ap (settings_by (Some i) (Some w) (Some s) (Some u) (Some e)) is
 
 by_input : (words : List (List ℕ)) → input_of words ≡ None → settings_of words ≡ None
 by_input words is =
-    by_rest words (ap (λ i. settings_by i (number_under Workers worker_counts 1 words) (number_under Size sizes 10000 words) (unit_under UnitName words) (switch_under Notes words)) is)
+    by_rest words (ap (λ i. settings_by i (number_under Workers worker_counts 1 words) (number_under Size sizes 10000 words) (unit_under UnitName words) (explore_under ExploreName words) (switch_under Notes words)) is)
 
 no_app : (words : List (List ℕ)) (a b : Option (Option App)) → a ≡ None → input_by words a b ≡ None
 no_app words a b is = ap (λ a. input_by words a b) is
@@ -179,12 +193,15 @@ module _ (words : List (List ℕ)) where
   other_none Own value is other =
       by_input words (no_own words (app_under AppName words) (app_under Own words) (ap app_given is ∙ ap some_app (nothing (app_in value) other)))
   other_none Workers value is other =
-      by_rest words (no_workers (input_of words) _ _ _ _ (number_out worker_counts 1 (value_under Workers words) value is other))
+      by_rest words (no_workers (input_of words) _ _ _ _ _ (number_out worker_counts 1 (value_under Workers words) value is other))
   other_none Size value is other =
-      by_rest words (no_size (input_of words) (number_under Workers worker_counts 1 words) _ _ _ (number_out sizes 10000 (value_under Size words) value is other))
+      by_rest words (no_size (input_of words) (number_under Workers worker_counts 1 words) _ _ _ _ (number_out sizes 10000 (value_under Size words) value is other))
   other_none UnitName value is other =
-      by_rest words (no_unit (input_of words) (number_under Workers worker_counts 1 words) (number_under Size sizes 10000 words) _ _
+      by_rest words (no_unit (input_of words) (number_under Workers worker_counts 1 words) (number_under Size sizes 10000 words) _ _ _
       (ap unit_given is ∙ nothing (unit_in value) other))
+  other_none ExploreName value is other =
+      by_rest words (no_explore (input_of words) (number_under Workers worker_counts 1 words) (number_under Size sizes 10000 words) (unit_under UnitName words) _ _
+      (ap explore_given is ∙ nothing (explore_in value) other))
   other_none Seed value is other =
       by_input words (no_made (app_under AppName words) (app_under Own words) (ap (λ o. is_some o || is_given Events words) is)
       (λ app. no_seed app (number_out seeds 1 (value_under Seed words) value is other)))
@@ -196,7 +213,7 @@ module _ (words : List (List ℕ)) where
       or_true true = refl
       or_true false = refl
   other_none Notes value is other =
-      by_rest words (no_notes (input_of words) (number_under Workers worker_counts 1 words) (number_under Size sizes 10000 words) (unit_under UnitName words) _
+      by_rest words (no_notes (input_of words) (number_under Workers worker_counts 1 words) (number_under Size sizes 10000 words) (unit_under UnitName words) (explore_under ExploreName words) _
       (ap switch_given is ∙ nothing (switch_in value) other))
 
   along : (a b a' b' : Option (Option App)) → a ≡ a' → b ≡ b' → input_by words a b ≡ None → input_by words a' b' ≡ None
@@ -245,13 +262,15 @@ module _ (words : List (List ℕ)) where
 
   -- ---- no settings, and a cause
 
-  missing : (i : Option Input) (w s : Option ℕ) (u : Option UnitKind) (n : Option Bool) → settings_by i w s u n ≡ None → (i ≡ None) ⊎ ((w ≡ None) ⊎ ((s ≡ None) ⊎ ((u ≡ None) ⊎ (n ≡ None))))
-  missing None w s u n is = inl refl
-  missing (Some i) None s u n is = inr (inl refl)
-  missing (Some i) (Some w) None u n is = inr (inr (inl refl))
-  missing (Some i) (Some w) (Some s) None n is = inr (inr (inr (inl refl)))
-  missing (Some i) (Some w) (Some s) (Some u) None is = inr (inr (inr (inr refl)))
-  missing (Some i) (Some w) (Some s) (Some u) (Some n) is = absurd (cc)
+  missing : (i : Option Input) (w s : Option ℕ) (u : Option UnitKind) (e : Option ExploreKind) (n : Option Bool) → settings_by i w s u e n ≡ None →
+      (i ≡ None) ⊎ ((w ≡ None) ⊎ ((s ≡ None) ⊎ ((u ≡ None) ⊎ ((e ≡ None) ⊎ (n ≡ None)))))
+  missing None w s u e n is = inl refl
+  missing (Some i) None s u e n is = inr (inl refl)
+  missing (Some i) (Some w) None u e n is = inr (inr (inl refl))
+  missing (Some i) (Some w) (Some s) None e n is = inr (inr (inr (inl refl)))
+  missing (Some i) (Some w) (Some s) (Some u) None n is = inr (inr (inr (inr (inl refl))))
+  missing (Some i) (Some w) (Some s) (Some u) (Some e) None is = inr (inr (inr (inr (inr refl))))
+  missing (Some i) (Some w) (Some s) (Some u) (Some e) (Some n) is = absurd (cc)
 
   made_missing : (app : App) (seed events : Option ℕ) → made_of app seed events ≡ None → (seed ≡ None) ⊎ (events ≡ None)
   made_missing app None events is = inl refl
@@ -285,13 +304,14 @@ module _ (words : List (List ℕ)) where
           made_alone (cause_read app (along (app_under AppName words) (app_under Own words) (Some (Some app)) (Some None) a b is)) lacks
       by_both (given_one app has a) (given_one own has' b) = both_inputs has has'
 
-  cause_rest : (input_of words ≡ None) ⊎ ((number_under Workers worker_counts 1 words ≡ None) ⊎ ((number_under Size sizes 10000 words ≡ None) ⊎ ((unit_under UnitName words ≡ None) ⊎ (switch_under Notes words ≡ None))))
+  cause_rest : (input_of words ≡ None) ⊎ ((number_under Workers worker_counts 1 words ≡ None) ⊎ ((number_under Size sizes 10000 words ≡ None) ⊎ ((unit_under UnitName words ≡ None) ⊎ ((explore_under ExploreName words ≡ None) ⊎ (switch_under Notes words ≡ None)))))
       → NoSettings words
   cause_rest (inl input) = cause_input input
   cause_rest (inr (inl workers)) = let m = number_none worker_counts 1 (value_under Workers words) workers in other_value Workers m.0 m.1 m.2
   cause_rest (inr (inr (inl size))) = let m = number_none sizes 10000 (value_under Size words) size in other_value Size m.0 m.1 m.2
   cause_rest (inr (inr (inr (inl unit)))) = let m = unit_none (value_under UnitName words) unit in other_value UnitName m.0 m.1 m.2
-  cause_rest (inr (inr (inr (inr notes)))) = let m = switch_none (value_under Notes words) notes in other_value Notes m.0 m.1 m.2
+  cause_rest (inr (inr (inr (inr (inl explore))))) = let m = explore_none (value_under ExploreName words) explore in other_value ExploreName m.0 m.1 m.2
+  cause_rest (inr (inr (inr (inr (inr notes))))) = let m = switch_none (value_under Notes words) notes in other_value Notes m.0 m.1 m.2
 
   cause_known : (list_all has_equals words ≡ false) ⊎ (list_all (λ word. is_name (name_of word)) words ≡ false) → NoSettings words
   cause_known (inl lacks) = no_equals lacks
@@ -309,7 +329,7 @@ module _ (words : List (List ℕ)) where
     where
       by_tests : ((list_all is_known words && are_once words) ≡ true) ⊎ ((list_all is_known words && are_once words) ≡ false) → NoSettings words
       by_tests (inl named) =
-          cause_rest (missing (input_of words) (number_under Workers worker_counts 1 words) (number_under Size sizes 10000 words) (unit_under UnitName words) (switch_under Notes words)
+          cause_rest (missing (input_of words) (number_under Workers worker_counts 1 words) (number_under Size sizes 10000 words) (unit_under UnitName words) (explore_under ExploreName words) (switch_under Notes words)
           (sym (cond-true (list_all is_known words && are_once words) (rest_of words) None named) ∙ is))
       by_tests (inr unnamed) = cause_names (and_cases (list_all is_known words) (are_once words) unnamed)
 

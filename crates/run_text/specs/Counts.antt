@@ -28,9 +28,8 @@ no_tally = record {
 abbrev pub counted_to : ℕ → ℕ
 counted_to n = min n (2 ^ 64 - 1)
 
--- the numbers of a tally have room for a batch more: its account, how many of its operations were handed out and how many of these
--- were taken
-pub record HasRoom (t : Tally) (a : Account) (out taken : ℕ) : Type 0 where
+-- the numbers of a tally have room for a batch more, by its account
+pub record HasRoom (t : Tally) (a : Account) : Type 0 where
   pub batches : t.batches + 1 < 2 ^ 64
   pub events : t.events + event_count a.plan < 2 ^ 64
   pub counts : t.committed + t.aborted + event_count a.plan < 2 ^ 64
@@ -40,12 +39,9 @@ pub record HasRoom (t : Tally) (a : Account) (out taken : ℕ) : Type 0 where
   pub rolled : t.rolled + a.counts.rolled < 2 ^ 64
   pub workers : length t.settled_by ≡ most_workers + 1
   pub settled : sum t.settled_by + length a.by < 2 ^ 64
-  pub handed : t.handed + out < 2 ^ 64
-  pub stolen : t.stolen + taken < 2 ^ 64
 
--- a batch was counted: its account, how many of its operations were handed out and how many of these were taken, and what became
--- of its events
-pub record Adds (old new : Tally) (a : Account) (out taken : ℕ) (fs : List Fate) : Type 0 where
+-- a batch was counted: its account, and what became of its events
+pub record Adds (old new : Tally) (a : Account) (fs : List Fate) : Type 0 where
   pub batches : new.batches ≡ old.batches + 1
   pub events : new.events ≡ old.events + length fs
   pub committed : new.committed ≡ old.committed + committed_in fs
@@ -60,7 +56,7 @@ pub record Adds (old new : Tally) (a : Account) (out taken : ℕ) (fs : List Fat
   pub settled_all : sum new.settled_by ≡ sum old.settled_by + length a.by
   pub workers : length new.settled_by ≡ most_workers + 1
   pub left : new.left ≡ counted_to (old.left + a.left)
-  pub handed : new.handed ≡ old.handed + out
-  pub stolen : new.stolen ≡ old.stolen + taken
+  pub handed : new.handed ≡ counted_to (old.handed + a.handed)
+  pub stolen : new.stolen ≡ counted_to (old.stolen + a.stolen)
   -- the number of operations fits
   pub fits : new.ops < 2 ^ 64

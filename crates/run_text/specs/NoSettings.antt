@@ -3,8 +3,8 @@ use Rattle.std.specs.Prelude.{◌≡◌, ℕ, ◌≤◌, ◌||◌, Bool, true, f
 use Rattle.std.specs.List.{list_all, list_any}
 use Rattle.std.specs.Str.{bytes_eq}
 use Rattle.run_text.specs.declared.names.Name.{Name}
-use Rattle.run_text.specs.declared.names.Name.TheVariants.{App, Own, Workers, Size, Unit as UnitName, Seed, Events, Notes}
-use Rattle.run_text.specs.Settings.{text_of, all_names, has_equals, name_of, has_name, value_under, is_given, app_in, switch_in, unit_in, says_in, worker_counts, sizes, seeds, event_counts}
+use Rattle.run_text.specs.declared.names.Name.TheVariants.{App, Own, Workers, Size, Unit as UnitName, Explore as ExploreName, Seed, Events, Notes}
+use Rattle.run_text.specs.Settings.{text_of, all_names, has_equals, name_of, has_name, value_under, is_given, app_in, switch_in, unit_in, explore_in, says_in, worker_counts, sizes, seeds, event_counts}
 
 -- whether bytes are a name that there is
 abbrev pub is_name : List ℕ → Bool
@@ -17,6 +17,7 @@ is_value_of Own value = is_some (app_in value)
 is_value_of Workers value = says_in worker_counts value
 is_value_of Size value = says_in sizes value
 is_value_of UnitName value = is_some (unit_in value)
+is_value_of ExploreName value = is_some (explore_in value)
 is_value_of Seed value = says_in seeds value
 is_value_of Events value = says_in event_counts value
 is_value_of Notes value = is_some (switch_in value)

@@ -7,14 +7,15 @@ use Rattle.event_reader.specs.Numbers.{is_in, is_number, value_of}
 use Rattle.morph_base.specs.declared.strategy.Strategy.{Strategy}
 use Rattle.morph_base.specs.declared.strategy.Unit.{Unit as UnitKind}
 use Rattle.morph_base.specs.declared.strategy.Unit.TheVariants.{Op, Chain}
-use Rattle.morph_base.specs.declared.strategy.Explore.TheVariants.{Strata}
+use Rattle.morph_base.specs.declared.strategy.Explore.{Explore as ExploreKind}
+use Rattle.morph_base.specs.declared.strategy.Explore.TheVariants.{Strata, Steal}
 use Rattle.morph_base.specs.declared.strategy.Abort.TheVariants.{Lazy}
 use Rattle.run_text.specs.declared.choices.Settings.{Settings}
 use Rattle.run_text.specs.declared.choices.Generated.{Generated}
 use Rattle.run_text.specs.declared.choices.App.{App}
 use Rattle.run_text.specs.declared.choices.App.TheVariants.{Ledger, Grep, Toll}
 use Rattle.run_text.specs.declared.names.Name.{Name}
-use Rattle.run_text.specs.declared.names.Name.TheVariants.{App as AppName, Own, Workers, Size, Unit as UnitName, Seed, Events, Notes}
+use Rattle.run_text.specs.declared.names.Name.TheVariants.{App as AppName, Own, Workers, Size, Unit as UnitName, Explore as ExploreName, Seed, Events, Notes}
 use Rattle.run_text.specs.declared.words.Input.{Input}
 
 -- the names that there are
@@ -24,12 +25,13 @@ text_of Own = codes "self"
 text_of Workers = codes "workers"
 text_of Size = codes "size"
 text_of UnitName = codes "unit"
+text_of ExploreName = codes "explore"
 text_of Seed = codes "seed"
 text_of Events = codes "events"
 text_of Notes = codes "notes"
 
 abbrev pub all_names : List Name
-all_names = AppName ∷ Own ∷ Workers ∷ Size ∷ UnitName ∷ Seed ∷ Events ∷ Notes ∷ []
+all_names = AppName ∷ Own ∷ Workers ∷ Size ∷ UnitName ∷ ExploreName ∷ Seed ∷ Events ∷ Notes ∷ []
 
 -- whether a word has an `=`, and its name, which stands before the first one
 abbrev pub has_equals : List ℕ → Bool
@@ -142,9 +144,21 @@ unit_given (Some value) = unit_in value
 abbrev pub unit_under : Name → List (List ℕ) → Option UnitKind
 unit_under name words = unit_given (value_under name words)
 
--- the strategy with a unit
-abbrev pub strategy_of : UnitKind → Strategy
-strategy_of unit = record { unit = unit; explore = Strata; abort = Lazy }
+-- the way to explore of a name
+abbrev pub explore_in : List ℕ → Option ExploreKind
+explore_in value = if bytes_eq value (codes "strata") then Some Strata else (if bytes_eq value (codes "steal") then Some Steal else None)
+
+-- the way to explore that is given under a name, by strata where it is missing
+abbrev pub explore_given : Option (List ℕ) → Option ExploreKind
+explore_given None = Some Strata
+explore_given (Some value) = explore_in value
+
+abbrev pub explore_under : Name → List (List ℕ) → Option ExploreKind
+explore_under name words = explore_given (value_under name words)
+
+-- the strategy with a unit and a way to explore
+abbrev pub strategy_of : UnitKind → ExploreKind → Strategy
+strategy_of unit explore = record { unit = unit; explore = explore; abort = Lazy }
 
 -- an input that is read, where no seed and no number of events is given
 abbrev pub read_input : App → List (List ℕ) → Option Input
@@ -174,33 +188,33 @@ input_by words None self = None
 abbrev pub input_of : List (List ℕ) → Option Input
 input_of words = input_by words (app_under AppName words) (app_under Own words)
 
-abbrev pub settings_by : Option Input → (workers size : Option ℕ) → (unit : Option UnitKind) → (notes : Option Bool) → Option Settings
-settings_by (Some input) (Some workers) (Some size) (Some unit) (Some notes) =
-    Some (record { app = input.app; workers = workers; size = size; strategy = strategy_of unit; notes = notes; generated = input.generated })
-settings_by (Some input) (Some workers) (Some size) (Some unit) None = None
-settings_by (Some input) (Some workers) (Some size) None notes = None
-settings_by (Some input) (Some workers) None unit notes = None
-settings_by (Some input) None size unit notes = None
-settings_by None workers size unit notes = None
+abbrev pub settings_by : Option Input → (workers size : Option ℕ) → Option UnitKind → Option ExploreKind → (notes : Option Bool) → Option Settings
+settings_by (Some input) (Some workers) (Some size) (Some unit) (Some explore) (Some notes) =
+    Some (record { app = input.app; workers = workers; size = size; strategy = strategy_of unit explore; notes = notes; generated = input.generated })
+settings_by (Some input) (Some workers) (Some size) (Some unit) (Some explore) None = None
+settings_by (Some input) (Some workers) (Some size) (Some unit) None notes = None
+settings_by (Some input) (Some workers) (Some size) None explore notes = None
+settings_by (Some input) (Some workers) None unit explore notes = None
+settings_by (Some input) None size unit explore notes = None
+settings_by None workers size unit explore notes = None
 
 -- the settings: every word has a name that there is, no name is given twice, and each value is one of its name's
 abbrev pub settings_of : List (List ℕ) → Option Settings
 settings_of words =
     if list_all is_known words && are_once words
     then settings_by (input_of words) (number_under Workers worker_counts 1 words) (number_under Size sizes 10000 words) (unit_under UnitName words)
-    (switch_under Notes words)
+    (explore_under ExploreName words) (switch_under Notes words)
     else None
 
 -- the numbers of an input that the program makes are in their ranges
 abbrev pub AreFew : Option Generated → Type 0
 AreFew generated = IfSome generated (λ g. (g.seed ≤ seeds.greatest) × (g.events ≤ event_counts.greatest))
 
--- the numbers of settings are in their ranges, and exploring and aborting have their one way
+-- the numbers of settings are in their ranges, and aborting has its one way
 pub record AreInRange (s : Settings) : Type 0 where
   pub some_workers : 1 ≤ s.workers
   pub few_workers : s.workers ≤ worker_counts.greatest
   pub some_ids : 1 ≤ s.size
   pub few_ids : s.size ≤ sizes.greatest
-  pub explore : s.strategy.explore ≡ Strata
   pub abort : s.strategy.abort ≡ Lazy
   pub generated : AreFew s.generated

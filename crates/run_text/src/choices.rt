@@ -32,7 +32,7 @@ pub struct Settings {
     pub workers: u32,
     /// The number of ids in each table: 1 to 1,000,000.
     pub size: u32,
-    /// How each batch is scheduled.
+    /// How each batch is scheduled: what is taken as a whole, and how it is explored.
     pub strategy: Strategy,
     /// Whether the notes tell of each batch, and at the end the tally.
     pub notes: bool,

@@ -14,6 +14,8 @@ pub enum Name {
     Size,
     /// What is scheduled as a whole.
     Unit,
+    /// How a batch is explored.
+    Explore,
     /// Where the generator begins.
     Seed,
     /// How many events it makes.
@@ -23,12 +25,13 @@ pub enum Name {
 }
 
 /// All names, each once.
-pub const NAMES: [Name; 8] = [
+pub const NAMES: [Name; 9] = [
     Name::App,
     Name::Own,
     Name::Workers,
     Name::Size,
     Name::Unit,
+    Name::Explore,
     Name::Seed,
     Name::Events,
     Name::Notes,
@@ -45,6 +48,7 @@ impl Name {
             Name::Workers => b"workers=",
             Name::Size => b"size=",
             Name::Unit => b"unit=",
+            Name::Explore => b"explore=",
             Name::Seed => b"seed=",
             Name::Events => b"events=",
             Name::Notes => b"notes=",

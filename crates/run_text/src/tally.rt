@@ -29,7 +29,8 @@ pub struct Tally {
     pub settled_by: [u64; 17],
     /// How many causes were kept why an event was left to the plain finish. It stops at the greatest number.
     pub left: u64,
-    /// How many operations were handed out to workers, and how many of these another worker took.
+    /// How many operations were handed out to workers by deques, and how many of these a worker took from another's.
+    /// Both stop at the greatest number.
     pub handed: u64,
     pub stolen: u64,
 }
@@ -59,8 +60,8 @@ impl Tally {
     pub fn add(&mut self, end: &BatchEnd)
         requires plan { IsPlan end.now.plan }
         requires settled { IsSettledOf end.now.plan end.now.settled }
-        requires room { HasRoom self.old (account_of end.now) end.now.handed end.now.stolen }
-        ensures { Adds self.old self.new (account_of end.now) end.now.handed end.now.stolen
+        requires room { HasRoom self.old (account_of end.now) }
+        ensures { Adds self.old self.new (account_of end.now)
             (settled_fates end.now.plan end.now.settled) }
     {
         let events = end.plan.events.len();
@@ -75,8 +76,8 @@ impl Tally {
         self.rolled += end.counts.rolled;
         count_each(end.settled.by.as_slice(), &mut self.settled_by);
         self.left = self.left.saturating_add(causes(end.left.as_slice()));
-        self.handed += end.handed;
-        self.stolen += end.stolen;
+        self.handed = self.handed.saturating_add(end.handed);
+        self.stolen = self.stolen.saturating_add(end.stolen);
     }
 }
 

@@ -1,7 +1,7 @@
 ghost use Rattle.std.specs.Prelude.{◌≡◌, ◌<◌, ◌≤◌, ◌^◌, map, count_by, length, true, false, MatchOption, IfSome};
 ghost use Rattle.std.specs.List.{list_all};
 ghost use Rattle.event_reader.specs.declared.limits.TheConstants.{GREATEST_NUMBER};
-ghost use Rattle.run_text.specs.Settings.{has_name, value_in, is_known, is_once, are_once, value_under, is_given, app_in, app_under, number_in, number_under, switch_in, switch_under, unit_in, unit_under, strategy_of, input_of, read_input, made_input, AreFew, AreInRange, settings_of};
+ghost use Rattle.run_text.specs.Settings.{has_name, value_in, is_known, is_once, are_once, value_under, is_given, app_in, app_under, number_in, number_under, switch_in, switch_under, unit_in, unit_under, explore_in, explore_under, strategy_of, input_of, read_input, made_input, AreFew, AreInRange, settings_of};
 ghost use Rattle.run_text.specs.NoSettings.{NoSettings};
 
 use crate::choices::{
@@ -204,13 +204,36 @@ fn unit_under(words: &[List<u8>], name: Name) -> Option<Unit>
     }
 }
 
-/// The strategy with this unit. Exploring and aborting have one way each.
-fn strategy_of(unit: Unit) -> Strategy
-    ensures { result ≡ strategy_of unit }
+/// The way to explore of this name.
+fn explore_of(value: &[u8]) -> Option<Explore>
+    ensures { result ≡ explore_in value.now }
+{
+    if value == b"strata".as_slice() {
+        Some(Explore::Strata)
+    } else if value == b"steal".as_slice() {
+        Some(Explore::Steal)
+    } else {
+        None
+    }
+}
+
+/// The way to explore that is given under a name; by strata where the name is not given.
+fn explore_under(words: &[List<u8>], name: Name) -> Option<Explore>
+    ensures { result ≡ explore_under name (map (λ word. word.items) words.now) }
+{
+    match value_under(words, name) {
+        Some(value) => explore_of(value),
+        None => Some(Explore::Strata),
+    }
+}
+
+/// The strategy with this unit and way to explore. Aborting has one way.
+fn strategy_of(unit: Unit, explore: Explore) -> Strategy
+    ensures { result ≡ strategy_of unit explore }
 {
     Strategy {
         unit,
-        explore: Explore::Strata,
+        explore,
         abort: Abort::Lazy,
     }
 }
@@ -279,12 +302,13 @@ pub fn settings(words: &[List<u8>]) -> Option<Settings>
     let workers = number_under(words, Name::Workers, WORKER_COUNTS, DEFAULT_WORKERS)?;
     let size = number_under(words, Name::Size, SIZES, DEFAULT_SIZE)?;
     let unit = unit_under(words, Name::Unit)?;
+    let explore = explore_under(words, Name::Explore)?;
     let notes = switch_under(words, Name::Notes)?;
     Some(Settings {
         app: input.app,
         workers: workers as u32,
         size: size as u32,
-        strategy: strategy_of(unit),
+        strategy: strategy_of(unit, explore),
         notes,
         generated: input.generated,
     })

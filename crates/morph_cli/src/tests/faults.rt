@@ -41,7 +41,7 @@ fn expect_usage(
 
 #[test]
 fn words_that_are_no_settings(rt: HostRuntime) -> Result<(), Fail> {
-    let refused: [&[&[u8]]; 20] = [
+    let refused: [&[&[u8]]; 23] = [
         &[],
         &[b"app=", b"size=1"],
         &[b"app=ledger", b"colour=1"],
@@ -61,6 +61,9 @@ fn words_that_are_no_settings(rt: HostRuntime) -> Result<(), Fail> {
         &[b"app=ledger", b"workers=2", b"workers=2"],
         &[b"app=ledger", b"unit=chain", b"unit=op"],
         &[b"app=ledger", b"unit=chains"],
+        &[b"app=ledger", b"explore=nothing"],
+        &[b"app=ledger", b"explore=steal", b"explore=strata"],
+        &[b"app=ledger", b"explore=steal", b"explore=steal"],
         &[b"app=ledger", b"plan=auto", b"unit=op"],
     ];
     expect_usage(&rt, &refused)

@@ -21,14 +21,15 @@ fn deposits(alloc: Global, count: u64) -> Result<List<u8>, OutOfMemory> {
     lines(alloc, count, &parts)
 }
 
-/// Runs the ledger by two workers under the gate.
+/// Runs the ledger by two workers under the gate, and explores as the word says.
 fn run_by_two<R: Threads + Sync>(
     rt: &R,
     alloc: Global,
+    explore: &[u8],
     input: &[u8],
     gate: &MeetGate,
 ) -> Result<Ran, OutOfMemory> {
-    let words = words_of(alloc, &[b"app=ledger", b"workers=2"])?;
+    let words = words_of(alloc, &[b"app=ledger", b"workers=2", explore])?;
     let mut source = source_of(alloc, input, 1000, &[])?;
     let mut sink = sink_of(alloc, 100_000, &[], &[])?;
     let mut notes = sink_of(alloc, 1000, &[], &[])?;
@@ -54,10 +55,12 @@ fn run_by_two<R: Threads + Sync>(
 fn two_workers_meet(rt: HostRuntime) -> Result<(), Fail> {
     let input = deposits(rt.alloc(), 2_000)?;
     let alone = run_words(&rt, rt.alloc(), LEDGER, input.as_slice())?;
-    let gate = MeetGate::new(200_000_000);
-    let ran = run_by_two(&rt, rt.alloc(), input.as_slice(), &gate)?;
-    let got = (ran.status, ran.tally.left, gate.met(), gate.missed());
-    assert_eq!(rt; got, (0, 0, true, false));
-    assert_eq!(rt; (alone.status, ran.sink.bytes()), (0, alone.sink.bytes()));
+    for explore in [b"explore=strata".as_slice(), b"explore=steal"] {
+        let gate = MeetGate::new(200_000_000);
+        let ran = run_by_two(&rt, rt.alloc(), explore, input.as_slice(), &gate)?;
+        let got = (ran.status, ran.tally.left, gate.met(), gate.missed());
+        assert_eq!(rt; got, (0, 0, true, false));
+        assert_eq!(rt; (alone.status, ran.sink.bytes()), (0, alone.sink.bytes()));
+    }
     Ok(())
 }

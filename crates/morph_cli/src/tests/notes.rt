@@ -28,7 +28,7 @@ fn run_failing<R: Threads + Sync>(
 
 #[test]
 fn notes_and_their_faults(rt: HostRuntime) -> Result<(), Fail> {
-    let runs: [(&[&[u8]], &[u8], &[u64], &[u64], (u8, &[u8], &[u8])); 7] = [
+    let runs: [(&[&[u8]], &[u8], &[u64], &[u64], (u8, &[u8], &[u8])); 8] = [
         (
             &[b"app=ledger", b"notes=on"],
             FOUR_EVENTS,
@@ -38,6 +38,17 @@ fn notes_and_their_faults(rt: HostRuntime) -> Result<(), Fail> {
                 0,
                 FOUR,
                 b"batch 1: events 4 ops 14 levels 4 op strata lazy\ntally: evaluated 16 spread 0 rolled 2 left 0 handed 0 stolen 0\nsettled 0 14\n",
+            ),
+        ),
+        (
+            &[b"app=ledger", b"explore=steal", b"notes=on"],
+            FOUR_EVENTS,
+            &[],
+            &[],
+            (
+                0,
+                FOUR,
+                b"batch 1: events 4 ops 14 levels 4 op steal lazy\ntally: evaluated 16 spread 0 rolled 2 left 0 handed 14 stolen 0\nsettled 0 14\n",
             ),
         ),
         (

@@ -1,5 +1,6 @@
 //! What is counted of the batches that were run.
 use super::{FOUR_EVENTS, LEDGER, run_words};
+use morph_base::Explore;
 use run_text::Tally;
 use std::test::Fail;
 
@@ -19,8 +20,8 @@ fn numbers_of(tally: Tally) -> [u64; 8] {
     ]
 }
 
-/// Whether the numbers of a tally go together, where there are so many workers.
-pub fn is_balanced(tally: Tally, workers: usize) -> bool {
+/// Whether the numbers of a tally go together, where batches are explored so and there are so many workers.
+pub fn is_balanced(tally: Tally, explore: Explore, workers: usize) -> bool {
     let counts = tally.settled_by;
     let [finished, ..] = counts;
     let settled = counts
@@ -36,7 +37,9 @@ pub fn is_balanced(tally: Tally, workers: usize) -> bool {
         && finished <= tally.left.saturating_mul(4)
         && tally.evaluated <= tally.ops.saturating_mul(2)
         && tally.rolled <= tally.ops
-        && (tally.spread, tally.handed, tally.stolen) == (0, 0, 0)
+        && tally.spread == 0
+        && tally.stolen <= tally.handed
+        && (explore == Explore::Steal || tally.handed == 0)
 }
 
 #[test]

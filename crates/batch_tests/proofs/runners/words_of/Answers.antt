@@ -1,4 +1,4 @@
-use Rattle.std.proofs.Common.{◌≡◌, sym, subst, arith}
+use Rattle.std.proofs.Common.{sym, subst, arith}
 use Rattle.morph_base.specs.Plans.{IsPlan}
 use Rattle.morph_base.proofs.NumberLaws.{op_count-small}
 use Rattle.batch_tests.proofs.runners.words_of.Goals as goal

@@ -70,8 +70,8 @@ add-requires-clause-plan g c = c.in_ok-end-in-Batch.ensures.made.valid.plan
 
 pub add-requires-clause-room : goal.add-requires-clause-room
 add-requires-clause-room g c =
-    has_room (account_of c.in_ok-end-in-Batch.end) c.in_ok-end-in-Batch.end.handed c.in_ok-end-in-Batch.end.stolen c.batches.invariant.run (lit≤ tt) c.in_ok-end-in-Batch.ensures.made.valid.plan
-    c.in_ok-end-in-Batch.ensures.account c.in_ok-end-in-Batch.ensures.handed c.in_ok-end-in-Batch.ensures.stolen
+    has_room (account_of c.in_ok-end-in-Batch.end) c.batches.invariant.run (lit≤ tt) c.in_ok-end-in-Batch.ensures.made.valid.plan
+    c.in_ok-end-in-Batch.ensures.account
 
 pub tell_batch-requires-clause-plan : goal.tell_batch-requires-clause-plan
 tell_batch-requires-clause-plan g c = c.in_ok-end-in-Batch.ensures.made.valid.plan
@@ -90,9 +90,9 @@ returns-in_err-tell_batch-in-Batch-clause-told g c =
     let valid = rw c.in-Batch.is at c.in_ok-batch.ensures.valid in
     let answers = rw c.in-Batch.is at c.in_ok-batch.ensures.answers in
     told_cut_in_batch (g.S.Source.left c.next_batch.new.source) (outputs_of (g.K.Sink.written c.tell_batch.new.sink) (g.N.Sink.written c.tell_batch.new.notes)) c.next_batch.new.self c.in-Batch.batch
-    (settled_fates c.in_ok-end-in-Batch.end.plan c.in_ok-end-in-Batch.end.settled) (account_of c.in_ok-end-in-Batch.end) c.in_ok-end-in-Batch.end.handed c.in_ok-end-in-Batch.end.stolen
+    (settled_fates c.in_ok-end-in-Batch.end.plan c.in_ok-end-in-Batch.end.settled) (account_of c.in_ok-end-in-Batch.end)
     (error_is c.from_residual-in_err-tell_batch-in-Batch.result Write c.from_residual-in_err-tell_batch-in-Batch.ensures.1)
-    c.batches.invariant.run answers valid.0 c.in_ok-end-in-Batch.ensures.fates c.add.ensures c.in_ok-end-in-Batch.ensures.account c.in_ok-end-in-Batch.ensures.handed c.in_ok-end-in-Batch.ensures.stolen
+    c.batches.invariant.run answers valid.0 c.in_ok-end-in-Batch.ensures.fates c.add.ensures c.in_ok-end-in-Batch.ensures.account
     c.in_ok-end-in-Batch.ensures.made c.in_err-tell_batch-in-Batch.ensures.told
 
 pub returns-in_err-tell_batch-in-Batch-clause-write : goal.returns-in_err-tell_batch-in-Batch-clause-write
@@ -108,11 +108,11 @@ batches-preserved g c =
     let counted = rw c.in-Batch.is at c.in_ok-batch.ensures.counted in
     let live = rw c.in-Batch.is at c.in_ok-batch.ensures.goes_on in
     record {
-      run = between_batch c.in-Batch.batch (settled_fates c.in_ok-end-in-Batch.end.plan c.in_ok-end-in-Batch.end.settled) (account_of c.in_ok-end-in-Batch.end) c.in_ok-end-in-Batch.end.handed c.in_ok-end-in-Batch.end.stolen
+      run = between_batch c.in-Batch.batch (settled_fates c.in_ok-end-in-Batch.end.plan c.in_ok-end-in-Batch.end.settled) (account_of c.in_ok-end-in-Batch.end)
           c.batches.invariant.run answers shows valid.0 counted c.in_ok-batch.ensures.bound
           c.in_ok-batch.ensures.same c.in_ok-batch.ensures.at_end c.in_ok-batch.ensures.unended live c.in_ok-end-in-Batch.ensures.layout
           c.in_ok-end-in-Batch.ensures.state c.in_ok-end-in-Batch.ensures.fates c.in_ok-tell_batch-in-Batch.ensures.told c.in_ok-tell_batch-in-Batch.ensures.empty
-          c.add.ensures c.in_ok-end-in-Batch.ensures.account c.in_ok-end-in-Batch.ensures.handed c.in_ok-end-in-Batch.ensures.stolen c.in_ok-end-in-Batch.ensures.made;
+          c.add.ensures c.in_ok-end-in-Batch.ensures.account c.in_ok-end-in-Batch.ensures.made;
       source_faults = omega (arith, c.batches.invariant.source_faults, c.in_ok-batch.ensures.never_falls);
       sink_faults = omega (arith, c.batches.invariant.sink_faults, c.in_ok-tell_batch-in-Batch.ensures.sink_faults);
       notes_faults = omega (arith, c.batches.invariant.notes_faults, c.in_ok-tell_batch-in-Batch.ensures.notes_faults);

@@ -17,6 +17,9 @@ returns-in_err-size-clause-none c = none_asked (map (λ word. word.items) c.args
 pub returns-in_err-unit-clause-none : goal.returns-in_err-unit-clause-none
 returns-in_err-unit-clause-none c = none_asked (map (λ word. word.items) c.args.words.now) _ (search rules)
 
+pub returns-in_err-explore-clause-none : goal.returns-in_err-explore-clause-none
+returns-in_err-explore-clause-none c = none_asked (map (λ word. word.items) c.args.words.now) _ (search rules)
+
 pub returns-in_err-notes-clause-none : goal.returns-in_err-notes-clause-none
 returns-in_err-notes-clause-none c = none_asked (map (λ word. word.items) c.args.words.now) _ (search rules)
 

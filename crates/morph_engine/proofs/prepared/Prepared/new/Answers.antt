@@ -8,6 +8,7 @@ use Rattle.op_words.specs.declared.trail.View.{View}
 use Rattle.op_words.specs.Hands.{view_of}
 use Rattle.op_eval.specs.Gathering.{runners_of}
 use Rattle.strata_explorer.proofs.Leveling.{small_levels}
+use Rattle.morph_engine.specs.Exploring.{IsSupply}
 use Rattle.morph_engine.proofs.EventLevels.{small_event_levels}
 use Rattle.morph_engine.proofs.Preparing.{IsUntouched, first_runners}
 use Rattle.morph_engine.proofs.prepared.Prepared.new.Goals as goal
@@ -40,9 +41,10 @@ returns-clause-prepared c =
       plan = c.in_ok-board.ensures.plan;
       cap = c.in_ok-board.ensures.cap;
       counters = c.in_ok-board.ensures.counters ∙ omega (arith, c.counters.ensures, c.len.ensures);
-      partition = subst (λ us. IsPartition us (op_count c.args.plan.now)) (sym c.in_ok-units.ensures.units) (each_in_one c.args.plan.now c.args.unit);
+      partition = subst (λ us. IsPartition us (op_count c.args.plan.now)) (sym c.in_ok-units.ensures.units) (each_in_one c.args.plan.now c.args.strategy.now.unit);
       number = c.in_ok-units.ensures.ops;
       ready = c.in_ok-runners.ensures.fresh (ap (λ (v : View). v.claim) seen) (ap (λ (v : View). v.places) seen) (let same = ap event_count c.in_ok-board.ensures.plan in omega (arith, same, c.len-2.ensures));
       first = first_runners board (view_of c.in_ok-board.root) c.args.workers _ (runners_of c.in_ok-runners.runners) c.in_ok-runners.ensures.new untouched c.requires.some;
+      supply = subst (λ n. IsSupply c.args.plan.now n c.in_ok-supply.supply) (sym c.in_ok-runners.ensures.new.len) c.in_ok-supply.ensures.ready;
       room = c.in_ok-room.ensures;
     }

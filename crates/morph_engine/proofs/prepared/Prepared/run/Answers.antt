@@ -10,6 +10,7 @@ use Rattle.strata_explorer.specs.Levels.{counters_for}
 use Rattle.strata_explorer.proofs.Leveling.{small_levels}
 use Rattle.abort_lazy.specs.Ended.{AreCauses}
 use Rattle.abort_lazy.specs.Runs.{AreSettling, root_view}
+use Rattle.morph_engine.specs.Exploring.{explore_of}
 use Rattle.morph_engine.proofs.Ending.{some_runner, all_made, begun, closed_at, some_after, has_run}
 use Rattle.morph_engine.proofs.EventLevels.{small_event_levels}
 use Rattle.morph_engine.proofs.prepared.Prepared.run.Goals as goal
@@ -19,23 +20,22 @@ settle_all-requires-clause-few g c κs within =
     let p = c.args.plan.now in
     let few = small_event_levels p c.requires.valid in
     let levels = small_levels p c.requires.valid in
-    let is : counters_of c.explore-explored.result.board ≡ counters_for p + length p.event_levels.items = ap counters_of c.explore-explored.ensures.board ∙ c.requires.prepared.counters in
+    let is : counters_of c.explore_by-explored.result.0.board ≡ counters_for p + length p.event_levels.items = ap counters_of c.explore_by-explored.ensures.board ∙ c.requires.prepared.counters in
     omega (arith, few, levels, is)
 
 pub close-closed-requires-clause-all : goal.close-closed-requires-clause-all
 close-closed-requires-clause-all g c =
     let x = c.args.self in
-    let e = c.explore-explored.result in
-    let told = c.explore-explored.ensures in
+    let e = c.explore_by-explored.result.0 in
+    let told = c.explore_by-explored.ensures in
     c.settle_all.ensures.all
-    (all_made c.args.plan.now c.requires.valid x c.requires.prepared e (runners_of c.settle_all.result.runners) told.explored told.board told.hands told.strata
-    (told.ran (let one = c.requires.prepared.cap in omega (arith, one))) told.next_counter c.settle_all.ensures.settled c.settle_all.ensures.alone)
+    (all_made c.args.plan.now c.requires.valid x c.requires.prepared e (runners_of c.settle_all.result.runners) told.explored told.board told.hands told.ran c.settle_all.ensures.settled c.settle_all.ensures.alone)
 
 pub finish-settled-requires-clause-closed : goal.finish-settled-requires-clause-closed
 finish-settled-requires-clause-closed g c =
     let b = c.settle_all.result.board in
     let rs = runners_of c.settle_all.result.runners in
-    let same = c.settle_all.ensures.board ∙ c.explore-explored.ensures.board in
+    let same = c.settle_all.ensures.board ∙ c.explore_by-explored.ensures.board in
     let d : Runner = some_runner rs c.settle_all.ensures.run.rest.some in (
       1,
       counters_of b,
@@ -47,27 +47,28 @@ pub returns-clause-ran : goal.returns-clause-ran
 returns-clause-ran g c =
     let p : Plan = c.args.plan.now in
     let x = c.args.self in
-    let e = c.explore-explored.result in
-    let told = c.explore-explored.ensures in
+    let e = c.explore_by-explored.result.0 in
+    let tallied = c.explore_by-explored.result.1 in
+    let told = c.explore_by-explored.ensures in
     let b = c.settle_all.result.board in
     let rs = runners_of c.settle_all.result.runners in
     let closed = c.close-closed.result.0 in
     let settling = c.settle_all.ensures.settled in
     let by_root = c.settle_all.ensures.alone in
-    let ran = told.ran (let one = c.requires.prepared.cap in omega (arith, one)) in
     let same = c.settle_all.ensures.board ∙ told.board in
     let one_cap = ap cap_of same ∙ c.requires.prepared.cap in
-    let some = some_after p c.requires.valid x c.requires.prepared e rs told.explored told.board told.hands told.strata ran told.next_counter settling by_root in
+    let some = some_after p c.requires.valid x c.requires.prepared e rs told.explored told.board told.hands told.ran settling by_root in
     let d : Runner = some_runner rs some in
     let is : IsClosed p 1 (counters_of b) (root_view d rs) closed =
     closed_at p b (counters_of b) (root_view d rs) closed (ap plan_of same ∙ c.requires.prepared.plan) one_cap (c.close-closed.ensures.closed d) in
     let lists = map (λ (l : Contents Left). l.items) c.close-closed.result.1.items in
-    let start = begun p c.requires.valid x c.requires.prepared e rs told.explored told.board told.hands told.strata ran told.next_counter settling by_root in
+    let start = begun p c.requires.valid x c.requires.prepared e rs told.explored told.board told.hands told.ran settling by_root in
     let fits : length p.op_levels.items ≤ counters_of b = (let counters : counters_of b ≡ counters_for p + length p.event_levels.items = ap counters_of same ∙ c.requires.prepared.counters in omega (arith, counters)) in
-    has_run p c.requires.valid x c.requires.prepared e rs told.explored told.board told.hands told.strata ran told.next_counter settling by_root (counters_of b) fits closed is
+    has_run p c.requires.valid x c.requires.prepared e rs told.explored told.board told.hands told.ran settling by_root (counters_of b) fits closed is
     c.close-closed.result.1.items c.close-closed.ensures.left
     (subst (λ cap. (z : IsClosed p cap (counters_of b) (root_view d rs) closed) → AreCauses p z.ends.core (root_view d rs) lists) one_cap
     (λ z.
     c.close-closed.ensures.causes d e.next_counter (runners_of e.runners) z c.requires.valid start
     (subst (λ board. AreSettling board p e.next_counter (length p.event_levels.items) (runners_of e.runners) rs) (sym c.settle_all.ensures.board) settling)) is)
     c.finish-settled.result.by.items (c.finish-settled.ensures.tags 1 (counters_of b) (root_view d rs) is)
+    (explore_of x.supply) tallied.handed tallied.stolen told.way

@@ -38,7 +38,7 @@ returns c =
       settled_all = c.count_each.ensures.sum ∙ ap (λ (l : List ℕ). sum c.args.self.now.settled_by + length l) by;
       workers = c.count_each.auto.counts ∙ c.requires.room.workers;
       left = left_is c.args.self.now.left (causes_in c.args.end.now.left.items) c.causes.result c.saturating_add-self.result lists c.saturating_add-self.ensures;
-      handed = refl;
-      stolen = refl;
+      handed = c.saturating_add-self-2.ensures;
+      stolen = c.saturating_add-self-3.ensures;
       fits = omega (arith, ops, c.requires.room.ops);
     }

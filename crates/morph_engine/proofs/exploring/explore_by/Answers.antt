@@ -1,0 +1,18 @@
+use Rattle.std.proofs.Common.{length, sym, subst, arith}
+use Rattle.op_words.specs.Hands.{cap_of}
+use Rattle.op_eval.specs.Gathering.{runners_of}
+use Rattle.morph_engine.specs.Exploring.{explore_of, IsSupply, HasExploredBy}
+use Rattle.morph_engine.proofs.HandingOut.{have_handed}
+use Rattle.morph_engine.proofs.exploring.explore_by.Goals as goal
+
+pub returns-in-Deques-clause-way : goal.returns-in-Deques-clause-way
+returns-in-Deques-clause-way g c =
+    let p = c.args.plan.now in
+    let rs = runners_of c.args.runners in
+    let e = c.explore-explored-in-Deques.result.0 in
+    let handed = c.explore-explored-in-Deques.result.1 in
+    let told = c.explore-explored-in-Deques.ensures in
+    let ready = subst (IsSupply p (length rs)) c.in-Deques.is c.requires.supply in
+    subst (λ supply. HasExploredBy (explore_of supply) p rs e handed.handed handed.stolen) (sym c.in-Deques.is)
+    (have_handed p (cap_of c.args.board) c.in-Deques.deques rs e handed ready.0 told.turns told.balance told.handed told.stolen told.inside told.reached told.drained
+    (told.alone (let one = c.requires.cap in omega (arith, one))))

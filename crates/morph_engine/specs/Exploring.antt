@@ -1,0 +1,75 @@
+-- What workers take operations from while they explore, and what became of these operations.
+use Rattle.std.specs.Prelude.{◌≡◌, ℕ, ◌+◌, ◌<◌, ◌≤◌, List, [], Contains, length, sum_by}
+use Rattle.morph_base.specs.declared.plan.Plan.{Plan}
+use Rattle.morph_base.specs.declared.strategy.Explore.{Explore}
+use Rattle.morph_base.specs.declared.strategy.Explore.TheVariants.{Strata, Steal}
+use Rattle.morph_base.specs.Graphs.{below}
+use Rattle.morph_base.specs.Plans.{op_count}
+use Rattle.op_words.specs.Hands.{up_to}
+use Rattle.op_eval.specs.declared.explored.Explored.{Explored}
+use Rattle.op_eval.specs.declared.runner.Runner.{Runner}
+use Rattle.op_eval.specs.Alone.{IsNewRoot}
+use Rattle.op_eval.specs.Gathering.{runners_of}
+use Rattle.strata_explorer.specs.Levels.{AreStrata}
+use Rattle.steal_explorer.specs.Dealing.{level_one}
+use Rattle.steal_explorer.specs.Handed.{AreReached}
+use Rattle.steal_explorer.specs.Seating.{AreReady}
+use Rattle.morph_engine.specs.declared.exploring.Supply.{Supply}
+use Rattle.morph_engine.specs.declared.exploring.Supply.TheVariants.{Counters, Deques}
+
+-- ---- before
+
+-- how a batch is explored with it
+abbrev pub explore_of : Supply → Explore
+explore_of Counters = Strata
+explore_of (Deques d) = Steal
+
+-- deques hold the operations of level 1, and there is one for each worker
+abbrev pub IsSupply : Plan → (workers : ℕ) → Supply → Type 0
+IsSupply p workers Counters = Unit {0}
+IsSupply p workers (Deques d) = AreReady p d × (length d.seats.items ≡ workers)
+
+-- ---- operations that were handed out
+
+-- those that were pushed, those that a worker took, those that nobody did, and those that another worker took than had pushed them
+pub record Items : Type 0 where
+  pub pushed : List ℕ
+  pub taken : List ℕ
+  pub unserved : List ℕ
+  pub stolen : List ℕ
+
+-- whatever operations weigh, what was pushed weighs as much as what was taken and what was not, and among it is level 1; and these
+-- are the numbers of what was pushed and what was stolen
+pub record AreBalanced (p : Plan) (x : Items) (handed stolen : ℕ) : Type 0 where
+  pub balance : (h : ℕ → ℕ) → sum_by h x.pushed ≡ sum_by h x.taken + sum_by h x.unserved
+  pub dealt : (h : ℕ → ℕ) → sum_by h (level_one p) ≤ sum_by h x.pushed
+  pub by_steals : (h : ℕ → ℕ) → sum_by h x.stolen ≤ sum_by h x.taken
+  pub handed_is : handed ≡ up_to (length x.pushed)
+  pub stolen_is : stolen ≡ up_to (length x.stolen)
+
+-- one worker pushed each operation of the plan once, and took all of them itself
+pub record AreOwnOnce (p : Plan) (x : Items) : Type 0 where
+  pub once : (h : ℕ → ℕ) → sum_by h x.pushed ≡ sum_by h (below (op_count p))
+  pub served : x.unserved ≡ []
+  pub own : x.stolen ≡ []
+
+-- ---- runners after exploring
+
+-- a pass was made over each level, and nothing was handed out
+pub record HavePassed (p : Plan) (e : Explored) (handed stolen : ℕ) : Type 0 where
+  pub passes : e.next_counter ≡ length p.op_levels.items
+  pub strata : AreStrata p (length p.op_levels.items) (runners_of e.runners)
+  pub none_handed : handed ≡ 0
+  pub none_stolen : stolen ≡ 0
+
+-- operations were handed out, and what a worker took was reached by one
+pub record HaveHanded (p : Plan) (start : List Runner) (e : Explored) (handed stolen : ℕ) : Type 0 where
+  pub items : Items
+  pub balanced : AreBalanced p items handed stolen
+  pub inside : (x : ℕ) → Contains items.taken x → x < op_count p
+  pub reached : AreReached p items.taken (runners_of e.runners)
+  pub alone : IsNewRoot start → AreOwnOnce p items
+
+abbrev pub HasExploredBy : Explore → Plan → (start : List Runner) → Explored → (handed stolen : ℕ) → Type 0
+HasExploredBy Strata p start e handed stolen = HavePassed p e handed stolen
+HasExploredBy Steal p start e handed stolen = HaveHanded p start e handed stolen

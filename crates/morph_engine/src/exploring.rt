@@ -1,0 +1,110 @@
+//! What workers take operations from while they explore, and exploring by it.
+ghost use Rattle.std.specs.Prelude.{◌≡◌, ◌≤◌, IfOk, length};
+ghost use Rattle.chain_units.specs.Places.{IsPartition};
+ghost use Rattle.morph_base.specs.Graphs.{IsValidPlan};
+ghost use Rattle.morph_base.specs.Limits.{most_workers};
+ghost use Rattle.morph_base.specs.Plans.{op_count};
+ghost use Rattle.morph_engine.specs.Exploring.{explore_of, IsSupply, HasExploredBy};
+ghost use Rattle.op_eval.specs.Alone.{IsNewRoot, HasRunAll};
+ghost use Rattle.op_eval.specs.Exploring.{AreExplored, IsExplored};
+ghost use Rattle.op_eval.specs.Further.{AreFurther};
+ghost use Rattle.op_eval.specs.Gathering.{runners_of};
+ghost use Rattle.op_words.specs.Hands.{plan_of, cap_of, counters_of};
+ghost use Rattle.strata_explorer.specs.Levels.{counters_for};
+
+use chain_units::Units;
+use morph_base::{Explore, OutOfMemory, Plan};
+use op_eval::{Explored, Runners};
+use op_words::Board;
+use std::alloc::Global;
+use std::thread::Threads;
+use steal_explorer::Deques;
+use worker_gate::Gate;
+
+/// What workers take operations from while they explore.
+#[derive(Drop)]
+pub(crate) enum Supply {
+    /// The counters of the board, one for each level.
+    Counters,
+    /// Deques, each worker from its own or by a steal.
+    Deques(Deques),
+}
+
+/// How many operations were handed out to workers, and how many of these another worker took.
+#[derive(Clone, Copy)]
+pub(crate) struct Tallied {
+    pub(crate) handed: u64,
+    pub(crate) stolen: u64,
+}
+
+impl Supply {
+    /// Takes the memory that exploring needs beside the board: none by strata.
+    pub(crate) fn new(
+        alloc: Global,
+        plan: &Plan,
+        explore: Explore,
+        workers: u32,
+    ) -> Result<Self, OutOfMemory>
+        requires valid { IsValidPlan plan.now }
+        requires some { 1 ≤ workers }
+        requires few { workers ≤ most_workers }
+        ensures explore { IfOk result (λ made. explore_of made ≡ explore) }
+        ensures ready { IfOk result (IsSupply plan.now workers) }
+    {
+        match explore {
+            Explore::Strata => Ok(Supply::Counters),
+            Explore::Steal => {
+                let deques = Deques::new(alloc, plan, workers)?;
+                Ok(Supply::Deques(deques))
+            }
+        }
+    }
+}
+
+/// Explores a batch by strata or by deques. By strata nothing is handed out.
+pub(crate) fn explore_by<R: Threads + Sync, G: Gate>(
+    rt: &R,
+    board: Board,
+    runners: Runners,
+    supply: Supply,
+    plan: &Plan,
+    units: &Units,
+    gate: &G,
+) -> (Explored, Tallied)
+    requires valid { IsValidPlan plan.now }
+    requires plan { plan.now ≡ plan_of board }
+    requires units { IsPartition units.now.units (op_count plan.now) }
+    requires number { units.now.ops ≡ op_count plan.now }
+    requires counters { counters_for plan.now ≤ counters_of board }
+    requires cap { cap_of board ≡ 1 }
+    requires ready { AreExplored board 0 runners }
+    requires supply { IsSupply plan.now (length (runners_of runners)) supply }
+    ensures explored { IsExplored result.0 }
+    ensures board { result.0.board ≡ board }
+    ensures hands { AreFurther (runners_of runners) (runners_of result.0.runners) }
+    ensures ran { IsNewRoot (runners_of runners) → HasRunAll plan.now (runners_of result.0.runners) }
+    ensures next_counter { result.0.next_counter ≤ length plan.now.op_levels.items }
+    ensures way { HasExploredBy (explore_of supply) plan.now (runners_of runners) result.0 result.1.handed
+        result.1.stolen }
+{
+    match supply {
+        Supply::Counters => {
+            let explored = strata_explorer::explore(rt, board, runners, plan, units, gate);
+            let none = Tallied {
+                handed: 0,
+                stolen: 0,
+            };
+            (explored, none)
+        }
+        Supply::Deques(deques) => {
+            let (explored, handed) = steal_explorer::explore(
+                rt, board, runners, deques, plan, units, gate,
+            );
+            let tallied = Tallied {
+                handed: handed.handed,
+                stolen: handed.stolen,
+            };
+            (explored, tallied)
+        }
+    }
+}

@@ -1,0 +1,233 @@
+-- What turns tell: the calls that the runner made, what was taken, that each item was reached and counted, and what was pushed.
+use Rattle.std.proofs.Common.{◌≡◌, ◌⊎◌, ℕ, zero, suc, ◌+◌, ◌^◌, ◌<◌, ◌≤◌, Bool, true, false, cond, List, [], ◌∷◌, ◌++◌, length, get_or, sym, ap, subst, inl, inr, arith}
+use Rattle.std.specs.Prelude.{Contains, sum_by, count_by, nat_lt}
+use Rattle.std.proofs.lemmas.Bool.{cases_lt}
+use Rattle.std.proofs.lemmas.List.Elements.{Contains-append_left, Contains-append_right}
+use Rattle.std.proofs.lemmas.List.Sums.{sum_by-cons, sum_by-append}
+use Rattle.morph_base.specs.declared.plan.Plan.{Plan}
+use Rattle.morph_base.specs.Contents.{Contents}
+use Rattle.morph_base.specs.Plans.{op_count}
+use Rattle.op_words.specs.Trails.{IsReached}
+use Rattle.op_words.proofs.Trailing.{reached_more, reached_later}
+use Rattle.op_eval.specs.declared.runner.Runner.{Runner}
+use Rattle.op_eval.specs.Exploring.{total}
+use Rattle.op_eval.specs.Running.{hand_view}
+use Rattle.op_eval.proofs.Totals.{tries_total, full_stays}
+use Rattle.steal_explorer.specs.declared.finding.Found.{Found}
+use Rattle.steal_explorer.specs.declared.finding.Found.TheVariants.{Item, Nothing, Retry}
+use Rattle.steal_explorer.specs.declared.handing.Log.{Log}
+use Rattle.steal_explorer.specs.declared.members.Member.{Member}
+use Rattle.steal_explorer.specs.Calls.{Call, Asked, Tried, is_tried, Calls}
+use Rattle.steal_explorer.specs.Draining.{in_plan}
+use Rattle.steal_explorer.specs.Finding.{weight_of}
+use Rattle.steal_explorer.specs.Members.{Thief, Ticket, own, tickets_of, stolen_by, taken_by}
+use Rattle.steal_explorer.specs.Serving.{Goes}
+use Rattle.steal_explorer.specs.Turns.{After, Turns}
+use Rattle.steal_explorer.proofs.Going.{calls_append}
+
+-- an element of a list is the first one or one of the others
+pub contains_cases : {X : Type 0} (y : X) (xs : List X) (x : X) → Contains (y ∷ xs) x → (x ≡ y) ⊎ Contains xs x
+contains_cases y xs x inside = at inside.0 inside.1 inside.2
+  where
+    at : (n : ℕ) → n < length (y ∷ xs) → get_or (y ∷ xs) n x ≡ x → (x ≡ y) ⊎ Contains xs x
+    at zero lt is = inl (sym is)
+    at (suc n) lt is = inr (n, lt-from n lt, is)
+      where
+        lt-from : (j : ℕ) → suc j < suc (length xs) → j < length xs
+        lt-from j less = omega arith
+
+-- ---- calls
+
+pub calls_keep : (p : Plan) (cap o : ℕ) (cs : List Call) (a b : Runner) → Calls p cap cs a b → IsReached p o (hand_view a).trail → IsReached p o (hand_view b).trail
+calls_keep p cap o [] a b calls is = subst (λ r. IsReached p o (hand_view r).trail) (sym calls) is
+calls_keep p cap o (Asked q ∷ cs) a b calls is =
+    let does = calls.2.1.does in
+    subst (IsReached p o) (sym does.goes.adds.trail) (reached_more does.words (calls_keep p cap o cs a calls.0 calls.1 is))
+calls_keep p cap o (Tried q ∷ cs) a b calls is =
+    let does = calls.2.1.does in
+    subst (IsReached p o) (sym does.goes.adds.trail) (reached_more does.words (calls_keep p cap o cs a calls.0 calls.1 is))
+
+-- what was tried was reached
+pub calls_reach : (p : Plan) (cap o : ℕ) (cs : List Call) (a b : Runner) → Calls p cap cs a b → Contains cs (Tried o) → IsReached p o (hand_view b).trail
+calls_reach p cap o [] a b calls found = absurd (omega (arith, found.1))
+calls_reach p cap o (Asked q ∷ cs) a b calls found =
+    let does = calls.2.1.does in
+    elim (contains_cases (Asked q) cs (Tried o) found) [
+      | inl same ↦ absurd (apart same)
+      | inr later ↦ subst (IsReached p o) (sym does.goes.adds.trail) (reached_more does.words (calls_reach p cap o cs a calls.0 calls.1 later))
+    ]
+  where
+    apart : Tried o ≡ Asked q → ⊥
+    apart e = cc
+calls_reach p cap o (Tried q ∷ cs) a b calls found =
+    let does = calls.2.1.does in
+    subst (IsReached p o) (sym does.goes.adds.trail)
+    (elim (contains_cases (Tried q) cs (Tried o) found) [
+      | inl same ↦ reached_later (hand_view calls.0).trail (subst (λ k. IsReached p k does.words) (sym (op_is same)) does.reached)
+      | inr later ↦ reached_more does.words (calls_reach p cap o cs a calls.0 calls.1 later)
+    ])
+  where
+    op_is : Tried o ≡ Tried q → o ≡ q
+    op_is e = cc
+
+-- ---- serving takes nothing
+
+goes_taken : (p : Plan) (cap : ℕ) (a b : Member) → Goes p cap a b → (h : ℕ → ℕ) → taken_by h b ≡ taken_by h a
+goes_taken p cap a b goes h =
+    let e : sum_by h (own b).popped ≡ sum_by h (own a).popped = ap (λ (v : Log). sum_by h v.popped) goes.puts in
+    let f : stolen_by h (tickets_of b) ≡ stolen_by h (tickets_of a) = ap (λ (l : Contents Ticket). stolen_by h l.items) goes.tickets in
+    omega arith
+
+pub after_taken : (p : Plan) (cap : ℕ) (f : Found) (a b : Member) → After p cap f a b → (h : ℕ → ℕ) → taken_by h b ≡ taken_by h a
+after_taken p cap (Item x) a b after h =
+    elim (cases_lt x (op_count p)) [
+      | inl lt ↦ goes_taken p cap a b (after.0 lt).goes h
+      | inr past ↦ ap (taken_by h) (after.1 past)
+    ]
+after_taken p cap Nothing a b after h = ap (taken_by h) after
+after_taken p cap Retry a b after h = ap (taken_by h) after
+
+-- all that was found was taken
+pub turns_taken : (p : Plan) (cap : ℕ) (ts : List Thief) (a : Member) (fs : List Found) (b : Member) → Turns p cap ts a fs b → (h : ℕ → ℕ) → taken_by h b ≡ taken_by h a + sum_by (weight_of h) fs
+turns_taken p cap ts a [] b made h = let e : taken_by h b ≡ taken_by h a = ap (taken_by h) made in omega arith
+turns_taken p cap ts a (f ∷ fs) b made h =
+    let rest = turns_taken p cap ts a fs made.0 made.1 h in
+    let found = made.2.finds.takes h in
+    let after : taken_by h b ≡ taken_by h made.2.found = after_taken p cap f made.2.found b made.2.after h in
+    let first : sum_by (weight_of h) (f ∷ fs) ≡ weight_of h f + sum_by (weight_of h) fs = sum_by-cons (weight_of h) f fs in
+    omega arith
+
+-- ---- the calls of turns
+
+-- calls of the runner in which each item that is one of the plan's operations was tried, each at a turn of its own
+pub record TurnsTell (p : Plan) (cap : ℕ) (fs : List Found) (a b : Member) : Type 0 where
+  pub calls : List Call
+  pub made : Calls p cap calls a.runner b.runner
+  pub tried : (x : ℕ) → Contains fs (Item x) → x < op_count p → Contains calls (Tried x)
+  pub many : sum_by (weight_of (in_plan p)) fs ≤ count_by is_tried calls
+
+pub count_both : (xs ys : List Call) → count_by is_tried (xs ++ ys) ≡ count_by is_tried xs + count_by is_tried ys
+count_both xs ys = sum_by-append (λ x. cond (is_tried x) 1 0) xs ys
+
+pub one_tried : (cs : List Call) (o : ℕ) → Contains cs (Tried o) → 1 ≤ count_by is_tried cs
+one_tried [] o found = absurd (omega (arith, found.1))
+one_tried (Tried q ∷ cs) o found = let e : count_by is_tried (Tried q ∷ cs) ≡ 1 + count_by is_tried cs = sum_by-cons (λ x. cond (is_tried x) 1 0) (Tried q) cs in omega arith
+one_tried (Asked q ∷ cs) o found =
+    elim (contains_cases (Asked q) cs (Tried o) found) [
+      | inl same ↦ absurd (apart same)
+      | inr later ↦ (let e : count_by is_tried (Asked q ∷ cs) ≡ 0 + count_by is_tried cs = sum_by-cons (λ x. cond (is_tried x) 1 0) (Asked q) cs in let rest = one_tried cs o later in omega arith)
+    ]
+  where
+    apart : Tried o ≡ Asked q → ⊥
+    apart e = cc
+
+module _ (p : Plan) where
+  pub few : (x : ℕ) → in_plan p x ≤ 1
+  few x = of (nat_lt x (op_count p))
+    where
+      of : (t : Bool) → cond t 1 0 ≤ 1
+      of true = omega arith
+      of false = omega arith
+
+  pub no_op : (x : ℕ) → op_count p ≤ x → in_plan p x ≡ 0
+  no_op x past = ap (λ t. cond t 1 0) (not_lt x (op_count p) past)
+    where
+      not_lt : (x y : ℕ) → y ≤ x → nat_lt x y ≡ false
+      not_lt x y le = grind arith
+
+  pub is_op : (x : ℕ) → x < op_count p → in_plan p x ≡ 1
+  is_op x less = ap (λ t. cond t 1 0) (is_lt x (op_count p) less)
+    where
+      is_lt : (x y : ℕ) → x < y → nat_lt x y ≡ true
+      is_lt x y lt = grind arith
+
+module _ (p : Plan) (cap : ℕ) where
+  pub record AfterTells (f : Found) (a b : Member) : Type 0 where
+    pub calls : List Call
+    pub made : Calls p cap calls a.runner b.runner
+    pub tried : (x : ℕ) → f ≡ Item x → x < op_count p → Contains calls (Tried x)
+    pub many : weight_of (in_plan p) f ≤ count_by is_tried calls
+
+  pub after_tells : (f : Found) (a b : Member) → After p cap f a b → AfterTells f a b
+  after_tells (Item y) a b after =
+      elim (cases_lt y (op_count p)) [
+        | inl lt ↦
+            let serves = after.0 lt in
+            record {
+              calls = serves.goes.calls;
+              made = serves.goes.made;
+              tried = λ x same _. subst (λ k. Contains serves.goes.calls (Tried k)) (item_is y x same) serves.tried;
+              many = let some : 1 ≤ count_by is_tried serves.goes.calls = one_tried serves.goes.calls y serves.tried in let most = few p y in omega arith;
+            }
+        | inr past ↦
+            record {
+              calls = [];
+              made = ap (λ (m : Member). m.runner) (after.1 past);
+              tried = λ x same lt. absurd (let e = item_is y x same in omega arith);
+              many = let none : in_plan p y ≡ 0 = no_op p y past in omega arith;
+            }
+      ]
+    where
+      item_is : (y x : ℕ) → Item y ≡ Item x → y ≡ x
+      item_is y x e = cc
+  after_tells Nothing a b after = record {
+    calls = [];
+    made = ap (λ (m : Member). m.runner) after;
+    tried = λ x same lt. absurd (apart x same);
+    many = omega arith;
+  }
+    where
+      apart : (x : ℕ) → Nothing ≡ Item x → ⊥
+      apart x e = cc
+  after_tells Retry a b after = record {
+    calls = [];
+    made = ap (λ (m : Member). m.runner) after;
+    tried = λ x same lt. absurd (apart x same);
+    many = omega arith;
+  }
+    where
+      apart : (x : ℕ) → Retry ≡ Item x → ⊥
+      apart x e = cc
+
+  pub turns_tell : (ts : List Thief) (a : Member) (fs : List Found) (b : Member) → Turns p cap ts a fs b → TurnsTell p cap fs a b
+  turns_tell ts a [] b made = record {
+    calls = [];
+    made = ap (λ (m : Member). m.runner) made;
+    tried = λ x found. absurd (omega (arith, found.1));
+    many = omega arith;
+  }
+  turns_tell ts a (f ∷ fs) b made =
+      let rest = turns_tell ts a fs made.0 made.1 in
+      let last = after_tells f made.2.found b made.2.after in
+      record {
+        calls = last.calls ++ rest.calls;
+        made = calls_append p cap last.calls rest.calls a.runner made.0.runner b.runner rest.made (subst (λ r. Calls p cap last.calls r b.runner) made.2.finds.runner last.made);
+        tried = λ x found lt.
+            elim (contains_cases f fs (Item x) found) [
+              | inl same ↦ Contains-append_left last.calls rest.calls (Tried x) (last.tried x (sym same) lt)
+              | inr later ↦ Contains-append_right last.calls rest.calls (Tried x) (rest.tried x later lt)
+            ];
+        many =
+            let both = count_both last.calls rest.calls in
+            let first : sum_by (weight_of (in_plan p)) (f ∷ fs) ≡ weight_of (in_plan p) f + sum_by (weight_of (in_plan p)) fs = sum_by-cons (weight_of (in_plan p)) f fs in
+            let a = last.many in
+            let b = rest.many in
+            omega arith;
+      }
+
+-- ---- answers
+
+module _ (p : Plan) (cap : ℕ) where
+  -- the answers are at least as many as the operations that were tried, or one of them is at the greatest number
+  pub calls_total : (cs : List Call) (a b : Runner) → Calls p cap cs a b → (total a.answers + count_by is_tried cs ≤ total b.answers) ⊎ (2 ^ 64 ≤ total b.answers + 1)
+  calls_total [] a b calls = inl (let e : total b.answers ≡ total a.answers = ap (λ (r : Runner). total r.answers) calls in omega arith)
+  calls_total (Asked o ∷ cs) a b calls =
+      let e : total b.answers ≡ total calls.0.answers = ap total calls.2.1.answers in
+      let f : count_by is_tried (Asked o ∷ cs) ≡ 0 + count_by is_tried cs = sum_by-cons (λ x. cond (is_tried x) 1 0) (Asked o) cs in
+      elim (calls_total cs a calls.0 calls.1) [ inl more ↦ inl (omega arith) | inr full ↦ inr (omega arith) ]
+  calls_total (Tried o ∷ cs) a b calls =
+      let f : count_by is_tried (Tried o ∷ cs) ≡ 1 + count_by is_tried cs = sum_by-cons (λ x. cond (is_tried x) 1 0) (Tried o) cs in
+      elim (calls_total cs a calls.0 calls.1) [
+        | inr full ↦ inr (full_stays (total calls.0.answers) (total b.answers) (tries_total p cap o calls.0 b calls.2.0 calls.2.1) full)
+        | inl more ↦ elim (tries_total p cap o calls.0 b calls.2.0 calls.2.1) [ inl one ↦ inl (omega arith) | inr full ↦ inr full ]
+      ]

@@ -1,0 +1,56 @@
+-- What was handed out, as contracts see it.
+use Rattle.std.specs.Prelude.{◌≡◌, ◌⊎◌, ℕ, ◌+◌, ◌<◌, ◌≤◌, ◌^◌, List, ◌++◌, Contains, length, map, flat_map, sum_by, slice_index_or}
+use Rattle.morph_base.specs.declared.plan.Plan.{Plan}
+use Rattle.op_words.specs.Trails.{IsReached}
+use Rattle.op_eval.specs.declared.runner.Runner.{Runner}
+use Rattle.op_eval.specs.Exploring.{total}
+use Rattle.op_eval.specs.Running.{hand_view}
+use Rattle.steal_explorer.specs.declared.deques.Deques.{Deques}
+use Rattle.steal_explorer.specs.declared.exploring.Handed.{Handed}
+use Rattle.steal_explorer.specs.declared.members.Member.{Member}
+use Rattle.steal_explorer.specs.HandingOut.{HasHandedOut}
+use Rattle.steal_explorer.specs.Members.{own}
+use Rattle.steal_explorer.specs.Seating.{runner_of, seat_of}
+
+abbrev pub workers_of : Handed → List Member
+workers_of handed = handed.workers.value.items
+
+abbrev pub pushed_by : Member → List ℕ
+pushed_by m = (own m).pushed
+
+abbrev pub stolen_from : Member → List ℕ
+stolen_from m = (own m).stolen
+
+abbrev pub taken_from : Member → List ℕ
+taken_from m = (own m).popped ++ (own m).stolen
+
+abbrev pub left_in : Member → List ℕ
+left_in m = (own m).left
+
+-- the items that were pushed, those that somebody took, those of them that were stolen, and those that were left with nobody
+abbrev pub pushed_of : Handed → List ℕ
+pushed_of handed = flat_map pushed_by (workers_of handed)
+
+abbrev pub taken_of : Handed → List ℕ
+taken_of handed = flat_map taken_from (workers_of handed)
+
+abbrev pub stolen_of : Handed → List ℕ
+stolen_of handed = flat_map stolen_from (workers_of handed)
+
+abbrev pub unserved_of : Handed → List ℕ
+unserved_of handed = flat_map left_in (workers_of handed)
+
+-- each of the items was reached in a runner's trail
+abbrev pub AreReached : Plan → List ℕ → List Runner → Type 0
+AreReached p xs rs = (x : ℕ) → Contains xs x → (k : ℕ) × (k < length rs) × ((d : Runner) → IsReached p x (hand_view (slice_index_or rs k d)).trail)
+
+-- the answers that the runners count are at least as many as the items that were taken, or one runner's are as many as there can be
+abbrev pub AreAnswered : List ℕ → List Runner → Type 0
+AreAnswered xs rs = (length xs ≤ sum_by (λ r. total r.answers) rs) ⊎ ((k : ℕ) × (k < length rs) × ((d : Runner) → 2 ^ 64 ≤ total (slice_index_or rs k d).answers + 1))
+
+-- the runners began beside the deques, and made the turns that led here
+pub record HasTurns (p : Plan) (cap : ℕ) (d : Deques) (rs : List Runner) (handed : Handed) : Type 0 where
+  pub begun : List Member
+  pub runners : map runner_of begun ≡ rs
+  pub seats : map seat_of begun ≡ d.seats.items
+  pub handed_out : HasHandedOut p cap d.thieves.items begun (workers_of handed)

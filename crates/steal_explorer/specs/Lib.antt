@@ -1,0 +1,14 @@
+pub mod Handing
+pub mod Calls
+pub mod Members
+pub mod Finding
+pub mod Serving
+pub mod Turns
+pub mod Gathering
+pub mod Draining
+pub mod HandingOut
+pub mod Dealing
+pub mod Lending
+pub mod Seating
+pub mod Handed
+pub mod Alone

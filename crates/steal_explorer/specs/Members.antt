@@ -1,0 +1,91 @@
+-- A worker that explores: its runner, its deque, and what it has done at the others'.
+use Rattle.std.specs.Prelude.{◌≡◌, ℕ, ◌+◌, ◌<◌, ◌≤◌, List, [], All, None, length, sum_by, slice_index_or}
+use Rattle.std.specs.Global.{Global}
+use Rattle.crossbeam_deque.specs.declared.handles.Worker.{Worker}
+use Rattle.crossbeam_deque.specs.declared.handles.Stealer.{Stealer}
+use Rattle.crossbeam_deque.specs.Handles.{Pass, view, IsPassOf, worker_deque, stealer_deque, worker_flavor, stealer_flavor, worker_view}
+use Rattle.morph_base.specs.declared.plan.Plan.{Plan}
+use Rattle.morph_base.specs.Graphs.{IsValidPlan}
+use Rattle.morph_base.specs.Plans.{op_count}
+use Rattle.chain_units.specs.Places.{IsPartition}
+use Rattle.op_words.specs.declared.board.Board.{Board}
+use Rattle.op_words.specs.Hands.{IsHandOf, plan_of, up_to}
+use Rattle.op_eval.specs.declared.runner.Runner.{Runner}
+use Rattle.op_eval.specs.Running.{hand_view}
+use Rattle.steal_explorer.specs.declared.handing.Fair.{Fair}
+use Rattle.steal_explorer.specs.declared.handing.Log.{Log}
+use Rattle.steal_explorer.specs.declared.members.Ground.{Ground}
+use Rattle.steal_explorer.specs.declared.members.Member.{Member}
+use Rattle.steal_explorer.specs.Handing.{whole, log, one}
+
+abbrev pub Owner : Type 0
+Owner = Worker ℕ Global Log Fair
+
+abbrev pub Thief : Type 0
+Thief = Stealer ℕ Global Log Fair
+
+abbrev pub Ticket : Type 0
+Ticket = Pass ℕ Log Global
+
+-- what was done at the worker's own deque, by itself
+abbrev pub own : Member → Log
+own m = worker_view m.owner
+
+abbrev pub tickets_of : Member → List Ticket
+tickets_of m = m.tickets.items
+
+-- over the items that were stolen by tickets, and over those that a worker popped or stole
+abbrev pub stolen_by : (ℕ → ℕ) → List Ticket → ℕ
+stolen_by h xs = sum_by (λ (x : Ticket). sum_by h (view x).stolen) xs
+
+abbrev pub taken_by : (ℕ → ℕ) → Member → ℕ
+taken_by h m = sum_by h (own m).popped + stolen_by h (tickets_of m)
+
+-- the plan is the board's, and the units are its
+pub record IsGround (g : Ground) : Type 0 where
+  pub plan : g.plan.now ≡ plan_of g.board.now
+  pub valid : IsValidPlan g.plan.now
+  pub units : IsPartition g.units.now.units (op_count g.plan.now)
+  pub number : g.units.now.ops ≡ op_count g.plan.now
+
+-- the runner's hand is of the board and holds nothing
+pub record IsIdle (b : Board) (r : Runner) : Type 0 where
+  pub hand : IsHandOf b r.hand
+  pub free : (hand_view r).claim ≡ None
+
+-- its deque is first in first out, and it has a part of it; what it pushed are the plan's operations
+pub record HasDeque (p : Plan) (m : Member) : Type 0 where
+  pub fifo : worker_flavor m.owner ≡ 0
+  pub part : 0 < (own m).parts
+  pub below : All (λ x. x < op_count p) (own m).pushed
+  pub handed : m.handed ≡ up_to (length (own m).pushed)
+
+-- a ticket with one part of a deque that is first in first out, which stole and did nothing else
+pub record SitsAt (t : Thief) (x : Ticket) : Type 0 where
+  pub of : IsPassOf (stealer_deque t) x
+  pub fifo : stealer_flavor t ≡ 0
+  pub view_is : view x ≡ log 1 [] [] (view x).stolen []
+
+-- of the deques whose numbers are from `from` on and below `to`
+abbrev pub AreSeated : List Thief → (from to : ℕ) → List Ticket → Type 0
+AreSeated ts from to xs = (k : ℕ) (t : Thief) (x : Ticket) → from ≤ k → k < to → SitsAt (slice_index_or ts k t) (slice_index_or xs k x)
+
+-- it lent one part of its deque to each other worker, and has a ticket with one part of each other deque
+pub record HasTickets (ts : List Thief) (m : Member) : Type 0 where
+  pub inside : m.number < length ts
+  pub few : length ts ≤ whole
+  pub deque : (t : Thief) → worker_deque m.owner ≡ stealer_deque (slice_index_or ts m.number t)
+  pub parts : (own m).parts + length ts ≡ whole + 1
+  pub bare_stolen : (own m).stolen ≡ []
+  pub bare_left : (own m).left ≡ []
+  pub len : length (tickets_of m) ≡ length ts
+  pub under : AreSeated ts 0 m.number (tickets_of m)
+  pub above : AreSeated ts (m.number + 1) (length ts) (tickets_of m)
+  pub guest : (x : Ticket) → view (slice_index_or (tickets_of m) m.number x) ≡ log 0 [] [] [] []
+  pub stolen : m.stolen ≡ up_to (stolen_by one (tickets_of m))
+
+-- a worker that may take turns, or did
+pub record IsWorker (g : Ground) (ts : List Thief) (m : Member) : Type 0 where
+  pub idle : IsIdle g.board.now m.runner
+  pub deque : HasDeque g.plan.now m
+  pub tickets : HasTickets ts m

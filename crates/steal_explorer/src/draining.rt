@@ -1,0 +1,76 @@
+//! What is left in the deques once all workers have returned.
+ghost use Rattle.std.specs.Prelude.{◌≡◌, ◌<◌, ◌≤◌, All};
+ghost use Rattle.crossbeam_deque.specs.Handles.{worker_flavor};
+ghost use Rattle.morph_base.specs.Plans.{op_count};
+ghost use Rattle.op_words.specs.Hands.{cap_of};
+ghost use Rattle.steal_explorer.specs.Draining.{WalkedKnown, IsLeft, IsCleared, HasAll, IsEmptied, AreEmptied};
+ghost use Rattle.steal_explorer.specs.Handing.{whole};
+ghost use Rattle.steal_explorer.specs.Members.{own, IsGround, IsIdle};
+
+use crate::handing::{Leaves, Pops};
+use crate::members::{Ground, Member};
+use crate::turns::Untold;
+use crate::walking::walk;
+use op_eval::{RunEnd, Runner};
+
+/// Leaves with nobody what a worker that made all its turns has left in its deque.
+fn leave_rest(member: &mut Member)
+    requires fifo { worker_flavor member.old.owner ≡ 0 }
+    requires all { (own member.old).parts ≡ whole }
+    ensures { IsLeft member.old member.new }
+{
+    while let Some(_) = member.owner.pop_as::<Leaves>() {}
+}
+
+/// Walks the unit of an item, where it is one of the plan's operations, as all are.
+fn walk_known(ground: &Ground<'_>, runner: &mut Runner, op: u32)
+    requires ground { IsGround ground.now }
+    requires idle { IsIdle ground.now.board.now runner.old }
+    ensures idle { IsIdle ground.now.board.now runner.new }
+    ensures does { WalkedKnown ground.now.plan.now (cap_of ground.now.board.now) op runner.old runner.new }
+{
+    if (op as usize) < ground.plan.ops.len() {
+        walk(ground, &Untold, 0, runner, op);
+    }
+}
+
+/// Takes what a worker that found nothing more has in its deque, in no turn, and walks the units. In a run there is
+/// nothing.
+fn clear_rest(ground: &Ground<'_>, member: &mut Member)
+    requires ground { IsGround ground.now }
+    requires idle { IsIdle ground.now.board.now member.old.runner }
+    requires fifo { worker_flavor member.old.owner ≡ 0 }
+    requires all { (own member.old).parts ≡ whole }
+    ensures idle { IsIdle ground.now.board.now member.new.runner }
+    ensures cleared { IsCleared ground.now.plan.now (cap_of ground.now.board.now) member.old member.new }
+{
+    while let Some(op) = member.owner.pop_as::<Pops>() {
+        walk_known(ground, &mut member.runner, op);
+    }
+}
+
+/// Empties the deque of a worker that has all its parts.
+fn empty(ground: &Ground<'_>, member: &mut Member)
+    requires ground { IsGround ground.now }
+    requires has_all { HasAll ground.now.board.now member.old }
+    ensures idle { IsIdle ground.now.board.now member.new.runner }
+    ensures emptied { IsEmptied ground.now.plan.now (cap_of ground.now.board.now) member.old member.new }
+{
+    match member.end {
+        RunEnd::Drained => clear_rest(ground, member),
+        RunEnd::Spent => leave_rest(member),
+        RunEnd::Whole => leave_rest(member),
+    }
+}
+
+/// Empties the deque of each worker.
+pub(crate) fn empty_all(ground: &Ground<'_>, members: &mut [Member])
+    requires ground { IsGround ground.now }
+    requires have_all { All (HasAll ground.now.board.now) members.old }
+    ensures idle { All (λ m. IsIdle ground.now.board.now m.runner) members.new }
+    ensures emptied { AreEmptied ground.now.plan.now (cap_of ground.now.board.now) members.old members.new }
+{
+    for k in 0..members.len() {
+        empty(ground, &mut members[k]);
+    }
+}

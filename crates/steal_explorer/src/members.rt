@@ -1,0 +1,30 @@
+//! What a worker has while it explores.
+use crate::handing::{Owner, Ticket};
+use chain_units::Units;
+use morph_base::{List, Plan};
+use op_eval::{RunEnd, Runner};
+use op_words::Board;
+
+/// What all workers share while they explore.
+#[derive(Clone, Copy)]
+pub struct Ground<'a> {
+    pub board: &'a Board,
+    pub plan: &'a Plan,
+    pub units: &'a Units,
+}
+
+/// A worker: its runner beside its deque.
+#[derive(Drop)]
+pub struct Member {
+    pub runner: Runner,
+    /// From 0 on, which is also the number of its deque.
+    pub number: usize,
+    pub owner: Owner,
+    /// For each deque, its own too, what it has done there as a thief.
+    pub tickets: List<Ticket>,
+    /// How many pushes on its deque succeeded.
+    pub handed: u64,
+    /// How many items it got by steals.
+    pub stolen: u64,
+    pub end: RunEnd,
+}

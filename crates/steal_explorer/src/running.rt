@@ -1,0 +1,101 @@
+//! All workers side by side.
+ghost use Rattle.std.specs.Prelude.{◌≡◌, ℕ, ◌<◌, ◌≤◌, All, length, slice_index_or};
+ghost use Rattle.op_words.specs.Hands.{cap_of};
+ghost use Rattle.steal_explorer.specs.declared.members.Member.{Member as M};
+ghost use Rattle.steal_explorer.specs.Alone.{BeginsAlone, EndsAlone, LeavesAlone};
+ghost use Rattle.steal_explorer.specs.Handing.{whole};
+ghost use Rattle.steal_explorer.specs.HandingOut.{IsBeginning, HasHandedOut};
+ghost use Rattle.steal_explorer.specs.Members.{IsGround, IsIdle, IsWorker};
+ghost use Rattle.steal_explorer.specs.Turns.{HasRun};
+
+use crate::draining::empty_all;
+use crate::gathering::gather;
+use crate::handing::Thief;
+use crate::members::{Ground, Member};
+use crate::turns::Told;
+use crate::working::work;
+use std::thread::Threads;
+use worker_gate::{Gate, Job, run_all};
+
+/// The turns of a worker, as all of them make them.
+#[derive(Drop)]
+pub(crate) struct Working<'a, G> {
+    pub(crate) ground: Ground<'a>,
+    pub(crate) gate: &'a G,
+    pub(crate) thieves: &'a [Thief],
+}
+
+impl<G: Gate> Job<Member> for Working<'_, G> {
+    ghost use Rattle.std.specs.Prelude.{◌≡◌, ◌≤◌, length};
+    ghost use Rattle.steal_explorer.specs.Alone.{BeginsAlone, EndsAlone};
+    ghost use Rattle.op_words.specs.Hands.{cap_of};
+    ghost use Rattle.steal_explorer.specs.Members.{IsGround, IsWorker};
+    ghost use Rattle.steal_explorer.specs.Turns.{HasRun};
+
+    ghost can_run = { λ job member. IsGround job.ground × IsWorker job.ground job.thieves.now member };
+
+    ghost changes = { λ job before after. IsWorker job.ground job.thieves.now after
+        × HasRun job.ground.plan.now (cap_of job.ground.board.now) job.thieves.now before after
+        × (1 ≤ cap_of job.ground.board.now → length job.thieves.now ≡ 1
+        → BeginsAlone job.ground.plan.now before → EndsAlone job.ground.plan.now after.end after) };
+
+    fn run(&self, worker: &mut Member) {
+        let told = Told {
+            gate: self.gate,
+            worker: u32::from(worker.runner.hand.tag()),
+        };
+        worker.end = work(&self.ground, &told, self.thieves, worker);
+    }
+}
+
+/// All workers make their turns.
+fn work_all<R: Threads + Sync, G: Gate>(
+    rt: &R,
+    ground: &Ground<'_>,
+    gate: &G,
+    thieves: &[Thief],
+    members: &mut [Member],
+)
+    requires ground { IsGround ground.now }
+    requires workers { All (IsWorker ground.now thieves.now) members.old }
+    ensures work { (k : ℕ) (d : M) → k < length members.old
+        → IsWorker ground.now thieves.now (slice_index_or members.new k d)
+        × HasRun ground.now.plan.now (cap_of ground.now.board.now) thieves.now
+        (slice_index_or members.old k d) (slice_index_or members.new k d) }
+    ensures alone { (k : ℕ) (d : M) → k < length members.old → 1 ≤ cap_of ground.now.board.now → length thieves.now ≡ 1
+        → BeginsAlone ground.now.plan.now (slice_index_or members.old k d)
+        → EndsAlone ground.now.plan.now (slice_index_or members.new k d).end (slice_index_or members.new k d) }
+{
+    let working = Working {
+        ground: *ground,
+        gate,
+        thieves,
+    };
+    run_all(rt, members, &working);
+}
+
+/// All workers make their turns, get all parts of their deques back, and what is left there is taken or left with
+/// nobody.
+pub(crate) fn hand_out<R: Threads + Sync, G: Gate>(
+    rt: &R,
+    ground: &Ground<'_>,
+    gate: &G,
+    thieves: &[Thief],
+    members: &mut [Member],
+)
+    requires ground { IsGround ground.now }
+    requires len { length members.old ≡ length thieves.now }
+    requires few { length thieves.now ≤ whole }
+    requires begins { (k : ℕ) (d : M) → k < length members.old
+        → IsBeginning ground.now thieves.now k (slice_index_or members.old k d) }
+    ensures idle { All (λ m. IsIdle ground.now.board.now m.runner) members.new }
+    ensures handed_out { HasHandedOut ground.now.plan.now (cap_of ground.now.board.now) thieves.now
+        members.old members.new }
+    ensures alone { (d : M) → 1 ≤ cap_of ground.now.board.now → length thieves.now ≡ 1
+        → BeginsAlone ground.now.plan.now (slice_index_or members.old 0 d)
+        → LeavesAlone ground.now.plan.now (slice_index_or members.new 0 d) }
+{
+    work_all(rt, ground, gate, thieves, members);
+    gather(thieves, members);
+    empty_all(ground, members);
+}

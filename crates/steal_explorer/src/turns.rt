@@ -1,0 +1,40 @@
+use worker_gate::Gate;
+
+/// A gate as one worker meets it.
+///
+/// What a job does in a thread is checked without the bound that lets its gate be shared, so its functions ask for
+/// these two calls alone.
+pub(crate) trait Turns {
+    /// Returns when the turn may begin.
+    fn pass(&self, turn: u64);
+
+    /// Is told that something was evaluated in the turn.
+    fn done(&self, turn: u64);
+}
+
+/// The gate of a run, for the worker of a number.
+#[derive(Drop)]
+pub(crate) struct Told<'a, G> {
+    pub(crate) gate: &'a G,
+    pub(crate) worker: u32,
+}
+
+impl<G: Gate> Turns for Told<'_, G> {
+    fn pass(&self, turn: u64) {
+        self.gate.pass(self.worker, turn)
+    }
+
+    fn done(&self, turn: u64) {
+        self.gate.done(self.worker, turn)
+    }
+}
+
+/// No gate: for what is done in no turn.
+#[derive(Drop)]
+pub(crate) struct Untold;
+
+impl Turns for Untold {
+    fn pass(&self, _turn: u64) {}
+
+    fn done(&self, _turn: u64) {}
+}

@@ -1,7 +1,9 @@
 //! A hand's way through an operation, alone and beside another hand.
-ghost use Rattle.std.specs.Prelude.{◌≡◌, ◌≢◌, ◌<◌, None};
+ghost use Rattle.std.specs.Prelude.{◌≡◌, ◌≢◌, ◌<◌, true, Some, None};
 ghost use Rattle.morph_base.specs.Plans.{op_count, event_of};
 ghost use Rattle.op_words.specs.Hands.{plan_of, view_of, IsHandOf};
+ghost use Rattle.op_words.specs.Views.{HasShownFailure};
+ghost use Rattle.op_words.specs.declared.answers.Outcome.TheVariants.{Failed as HasFailed};
 
 use crate::four_events::{plan, plan_at};
 use morph_base::{OpState, OpWord, Plan};
@@ -29,6 +31,7 @@ pub(crate) fn evaluate(board: &Board, hand: &mut Hand, plan: &Plan, op: u32) -> 
     ensures free { (view_of hand.new).claim ≡ None }
     ensures tag { (view_of hand.new).tag ≡ (view_of hand.old).tag }
     ensures made { (view_of hand.new).made ≡ (view_of hand.old).made }
+    ensures shown { result.outcome ≡ Some HasFailed → HasShownFailure (view_of hand.new) op }
 {
     let readied = board.ready(hand, plan, op);
     let mut way = Way {
@@ -128,6 +131,22 @@ fn one_hand_evaluates(rt: HostRuntime) -> Result<(), Fail> {
     Ok(())
 }
 
+/// Evaluates an operation that reads one place; whether it failed.
+pub(crate) fn fails(board: &Board, hand: &mut Hand, plan: &Plan, op: u32) -> bool
+    requires hand { IsHandOf board.now hand.old }
+    requires plan { plan.now ≡ plan_of board.now }
+    requires in_range { op < op_count plan.now }
+    requires free { (view_of hand.old).claim ≡ None }
+    ensures hand { IsHandOf board.now hand.new }
+    ensures free { (view_of hand.new).claim ≡ None }
+    ensures shown { result ≡ true → HasShownFailure (view_of hand.new) op }
+{
+    match evaluate(board, hand, plan, op).outcome {
+        Some(Outcome::Failed) => true,
+        _ => false,
+    }
+}
+
 /// Evaluates an operation that reads one place, and spreads its failure to another one of its event, twice; `None`
 /// where it did not fail.
 fn spread_twice(
@@ -149,25 +168,12 @@ fn spread_twice(
     if plan.ops.get(sibling as usize).event != plan.ops.get(op as usize).event {
         return None;
     }
-    board.ready(hand, plan, sibling);
-    if places_of(plan, sibling) != 1 {
+    if !fails(board, hand, plan, sibling) {
         return None;
     }
-    if let Claimed::Not { .. } = board.claim(hand, plan, sibling) {
-        return None;
-    }
-    if let Fetched::Unready { .. } = board.fetch(hand, plan, sibling, 0) {
-        board.give_back(hand, plan, sibling);
-        return None;
-    }
-    match board.finish(hand, plan, sibling) {
-        Outcome::Executed(_) => None,
-        Outcome::Failed => {
-            let first = board.spread(hand, plan, op, sibling);
-            let again = board.spread(hand, plan, op, sibling);
-            Some((first, again))
-        }
-    }
+    let first = board.spread(hand, plan, op, sibling);
+    let again = board.spread(hand, plan, op, sibling);
+    Some((first, again))
 }
 
 /// Operation 3 fails, and takes operation 2 along, which operation 6 has read.

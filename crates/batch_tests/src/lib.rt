@@ -9,6 +9,8 @@
 #[cfg(test)]
 mod board;
 #[cfg(test)]
+mod cascading;
+#[cfg(test)]
 mod choices;
 #[cfg(test)]
 mod deposits;

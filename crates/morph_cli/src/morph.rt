@@ -157,7 +157,7 @@ fn run_app<R: Threads + Sync, S: Source, K: Sink, N: Sink, G: Gate>(
 /// input that it makes itself, writes the text to the sink, and the last line to the notes where there is one.
 ///
 /// The text is that of applying the events one transaction at a time, in the order of time within each batch, to a map
-/// that is zero everywhere, for every number of workers and whatever the gate holds. The statuses are
+/// that is zero everywhere, for every strategy and number of workers and whatever the gate holds. The statuses are
 /// those of [`Ended`]. A fault of writing the last line of the notes changes nothing.
 pub fn morph<R: Threads + Sync, S: Source, K: Sink, N: Sink, G: Gate>(
     rt: &R,

@@ -1,0 +1,51 @@
+-- What a filter, a map and a range have.
+use Rattle.std.proofs.Common.{◌≡◌, ℕ, ◌+◌, ◌-◌, ◌<◌, ◌≤◌, Bool, true, false, cond, List, [], ◌∷◌, map, length, sym, ap, ◌∙◌, subst, refl, inl, inr, arith, zero-lt-suc, not-suc-le-zero}
+use Rattle.std.specs.Prelude.{Contains, All, filter}
+use Rattle.std.specs.List.{range_with_len, flat_map}
+use Rattle.std.proofs.lemmas.List.{length-map, get_or-map}
+use Rattle.std.proofs.lemmas.List.Elements.{Contains-append_left, Contains-append_right, Contains-append_cases, All-append}
+use Rattle.std.proofs.lemmas.List.FromFn.{length-range_with_len, get_or-range_with_len}
+use Rattle.op_words.proofs.Rows.{one_inside}
+
+pub contains_filter : {X : Type 0} (t : X → Bool) (xs : List X) (x : X) → t x ≡ true → Contains xs x → Contains (filter t xs) x
+contains_filter t [] x passes inside = absurd (not-suc-le-zero inside.1)
+contains_filter {X} t (y ∷ ys) x passes inside =
+    elim (Contains-append_cases (y ∷ []) ys x inside) [
+      | inl first ↦
+          subst (λ b. Contains (cond b (y ∷ filter t ys) (filter t ys)) x) (sym (ap t (one_inside y x first) ∙ passes))
+          (Contains-append_left (y ∷ []) (filter t ys) x first)
+      | inr later ↦ kept (t y) (filter t ys) (contains_filter t ys x passes later)
+    ]
+  where
+    kept : (b : Bool) (l : List X) → Contains l x → Contains (cond b (y ∷ l) l) x
+    kept true l there = Contains-append_right (y ∷ []) l x there
+    kept false l there = there
+
+pub contains_map : {X Y : Type 0} (f : X → Y) (xs : List X) (x : X) → Contains xs x → Contains (map f xs) (f x)
+contains_map f xs x inside =
+    (inside.0, subst (λ n. inside.0 < n) (sym (length-map xs f)) inside.1, get_or-map f xs inside.0 x (f x) inside.1 ∙ ap f inside.2)
+
+pub contains_flat_map : {X Y : Type 0} (f : X → List Y) (xs : List X) (x : X) (y : Y) → Contains xs x → Contains (f x) y → Contains (flat_map f xs) y
+contains_flat_map f [] x y inside there = absurd (not-suc-le-zero inside.1)
+contains_flat_map f (z ∷ zs) x y inside there =
+    elim (Contains-append_cases (z ∷ []) zs x inside) [
+      | inl first ↦ Contains-append_left (f z) (flat_map f zs) y (subst (λ w. Contains (f w) y) (sym (one_inside z x first)) there)
+      | inr later ↦ Contains-append_right (f z) (flat_map f zs) y (contains_flat_map f zs x y later there)
+    ]
+
+pub all_flat_map : {X Y : Type 0} (P : Y → Type 0) (f : X → List Y) (xs : List X) → ((x : X) → Contains xs x → All P (f x)) → All P (flat_map f xs)
+all_flat_map P f [] each = λ k d lt. absurd (not-suc-le-zero lt)
+all_flat_map P f (z ∷ zs) each =
+    All-append P (f z) (flat_map f zs) (each z (0, zero-lt-suc (length zs), refl)) (all_flat_map P f zs (λ x inside. each x (Contains-append_right (z ∷ []) zs x inside)))
+
+pub in_range : (a n k : ℕ) → a ≤ k → k < a + n → Contains (range_with_len a n) k
+in_range a n k low high =
+    let lt : k - a < n = omega arith in
+    let e : a + (k - a) ≡ k = omega arith in
+    (k - a, subst (λ m. k - a < m) (sym (length-range_with_len a n)) lt, get_or-range_with_len a n (k - a) k lt ∙ e)
+
+pub range_within : (a n k : ℕ) → Contains (range_with_len a n) k → (a ≤ k) × (k < a + n)
+range_within a n k inside =
+    let lt : inside.0 < n = subst (λ m. inside.0 < m) (length-range_with_len a n) inside.1 in
+    let is : a + inside.0 ≡ k = sym (get_or-range_with_len a n inside.0 k lt) ∙ inside.2 in
+    (omega arith, omega arith)

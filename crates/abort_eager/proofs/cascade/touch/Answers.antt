@@ -1,0 +1,8 @@
+use Rattle.abort_eager.proofs.Touching.{spread_touched, roll_touched}
+use Rattle.abort_eager.proofs.cascade.touch.Goals as goal
+
+pub returns-in-Spread-clause-does : goal.returns-in-Spread-clause-does
+returns-in-Spread-clause-does c = spread_touched _ _ _ c.args.op _ _ _ _ _ c.in-Spread.is c.requires.target c.spread-answer.ensures.does c.of_spread.ensures
+
+pub returns-in-RollBack-clause-does : goal.returns-in-RollBack-clause-does
+returns-in-RollBack-clause-does c = roll_touched _ _ _ c.args.op _ _ _ _ _ _ c.in-RollBack.is c.requires.target c.roll_back-answer.ensures.does c.of_roll.ensures

@@ -1,0 +1,4 @@
+pub mod Targets
+pub mod Finding
+pub mod Popping
+pub mod Touching

@@ -1,0 +1,24 @@
+//! Speculation with eager abort: what an evaluation that failed, or that was a second or later attempt, does to other
+//! operations at once, on the board that workers share.
+//!
+//! A [`Cascade`] spreads a failure to the other operations of its event, and rolls back what read a value that is no
+//! longer right, one target at a time. It is a position among its targets, and keeps no list of them.
+//!
+//! ```text
+//! let mut cascade = Cascade::start(&plan, op, failed);
+//! while let Some(touched) = cascade.next(&board, &mut hand, &plan) {
+//!     // Touch::RolledBack: its level has to be passed again
+//! }
+//! ```
+//!
+//! [`laws`] says what a whole cascade makes of a hand's view. Below it stand `op_words` and `interleaving_core`, for
+//! the board, and `morph_base`.
+#![tactic(auto)]
+
+mod answers;
+mod cascade;
+mod finding;
+pub mod laws;
+
+pub use answers::{Touch, Touched};
+pub use cascade::Cascade;

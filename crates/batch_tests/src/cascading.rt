@@ -1,0 +1,64 @@
+//! A cascade on the four events, after a failure.
+ghost use Rattle.std.specs.Prelude.{◌≡◌, None};
+ghost use Rattle.morph_base.specs.Graphs.{IsValidPlan};
+ghost use Rattle.op_words.specs.Hands.{plan_of, view_of, IsHandOf};
+
+use crate::board::{evaluate, fails};
+use crate::four_events::plan;
+use abort_eager::{Cascade, Touch, Touched};
+use morph_base::{OpState, OpWord, Plan};
+use op_words::{Board, Hand};
+use std::test::Fail;
+
+/// What becomes of the first three targets after operation 3 failed; `None` where it did not fail.
+fn first_three(board: &Board, hand: &mut Hand, plan: &Plan) -> Option<[Option<Touched>; 3]>
+    requires hand { IsHandOf board.now hand.old }
+    requires plan { plan.now ≡ plan_of board.now }
+    requires valid { IsValidPlan plan.now }
+    requires free { (view_of hand.old).claim ≡ None }
+{
+    if plan.ops.len() != 14 {
+        return None;
+    }
+    evaluate(board, hand, plan, 0);
+    evaluate(board, hand, plan, 1);
+    evaluate(board, hand, plan, 2);
+    evaluate(board, hand, plan, 6);
+    if !fails(board, hand, plan, 3) {
+        return None;
+    }
+    let mut cascade = Cascade::start(plan, 3, true);
+    let first = cascade.next(board, hand, plan);
+    let second = cascade.next(board, hand, plan);
+    let third = cascade.next(board, hand, plan);
+    Some([first, second, third])
+}
+
+/// The other withdrawal of the event takes its value back; what would have been paid in is not begun.
+#[test]
+fn a_failure_goes_through_its_event(rt: HostRuntime) -> Result<(), Fail> {
+    let plan = plan(&rt, rt.alloc())?;
+    let (board, mut root) = Board::new(rt.alloc(), &plan, 7, 0)?;
+    let blocked = OpWord {
+        value: 0,
+        attempt: 1,
+        state: OpState::Blocked,
+        by: 0,
+    };
+    let stopped = |op| {
+        Some(Touched {
+            op,
+            touch: Touch::Not {
+                at: op,
+                word: blocked,
+            },
+        })
+    };
+    let spread = Some(Touched {
+        op: 2,
+        touch: Touch::Spread,
+    });
+    let touched = first_three(&board, &mut root, &plan);
+    assert_eq!(rt; touched, Some([spread, stopped(4), stopped(5)]));
+    Ok(())
+}

@@ -28,6 +28,12 @@ fn events_commit_or_abort(rt: HostRuntime) -> Result<(), Fail> {
                 0,
                 b"1 C 1000000000000 0\n2 A\nacct 0 1000000000000\ncommitted 1 aborted 1\n",
             ),
+            // what a batch does not touch stays as the one before left it
+            (
+                b"D 1 0 0 100 5\nP\nD 2 1 1 1 1\n",
+                0,
+                b"1 C 100 5\n2 C 1 1\nacct 0 100\nacct 1 1\nasset 0 5\nasset 1 1\ncommitted 2 aborted 0\n",
+            ),
         ],
     )
 }

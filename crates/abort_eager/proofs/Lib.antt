@@ -6,3 +6,4 @@ pub mod Popping
 pub mod Starting
 pub mod Knowing
 pub mod Touching
+pub mod Sweeping

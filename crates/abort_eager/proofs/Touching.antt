@@ -2,6 +2,7 @@
 use Rattle.std.proofs.Common.{◌≡◌, ℕ, suc, ◌<◌, List, [], ◌∷◌, ◌++◌, length, refl, sym, ap, ◌∙◌, subst, inl, inr, arith, zero-lt-suc, suc-le-suc, not-suc-le-zero, Some, None}
 use Rattle.std.proofs.lemmas.List.Elements.{Contains-append_cases}
 use Rattle.morph_base.specs.declared.plan.Plan.{Plan}
+use Rattle.morph_base.specs.Plans.{op_count}
 use Rattle.op_words.specs.declared.answers.Rolled.{Rolled}
 use Rattle.op_words.specs.declared.answers.Spreaded.{Spreaded}
 use Rattle.op_words.specs.declared.trail.Item.{Item}
@@ -81,6 +82,14 @@ touched_fewer p cap a b v m t next =
 
 pub touched_end : (p : Plan) (cap : ℕ) (a b : Cascade) (v u : View) → NextDoes p cap a b v u None → Touching p cap (targets_left p a) v u
 touched_end p cap a b v u next = subst (λ gs. Touching p cap gs v u) (sym next.before) next.same
+
+-- what was touched is an operation of the plan
+touched_in_range : (p : Plan) (cap : ℕ) (g : Target) (v u : View) (t : Touched) → Touches p cap g v u t → t.op < op_count p
+touched_in_range p cap (Spread o) v u t touches = subst (λ k. k < op_count p) (sym touches.op_is) touches.in_range
+touched_in_range p cap (RollBack o j) v u t touches = subst (λ k. k < op_count p) (sym touches.op_is) touches.in_range
+
+pub next_in_range : (p : Plan) (cap : ℕ) (a b : Cascade) (v u : View) (t : Touched) → NextDoes p cap a b v u (Some t) → t.op < op_count p
+next_in_range p cap a b v u t next = touched_in_range p cap next.target v u t next.touches
 
 -- ---- one call
 

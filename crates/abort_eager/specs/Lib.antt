@@ -2,3 +2,4 @@ pub mod Targets
 pub mod Finding
 pub mod Popping
 pub mod Touching
+pub mod Sweeps

@@ -6,7 +6,7 @@ use op_words::{Rolled, Spreaded};
 
 /// What a cascade touches next.
 #[derive(Clone, Copy, Debug, PartialEq, Eq)]
-pub(crate) enum Target {
+pub enum Target {
     /// Another operation of the event of the one that failed: the failure is spread to it.
     Spread { op: u32 },
     /// An operation is rolled back, for what it read at a place.

@@ -173,6 +173,7 @@ impl Cascade {
         ensures goes { GoesOn plan.now self.old self.new }
         ensures does { NextDoes plan.now (cap_of board.now) self.old self.new
             (view_of hand.old) (view_of hand.new) result }
+        ensures still { result ≡ None → hand.new ≡ hand.old }
         ensures free { (view_of hand.new).claim ≡ None }
         ensures cause { HasCause self.new (view_of hand.new) }
     {

@@ -16,9 +16,11 @@
 #![tactic(auto)]
 
 mod answers;
+mod behind;
 mod cascade;
 mod finding;
 pub mod laws;
 
-pub use answers::{Touch, Touched};
+pub use answers::{Target, Touch, Touched};
+pub use behind::cascade_behind;
 pub use cascade::Cascade;

@@ -4,7 +4,7 @@ ghost use Rattle.morph_base.specs.Graphs.{IsValidPlan};
 use crate::four_events::{ACCOUNTS, ASSETS, plan_for};
 use crate::runners::words_of;
 use chain_units::units;
-use morph_base::{Batch, Event, Func, Key, List, Op, OpState, OutOfMemory, Plan, Unit};
+use morph_base::{Abort, Batch, Event, Func, Key, List, Op, OpState, OutOfMemory, Plan, Unit};
 use op_eval::{RunEnd, Runners};
 use op_words::Board;
 use std::alloc::Global;
@@ -45,7 +45,7 @@ fn four_explore<R: Threads + Sync>(
     let units = units(alloc, plan, unit)?;
     let (board, root) = Board::new(alloc, plan, 1, counters(plan))?;
     let runners = Runners::new(alloc, &board, root, 4, plan.events.len() as u32)?;
-    let explored = explore(rt, board, runners, plan, &units, &FreeGate);
+    let explored = explore(rt, board, runners, plan, &units, Abort::Lazy, &FreeGate);
     let (board, mut runners, end, _) = explored.parts();
     let runner = runners.runner(1);
     let words = words_of(alloc, &board, &mut runner.hand, plan)?;

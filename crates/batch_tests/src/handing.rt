@@ -7,7 +7,7 @@ use crate::deposits::{IDS, are_two_rounds, batch_of};
 use crate::four_events::{plan, plan_for};
 use crate::runners::words_of;
 use chain_units::units;
-use morph_base::{OpState, OutOfMemory, Plan, Unit};
+use morph_base::{Abort, OpState, OutOfMemory, Plan, Unit};
 use op_eval::{RunEnd, Runners};
 use op_words::Board;
 use std::alloc::Global;
@@ -41,7 +41,16 @@ fn explore_by<R: Threads + Sync>(
     let (board, root) = Board::new(alloc, plan, 1, 0)?;
     let runners = Runners::new(alloc, &board, root, workers, plan.events.len() as u32)?;
     let deques = Deques::new(alloc, plan, workers)?;
-    let (explored, handed) = explore(rt, board, runners, deques, plan, &units, &FreeGate);
+    let (explored, handed) = explore(
+        rt,
+        board,
+        runners,
+        deques,
+        plan,
+        &units,
+        Abort::Lazy,
+        &FreeGate,
+    );
     let (board, mut runners, end, _) = explored.parts();
     let runner = runners.runner(1);
     Ok(Explored {

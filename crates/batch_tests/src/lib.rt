@@ -13,6 +13,8 @@ mod cascading;
 #[cfg(test)]
 mod choices;
 #[cfg(test)]
+mod contended;
+#[cfg(test)]
 mod deposits;
 #[cfg(test)]
 mod engine;
@@ -22,6 +24,8 @@ mod evaluations;
 mod finishing;
 #[cfg(test)]
 mod four_events;
+#[cfg(test)]
+mod going_back;
 #[cfg(test)]
 mod graph;
 #[cfg(test)]

@@ -15,7 +15,8 @@ use Rattle.morph_base.specs.Plans.{IsPlan, event_count, op_count}
 use Rattle.morph_base.proofs.FateLaws.{length-fates}
 use Rattle.morph_base.proofs.NumberLaws.{op_count-small}
 use Rattle.morph_base.proofs.TimeLaws.{by_time-permutes}
-use Rattle.morph_engine.specs.Accounts.{Account, IsAccount}
+use Rattle.decision_model.specs.declared.counts.Last.{Last}
+use Rattle.morph_engine.specs.Accounts.{Account}
 use Rattle.morph_io.specs.Told.{IsAtEnd}
 use Rattle.event_reader.specs.declared.fault.ReaderFault.{ReaderFault}
 use Rattle.event_reader.specs.declared.fault.ReaderFault.TheVariants.{ReadFault, TooLong as LongInput, OutOfMemory as NoMemory}
@@ -30,12 +31,14 @@ use Rattle.morph_cli.specs.declared.run.Finish.{Finish}
 use Rattle.morph_cli.specs.Faults.{fault_of}
 use Rattle.run_text.specs.Text.{told_lines}
 use Rattle.run_text.specs.Counts.{Adds, HasRoom, no_tally}
-use Rattle.morph_cli.specs.Tallies.{IsMadeOf}
+use Rattle.morph_cli.specs.Strategies.{last_of, no_last, strategy_by}
+use Rattle.morph_cli.specs.Tallies.{IsMadeOf, IsSound}
 use Rattle.morph_cli.specs.Outputs.{Outputs, with_both, IsCutIn}
 use Rattle.morph_cli.specs.Status.{status_of}
 use Rattle.morph_cli.specs.Apps.{telling_by}
 use Rattle.run_text.specs.declared.choices.Settings.{Settings}
 use Rattle.morph_cli.proofs.Noting.{note_of}
+use Rattle.morph_cli.proofs.Tallying.{last_after, last_is, last_start, at_any}
 use Rattle.morph_cli.proofs.Turns.{cut_text}
 use Rattle.morph_cli.proofs.Ending.{Course, Goes, Ends, IsTold, meaning_in, goes_start, goes_batch, ends_read, ends_long, ends_memory, ends_batch_cut, told_short, told_in_batch}
 
@@ -74,7 +77,7 @@ reads_only LongInput is = absurd (cc)
 reads_only NoMemory is = absurd (cc)
 
 module _ {App : Type 0} where
-  pub record Between (c : Course App) (left : Option (List ℕ)) (new : Outputs) (r : ReaderView App) (values : Kept) (tally : Tally) (out : List ℕ) : Type 0 where
+  pub record Between (c : Course App) (left : Option (List ℕ)) (new : Outputs) (r : ReaderView App) (values : Kept) (tally : Tally) (out : List ℕ) (last : Last) : Type 0 where
     pub goes : Goes c left new r (contents values) tally
     pub layout : values.layout ≡ c.telling.layout
     pub app_is : r.app ≡ c.app
@@ -84,14 +87,17 @@ module _ {App : Type 0} where
     pub live : IsTrue r.live
     pub at_end : IsTrue r.lines.ended → IsAtEnd left
     pub kept : out ≡ []
+    -- what came of the batch before is at hand
+    pub last_is : last ≡ last_after goes.done
     pub counted : tally.committed + tally.aborted ≤ r.lines.number
 
   abbrev NewFacts : Course App → ReaderView App → Type 0
   NewFacts c r = (r.app ≡ c.app) × (r.size ≡ c.size) × (r.lines.limit ≡ c.limit) × (r.lines.number ≡ 0) × IsTrue r.live × (r.lines.ended ≡ false)
 
-  pub between_start : (c : Course App) (r : ReaderView App) (values : Kept) (tally : Tally) (out : List ℕ) (layout : Layout) → r ≡ new_reader c.app c.size c.limit →
-      values.layout ≡ layout → layout ≡ c.telling.layout → contents values ≡ opening_state → out ≡ [] → tally ≡ no_tally → Between c c.input c.old r values tally out
-  between_start c r values tally out layout new layout_is tables_are opening empty none =
+  pub between_start : (c : Course App) (r : ReaderView App) (values : Kept) (tally : Tally) (out : List ℕ) (last : Last) (layout : Layout) → r ≡ new_reader c.app c.size c.limit →
+      values.layout ≡ layout → layout ≡ c.telling.layout → contents values ≡ opening_state → out ≡ [] → last ≡ no_last → tally ≡ no_tally → Between c c.input c.old r values tally out last
+  unfolding goes_start
+  between_start c r values tally out last layout new layout_is tables_are opening empty unlast none =
       let facts : NewFacts c r = subst (NewFacts c) (sym new) (refl, refl, refl, refl, refl, refl) in
       record {
         goes = goes_start c r (contents values) tally new opening none;
@@ -103,13 +109,14 @@ module _ {App : Type 0} where
         live = facts.4;
         at_end = λ ended. absurd (false≢true (sym facts.5 ∙ ended));
         kept = empty;
+        last_is = unlast ∙ last_start;
         counted = let committed = ap (λ (t : Tally). t.committed) none in let aborted = ap (λ (t : Tally). t.aborted) none in omega (arith, facts.3, committed, aborted);
       }
 
   -- the numbers of the tally have room for one batch more
-  pub has_room : {c : Course App} {left : Option (List ℕ)} {new : Outputs} {r : ReaderView App} {values : Kept} {tally : Tally} {out : List ℕ} (a : Account) →
-      Between c left new r values tally out → c.limit ≤ 1073741824 → IsPlan a.plan → IsAccount c.settings.strategy.explore c.settings.workers a → HasRoom tally a
-  has_room {c} {left} {new} {r} {values} {tally} {out} a b short valid sound =
+  pub has_room : {c : Course App} {left : Option (List ℕ)} {new : Outputs} {r : ReaderView App} {values : Kept} {tally : Tally} {out : List ℕ} {last : Last} (a : Account) →
+      Between c left new r values tally out last → c.limit ≤ 1073741824 → IsPlan a.plan → IsSound c.settings.workers a → HasRoom tally a
+  has_room {c} {left} {new} {r} {values} {tally} {out} {last} a b short valid sound =
       let t = b.goes.tallied in
       let events = t.balanced.events in
       let counted = b.counted in
@@ -118,14 +125,17 @@ module _ {App : Type 0} where
       let few_ops : tally.ops ≤ EVENT_OPS * EVENTS * 1073741825 = let ops = t.few_ops in omega (arith, few_batches, ops) in
       let more : op_count a.plan ≤ EVENT_OPS * EVENTS = op_count-small a.plan valid in
       let more_events : event_count a.plan ≤ EVENTS = valid.numbering.few in
+      let few = at_any c.settings.workers a sound in
+      let evaluated_few = few.0 in
+      let rolled_few = few.1 in
       record {
         batches = omega (arith, few_batches);
         events = omega (arith, events, counted, number, short, more_events);
         counts = omega (arith, counted, number, short, more_events);
         ops = omega (arith, few_ops, more);
-        evaluated = let old = t.balanced.evaluated in let added = sound.evaluated in omega (arith, few_ops, more, old, added);
-        spread = let old = t.balanced.spread in let added = sound.spread in omega (arith, old, added);
-        rolled = let old = t.balanced.rolled in let added = sound.rolled in omega (arith, few_ops, more, old, added);
+        evaluated = let old = t.balanced.evaluated in omega (arith, few_ops, more, old, evaluated_few);
+        spread = let old = t.balanced.evaluated in omega (arith, few_ops, more, old, evaluated_few);
+        rolled = let old = t.balanced.rolled in omega (arith, few_ops, more, old, rolled_few);
         workers = t.counts.workers;
         settled = let old = t.balanced.settled in let added = sound.each in omega (arith, few_ops, more, old, added);
       }
@@ -133,22 +143,23 @@ module _ {App : Type 0} where
   meaning_is : (c : Course App) (r : ReaderView App) → r.app ≡ c.app → r.size ≡ c.size → c.event_of r.app r.size ≡ meaning_in c
   meaning_is c r app_is size_is = ap (λ a. c.event_of a r.size) app_is ∙ ap (c.event_of c.app) size_is
 
-  pub between_batch : {c : Course App} {left left' : Option (List ℕ)} {new newer : Outputs} {r r' : ReaderView App} {values values' : Kept} {tally tally' : Tally} {out out' : List ℕ}
-      (batch : TheBatch) (told : List Fate) (a : Account) → Between c left new r values tally out →
+  pub between_batch : {c : Course App} {left left' : Option (List ℕ)} {new newer : Outputs} {r r' : ReaderView App} {values values' : Kept} {tally tally' : Tally} {out out' : List ℕ} {last last' : Last}
+      (batch : TheBatch) (told : List Fate) (a : Account) → Between c left new r values tally out last →
       AnswersNext (accepted_by c.event_of r left) (Ok (Batch batch)) (accepted_by c.event_of r' left') →
       Takes left left' (ShowsNext c.event_of r (Ok (Batch batch)) r') →
       0 < length batch.events.items → r.lines.number + length batch.events.items ≤ r'.lines.number → r'.lines.number ≤ r'.lines.limit + 1 →
       (r'.app ≡ r.app) × (r'.size ≡ r.size) × (r'.lines.limit ≡ r.lines.limit) → (IsTrue r'.lines.ended → IsAtEnd left') →
       (r'.lines.ended ≡ false → r.lines.ended ≡ false) → r'.live ≡ true → values'.layout ≡ values.layout →
       contents values' ≡ fold_batch batch (contents values) → told ≡ fates (contents values) (by_time (transactions_of batch)) →
-      newer ≡ with_both new (told_lines c.telling.report told) (note_of c.settings tally'.batches a.plan) → out' ≡ [] →
-      Adds tally tally' a told → IsAccount c.settings.strategy.explore c.settings.workers a → IsMadeOf (contents values) (transactions_of batch) a.plan →
-      Between c left' newer r' values' tally' out'
-  between_batch {c} {left} {left'} {new} {newer} {r} {r'} {values} {values'} {tally} {tally'} {out} {out'} batch told a b answers shows some counted bound same at_end unended live layout_is
-      state fates_are written empty adds sound made = record {
+      newer ≡ with_both new (told_lines c.telling.report told) (note_of c.settings tally'.batches a) → out' ≡ [] →
+      Adds tally tally' a told → IsSound c.settings.workers a → IsMadeOf (contents values) (transactions_of batch) a.plan → a.strategy ≡ strategy_by c.settings.planning a.plan last →
+      last' ≡ last_of told → Between c left' newer r' values' tally' out' last'
+  unfolding goes_batch
+  between_batch {c} {left} {left'} {new} {newer} {r} {r'} {values} {values'} {tally} {tally'} {out} {out'} {last} {last'} batch told a b answers shows some counted bound same at_end unended live layout_is
+      state fates_are written empty adds sound made chosen last_told = record {
         goes = goes_batch c left left' new newer r r' (contents values) (contents values') tally tally' batch told a b.goes (simp length-map some) answers unended
             (subst (λ m. Takes left left' (ShowsBatch m r.closed r.lines (Ok (Batch batch)) r'.closed r'.lines)) (meaning_is c r b.app_is b.size_is) shows) state fates_are
-            written adds sound made (some_fates (contents values) batch told fates_are some);
+            written adds sound made (chosen ∙ ap (strategy_by c.settings.planning a.plan) b.last_is) (some_fates (contents values) batch told fates_are some);
         layout = layout_is ∙ b.layout;
         app_is = same.0 ∙ b.app_is;
         size_is = same.1 ∙ b.size_is;
@@ -157,6 +168,7 @@ module _ {App : Type 0} where
         live = live;
         at_end = at_end;
         kept = empty;
+        last_is = last_told ∙ last_is b.goes.done (transactions_of batch) told (fates_are ∙ ap (λ s. fates s (by_time (transactions_of batch))) b.goes.runs.state);
         counted = let n = fates-many (contents values) batch told fates_are in let before = b.counted in let all = adds.both in omega (arith, n, before, all, counted);
       }
 
@@ -168,11 +180,11 @@ module _ {App : Type 0} where
   told_at_once c tally failed none = told_short RunMemory failed (λ is. absurd (cc)) (goes_start c (new_reader c.app c.size c.limit) opening_state tally refl refl none)
 
   -- the reader failed
-  pub ends_fault : {c : Course App} {left : Option (List ℕ)} {new : Outputs} {r : ReaderView App} {values : Kept} {tally : Tally} {out : List ℕ} {x : Result Finish Fault}
-      (left' : Option (List ℕ)) (r' : ReaderView App) (e : ReaderFault) → x ≡ Err (fault_of e) → Between c left new r values tally out →
+  pub ends_fault : {c : Course App} {left : Option (List ℕ)} {new : Outputs} {r : ReaderView App} {values : Kept} {tally : Tally} {out : List ℕ} {last : Last} {x : Result Finish Fault}
+      (left' : Option (List ℕ)) (r' : ReaderView App) (e : ReaderFault) → x ≡ Err (fault_of e) → Between c left new r values tally out last →
       AnswersNext (accepted_by c.event_of r left) (Err e) (accepted_by c.event_of r' left') →
       Takes left left' (ShowsNext c.event_of r (Err e) r') → (IsErrOf {T = Next} (Err e) ReadFault → r.lines.ended ≡ false) → Ends c left' x new
-  ends_fault {c} {left} {new} {r} {values} {tally} {out} {x} left' r' e failed b answers shows asked = subst (λ y. Ends c left' y new) (sym failed) (by_fault e answers shows asked)
+  ends_fault {c} {left} {new} {r} {values} {tally} {out} {last} {x} left' r' e failed b answers shows asked = subst (λ y. Ends c left' y new) (sym failed) (by_fault e answers shows asked)
     where
       by_fault : (e : ReaderFault) → AnswersNext (accepted_by c.event_of r left) (Err e) (accepted_by c.event_of r' left') →
           Takes left left' (ShowsNext c.event_of r (Err e) r') → (IsErrOf {T = Next} (Err e) ReadFault → r.lines.ended ≡ false) → Ends c left' (Err (fault_of e)) new
@@ -182,25 +194,25 @@ module _ {App : Type 0} where
       by_fault LongInput answers shows asked = ends_long c left left' new r (contents values) tally b.goes answers
       by_fault NoMemory answers shows asked = ends_memory left' refl b.goes
 
-  pub told_fault : {c : Course App} {left : Option (List ℕ)} {new : Outputs} {r : ReaderView App} {values : Kept} {tally : Tally} {out : List ℕ} {x : Result Finish Fault}
-      (e : ReaderFault) → x ≡ Err (fault_of e) → Between c left new r values tally out → IsTold c (status_of x) tally new
+  pub told_fault : {c : Course App} {left : Option (List ℕ)} {new : Outputs} {r : ReaderView App} {values : Kept} {tally : Tally} {out : List ℕ} {last : Last} {x : Result Finish Fault}
+      (e : ReaderFault) → x ≡ Err (fault_of e) → Between c left new r values tally out last → IsTold c (status_of x) tally new
   told_fault e failed b = told_short (fault_of e) failed (reads_only e) b.goes
 
   -- writing failed in a batch
-  pub ends_in_batch : {c : Course App} {left : Option (List ℕ)} {new : Outputs} {r : ReaderView App} {values : Kept} {tally : Tally} {out : List ℕ} {x : Result Finish Fault}
-      (left' : Option (List ℕ)) (newer : Outputs) (r' : ReaderView App) (batch : TheBatch) (told : List Fate) (note : List ℕ) → x ≡ Err Write → Between c left new r values tally out →
+  pub ends_in_batch : {c : Course App} {left : Option (List ℕ)} {new : Outputs} {r : ReaderView App} {values : Kept} {tally : Tally} {out : List ℕ} {last : Last} {x : Result Finish Fault}
+      (left' : Option (List ℕ)) (newer : Outputs) (r' : ReaderView App) (batch : TheBatch) (told : List Fate) (note : List ℕ) → x ≡ Err Write → Between c left new r values tally out last →
       AnswersNext (accepted_by c.event_of r left) (Ok (Batch batch)) (accepted_by c.event_of r' left') → 0 < length batch.events.items →
       told ≡ fates (contents values) (by_time (transactions_of batch)) → IsCutIn new (told_lines c.telling.report told) note newer → Ends c left' x newer
-  ends_in_batch {c} {left} {new} {r} {values} {tally} {out} {x} left' newer r' batch told note failed b answers some fates_are cut =
+  ends_in_batch {c} {left} {new} {r} {values} {tally} {out} {last} {x} left' newer r' batch told note failed b answers some fates_are cut =
       ends_batch_cut left' left' newer r' (transactions_of batch) told failed b.goes (simp length-map some) answers fates_are
       (cut_text new (told_lines c.telling.report told) note newer cut)
 
-  pub told_cut_in_batch : {c : Course App} {left : Option (List ℕ)} {new : Outputs} {r : ReaderView App} {values : Kept} {tally tally' : Tally} {out : List ℕ} {x : Result Finish Fault}
-      (left' : Option (List ℕ)) (newer : Outputs) (r' : ReaderView App) (batch : TheBatch) (told : List Fate) (a : Account) → x ≡ Err Write → Between c left new r values tally out →
+  pub told_cut_in_batch : {c : Course App} {left : Option (List ℕ)} {new : Outputs} {r : ReaderView App} {values : Kept} {tally tally' : Tally} {out : List ℕ} {last : Last} {x : Result Finish Fault}
+      (left' : Option (List ℕ)) (newer : Outputs) (r' : ReaderView App) (batch : TheBatch) (told : List Fate) (a : Account) → x ≡ Err Write → Between c left new r values tally out last →
       AnswersNext (accepted_by c.event_of r left) (Ok (Batch batch)) (accepted_by c.event_of r' left') → 0 < length batch.events.items →
       told ≡ fates (contents values) (by_time (transactions_of batch)) →
-      Adds tally tally' a told → IsAccount c.settings.strategy.explore c.settings.workers a → IsMadeOf (contents values) (transactions_of batch) a.plan →
-      IsCutIn new (told_lines c.telling.report told) (note_of c.settings tally'.batches a.plan) newer → IsTold c (status_of x) tally' newer
-  told_cut_in_batch {c} {left} {new} {r} {values} {tally} {tally'} {out} {x} left' newer r' batch told a failed b answers some fates_are adds sound made cut =
+      Adds tally tally' a told → IsSound c.settings.workers a → IsMadeOf (contents values) (transactions_of batch) a.plan → a.strategy ≡ strategy_by c.settings.planning a.plan last →
+      IsCutIn new (told_lines c.telling.report told) (note_of c.settings tally'.batches a) newer → IsTold c (status_of x) tally' newer
+  told_cut_in_batch {c} {left} {new} {r} {values} {tally} {tally'} {out} {last} {x} left' newer r' batch told a failed b answers some fates_are adds sound made chosen cut =
       told_in_batch left' newer r' (transactions_of batch) failed b.goes answers (simp length-map some) fates_are
-      adds sound made (some_fates (contents values) batch told fates_are some) cut
+      adds sound made (chosen ∙ ap (strategy_by c.settings.planning a.plan) b.last_is) (some_fates (contents values) batch told fates_are some) cut

@@ -12,7 +12,7 @@ use Rattle.event_reader.specs.Lines.{front, within}
 use Rattle.event_reader.specs.Accepted.{Accepted, Ending, Ended, RefusedAt, CutOff, with_batch, accepted_within}
 use Rattle.event_reader.specs.declared.answers.Next.TheVariants.{Batch}
 use Rattle.event_reader.specs.Reader.{ReaderView, new_reader, accepted_by, accepted_after, accepted_next, Takes, ShowsBatch}
-use Rattle.morph_engine.specs.Accounts.{Account, IsAccount}
+use Rattle.morph_engine.specs.Accounts.{Account}
 use Rattle.run_text.specs.declared.choices.Settings.{Settings}
 use Rattle.run_text.specs.declared.tally.Tally.{Tally}
 use Rattle.morph_cli.specs.declared.fault.Fault.{Fault}
@@ -24,12 +24,13 @@ use Rattle.morph_cli.specs.Outputs.{Outputs, with_both, with_batches, IsCutIn, I
 use Rattle.morph_cli.specs.Runs.{EndsSo}
 use Rattle.morph_cli.specs.Status.{status_of}
 use Rattle.run_text.specs.Counts.{Adds, no_tally}
-use Rattle.morph_cli.specs.Tallies.{IsMadeOf, RunTold}
+use Rattle.morph_cli.specs.Strategies.{strategy_by}
+use Rattle.morph_cli.specs.Tallies.{IsMadeOf, IsSound, RunTold}
 use Rattle.run_text.specs.Text.{Telling, event_lines, told_lines, run_state, end_text}
 use Rattle.morph_cli.proofs.Noting.{IsNoted, note_of, notes_of, noted_nothing, noted_more, number_is}
 use Rattle.morph_cli.proofs.Running.{RunsOn, IsLast, fronts, runs_start, runs_batch, runs_ended, runs_done, runs_cut, runs_short, runs_cut_in_batch, whole_more, told_more, last_is}
 use Rattle.morph_cli.proofs.Taking.{TakesOn, takes_start, takes_batch, takes_failed}
-use Rattle.morph_cli.proofs.Tallying.{Tallied, tallied_start, tallied_more}
+use Rattle.morph_cli.proofs.Tallying.{Tallied, last_after, tallied_start, tallied_more}
 use Rattle.morph_cli.proofs.Turns.{both_is, both_as, cut_as}
 
 -- what is given of a run: what the application's lines say, how many ids each of its tables has, how many bytes of the input are read, how the run is
@@ -125,13 +126,17 @@ module _ {App : Type 0} where
   pub record Goes (c : Course App) (left : Option (List ℕ)) (new : Outputs) (r : ReaderView App) (s : State) (tally : Tally) : Type 0 where
     pub done : List (List Transaction)
     pub accounts : List Account
-    pub tallied : Tallied c.settings.strategy.explore c.settings.workers done accounts tally
+    pub tallied : Tallied c.settings.planning c.settings.workers done accounts tally
     pub runs : RunsOn c.telling (accepted_in c) (accepted_by c.event_of r left) c.old.sink new.sink s tally done
     pub takes : TakesOn (meaning_in c) c.input left r.closed r.lines done
     pub noted : IsNoted c.settings accounts c.old.notes new.notes
 
+  -- the strategy of a batch behind these is the one that was asked for, or chosen
+  abbrev pub IsChosen : Course App → (done : List (List Transaction)) → Account → Type 0
+  IsChosen c done a = a.strategy ≡ strategy_by c.settings.planning a.plan (last_after done)
+
   -- what a new reader has to give
-  given_at_start : (event_of : App → ℕ → Meaning) (app : App) (size limit : ℕ) (told : Option (List ℕ)) →
+  pub given_at_start : (event_of : App → ℕ → Meaning) (app : App) (size limit : ℕ) (told : Option (List ℕ)) →
       option_map (accepted_within (event_of app size) limit) told ≡ accepted_by event_of (new_reader app size limit) told
   unfolding ahead
   given_at_start event_of app size limit None = refl
@@ -139,12 +144,12 @@ module _ {App : Type 0} where
       ap (λ n. Some (accepted_after event_of (new_reader app size limit) (within n input))) {x = limit} {y = 0 + (limit - 0)} (omega arith)
 
   -- nothing was done yet
-  pub goes_start : (c : Course App) (r : ReaderView App) (s : State) (tally : Tally) → r ≡ new_reader c.app c.size c.limit → s ≡ opening_state → tally ≡ no_tally →
+  unfoldable pub goes_start : (c : Course App) (r : ReaderView App) (s : State) (tally : Tally) → r ≡ new_reader c.app c.size c.limit → s ≡ opening_state → tally ≡ no_tally →
       Goes c c.input c.old r s tally
   goes_start c r s tally new opening none = record {
     done = [];
     accounts = [];
-    tallied = tallied_start c.settings.strategy.explore c.settings.workers tally none;
+    tallied = tallied_start c.settings.planning c.settings.workers tally none;
     runs = subst (λ now. RunsOn c.telling (accepted_in c) now c.old.sink c.old.sink s tally [])
         (given_at_start c.event_of c.app c.size c.limit c.input ∙ ap (λ v. accepted_by c.event_of v c.input) (sym new))
         (runs_start c.telling (accepted_in c) c.old.sink s tally opening (ap (λ (t : Tally). t.committed) none) (ap (λ (t : Tally). t.aborted) none));
@@ -153,25 +158,25 @@ module _ {App : Type 0} where
   }
 
   -- a batch was run, and counted
-  tallied_batch : (c : Course App) (left : Option (List ℕ)) (new : Outputs) (r : ReaderView App) (s : State) (tally tally' : Tally) (batch : List Transaction) (told : List Fate)
-      (a : Account) → (goes : Goes c left new r s tally) → told ≡ fates s (by_time batch) → Adds tally tally' a told → IsAccount c.settings.strategy.explore c.settings.workers a → IsMadeOf s batch a.plan → 0 < length told →
-      Tallied c.settings.strategy.explore c.settings.workers (goes.done ++ batch ∷ []) (goes.accounts ++ a ∷ []) tally'
-  tallied_batch c left new r s tally tally' batch told a goes told_is adds sound made events =
-      tallied_more c.settings.strategy.explore c.settings.workers goes.done goes.accounts tally tally' batch a told goes.tallied adds sound (subst (λ q. IsMadeOf q batch a.plan) goes.runs.state made)
+  pub tallied_batch : (c : Course App) (left : Option (List ℕ)) (new : Outputs) (r : ReaderView App) (s : State) (tally tally' : Tally) (batch : List Transaction) (told : List Fate)
+      (a : Account) → (goes : Goes c left new r s tally) → told ≡ fates s (by_time batch) → Adds tally tally' a told → IsSound c.settings.workers a → IsMadeOf s batch a.plan → IsChosen c goes.done a → 0 < length told →
+      Tallied c.settings.planning c.settings.workers (goes.done ++ batch ∷ []) (goes.accounts ++ a ∷ []) tally'
+  tallied_batch c left new r s tally tally' batch told a goes told_is adds sound made chosen events =
+      tallied_more c.settings.planning c.settings.workers goes.done goes.accounts tally tally' batch a told goes.tallied adds sound (subst (λ q. IsMadeOf q batch a.plan) goes.runs.state made) chosen
       (told_more goes.done batch s told goes.runs.state told_is) events
 
   -- a batch was done
-  pub goes_batch : (c : Course App) (left left' : Option (List ℕ)) (new newer : Outputs) (r r' : ReaderView App) (s t : State) (tally tally' : Tally) (batch : TheBatch)
-      (told : List Fate) (a : Account) → Goes c left new r s tally → 0 < length (transactions_of batch) →
+  unfoldable pub goes_batch : (c : Course App) (left left' : Option (List ℕ)) (new newer : Outputs) (r r' : ReaderView App) (s t : State) (tally tally' : Tally) (batch : TheBatch)
+      (told : List Fate) (a : Account) → (goes : Goes c left new r s tally) → 0 < length (transactions_of batch) →
       accepted_by c.event_of r left ≡ option_map (with_batch (transactions_of batch)) (accepted_by c.event_of r' left') → (r'.lines.ended ≡ false → r.lines.ended ≡ false) →
       Takes left left' (ShowsBatch (meaning_in c) r.closed r.lines (Ok (Batch batch)) r'.closed r'.lines) →
       t ≡ after_all s (by_time (transactions_of batch)) → told ≡ fates s (by_time (transactions_of batch)) →
-      newer ≡ with_both new (told_lines c.telling.report told) (note_of c.settings tally'.batches a.plan) →
-      Adds tally tally' a told → IsAccount c.settings.strategy.explore c.settings.workers a → IsMadeOf s (transactions_of batch) a.plan → 0 < length told → Goes c left' newer r' t tally'
-  goes_batch c left left' new newer r r' s t tally tally' batch told a goes some was unended took state told_is written adds sound made events = record {
+      newer ≡ with_both new (told_lines c.telling.report told) (note_of c.settings tally'.batches a) →
+      Adds tally tally' a told → IsSound c.settings.workers a → IsMadeOf s (transactions_of batch) a.plan → IsChosen c goes.done a → 0 < length told → Goes c left' newer r' t tally'
+  goes_batch c left left' new newer r r' s t tally tally' batch told a goes some was unended took state told_is written adds sound made chosen events = record {
     done = goes.done ++ transactions_of batch ∷ [];
     accounts = goes.accounts ++ a ∷ [];
-    tallied = tallied_batch c left new r s tally tally' (transactions_of batch) told a goes told_is adds sound made events;
+    tallied = tallied_batch c left new r s tally tally' (transactions_of batch) told a goes told_is adds sound made chosen events;
     runs = runs_batch c.telling _ _ _ c.old.sink new.sink newer.sink s t tally tally' goes.done (transactions_of batch) told goes.runs was some state told_is
         (ap (λ (o : Outputs). o.sink) written) adds.committed adds.aborted;
     takes = takes_batch (meaning_in c) c.input left left' r.closed r'.closed r.lines r'.lines goes.done batch goes.takes some unended took;
@@ -289,12 +294,12 @@ module _ {App : Type 0} where
 
   -- a write failed in a batch that was run
   pub told_in_batch : {c : Course App} {left : Option (List ℕ)} {new : Outputs} {r : ReaderView App} {s : State} {tally tally' : Tally} {x : Result Finish Fault}
-      {a : Account} {told : List Fate} (left' : Option (List ℕ)) (newer : Outputs) (r' : ReaderView App) (batch : List Transaction) → x ≡ Err Write → Goes c left new r s tally →
+      {a : Account} {told : List Fate} (left' : Option (List ℕ)) (newer : Outputs) (r' : ReaderView App) (batch : List Transaction) → x ≡ Err Write → (goes : Goes c left new r s tally) →
       accepted_by c.event_of r left ≡ option_map (with_batch batch) (accepted_by c.event_of r' left') → 0 < length batch → told ≡ fates s (by_time batch) →
-      Adds tally tally' a told → IsAccount c.settings.strategy.explore c.settings.workers a → IsMadeOf s batch a.plan → 0 < length told →
-      IsCutIn new (told_lines c.telling.report told) (note_of c.settings tally'.batches a.plan) newer → IsTold c (status_of x) tally' newer
-  told_in_batch {c} {left} {new} {r} {s} {tally} {tally'} {x} {a} {told} left' newer r' batch failed goes was some told_is adds sound made events cut =
-      let tallied = tallied_batch c left new r s tally tally' batch told a goes told_is adds sound made events in
+      Adds tally tally' a told → IsSound c.settings.workers a → IsMadeOf s batch a.plan → IsChosen c goes.done a → 0 < length told →
+      IsCutIn new (told_lines c.telling.report told) (note_of c.settings tally'.batches a) newer → IsTold c (status_of x) tally' newer
+  told_in_batch {c} {left} {new} {r} {s} {tally} {tally'} {x} {a} {told} left' newer r' batch failed goes was some told_is adds sound made chosen events cut =
+      let tallied = tallied_batch c left new r s tally tally' batch told a goes told_is adds sound made chosen events in
       subst (λ y. IsTold c (status_of y) tally' newer) (sym failed) (record {
         done = goes.done ++ batch ∷ [];
         rest = still (accepted_by c.event_of r' left');
@@ -316,10 +321,10 @@ module _ {App : Type 0} where
           done_is = refl;
           accounts_is = refl;
           cut = cut_as new (with_batches c.old c.telling.report c.settings goes.done goes.accounts) (told_lines c.telling.report told)
-              (told_lines c.telling.report (fates (run_state goes.done) (by_time batch))) (note_of c.settings tally'.batches a.plan) (note_of c.settings (length (goes.done ++ batch ∷ [])) a.plan) newer
+              (told_lines c.telling.report (fates (run_state goes.done) (by_time batch))) (note_of c.settings tally'.batches a) (note_of c.settings (length (goes.done ++ batch ∷ [])) a) newer
               (wrote c left new r s tally goes)
               (ap (told_lines c.telling.report) (told_is ∙ ap (λ q. fates q (by_time batch)) goes.runs.state))
-              (ap (λ k. note_of c.settings k a.plan) tallied.counts.batches) cut;
+              (ap (λ k. note_of c.settings k a) tallied.counts.batches) cut;
         });
       })
 

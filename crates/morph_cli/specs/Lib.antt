@@ -4,5 +4,6 @@ pub mod Words
 pub mod Status
 pub mod Headline
 pub mod Apps
+pub mod Strategies
 pub mod Tallies
 pub mod Outputs

@@ -1,7 +1,6 @@
 -- What stands in the sink and in the notes, by the order of the writes: the lines of a batch, its note, then the lines of the next one; at the end
 -- the closing or the refused text, and then the tally.
-use Rattle.std.specs.Prelude.{◌≡◌, ℕ, ◌⊎◌, List, [], ◌∷◌, ◌++◌, length, Option, IfSome, Result, Ok, Err, map}
-use Rattle.morph_base.specs.declared.plan.Plan.{Plan}
+use Rattle.std.specs.Prelude.{◌≡◌, ℕ, ◌⊎◌, List, [], ◌∷◌, ◌++◌, length, Option, IfSome, Result, Ok, Err}
 use Rattle.morph_base.specs.Transactions.{Transaction, by_time}
 use Rattle.morph_engine.specs.Accounts.{Account}
 use Rattle.morph_base.specs.Outcomes.{fates}
@@ -34,13 +33,9 @@ abbrev pub Tells : {T E : Type 0} → Result T E → Outputs → (text note : Li
 Tells (Ok done) old text note new = new ≡ with_both old text note
 Tells (Err fault) old text note new = IsCutIn old text note new
 
--- the plans of batches that were run
-abbrev pub plans_of : List Account → List Plan
-plans_of accounts = map (λ (a : Account). a.plan) accounts
-
 -- batches that were run with these accounts were written and noted, whole
 abbrev pub with_batches : Outputs → Report → Settings → List (List Transaction) → List Account → Outputs
-with_batches old report s batches accounts = with_both old (event_lines report batches) (noted s.notes (batch_notes 1 (plans_of accounts) s.strategy))
+with_batches old report s batches accounts = with_both old (event_lines report batches) (noted s.notes (batch_notes 1 accounts))
 
 -- a write failed at the last of the batches that were run; those before it were written and noted, whole
 pub record IsCutInBatch (report : Report) (s : Settings) (done : List (List Transaction)) (accounts : List Account) (old new : Outputs) : Type 0 where
@@ -51,7 +46,7 @@ pub record IsCutInBatch (report : Report) (s : Settings) (done : List (List Tran
   pub done_is : done ≡ before ++ batch ∷ []
   pub accounts_is : accounts ≡ before_accounts ++ account ∷ []
   pub cut : IsCutIn (with_batches old report s before before_accounts) (told_lines report (fates (run_state before) (by_time batch)))
-      (noted s.notes (batch_note (length done) account.plan s.strategy)) new
+      (noted s.notes (batch_note (length done) account.plan account.strategy)) new
 
 -- the end of the input or a refused line was reached, and no batch is left
 pub record IsAtLast (told : Option Accepted) (rest : List (List Transaction)) : Type 0 where

@@ -2,8 +2,11 @@
 use Rattle.std.specs.Prelude.{◌≡◌, ℕ, ◌+◌, ◌*◌, ◌<◌, ◌≤◌, ◌⊎◌, All, List, [], ◌∷◌, ◌++◌, count_by, length, slice_index, sum, sum_by, Option, IfSome}
 use Rattle.morph_base.specs.Limits.{most_workers}
 use Rattle.morph_base.specs.declared.plan.Plan.{Plan}
+use Rattle.morph_base.specs.declared.strategy.Abort.TheVariants.{Lazy}
 use Rattle.morph_base.specs.declared.strategy.Explore.{Explore}
 use Rattle.morph_base.specs.declared.strategy.Explore.TheVariants.{Strata, Steal}
+use Rattle.morph_base.specs.declared.strategy.Strategy.{Strategy}
+use Rattle.morph_base.specs.Outcomes.{fates}
 use Rattle.morph_base.specs.Transactions.{Transaction, by_time}
 use Rattle.morph_base.specs.States.{State, opening_state, after_all}
 use Rattle.morph_base.specs.Plans.{HasBases, op_count, transactions}
@@ -13,12 +16,16 @@ use Rattle.steal_explorer.specs.Dealing.{level_one}
 use Rattle.morph_engine.specs.Accounts.{Account, IsAccount, is_committed_by_worker, settled_by}
 use Rattle.event_reader.specs.Accepted.{Accepted}
 use Rattle.run_text.specs.Counts.{counted_to}
+use Rattle.decision_model.specs.declared.counts.Last.{Last}
+use Rattle.run_text.specs.declared.choices.Planning.{Planning}
+use Rattle.run_text.specs.declared.choices.Planning.TheVariants.{Fixed}
 use Rattle.run_text.specs.declared.choices.Settings.{Settings}
 use Rattle.run_text.specs.declared.tally.Tally.{Tally}
 use Rattle.morph_io.specs.Told.{behind, AppendsPrefix}
 use Rattle.run_text.specs.Notes.{noted, closing_notes}
 use Rattle.morph_cli.specs.Outputs.{Outputs, with_both, with_batches, IsCutIn, IsCutInBatch, IsAtLast}
 use Rattle.morph_cli.specs.Status.{note_at}
+use Rattle.morph_cli.specs.Strategies.{last_of, no_last, strategy_by}
 use Rattle.run_text.specs.Text.{Telling, run_fates, committed_in, aborted_in, end_text}
 
 -- a valid plan of the events of a batch, from the state before it
@@ -27,20 +34,37 @@ pub record IsMadeOf (s : State) (batch : List Transaction) (p : Plan) : Type 0 w
   pub events : transactions p ≡ by_time batch
   pub bases : HasBases p s
 
--- batches that are run one after another from a state, each by the plan of its account
-unfoldable pub AreRunFrom : State → List (List Transaction) → List Account → Type 0
-AreRunFrom s [] [] = Unit {0}
-AreRunFrom s [] (a ∷ accounts) = ⊥
-AreRunFrom s (batch ∷ batches) [] = ⊥
-AreRunFrom s (batch ∷ batches) (a ∷ accounts) = IsMadeOf s batch a.plan × AreRunFrom (after_all s (by_time batch)) batches accounts
+-- batches that are run one after another from a state, each by the plan and the strategy of its account; `last` is what came of the
+-- batch before them
+unfoldable pub AreRunFrom : Planning → State → (last : Last) → List (List Transaction) → List Account → Type 0
+AreRunFrom planning s last [] [] = Unit {0}
+AreRunFrom planning s last [] (a ∷ accounts) = ⊥
+AreRunFrom planning s last (batch ∷ batches) [] = ⊥
+AreRunFrom planning s last (batch ∷ batches) (a ∷ accounts) =
+    IsMadeOf s batch a.plan × (a.strategy ≡ strategy_by planning a.plan last) × AreRunFrom planning (after_all s (by_time batch)) (last_of (fates s (by_time batch))) batches accounts
+
+-- the numbers of a batch go together
+abbrev pub IsSound : (workers : ℕ) → Account → Type 0
+IsSound workers a = IsAccount a.strategy.explore a.strategy.abort workers a
+
+-- all batches aborted lazily; all were explored so
+abbrev pub AreLazy : List Account → Type 0
+AreLazy accounts = All (λ a. a.strategy.abort ≡ Lazy) accounts
+
+abbrev pub AreExploredBy : Explore → List Account → Type 0
+AreExploredBy explore accounts = All (λ a. a.strategy.explore ≡ explore) accounts
 
 -- how many operations of committed events a worker settled
 abbrev pub committed_by_workers : Account → ℕ
 committed_by_workers a = count_by (is_committed_by_worker a.plan a.by) (below (op_count a.plan))
 
--- how many operations of level 1 its plan has
-abbrev pub level_one_count : Account → ℕ
-level_one_count a = length (level_one a.plan)
+-- how many operations of level 1 its plan has, where it was explored by deques
+abbrev pub dealt_by : Explore → Plan → ℕ
+dealt_by Strata p = 0
+dealt_by Steal p = length (level_one p)
+
+abbrev pub dealt_count : Account → ℕ
+dealt_count a = dealt_by a.strategy.explore a.plan
 
 -- the tally of batches that were run: what became of their events, and the sums over their accounts
 pub record IsTallyOf (done : List (List Transaction)) (accounts : List Account) (t : Tally) : Type 0 where
@@ -59,35 +83,52 @@ pub record IsTallyOf (done : List (List Transaction)) (accounts : List Account) 
   pub handed : t.handed ≡ counted_to (sum_by (λ a. a.handed) accounts)
   pub stolen : t.stolen ≡ counted_to (sum_by (λ a. a.stolen) accounts)
 
--- the laws of a tally that name its plans: each operation of a committed event that a worker settled was evaluated, by deques each
--- operation of level 1 was handed out, and with one worker what was rolled back are the operations with a source whose guess is not
--- its value
-pub record IsFounded (explore : Explore) (workers : ℕ) (accounts : List Account) (t : Tally) : Type 0 where
-  pub committed : sum_by committed_by_workers accounts ≤ t.evaluated
-  pub dealt : explore ≡ Steal → counted_to (sum_by level_one_count accounts) ≤ t.handed
-  pub alone : workers ≡ 1 → t.rolled ≡ sum_by (λ a. stale_count a.plan) accounts
-
--- with one worker nothing is left, it settles all, and each operation is evaluated once, and once more where it was rolled back.
--- Nothing is stolen, and by deques each operation is handed out once
-pub record IsBalancedAlone (explore : Explore) (t : Tally) : Type 0 where
-  pub none : t.left ≡ 0
-  pub mine : slice_index t.settled_by 1 ≡ t.ops
-  pub evaluated : t.evaluated ≡ t.ops + t.rolled
-  pub handed : explore ≡ Steal → t.handed ≡ t.ops
-  pub stolen : t.stolen ≡ 0
-
--- how the numbers of a tally go together where batches are explored so and there are so many workers, whatever is told of the input
-pub record IsBalanced (explore : Explore) (workers : ℕ) (t : Tally) : Type 0 where
-  pub events : t.committed + t.aborted ≡ t.events
-  pub settled : sum t.settled_by ≡ t.ops
-  pub inside : (w : ℕ) → workers < w → slice_index t.settled_by w ≡ 0
+-- where each batch aborted lazily there are at most twice as many evaluations as operations, and nothing is spread
+pub record IsLazyTally (t : Tally) : Type 0 where
   pub evaluated : t.evaluated ≤ 2 * t.ops
   pub rolled : t.rolled ≤ t.ops
   pub spread : t.spread ≡ 0
+
+-- the laws of a tally that name its batches: each operation of a committed event that a worker settled was evaluated; where batches
+-- were explored by deques each operation of level 1 was handed out, and where none was nothing is. With one worker and lazy abort
+-- what was rolled back are the operations with a source whose guess is not its value, each of which is evaluated once more; and by
+-- deques each operation is handed out once
+pub record IsFounded (workers : ℕ) (accounts : List Account) (t : Tally) : Type 0 where
+  pub committed : sum_by committed_by_workers accounts ≤ t.evaluated
+  pub dealt : counted_to (sum_by dealt_count accounts) ≤ t.handed
+  pub by_strata : AreExploredBy Strata accounts → t.handed ≡ 0
+  pub lazy : AreLazy accounts → IsLazyTally t
+  pub evaluated : workers ≡ 1 → AreLazy accounts → t.evaluated ≡ t.ops + t.rolled
+  pub rolled : workers ≡ 1 → AreLazy accounts → t.rolled ≡ sum_by (λ a. stale_count a.plan) accounts
+  pub handed : workers ≡ 1 → AreLazy accounts → AreExploredBy Steal accounts → t.handed ≡ t.ops
+
+-- with one worker nothing is left, it settles all, and nothing is stolen
+pub record IsBalancedAlone (t : Tally) : Type 0 where
+  pub none : t.left ≡ 0
+  pub mine : slice_index t.settled_by 1 ≡ t.ops
+  pub stolen : t.stolen ≡ 0
+
+-- where all batches are run with one strategy: by strata nothing is handed out; with lazy abort there are at most twice as many
+-- evaluations as operations; and with one worker besides each operation is evaluated once, and once more where it was rolled back,
+-- and by deques each is handed out once
+pub record IsBalancedBy (s : Strategy) (workers : ℕ) (t : Tally) : Type 0 where
+  pub by_strata : s.explore ≡ Strata → t.handed ≡ 0
+  pub lazy : s.abort ≡ Lazy → IsLazyTally t
+  pub evaluated : workers ≡ 1 → s.abort ≡ Lazy → t.evaluated ≡ t.ops + t.rolled
+  pub handed : workers ≡ 1 → s.abort ≡ Lazy → s.explore ≡ Steal → t.handed ≡ t.ops
+
+-- how the numbers of a tally go together where the strategy of each batch is found so and there are so many workers, whatever is
+-- told of the input
+pub record IsBalanced (planning : Planning) (workers : ℕ) (t : Tally) : Type 0 where
+  pub events : t.committed + t.aborted ≡ t.events
+  pub settled : sum t.settled_by ≡ t.ops
+  pub inside : (w : ℕ) → workers < w → slice_index t.settled_by w ≡ 0
+  pub evaluated : t.evaluated + t.spread ≤ 8 * t.ops
+  pub rolled : t.spread + t.rolled ≤ 7 * t.ops
   pub rest : slice_index t.settled_by 0 ≤ 4 * t.left
   pub stolen : t.stolen ≤ t.handed
-  pub by_strata : explore ≡ Strata → t.handed ≡ 0
-  pub alone : workers ≡ 1 → IsBalancedAlone explore t
+  pub alone : workers ≡ 1 → IsBalancedAlone t
+  pub by : (s : Strategy) → planning ≡ Fixed s → IsBalancedBy s workers t
 
 -- what is told of a run by its status: some first ones of the accepted batches were run, each by a valid plan from the state
 -- before it, these are counted, and the lines and the notes of these, in turn, are what was written. At 0 and 3 they are all
@@ -96,11 +137,11 @@ pub record RunTold (telling : Telling) (told : Option Accepted) (s : Settings) (
   pub rest : List (List Transaction)
   pub accounts : List Account
   pub parts : IfSome told (λ all. all.batches ≡ done ++ rest)
-  pub ran : AreRunFrom opening_state done accounts
-  pub sound : All (IsAccount s.strategy.explore s.workers) accounts
+  pub ran : AreRunFrom s.planning opening_state no_last done accounts
+  pub sound : All (IsSound s.workers) accounts
   pub counts : IsTallyOf done accounts t
-  pub founded : IsFounded s.strategy.explore s.workers accounts t
-  pub balanced : IsBalanced s.strategy.explore s.workers t
+  pub founded : IsFounded s.workers accounts t
+  pub balanced : IsBalanced s.planning s.workers t
   -- the end was written behind the batches, and the tally was noted
   pub whole : (status ≡ 0) ⊎ (status ≡ 3) → (last : IsAtLast told rest)
       × (new ≡ with_both (with_batches old telling.report s done accounts) (end_text telling done last.ending) (noted s.notes (closing_notes s.workers t)))

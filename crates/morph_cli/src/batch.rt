@@ -4,25 +4,29 @@ ghost use Rattle.morph_base.specs.Transactions.{IsBatch, BatchKeysIn, transactio
 ghost use Rattle.morph_base.specs.States.{fold_batch};
 ghost use Rattle.morph_base.specs.Outcomes.{fates};
 ghost use Rattle.morph_base.specs.Plans.{IsSettledOf};
-ghost use Rattle.morph_engine.specs.Accounts.{IsAccount, account_of};
+ghost use Rattle.morph_engine.specs.Accounts.{account_of};
 ghost use Rattle.morph_engine.specs.Fates.{settled_fates};
 ghost use Rattle.run_text.specs.Settings.{AreInRange};
-ghost use Rattle.morph_cli.specs.Tallies.{IsMadeOf};
+ghost use Rattle.morph_cli.specs.Strategies.{strategy_by};
+ghost use Rattle.morph_cli.specs.Tallies.{IsMadeOf, IsSound};
 
 use crate::job::Host;
+use crate::strategies::strategy_for;
+use decision_model::Last;
 use morph_base::{Batch, OutOfMemory};
 use morph_engine::{BatchEnd, Engine};
 use run_text::Settings;
 use std::thread::Threads;
 use worker_gate::Gate;
 
-/// Makes the plan of a batch and runs it on the engine, with the workers and the strategy of the settings. Where memory
-/// is refused the engine stays.
+/// Makes the plan of a batch and runs it on the engine, with the workers of the settings and the strategy that they ask
+/// for. Where memory is refused the engine stays.
 pub fn run_batch<R: Threads + Sync, G: Gate>(
     host: &Host<'_, R, G>,
     engine: &mut Engine,
     batch: &Batch,
     settings: &Settings,
+    last: Last,
 ) -> Result<BatchEnd, OutOfMemory>
     requires settings { AreInRange settings.now }
     requires batch { IsBatch batch.now }
@@ -34,12 +38,12 @@ pub fn run_batch<R: Threads + Sync, G: Gate>(
     ensures made { IfOk result (λ end.
         IsMadeOf (contents engine.old) (transactions_of batch.now) end.plan) }
     ensures settled { IfOk result (λ end. IsSettledOf end.plan end.settled) }
-    ensures account { IfOk result (λ end.
-        IsAccount settings.now.strategy.explore settings.now.workers (account_of end)) }
+    ensures strategy { IfOk result (λ end. end.strategy ≡ strategy_by settings.now.planning end.plan last) }
+    ensures account { IfOk result (λ end. IsSound settings.now.workers (account_of end)) }
     ensures refused { OnErr result (engine.new ≡ engine.old) }
 {
     let plan = engine.plan(host.alloc, batch)?;
-    let strategy = &settings.strategy;
+    let strategy = strategy_for(settings.planning, &plan, last);
     let workers = settings.workers;
-    engine.run_batch(host.rt, host.alloc, plan, strategy, workers, host.gate)
+    engine.run_batch(host.rt, host.alloc, plan, &strategy, workers, host.gate)
 }

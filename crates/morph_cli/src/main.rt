@@ -4,7 +4,8 @@
 //! [`morph::morph`] does all that the program does, over a source, a sink and notes of any kind; [`program::program`]
 //! gives it the words of the program's arguments, and `main` gives that the standard streams. It stands on
 //! `run_text`, which reads the words and writes the lines, on the applications, as `ledger_app`, on `event_reader`,
-//! which cuts the input into batches, on `morph_engine`, which runs them, and on `morph_io`, which reads and writes.
+//! which cuts the input into batches, on `decision_model`, which chooses the strategy of a batch where that is asked
+//! for, on `morph_engine`, which runs them, and on `morph_io`, which reads and writes.
 #![tactic(auto)]
 
 mod batch;
@@ -16,6 +17,7 @@ mod note;
 mod program;
 mod progress;
 mod run;
+mod strategies;
 mod tell;
 #[cfg(test)]
 mod tests;

@@ -199,7 +199,7 @@ pub fn morph<R: Threads + Sync, S: Source, K: Sink, N: Sink, G: Gate>(
         (outputs_of (K.written sink.new) (N.written notes.new))
         (HasRisen (N.faults notes.old) (N.faults notes.new))) }
     ensures balanced { IfSome (settings_of (map (λ word. word.items) words.now))
-        (λ s. IsBalanced s.strategy.explore s.workers result.tally) }
+        (λ s. IsBalanced s.planning s.workers result.tally) }
     ensures uncounted { result.status ≡ 2 → result.tally ≡ no_tally }
     ensures note { result.status ≡ 2
         → AppendsPrefix (N.written notes.old) (note_at result.status) (N.written notes.new) }

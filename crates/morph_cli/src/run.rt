@@ -10,6 +10,7 @@ ghost use Rattle.morph_cli.specs.Outputs.{outputs_of};
 ghost use Rattle.morph_cli.specs.Runs.{EndsSo, layout_of};
 ghost use Rattle.run_text.specs.Settings.{AreInRange};
 ghost use Rattle.morph_cli.specs.Status.{status_of};
+ghost use Rattle.morph_cli.specs.Strategies.{no_last};
 ghost use Rattle.run_text.specs.Counts.{no_tally};
 ghost use Rattle.morph_cli.specs.Tallies.{RunTold};
 
@@ -17,6 +18,7 @@ use crate::batch::run_batch;
 use crate::fault::Fault;
 use crate::job::Job;
 use crate::progress::Progress;
+use crate::strategies::count;
 use crate::tell::{Refusal, tell_batch, tell_closing, tell_refused};
 use event_reader::{EventApp, Next};
 use morph_io::{Sink, Source};
@@ -83,6 +85,7 @@ fn run_batches<R: Threads + Sync, A: EventApp + Copy, S: Source, K: Sink, N: Sin
         ≡ layout_of (A.table_count job.now.app) job.now.settings.size }
     requires opening { contents progress.old.engine ≡ opening_state }
     requires empty { progress.old.out ≡ [] }
+    requires last { progress.old.last ≡ no_last }
     ensures ends { let app = job.now.app in let settings = job.now.settings in
         IfSome (S.left source.old) (λ input. EndsSo (A.event_of app settings.size)
         (telling_for settings (A.table_count app) (A.name_of app)) INPUT_BYTES input
@@ -104,8 +107,9 @@ fn run_batches<R: Threads + Sync, A: EventApp + Copy, S: Source, K: Sink, N: Sin
     'batches: loop {
         match progress.reader.next_batch(job.host.alloc, source)? {
             Next::Batch(batch) => {
-                let end = run_batch(job.host, &mut progress.engine, &batch, &job.settings)?;
-                tally.add(&end);
+                let last = progress.last;
+                let end = run_batch(job.host, &mut progress.engine, &batch, &job.settings, last)?;
+                progress.last = count(tally, &end);
                 tell_batch(
                     &mut progress.out,
                     sink,

@@ -40,7 +40,7 @@ pub fn tell_batch<K: Sink, N: Sink>(
     requires settled { IsSettledOf end.now.plan end.now.settled }
     ensures told { Tells result (outputs_of (K.written sink.old) (N.written notes.old))
         (told_lines (report_of settings.now) (settled_fates end.now.plan end.now.settled))
-        (noted settings.now.notes (batch_note number end.now.plan settings.now.strategy))
+        (noted settings.now.notes (batch_note number end.now.plan end.now.strategy))
         (outputs_of (K.written sink.new) (N.written notes.new)) }
     ensures empty { OnOk result (out.new ≡ []) }
     ensures sink_faults { K.faults sink.old ≤ K.faults sink.new }
@@ -49,8 +49,7 @@ pub fn tell_batch<K: Sink, N: Sink>(
         ⊎ (IsTrue settings.now.notes × HasRisen (N.faults notes.old) (N.faults notes.new))) }
 {
     write_events(out, sink, settings.report(), end)?;
-    let strategy = settings.strategy;
-    note_batch(notes, settings.notes, number, &end.plan, strategy)
+    note_batch(notes, settings.notes, number, &end.plan, end.strategy)
 }
 
 /// Tells the end of the input: the closing text to the sink, and behind it the tally to the notes, where these are on.

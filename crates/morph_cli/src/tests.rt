@@ -1,10 +1,12 @@
 //! Runs of the program over memory: what stands in the sink and in the notes, and the status.
 mod apps;
 mod faults;
+mod holding;
 mod inputs;
 mod lines;
 mod meeting;
 mod notes;
+mod places;
 mod tallies;
 mod units;
 
@@ -17,7 +19,7 @@ use std::alloc::Global;
 use std::process::Abort;
 use std::test::Fail;
 use std::thread::Threads;
-use worker_gate::FreeGate;
+use worker_gate::{FreeGate, Gate};
 
 /// The words that ask for the ledger.
 const LEDGER: &[&[u8]] = &[b"app=ledger"];
@@ -131,6 +133,35 @@ fn run_words<R: Threads + Sync>(
         &mut source,
         sink_of(alloc, 100_000, &[], &[])?,
     )
+}
+
+/// Runs the program with these words on an input, under a gate.
+fn run_gated<R: Threads + Sync, G: Gate>(
+    rt: &R,
+    alloc: Global,
+    words: &[&[u8]],
+    input: &[u8],
+    gate: &G,
+) -> Result<Ran, OutOfMemory> {
+    let words = words_of(alloc, words)?;
+    let mut source = source_of(alloc, input, 1000, &[])?;
+    let mut sink = sink_of(alloc, 100_000, &[], &[])?;
+    let mut notes = sink_of(alloc, 1000, &[], &[])?;
+    let ended = morph(
+        rt,
+        alloc,
+        words.as_slice(),
+        &mut source,
+        &mut sink,
+        &mut notes,
+        gate,
+    );
+    Ok(Ran {
+        status: ended.status,
+        tally: ended.tally,
+        sink,
+        notes,
+    })
 }
 
 /// Runs the program with these words over each input, and expects this status and text, and no notes.

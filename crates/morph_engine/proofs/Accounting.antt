@@ -1,5 +1,5 @@
 -- What a batch counts, from what its closed board shows.
-use Rattle.std.proofs.Common.{◌≡◌, ◌⊎◌, ℕ, ◌+◌, ◌*◌, ◌<◌, ◌≤◌, Bool, true, false, cond, not, eqb, List, length, map, refl, sym, ap, ◌∙◌, subst, inl, inr, arith}
+use Rattle.std.proofs.Common.{◌≡◌, ◌⊎◌, ℕ, ◌+◌, ◌*◌, ◌<◌, ◌≤◌, Bool, true, false, cond, not, eqb, List, [], length, map, refl, sym, ap, ◌∙◌, subst, inl, inr, arith}
 use Rattle.std.specs.Prelude.{count_by, slice_index, sum_by}
 use Rattle.std.proofs.lemmas.Bool.{false≢true, cases_Bool, cond-true, cond-false, eq-eqb, eqb-true, and_parts}
 use Rattle.std.proofs.lemmas.List.{get_or_default}
@@ -7,8 +7,11 @@ use Rattle.std.proofs.lemmas.List.FromFn.{length-range_with_len}
 use Rattle.std.proofs.lemmas.List.Sums.{count_by-le-length, length-filter}
 use Rattle.morph_base.specs.declared.limits.TheConstants.{EVENT_OPS, EVENTS}
 use Rattle.morph_base.specs.declared.plan.Plan.{Plan}
+use Rattle.morph_base.specs.declared.strategy.Abort.{Abort}
+use Rattle.morph_base.specs.declared.strategy.Abort.TheVariants.{Lazy}
 use Rattle.morph_base.specs.declared.strategy.Explore.{Explore}
 use Rattle.morph_base.specs.declared.strategy.Explore.TheVariants.{Strata, Steal}
+use Rattle.morph_base.specs.declared.strategy.Strategy.{Strategy}
 use Rattle.morph_base.specs.Contents.{Contents}
 use Rattle.morph_base.specs.Graphs.{below}
 use Rattle.morph_base.specs.Plans.{IsPlan, op_at, op_count, event_of, verdict}
@@ -16,11 +19,10 @@ use Rattle.morph_base.specs.Words.{is_settled}
 use Rattle.morph_base.proofs.NumberLaws.{op_count-small}
 use Rattle.interleaving_core.specs.declared.event.CoreEvent.{CoreEvent}
 use Rattle.interleaving_core.specs.Core.{Core}
-use Rattle.interleaving_core.specs.Counts.{evaluated, rolled, is_committed}
+use Rattle.interleaving_core.specs.Counts.{evaluated, spreads, rolled, is_committed}
 use Rattle.interleaving_core.proofs.Bounds.{spreads-rolled, evaluated-spreads, no_spread}
 use Rattle.interleaving_core.proofs.Committed.{settled-evaluated}
 use Rattle.interleaving_core.proofs.Sources.{settled_cases}
-use Rattle.interleaving_core.proofs.Stale.{one_small}
 use Rattle.op_words.specs.declared.answers.Counts.{Counts}
 use Rattle.op_words.specs.declared.closed.Closed.{Closed}
 use Rattle.op_words.specs.Hands.{counts_of, up_to}
@@ -32,8 +34,10 @@ use Rattle.abort_lazy.proofs.Covering.{few_left}
 use Rattle.abort_lazy.proofs.Summing.{below_least, below_same, sum_map, sum_places}
 use Rattle.steal_explorer.specs.Dealing.{level_one}
 use Rattle.morph_engine.specs.Accounts.{Account, settled_by, is_committed_by_worker, IsAccount, IsAccountAlone}
-use Rattle.morph_engine.specs.Exploring.{Items, AreBalanced, AreOwnOnce}
+use Rattle.morph_engine.specs.Caps.{cap_for}
+use Rattle.morph_engine.specs.Exploring.{Items, AreBalanced}
 use Rattle.morph_engine.specs.Runs.{HasRun}
+use Rattle.morph_engine.proofs.Caps.{cap_small, attempts_few, rises_few}
 use Rattle.morph_engine.proofs.HandingOut.{one, weight_one}
 
 up_to_same : (n : ℕ) → n < 2000000 → up_to n ≡ n
@@ -47,6 +51,9 @@ explore_cases Steal = inr refl
 fewer : (a b : Bool) → (a ≡ true → b ≡ true) → cond a 1 0 ≤ cond b 1 0
 fewer true b implies = let one = cond-true {A = ℕ} b 1 0 (implies refl) in omega (arith, one)
 fewer false b implies = omega arith
+
+sums : {a b m n : ℕ} → a ≡ m → b ≡ n → m + n ≡ a + b
+sums first second = omega (arith, first, second)
 
 -- ---- what was handed out
 
@@ -79,24 +86,30 @@ module _ (p : Plan) (valid : IsPlan p) (handed stolen : ℕ) where
         let is = balanced.handed_is in
         omega arith
 
-    handed_once : AreOwnOnce p x → handed ≡ op_count p
-    handed_once own =
+    handed_once : ((h : ℕ → ℕ) → sum_by h x.pushed ≡ sum_by h (below (op_count p))) → handed ≡ op_count p
+    handed_once once =
         let all = range_size 0 (op_count p) in
-        let many : length x.pushed ≡ op_count p = sym (weight_one x.pushed) ∙ own.once one ∙ all in
+        let many : length x.pushed ≡ op_count p = sym (weight_one x.pushed) ∙ once one ∙ all in
         let small = op_count-small p valid in
         balanced.handed_is ∙ ap up_to many ∙ up_to_same (op_count p) (omega (arith, small))
 
-    none_stolen : AreOwnOnce p x → stolen ≡ 0
-    none_stolen own = balanced.stolen_is ∙ ap (λ (l : List ℕ). up_to (length l)) own.own
+    none_stolen : x.stolen ≡ [] → stolen ≡ 0
+    none_stolen own = balanced.stolen_is ∙ ap (λ (l : List ℕ). up_to (length l)) own
 
-module _ (p : Plan) (valid : IsPlan p) (explore : Explore) (workers : ℕ) (closed : Closed) (lists : List (List Left)) (by : List ℕ) (handed stolen : ℕ) (run : HasRun p explore workers closed lists by handed stolen)
+module _ (p : Plan) (valid : IsPlan p) (strategy : Strategy) (workers : ℕ) (closed : Closed) (lists : List (List Left)) (by : List ℕ) (handed stolen : ℕ) (run : HasRun p strategy.explore strategy.abort workers closed lists by handed stolen)
     (each : length by ≡ op_count p) (counts : Counts)
     (counted : counts ≡ counts_of run.ended.ends.history) (left : ℕ) (kept : left ≡ causes lists) where
   abbrev core : Core
   core = run.ended.ends.core
 
+  abbrev explore : Explore
+  explore = strategy.explore
+
+  abbrev abort : Abort
+  abort = strategy.abort
+
   abbrev account : Account
-  account = record { plan = p; by = by; counts = counts; left = left; handed = handed; stolen = stolen }
+  account = record { plan = p; strategy = strategy; by = by; counts = counts; left = left; handed = handed; stolen = stolen }
 
   -- ---- who settled an operation
 
@@ -156,27 +169,30 @@ module _ (p : Plan) (valid : IsPlan p) (explore : Explore) (workers : ℕ) (clos
   small : op_count p ≤ EVENT_OPS * EVENTS
   small = op_count-small p valid
 
-  few_evaluated : evaluated history ≤ 2 * op_count p
-  few_evaluated = let all = evaluated-spreads p 1 valid one_small history core run.ended.ends.run in omega (arith, all)
+  few_evaluated : evaluated history + spreads history ≤ (cap_for abort + 1) * op_count p
+  few_evaluated = evaluated-spreads p (cap_for abort) valid (cap_small abort) history core run.ended.ends.run
 
-  few_rolled : rolled history ≤ op_count p
-  few_rolled = let all = spreads-rolled p 1 valid one_small history core run.ended.ends.run in omega (arith, all)
+  few_rolled : spreads history + rolled history ≤ cap_for abort * op_count p
+  few_rolled = spreads-rolled p (cap_for abort) valid (cap_small abort) history core run.ended.ends.run
 
   evaluated_is : counts.evaluated ≡ evaluated history
-  evaluated_is = ap (λ (n : Counts). n.evaluated) counted ∙ up_to_same (evaluated history) (let few = few_evaluated in let all = small in omega (arith, few, all))
+  evaluated_is = ap (λ (n : Counts). n.evaluated) counted ∙ up_to_same (evaluated history) (let few = attempts_few abort _ _ few_evaluated in let all = small in omega (arith, few, all))
+
+  spread_is : counts.spread ≡ spreads history
+  spread_is = ap (λ (n : Counts). n.spread) counted ∙ up_to_same (spreads history) (let few = attempts_few abort _ _ few_evaluated in let all = small in omega (arith, few, all))
 
   rolled_is : counts.rolled ≡ rolled history
-  rolled_is = ap (λ (n : Counts). n.rolled) counted ∙ up_to_same (rolled history) (let few = few_rolled in let all = small in omega (arith, few, all))
+  rolled_is = ap (λ (n : Counts). n.rolled) counted ∙ up_to_same (rolled history) (let few = rises_few abort _ _ few_rolled in let all = small in omega (arith, few, all))
 
-  spread_is : counts.spread ≡ 0
-  spread_is = ap (λ (n : Counts). n.spread) counted ∙ ap up_to (no_spread p 1 valid one_small history core run.ended.ends.run refl)
+  none_spread : abort ≡ Lazy → counts.spread ≡ 0
+  none_spread lazy = spread_is ∙ no_spread p (cap_for abort) valid (cap_small abort) history core run.ended.ends.run (ap cap_for lazy)
 
   committed_few : count_by (is_committed_by_worker p by) (below (op_count p)) ≤ counts.evaluated
   committed_few =
       let least =
       below_least (λ o. cond (is_committed_by_worker p by o) 1 0) (λ o. cond (is_committed (core.word o).state) 1 0) (op_count p)
       (λ o lt. fewer (is_committed_by_worker p by o) (is_committed (core.word o).state) (committed_there o lt)) in
-      let all = settled-evaluated p 1 valid one_small history core run.ended.ends.run in
+      let all = settled-evaluated p (cap_for abort) valid (cap_small abort) history core run.ended.ends.run in
       let is = evaluated_is in
       omega (arith, least, all, is)
 
@@ -192,17 +208,17 @@ module _ (p : Plan) (valid : IsPlan p) (explore : Explore) (workers : ℕ) (clos
   dealt_within : explore ≡ Steal → length (level_one p) ≤ handed
   dealt_within steal = let out = run.handed_out steal in dealt_least p valid handed stolen out.items out.balanced
 
-  handed_alone : workers ≡ 1 → explore ≡ Steal → handed ≡ op_count p
-  handed_alone only steal = let out = run.handed_out steal in handed_once p valid handed stolen out.items out.balanced (out.alone only)
+  handed_alone : workers ≡ 1 → abort ≡ Lazy → explore ≡ Steal → handed ≡ op_count p
+  handed_alone only lazy steal = let out = run.handed_out steal in handed_once p valid handed stolen out.items out.balanced ((out.alone only).once lazy)
 
   stolen_alone : workers ≡ 1 → stolen ≡ 0
   stolen_alone only =
       elim (explore_cases explore) [
         | inl strata ↦ (run.unhanded strata).1
-        | inr steal ↦ let out = run.handed_out steal in none_stolen p valid handed stolen out.items out.balanced (out.alone only)
+        | inr steal ↦ let out = run.handed_out steal in none_stolen p valid handed stolen out.items out.balanced (out.alone only).own
       ]
 
-  alone : workers ≡ 1 → IsAccountAlone explore account
+  alone : workers ≡ 1 → IsAccountAlone explore abort account
   alone one =
       let lone = run.alone one in
       record {
@@ -211,21 +227,21 @@ module _ (p : Plan) (valid : IsPlan p) (explore : Explore) (workers : ℕ) (clos
             by_each (λ t. eqb t 1)
             ∙ below_same (λ o. cond (eqb (slice_index by o) 1) 1 0) (λ o. 1) (op_count p) (λ o lt. cond-true (eqb (slice_index by o) 1) 1 0 (eq-eqb (slice_index by o) 1 (lone.mine o lt)))
             ∙ range_size 0 (op_count p);
-        evaluated = evaluated_is ∙ lone.evaluated_is ∙ ap (λ n. op_count p + n) (sym rolled_is);
-        rolled = rolled_is ∙ lone.rolled_is;
-        handed = handed_alone one;
         stolen = stolen_alone one;
+        evaluated = λ lazy. evaluated_is ∙ lone.evaluated_is lazy ∙ ap (λ n. op_count p + n) (sym rolled_is);
+        rolled = λ lazy. rolled_is ∙ lone.rolled_is lazy;
+        handed = handed_alone one;
       }
 
-  pub is_account : IsAccount explore workers account
+  pub is_account : IsAccount explore abort workers account
   is_account = record {
     each = each;
     inside = λ k d lt.
         let less : k < op_count p = subst (λ n. k < n) each lt in
         subst (λ t. t ≤ workers) (get_or_default by k 0 d lt) (within k less);
-    evaluated = let few = few_evaluated in let is = evaluated_is in omega (arith, few, is);
-    spread = spread_is;
-    rolled = let few = few_rolled in let is = rolled_is in omega (arith, few, is);
+    evaluated = subst (λ n. n ≤ (cap_for abort + 1) * op_count p) (sums evaluated_is spread_is) few_evaluated;
+    spread = none_spread;
+    rolled = subst (λ n. n ≤ cap_for abort * op_count p) (sums spread_is rolled_is) few_rolled;
     committed = committed_few;
     rest = few_by_nobody;
     stolen = stolen_within;

@@ -5,6 +5,7 @@ use Rattle.std.proofs.lemmas.Bool.{cond-true}
 use Rattle.std.proofs.lemmas.List.{length-map}
 use Rattle.morph_base.specs.Contents.{Contents}
 use Rattle.morph_base.specs.declared.plan.Plan.{Plan}
+use Rattle.morph_base.specs.declared.strategy.Abort.TheVariants.{Lazy}
 use Rattle.morph_base.specs.declared.strategy.Explore.{Explore}
 use Rattle.morph_base.specs.declared.strategy.Explore.TheVariants.{Strata, Steal}
 use Rattle.morph_base.specs.declared.word.OpWord.{OpWord}
@@ -31,7 +32,7 @@ use Rattle.op_eval.specs.Gathering.{gathered, runners_of}
 use Rattle.op_eval.specs.Running.{hand_view}
 use Rattle.op_eval.specs.Alone.{IsNewRoot, HasRunAll}
 use Rattle.op_eval.specs.Further.{IsFurther, AreFurther}
-use Rattle.strata_explorer.specs.Levels.{ops_of}
+use Rattle.strata_explorer.specs.Levels.{counters_for}
 use Rattle.abort_lazy.specs.Ended.{AreAtStart, AreCauses, causes}
 use Rattle.abort_lazy.specs.Finishing.{settler}
 use Rattle.abort_lazy.specs.Runs.{AreAllHands, AreSettling, HasSettledAll, IsSettledByRoot, root_view}
@@ -39,8 +40,9 @@ use Rattle.abort_lazy.proofs.Causing.{settler_within}
 use Rattle.abort_lazy.proofs.Gathered.{gathered_made}
 use Rattle.abort_lazy.proofs.Made.{places_some}
 use Rattle.morph_engine.specs.declared.prepared.Prepared.{Prepared}
+use Rattle.morph_engine.specs.Caps.{cap_for}
 use Rattle.morph_engine.specs.Exploring.{HavePassed, HaveHanded, HasExploredBy}
-use Rattle.morph_engine.specs.Runs.{AreFirst, IsPrepared, IsPlaceReached, IsHandedOut, HasRunAlone, HasRun}
+use Rattle.morph_engine.specs.Runs.{AreFirst, IsPrepared, HavePassedLevels, IsHandedOut, HasRunAlone, HasRun}
 use Rattle.morph_engine.proofs.Alone.{IsLoneRun, evaluated_alone, rolled_alone}
 use Rattle.morph_engine.proofs.Reaching.{item_reached, places_reached}
 
@@ -67,9 +69,9 @@ single_kept [] one none = refl
 single_kept (r ∷ []) one none = ap (λ l. causes (l ∷ [])) (none r)
 single_kept (r ∷ q ∷ rs) one none = absurd (omega (arith, one))
 
--- a board that was made for the plan with one attempt more than the first
-pub closed_at : (p : Plan) (b : Board) (n : ℕ) (v : View) (c : Closed) → plan_of b ≡ p → cap_of b ≡ 1 → IsClosed (plan_of b) (cap_of b) n v c → IsClosed p 1 n v c
-closed_at p b n v c plan cap is = subst (λ (z : Plan × ℕ). IsClosed z.0 z.1 n v c) (λ a. (plan a, cap a)) is
+-- a board that was made for the plan with this cap
+pub closed_at : (p : Plan) (cap : ℕ) (b : Board) (n : ℕ) (v : View) (c : Closed) → plan_of b ≡ p → cap_of b ≡ cap → IsClosed (plan_of b) (cap_of b) n v c → IsClosed p cap n v c
+closed_at p cap b n v c plan same is = subst (λ (z : Plan × ℕ). IsClosed z.0 z.1 n v c) (λ a. (plan a, same a)) is
 
 -- ---- hands that further hands come from
 
@@ -92,7 +94,8 @@ further_unseen a b further no_trail no_notes lone o seen =
     (λ t found here settled. absurd (omega (arith, found.1))) seen.note inside seen.op_is seen.settled
 
 module _ (p : Plan) (valid : IsValidPlan p) (x : Prepared) (prepared : IsPrepared p x) (e : Explored) (rs : List Runner) (explored : AreExplored e.board e.next_counter e.runners)
-    (same_board : e.board ≡ x.board) (further : AreFurther (runners_of x.runners) (runners_of e.runners)) (ran : IsNewRoot (runners_of x.runners) → HasRunAll p (runners_of e.runners))
+    (same_plan : plan_of e.board ≡ plan_of x.board) (same_cap : cap_of e.board ≡ cap_of x.board) (further : AreFurther (runners_of x.runners) (runners_of e.runners))
+    (ran : x.abort ≡ Lazy → IsNewRoot (runners_of x.runners) → HasRunAll p (runners_of e.runners))
     (settling : AreSettling e.board p e.next_counter (length p.event_levels.items) (runners_of e.runners) rs) (by_root : IsSettledByRoot p (runners_of e.runners) rs) where
   abbrev before : List Runner
   before = runners_of x.runners
@@ -148,16 +151,16 @@ module _ (p : Plan) (valid : IsValidPlan p) (x : Prepared) (prepared : IsPrepare
     settled_all : HasSettledAll p (slice_index_or rs 0 d)
     settled_all = by_root (further.len ∙ one) d mid_lone
 
-    lone_run : IsLoneRun p (slice_index_or mid 0 d) (slice_index_or rs 0 d)
-    lone_run =
+    lone_run : x.abort ≡ Lazy → IsLoneRun p (slice_index_or mid 0 d) (slice_index_or rs 0 d)
+    lone_run lazy =
         let hand = explored.rest.hands 0 d some_mid in
         let here = settling.each 0 d some_after in
         record {
           lone = mid_lone;
           told = hand.told;
-          plan = hand.plan ∙ ap plan_of same_board ∙ prepared.plan;
-          cap = hand.cap ∙ ap cap_of same_board ∙ prepared.cap;
-          ran = ran new_root d;
+          plan = hand.plan ∙ same_plan ∙ prepared.plan;
+          cap = hand.cap ∙ same_cap ∙ prepared.cap ∙ ap cap_for lazy;
+          ran = ran lazy new_root d;
           unseen = further_unseen (slice_index_or before 0 d) (slice_index_or mid 0 d) (further.each 0 d some_before) (prepared.first.trail d) (prepared.first.notes d) first_lone;
           calls = here.tried.calls;
           made = here.tried.made;
@@ -171,7 +174,7 @@ module _ (p : Plan) (valid : IsValidPlan p) (x : Prepared) (prepared : IsPrepare
   abbrev pub any : Runner
   any = some_runner rs some_after
 
-  module _ (counters : ℕ) (fits : length p.op_levels.items ≤ counters) (closed : Closed) (is : IsClosed p 1 counters (root_view any rs) closed) (left : List (Contents Left)) (kept : left ≡ map (λ r. r.kept) rs)
+  module _ (counters : ℕ) (fits : counters_for p ≤ counters) (closed : Closed) (is : IsClosed p (cap_for x.abort) counters (root_view any rs) closed) (left : List (Contents Left)) (kept : left ≡ map (λ r. r.kept) rs)
       (why : AreCauses p is.ends.core (root_view any rs) (map (λ (l : Contents Left). l.items) left)) (by : List ℕ) (tags : (o : ℕ) → o < op_count p → slice_index by o ≡ settler (is.ends.core.word o)) where
     settled_by_one : length before ≡ 1 → (o : ℕ) → o < op_count p → slice_index by o ≡ 1
     settled_by_one one o lt =
@@ -188,35 +191,54 @@ module _ (p : Plan) (valid : IsValidPlan p) (x : Prepared) (prepared : IsPrepare
     some_places : (o : ℕ) → o < op_count p → 0 < places p o
     some_places o lt = (places_some p o valid.plan lt).0
 
-    alone : length before ≡ 1 → HasRunAlone p is.ends.history (map (λ (l : Contents Left). l.items) left) by
-    alone one =
-        let run = lone_run one any in
-        let root = sym (single_root any rs (many ∙ one)) in
-        let b = slice_index_or rs 0 any in
-        record {
-          none = ap (λ l. causes (map (λ (q : Contents Left). q.items) l)) kept ∙ single_kept rs (many ∙ one) (λ d. (settled_all one d).none);
-          mine = settled_by_one one;
-          evaluated_is =
-              subst (λ v. (z : Ends p 1 counters (words_of closed) v) → evaluated z.history ≡ op_count p + rolled z.history) root
-              (λ z. evaluated_alone p valid.plan some_places (slice_index_or mid 0 any) b run z) is.ends;
-          rolled_is =
-              subst (λ v. (z : Ends p 1 counters (words_of closed) v) → rolled z.history ≡ stale_count p) root
-              (λ z. rolled_alone p valid.plan some_places (slice_index_or mid 0 any) b run z) is.ends;
-        }
+    module _ (one : length before ≡ 1) (lazy : x.abort ≡ Lazy) where
+      run : IsLoneRun p (slice_index_or mid 0 any) (slice_index_or rs 0 any)
+      run = lone_run one any lazy
 
-    module _ (explore : Explore) (handed stolen : ℕ) (way : HasExploredBy explore p before e handed stolen) where
-      by_strata : explore ≡ Strata → HavePassed p e handed stolen
-      by_strata same = subst (λ by. HasExploredBy by p before e handed stolen) same way
+      -- the closed board as that of the only hand, with the cap of lazy abort
+      abbrev At : ((cap : ℕ) (v : View) → Ends p cap counters (words_of closed) v → Type 0) → ℕ × View → Type 0
+      At Of z = (end : Ends p z.0 counters (words_of closed) z.1) → Of z.0 z.1 end
 
-      by_deques : explore ≡ Steal → HaveHanded p before e handed stolen
-      by_deques same = subst (λ by. HasExploredBy by p before e handed stolen) same way
+      own : ◌≡◌ {A = ℕ × View} (1, hand_view (slice_index_or rs 0 any)) (cap_for x.abort, root_view any rs)
+      own a = (sym (ap cap_for lazy) a, sym (single_root any rs (many ∙ one)) a)
 
-      all_places : HavePassed p e handed stolen → (l n : ℕ) → l < length p.op_levels.items → n < length (ops_of p l) → IsPlaceReached p (root_view any rs) l n
-      all_places passed l n low less =
-          places_reached e.board p (length p.op_levels.items) (length p.event_levels.items) mid rs
-          (subst (λ from. AreSettling e.board p from (length p.event_levels.items) mid rs) passed.passes settling) passed.strata any is.ends fits some_after (none_joined any) l n low less
+      lone_evaluated : evaluated is.ends.history ≡ op_count p + rolled is.ends.history
+      lone_evaluated =
+          subst (At (λ cap v end. evaluated end.history ≡ op_count p + rolled end.history)) own
+          (evaluated_alone p valid.plan some_places (slice_index_or mid 0 any) (slice_index_or rs 0 any) run) is.ends
 
-      all_items : HaveHanded p before e handed stolen → IsHandedOut p (length before) (root_view any rs) handed stolen
+      lone_rolled : rolled is.ends.history ≡ stale_count p
+      lone_rolled =
+          subst (At (λ cap v end. rolled end.history ≡ stale_count p)) own
+          (rolled_alone p valid.plan some_places (slice_index_or mid 0 any) (slice_index_or rs 0 any) run) is.ends
+
+    alone : length before ≡ 1 → HasRunAlone p x.abort is.ends.history (map (λ (l : Contents Left). l.items) left) by
+    alone one = record {
+      none = ap (λ l. causes (map (λ (q : Contents Left). q.items) l)) kept ∙ single_kept rs (many ∙ one) (λ d. (settled_all one d).none);
+      mine = settled_by_one one;
+      evaluated_is = lone_evaluated one;
+      rolled_is = lone_rolled one;
+    }
+
+    module _ (explore : Explore) (handed stolen : ℕ) (way : HasExploredBy explore p x.abort before e handed stolen) where
+      by_strata : explore ≡ Strata → HavePassed p x.abort e handed stolen
+      by_strata same = subst (λ by. HasExploredBy by p x.abort before e handed stolen) same way
+
+      by_deques : explore ≡ Steal → HaveHanded p x.abort before e handed stolen
+      by_deques same = subst (λ by. HasExploredBy by p x.abort before e handed stolen) same way
+
+      all_places : HavePassed p x.abort e handed stolen → HavePassedLevels p x.abort (root_view any rs)
+      all_places out =
+          let fewer : length out.levels ≤ counters = (let few = out.passed.few in omega (arith, few, fits)) in
+          record {
+            levels = out.levels;
+            passed = out.passed;
+            places =
+                places_reached e.board p out.levels (length p.event_levels.items) mid rs
+                (subst (λ from. AreSettling e.board p from (length p.event_levels.items) mid rs) out.passes settling) out.strata any is.ends fewer some_after (none_joined any);
+          }
+
+      all_items : HaveHanded p x.abort before e handed stolen → IsHandedOut p x.abort (length before) (root_view any rs) handed stolen
       all_items out = record {
         items = out.items;
         balanced = out.balanced;
@@ -226,7 +248,7 @@ module _ (p : Plan) (valid : IsValidPlan p) (x : Prepared) (prepared : IsPrepare
         alone = λ one. out.alone (new_root one any);
       }
 
-      pub has_run : HasRun p explore (length before) closed (map (λ (l : Contents Left). l.items) left) by handed stolen
+      pub has_run : HasRun p explore x.abort (length before) closed (map (λ (l : Contents Left). l.items) left) by handed stolen
       has_run = record {
         counters = counters;
         view = root_view any rs;

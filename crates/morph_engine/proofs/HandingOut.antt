@@ -1,13 +1,13 @@
 -- What exploring by deques handed out.
 use Rattle.std.proofs.Common.{◌≡◌, ℕ, ◌+◌, ◌<◌, ◌≤◌, List, [], ◌∷◌, length, refl, arith}
 use Rattle.std.specs.Prelude.{Contains, sum_by}
-use Rattle.std.proofs.lemmas.List.{nil_from_length}
 use Rattle.std.proofs.lemmas.List.Sums.{sum_by-cons, sum_by-append, sum_by-le-sum_by}
 use Rattle.morph_base.specs.declared.plan.Plan.{Plan}
+use Rattle.morph_base.specs.declared.strategy.Abort.{Abort}
+use Rattle.morph_base.specs.declared.strategy.Abort.TheVariants.{Lazy}
 use Rattle.morph_base.specs.Plans.{op_count}
 use Rattle.op_words.specs.Hands.{up_to}
 use Rattle.op_eval.specs.declared.explored.Explored.{Explored}
-use Rattle.op_eval.specs.declared.explored.RunEnd.{RunEnd}
 use Rattle.op_eval.specs.declared.explored.RunEnd.TheVariants.{Drained}
 use Rattle.op_eval.specs.declared.runner.Runner.{Runner}
 use Rattle.op_eval.specs.Alone.{IsNewRoot}
@@ -21,7 +21,7 @@ use Rattle.steal_explorer.specs.Members.{own}
 use Rattle.steal_explorer.specs.Seating.{AreReady}
 use Rattle.steal_explorer.proofs.Closing.{sum_flat}
 use Rattle.steal_explorer.proofs.Pushing.{pushed_least}
-use Rattle.morph_engine.specs.Exploring.{Items, AreBalanced, AreOwnOnce, HaveHanded}
+use Rattle.morph_engine.specs.Exploring.{Items, AreBalanced, HaveHanded}
 
 -- each element weighs 1
 abbrev pub one : ℕ → ℕ
@@ -47,42 +47,35 @@ stolen_least x h =
     (λ m. let both = sum_by-append h (own m).popped (own m).stolen in omega arith) in
     omega arith
 
-module _ (p : Plan) (cap : ℕ) (d : Deques) (rs : List Runner) (x : Handed) (turns : HasTurns p cap d rs x) where
+module _ (p : Plan) (cap : ℕ) (abort : Abort) (d : Deques) (rs : List Runner) (x : Handed) (turns : HasTurns p cap abort d rs x) where
   handed_balance : AreReady p d → ((h : ℕ → ℕ) → sum_by h (pushed_of x) ≡ sum_by h (taken_of x) + sum_by h (unserved_of x)) → x.handed ≡ up_to (length (pushed_of x)) → x.stolen ≡ up_to (length (stolen_of x)) → AreBalanced p (items_of x) x.handed x.stolen
   handed_balance ready balance handed stolen = record {
     balance = balance;
-    dealt = λ h. let first = ready.dealt h in let least = pushed_least p cap d rs x turns h in omega arith;
+    dealt = λ h. let first = ready.dealt h in let least = pushed_least _ _ _ _ _ _ turns h in omega arith;
     by_steals = stolen_least x;
     handed_is = handed;
     stolen_is = stolen;
   }
 
-own_once : (p : Plan) (end : RunEnd) (x : Handed) (rs : List Runner) → (end ≡ Drained → unserved_of x ≡ []) → IsHandedAlone p end x rs → AreOwnOnce p (items_of x)
-own_once p end x rs drained alone = record {
-  once = alone.pushed;
-  served = drained alone.drained;
-  own =
-      let flat = sum_flat one stolen_from (workers_of x) in
-      let many = weight_one (stolen_of x) in
-      let none = alone.unstolen one in
-      nil_from_length (stolen_of x) (omega arith);
-}
-
-pub have_handed : (p : Plan) (cap : ℕ) (d : Deques) (rs : List Runner) (e : Explored) (x : Handed)
-    → AreReady p d
-    → HasTurns p cap d rs x
-    → ((h : ℕ → ℕ) → sum_by h (pushed_of x) ≡ sum_by h (taken_of x) + sum_by h (unserved_of x))
-    → x.handed ≡ up_to (length (pushed_of x))
-    → x.stolen ≡ up_to (length (stolen_of x))
-    → ((o : ℕ) → Contains (taken_of x) o → o < op_count p)
-    → AreReached p (taken_of x) (runners_of e.runners)
-    → (e.end ≡ Drained → unserved_of x ≡ [])
-    → (IsNewRoot rs → IsHandedAlone p e.end x (runners_of e.runners))
-    → HaveHanded p rs e x.handed x.stolen
-have_handed p cap d rs e x ready turns balance handed stolen inside reached drained alone = record {
-  items = items_of x;
-  balanced = handed_balance p cap d rs x turns ready balance handed stolen;
-  inside = inside;
-  reached = reached;
-  alone = λ new. own_once p e.end x (runners_of e.runners) drained (alone new);
-}
+  pub have_handed : (e : Explored)
+      → AreReady p d
+      → ((h : ℕ → ℕ) → sum_by h (pushed_of x) ≡ sum_by h (taken_of x) + sum_by h (unserved_of x))
+      → x.handed ≡ up_to (length (pushed_of x))
+      → x.stolen ≡ up_to (length (stolen_of x))
+      → ((o : ℕ) → Contains (taken_of x) o → o < op_count p)
+      → AreReached p (taken_of x) (runners_of e.runners)
+      → (e.end ≡ Drained → unserved_of x ≡ [])
+      → (length rs ≡ 1 → stolen_of x ≡ [])
+      → (abort ≡ Lazy → IsNewRoot rs → IsHandedAlone p e.end x (runners_of e.runners))
+      → HaveHanded p abort rs e x.handed x.stolen
+  have_handed e ready balance handed stolen inside reached drained unstolen alone = record {
+    items = items_of x;
+    balanced = handed_balance ready balance handed stolen;
+    inside = inside;
+    reached = reached;
+    alone = λ new. record {
+      own = unstolen new.one;
+      once = λ lazy. (alone lazy new).pushed;
+      served = λ lazy. drained (alone lazy new).drained;
+    };
+  }

@@ -1,9 +1,11 @@
 pub mod Told
 pub mod InKeys
 pub mod EventLevels
+pub mod Caps
 pub mod Preparing
 pub mod Alone
 pub mod Reaching
+pub mod Passing
 pub mod HandingOut
 pub mod Ending
 pub mod Accounting

@@ -1,4 +1,4 @@
--- What was taken was reached, as the closed board shows it: each place of each level's pass, and each operation from a deque.
+-- What was taken was reached, as the closed board shows it: each place of each pass, and each operation from a deque.
 use Rattle.std.proofs.Common.{◌≡◌, ℕ, zero, suc, ◌+◌, ◌<◌, ◌≤◌, eqb, List, [], ◌∷◌, length, map, refl, sym, ap, ◌∙◌, subst, inl, inr, arith}
 use Rattle.std.specs.Prelude.{Contains, slice_index, slice_index_or, sum_by}
 use Rattle.std.proofs.lemmas.Bool.{cases_eq, cond-true, cond-false, eq-eqb, ne_eqb}
@@ -23,7 +23,7 @@ use Rattle.op_words.proofs.Trailing.{reached_more}
 use Rattle.op_eval.specs.declared.runner.Runner.{Runner}
 use Rattle.op_eval.specs.Gathering.{gathered}
 use Rattle.op_eval.specs.Running.{hand_view}
-use Rattle.strata_explorer.specs.Levels.{ops_of, op_of, AreStrata, IsWhole}
+use Rattle.strata_explorer.specs.Levels.{ops_of, op_of, level_of, AreStrata, IsWhole}
 use Rattle.strata_explorer.proofs.Climbing.{union}
 use Rattle.abort_lazy.specs.declared.run.sweeping.Call.{Call}
 use Rattle.abort_lazy.specs.declared.run.sweeping.Call.TheVariants.{Took, Tried}
@@ -133,54 +133,54 @@ place_counts c n xs found =
     let is : is_it n n ≡ 1 = cond-true (eqb n n) 1 0 (eq-eqb n n refl) in
     omega (arith, inside, it, is)
 
-module _ (b : Board) (p : Plan) (from level : ℕ) (start rs : List Runner) (settling : AreSettling b p from level start rs) (strata : AreStrata p from start) {cap counters : ℕ} {ws : List ℕ} (d : Runner)
-    (end : Ends p cap counters ws (root_view d rs)) (fits : from ≤ counters) (some : 0 < length rs) (none : (hand_view (slice_index_or rs 0 d)).joined ≡ []) where
-  in_counters : (l : ℕ) → l < from → l < counters
-  in_counters l lt = omega (arith, lt, fits)
+module _ (b : Board) (p : Plan) (levels : List ℕ) (level : ℕ) (start rs : List Runner) (settling : AreSettling b p (length levels) level start rs) (strata : AreStrata p levels start) {cap counters : ℕ} {ws : List ℕ} (d : Runner)
+    (end : Ends p cap counters ws (root_view d rs)) (fits : length levels ≤ counters) (some : 0 < length rs) (none : (hand_view (slice_index_or rs 0 d)).joined ≡ []) where
+  in_counters : (c : ℕ) → c < length levels → c < counters
+  in_counters c lt = omega (arith, lt, fits)
 
   there : (k : ℕ) → k < length start → k < length rs
   there k lt = subst (λ n. k < n) (sym settling.len) lt
 
   -- events are tried with other counters
-  unused : (l : ℕ) → l < from → (k : ℕ) (e : Runner) (lt : k < length rs) (m : ℕ) → let here = settling.each k e lt in Contains here.tried.calls (Took l m) → ⊥
-  unused l low k e lt m found = let here = settling.each k e lt in let only = here.tried.only l m found in let is = only.2 in absurd (omega (arith, low, is))
+  unused : (c : ℕ) → c < length levels → (k : ℕ) (e : Runner) (lt : k < length rs) (m : ℕ) → let here = settling.each k e lt in Contains here.tried.calls (Took c m) → ⊥
+  unused c low k e lt m found = let here = settling.each k e lt in let only = here.tried.only c m found in let is = only.2 in absurd (omega (arith, low, is))
 
-  all_taken : (l n : ℕ) → l < from → n < slice_index ws (counter_base p + l) → (k : ℕ) × (k < length rs) × Contains (hand_view (slice_index_or rs k d)).places (place l n)
-  all_taken l n low less =
-      let end_is : ℕ = slice_index ws (counter_base p + l) in
+  all_taken : (c n : ℕ) → c < length levels → n < slice_index ws (counter_base p + c) → (k : ℕ) × (k < length rs) × Contains (hand_view (slice_index_or rs k d)).places (place c n)
+  all_taken c n low less =
+      let end_is : ℕ = slice_index ws (counter_base p + c) in
       let counted = sum_inside (is_it n) (below end_is) n (below_has end_is n less) in
       let it : is_it n n ≡ 1 = cond-true (eqb n n) 1 0 (eq-eqb n n refl) in
-      let numbers = end.numbers l (in_counters l low) (is_it n) in
-      let total = root_taken l (is_it n) d rs some none in
-      let places = sum_places (weights_of l (is_it n)) rs d in
-      let one = below_some (λ k. weights_of l (is_it n) (slice_index_or rs k d)) (length rs) (omega (arith, counted, it, numbers, total, places)) in
-      (one.0, one.1, some_place l n (hand_view (slice_index_or rs one.0 d)).places one.2)
+      let numbers = end.numbers c (in_counters c low) (is_it n) in
+      let total = root_taken c (is_it n) d rs some none in
+      let places = sum_places (weights_of c (is_it n)) rs d in
+      let one = below_some (λ k. weights_of c (is_it n) (slice_index_or rs k d)) (length rs) (omega (arith, counted, it, numbers, total, places)) in
+      (one.0, one.1, some_place c n (hand_view (slice_index_or rs one.0 d)).places one.2)
 
-  -- the numbers of a level's counter are those below what it shows in the end
-  whole : (l : ℕ) → l < from → IsWhole l start
-  whole l low = record {
-    end = slice_index ws (counter_base p + l);
+  -- the numbers of a pass's counter are those below what it shows in the end
+  whole : (c : ℕ) → c < length levels → IsWhole c start
+  whole c low = record {
+    end = slice_index ws (counter_base p + c);
     below = λ k e less n found.
         let here = settling.each k e (there k less) in
-        let held = calls_hold p here.tried.calls (slice_index_or start k e) (slice_index_or rs k e) here.tried.made (place l n) found in
-        let counts = place_counts l n (hand_view (slice_index_or rs k e)).places held in
-        let part = get_or-le-sum_by (weights_of l (is_it n)) rs k e (there k less) in
-        let total = root_taken l (is_it n) d rs some none in
-        taken_below end l (in_counters l low) n (omega (arith, counts, part, total));
+        let held = calls_hold p here.tried.calls (slice_index_or start k e) (slice_index_or rs k e) here.tried.made (place c n) found in
+        let counts = place_counts c n (hand_view (slice_index_or rs k e)).places held in
+        let part = get_or-le-sum_by (weights_of c (is_it n)) rs k e (there k less) in
+        let total = root_taken c (is_it n) d rs some none in
+        taken_below end c (in_counters c low) n (omega (arith, counts, part, total));
     taken = λ n less.
-        let one = all_taken l n low less in (
+        let one = all_taken c n low less in (
           one.0,
           subst (λ m. one.0 < m) settling.len one.1,
           λ e.
               let here = settling.each one.0 e one.1 in
-              calls_back p l n here.tried.calls (slice_index_or start one.0 e) (slice_index_or rs one.0 e) (unused l low one.0 e one.1) here.tried.made
-              (subst (λ r. Contains (hand_view r).places (place l n)) (get_or_default rs one.0 d e one.1) one.2),
+              calls_back p c n here.tried.calls (slice_index_or start one.0 e) (slice_index_or rs one.0 e) (unused c low one.0 e one.1) here.tried.made
+              (subst (λ r. Contains (hand_view r).places (place c n)) (get_or_default rs one.0 d e one.1) one.2),
         );
   }
 
-  pub places_reached : (l n : ℕ) → l < from → n < length (ops_of p l) → IsPlaceReached p (root_view d rs) l n
-  places_reached l n low less =
-      let one = union p from start strata d l low (whole l low) n less in
+  pub places_reached : (c n : ℕ) → c < length levels → n < length (ops_of p (level_of levels c)) → IsPlaceReached p (root_view d rs) c (level_of levels c) n
+  places_reached c n low less =
+      let one = union p levels start strata d c low (whole c low) n less in
       let lt = there one.0 one.1 in
       let here = settling.each one.0 d lt in
       let a = slice_index_or start one.0 d in
@@ -190,6 +190,6 @@ module _ (b : Board) (p : Plan) (from level : ℕ) (start rs : List Runner) (set
         trail = (hand_view b).trail;
         places = (hand_view b).places;
         hand = root_hand d rs one.0 lt;
-        taken = calls_hold p here.tried.calls a b here.tried.made (place l n) one.2;
-        reached = calls_reached p (op_of p l n) here.tried.calls a b here.tried.made one.3;
+        taken = calls_hold p here.tried.calls a b here.tried.made (place c n) one.2;
+        reached = calls_reached p (op_of p (level_of levels c) n) here.tried.calls a b here.tried.made one.3;
       }

@@ -1,20 +1,25 @@
 -- What a batch counts: who settled its operations, and how the numbers go together.
 use Rattle.std.specs.Prelude.{◌≡◌, ℕ, ◌+◌, ◌*◌, ◌≤◌, ◌==◌, ◌&&◌, Bool, not, List, All, length, count_by, sum_by, slice_index}
 use Rattle.morph_base.specs.declared.plan.Plan.{Plan}
+use Rattle.morph_base.specs.declared.strategy.Abort.{Abort}
+use Rattle.morph_base.specs.declared.strategy.Abort.TheVariants.{Lazy}
 use Rattle.morph_base.specs.declared.strategy.Explore.{Explore}
 use Rattle.morph_base.specs.declared.strategy.Explore.TheVariants.{Strata, Steal}
+use Rattle.morph_base.specs.declared.strategy.Strategy.{Strategy}
 use Rattle.morph_base.specs.Graphs.{below}
 use Rattle.morph_base.specs.Guesses.{stale_count}
 use Rattle.morph_base.specs.Plans.{op_count, event_of, verdict}
 use Rattle.op_words.specs.declared.answers.Counts.{Counts}
 use Rattle.steal_explorer.specs.Dealing.{level_one}
 use Rattle.morph_engine.specs.declared.engine.BatchEnd.{BatchEnd}
+use Rattle.morph_engine.specs.Caps.{cap_for}
 
--- of a batch: its plan, for each operation the worker that settled it, or 0 where the plain finish did, how often operations were
+-- of a batch: its plan and the strategy that it was run with, for each operation the worker that settled it, or 0 where the plain finish did, how often operations were
 -- evaluated, spread and rolled back, how many causes were kept why an event was left to the plain finish, and how many operations
 -- were handed out to workers and stolen
 pub record Account : Type 0 where
   pub plan : Plan
+  pub strategy : Strategy
   pub by : List ℕ
   pub counts : Counts
   pub left : ℕ
@@ -24,6 +29,7 @@ pub record Account : Type 0 where
 abbrev pub account_of : BatchEnd → Account
 account_of e = record {
   plan = e.plan;
+  strategy = e.strategy;
   by = e.settled.by.items;
   counts = e.counts;
   left = sum_by (λ list. length list.items) e.left.items;
@@ -39,26 +45,26 @@ settled_by by worker = count_by (λ t. t == worker) by
 abbrev pub is_committed_by_worker : Plan → List ℕ → ℕ → Bool
 is_committed_by_worker p by o = verdict p (event_of p o) && not (slice_index by o == 0)
 
--- with one worker nothing is left, it settles all, and what is evaluated twice are the operations with a source whose guess is
--- not its value. Nothing is stolen, and by deques each operation is handed out once
-pub record IsAccountAlone (explore : Explore) (a : Account) : Type 0 where
+-- with one worker nothing is left, it settles all, and nothing is stolen. Under lazy abort what is evaluated twice are the operations
+-- with a source whose guess is not its value, and by deques each operation is handed out once
+pub record IsAccountAlone (explore : Explore) (abort : Abort) (a : Account) : Type 0 where
   pub none : a.left ≡ 0
   pub mine : settled_by a.by 1 ≡ op_count a.plan
-  pub evaluated : a.counts.evaluated ≡ op_count a.plan + a.counts.rolled
-  pub rolled : a.counts.rolled ≡ stale_count a.plan
-  pub handed : explore ≡ Steal → a.handed ≡ op_count a.plan
   pub stolen : a.stolen ≡ 0
+  pub evaluated : abort ≡ Lazy → a.counts.evaluated ≡ op_count a.plan + a.counts.rolled
+  pub rolled : abort ≡ Lazy → a.counts.rolled ≡ stale_count a.plan
+  pub handed : abort ≡ Lazy → explore ≡ Steal → a.handed ≡ op_count a.plan
 
--- how the numbers of a batch go together that was explored so, and that so many workers ran with lazy abort
-pub record IsAccount (explore : Explore) (workers : ℕ) (a : Account) : Type 0 where
+-- how the numbers of a batch go together that was explored so, with this abort, and that so many workers ran
+pub record IsAccount (explore : Explore) (abort : Abort) (workers : ℕ) (a : Account) : Type 0 where
   pub each : length a.by ≡ op_count a.plan
   pub inside : All (λ t. t ≤ workers) a.by
-  pub evaluated : a.counts.evaluated ≤ 2 * op_count a.plan
-  pub spread : a.counts.spread ≡ 0
-  pub rolled : a.counts.rolled ≤ op_count a.plan
+  pub evaluated : a.counts.evaluated + a.counts.spread ≤ (cap_for abort + 1) * op_count a.plan
+  pub spread : abort ≡ Lazy → a.counts.spread ≡ 0
+  pub rolled : a.counts.spread + a.counts.rolled ≤ cap_for abort * op_count a.plan
   pub committed : count_by (is_committed_by_worker a.plan a.by) (below (op_count a.plan)) ≤ a.counts.evaluated
   pub rest : settled_by a.by 0 ≤ 4 * a.left
   pub stolen : a.stolen ≤ a.handed
   pub dealt : explore ≡ Steal → length (level_one a.plan) ≤ a.handed
   pub by_strata : explore ≡ Strata → a.handed ≡ 0
-  pub alone : workers ≡ 1 → IsAccountAlone explore a
+  pub alone : workers ≡ 1 → IsAccountAlone explore abort a

@@ -1,6 +1,8 @@
 -- What workers take operations from while they explore, and what became of these operations.
-use Rattle.std.specs.Prelude.{◌≡◌, ℕ, ◌+◌, ◌<◌, ◌≤◌, List, [], Contains, length, sum_by}
+use Rattle.std.specs.Prelude.{◌≡◌, ◌⊎◌, ℕ, ◌+◌, ◌<◌, ◌≤◌, List, [], All, Contains, length, sum_by}
 use Rattle.morph_base.specs.declared.plan.Plan.{Plan}
+use Rattle.morph_base.specs.declared.strategy.Abort.{Abort}
+use Rattle.morph_base.specs.declared.strategy.Abort.TheVariants.{Lazy}
 use Rattle.morph_base.specs.declared.strategy.Explore.{Explore}
 use Rattle.morph_base.specs.declared.strategy.Explore.TheVariants.{Strata, Steal}
 use Rattle.morph_base.specs.Graphs.{below}
@@ -10,7 +12,7 @@ use Rattle.op_eval.specs.declared.explored.Explored.{Explored}
 use Rattle.op_eval.specs.declared.runner.Runner.{Runner}
 use Rattle.op_eval.specs.Alone.{IsNewRoot}
 use Rattle.op_eval.specs.Gathering.{runners_of}
-use Rattle.strata_explorer.specs.Levels.{AreStrata}
+use Rattle.strata_explorer.specs.Levels.{AreStrata, counters_for, level_of}
 use Rattle.steal_explorer.specs.Dealing.{level_one}
 use Rattle.steal_explorer.specs.Handed.{AreReached}
 use Rattle.steal_explorer.specs.Seating.{AreReady}
@@ -47,29 +49,41 @@ pub record AreBalanced (p : Plan) (x : Items) (handed stolen : ℕ) : Type 0 whe
   pub handed_is : handed ≡ up_to (length x.pushed)
   pub stolen_is : stolen ≡ up_to (length x.stolen)
 
--- one worker pushed each operation of the plan once, and took all of them itself
-pub record AreOwnOnce (p : Plan) (x : Items) : Type 0 where
-  pub once : (h : ℕ → ℕ) → sum_by h x.pushed ≡ sum_by h (below (op_count p))
-  pub served : x.unserved ≡ []
+-- one worker stole nothing; under lazy abort it pushed each operation of the plan once, and took all of them
+pub record AreOwn (p : Plan) (abort : Abort) (x : Items) : Type 0 where
   pub own : x.stolen ≡ []
+  pub once : abort ≡ Lazy → (h : ℕ → ℕ) → sum_by h x.pushed ≡ sum_by h (below (op_count p))
+  pub served : abort ≡ Lazy → x.unserved ≡ []
+
+-- ---- levels that passes were made over
+
+-- of the list of them, the last first: each level is in it, or there were as many passes as there are counters for them. Under lazy
+-- abort each level was passed once, from the lowest on
+pub record ArePassed (p : Plan) (abort : Abort) (levels : List ℕ) : Type 0 where
+  pub few : length levels ≤ counters_for p
+  pub inside : All (λ l. l < length p.op_levels.items) levels
+  pub all : ((l : ℕ) → l < length p.op_levels.items → Contains levels l) ⊎ (length levels ≡ counters_for p)
+  pub lazy : abort ≡ Lazy → (length levels ≡ length p.op_levels.items) × ((k : ℕ) → k < length levels → level_of levels k ≡ k)
 
 -- ---- runners after exploring
 
--- a pass was made over each level, and nothing was handed out
-pub record HavePassed (p : Plan) (e : Explored) (handed stolen : ℕ) : Type 0 where
-  pub passes : e.next_counter ≡ length p.op_levels.items
-  pub strata : AreStrata p (length p.op_levels.items) (runners_of e.runners)
+-- passes were made over levels, each with a counter, and nothing was handed out
+pub record HavePassed (p : Plan) (abort : Abort) (e : Explored) (handed stolen : ℕ) : Type 0 where
+  pub levels : List ℕ
+  pub passed : ArePassed p abort levels
+  pub passes : e.next_counter ≡ length levels
+  pub strata : AreStrata p levels (runners_of e.runners)
   pub none_handed : handed ≡ 0
   pub none_stolen : stolen ≡ 0
 
 -- operations were handed out, and what a worker took was reached by one
-pub record HaveHanded (p : Plan) (start : List Runner) (e : Explored) (handed stolen : ℕ) : Type 0 where
+pub record HaveHanded (p : Plan) (abort : Abort) (start : List Runner) (e : Explored) (handed stolen : ℕ) : Type 0 where
   pub items : Items
   pub balanced : AreBalanced p items handed stolen
   pub inside : (x : ℕ) → Contains items.taken x → x < op_count p
   pub reached : AreReached p items.taken (runners_of e.runners)
-  pub alone : IsNewRoot start → AreOwnOnce p items
+  pub alone : IsNewRoot start → AreOwn p abort items
 
-abbrev pub HasExploredBy : Explore → Plan → (start : List Runner) → Explored → (handed stolen : ℕ) → Type 0
-HasExploredBy Strata p start e handed stolen = HavePassed p e handed stolen
-HasExploredBy Steal p start e handed stolen = HaveHanded p start e handed stolen
+abbrev pub HasExploredBy : Explore → Plan → Abort → (start : List Runner) → Explored → (handed stolen : ℕ) → Type 0
+HasExploredBy Strata p abort start e handed stolen = HavePassed p abort e handed stolen
+HasExploredBy Steal p abort start e handed stolen = HaveHanded p abort start e handed stolen

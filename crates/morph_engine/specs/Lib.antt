@@ -1,3 +1,4 @@
+pub mod Caps
 pub mod Fates
 pub mod Accounts
 pub mod Exploring

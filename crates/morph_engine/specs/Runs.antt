@@ -1,6 +1,8 @@
 -- What a batch takes its memory for, and what its board shows after its end.
 use Rattle.std.specs.Prelude.{◌≡◌, ℕ, ◌+◌, ◌<◌, ◌⊎◌, List, [], Contains, length, slice_index, slice_index_or}
 use Rattle.morph_base.specs.declared.plan.Plan.{Plan}
+use Rattle.morph_base.specs.declared.strategy.Abort.{Abort}
+use Rattle.morph_base.specs.declared.strategy.Abort.TheVariants.{Lazy}
 use Rattle.morph_base.specs.declared.strategy.Explore.{Explore}
 use Rattle.morph_base.specs.declared.strategy.Explore.TheVariants.{Strata, Steal}
 use Rattle.morph_base.specs.Guesses.{stale_count}
@@ -22,12 +24,13 @@ use Rattle.op_eval.specs.declared.runner.Runner.{Runner}
 use Rattle.op_eval.specs.Exploring.{AreExplored}
 use Rattle.op_eval.specs.Gathering.{runners_of}
 use Rattle.op_eval.specs.Running.{hand_view}
-use Rattle.strata_explorer.specs.Levels.{counters_for, ops_of, op_of}
+use Rattle.strata_explorer.specs.Levels.{counters_for, level_of, ops_of, op_of}
 use Rattle.abort_lazy.specs.Ended.{AreCauses, causes}
 use Rattle.abort_lazy.specs.Finishing.{settler}
 use Rattle.abort_lazy.specs.Rooms.{IsRoomFor}
 use Rattle.morph_engine.specs.declared.prepared.Prepared.{Prepared}
-use Rattle.morph_engine.specs.Exploring.{IsSupply, Items, AreBalanced, AreOwnOnce}
+use Rattle.morph_engine.specs.Caps.{cap_for}
+use Rattle.morph_engine.specs.Exploring.{IsSupply, Items, AreBalanced, AreOwn, ArePassed}
 
 -- ---- before
 
@@ -39,11 +42,11 @@ pub record AreFirst (rs : List Runner) : Type 0 where
   pub trail : (d : Runner) → (hand_view (slice_index_or rs 0 d)).trail ≡ []
   pub notes : (d : Runner) → (hand_view (slice_index_or rs 0 d)).notes ≡ []
 
--- a board for the plan with one attempt more than the first and a counter for each level, units, runners that can explore, what
--- they take operations from, and room for what is settled
+-- a board for the plan with the cap of its abort and counters for all passes and the levels of events, units, runners that can
+-- explore, what they take operations from, and room for what is settled
 pub record IsPrepared (p : Plan) (x : Prepared) : Type 0 where
   pub plan : plan_of x.board ≡ p
-  pub cap : cap_of x.board ≡ 1
+  pub cap : cap_of x.board ≡ cap_for x.abort
   pub counters : counters_of x.board ≡ counters_for p + length p.event_levels.items
   pub partition : IsPartition x.units.units (op_count p)
   pub number : x.units.ops ≡ op_count p
@@ -60,14 +63,20 @@ HasHand v tag trail places =
     ((v.tag ≡ tag) × (v.trail ≡ trail) × (v.places ≡ places))
     ⊎ ((x : Joined) × Contains v.joined x × (x.tag ≡ tag) × (x.trail ≡ trail) × (x.places ≡ places))
 
--- place n of the pass over level l was taken by a hand, in whose trail its operation was reached
-pub record IsPlaceReached (p : Plan) (v : View) (l n : ℕ) : Type 0 where
+-- place n of counter c was taken by a hand, in whose trail operation n of level l was reached
+pub record IsPlaceReached (p : Plan) (v : View) (c l n : ℕ) : Type 0 where
   pub tag : ℕ
   pub trail : List Item
   pub places : List Place
   pub hand : HasHand v tag trail places
-  pub taken : Contains places (place l n)
+  pub taken : Contains places (place c n)
   pub reached : IsReached p (op_of p l n) trail
+
+-- passes were made over levels, the last first in the list, and of each pass every place was taken, and its operation reached
+pub record HavePassedLevels (p : Plan) (abort : Abort) (v : View) : Type 0 where
+  pub levels : List ℕ
+  pub passed : ArePassed p abort levels
+  pub places : (c n : ℕ) → c < length levels → n < length (ops_of p (level_of levels c)) → IsPlaceReached p v c (level_of levels c) n
 
 -- operation o was reached in the trail of a hand
 pub record IsItemReached (p : Plan) (v : View) (o : ℕ) : Type 0 where
@@ -78,32 +87,34 @@ pub record IsItemReached (p : Plan) (v : View) (o : ℕ) : Type 0 where
   pub hand : HasHand v tag trail places
   pub reached : IsReached p o trail
 
--- operations were handed out to so many workers, and what one took was reached. One alone pushed and took each once
-pub record IsHandedOut (p : Plan) (workers : ℕ) (v : View) (handed stolen : ℕ) : Type 0 where
+-- operations were handed out to so many workers, and what one took was reached. One alone stole nothing, and under lazy abort it
+-- pushed and took each once
+pub record IsHandedOut (p : Plan) (abort : Abort) (workers : ℕ) (v : View) (handed stolen : ℕ) : Type 0 where
   pub items : Items
   pub balanced : AreBalanced p items handed stolen
   pub reached : (x : ℕ) → Contains items.taken x → IsItemReached p v x
-  pub alone : workers ≡ 1 → AreOwnOnce p items
+  pub alone : workers ≡ 1 → AreOwn p abort items
 
--- a lone root leaves nothing, and settles all; what is evaluated twice are the operations with a source whose guess is not its value
-pub record HasRunAlone (p : Plan) (history : List CoreEvent) (lists : List (List Left)) (by : List ℕ) : Type 0 where
+-- a lone root leaves nothing, and settles all; under lazy abort what is evaluated twice are the operations with a source whose guess
+-- is not its value
+pub record HasRunAlone (p : Plan) (abort : Abort) (history : List CoreEvent) (lists : List (List Left)) (by : List ℕ) : Type 0 where
   pub none : causes lists ≡ 0
   pub mine : (o : ℕ) → o < op_count p → slice_index by o ≡ 1
-  pub evaluated_is : evaluated history ≡ op_count p + rolled history
-  pub rolled_is : rolled history ≡ stale_count p
+  pub evaluated_is : abort ≡ Lazy → evaluated history ≡ op_count p + rolled history
+  pub rolled_is : abort ≡ Lazy → rolled history ≡ stale_count p
 
--- a batch was explored so and run by so many workers: the closed board is that of its plan; each operation has the worker that
--- settled it there, 0 where nobody did; why events were left, by worker; and how many operations were handed out and stolen. By
--- strata each place of each level's pass was taken, and its operation reached
-pub record HasRun (p : Plan) (explore : Explore) (workers : ℕ) (closed : Closed) (lists : List (List Left)) (by : List ℕ) (handed stolen : ℕ) : Type 0 where
+-- a batch was explored so, with this abort, and run by so many workers: the closed board is that of its plan; each operation has the
+-- worker that settled it there, 0 where nobody did; why events were left, by worker; and how many operations were handed out and
+-- stolen. By strata passes were made over levels, and each place of a pass was taken, and its operation reached
+pub record HasRun (p : Plan) (explore : Explore) (abort : Abort) (workers : ℕ) (closed : Closed) (lists : List (List Left)) (by : List ℕ) (handed stolen : ℕ) : Type 0 where
   pub counters : ℕ
   pub view : View
-  pub ended : IsClosed p 1 counters view closed
+  pub ended : IsClosed p (cap_for abort) counters view closed
   pub hands : view.made ≡ workers
   pub len : length lists ≡ workers
   pub tags : (o : ℕ) → o < op_count p → slice_index by o ≡ settler (ended.ends.core.word o)
   pub left : AreCauses p ended.ends.core view lists
-  pub places : explore ≡ Strata → (l n : ℕ) → l < length p.op_levels.items → n < length (ops_of p l) → IsPlaceReached p view l n
+  pub places : explore ≡ Strata → HavePassedLevels p abort view
   pub unhanded : explore ≡ Strata → (handed ≡ 0) × (stolen ≡ 0)
-  pub handed_out : explore ≡ Steal → IsHandedOut p workers view handed stolen
-  pub alone : workers ≡ 1 → HasRunAlone p ended.ends.history lists by
+  pub handed_out : explore ≡ Steal → IsHandedOut p abort workers view handed stolen
+  pub alone : workers ≡ 1 → HasRunAlone p abort ended.ends.history lists by

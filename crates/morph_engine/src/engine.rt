@@ -4,9 +4,10 @@ ghost use Rattle.morph_base.specs.Flat.{contents};
 ghost use Rattle.morph_base.specs.States.{opening_state};
 ghost use Rattle.morph_base.specs.Transactions.{IsBatch, BatchKeysIn};
 ghost use Rattle.morph_base.specs.Outcomes.{fates};
-ghost use Rattle.morph_base.specs.Plans.{HasBases, IsPlanOf, IsSettledOf, PlanKeysIn, event_count, op_count, state_at, transactions};
+ghost use Rattle.morph_base.specs.Plans.{HasBases, IsPlanOf, IsSettledOf, PlanKeysIn, event_count, state_at, transactions};
 ghost use Rattle.morph_base.specs.Graphs.{IsValidPlan};
 ghost use Rattle.morph_engine.specs.Accounts.{IsAccount, account_of};
+ghost use Rattle.morph_engine.specs.Caps.{cap_for};
 ghost use Rattle.morph_engine.specs.Fates.{settled_fates};
 ghost use Rattle.morph_engine.specs.Runs.{HasRun};
 ghost use Rattle.op_words.specs.Closing.{IsClosed};
@@ -14,7 +15,7 @@ ghost use Rattle.op_words.specs.Hands.{counts_of};
 ghost use Rattle.op_words.specs.declared.trail.View.{View as RootView};
 
 use crate::prepared::{Prepared, Ran};
-use morph_base::{Abort, Batch, Layout, List, OutOfMemory, Plan, Settled, Strategy};
+use morph_base::{Batch, Layout, List, OutOfMemory, Plan, Settled, Strategy};
 use op_eval::Left;
 use op_words::{Closed, Counts};
 use precedence_graph::build;
@@ -38,6 +39,8 @@ pub struct Engine {
 #[derive(Drop)]
 pub struct BatchEnd {
     pub plan: Plan,
+    /// The strategy that the batch was run with.
+    pub strategy: Strategy,
     pub settled: Settled,
     /// The board of this batch after its end, with the words, decisions and counts that workers left on it.
     pub closed: Closed,
@@ -94,18 +97,23 @@ impl Engine {
 
     /// Runs a plan that was made from the present state: the state becomes the fold of its events.
     ///
-    /// There are 1 to [`WORKERS`](morph_base::WORKERS) workers, and the strategy aborts lazily. Workers share a board
-    /// with a word for each operation. First they explore: they evaluate the operations, on the values that their
-    /// sources show at the time. By strata they go level by level, and take the operations of each from a counter.
-    /// Where they steal, each has a deque of operations: those of level 1 are dealt to all, what an evaluation made
-    /// ready is pushed, and a worker with nothing left steals from another. Then they settle the events, each tried
-    /// once: what rested on an aborted version is rolled back and evaluated again. What a worker left since another
-    /// one was in the way is completed in the end, on plain data. Neither the number of workers nor the strategy or
-    /// the gate changes the state, the values and the verdicts.
+    /// There are 1 to [`WORKERS`](morph_base::WORKERS) workers. They share a board with a word for each operation.
+    /// First they explore: they evaluate the operations, on the values that their sources show at the time. By strata
+    /// they go level by level, and take the operations of each from a counter. Where they steal, each has a deque of
+    /// operations: those of level 1 are dealt to all, what an evaluation made ready is pushed, and a worker with
+    /// nothing left steals from another. Then they settle the events, each tried once: what rested on an aborted
+    /// version is rolled back and evaluated again. What a worker left since another one was in the way is completed in
+    /// the end, on plain data.
+    ///
+    /// Under lazy abort a failure waits for settling. Under eager abort its cascade is run at once, and what that
+    /// rolled back is explored again: by strata from a lower level on, and by deques as an operation that is pushed.
+    /// So an operation may be evaluated up to eight times, and twice under lazy abort. Neither that nor the number of
+    /// workers, the rest of the strategy or the gate changes the state, the values and the verdicts.
     ///
     /// The closed board tells how it was done: the worker that settled an operation, its number of evaluations, and
     /// why an event was left. With one worker nothing is. What exploring took was reached in a worker's trail: by
-    /// strata each place of each level, and by deques each operation that was handed out and did not stay behind.
+    /// strata each place of each pass, and by deques each operation that was handed out and did not stay behind. By
+    /// strata each level was passed, or as many passes were made as the board has counters for.
     ///
     /// All memory is taken before the first worker runs. Where it is refused the state stays, and the plan is dropped.
     pub fn run_batch<R: Threads + Sync, G: Gate>(
@@ -120,22 +128,24 @@ impl Engine {
         requires plan { IsValidPlan plan }
         requires bases { HasBases plan (contents self.old) }
         requires keys { PlanKeysIn plan self.old.layout }
-        requires abort { strategy.now.abort ≡ Abort.Lazy }
         requires some { 1 ≤ workers }
         requires few { workers ≤ most_workers }
         ensures state { OnOk result (contents self.new ≡ state_at plan (contents self.old) (event_count plan)) }
         ensures layout { self.new.layout ≡ self.old.layout }
         ensures plan { IfOk result (λ end. end.plan ≡ plan) }
+        ensures strategy { IfOk result (λ end. end.strategy ≡ strategy.now) }
         ensures settled { IfOk result (λ end. IsSettledOf plan end.settled) }
 
         // What was settled tells what becomes of each event.
         ensures fates { IfOk result (λ end. settled_fates plan end.settled
             ≡ fates (contents self.old) (transactions plan)) }
-        ensures run { IfOk result (λ end. HasRun plan strategy.now.explore workers end.closed
+        ensures run { IfOk result (λ end. HasRun plan strategy.now.explore strategy.now.abort workers end.closed
             (map (λ list. list.items) end.left.items) end.settled.by.items end.handed end.stolen) }
-        ensures counts { IfOk result (λ end. (counters : ℕ) (v : RootView) (is : IsClosed plan 1 counters v end.closed)
+        ensures counts { IfOk result (λ end. (counters : ℕ) (v : RootView)
+            (is : IsClosed plan (cap_for strategy.now.abort) counters v end.closed)
             → end.counts ≡ counts_of is.ends.history) }
-        ensures account { IfOk result (λ end. IsAccount strategy.now.explore workers (account_of end)) }
+        ensures account { IfOk result (λ end. IsAccount strategy.now.explore strategy.now.abort workers
+            (account_of end)) }
         ensures refused { OnErr result (self.new ≡ self.old) }
     {
         let prepared = Prepared::new(alloc, &plan, strategy, workers)?;
@@ -149,6 +159,7 @@ impl Engine {
         let counts = closed.counts();
         Ok(BatchEnd {
             plan,
+            strategy: *strategy,
             settled,
             closed,
             left,

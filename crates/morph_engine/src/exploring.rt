@@ -1,6 +1,7 @@
 //! What workers take operations from while they explore, and exploring by it.
 ghost use Rattle.std.specs.Prelude.{◌≡◌, ◌≤◌, IfOk, length};
 ghost use Rattle.chain_units.specs.Places.{IsPartition};
+ghost use Rattle.morph_base.specs.declared.strategy.Abort.TheVariants.{Lazy};
 ghost use Rattle.morph_base.specs.Graphs.{IsValidPlan};
 ghost use Rattle.morph_base.specs.Limits.{most_workers};
 ghost use Rattle.morph_base.specs.Plans.{op_count};
@@ -13,7 +14,7 @@ ghost use Rattle.op_words.specs.Hands.{plan_of, cap_of, counters_of};
 ghost use Rattle.strata_explorer.specs.Levels.{counters_for};
 
 use chain_units::Units;
-use morph_base::{Explore, OutOfMemory, Plan};
+use morph_base::{Abort, Explore, OutOfMemory, Plan};
 use op_eval::{Explored, Runners};
 use op_words::Board;
 use std::alloc::Global;
@@ -24,7 +25,7 @@ use worker_gate::Gate;
 /// What workers take operations from while they explore.
 #[derive(Drop)]
 pub(crate) enum Supply {
-    /// The counters of the board, one for each level.
+    /// The counters of the board, one for each pass.
     Counters,
     /// Deques, each worker from its own or by a steal.
     Deques(Deques),
@@ -69,6 +70,7 @@ pub(crate) fn explore_by<R: Threads + Sync, G: Gate>(
     supply: Supply,
     plan: &Plan,
     units: &Units,
+    abort: Abort,
     gate: &G,
 ) -> (Explored, Tallied)
     requires valid { IsValidPlan plan.now }
@@ -76,20 +78,23 @@ pub(crate) fn explore_by<R: Threads + Sync, G: Gate>(
     requires units { IsPartition units.now.units (op_count plan.now) }
     requires number { units.now.ops ≡ op_count plan.now }
     requires counters { counters_for plan.now ≤ counters_of board }
-    requires cap { cap_of board ≡ 1 }
+    requires cap { 1 ≤ cap_of board }
     requires ready { AreExplored board 0 runners }
     requires supply { IsSupply plan.now (length (runners_of runners)) supply }
     ensures explored { IsExplored result.0 }
-    ensures board { result.0.board ≡ board }
+    ensures plan { plan_of result.0.board ≡ plan_of board }
+    ensures cap { cap_of result.0.board ≡ cap_of board }
+    ensures counters { counters_of result.0.board ≡ counters_of board }
     ensures hands { AreFurther (runners_of runners) (runners_of result.0.runners) }
-    ensures ran { IsNewRoot (runners_of runners) → HasRunAll plan.now (runners_of result.0.runners) }
-    ensures next_counter { result.0.next_counter ≤ length plan.now.op_levels.items }
-    ensures way { HasExploredBy (explore_of supply) plan.now (runners_of runners) result.0 result.1.handed
+    ensures ran { abort ≡ Lazy → IsNewRoot (runners_of runners)
+        → HasRunAll plan.now (runners_of result.0.runners) }
+    ensures next_counter { result.0.next_counter ≤ counters_for plan.now }
+    ensures way { HasExploredBy (explore_of supply) plan.now abort (runners_of runners) result.0 result.1.handed
         result.1.stolen }
 {
     match supply {
         Supply::Counters => {
-            let explored = strata_explorer::explore(rt, board, runners, plan, units, gate);
+            let explored = strata_explorer::explore(rt, board, runners, plan, units, abort, gate);
             let none = Tallied {
                 handed: 0,
                 stolen: 0,
@@ -98,7 +103,7 @@ pub(crate) fn explore_by<R: Threads + Sync, G: Gate>(
         }
         Supply::Deques(deques) => {
             let (explored, handed) = steal_explorer::explore(
-                rt, board, runners, deques, plan, units, gate,
+                rt, board, runners, deques, plan, units, abort, gate,
             );
             let tallied = Tallied {
                 handed: handed.handed,

@@ -4,6 +4,11 @@
 //! keeps the state between batches. A caller makes an [`Engine`] of a layout; then, for each valid batch, it makes a
 //! plan ([`Engine::plan`]) and runs it ([`Engine::run_batch`]), after which the state is the fold of the batch. What
 //! became of each event is read off the [`BatchEnd`], and the values in the end off [`Engine::state`].
+//!
+//! A batch is run by any [`Strategy`](morph_base::Strategy): by operations or chains, explored by strata or by deques,
+//! with lazy or eager abort. That changes how often an operation is evaluated and by whom, and never the state, the
+//! values or the verdicts. The board of a batch, its runners and the passes of its exploring are those of `op_words`,
+//! `op_eval`, `strata_explorer` and `steal_explorer`; `abort_lazy` settles what was explored, and completes it.
 #![tactic(auto)]
 
 mod engine;

@@ -4,13 +4,14 @@ ghost use Rattle.morph_base.specs.Graphs.{IsValidPlan};
 ghost use Rattle.morph_base.specs.Limits.{most_workers};
 ghost use Rattle.morph_base.specs.Plans.{IsSettledOf};
 ghost use Rattle.op_eval.specs.Gathering.{runners_of};
+ghost use Rattle.morph_engine.specs.Caps.{cap_for};
 ghost use Rattle.morph_engine.specs.Exploring.{explore_of};
 ghost use Rattle.morph_engine.specs.Runs.{IsPrepared, HasRun};
 
 use crate::exploring::{Supply, Tallied, explore_by};
 use abort_lazy::{Room, finish, settle_all};
 use chain_units::{Units, units};
-use morph_base::{List, OutOfMemory, Plan, Settled, Strategy};
+use morph_base::{Abort, List, OutOfMemory, Plan, Settled, Strategy};
 use op_eval::{Left, Runners};
 use op_words::{Board, Closed};
 use std::alloc::Global;
@@ -18,13 +19,23 @@ use std::thread::Threads;
 use strata_explorer::counters;
 use worker_gate::Gate;
 
-/// The last attempt at which an operation may read what is not settled: with lazy abort each has one more, on settled
-/// values.
-const CAP: u8 = 1;
+/// The last attempt at which an operation may read what is not settled; behind it each has one more, on settled values.
+///
+/// Under lazy abort one is enough. Under eager abort an operation is evaluated again while others explore, on what may
+/// be rolled back once more.
+fn cap_of(abort: Abort) -> u8
+    ensures { result ≡ cap_for abort }
+{
+    match abort {
+        Abort::Lazy => 1,
+        Abort::Eager => 7,
+    }
+}
 
 /// All that a batch takes its memory for, before its first worker runs.
 #[derive(Drop)]
 pub(crate) struct Prepared {
+    abort: Abort,
     units: Units,
     board: Board,
     runners: Runners,
@@ -42,7 +53,7 @@ pub(crate) struct Ran {
 }
 
 impl Prepared {
-    /// Takes the memory for a plan, by a strategy's unit and exploration and for so many workers.
+    /// Takes the memory for a plan, by a strategy and for so many workers.
     pub(crate) fn new(
         alloc: Global,
         plan: &Plan,
@@ -55,14 +66,16 @@ impl Prepared {
         ensures prepared { IfOk result (IsPrepared plan.now) }
         ensures workers { IfOk result (λ made. length (runners_of made.runners) ≡ workers) }
         ensures explore { IfOk result (λ made. explore_of made.supply ≡ strategy.now.explore) }
+        ensures abort { IfOk result (λ made. made.abort ≡ strategy.now.abort) }
     {
         let units = units(alloc, plan, strategy.unit)?;
         let counters = counters(plan) + plan.event_levels.len() as u32;
-        let (board, root) = Board::new(alloc, plan, CAP, counters)?;
+        let (board, root) = Board::new(alloc, plan, cap_of(strategy.abort), counters)?;
         let runners = Runners::new(alloc, &board, root, workers, plan.events.len() as u32)?;
         let supply = Supply::new(alloc, plan, strategy.explore, workers)?;
         let room = Room::new(alloc, plan)?;
         Ok(Prepared {
+            abort: strategy.abort,
             units,
             board,
             runners,
@@ -76,18 +89,19 @@ impl Prepared {
         requires valid { IsValidPlan plan.now }
         requires prepared { IsPrepared plan.now self }
         ensures settled { IsSettledOf plan.now result.settled }
-        ensures ran { HasRun plan.now (explore_of self.supply) (length (runners_of self.runners)) result.closed
-            (map (λ list. list.items) result.left.items) result.settled.by.items result.tallied.handed
-            result.tallied.stolen }
+        ensures ran { HasRun plan.now (explore_of self.supply) self.abort (length (runners_of self.runners))
+            result.closed (map (λ list. list.items) result.left.items) result.settled.by.items
+            result.tallied.handed result.tallied.stolen }
     {
         let Prepared {
+            abort,
             units,
             board,
             runners,
             supply,
             room,
         } = self;
-        let (explored, tallied) = explore_by(rt, board, runners, supply, plan, &units, gate);
+        let (explored, tallied) = explore_by(rt, board, runners, supply, plan, &units, abort, gate);
         let (closed, left) = settle_all(rt, explored, plan).close(plan);
         let settled = finish(&closed, plan, room);
         Ran {

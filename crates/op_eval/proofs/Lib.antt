@@ -5,3 +5,4 @@ pub mod Beginning
 pub mod Further
 pub mod Alone
 pub mod Totals
+pub mod Showing

@@ -1,32 +1,36 @@
 -- Words ask for no settings exactly where one of the causes holds.
 use Rattle.std.proofs.Common.{◌≡◌, ℕ, ◌⊎◌, inl, inr, Bool, true, false, List, [], ◌∷◌, Option, Some, None, refl, ap, sym, ◌∙◌, subst, lit<}
 use Rattle.std.specs.Prelude.{◌&&◌, ◌||◌, count_by, is_some, if◌then◌else◌}
-use Rattle.std.specs.List.{list_all}
+use Rattle.std.specs.List.{list_all, list_any}
+use Rattle.std.specs.Str.{bytes_eq}
 use Rattle.std.proofs.lemmas.Bool.{cases_Bool, and_cases, and_left, and_right, cond-true, cond-false, leb-false, lt-leb, true≢false}
 use Rattle.std.proofs.lemmas.List.Folds.{list_all_at}
 use Rattle.event_reader.specs.Numbers.{value_of}
 use Rattle.event_reader.specs.declared.ranges.Range.{Range}
 use Rattle.morph_base.specs.declared.strategy.Unit.{Unit as UnitKind}
 use Rattle.morph_base.specs.declared.strategy.Explore.{Explore as ExploreKind}
+use Rattle.morph_base.specs.declared.strategy.Abort.{Abort as AbortKind}
+use Rattle.morph_base.specs.declared.strategy.Strategy.{Strategy}
+use Rattle.run_text.specs.declared.choices.Planning.{Planning}
+use Rattle.run_text.specs.declared.choices.Planning.TheVariants.{Auto}
 use Rattle.run_text.specs.declared.names.Name.{Name}
-use Rattle.run_text.specs.declared.names.Name.TheVariants.{App as AppName, Own, Workers, Size, Unit as UnitName, Explore as ExploreName, Seed, Events, Notes}
+use Rattle.run_text.specs.declared.names.Name.TheVariants.{App as AppName, Own, Workers, Size, Unit as UnitName, Explore as ExploreName, Abort as AbortName, Plan as PlanName, Seed, Events, Notes}
 use Rattle.run_text.specs.declared.choices.App.{App}
 use Rattle.run_text.specs.declared.choices.Settings.{Settings}
 use Rattle.run_text.specs.declared.words.Input.{Input}
-use Rattle.run_text.specs.Settings.{all_names, has_equals, name_of, has_name, is_known, is_once, are_once, value_under, is_given, app_in, some_app, app_given, app_under, number_given, number_under, says_in, switch_in, switch_given, switch_under, unit_in, unit_given, unit_under, explore_in, explore_given, explore_under, worker_counts, sizes, seeds, event_counts, read_input, made_of, made_input, input_by, input_of, settings_by, settings_of}
-use Rattle.run_text.specs.NoSettings.{is_name, is_value_of, NoSettings, no_equals, unknown_name, given_twice, other_value, both_inputs, no_input, made_alone}
+use Rattle.run_text.specs.Settings.{text_of, all_names, has_equals, name_of, has_name, is_known, is_once, are_once, value_under, is_given, app_in, some_app, app_given, app_under, number_given, number_under, says_in, switch_in, switch_given, switch_under, unit_in, unit_given, unit_under, explore_in, explore_given, explore_under, abort_in, abort_given, abort_under, auto_in, auto_given, auto_under, strategy_by, strategy_of, is_strategy_given, fixed, planning_by, planning_of, worker_counts, sizes, seeds, event_counts, read_input, made_of, made_input, input_by, input_of, settings_by, settings_of}
+use Rattle.run_text.specs.NoSettings.{is_name, is_value_of, NoSettings, no_equals, unknown_name, given_twice, other_value, both_inputs, no_input, made_alone, chosen_and_given}
 
 -- ---- the names
 
 -- a word has a name that there is where it has an `=`, and what stands before it is such a name
-by_any : (any a b c d e f g h i : Bool) →
-    ((any && a) || ((any && b) || ((any && c) || ((any && d) || ((any && e) || ((any && f) || ((any && g) || ((any && h) || ((any && i) || false)))))))))
-    ≡ (any && (a || (b || (c || (d || (e || (f || (g || (h || (i || false))))))))))
-by_any true a b c d e f g h i = refl
-by_any false a b c d e f g h i = refl
+by_any : (any : Bool) (test : Name → Bool) (names : List Name) → list_any (λ name. any && test name) names ≡ (any && list_any test names)
+by_any true test names = refl
+by_any false test [] = refl
+by_any false test (name ∷ names) = by_any false test names
 
 known_by : (word : List ℕ) → is_known word ≡ (has_equals word && is_name (name_of word))
-known_by word = by_any (has_equals word) _ _ _ _ _ _ _ _ _
+known_by word = by_any (has_equals word) (λ name. bytes_eq (name_of word) (text_of name)) all_names
 
 exchange : (a b c d : Bool) → ((a && b) && (c && d)) ≡ ((a && c) && (b && d))
 exchange true true c d = refl
@@ -56,9 +60,11 @@ all_false test Workers is = list_all_at test all_names 2 Workers (lit< tt) is
 all_false test Size is = list_all_at test all_names 3 Size (lit< tt) is
 all_false test UnitName is = list_all_at test all_names 4 UnitName (lit< tt) is
 all_false test ExploreName is = list_all_at test all_names 5 ExploreName (lit< tt) is
-all_false test Seed is = list_all_at test all_names 6 Seed (lit< tt) is
-all_false test Events is = list_all_at test all_names 7 Events (lit< tt) is
-all_false test Notes is = list_all_at test all_names 8 Notes (lit< tt) is
+all_false test AbortName is = list_all_at test all_names 6 AbortName (lit< tt) is
+all_false test PlanName is = list_all_at test all_names 7 PlanName (lit< tt) is
+all_false test Seed is = list_all_at test all_names 8 Seed (lit< tt) is
+all_false test Events is = list_all_at test all_names 9 Events (lit< tt) is
+all_false test Notes is = list_all_at test all_names 10 Notes (lit< tt) is
 
 -- ---- the values
 
@@ -97,6 +103,14 @@ explore_none : (given : Option (List ℕ)) → explore_given given ≡ None → 
 explore_none None is = absurd (cc)
 explore_none (Some value) is = (value, refl, something (explore_in value) is)
 
+abort_none : (given : Option (List ℕ)) → abort_given given ≡ None → (value : List ℕ) × (given ≡ Some value) × (is_some (abort_in value) ≡ false)
+abort_none None is = absurd (cc)
+abort_none (Some value) is = (value, refl, something (abort_in value) is)
+
+auto_none : (given : Option (List ℕ)) → auto_given given ≡ None → (value : List ℕ) × (given ≡ Some value) × (is_some (auto_in value) ≡ false)
+auto_none None is = absurd (cc)
+auto_none (Some value) is = (value, refl, something (auto_in value) is)
+
 -- an application is given with a value that is none, or not, or it is one
 data Given (given : Option (List ℕ)) : Type 0 where
   given_other : (value : List ℕ) → given ≡ Some value → is_some (app_in value) ≡ false → app_given given ≡ None → Given given
@@ -115,7 +129,7 @@ given_cases (Some value) = by_app (app_in value) refl
 
 abbrev rest_of : List (List ℕ) → Option Settings
 rest_of words =
-    settings_by (input_of words) (number_under Workers worker_counts 1 words) (number_under Size sizes 10000 words) (unit_under UnitName words) (explore_under ExploreName words) (switch_under Notes words)
+    settings_by (input_of words) (number_under Workers worker_counts 1 words) (number_under Size sizes 10000 words) (planning_of words) (switch_under Notes words)
 
 by_rest : (words : List (List ℕ)) → rest_of words ≡ None → settings_of words ≡ None
 by_rest words is = by_test (list_all is_known words && are_once words)
@@ -124,39 +138,58 @@ by_rest words is = by_test (list_all is_known words && are_once words)
     by_test true = is
     by_test false = refl
 
-no_workers : (i : Option Input) (w s : Option ℕ) (u : Option UnitKind) (e : Option ExploreKind) (n : Option Bool) → w ≡ None → settings_by i w s u e n ≡ None
-no_workers None w s u e n is = refl
-no_workers (Some i) w s u e n is = ap (λ w. settings_by (Some i) w s u e n) is
+no_workers : (i : Option Input) (w s : Option ℕ) (p : Option Planning) (n : Option Bool) → w ≡ None → settings_by i w s p n ≡ None
+no_workers None w s p n is = refl
+no_workers (Some i) w s p n is = ap (λ w. settings_by (Some i) w s p n) is
 
-no_size : (i : Option Input) (w s : Option ℕ) (u : Option UnitKind) (e : Option ExploreKind) (n : Option Bool) → s ≡ None → settings_by i w s u e n ≡ None
-no_size None w s u e n is = refl
-no_size (Some i) None s u e n is = refl
-no_size (Some i) (Some w) s u e n is = ap (λ s. settings_by (Some i) (Some w) s u e n) is
+no_size : (i : Option Input) (w s : Option ℕ) (p : Option Planning) (n : Option Bool) → s ≡ None → settings_by i w s p n ≡ None
+no_size None w s p n is = refl
+no_size (Some i) None s p n is = refl
+no_size (Some i) (Some w) s p n is = ap (λ s. settings_by (Some i) (Some w) s p n) is
 
-no_unit : (i : Option Input) (w s : Option ℕ) (u : Option UnitKind) (e : Option ExploreKind) (n : Option Bool) → u ≡ None → settings_by i w s u e n ≡ None
-no_unit None w s u e n is = refl
-no_unit (Some i) None s u e n is = refl
-no_unit (Some i) (Some w) None u e n is = refl
-no_unit (Some i) (Some w) (Some s) u e n is = ap (λ u. settings_by (Some i) (Some w) (Some s) u e n) is
+no_planning : (i : Option Input) (w s : Option ℕ) (p : Option Planning) (n : Option Bool) → p ≡ None → settings_by i w s p n ≡ None
+no_planning None w s p n is = refl
+no_planning (Some i) None s p n is = refl
+no_planning (Some i) (Some w) None p n is = refl
+no_planning (Some i) (Some w) (Some s) p n is = ap (λ p. settings_by (Some i) (Some w) (Some s) p n) is
 
-no_explore : (i : Option Input) (w s : Option ℕ) (u : Option UnitKind) (e : Option ExploreKind) (n : Option Bool) → e ≡ None → settings_by i w s u e n ≡ None
-no_explore None w s u e n is = refl
-no_explore (Some i) None s u e n is = refl
-no_explore (Some i) (Some w) None u e n is = refl
-no_explore (Some i) (Some w) (Some s) None e n is = refl
-no_explore (Some i) (Some w) (Some s) (Some u) e n is = ap (λ e. settings_by (Some i) (Some w) (Some s) (Some u) e n) is
+no_notes : (i : Option Input) (w s : Option ℕ) (p : Option Planning) (n : Option Bool) → n ≡ None → settings_by i w s p n ≡ None
+no_notes None w s p n is = refl
+no_notes (Some i) None s p n is = refl
+no_notes (Some i) (Some w) None p n is = refl
+no_notes (Some i) (Some w) (Some s) None n is = refl
+no_notes (Some i) (Some w) (Some s) (Some p) n is = ap (settings_by (Some i) (Some w) (Some s) (Some p)) is
 
-no_notes : (i : Option Input) (w s : Option ℕ) (u : Option UnitKind) (e : Option ExploreKind) (n : Option Bool) → n ≡ None → settings_by i w s u e n ≡ None
-no_notes None w s u e n is = refl
-no_notes (Some i) None s u e n is = refl
-no_notes (Some i) (Some w) None u e n is = refl
-no_notes (Some i) (Some w) (Some s) None e n is = refl
-no_notes (Some i) (Some w) (Some s) (Some u) None n is = refl
-no_notes (Some i) (Some w) (Some s) (Some u) (Some e) n is = ap (settings_by (Some i) (Some w) (Some s) (Some u) (Some e)) is
+-- a part of a strategy is none
+
+no_unit : (u : Option UnitKind) (e : Option ExploreKind) (a : Option AbortKind) → u ≡ None → strategy_by u e a ≡ None
+no_unit u e a is = ap (λ u. strategy_by u e a) is
+
+no_explore : (u : Option UnitKind) (e : Option ExploreKind) (a : Option AbortKind) → e ≡ None → strategy_by u e a ≡ None
+no_explore None e a is = refl
+no_explore (Some u) e a is = ap (λ e. strategy_by (Some u) e a) is
+
+no_abort : (u : Option UnitKind) (e : Option ExploreKind) (a : Option AbortKind) → a ≡ None → strategy_by u e a ≡ None
+no_abort None e a is = refl
+no_abort (Some u) None a is = refl
+no_abort (Some u) (Some e) a is = ap (strategy_by (Some u) (Some e)) is
+
+by_planning : (words : List (List ℕ)) → planning_of words ≡ None → settings_of words ≡ None
+by_planning words is =
+    by_rest words (no_planning (input_of words) (number_under Workers worker_counts 1 words) (number_under Size sizes 10000 words) (planning_of words) (switch_under Notes words) is)
+
+-- a part that is given, where the program chooses; and one that is none, where the words give it
+by_part : (words : List (List ℕ)) → is_strategy_given words ≡ true → strategy_of words ≡ None → planning_of words ≡ None
+by_part words given none = by_auto (auto_under PlanName words)
+  where
+    by_auto : (auto : Option Bool) → planning_by words auto ≡ None
+    by_auto (Some true) = cond-true (is_strategy_given words) _ _ given
+    by_auto (Some false) = ap fixed none
+    by_auto None = refl
 
 by_input : (words : List (List ℕ)) → input_of words ≡ None → settings_of words ≡ None
 by_input words is =
-    by_rest words (ap (λ i. settings_by i (number_under Workers worker_counts 1 words) (number_under Size sizes 10000 words) (unit_under UnitName words) (explore_under ExploreName words) (switch_under Notes words)) is)
+    by_rest words (ap (λ i. settings_by i (number_under Workers worker_counts 1 words) (number_under Size sizes 10000 words) (planning_of words) (switch_under Notes words)) is)
 
 no_app : (words : List (List ℕ)) (a b : Option (Option App)) → a ≡ None → input_by words a b ≡ None
 no_app words a b is = ap (λ a. input_by words a b) is
@@ -165,6 +198,10 @@ no_own : (words : List (List ℕ)) (a b : Option (Option App)) → b ≡ None �
 no_own words None b is = refl
 no_own words (Some None) b is = ap (input_by words (Some None)) is
 no_own words (Some (Some app)) b is = ap (input_by words (Some (Some app))) is
+
+or_true : (b : Bool) → (b || true) ≡ true
+or_true true = refl
+or_true false = refl
 
 module _ (words : List (List ℕ)) where
   -- a seed or a number of events is given, which makes no input
@@ -193,27 +230,29 @@ module _ (words : List (List ℕ)) where
   other_none Own value is other =
       by_input words (no_own words (app_under AppName words) (app_under Own words) (ap app_given is ∙ ap some_app (nothing (app_in value) other)))
   other_none Workers value is other =
-      by_rest words (no_workers (input_of words) _ _ _ _ _ (number_out worker_counts 1 (value_under Workers words) value is other))
+      by_rest words (no_workers (input_of words) _ _ _ _ (number_out worker_counts 1 (value_under Workers words) value is other))
   other_none Size value is other =
-      by_rest words (no_size (input_of words) (number_under Workers worker_counts 1 words) _ _ _ _ (number_out sizes 10000 (value_under Size words) value is other))
+      by_rest words (no_size (input_of words) (number_under Workers worker_counts 1 words) _ _ _ (number_out sizes 10000 (value_under Size words) value is other))
   other_none UnitName value is other =
-      by_rest words (no_unit (input_of words) (number_under Workers worker_counts 1 words) (number_under Size sizes 10000 words) _ _ _
-      (ap unit_given is ∙ nothing (unit_in value) other))
+      by_planning words (by_part words (ap (λ o. is_some o || (is_given ExploreName words || is_given AbortName words)) is)
+      (no_unit (unit_under UnitName words) (explore_under ExploreName words) (abort_under AbortName words) (ap unit_given is ∙ nothing (unit_in value) other)))
   other_none ExploreName value is other =
-      by_rest words (no_explore (input_of words) (number_under Workers worker_counts 1 words) (number_under Size sizes 10000 words) (unit_under UnitName words) _ _
-      (ap explore_given is ∙ nothing (explore_in value) other))
+      by_planning words (by_part words (ap (λ o. is_given UnitName words || (is_some o || is_given AbortName words)) is ∙ or_true (is_given UnitName words))
+      (no_explore (unit_under UnitName words) (explore_under ExploreName words) (abort_under AbortName words) (ap explore_given is ∙ nothing (explore_in value) other)))
+  other_none AbortName value is other =
+      by_planning words (by_part words
+      (ap (λ o. is_given UnitName words || (is_given ExploreName words || is_some o)) is ∙ ap (λ b. is_given UnitName words || b) (or_true (is_given ExploreName words)) ∙ or_true (is_given UnitName words))
+      (no_abort (unit_under UnitName words) (explore_under ExploreName words) (abort_under AbortName words) (ap abort_given is ∙ nothing (abort_in value) other)))
+  other_none PlanName value is other =
+      by_planning words (ap (planning_by words) (ap auto_given is ∙ nothing (auto_in value) other))
   other_none Seed value is other =
       by_input words (no_made (app_under AppName words) (app_under Own words) (ap (λ o. is_some o || is_given Events words) is)
       (λ app. no_seed app (number_out seeds 1 (value_under Seed words) value is other)))
   other_none Events value is other =
       by_input words (no_made (app_under AppName words) (app_under Own words) (ap (λ o. is_given Seed words || is_some o) is ∙ or_true (is_given Seed words))
       (λ app. no_events app (number_out event_counts 1000 (value_under Events words) value is other)))
-    where
-      or_true : (b : Bool) → (b || true) ≡ true
-      or_true true = refl
-      or_true false = refl
   other_none Notes value is other =
-      by_rest words (no_notes (input_of words) (number_under Workers worker_counts 1 words) (number_under Size sizes 10000 words) (unit_under UnitName words) (explore_under ExploreName words) _
+      by_rest words (no_notes (input_of words) (number_under Workers worker_counts 1 words) (number_under Size sizes 10000 words) (planning_of words) _
       (ap switch_given is ∙ nothing (switch_in value) other))
 
   along : (a b a' b' : Option (Option App)) → a ≡ a' → b ≡ b' → input_by words a b ≡ None → input_by words a' b' ≡ None
@@ -259,18 +298,45 @@ module _ (words : List (List ℕ)) where
   none_by (both_inputs app own) = by_input words (both_none app own)
   none_by (no_input app own) = by_input words (neither_none app own)
   none_by (made_alone given own) = by_input words (alone_none given own)
+  none_by (chosen_and_given auto given) = by_planning words (ap (planning_by words) auto ∙ cond-true (is_strategy_given words) _ _ given)
 
   -- ---- no settings, and a cause
 
-  missing : (i : Option Input) (w s : Option ℕ) (u : Option UnitKind) (e : Option ExploreKind) (n : Option Bool) → settings_by i w s u e n ≡ None →
-      (i ≡ None) ⊎ ((w ≡ None) ⊎ ((s ≡ None) ⊎ ((u ≡ None) ⊎ ((e ≡ None) ⊎ (n ≡ None)))))
-  missing None w s u e n is = inl refl
-  missing (Some i) None s u e n is = inr (inl refl)
-  missing (Some i) (Some w) None u e n is = inr (inr (inl refl))
-  missing (Some i) (Some w) (Some s) None e n is = inr (inr (inr (inl refl)))
-  missing (Some i) (Some w) (Some s) (Some u) None n is = inr (inr (inr (inr (inl refl))))
-  missing (Some i) (Some w) (Some s) (Some u) (Some e) None is = inr (inr (inr (inr (inr refl))))
-  missing (Some i) (Some w) (Some s) (Some u) (Some e) (Some n) is = absurd (cc)
+  missing : (i : Option Input) (w s : Option ℕ) (p : Option Planning) (n : Option Bool) → settings_by i w s p n ≡ None → (i ≡ None) ⊎ ((w ≡ None) ⊎ ((s ≡ None) ⊎ ((p ≡ None) ⊎ (n ≡ None))))
+  missing None w s p n is = inl refl
+  missing (Some i) None s p n is = inr (inl refl)
+  missing (Some i) (Some w) None p n is = inr (inr (inl refl))
+  missing (Some i) (Some w) (Some s) None n is = inr (inr (inr (inl refl)))
+  missing (Some i) (Some w) (Some s) (Some p) None is = inr (inr (inr (inr refl)))
+  missing (Some i) (Some w) (Some s) (Some p) (Some n) is = absurd (cc)
+
+  part_missing : (u : Option UnitKind) (e : Option ExploreKind) (a : Option AbortKind) → strategy_by u e a ≡ None → (u ≡ None) ⊎ ((e ≡ None) ⊎ (a ≡ None))
+  part_missing None e a is = inl refl
+  part_missing (Some u) None a is = inr (inl refl)
+  part_missing (Some u) (Some e) None is = inr (inr refl)
+  part_missing (Some u) (Some e) (Some a) is = absurd (cc)
+
+  cause_part : (unit_under UnitName words ≡ None) ⊎ ((explore_under ExploreName words ≡ None) ⊎ (abort_under AbortName words ≡ None)) → NoSettings words
+  cause_part (inl unit) = let m = unit_none (value_under UnitName words) unit in other_value UnitName m.0 m.1 m.2
+  cause_part (inr (inl explore)) = let m = explore_none (value_under ExploreName words) explore in other_value ExploreName m.0 m.1 m.2
+  cause_part (inr (inr abort)) = let m = abort_none (value_under AbortName words) abort in other_value AbortName m.0 m.1 m.2
+
+  fixed_missing : (o : Option Strategy) → fixed o ≡ None → o ≡ None
+  fixed_missing None is = refl
+  fixed_missing (Some s) is = absurd (cc)
+
+  chosen_missing : (t : Bool) → (if t then None else Some Auto) ≡ None → t ≡ true
+  chosen_missing true is = refl
+  chosen_missing false is = absurd (cc)
+
+  cause_planning : planning_of words ≡ None → NoSettings words
+  cause_planning = by_auto (auto_under PlanName words) refl
+    where
+      by_auto : (auto : Option Bool) → auto_under PlanName words ≡ auto → planning_by words auto ≡ None → NoSettings words
+      by_auto None same is = let m = auto_none (value_under PlanName words) same in other_value PlanName m.0 m.1 m.2
+      by_auto (Some true) same is = chosen_and_given same (chosen_missing (is_strategy_given words) is)
+      by_auto (Some false) same is =
+          cause_part (part_missing (unit_under UnitName words) (explore_under ExploreName words) (abort_under AbortName words) (fixed_missing (strategy_of words) is))
 
   made_missing : (app : App) (seed events : Option ℕ) → made_of app seed events ≡ None → (seed ≡ None) ⊎ (events ≡ None)
   made_missing app None events is = inl refl
@@ -304,14 +370,13 @@ module _ (words : List (List ℕ)) where
           made_alone (cause_read app (along (app_under AppName words) (app_under Own words) (Some (Some app)) (Some None) a b is)) lacks
       by_both (given_one app has a) (given_one own has' b) = both_inputs has has'
 
-  cause_rest : (input_of words ≡ None) ⊎ ((number_under Workers worker_counts 1 words ≡ None) ⊎ ((number_under Size sizes 10000 words ≡ None) ⊎ ((unit_under UnitName words ≡ None) ⊎ ((explore_under ExploreName words ≡ None) ⊎ (switch_under Notes words ≡ None)))))
+  cause_rest : (input_of words ≡ None) ⊎ ((number_under Workers worker_counts 1 words ≡ None) ⊎ ((number_under Size sizes 10000 words ≡ None) ⊎ ((planning_of words ≡ None) ⊎ (switch_under Notes words ≡ None))))
       → NoSettings words
   cause_rest (inl input) = cause_input input
   cause_rest (inr (inl workers)) = let m = number_none worker_counts 1 (value_under Workers words) workers in other_value Workers m.0 m.1 m.2
   cause_rest (inr (inr (inl size))) = let m = number_none sizes 10000 (value_under Size words) size in other_value Size m.0 m.1 m.2
-  cause_rest (inr (inr (inr (inl unit)))) = let m = unit_none (value_under UnitName words) unit in other_value UnitName m.0 m.1 m.2
-  cause_rest (inr (inr (inr (inr (inl explore))))) = let m = explore_none (value_under ExploreName words) explore in other_value ExploreName m.0 m.1 m.2
-  cause_rest (inr (inr (inr (inr (inr notes))))) = let m = switch_none (value_under Notes words) notes in other_value Notes m.0 m.1 m.2
+  cause_rest (inr (inr (inr (inl planning)))) = cause_planning planning
+  cause_rest (inr (inr (inr (inr notes)))) = let m = switch_none (value_under Notes words) notes in other_value Notes m.0 m.1 m.2
 
   cause_known : (list_all has_equals words ≡ false) ⊎ (list_all (λ word. is_name (name_of word)) words ≡ false) → NoSettings words
   cause_known (inl lacks) = no_equals lacks
@@ -329,7 +394,7 @@ module _ (words : List (List ℕ)) where
     where
       by_tests : ((list_all is_known words && are_once words) ≡ true) ⊎ ((list_all is_known words && are_once words) ≡ false) → NoSettings words
       by_tests (inl named) =
-          cause_rest (missing (input_of words) (number_under Workers worker_counts 1 words) (number_under Size sizes 10000 words) (unit_under UnitName words) (explore_under ExploreName words) (switch_under Notes words)
+          cause_rest (missing (input_of words) (number_under Workers worker_counts 1 words) (number_under Size sizes 10000 words) (planning_of words) (switch_under Notes words)
           (sym (cond-true (list_all is_known words && are_once words) (rest_of words) None named) ∙ is))
       by_tests (inr unnamed) = cause_names (and_cases (list_all is_known words) (are_once words) unnamed)
 

@@ -5,7 +5,7 @@ use Rattle.std.specs.List.{list_all}
 use Rattle.std.specs.Str.{bytes_eq}
 use Rattle.std.proofs.lemmas.Bool.{and_parts, both_ways, not-true}
 use Rattle.run_text.specs.declared.names.Name.{Name}
-use Rattle.run_text.specs.declared.names.Name.TheVariants.{App, Own, Workers, Size, Unit as UnitName, Explore as ExploreName, Seed, Events, Notes}
+use Rattle.run_text.specs.declared.names.Name.TheVariants.{App, Own, Workers, Size, Unit as UnitName, Explore as ExploreName, Abort as AbortName, Plan as PlanName, Seed, Events, Notes}
 use Rattle.run_text.specs.Settings.{text_of, has_equals, name_of, has_name, value_in}
 
 abbrev is_other : ℕ → Bool
@@ -54,6 +54,8 @@ named Workers word = split (text_of Workers) word refl
 named Size word = split (text_of Size) word refl
 named UnitName word = split (text_of UnitName) word refl
 named ExploreName word = split (text_of ExploreName) word refl
+named AbortName word = split (text_of AbortName) word refl
+named PlanName word = split (text_of PlanName) word refl
 named Seed word = split (text_of Seed) word refl
 named Events word = split (text_of Events) word refl
 named Notes word = split (text_of Notes) word refl

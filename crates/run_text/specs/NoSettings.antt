@@ -3,8 +3,8 @@ use Rattle.std.specs.Prelude.{◌≡◌, ℕ, ◌≤◌, ◌||◌, Bool, true, f
 use Rattle.std.specs.List.{list_all, list_any}
 use Rattle.std.specs.Str.{bytes_eq}
 use Rattle.run_text.specs.declared.names.Name.{Name}
-use Rattle.run_text.specs.declared.names.Name.TheVariants.{App, Own, Workers, Size, Unit as UnitName, Explore as ExploreName, Seed, Events, Notes}
-use Rattle.run_text.specs.Settings.{text_of, all_names, has_equals, name_of, has_name, value_under, is_given, app_in, switch_in, unit_in, explore_in, says_in, worker_counts, sizes, seeds, event_counts}
+use Rattle.run_text.specs.declared.names.Name.TheVariants.{App, Own, Workers, Size, Unit as UnitName, Explore as ExploreName, Abort as AbortName, Plan as PlanName, Seed, Events, Notes}
+use Rattle.run_text.specs.Settings.{text_of, all_names, has_equals, name_of, has_name, value_under, is_given, app_in, switch_in, unit_in, explore_in, abort_in, auto_in, auto_under, is_strategy_given, says_in, worker_counts, sizes, seeds, event_counts}
 
 -- whether bytes are a name that there is
 abbrev pub is_name : List ℕ → Bool
@@ -18,6 +18,8 @@ is_value_of Workers value = says_in worker_counts value
 is_value_of Size value = says_in sizes value
 is_value_of UnitName value = is_some (unit_in value)
 is_value_of ExploreName value = is_some (explore_in value)
+is_value_of AbortName value = is_some (abort_in value)
+is_value_of PlanName value = is_some (auto_in value)
 is_value_of Seed value = says_in seeds value
 is_value_of Events value = says_in event_counts value
 is_value_of Notes value = is_some (switch_in value)
@@ -36,3 +38,5 @@ pub data NoSettings (words : List (List ℕ)) : Type 0 where
   no_input : is_given App words ≡ false → is_given Own words ≡ false → NoSettings words
   -- a seed or a number of events is given without `self`
   made_alone : (is_given Seed words || is_given Events words) ≡ true → is_given Own words ≡ false → NoSettings words
+  -- a part of the strategy is given though the program chooses it
+  chosen_and_given : auto_under PlanName words ≡ Some true → is_strategy_given words ≡ true → NoSettings words

@@ -11,6 +11,7 @@ use Rattle.morph_base.specs.declared.strategy.Explore.TheVariants.{Strata, Steal
 use Rattle.morph_base.specs.declared.strategy.Abort.{Abort}
 use Rattle.morph_base.specs.declared.strategy.Abort.TheVariants.{Lazy, Eager}
 use Rattle.run_text.specs.declared.tally.Tally.{Tally}
+use Rattle.morph_engine.specs.Accounts.{Account}
 use Rattle.run_text.specs.Text.{line, after_space}
 
 -- how many levels of operations a plan has
@@ -39,10 +40,10 @@ batch_note number p s =
     line (codes "batch" ++ after_space number ++ codes ": events" ++ after_space (event_count p) ++ codes " ops" ++ after_space (op_count p)
     ++ codes " levels" ++ after_space (level_count p) ++ strategy_words s)
 
--- the lines of batches, numbered from `number` on, that were scheduled alike
-unfoldable pub batch_notes : (number : ℕ) → List Plan → Strategy → List ℕ
-batch_notes number [] s = []
-batch_notes number (p ∷ ps) s = batch_note number p s ++ batch_notes (number + 1) ps s
+-- the lines of batches with these accounts, numbered from `number` on
+unfoldable pub batch_notes : (number : ℕ) → List Account → List ℕ
+batch_notes number [] = []
+batch_notes number (a ∷ accounts) = batch_note number a.plan a.strategy ++ batch_notes (number + 1) accounts
 
 -- the line of the tally
 unfoldable pub tally_note : Tally → List ℕ

@@ -1,5 +1,5 @@
 -- The settings that words ask for. A word is `name=value`, and is split at its first `=`.
-use Rattle.std.specs.Prelude.{◌≡◌, ℕ, ◌+◌, ◌==◌, ◌≤◌, ◌&&◌, ◌||◌, Bool, true, false, nat_le, List, [], ◌∷◌, codes, count_by, drop, length, Option, Some, None, if◌then◌else◌, is_some, IfSome}
+use Rattle.std.specs.Prelude.{ℕ, ◌+◌, ◌==◌, ◌≤◌, ◌&&◌, ◌||◌, Bool, true, false, nat_le, List, [], ◌∷◌, codes, count_by, drop, length, Option, Some, None, if◌then◌else◌, is_some, IfSome}
 use Rattle.std.specs.List.{list_all, list_any}
 use Rattle.std.specs.Str.{bytes_eq}
 use Rattle.event_reader.specs.declared.ranges.Range.{Range}
@@ -9,13 +9,16 @@ use Rattle.morph_base.specs.declared.strategy.Unit.{Unit as UnitKind}
 use Rattle.morph_base.specs.declared.strategy.Unit.TheVariants.{Op, Chain}
 use Rattle.morph_base.specs.declared.strategy.Explore.{Explore as ExploreKind}
 use Rattle.morph_base.specs.declared.strategy.Explore.TheVariants.{Strata, Steal}
-use Rattle.morph_base.specs.declared.strategy.Abort.TheVariants.{Lazy}
+use Rattle.morph_base.specs.declared.strategy.Abort.{Abort as AbortKind}
+use Rattle.morph_base.specs.declared.strategy.Abort.TheVariants.{Lazy, Eager}
+use Rattle.run_text.specs.declared.choices.Planning.{Planning}
+use Rattle.run_text.specs.declared.choices.Planning.TheVariants.{Fixed, Auto}
 use Rattle.run_text.specs.declared.choices.Settings.{Settings}
 use Rattle.run_text.specs.declared.choices.Generated.{Generated}
 use Rattle.run_text.specs.declared.choices.App.{App}
 use Rattle.run_text.specs.declared.choices.App.TheVariants.{Ledger, Grep, Toll}
 use Rattle.run_text.specs.declared.names.Name.{Name}
-use Rattle.run_text.specs.declared.names.Name.TheVariants.{App as AppName, Own, Workers, Size, Unit as UnitName, Explore as ExploreName, Seed, Events, Notes}
+use Rattle.run_text.specs.declared.names.Name.TheVariants.{App as AppName, Own, Workers, Size, Unit as UnitName, Explore as ExploreName, Abort as AbortName, Plan as PlanName, Seed, Events, Notes}
 use Rattle.run_text.specs.declared.words.Input.{Input}
 
 -- the names that there are
@@ -26,12 +29,14 @@ text_of Workers = codes "workers"
 text_of Size = codes "size"
 text_of UnitName = codes "unit"
 text_of ExploreName = codes "explore"
+text_of AbortName = codes "abort"
+text_of PlanName = codes "plan"
 text_of Seed = codes "seed"
 text_of Events = codes "events"
 text_of Notes = codes "notes"
 
 abbrev pub all_names : List Name
-all_names = AppName ∷ Own ∷ Workers ∷ Size ∷ UnitName ∷ ExploreName ∷ Seed ∷ Events ∷ Notes ∷ []
+all_names = AppName ∷ Own ∷ Workers ∷ Size ∷ UnitName ∷ ExploreName ∷ AbortName ∷ PlanName ∷ Seed ∷ Events ∷ Notes ∷ []
 
 -- whether a word has an `=`, and its name, which stands before the first one
 abbrev pub has_equals : List ℕ → Bool
@@ -156,9 +161,56 @@ explore_given (Some value) = explore_in value
 abbrev pub explore_under : Name → List (List ℕ) → Option ExploreKind
 explore_under name words = explore_given (value_under name words)
 
--- the strategy with a unit and a way to explore
-abbrev pub strategy_of : UnitKind → ExploreKind → Strategy
-strategy_of unit explore = record { unit = unit; explore = explore; abort = Lazy }
+-- the way to deal with failures of a name
+abbrev pub abort_in : List ℕ → Option AbortKind
+abort_in value = if bytes_eq value (codes "lazy") then Some Lazy else (if bytes_eq value (codes "eager") then Some Eager else None)
+
+-- the way to deal with failures that is given under a name, late where it is missing
+abbrev pub abort_given : Option (List ℕ) → Option AbortKind
+abort_given None = Some Lazy
+abort_given (Some value) = abort_in value
+
+abbrev pub abort_under : Name → List (List ℕ) → Option AbortKind
+abort_under name words = abort_given (value_under name words)
+
+-- whether a value says that the program chooses
+abbrev pub auto_in : List ℕ → Option Bool
+auto_in value = if bytes_eq value (codes "auto") then Some true else (if bytes_eq value (codes "fixed") then Some false else None)
+
+-- whether a name says so, and it does not where it is missing
+abbrev pub auto_given : Option (List ℕ) → Option Bool
+auto_given None = Some false
+auto_given (Some value) = auto_in value
+
+abbrev pub auto_under : Name → List (List ℕ) → Option Bool
+auto_under name words = auto_given (value_under name words)
+
+-- the strategy that words give for all batches
+abbrev pub strategy_by : Option UnitKind → Option ExploreKind → Option AbortKind → Option Strategy
+strategy_by (Some unit) (Some explore) (Some abort) = Some (record { unit = unit; explore = explore; abort = abort })
+strategy_by (Some unit) (Some explore) None = None
+strategy_by (Some unit) None abort = None
+strategy_by None explore abort = None
+
+abbrev pub strategy_of : List (List ℕ) → Option Strategy
+strategy_of words = strategy_by (unit_under UnitName words) (explore_under ExploreName words) (abort_under AbortName words)
+
+-- whether words give a part of a strategy
+abbrev pub is_strategy_given : List (List ℕ) → Bool
+is_strategy_given words = is_given UnitName words || (is_given ExploreName words || is_given AbortName words)
+
+-- how the strategy of each batch is found: the words give it, or the program chooses it and they give no part of it
+abbrev pub fixed : Option Strategy → Option Planning
+fixed (Some strategy) = Some (Fixed strategy)
+fixed None = None
+
+abbrev pub planning_by : List (List ℕ) → (auto : Option Bool) → Option Planning
+planning_by words (Some true) = if is_strategy_given words then None else Some Auto
+planning_by words (Some false) = fixed (strategy_of words)
+planning_by words None = None
+
+abbrev pub planning_of : List (List ℕ) → Option Planning
+planning_of words = planning_by words (auto_under PlanName words)
 
 -- an input that is read, where no seed and no number of events is given
 abbrev pub read_input : App → List (List ℕ) → Option Input
@@ -188,33 +240,30 @@ input_by words None self = None
 abbrev pub input_of : List (List ℕ) → Option Input
 input_of words = input_by words (app_under AppName words) (app_under Own words)
 
-abbrev pub settings_by : Option Input → (workers size : Option ℕ) → Option UnitKind → Option ExploreKind → (notes : Option Bool) → Option Settings
-settings_by (Some input) (Some workers) (Some size) (Some unit) (Some explore) (Some notes) =
-    Some (record { app = input.app; workers = workers; size = size; strategy = strategy_of unit explore; notes = notes; generated = input.generated })
-settings_by (Some input) (Some workers) (Some size) (Some unit) (Some explore) None = None
-settings_by (Some input) (Some workers) (Some size) (Some unit) None notes = None
-settings_by (Some input) (Some workers) (Some size) None explore notes = None
-settings_by (Some input) (Some workers) None unit explore notes = None
-settings_by (Some input) None size unit explore notes = None
-settings_by None workers size unit explore notes = None
+abbrev pub settings_by : Option Input → (workers size : Option ℕ) → Option Planning → (notes : Option Bool) → Option Settings
+settings_by (Some input) (Some workers) (Some size) (Some planning) (Some notes) =
+    Some (record { app = input.app; workers = workers; size = size; planning = planning; notes = notes; generated = input.generated })
+settings_by (Some input) (Some workers) (Some size) (Some planning) None = None
+settings_by (Some input) (Some workers) (Some size) None notes = None
+settings_by (Some input) (Some workers) None planning notes = None
+settings_by (Some input) None size planning notes = None
+settings_by None workers size planning notes = None
 
 -- the settings: every word has a name that there is, no name is given twice, and each value is one of its name's
 abbrev pub settings_of : List (List ℕ) → Option Settings
 settings_of words =
     if list_all is_known words && are_once words
-    then settings_by (input_of words) (number_under Workers worker_counts 1 words) (number_under Size sizes 10000 words) (unit_under UnitName words)
-    (explore_under ExploreName words) (switch_under Notes words)
+    then settings_by (input_of words) (number_under Workers worker_counts 1 words) (number_under Size sizes 10000 words) (planning_of words) (switch_under Notes words)
     else None
 
 -- the numbers of an input that the program makes are in their ranges
 abbrev pub AreFew : Option Generated → Type 0
 AreFew generated = IfSome generated (λ g. (g.seed ≤ seeds.greatest) × (g.events ≤ event_counts.greatest))
 
--- the numbers of settings are in their ranges, and aborting has its one way
+-- the numbers of settings are in their ranges
 pub record AreInRange (s : Settings) : Type 0 where
   pub some_workers : 1 ≤ s.workers
   pub few_workers : s.workers ≤ worker_counts.greatest
   pub some_ids : 1 ≤ s.size
   pub few_ids : s.size ≤ sizes.greatest
-  pub abort : s.strategy.abort ≡ Lazy
   pub generated : AreFew s.generated

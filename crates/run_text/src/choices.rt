@@ -24,6 +24,15 @@ pub struct Generated {
     pub events: u64,
 }
 
+/// How the strategy of each batch is found.
+#[derive(Clone, Copy, Debug, PartialEq, Eq)]
+pub enum Planning {
+    /// It is this one for each batch.
+    Fixed(Strategy),
+    /// The program chooses one for each batch, from counts of its plan and from what came of the batch before.
+    Auto,
+}
+
 /// What the words of the program ask for.
 #[derive(Clone, Copy, Debug, PartialEq, Eq)]
 pub struct Settings {
@@ -32,8 +41,8 @@ pub struct Settings {
     pub workers: u32,
     /// The number of ids in each table: 1 to 1,000,000.
     pub size: u32,
-    /// How each batch is scheduled: what is taken as a whole, and how it is explored.
-    pub strategy: Strategy,
+    /// How each batch is scheduled: by which unit, how it is explored, and how it deals with failures.
+    pub planning: Planning,
     /// Whether the notes tell of each batch, and at the end the tally.
     pub notes: bool,
     /// The input where the program makes it itself; none where it reads one.

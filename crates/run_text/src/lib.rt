@@ -17,7 +17,7 @@ mod totals;
 mod words;
 mod writing;
 
-pub use choices::{App, GREATEST_SIZE, Generated, Settings};
+pub use choices::{App, GREATEST_SIZE, Generated, Planning, Settings};
 pub use notes::{note_batch, note_tally};
 pub use report::Report;
 pub use tally::Tally;

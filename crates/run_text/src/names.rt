@@ -16,6 +16,10 @@ pub enum Name {
     Unit,
     /// How a batch is explored.
     Explore,
+    /// How it deals with failures.
+    Abort,
+    /// Whether the program chooses these three itself.
+    Plan,
     /// Where the generator begins.
     Seed,
     /// How many events it makes.
@@ -25,13 +29,15 @@ pub enum Name {
 }
 
 /// All names, each once.
-pub const NAMES: [Name; 9] = [
+pub const NAMES: [Name; 11] = [
     Name::App,
     Name::Own,
     Name::Workers,
     Name::Size,
     Name::Unit,
     Name::Explore,
+    Name::Abort,
+    Name::Plan,
     Name::Seed,
     Name::Events,
     Name::Notes,
@@ -49,6 +55,8 @@ impl Name {
             Name::Size => b"size=",
             Name::Unit => b"unit=",
             Name::Explore => b"explore=",
+            Name::Abort => b"abort=",
+            Name::Plan => b"plan=",
             Name::Seed => b"seed=",
             Name::Events => b"events=",
             Name::Notes => b"notes=",

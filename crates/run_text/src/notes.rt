@@ -2,7 +2,8 @@ ghost use Rattle.std.specs.Prelude.{◌≡◌, ◌+◌, ◌≤◌, ◌++◌, len
 ghost use Rattle.morph_base.specs.declared.limits.TheConstants.{WORKERS};
 ghost use Rattle.morph_io.specs.declared.line_buf.TheConstants.{LINE_BYTES};
 ghost use Rattle.morph_io.specs.Told.{behind, HasRisen, AppendsPrefix};
-ghost use Rattle.run_text.specs.Notes.{noted, unit_word, explore_word, abort_word, strategy_words, batch_note, tally_note, settled_note, closing_notes};
+ghost use Rattle.run_text.specs.Notes.{noted, unit_word, explore_word, abort_word, strategy_words, batch_note};
+ghost use Rattle.run_text.specs.Notes.{tally_note, settled_note, closing_notes};
 
 use crate::tally::Tally;
 use crate::text::put_numbers;

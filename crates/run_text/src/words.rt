@@ -1,12 +1,16 @@
 ghost use Rattle.std.specs.Prelude.{◌≡◌, ◌<◌, ◌≤◌, ◌^◌, map, count_by, length, true, false, MatchOption, IfSome};
 ghost use Rattle.std.specs.List.{list_all};
 ghost use Rattle.event_reader.specs.declared.limits.TheConstants.{GREATEST_NUMBER};
-ghost use Rattle.run_text.specs.Settings.{has_name, value_in, is_known, is_once, are_once, value_under, is_given, app_in, app_under, number_in, number_under, switch_in, switch_under, unit_in, unit_under, explore_in, explore_under, strategy_of, input_of, read_input, made_input, AreFew, AreInRange, settings_of};
+ghost use Rattle.run_text.specs.Settings.{has_name, value_in, is_known, is_once, are_once, value_under, is_given};
+ghost use Rattle.run_text.specs.Settings.{app_in, app_under, number_in, number_under, switch_in, switch_under};
+ghost use Rattle.run_text.specs.Settings.{unit_in, unit_under, explore_in, explore_under, abort_in, abort_under};
+ghost use Rattle.run_text.specs.Settings.{auto_in, auto_under, strategy_of, planning_of, input_of};
+ghost use Rattle.run_text.specs.Settings.{read_input, made_input, AreFew, AreInRange, settings_of};
 ghost use Rattle.run_text.specs.NoSettings.{NoSettings};
 
 use crate::choices::{
     App, DEFAULT_EVENTS, DEFAULT_SEED, DEFAULT_SIZE, DEFAULT_WORKERS, GREATEST_EVENTS,
-    GREATEST_SEED, GREATEST_SIZE, Generated, Settings,
+    GREATEST_SEED, GREATEST_SIZE, Generated, Planning, Settings,
 };
 use crate::names::{NAMES, Name};
 use event_reader::{Number, Range, read_number};
@@ -227,15 +231,80 @@ fn explore_under(words: &[List<u8>], name: Name) -> Option<Explore>
     }
 }
 
-/// The strategy with this unit and way to explore. Aborting has one way.
-fn strategy_of(unit: Unit, explore: Explore) -> Strategy
-    ensures { result ≡ strategy_of unit explore }
+/// The way to deal with failures of this name.
+fn abort_of(value: &[u8]) -> Option<Abort>
+    ensures { result ≡ abort_in value.now }
 {
-    Strategy {
+    if value == b"lazy".as_slice() {
+        Some(Abort::Lazy)
+    } else if value == b"eager".as_slice() {
+        Some(Abort::Eager)
+    } else {
+        None
+    }
+}
+
+/// The way to deal with failures that is given under a name; late where the name is not given.
+fn abort_under(words: &[List<u8>], name: Name) -> Option<Abort>
+    ensures { result ≡ abort_under name (map (λ word. word.items) words.now) }
+{
+    match value_under(words, name) {
+        Some(value) => abort_of(value),
+        None => Some(Abort::Lazy),
+    }
+}
+
+/// Whether a value says that the program chooses.
+fn is_auto(value: &[u8]) -> Option<bool>
+    ensures { result ≡ auto_in value.now }
+{
+    if value == b"auto".as_slice() {
+        Some(true)
+    } else if value == b"fixed".as_slice() {
+        Some(false)
+    } else {
+        None
+    }
+}
+
+/// Whether a name says that the program chooses; it does not where the name is not given.
+fn auto_under(words: &[List<u8>], name: Name) -> Option<bool>
+    ensures { result ≡ auto_under name (map (λ word. word.items) words.now) }
+{
+    match value_under(words, name) {
+        Some(value) => is_auto(value),
+        None => Some(false),
+    }
+}
+
+/// The strategy that the words give for all batches.
+fn strategy_of(words: &[List<u8>]) -> Option<Strategy>
+    ensures { result ≡ strategy_of (map (λ word. word.items) words.now) }
+{
+    let unit = unit_under(words, Name::Unit)?;
+    let explore = explore_under(words, Name::Explore)?;
+    let abort = abort_under(words, Name::Abort)?;
+    Some(Strategy {
         unit,
         explore,
-        abort: Abort::Lazy,
+        abort,
+    })
+}
+
+/// How the strategy of each batch is found. Where the program chooses, the words give nothing of it.
+fn planning_of(words: &[List<u8>]) -> Option<Planning>
+    ensures { result ≡ planning_of (map (λ word. word.items) words.now) }
+{
+    if !auto_under(words, Name::Plan)? {
+        return Some(Planning::Fixed(strategy_of(words)?));
     }
+    if is_given(words, Name::Unit)
+        || is_given(words, Name::Explore)
+        || is_given(words, Name::Abort)
+    {
+        return None;
+    }
+    Some(Planning::Auto)
 }
 
 /// An application, and the input that the program makes for it, if it makes one.
@@ -288,7 +357,8 @@ fn made_input(words: &[List<u8>], app: App) -> Option<Input>
 /// The settings that the words ask for, or `None` where they ask for none.
 ///
 /// They ask for none where a word is not `name=value` with one of the names, a name is given twice, a value is not
-/// one of its name's, not exactly one of `app` and `self` is given, or `seed` or `events` is given without `self`.
+/// one of its name's, not exactly one of `app` and `self` is given, `seed` or `events` is given without `self`, or
+/// `unit`, `explore` or `abort` is given with `plan=auto`.
 pub fn settings(words: &[List<u8>]) -> Option<Settings>
     ensures asked { result ≡ settings_of (map (λ word. word.items) words.now) }
     ensures none { (result ≡ None → NoSettings (map (λ word. word.items) words.now))
@@ -301,14 +371,13 @@ pub fn settings(words: &[List<u8>]) -> Option<Settings>
     let input = input_of(words)?;
     let workers = number_under(words, Name::Workers, WORKER_COUNTS, DEFAULT_WORKERS)?;
     let size = number_under(words, Name::Size, SIZES, DEFAULT_SIZE)?;
-    let unit = unit_under(words, Name::Unit)?;
-    let explore = explore_under(words, Name::Explore)?;
+    let planning = planning_of(words)?;
     let notes = switch_under(words, Name::Notes)?;
     Some(Settings {
         app: input.app,
         workers: workers as u32,
         size: size as u32,
-        strategy: strategy_of(unit, explore),
+        planning,
         notes,
         generated: input.generated,
     })

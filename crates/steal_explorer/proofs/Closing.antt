@@ -7,6 +7,7 @@ use Rattle.std.proofs.lemmas.List.Elements.{All-append}
 use Rattle.std.proofs.lemmas.List.Concat.{flat_map-cons}
 use Rattle.std.proofs.lemmas.List.Sums.{sum_by-cons, sum_by-append, sum_by_more, get_or-le-sum_by}
 use Rattle.morph_base.specs.declared.plan.Plan.{Plan}
+use Rattle.morph_base.specs.declared.strategy.Abort.{Abort}
 use Rattle.morph_base.specs.Graphs.{IsValidPlan}
 use Rattle.morph_base.specs.Plans.{op_count}
 use Rattle.op_words.specs.declared.board.Board.{Board}
@@ -30,7 +31,7 @@ use Rattle.steal_explorer.specs.declared.members.Member.{Member}
 use Rattle.op_eval.specs.Further.{AreFurther}
 use Rattle.steal_explorer.specs.Calls.{Call, Calls}
 use Rattle.steal_explorer.specs.Draining.{in_plan}
-use Rattle.steal_explorer.specs.Handed.{workers_of, pushed_by, taken_from, left_in, AreReached, AreAnswered}
+use Rattle.steal_explorer.specs.Handed.{workers_of, pushed_by, stolen_from, taken_from, left_in, AreReached, AreAnswered}
 use Rattle.steal_explorer.specs.HandingOut.{is_one, taken_in, IsBeginning, HasHandedOut}
 use Rattle.crossbeam_deque.specs.Handles.{view, stealer_deque, worker_view, worker_capacity, worker_index}
 use Rattle.steal_explorer.specs.Alone.{BeginsAlone, LeavesAlone, IsHandedAlone}
@@ -157,9 +158,9 @@ balanced h (m ∷ ms) each =
     let rest = balanced h ms (λ k d lt. each (suc k) d (suc-le-suc lt)) in
     omega arith
 
-none_left : (ms : List Member) → ((k : ℕ) (m : Member) → k < length ms → left_in (slice_index_or ms k m) ≡ []) → flat_map left_in ms ≡ []
-none_left [] none = refl
-none_left (m ∷ ms) none = flat_map-cons left_in m ms ∙ ap (λ l. l ++ flat_map left_in ms) (none 0 m (zero-lt-suc (length ms))) ∙ none_left ms (λ k d lt. none (suc k) d (suc-le-suc lt))
+none_of : (f : Member → List ℕ) (ms : List Member) → ((k : ℕ) (m : Member) → k < length ms → f (slice_index_or ms k m) ≡ []) → flat_map f ms ≡ []
+none_of f [] none = refl
+none_of f (m ∷ ms) none = flat_map-cons f m ms ∙ ap (λ l. l ++ flat_map f ms) (none 0 m (zero-lt-suc (length ms))) ∙ none_of f ms (λ k d lt. none (suc k) d (suc-le-suc lt))
 
 all_below : (n : ℕ) (ms : List Member) → ((k : ℕ) (m : Member) → k < length ms → All (λ x. x < n) (pushed_by (slice_index_or ms k m))) → All (λ x. x < n) (flat_map pushed_by ms)
 all_below n [] each = λ k d lt. absurd (omega (arith, lt))
@@ -173,7 +174,7 @@ weighs x xs found =
     let is : is_one x (get_or xs found.0 x) ≡ 1 = ap (is_one x) found.2 ∙ ap (λ t. cond t 1 0) (eq-eqb x x refl) in
     omega arith
 
-module _ (p : Plan) (cap : ℕ) (ts : List Thief) (ms ns : List Member) (law : HasHandedOut p cap ts ms ns) where
+module _ (p : Plan) (cap : ℕ) (abort : Abort) (ts : List Thief) (ms ns : List Member) (law : HasHandedOut p cap abort ts ms ns) where
   in_ms : (k : ℕ) → k < length ns → k < length ms
   in_ms k lt = subst (λ n. k < n) law.len lt
 
@@ -191,7 +192,11 @@ module _ (p : Plan) (cap : ℕ) (ts : List Thief) (ms ns : List Member) (law : H
       omega arith
 
   pub drained_is : All (λ m. m.end ≡ Drained) ns → flat_map left_in ns ≡ []
-  drained_is all = none_left ns (λ k m lt. law.left k m (in_ms k lt) (all k m lt))
+  drained_is all = none_of left_in ns (λ k m lt. law.left k m (in_ms k lt) (all k m lt))
+
+  -- one worker stole nothing
+  pub unstolen_is : length ts ≡ 1 → flat_map stolen_from ns ≡ []
+  unstolen_is single = none_of stolen_from ns (λ k m lt. law.unstolen single k m (in_ms k lt))
 
   -- what was taken had been pushed, and so it is one of the plan's operations
   pub inside_is : (x : ℕ) → Contains (flat_map taken_from ns) x → x < op_count p

@@ -8,6 +8,7 @@ use Rattle.std.proofs.lemmas.List.Sums.{sum_by_push}
 use Rattle.crossbeam_deque.specs.Handles.{worker_flavor, worker_view, SameWorker}
 use Rattle.op_words.proofs.Rows.{no_more}
 use Rattle.morph_base.specs.declared.plan.Plan.{Plan}
+use Rattle.morph_base.specs.declared.strategy.Abort.{Abort}
 use Rattle.morph_base.specs.Plans.{op_count}
 use Rattle.op_words.specs.declared.board.Board.{Board}
 use Rattle.op_eval.specs.declared.runner.Runner.{Runner}
@@ -144,8 +145,8 @@ module _ (p : Plan) (cap : ℕ) (a m : Member) (is : IsClearing p cap a m) (o : 
       quiet = λ none. absurd (let some : length (is.items ++ x ∷ []) ≡ 0 = ap length none in let long : length (is.items ++ x ∷ []) ≡ length is.items + 1 = length-append is.items (x ∷ []) in omega arith);
     }
 
-  pub clearing_more : (r : Runner) → WalkedKnown p cap x m.runner r → IsClearing p cap a (record m { runner = r; owner = o })
-  clearing_more r walked =
+  pub clearing_more : (abort : Abort) (r : Runner) → WalkedKnown p cap abort x m.runner r → IsClearing p cap a (record m { runner = r; owner = o })
+  clearing_more abort r walked =
       elim (cases_le (op_count p) x) [
         | inl past ↦ clearing_calls r [] (walked.1 past) (λ lt. absurd (omega arith)) (let none = no_op p x past in omega arith)
         | inr lt ↦

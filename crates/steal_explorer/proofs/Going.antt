@@ -1,13 +1,14 @@
 -- Calls in turn, and what they and pushes make of a worker.
-use Rattle.std.proofs.Common.{◌≡◌, ℕ, zero, suc, ◌+◌, ◌<◌, true, List, [], ◌∷◌, ◌++◌, length, get_or, refl, sym, ap, ◌∙◌, subst, arith, append_assoc, zero-lt-suc, suc-le-suc}
-use Rattle.std.specs.Prelude.{Contains, Some, slice_get, slice_index_or}
+use Rattle.std.proofs.Common.{◌≡◌, ℕ, zero, suc, ◌+◌, ◌<◌, false, List, [], ◌∷◌, ◌++◌, length, get_or, refl, sym, ap, ◌∙◌, subst, arith, append_assoc, zero-lt-suc, suc-le-suc}
+use Rattle.std.specs.Prelude.{All, Contains, Some, slice_get, slice_index_or}
 use Rattle.std.proofs.lemmas.Option.{slice_get-get_or}
-use Rattle.std.proofs.lemmas.List.Elements.{Contains-append_right}
+use Rattle.std.proofs.lemmas.List.Elements.{All-append, Contains-append_right}
 use Rattle.chain_units.specs.Places.{IsPartition}
 use Rattle.crossbeam_deque.specs.Handles.{view, stealer_deque, worker_view, SameWorker}
 use Rattle.morph_base.specs.Contents.{Contents}
 use Rattle.op_words.specs.Hands.{up_to}
 use Rattle.morph_base.specs.declared.plan.Plan.{Plan}
+use Rattle.morph_base.specs.declared.strategy.Abort.{Abort}
 use Rattle.op_words.proofs.Rows.{no_more}
 use Rattle.op_words.specs.declared.answers.Readied.{Readied}
 use Rattle.op_eval.specs.declared.answers.Evaluation.{Evaluation}
@@ -15,10 +16,11 @@ use Rattle.op_eval.specs.declared.runner.Runner.{Runner}
 use Rattle.op_eval.specs.Evaluations.{Tries}
 use Rattle.steal_explorer.specs.declared.handing.Log.{Log}
 use Rattle.steal_explorer.specs.declared.members.Member.{Member}
-use Rattle.steal_explorer.specs.Calls.{Call, Asked, Tried, is_tried, Asks, Calls, Walked}
+use Rattle.abort_eager.specs.Sweeps.{cascade_for, Sweeps}
+use Rattle.steal_explorer.specs.Calls.{Call, Asked, Tried, is_asked, is_swept, NoneSwept, Asks, Calls, GoesQuietly, TriesQuietly, Walked}
 use Rattle.steal_explorer.specs.Handing.{log, one, parts_of, put}
 use Rattle.steal_explorer.specs.Members.{Owner, Thief, Ticket, own, stolen_by, AreSeated, HasTickets}
-use Rattle.steal_explorer.specs.Serving.{Goes, Serves}
+use Rattle.steal_explorer.specs.Serving.{Goes, TouchesFor, Visits, Serves}
 
 pub contains_first : {X : Type 0} (x : X) (xs : List X) → Contains (x ∷ xs) x
 contains_first x xs = (0, zero-lt-suc (length xs), refl)
@@ -37,53 +39,83 @@ pub calls_append : (p : Plan) (cap : ℕ) (ds cs : List Call) (a m b : Runner) �
 calls_append p cap [] cs a m b first second = subst (Calls p cap cs a) (sym second) first
 calls_append p cap (d ∷ ds) cs a m b first second = (second.0, calls_append p cap ds cs a m second.0 first second.1, second.2)
 
-pub walked_first : (p : Plan) (cap o : ℕ) {a b : Runner} {r : Evaluation} → Tries p cap o a b r → Walked p cap o a b
-walked_first p cap o {a} {b} {r} tries = record {
-  calls = Tried o ∷ [];
-  made = (a, refl, (r, tries));
-  tried = contains_first (Tried o) [];
-  only = λ k d lt. one k d lt;
-}
-  where
-    one : (k : ℕ) (d : Call) → k < 1 → is_tried (get_or (Tried o ∷ []) k d) ≡ true
-    one zero d lt = refl
-    one (suc k) d lt = absurd (omega arith)
+-- nothing was called, and one call more
+pub lazy_none : (abort : Abort) → NoneSwept abort []
+lazy_none abort lazy = λ k d lt. absurd (omega arith)
 
-pub walked_more : (p : Plan) (cap o q : ℕ) {a m b : Runner} {r : Evaluation} → Walked p cap o a m → Tries p cap q m b r → Walked p cap o a b
-walked_more p cap o q {a} {m} {b} {r} walked tries = record {
-  calls = Tried q ∷ walked.calls;
-  made = (m, walked.made, (r, tries));
-  tried = contains_later (Tried q) walked.calls (Tried o) walked.tried;
-  only = λ k d lt. one k d lt;
-}
+lazy_one : (abort : Abort) (c : Call) → is_swept c ≡ false → NoneSwept abort (c ∷ [])
+lazy_one abort c other lazy = λ k d lt. subst (λ e. is_swept e ≡ false) (first k d (omega arith)) other
   where
-    one : (k : ℕ) (d : Call) → k < length (Tried q ∷ walked.calls) → is_tried (get_or (Tried q ∷ walked.calls) k d) ≡ true
-    one zero d lt = refl
-    one (suc k) d lt = walked.only k d (less k lt)
-      where
-        less : (k : ℕ) → suc k < suc (length walked.calls) → k < length walked.calls
-        less k lt = omega arith
+    first : (k : ℕ) (d : Call) → k < 1 → c ≡ get_or (c ∷ []) k d
+    first zero d lt = refl
+    first (suc k) d lt = absurd (omega arith)
+
+lazy_both : (abort : Abort) (ds cs : List Call) → NoneSwept abort ds → NoneSwept abort cs → NoneSwept abort (ds ++ cs)
+lazy_both abort ds cs second first lazy = All-append (λ c. is_swept c ≡ false) ds cs (second lazy) (first lazy)
+
+-- ---- walking
+
+module _ (p : Plan) (cap : ℕ) (abort : Abort) where
+  pub tries_quietly : (o : ℕ) {a m b : Runner} {r : Evaluation} → Tries p cap o a m r → Sweeps p cap abort o r m b → GoesQuietly p cap abort m b → TriesQuietly p cap abort o a b r
+  tries_quietly o {a} {m} {b} {r} tries sweeps quiet = record {
+    attempts = (m, tries, sweeps);
+    quiet = record {
+      calls = quiet.calls ++ Tried o ∷ [];
+      made = calls_append p cap quiet.calls (Tried o ∷ []) a m b (a, refl, (r, tries)) quiet.made;
+      only = All-append (λ c. is_asked c ≡ false) quiet.calls (Tried o ∷ []) quiet.only one;
+      lazy = lazy_both abort quiet.calls (Tried o ∷ []) quiet.lazy (lazy_one abort (Tried o) refl);
+    };
+    tried = Contains-append_right quiet.calls (Tried o ∷ []) (Tried o) (contains_first (Tried o) []);
+  }
+    where
+      one : All (λ c. is_asked c ≡ false) (Tried o ∷ [])
+      one zero d lt = refl
+      one (suc k) d lt = absurd (omega arith)
+
+  pub walked_first : (o : ℕ) {a b : Runner} {r : Evaluation} → TriesQuietly p cap abort o a b r → Walked p cap abort o a b
+  walked_first o {a} {b} {r} tries = record {
+    ops = o ∷ [];
+    attempts = (a, r, refl, tries.attempts);
+    first = contains_first o [];
+    calls = tries.quiet.calls;
+    made = tries.quiet.made;
+    tried = tries.tried;
+    only = tries.quiet.only;
+    lazy = tries.quiet.lazy;
+  }
+
+  pub walked_more : (o q : ℕ) {a m b : Runner} {r : Evaluation} → Walked p cap abort o a m → TriesQuietly p cap abort q m b r → Walked p cap abort o a b
+  walked_more o q {a} {m} {b} {r} walked tries = record {
+    ops = q ∷ walked.ops;
+    attempts = (m, r, walked.attempts, tries.attempts);
+    first = contains_later q walked.ops o walked.first;
+    calls = tries.quiet.calls ++ walked.calls;
+    made = calls_append p cap tries.quiet.calls walked.calls a m b walked.made tries.quiet.made;
+    tried = Contains-append_right tries.quiet.calls walked.calls (Tried o) walked.tried;
+    only = All-append (λ c. is_asked c ≡ false) tries.quiet.calls walked.calls tries.quiet.only walked.only;
+    lazy = lazy_both abort tries.quiet.calls walked.calls tries.quiet.lazy walked.lazy;
+  }
 
 -- ---- what a worker becomes
 
 put_none : (v w : Log) → w ≡ v → w ≡ put v []
 put_none v w same = same ∙ ap (λ l. log v.parts l v.popped v.stolen v.left) (no_more v.pushed)
 
-module _ (p : Plan) (cap : ℕ) where
-  pub goes_none : (a : Member) → Goes p cap a a
-  goes_none a = record { number = refl; tickets = refl; stolen = refl; end = refl; deque = refl; calls = []; made = refl; pushed = []; puts = put_none (own a) (own a) refl }
+module _ (p : Plan) (cap : ℕ) (abort : Abort) where
+  pub goes_none : (a : Member) → Goes p cap abort a a
+  goes_none a = record { number = refl; tickets = refl; stolen = refl; end = refl; deque = refl; calls = []; made = refl; lazy = lazy_none abort; pushed = []; puts = put_none (own a) (own a) refl }
 
   -- calls of its runner
-  pub goes_calls : (a : Member) (r : Runner) (cs : List Call) → Calls p cap cs a.runner r → Goes p cap a (record a { runner = r })
-  goes_calls a r cs made = record { number = refl; tickets = refl; stolen = refl; end = refl; deque = refl; calls = cs; made = made; pushed = []; puts = put_none (own a) (own a) refl }
+  pub goes_calls : (a : Member) (r : Runner) (cs : List Call) → Calls p cap cs a.runner r → NoneSwept abort cs → Goes p cap abort a (record a { runner = r })
+  goes_calls a r cs made lazy = record { number = refl; tickets = refl; stolen = refl; end = refl; deque = refl; calls = cs; made = made; lazy = lazy; pushed = []; puts = put_none (own a) (own a) refl }
 
-  pub goes_pushed : (a : Member) (o : Owner) (h op : ℕ) → SameWorker a.owner o → worker_view o ≡ put (own a) (op ∷ []) → Goes p cap a (record a { owner = o; handed = h })
-  goes_pushed a o h op same puts = record { number = refl; tickets = refl; stolen = refl; end = refl; deque = same.0; calls = []; made = refl; pushed = op ∷ []; puts = puts }
+  pub goes_pushed : (a : Member) (o : Owner) (h op : ℕ) → SameWorker a.owner o → worker_view o ≡ put (own a) (op ∷ []) → Goes p cap abort a (record a { owner = o; handed = h })
+  goes_pushed a o h op same puts = record { number = refl; tickets = refl; stolen = refl; end = refl; deque = same.0; calls = []; made = refl; lazy = lazy_none abort; pushed = op ∷ []; puts = puts }
 
-  pub goes_refused : (a : Member) (o : Owner) (r : Runner) (op : ℕ) → SameWorker a.owner o → worker_view o ≡ own a → Walked p cap op a.runner r → Goes p cap a (record a { runner = r; owner = o })
-  goes_refused a o r op same still walked = record { number = refl; tickets = refl; stolen = refl; end = refl; deque = same.0; calls = walked.calls; made = walked.made; pushed = []; puts = put_none (own a) (worker_view o) still }
+  pub goes_refused : (a : Member) (o : Owner) (r : Runner) (op : ℕ) → SameWorker a.owner o → worker_view o ≡ own a → Walked p cap abort op a.runner r → Goes p cap abort a (record a { runner = r; owner = o })
+  goes_refused a o r op same still walked = record { number = refl; tickets = refl; stolen = refl; end = refl; deque = same.0; calls = walked.calls; made = walked.made; lazy = walked.lazy; pushed = []; puts = put_none (own a) (worker_view o) still }
 
-  pub goes_then : (a m b : Member) → Goes p cap a m → Goes p cap m b → Goes p cap a b
+  pub goes_then : (a m b : Member) → Goes p cap abort a m → Goes p cap abort m b → Goes p cap abort a b
   goes_then a m b first second = record {
     number = second.number ∙ first.number;
     tickets = second.tickets ∙ first.tickets;
@@ -92,6 +124,7 @@ module _ (p : Plan) (cap : ℕ) where
     deque = second.deque ∙ first.deque;
     calls = second.calls ++ first.calls;
     made = calls_append p cap second.calls first.calls a.runner m.runner b.runner first.made second.made;
+    lazy = lazy_both abort second.calls first.calls second.lazy first.lazy;
     pushed = first.pushed ++ second.pushed;
     puts =
         second.puts
@@ -99,22 +132,39 @@ module _ (p : Plan) (cap : ℕ) where
         ∙ ap (λ l. log (own a).parts l (own a).popped (own a).stolen (own a).left) (append_assoc (own a).pushed first.pushed second.pushed);
   }
 
-  pub serves_first : (o : ℕ) (a : Member) (r : Runner) (x : Evaluation) → Tries p cap o a.runner r x → Serves p cap o a (record a { runner = r })
-  unfolding goes_calls
-  serves_first o a r x tries = record { goes = goes_calls a r (Tried o ∷ []) (a.runner, refl, (x, tries)); tried = contains_first (Tried o) [] }
+  pub goes_tried : (o : ℕ) (a : Member) (r : Runner) (x : Evaluation) → Tries p cap o a.runner r x → Goes p cap abort a (record a { runner = r })
+  goes_tried o a r x tries = goes_calls a r (Tried o ∷ []) (a.runner, refl, (x, tries)) (lazy_one abort (Tried o) refl)
 
-  pub serves_then : (o : ℕ) (a m b : Member) → Serves p cap o a m → Goes p cap m b → Serves p cap o a b
+  -- it tried an operation, ran the cascade behind that to its end, and went on
+  module _ (o : ℕ) (a : Member) (r : Runner) (x : Evaluation) (tries : Tries p cap o a.runner r x) (m b : Member) (touches : TouchesFor p cap abort o (cascade_for abort x) (record a { runner = r }) m) (swept : Goes p cap abort (record a { runner = r }) m) (goes : Goes p cap abort m b) where
+    pub visited : Visits p cap abort o a b
+    visited = record { evaluated = r; answer = x; tries = tries; swept = m; touches = touches; goes = goes }
+
+    pub serves_first : Serves p cap abort o a b
+    unfolding goes_then goes_tried goes_calls
+    serves_first = record {
+      goes = goes_then a m b (goes_then a (record a { runner = r }) m (goes_tried o a r x tries) swept) goes;
+      tried = Contains-append_right goes.calls (swept.calls ++ Tried o ∷ []) (Tried o) (Contains-append_right swept.calls (Tried o ∷ []) (Tried o) (contains_first (Tried o) []));
+      ops = o ∷ [];
+      visits = (a, refl, visited);
+      first = contains_first o [];
+    }
+
+  pub serves_then : (o q : ℕ) (a m b : Member) → Serves p cap abort o a m → Goes p cap abort m b → Visits p cap abort q m b → Serves p cap abort o a b
   unfolding goes_then
-  serves_then o a m b first second = record {
+  serves_then o q a m b first second visits = record {
     goes = goes_then a m b first.goes second;
     tried = Contains-append_right second.calls first.goes.calls (Tried o) first.tried;
+    ops = q ∷ first.ops;
+    visits = (m, first.visits, visits);
+    first = contains_later q first.ops o first.first;
   }
 
-  pub asked_one : (o : ℕ) (a : Member) (r : Runner) (x : Readied) → Asks p cap o a.runner r x → Goes p cap a (record a { runner = r })
-  asked_one o a r x asks = goes_calls a r (Asked o ∷ []) (a.runner, refl, (x, asks))
+  pub asked_one : (o : ℕ) (a : Member) (r : Runner) (x : Readied) → Asks p cap o a.runner r x → Goes p cap abort a (record a { runner = r })
+  asked_one o a r x asks = goes_calls a r (Asked o ∷ []) (a.runner, refl, (x, asks)) (lazy_one abort (Asked o) refl)
 
   -- its tickets and the parts of its deque stay
-  pub tickets_kept : (ts : List Thief) (a b : Member) → HasTickets ts a → Goes p cap a b → HasTickets ts b
+  pub tickets_kept : (ts : List Thief) (a b : Member) → HasTickets ts a → Goes p cap abort a b → HasTickets ts b
   tickets_kept ts a b is goes = record {
     inside = subst (λ k. k < length ts) (sym goes.number) is.inside;
     few = is.few;

@@ -1,5 +1,5 @@
 -- What a lone root leaves: each operation was pushed, popped, and ran.
-use Rattle.std.proofs.Common.{◌≡◌, ℕ, zero, suc, ◌+◌, ◌<◌, List, [], ◌∷◌, ◌++◌, length, refl, sym, ap, ◌∙◌, subst, inl, inr, arith}
+use Rattle.std.proofs.Common.{◌≡◌, ℕ, zero, suc, ◌+◌, ◌<◌, List, ◌++◌, sym, ap, ◌∙◌, subst, inl, inr, arith}
 use Rattle.std.specs.Prelude.{All, sum_by}
 use Rattle.std.proofs.lemmas.List.Sums.{sum_by-append}
 use Rattle.morph_base.specs.declared.plan.Plan.{Plan}
@@ -18,10 +18,7 @@ use Rattle.steal_explorer.specs.Handing.{came, gone, one}
 use Rattle.steal_explorer.specs.HandingOut.{is_one}
 use Rattle.steal_explorer.specs.Members.{Thief, own, IsWorker}
 use Rattle.steal_explorer.proofs.Counting.{many_ones}
-
-no_items : (xs : List ℕ) → length xs ≡ 0 → xs ≡ []
-no_items [] none = refl
-no_items (x ∷ xs) none = absurd (omega arith)
+use Rattle.steal_explorer.proofs.Outcome.{no_items}
 
 module _ (g : Ground) (ts : List Thief) (w : Member) (worker : IsWorker g ts w) (ends : EndsAlone g.plan.now w.end w) where
   abbrev p : Plan

@@ -2,6 +2,7 @@ pub mod Holds
 pub mod Stealing
 pub mod Owning
 pub mod Going
+pub mod Cascading
 pub mod Depending
 pub mod Turning
 pub mod Places

@@ -5,6 +5,8 @@ use Rattle.std.proofs.lemmas.Bool.{cases_eq, cases_lt}
 use Rattle.std.proofs.lemmas.List.Sums.{sum_by_push}
 use Rattle.crossbeam_deque.specs.Handles.{worker_capacity, worker_index}
 use Rattle.morph_base.specs.declared.plan.Plan.{Plan}
+use Rattle.morph_base.specs.declared.strategy.Abort.{Abort}
+use Rattle.morph_base.specs.declared.strategy.Abort.TheVariants.{Lazy}
 use Rattle.morph_base.specs.Graphs.{IsValidPlan}
 use Rattle.morph_base.specs.Plans.{op_count}
 use Rattle.op_words.specs.Views.{IsLone}
@@ -56,8 +58,8 @@ keeps_still m b same = record {
   ran = λ o ran. subst (λ (n : Member). IsRun o n) (sym same) ran;
 }
 
-served_keeps : (p : Plan) → IsValidPlan p → (cap x : ℕ) (m b : Member) → IsLone (hand_view m.runner) → After p cap (Item x) m b → AfterKeeps m b
-served_keeps p valid cap x m b lone after =
+served_keeps : (p : Plan) → IsValidPlan p → (cap : ℕ) (abort : Abort) → abort ≡ Lazy → (x : ℕ) (m b : Member) → IsLone (hand_view m.runner) → After p cap abort (Item x) m b → AfterKeeps m b
+served_keeps p valid cap abort lazy x m b lone after =
     elim (cases_lt x (op_count p)) [
       | inr past ↦ keeps_still m b (after.1 past)
       | inl lt ↦
@@ -68,17 +70,17 @@ served_keeps p valid cap x m b lone after =
                 let e : length (own b).pushed ≡ length ((own m).pushed ++ goes.pushed) = ap (λ (v : Log). length v.pushed) goes.puts in
                 let f : length ((own m).pushed ++ goes.pushed) ≡ length (own m).pushed + length goes.pushed = length-append (own m).pushed goes.pushed in
                 omega arith;
-            ran = goes_ran p valid cap m b goes lone;
+            ran = goes_ran p valid cap m abort lazy b goes lone;
           }
     ]
 
 module _ (p : Plan) (valid : IsValidPlan p) (cap : ℕ) (ts : List Thief) (a m : Member) (single : length ts ≡ 1) (tickets : HasTickets ts a) (is : IsTurningAlone p a) where
   -- an item was there, and is served
-  pub took_item : (x : ℕ) (b : Member) → FindsAlone (Item x) a m → Finds ts (Item x) a m → (IsHandingAlone p [] m → ServesAlone p x m b) → After p cap (Item x) m b → TurnsAlone p (Item x) a b
-  took_item x b alone finds serve after =
+  pub took_item : (abort : Abort) → abort ≡ Lazy → (x : ℕ) (b : Member) → FindsAlone (Item x) a m → Finds ts (Item x) a m → (IsHandingAlone p [] m → ServesAlone p x m b) → After p cap abort (Item x) m b → TurnsAlone p (Item x) a b
+  took_item abort lazy x b alone finds serve after =
       let at_m : IsHandingAlone p [] m = handing_as p a m is.handing finds.runner finds.pushed alone.slots alone.index in
       let serves = serve at_m in
-      let keeps = served_keeps p valid cap x m b at_m.lone after in
+      let keeps = served_keeps p valid cap abort lazy x m b at_m.lone after in
       let popped : (own b).popped ≡ (own a).popped ++ x ∷ [] = keeps.popped ∙ ap (λ (v : Log). v.popped) alone.found.0 in
       let longer : length (own b).popped ≡ length (own a).popped + 1 = ap length popped ∙ length-append (own a).popped (x ∷ []) in
       let there : gone one (own a) + 1 ≤ came one (own a) = alone.found.1 (whole_own ts a single tickets) one in

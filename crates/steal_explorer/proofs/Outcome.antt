@@ -3,8 +3,9 @@ use Rattle.std.proofs.Common.{◌≡◌, ◌≢◌, ◌⊎◌, ℕ, suc, ◌+◌
 use Rattle.std.specs.Prelude.{All, Contains, count_by, sum_by, slice_index_or}
 use Rattle.std.proofs.lemmas.Bool.{cases_eq, cases_lt}
 use Rattle.std.proofs.lemmas.List.{get_or-map}
-use Rattle.std.proofs.lemmas.List.Sums.{sum_by-cons, sum_by-append}
+use Rattle.std.proofs.lemmas.List.Sums.{sum_by-cons, sum_by-append, get_or-le-sum_by}
 use Rattle.morph_base.specs.declared.plan.Plan.{Plan}
+use Rattle.morph_base.specs.declared.strategy.Abort.{Abort}
 use Rattle.morph_base.specs.Plans.{op_count}
 use Rattle.op_words.proofs.Sizes.{sum_ones}
 use Rattle.op_words.specs.Hands.{cap_of, up_to}
@@ -26,7 +27,7 @@ use Rattle.steal_explorer.specs.Finding.{weight_of}
 use Rattle.steal_explorer.specs.Gathering.{HasStill, AreHolding, out, Kept, kept_of, AreTotals}
 use Rattle.steal_explorer.specs.Handing.{whole, log, one}
 use Rattle.steal_explorer.specs.HandingOut.{is_one, taken_in, IsBeginning, HasHandedOut}
-use Rattle.steal_explorer.specs.Members.{Thief, Ticket, own, tickets_of, stolen_by, taken_by, IsIdle, IsWorker}
+use Rattle.steal_explorer.specs.Members.{Thief, Ticket, own, tickets_of, stolen_by, taken_by, HasTickets, IsIdle, IsWorker}
 use Rattle.steal_explorer.specs.Turns.{After, Turns, HasRun}
 use Rattle.steal_explorer.proofs.Going.{contains_first, contains_later, calls_append}
 use Rattle.steal_explorer.proofs.Telling.{turns_taken, turns_tell, count_both, calls_keep, calls_reach, calls_total}
@@ -150,29 +151,29 @@ found_in x (Item y ∷ fs) more =
 
 -- ---- turns
 
-turns_number : (p : Plan) (cap : ℕ) (ts : List Thief) (a : Member) (fs : List Found) (b : Member) → Turns p cap ts a fs b → b.number ≡ a.number
-turns_number p cap ts a [] b made = ap (λ (m : Member). m.number) made
-turns_number p cap ts a (f ∷ fs) b made = after_number f made.2.found b made.2.after ∙ made.2.finds.number ∙ turns_number p cap ts a fs made.0 made.1
+turns_number : (p : Plan) (cap : ℕ) (abort : Abort) (ts : List Thief) (a : Member) (fs : List Found) (b : Member) → Turns p cap abort ts a fs b → b.number ≡ a.number
+turns_number p cap abort ts a [] b made = ap (λ (m : Member). m.number) made
+turns_number p cap abort ts a (f ∷ fs) b made = after_number f made.2.found b made.2.after ∙ made.2.finds.number ∙ turns_number p cap abort ts a fs made.0 made.1
   where
-    after_number : (f : Found) (a b : Member) → After p cap f a b → b.number ≡ a.number
+    after_number : (f : Found) (a b : Member) → After p cap abort f a b → b.number ≡ a.number
     after_number (Item x) a b after = elim (cases_lt x (op_count p)) [ inl lt ↦ (after.0 lt).goes.number | inr past ↦ ap (λ (m : Member). m.number) (after.1 past) ]
     after_number Nothing a b after = ap (λ (m : Member). m.number) after
     after_number Retry a b after = ap (λ (m : Member). m.number) after
 
-module _ (p : Plan) (cap : ℕ) (ts : List Thief) (a b : Member) (run : HasRun p cap ts a b) where
+module _ (p : Plan) (cap : ℕ) (abort : Abort) (ts : List Thief) (a b : Member) (run : HasRun p cap abort ts a b) where
   pub run_number : b.number ≡ a.number
-  run_number = ap (λ (m : Member). m.number) run.noted ∙ turns_number p cap ts a run.ran.turns run.stopped run.ran.made
+  run_number = ap (λ (m : Member). m.number) run.noted ∙ turns_number p cap abort ts a run.ran.turns run.stopped run.ran.made
 
   run_calls : (cs : List Call) × Calls p cap cs a.runner b.runner
-  run_calls = let tell = turns_tell p cap ts a run.ran.turns run.stopped run.ran.made in (tell.calls, subst (Calls p cap tell.calls a.runner) (ap (λ (m : Member). m.runner) (sym run.noted)) tell.made)
+  run_calls = let tell = turns_tell p cap abort ts a run.ran.turns run.stopped run.ran.made in (tell.calls, subst (Calls p cap tell.calls a.runner) (ap (λ (m : Member). m.runner) (sym run.noted)) tell.made)
 
   -- each operation that it took was tried in a call of its own
   run_tries : ((h : ℕ → ℕ) → taken_by h a ≡ 0) → taken_by (in_plan p) b ≤ count_by is_tried run_calls.0
   unfolding run_calls
   run_tries fresh =
-      let tell = turns_tell p cap ts a run.ran.turns run.stopped run.ran.made in
+      let tell = turns_tell p cap abort ts a run.ran.turns run.stopped run.ran.made in
       let e : taken_by (in_plan p) b ≡ taken_by (in_plan p) run.stopped = ap (taken_by (in_plan p)) run.noted in
-      let f : taken_by (in_plan p) run.stopped ≡ taken_by (in_plan p) a + sum_by (weight_of (in_plan p)) run.ran.turns = turns_taken p cap ts a run.ran.turns run.stopped run.ran.made (in_plan p) in
+      let f : taken_by (in_plan p) run.stopped ≡ taken_by (in_plan p) a + sum_by (weight_of (in_plan p)) run.ran.turns = turns_taken p cap abort ts a run.ran.turns run.stopped run.ran.made (in_plan p) in
       let g = fresh (in_plan p) in
       let h = tell.many in
       omega arith
@@ -180,9 +181,9 @@ module _ (p : Plan) (cap : ℕ) (ts : List Thief) (a b : Member) (run : HasRun p
   -- what it took it reached
   run_reached : (x : ℕ) → x < op_count p → ((h : ℕ → ℕ) → taken_by h a ≡ 0) → 0 < taken_by (is_one x) b → IsReached p x (hand_view b.runner).trail
   run_reached x lt fresh more =
-      let tell = turns_tell p cap ts a run.ran.turns run.stopped run.ran.made in
+      let tell = turns_tell p cap abort ts a run.ran.turns run.stopped run.ran.made in
       let e : taken_by (is_one x) b ≡ taken_by (is_one x) run.stopped = ap (taken_by (is_one x)) run.noted in
-      let f : taken_by (is_one x) run.stopped ≡ taken_by (is_one x) a + sum_by (weight_of (is_one x)) run.ran.turns = turns_taken p cap ts a run.ran.turns run.stopped run.ran.made (is_one x) in
+      let f : taken_by (is_one x) run.stopped ≡ taken_by (is_one x) a + sum_by (weight_of (is_one x)) run.ran.turns = turns_taken p cap abort ts a run.ran.turns run.stopped run.ran.made (is_one x) in
       let g = fresh (is_one x) in
       subst (λ (r : Runner). IsReached p x (hand_view r).trail) (ap (λ (m : Member). m.runner) (sym run.noted))
       (calls_reach p cap x tell.calls a.runner run.stopped.runner tell.made (tell.tried x (found_in x run.ran.turns (omega arith)) lt))
@@ -283,19 +284,43 @@ module _ (p : Plan) (cap : ℕ) where
 
 -- ---- all together
 
+pub no_items : (xs : List ℕ) → length xs ≡ 0 → xs ≡ []
+no_items [] none = refl
+no_items (x ∷ xs) none = absurd (omega arith)
+
+sums_none : (f : Member → ℕ) (ms : List Member) → ((k : ℕ) (m : Member) → k < length ms → f (slice_index_or ms k m) ≡ 0) → sum_by f ms ≡ 0
+sums_none f [] none = refl
+sums_none f (m ∷ ms) none =
+    let e : sum_by f (m ∷ ms) ≡ f m + sum_by f ms = sum_by-cons f m ms in
+    let here : f m ≡ 0 = none 0 m (zero-lt-suc (length ms)) in
+    let rest = sums_none f ms (λ k d lt. none (suc k) d (suc-le-suc lt)) in
+    omega arith
+
+-- the only ticket of one worker is that of its own deque, by which it steals nothing
+alone_bare : (h : ℕ → ℕ) (ts : List Thief) (m : Member) → length ts ≡ 1 → HasTickets ts m → stolen_by h (tickets_of m) ≡ 0
+alone_bare h ts m single is = bare (tickets_of m) (is.len ∙ single) (λ x. subst (λ k. view (slice_index_or (tickets_of m) k x) ≡ log 0 [] [] [] []) (let lt = is.inside in omega arith) (is.guest x))
+  where
+    bare : (xs : List Ticket) → length xs ≡ 1 → ((x : Ticket) → view (slice_index_or xs 0 x) ≡ log 0 [] [] [] []) → stolen_by h xs ≡ 0
+    bare [] one_there guest = absurd (omega arith)
+    bare (x ∷ y ∷ ys) one_there guest = absurd (omega arith)
+    bare (x ∷ []) one_there guest =
+        let e : stolen_by h (x ∷ []) ≡ sum_by h (view x).stolen + 0 = sum_by-cons (λ (z : Ticket). sum_by h (view z).stolen) x [] in
+        let f : sum_by h (view x).stolen ≡ 0 = ap (λ (v : Log). sum_by h v.stolen) (guest x) in
+        omega arith
+
 no_tickets : (h : ℕ → ℕ) (xs : List Ticket) → length xs ≡ 0 → stolen_by h xs ≡ 0
 no_tickets h [] none = refl
 no_tickets h (x ∷ xs) none = absurd (omega arith)
 
 module _ (g : Ground) (ts : List Thief) (ms ws gs : List Member) (begins : (k : ℕ) (m : Member) → k < length ms → IsBeginning g ts k (slice_index_or ms k m)) (len : length ms ≡ length ts) (len_ws : length ws ≡ length ms)
-    (work : (k : ℕ) (m : Member) → k < length ms → IsWorker g ts (slice_index_or ws k m) × HasRun g.plan.now (cap_of g.board.now) ts (slice_index_or ms k m) (slice_index_or ws k m)) where
+    (work : (k : ℕ) (m : Member) → k < length ms → IsWorker g ts (slice_index_or ws k m) × HasRun g.plan.now (cap_of g.board.now) g.abort ts (slice_index_or ms k m) (slice_index_or ws k m)) where
   -- before they give back their tickets
   pub all_hold : length ts ≤ whole → AreHolding ts (length ws) ws
   all_hold few =
       holding_all g ts ws (len_ws ∙ len) few (λ k m lt. (work k m (subst (λ n. k < n) len_ws lt)).0)
       (λ k m lt.
       let less : k < length ms = subst (λ n. k < n) len_ws lt in
-      run_number g.plan.now (cap_of g.board.now) ts (slice_index_or ms k m) (slice_index_or ws k m) (work k m less).1 ∙ (begins k m less).number)
+      run_number g.plan.now (cap_of g.board.now) g.abort ts (slice_index_or ms k m) (slice_index_or ws k m) (work k m less).1 ∙ (begins k m less).number)
 
   module _ (held : AreHolding ts 0 gs) (totals : AreTotals ws gs) where
     len_gs : length gs ≡ length ms
@@ -384,7 +409,7 @@ module _ (g : Ground) (ts : List Thief) (ms ws gs : List Member) (begins : (k : 
                   less,
                   λ m.
                       still_reached x at.0 m less
-                      (run_reached p cap ts (slice_index_or ms at.0 m) (slice_index_or ws at.0 m) (work at.0 m less).1 x lt (begins at.0 m less).fresh (at.2 m)),
+                      (run_reached p cap g.abort ts (slice_index_or ms at.0 m) (slice_index_or ws at.0 m) (work at.0 m less).1 x lt (begins at.0 m less).fresh (at.2 m)),
                 )
             | inr none ↦
                 let at = above (taken_in (is_one x)) gs ns emptied.len (omega arith) in
@@ -405,17 +430,31 @@ module _ (g : Ground) (ts : List Thief) (ms ws gs : List Member) (begins : (k : 
               let less : k < length ms = subst (λ n. k < n) (emptied.len ∙ len_gs) lt in
               sum_ones one (own (slice_index_or gs k m)).stolen (λ _. refl) ∙ ap length (sym (tells k m less).thefts)
 
+      -- one worker has no deque to steal from
+      none_stolen : length ts ≡ 1 → (h : ℕ → ℕ) → sum_by (λ (m : Member). sum_by h (own m).stolen) gs ≡ 0
+      none_stolen single h =
+          stolen_sum h
+          ∙ sums_none (λ (m : Member). stolen_by h (tickets_of m)) ws
+          (λ k m lt. alone_bare h ts (slice_index_or ws k m) single (work k m (subst (λ n. k < n) len_ws lt)).0.tickets)
+
+      unstolen_by : length ts ≡ 1 → (k : ℕ) (m : Member) → k < length ms → (own (slice_index_or ns k m)).stolen ≡ []
+      unstolen_by single k m lt =
+          let least : sum_by one (own (slice_index_or gs k m)).stolen ≤ sum_by (λ (m : Member). sum_by one (own m).stolen) gs = get_or-le-sum_by (λ (m : Member). sum_by one (own m).stolen) gs k m (in_gs k lt) in
+          let none : sum_by (λ (m : Member). sum_by one (own m).stolen) gs ≡ 0 = none_stolen single one in
+          let long : sum_by one (own (slice_index_or gs k m)).stolen ≡ length (own (slice_index_or gs k m)).stolen = sum_ones one (own (slice_index_or gs k m)).stolen (λ _. refl) in
+          (tells k m lt).thefts ∙ no_items (own (slice_index_or gs k m)).stolen (omega arith)
+
       -- all calls of a worker, and how many of them tried something
       calls_of : (k : ℕ) (m : Member) → k < length ms → (cs : List Call) × Calls p cap cs (slice_index_or ms k m).runner (slice_index_or ns k m).runner
           × (taken_by (in_plan p) (slice_index_or ws k m) + taken_in (in_plan p) (slice_index_or ns k m) ≤ taken_in (in_plan p) (slice_index_or gs k m) + count_by is_tried cs)
       calls_of k m lt =
           let run = (work k m lt).1 in
-          let first = run_calls p cap ts (slice_index_or ms k m) (slice_index_or ws k m) run in
+          let first = run_calls p cap g.abort ts (slice_index_or ms k m) (slice_index_or ws k m) run in
           let second = (tells k m lt).calls in (
             second.0 ++ first.0,
             calls_append p cap second.0 first.0 (slice_index_or ms k m).runner (slice_index_or ws k m).runner (slice_index_or ns k m).runner first.1
                 (subst (λ r. Calls p cap second.0 r (slice_index_or ns k m).runner) (ap (λ (q : Kept). q.runner) (kept_at k m lt)) second.1),
-            (let a = run_tries p cap ts (slice_index_or ms k m) (slice_index_or ws k m) run (begins k m lt).fresh in
+            (let a = run_tries p cap g.abort ts (slice_index_or ms k m) (slice_index_or ws k m) run (begins k m lt).fresh in
                 let b = (tells k m lt).tries in
                 let c = count_both second.0 first.0 in
                 omega arith),
@@ -438,7 +477,7 @@ module _ (g : Ground) (ts : List Thief) (ms ws gs : List Member) (begins : (k : 
                 | inl more ↦ (let few = calls.2 in inl (omega arith))
               ]
 
-      pub handed_out : HasHandedOut p cap ts ms ns
+      pub handed_out : HasHandedOut p cap g.abort ts ms ns
       handed_out = record {
         len = emptied.len ∙ len_gs;
         returned = ws;
@@ -457,5 +496,6 @@ module _ (g : Ground) (ts : List Thief) (ms ws gs : List Member) (begins : (k : 
             ∙ (work k m lt).0.deque.handed
             ∙ ap (λ l. up_to (length l)) (sym ((tells k m lt).pushed ∙ ap (λ (q : Kept). q.pushed) (kept_at k m lt)));
         stolen = stolen_counted;
+        unstolen = unstolen_by;
         answered = all_answered;
       }

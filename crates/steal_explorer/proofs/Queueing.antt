@@ -5,6 +5,8 @@ use Rattle.std.proofs.lemmas.List.Elements.{All-contains}
 use Rattle.std.proofs.lemmas.List.Sums.{sum_by_push}
 use Rattle.crossbeam_deque.specs.Handles.{worker_capacity, worker_index}
 use Rattle.morph_base.specs.declared.plan.Plan.{Plan}
+use Rattle.morph_base.specs.declared.strategy.Abort.{Abort}
+use Rattle.morph_base.specs.declared.strategy.Abort.TheVariants.{Lazy}
 use Rattle.morph_base.specs.Graphs.{IsValidPlan}
 use Rattle.morph_base.specs.Plans.{op_count}
 use Rattle.op_words.specs.declared.answers.Outcome.{Outcome}
@@ -104,15 +106,16 @@ module _ (p : Plan) (valid : IsValidPlan p) (cap : ℕ) (a : Member) where
           ran = stops.1;
         }
 
-  -- what ran stays so
-  pub goes_ran : (b : Member) → Goes p cap a b → IsLone (hand_view a.runner) → (o : ℕ) → IsRun o a → IsRun o b
-  goes_ran b goes lone o ran = calls_ran p valid.plan cap goes.calls a.runner b.runner goes.made lone o ran
+  -- what ran stays so, under lazy abort
+  module _ (abort : Abort) (lazy : abort ≡ Lazy) where
+    pub goes_ran : (b : Member) → Goes p cap abort a b → IsLone (hand_view a.runner) → (o : ℕ) → IsRun o a → IsRun o b
+    goes_ran b goes lone o ran = calls_ran p valid.plan cap goes.calls a.runner b.runner goes.made (goes.lazy lazy) lone o ran
 
-  pub serves_more : (o : ℕ) (m b : Member) → ServesAlone p o a m → Goes p cap m b → IsHandingAlone p [] b → ServesAlone p o a b
-  serves_more o m b serves goes handing = record {
-    handing = handing;
-    ran = λ there. calls_ran p valid.plan cap goes.calls m.runner b.runner goes.made serves.handing.lone o (serves.ran there);
-  }
+    pub serves_more : (o : ℕ) (m b : Member) → ServesAlone p o a m → Goes p cap abort m b → IsHandingAlone p [] b → ServesAlone p o a b
+    serves_more o m b serves goes handing = record {
+      handing = handing;
+      ran = λ there. calls_ran p valid.plan cap goes.calls m.runner b.runner goes.made (goes.lazy lazy) serves.handing.lone o (serves.ran there);
+    }
 
 -- ---- asking all that read from an operation
 

@@ -1,7 +1,8 @@
 -- How operations stand with a lone root, call by call.
 use Rattle.std.proofs.Common.{◌≡◌, ◌≢◌, ◌⊎◌, ℕ, ◌+◌, ◌<◌, ◌≤◌, true, false, List, [], ◌∷◌, refl, sym, ap, ◌∙◌, subst, inl, inr, arith}
-use Rattle.std.specs.Prelude.{Contains, sum_by}
+use Rattle.std.specs.Prelude.{All, Contains, sum_by}
 use Rattle.std.proofs.lemmas.Bool.{false≢true, cases_eq}
+use Rattle.std.proofs.lemmas.List.Elements.{All-head, All-tail}
 use Rattle.morph_base.specs.declared.plan.Plan.{Plan}
 use Rattle.morph_base.specs.declared.word.OpState.TheVariants.{Blocked, Ready}
 use Rattle.morph_base.specs.declared.word.OpWord.{OpWord}
@@ -26,8 +27,9 @@ use Rattle.op_eval.specs.Evaluations.{EvaluationDoes}
 use Rattle.op_eval.specs.Running.{hand_view}
 use Rattle.op_eval.proofs.Alone.{come_first, run_valued, lone_unclaimed, lone_undisturbed, lone_evaluates, knew_first, knew_other, left_last, others_same, none_changed, others_stay, ran_kept}
 use Rattle.op_eval.proofs.Following.{one_none}
+use Rattle.abort_eager.proofs.Touching.{touched_one}
 use Rattle.steal_explorer.specs.Alone.{IsDue, IsWaiting, IsQueued, HasGone, Stands}
-use Rattle.steal_explorer.specs.Calls.{Call, Asked, Tried, Calls}
+use Rattle.steal_explorer.specs.Calls.{Call, Asked, Tried, Swept, is_swept, Calls}
 use Rattle.steal_explorer.specs.HandingOut.{is_one}
 use Rattle.steal_explorer.proofs.Counting.{same_is, other_is}
 use Rattle.steal_explorer.proofs.Telling.{contains_cases}
@@ -115,14 +117,19 @@ pub calls_lone : (p : Plan) (cap : ℕ) (cs : List Call) (a b : Runner) → Call
 calls_lone p cap [] a b calls lone = subst (λ r. IsLone (hand_view r)) (sym calls) lone
 calls_lone p cap (Asked o ∷ cs) a b calls lone = lone_more calls.2.1.does.goes.adds (calls_lone p cap cs a calls.0 calls.1 lone)
 calls_lone p cap (Tried o ∷ cs) a b calls lone = lone_more calls.2.1.does.goes.adds (calls_lone p cap cs a calls.0 calls.1 lone)
+calls_lone p cap (Swept g ∷ cs) a b calls lone =
+    lone_more (touched_one p cap g (hand_view calls.0) (hand_view b) calls.2.0 calls.2.1.touches).goes.adds (calls_lone p cap cs a calls.0 calls.1 lone)
 
-pub calls_ran : (p : Plan) → IsPlan p → (cap : ℕ) (cs : List Call) (a b : Runner) → Calls p cap cs a b → IsLone (hand_view a) → (k : ℕ) → Ran (hand_view a).trail k → Ran (hand_view b).trail k
-calls_ran p valid cap [] a b calls lone k ran = subst (λ r. Ran (hand_view r).trail k) (sym calls) ran
-calls_ran p valid cap (Asked o ∷ cs) a b calls lone k ran =
+-- where no target of a cascade was touched
+pub calls_ran : (p : Plan) → IsPlan p → (cap : ℕ) (cs : List Call) (a b : Runner) → Calls p cap cs a b → All (λ c. is_swept c ≡ false) cs → IsLone (hand_view a) → (k : ℕ) → Ran (hand_view a).trail k → Ran (hand_view b).trail k
+calls_ran p valid cap [] a b calls none lone k ran = subst (λ r. Ran (hand_view r).trail k) (sym calls) ran
+calls_ran p valid cap (Asked o ∷ cs) a b calls none lone k ran =
     asked_keeps (calls_lone p cap cs a calls.0 calls.1 lone) (come_first p o valid calls.2.1.in_range) calls.2.0 calls.2.1.does k
-    (calls_ran p valid cap cs a calls.0 calls.1 lone k ran)
-calls_ran p valid cap (Tried o ∷ cs) a b calls lone k ran =
-    ran_kept (calls_lone p cap cs a calls.0 calls.1 lone) calls.2.0 calls.2.1.does k (calls_ran p valid cap cs a calls.0 calls.1 lone k ran)
+    (calls_ran p valid cap cs a calls.0 calls.1 (All-tail (λ c. is_swept c ≡ false) (Asked o) cs none) lone k ran)
+calls_ran p valid cap (Tried o ∷ cs) a b calls none lone k ran =
+    ran_kept (calls_lone p cap cs a calls.0 calls.1 lone) calls.2.0 calls.2.1.does k
+    (calls_ran p valid cap cs a calls.0 calls.1 (All-tail (λ c. is_swept c ≡ false) (Tried o) cs none) lone k ran)
+calls_ran p valid cap (Swept g ∷ cs) a b calls none lone k ran = absurd (false≢true (sym (All-head (λ c. is_swept c ≡ false) (Swept g) cs none)))
 
 -- ---- how operations stand afterwards
 

@@ -5,6 +5,7 @@ use Rattle.std.proofs.lemmas.Bool.{cases_lt}
 use Rattle.std.proofs.lemmas.List.Elements.{Contains-append_left, Contains-append_right}
 use Rattle.std.proofs.lemmas.List.Sums.{sum_by-cons, sum_by-append}
 use Rattle.morph_base.specs.declared.plan.Plan.{Plan}
+use Rattle.morph_base.specs.declared.strategy.Abort.{Abort}
 use Rattle.morph_base.specs.Contents.{Contents}
 use Rattle.morph_base.specs.Plans.{op_count}
 use Rattle.op_words.specs.Trails.{IsReached}
@@ -13,11 +14,12 @@ use Rattle.op_eval.specs.declared.runner.Runner.{Runner}
 use Rattle.op_eval.specs.Exploring.{total}
 use Rattle.op_eval.specs.Running.{hand_view}
 use Rattle.op_eval.proofs.Totals.{tries_total, full_stays}
+use Rattle.abort_eager.proofs.Touching.{touched_one}
 use Rattle.steal_explorer.specs.declared.finding.Found.{Found}
 use Rattle.steal_explorer.specs.declared.finding.Found.TheVariants.{Item, Nothing, Retry}
 use Rattle.steal_explorer.specs.declared.handing.Log.{Log}
 use Rattle.steal_explorer.specs.declared.members.Member.{Member}
-use Rattle.steal_explorer.specs.Calls.{Call, Asked, Tried, is_tried, Calls}
+use Rattle.steal_explorer.specs.Calls.{Call, Asked, Tried, Swept, is_tried, Calls}
 use Rattle.steal_explorer.specs.Draining.{in_plan}
 use Rattle.steal_explorer.specs.Finding.{weight_of}
 use Rattle.steal_explorer.specs.Members.{Thief, Ticket, own, tickets_of, stolen_by, taken_by}
@@ -46,6 +48,9 @@ calls_keep p cap o (Asked q ∷ cs) a b calls is =
 calls_keep p cap o (Tried q ∷ cs) a b calls is =
     let does = calls.2.1.does in
     subst (IsReached p o) (sym does.goes.adds.trail) (reached_more does.words (calls_keep p cap o cs a calls.0 calls.1 is))
+calls_keep p cap o (Swept g ∷ cs) a b calls is =
+    let does = touched_one p cap g (hand_view calls.0) (hand_view b) calls.2.0 calls.2.1.touches in
+    subst (IsReached p o) (sym does.goes.adds.trail) (reached_more does.words (calls_keep p cap o cs a calls.0 calls.1 is))
 
 -- what was tried was reached
 pub calls_reach : (p : Plan) (cap o : ℕ) (cs : List Call) (a b : Runner) → Calls p cap cs a b → Contains cs (Tried o) → IsReached p o (hand_view b).trail
@@ -69,31 +74,40 @@ calls_reach p cap o (Tried q ∷ cs) a b calls found =
   where
     op_is : Tried o ≡ Tried q → o ≡ q
     op_is e = cc
+calls_reach p cap o (Swept g ∷ cs) a b calls found =
+    let does = touched_one p cap g (hand_view calls.0) (hand_view b) calls.2.0 calls.2.1.touches in
+    elim (contains_cases (Swept g) cs (Tried o) found) [
+      | inl same ↦ absurd (apart same)
+      | inr later ↦ subst (IsReached p o) (sym does.goes.adds.trail) (reached_more does.words (calls_reach p cap o cs a calls.0 calls.1 later))
+    ]
+  where
+    apart : Tried o ≡ Swept g → ⊥
+    apart e = cc
 
 -- ---- serving takes nothing
 
-goes_taken : (p : Plan) (cap : ℕ) (a b : Member) → Goes p cap a b → (h : ℕ → ℕ) → taken_by h b ≡ taken_by h a
-goes_taken p cap a b goes h =
+goes_taken : (p : Plan) (cap : ℕ) (abort : Abort) (a b : Member) → Goes p cap abort a b → (h : ℕ → ℕ) → taken_by h b ≡ taken_by h a
+goes_taken p cap abort a b goes h =
     let e : sum_by h (own b).popped ≡ sum_by h (own a).popped = ap (λ (v : Log). sum_by h v.popped) goes.puts in
     let f : stolen_by h (tickets_of b) ≡ stolen_by h (tickets_of a) = ap (λ (l : Contents Ticket). stolen_by h l.items) goes.tickets in
     omega arith
 
-pub after_taken : (p : Plan) (cap : ℕ) (f : Found) (a b : Member) → After p cap f a b → (h : ℕ → ℕ) → taken_by h b ≡ taken_by h a
-after_taken p cap (Item x) a b after h =
+pub after_taken : (p : Plan) (cap : ℕ) (abort : Abort) (f : Found) (a b : Member) → After p cap abort f a b → (h : ℕ → ℕ) → taken_by h b ≡ taken_by h a
+after_taken p cap abort (Item x) a b after h =
     elim (cases_lt x (op_count p)) [
-      | inl lt ↦ goes_taken p cap a b (after.0 lt).goes h
+      | inl lt ↦ goes_taken p cap abort a b (after.0 lt).goes h
       | inr past ↦ ap (taken_by h) (after.1 past)
     ]
-after_taken p cap Nothing a b after h = ap (taken_by h) after
-after_taken p cap Retry a b after h = ap (taken_by h) after
+after_taken p cap abort Nothing a b after h = ap (taken_by h) after
+after_taken p cap abort Retry a b after h = ap (taken_by h) after
 
 -- all that was found was taken
-pub turns_taken : (p : Plan) (cap : ℕ) (ts : List Thief) (a : Member) (fs : List Found) (b : Member) → Turns p cap ts a fs b → (h : ℕ → ℕ) → taken_by h b ≡ taken_by h a + sum_by (weight_of h) fs
-turns_taken p cap ts a [] b made h = let e : taken_by h b ≡ taken_by h a = ap (taken_by h) made in omega arith
-turns_taken p cap ts a (f ∷ fs) b made h =
-    let rest = turns_taken p cap ts a fs made.0 made.1 h in
+pub turns_taken : (p : Plan) (cap : ℕ) (abort : Abort) (ts : List Thief) (a : Member) (fs : List Found) (b : Member) → Turns p cap abort ts a fs b → (h : ℕ → ℕ) → taken_by h b ≡ taken_by h a + sum_by (weight_of h) fs
+turns_taken p cap abort ts a [] b made h = let e : taken_by h b ≡ taken_by h a = ap (taken_by h) made in omega arith
+turns_taken p cap abort ts a (f ∷ fs) b made h =
+    let rest = turns_taken p cap abort ts a fs made.0 made.1 h in
     let found = made.2.finds.takes h in
-    let after : taken_by h b ≡ taken_by h made.2.found = after_taken p cap f made.2.found b made.2.after h in
+    let after : taken_by h b ≡ taken_by h made.2.found = after_taken p cap abort f made.2.found b made.2.after h in
     let first : sum_by (weight_of h) (f ∷ fs) ≡ weight_of h f + sum_by (weight_of h) fs = sum_by-cons (weight_of h) f fs in
     omega arith
 
@@ -120,6 +134,14 @@ one_tried (Asked q ∷ cs) o found =
   where
     apart : Tried o ≡ Asked q → ⊥
     apart e = cc
+one_tried (Swept g ∷ cs) o found =
+    elim (contains_cases (Swept g) cs (Tried o) found) [
+      | inl same ↦ absurd (apart same)
+      | inr later ↦ (let e : count_by is_tried (Swept g ∷ cs) ≡ 0 + count_by is_tried cs = sum_by-cons (λ x. cond (is_tried x) 1 0) (Swept g) cs in let rest = one_tried cs o later in omega arith)
+    ]
+  where
+    apart : Tried o ≡ Swept g → ⊥
+    apart e = cc
 
 module _ (p : Plan) where
   pub few : (x : ℕ) → in_plan p x ≤ 1
@@ -141,14 +163,14 @@ module _ (p : Plan) where
       is_lt : (x y : ℕ) → x < y → nat_lt x y ≡ true
       is_lt x y lt = grind arith
 
-module _ (p : Plan) (cap : ℕ) where
+module _ (p : Plan) (cap : ℕ) (abort : Abort) where
   pub record AfterTells (f : Found) (a b : Member) : Type 0 where
     pub calls : List Call
     pub made : Calls p cap calls a.runner b.runner
     pub tried : (x : ℕ) → f ≡ Item x → x < op_count p → Contains calls (Tried x)
     pub many : weight_of (in_plan p) f ≤ count_by is_tried calls
 
-  pub after_tells : (f : Found) (a b : Member) → After p cap f a b → AfterTells f a b
+  pub after_tells : (f : Found) (a b : Member) → After p cap abort f a b → AfterTells f a b
   after_tells (Item y) a b after =
       elim (cases_lt y (op_count p)) [
         | inl lt ↦
@@ -189,7 +211,7 @@ module _ (p : Plan) (cap : ℕ) where
       apart : (x : ℕ) → Retry ≡ Item x → ⊥
       apart x e = cc
 
-  pub turns_tell : (ts : List Thief) (a : Member) (fs : List Found) (b : Member) → Turns p cap ts a fs b → TurnsTell p cap fs a b
+  pub turns_tell : (ts : List Thief) (a : Member) (fs : List Found) (b : Member) → Turns p cap abort ts a fs b → TurnsTell p cap fs a b
   turns_tell ts a [] b made = record {
     calls = [];
     made = ap (λ (m : Member). m.runner) made;
@@ -224,6 +246,10 @@ module _ (p : Plan) (cap : ℕ) where
   calls_total (Asked o ∷ cs) a b calls =
       let e : total b.answers ≡ total calls.0.answers = ap total calls.2.1.answers in
       let f : count_by is_tried (Asked o ∷ cs) ≡ 0 + count_by is_tried cs = sum_by-cons (λ x. cond (is_tried x) 1 0) (Asked o) cs in
+      elim (calls_total cs a calls.0 calls.1) [ inl more ↦ inl (omega arith) | inr full ↦ inr (omega arith) ]
+  calls_total (Swept g ∷ cs) a b calls =
+      let e : total b.answers ≡ total calls.0.answers = ap total calls.2.1.answers in
+      let f : count_by is_tried (Swept g ∷ cs) ≡ 0 + count_by is_tried cs = sum_by-cons (λ x. cond (is_tried x) 1 0) (Swept g) cs in
       elim (calls_total cs a calls.0 calls.1) [ inl more ↦ inl (omega arith) | inr full ↦ inr (omega arith) ]
   calls_total (Tried o ∷ cs) a b calls =
       let f : count_by is_tried (Tried o ∷ cs) ≡ 1 + count_by is_tried cs = sum_by-cons (λ x. cond (is_tried x) 1 0) (Tried o) cs in

@@ -2,6 +2,7 @@
 use Rattle.std.proofs.Common.{◌≡◌, ℕ, ◌+◌, ◌<◌, ◌≤◌, List, [], ◌∷◌, length, refl, sym, ap, ◌∙◌, subst, inl, inr, arith}
 use Rattle.std.proofs.lemmas.Bool.{cases_lt}
 use Rattle.morph_base.specs.declared.plan.Plan.{Plan}
+use Rattle.morph_base.specs.declared.strategy.Abort.{Abort}
 use Rattle.morph_base.specs.Plans.{op_count}
 use Rattle.op_eval.specs.declared.explored.RunEnd.TheVariants.{Drained, Spent}
 use Rattle.steal_explorer.specs.declared.finding.Found.{Found}
@@ -11,19 +12,19 @@ use Rattle.steal_explorer.specs.Members.{Thief, HasTickets}
 use Rattle.steal_explorer.specs.Turns.{After, Turn, Turns, row_then, row_of, WentOn, most_turns, Ran}
 use Rattle.steal_explorer.proofs.Going.{tickets_kept}
 
-pub after_tickets : (p : Plan) (cap : ℕ) (ts : List Thief) (f : Found) (a b : Member) → HasTickets ts a → After p cap f a b → HasTickets ts b
-after_tickets p cap ts (Item x) a b is after =
+pub after_tickets : (p : Plan) (cap : ℕ) (abort : Abort) (ts : List Thief) (f : Found) (a b : Member) → HasTickets ts a → After p cap abort f a b → HasTickets ts b
+after_tickets p cap abort ts (Item x) a b is after =
     elim (cases_lt x (op_count p)) [
-      | inl lt ↦ tickets_kept p cap ts a b is (after.0 lt).goes
+      | inl lt ↦ tickets_kept p cap abort ts a b is (after.0 lt).goes
       | inr past ↦ subst (HasTickets ts) (sym (after.1 past)) is
     ]
-after_tickets p cap ts Nothing a b is after = subst (HasTickets ts) (sym after) is
-after_tickets p cap ts Retry a b is after = subst (HasTickets ts) (sym after) is
+after_tickets p cap abort ts Nothing a b is after = subst (HasTickets ts) (sym after) is
+after_tickets p cap abort ts Retry a b is after = subst (HasTickets ts) (sym after) is
 
 -- after so many turns, of which the last `row` found all deques empty
-pub record IsTurning (p : Plan) (cap : ℕ) (ts : List Thief) (a : Member) (turn row : ℕ) (b : Member) : Type 0 where
+pub record IsTurning (p : Plan) (cap : ℕ) (abort : Abort) (ts : List Thief) (a : Member) (turn row : ℕ) (b : Member) : Type 0 where
   pub turns : List Found
-  pub made : Turns p cap ts a turns b
+  pub made : Turns p cap abort ts a turns b
   pub went_on : WentOn turns
   pub count : length turns ≡ turn
   pub row_is : row_of turns ≡ row
@@ -33,12 +34,12 @@ row_rises row (Item x) = omega arith
 row_rises row Nothing = omega arith
 row_rises row Retry = omega arith
 
-module _ (p : Plan) (cap : ℕ) (ts : List Thief) (a : Member) where
-  pub turning_none : IsTurning p cap ts a 0 0 a
+module _ (p : Plan) (cap : ℕ) (abort : Abort) (ts : List Thief) (a : Member) where
+  pub turning_none : IsTurning p cap abort ts a 0 0 a
   turning_none = record { turns = []; made = refl; went_on = tt; count = refl; row_is = refl }
 
-  module _ (turn row : ℕ) (m b : Member) (f : Found) (is : IsTurning p cap ts a turn row m) (does : Turn p cap ts f m b) (few : row < 64) (next : ℕ) (next_is : next ≡ row_then row f) where
-    pub turned : IsTurning p cap ts a (turn + 1) next b
+  module _ (turn row : ℕ) (m b : Member) (f : Found) (is : IsTurning p cap abort ts a turn row m) (does : Turn p cap abort ts f m b) (few : row < 64) (next : ℕ) (next_is : next ≡ row_then row f) where
+    pub turned : IsTurning p cap abort ts a (turn + 1) next b
     turned = record {
       turns = f ∷ is.turns;
       made = (m, is.made, does);
@@ -51,7 +52,7 @@ module _ (p : Plan) (cap : ℕ) (ts : List Thief) (a : Member) where
     row_most = let e : row_then row f ≤ row + 1 = row_rises row f in omega arith
 
     -- 64 in a row
-    pub drained : turn < most_turns p → 64 ≤ next → Ran p cap ts a Drained b
+    pub drained : turn < most_turns p → 64 ≤ next → Ran p cap abort ts a Drained b
     unfolding turned
     drained lt full = record {
       turns = f ∷ is.turns;
@@ -60,7 +61,7 @@ module _ (p : Plan) (cap : ℕ) (ts : List Thief) (a : Member) where
       ends = (let e = turned.row_is in let most = row_most in omega arith, let e = turned.count in omega arith);
     }
 
-  pub spent : (turn row : ℕ) (b : Member) → IsTurning p cap ts a turn row b → row < 64 → turn ≡ most_turns p → Ran p cap ts a Spent b
+  pub spent : (turn row : ℕ) (b : Member) → IsTurning p cap abort ts a turn row b → row < 64 → turn ≡ most_turns p → Ran p cap abort ts a Spent b
   spent turn row b is few all = record {
     turns = is.turns;
     made = is.made;

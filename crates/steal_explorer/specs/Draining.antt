@@ -2,6 +2,7 @@
 use Rattle.std.specs.Prelude.{◌≡◌, ℕ, ◌<◌, ◌≤◌, cond, nat_lt, List, [], Contains, count_by, sum_by, length, slice_index_or}
 use Rattle.crossbeam_deque.specs.Handles.{worker_flavor}
 use Rattle.morph_base.specs.declared.plan.Plan.{Plan}
+use Rattle.morph_base.specs.declared.strategy.Abort.{Abort}
 use Rattle.morph_base.specs.Plans.{op_count}
 use Rattle.op_words.specs.declared.board.Board.{Board}
 use Rattle.op_eval.specs.declared.explored.RunEnd.{RunEnd}
@@ -25,8 +26,8 @@ pub record IsLeft (a b : Member) : Type 0 where
   pub even : IsEven b
 
 -- the unit of an operation of the plan was walked, and nothing was done for another
-abbrev pub WalkedKnown : Plan → (cap o : ℕ) → Runner → Runner → Type 0
-WalkedKnown p cap o a b = (o < op_count p → Walked p cap o a b) × (op_count p ≤ o → b ≡ a)
+abbrev pub WalkedKnown : Plan → (cap : ℕ) → Abort → (o : ℕ) → Runner → Runner → Type 0
+WalkedKnown p cap abort o a b = (o < op_count p → Walked p cap abort o a b) × (op_count p ≤ o → b ≡ a)
 
 -- whether an item is one of the plan's operations, as a number
 abbrev pub in_plan : Plan → ℕ → ℕ

@@ -1,6 +1,7 @@
 -- What handing out makes of all workers: their turns, what was taken and what was left.
 use Rattle.std.specs.Prelude.{◌≡◌, ◌⊎◌, ℕ, ◌+◌, ◌<◌, ◌≤◌, ◌^◌, ◌==◌, cond, List, [], All, length, sum_by, slice_index_or}
 use Rattle.morph_base.specs.declared.plan.Plan.{Plan}
+use Rattle.morph_base.specs.declared.strategy.Abort.{Abort}
 use Rattle.morph_base.specs.Plans.{op_count}
 use Rattle.op_words.specs.Hands.{up_to}
 use Rattle.op_words.specs.Trails.{IsReached}
@@ -29,11 +30,11 @@ pub record IsBeginning (g : Ground) (ts : List Thief) (k : ℕ) (m : Member) : T
   pub fresh : (h : ℕ → ℕ) → taken_by h m ≡ 0
 
 -- workers before their turns and after all deques were emptied
-pub record HasHandedOut (p : Plan) (cap : ℕ) (ts : List Thief) (ms ns : List Member) : Type 0 where
+pub record HasHandedOut (p : Plan) (cap : ℕ) (abort : Abort) (ts : List Thief) (ms ns : List Member) : Type 0 where
   pub len : length ns ≡ length ms
   -- the workers when all had returned
   pub returned : List Member
-  pub ran : (k : ℕ) (m : Member) → k < length ms → HasRun p cap ts (slice_index_or ms k m) (slice_index_or returned k m)
+  pub ran : (k : ℕ) (m : Member) → k < length ms → HasRun p cap abort ts (slice_index_or ms k m) (slice_index_or returned k m)
   pub end : (k : ℕ) (m : Member) → k < length ms → (slice_index_or ns k m).end ≡ (slice_index_or returned k m).end
   pub pushed : (k : ℕ) (m : Member) → k < length ms → (own (slice_index_or ns k m)).pushed ≡ (own (slice_index_or returned k m)).pushed
   -- what was pushed was taken, or it was left with nobody, and nothing was by a worker that is Drained
@@ -47,5 +48,7 @@ pub record HasHandedOut (p : Plan) (cap : ℕ) (ts : List Thief) (ms ns : List M
   pub handed : (k : ℕ) (m : Member) → k < length ms → (slice_index_or ns k m).handed ≡ up_to (length (own (slice_index_or ns k m)).pushed)
   -- what the workers counted as stolen was stolen
   pub stolen : up_to (sum_by (λ (m : Member). m.stolen) ns) ≡ up_to (sum_by (λ m. length (own m).stolen) ns)
+  -- with one worker nothing was
+  pub unstolen : length ts ≡ 1 → (k : ℕ) (m : Member) → k < length ms → (own (slice_index_or ns k m)).stolen ≡ []
   -- the workers' answers are at least as many as the operations that were taken, or one worker's are as many as there can be
   pub answered : (sum_by (taken_in (in_plan p)) ns ≤ sum_by (λ m. total m.runner.answers) ns) ⊎ ((k : ℕ) × (k < length ns) × ((m : Member) → 2 ^ 64 ≤ total (slice_index_or ns k m).runner.answers + 1))

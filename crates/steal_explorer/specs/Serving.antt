@@ -1,14 +1,24 @@
 -- What serving an item makes of a worker.
-use Rattle.std.specs.Prelude.{◌≡◌, ◌⊎◌, ℕ, List, [], ◌∷◌, Contains}
+use Rattle.std.specs.Prelude.{◌≡◌, ◌≢◌, ◌⊎◌, ℕ, Bool, true, false, Option, Some, None, List, [], ◌∷◌, Contains}
 use Rattle.crossbeam_deque.specs.Handles.{worker_deque}
 use Rattle.morph_base.specs.declared.plan.Plan.{Plan}
+use Rattle.morph_base.specs.declared.strategy.Abort.{Abort}
+use Rattle.op_eval.specs.declared.answers.Evaluation.{Evaluation}
+use Rattle.op_eval.specs.declared.runner.Runner.{Runner}
+use Rattle.op_eval.specs.Evaluations.{Tries}
+use Rattle.abort_eager.specs.declared.answers.Target.{Target}
+use Rattle.abort_eager.specs.declared.answers.Touch.TheVariants.{RolledBack}
+use Rattle.abort_eager.specs.declared.answers.Touched.{Touched}
+use Rattle.abort_eager.specs.declared.cascade.Cascade.{Cascade}
+use Rattle.abort_eager.specs.Sweeps.{cascade_for}
+use Rattle.abort_eager.specs.Targets.{targets, targets_left}
 use Rattle.steal_explorer.specs.declared.members.Member.{Member}
-use Rattle.steal_explorer.specs.Calls.{Call, Tried, Calls, Walked}
+use Rattle.steal_explorer.specs.Calls.{Call, Tried, NoneSwept, Calls, SweepsOne, Walked}
 use Rattle.steal_explorer.specs.Handing.{put}
 use Rattle.steal_explorer.specs.Members.{own}
 
--- its runner made calls, and it pushed on its own deque; nothing else changed
-pub record Goes (p : Plan) (cap : ℕ) (a b : Member) : Type 0 where
+-- its runner made calls, under lazy abort none of a cascade, and it pushed on its own deque; nothing else changed
+pub record Goes (p : Plan) (cap : ℕ) (abort : Abort) (a b : Member) : Type 0 where
   pub number : b.number ≡ a.number
   pub tickets : b.tickets ≡ a.tickets
   pub stolen : b.stolen ≡ a.stolen
@@ -16,14 +26,55 @@ pub record Goes (p : Plan) (cap : ℕ) (a b : Member) : Type 0 where
   pub deque : worker_deque b.owner ≡ worker_deque a.owner
   pub calls : List Call
   pub made : Calls p cap calls a.runner b.runner
+  pub lazy : NoneSwept abort calls
   pub pushed : List ℕ
   pub puts : own b ≡ put (own a) pushed
 
--- an operation that was made ready was pushed, or its unit was walked at once
-abbrev pub PutsOrWalks : Plan → (cap o : ℕ) → Member → Member → Type 0
-PutsOrWalks p cap o a b = (own b ≡ put (own a) (o ∷ [])) ⊎ Walked p cap o a.runner b.runner
+module _ (p : Plan) (cap : ℕ) (abort : Abort) where
+  -- an operation was pushed, or its unit was walked at once
+  abbrev pub PutsOrWalks : (o : ℕ) → Member → Member → Type 0
+  PutsOrWalks o a b = ((own b ≡ put (own a) (o ∷ [])) × (b.runner ≡ a.runner)) ⊎ Walked p cap abort o a.runner b.runner
 
--- it went so, and tried to evaluate operation o
-pub record Serves (p : Plan) (cap o : ℕ) (a b : Member) : Type 0 where
-  pub goes : Goes p cap a b
-  pub tried : Contains goes.calls (Tried o)
+  -- a target of a cascade was touched; where it was rolled back by that, it was pushed, or its unit was walked at once
+  pub record TouchesOne (g : Target) (a b : Member) : Type 0 where
+    pub touched : Runner
+    pub answer : Touched
+    pub sweeps : SweepsOne p cap g a.runner touched answer
+    pub pushed : answer.touch ≡ RolledBack → PutsOrWalks answer.op (record a { runner = touched }) b
+    pub other : answer.touch ≢ RolledBack → b ≡ record a { runner = touched }
+
+  -- the first target that a cascade had left was; or none was left, and nothing was done
+  abbrev pub TouchesNext : Bool → (before after : Cascade) → Member → Member → Type 0
+  TouchesNext true c d a b = (g : Target) × (targets_left p c ≡ g ∷ targets_left p d) × TouchesOne g a b
+  TouchesNext false c d a b = (targets_left p c ≡ []) × (b ≡ a)
+
+  -- all targets of a list were, one after another
+  abbrev pub TouchesAll : List Target → Member → Member → Type 0
+  TouchesAll [] a b = b ≡ a
+  TouchesAll (g ∷ gs) a b = (m : Member) × TouchesOne g a m × TouchesAll gs m b
+
+  abbrev pub TouchesFor : (o : ℕ) → Option Bool → Member → Member → Type 0
+  TouchesFor o None a b = b ≡ a
+  TouchesFor o (Some failed) a b = TouchesAll (targets p o failed) a b
+
+  -- operation o was tried, and the cascade behind that was run to its end; then the worker went on
+  pub record Visits (o : ℕ) (a b : Member) : Type 0 where
+    pub evaluated : Runner
+    pub answer : Evaluation
+    pub tries : Tries p cap o a.runner evaluated answer
+    pub swept : Member
+    pub touches : TouchesFor o (cascade_for abort answer) (record a { runner = evaluated }) swept
+    pub goes : Goes p cap abort swept b
+
+  -- operations were visited, the last first
+  abbrev pub VisitsAll : List ℕ → Member → Member → Type 0
+  VisitsAll [] a b = b ≡ a
+  VisitsAll (o ∷ os) a b = (m : Member) × VisitsAll os a m × Visits o m b
+
+  -- it went so, and tried to evaluate operation o; each operation that it tried was visited
+  pub record Serves (o : ℕ) (a b : Member) : Type 0 where
+    pub goes : Goes p cap abort a b
+    pub tried : Contains goes.calls (Tried o)
+    pub ops : List ℕ
+    pub visits : VisitsAll ops a b
+    pub first : Contains ops o

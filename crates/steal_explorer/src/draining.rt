@@ -22,12 +22,13 @@ fn leave_rest(member: &mut Member)
     while let Some(_) = member.owner.pop_as::<Leaves>() {}
 }
 
-/// Walks the unit of an item, where it is one of the plan's operations, as all are.
+/// Walks the unit of an item with the cascades behind it, where it is one of the plan's operations, as all are.
 fn walk_known(ground: &Ground<'_>, runner: &mut Runner, op: u32)
     requires ground { IsGround ground.now }
     requires idle { IsIdle ground.now.board.now runner.old }
     ensures idle { IsIdle ground.now.board.now runner.new }
-    ensures does { WalkedKnown ground.now.plan.now (cap_of ground.now.board.now) op runner.old runner.new }
+    ensures does { WalkedKnown ground.now.plan.now (cap_of ground.now.board.now) ground.now.abort op
+        runner.old runner.new }
 {
     if (op as usize) < ground.plan.ops.len() {
         walk(ground, &Untold, 0, runner, op);

@@ -1,5 +1,6 @@
 ghost use Rattle.std.specs.Prelude.{◌≡◌, ◌≢◌, true, ℕ, ◌+◌, ◌<◌, ◌≤◌, [], All, Contains, length, sum_by};
 ghost use Rattle.chain_units.specs.Places.{IsPartition};
+ghost use Rattle.morph_base.specs.declared.strategy.Abort.TheVariants.{Lazy};
 ghost use Rattle.morph_base.specs.Graphs.{IsValidPlan};
 ghost use Rattle.morph_base.specs.Plans.{op_count};
 ghost use Rattle.op_words.specs.Hands.{plan_of, cap_of, up_to};
@@ -18,7 +19,7 @@ use crate::members::{Ground, Member};
 use crate::running::hand_out;
 use crate::seating::{seat_all, unseat_all};
 use chain_units::Units;
-use morph_base::{List, Plan};
+use morph_base::{Abort, List, Plan};
 use op_eval::{Explored, RunEnd, Runners};
 use op_words::Board;
 use std::snapshot::Snapshot;
@@ -124,8 +125,11 @@ fn end_of(members: &[Member]) -> RunEnd
 /// it ended, are told one by one. Nothing is settled on the way, no number is taken from a counter, and it takes no
 /// memory.
 ///
-/// A root alone pushes each operation once, runs it at attempt 1, and ends with [`RunEnd::Drained`]; no push is refused,
-/// and nothing is stolen.
+/// Under eager abort a worker runs the cascade of an operation to its end after each evaluation that failed, or that
+/// was a second or later attempt, and pushes each operation that it rolled back, to be evaluated again.
+///
+/// One worker steals nothing. Under lazy abort a root alone pushes each operation once, runs it at attempt 1, and ends
+/// with [`RunEnd::Drained`]; no push is refused.
 pub fn explore<R: Threads + Sync, G: Gate>(
     rt: &R,
     board: Board,
@@ -133,6 +137,7 @@ pub fn explore<R: Threads + Sync, G: Gate>(
     deques: Deques,
     plan: &Plan,
     units: &Units,
+    abort: Abort,
     gate: &G,
 ) -> (Explored, Handed)
     requires valid { IsValidPlan plan.now }
@@ -146,7 +151,7 @@ pub fn explore<R: Threads + Sync, G: Gate>(
     ensures board { (parts_of result.0).0 ≡ board }
     ensures hands { AreFurther (runners_of runners) (runners_of (parts_of result.0).1) }
     ensures next_counter { (parts_of result.0).3 ≡ 0 }
-    ensures turns { HasTurns plan.now (cap_of board) deques (runners_of runners) result.1 }
+    ensures turns { HasTurns plan.now (cap_of board) abort deques (runners_of runners) result.1 }
     ensures end { (parts_of result.0).2 ≢ Drained → (parts_of result.0).2 ≡ Spent }
     ensures inside { (x : ℕ) → Contains (taken_of result.1) x → x < op_count plan.now }
     ensures handed { result.1.handed ≡ up_to (length (pushed_of result.1)) }
@@ -156,7 +161,8 @@ pub fn explore<R: Threads + Sync, G: Gate>(
     ensures drained { (parts_of result.0).2 ≡ Drained → unserved_of result.1 ≡ [] }
     ensures reached { AreReached plan.now (taken_of result.1) (runners_of (parts_of result.0).1) }
     ensures answers { AreAnswered (taken_of result.1) (runners_of (parts_of result.0).1) }
-    ensures alone { 1 ≤ cap_of board → IsNewRoot (runners_of runners)
+    ensures unstolen { length (runners_of runners) ≡ 1 → stolen_of result.1 ≡ [] }
+    ensures alone { abort ≡ Lazy → 1 ≤ cap_of board → IsNewRoot (runners_of runners)
         → IsHandedAlone plan.now (parts_of result.0).2 result.1 (runners_of (parts_of result.0).1) }
 {
     let mut runners = runners;
@@ -170,6 +176,7 @@ pub fn explore<R: Threads + Sync, G: Gate>(
         board: &board,
         plan,
         units,
+        abort,
     };
     hand_out(
         rt,

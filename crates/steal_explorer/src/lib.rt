@@ -7,13 +7,19 @@
 //! dependent; whoever made one ready pushes it on its own deque. A worker ends after 64 turns in a row that found all
 //! deques empty, or after so many turns as it may make.
 //!
+//! Under eager abort a worker runs the cascade of an operation to its end after each evaluation that failed, or that
+//! was a second or later attempt, before it asks the dependents: it spreads the failure, rolls back what read a value
+//! that is no longer right, and pushes each operation that it rolled back, to be evaluated again. Where a push is
+//! refused, the operation's unit is walked at once; there, as where a deque is emptied in the end, cascades are run to
+//! their end too, but nothing is asked or pushed, so that nothing nests, and what was rolled back is left to settling.
+//!
 //! Once all have returned, each worker gets all parts of its deque back, which others held to steal by, and the deque
 //! is popped until nothing is there: a worker that made all its turns leaves what it had with nobody, and one that
 //! found nothing more would walk it, though in a run there is nothing. So each item that was pushed was taken or is
 //! unserved, as [`Handed`] shows.
 //!
-//! Below it stand `crossbeam_deque`, `op_eval` and `op_words`, the board and its runners, `chain_units`, `worker_gate`
-//! and `morph_base`.
+//! Below it stand `crossbeam_deque`, `abort_eager` for the cascades, `op_eval` and `op_words`, the board and its
+//! runners, `chain_units`, `worker_gate` and `morph_base`.
 #![tactic(auto)]
 
 mod dealing;
@@ -28,6 +34,7 @@ mod members;
 mod running;
 mod seating;
 mod serving;
+mod sweeping;
 mod turns;
 mod walking;
 mod working;

@@ -1,7 +1,7 @@
 //! What a worker has while it explores.
 use crate::handing::{Owner, Ticket};
 use chain_units::Units;
-use morph_base::{List, Plan};
+use morph_base::{Abort, List, Plan};
 use op_eval::{RunEnd, Runner};
 use op_words::Board;
 
@@ -11,6 +11,7 @@ pub struct Ground<'a> {
     pub board: &'a Board,
     pub plan: &'a Plan,
     pub units: &'a Units,
+    pub abort: Abort,
 }
 
 /// A worker: its runner beside its deque.

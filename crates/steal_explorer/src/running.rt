@@ -1,5 +1,6 @@
 //! All workers side by side.
 ghost use Rattle.std.specs.Prelude.{◌≡◌, ℕ, ◌<◌, ◌≤◌, All, length, slice_index_or};
+ghost use Rattle.morph_base.specs.declared.strategy.Abort.TheVariants.{Lazy};
 ghost use Rattle.op_words.specs.Hands.{cap_of};
 ghost use Rattle.steal_explorer.specs.declared.members.Member.{Member as M};
 ghost use Rattle.steal_explorer.specs.Alone.{BeginsAlone, EndsAlone, LeavesAlone};
@@ -28,6 +29,7 @@ pub(crate) struct Working<'a, G> {
 impl<G: Gate> Job<Member> for Working<'_, G> {
     ghost use Rattle.std.specs.Prelude.{◌≡◌, ◌≤◌, length};
     ghost use Rattle.steal_explorer.specs.Alone.{BeginsAlone, EndsAlone};
+    ghost use Rattle.morph_base.specs.declared.strategy.Abort.TheVariants.{Lazy};
     ghost use Rattle.op_words.specs.Hands.{cap_of};
     ghost use Rattle.steal_explorer.specs.Members.{IsGround, IsWorker};
     ghost use Rattle.steal_explorer.specs.Turns.{HasRun};
@@ -35,8 +37,8 @@ impl<G: Gate> Job<Member> for Working<'_, G> {
     ghost can_run = { λ job member. IsGround job.ground × IsWorker job.ground job.thieves.now member };
 
     ghost changes = { λ job before after. IsWorker job.ground job.thieves.now after
-        × HasRun job.ground.plan.now (cap_of job.ground.board.now) job.thieves.now before after
-        × (1 ≤ cap_of job.ground.board.now → length job.thieves.now ≡ 1
+        × HasRun job.ground.plan.now (cap_of job.ground.board.now) job.ground.abort job.thieves.now before after
+        × (job.ground.abort ≡ Lazy → 1 ≤ cap_of job.ground.board.now → length job.thieves.now ≡ 1
         → BeginsAlone job.ground.plan.now before → EndsAlone job.ground.plan.now after.end after) };
 
     fn run(&self, worker: &mut Member) {
@@ -60,9 +62,10 @@ fn work_all<R: Threads + Sync, G: Gate>(
     requires workers { All (IsWorker ground.now thieves.now) members.old }
     ensures work { (k : ℕ) (d : M) → k < length members.old
         → IsWorker ground.now thieves.now (slice_index_or members.new k d)
-        × HasRun ground.now.plan.now (cap_of ground.now.board.now) thieves.now
+        × HasRun ground.now.plan.now (cap_of ground.now.board.now) ground.now.abort thieves.now
         (slice_index_or members.old k d) (slice_index_or members.new k d) }
-    ensures alone { (k : ℕ) (d : M) → k < length members.old → 1 ≤ cap_of ground.now.board.now → length thieves.now ≡ 1
+    ensures alone { (k : ℕ) (d : M) → k < length members.old → ground.now.abort ≡ Lazy
+        → 1 ≤ cap_of ground.now.board.now → length thieves.now ≡ 1
         → BeginsAlone ground.now.plan.now (slice_index_or members.old k d)
         → EndsAlone ground.now.plan.now (slice_index_or members.new k d).end (slice_index_or members.new k d) }
 {
@@ -89,9 +92,9 @@ pub(crate) fn hand_out<R: Threads + Sync, G: Gate>(
     requires begins { (k : ℕ) (d : M) → k < length members.old
         → IsBeginning ground.now thieves.now k (slice_index_or members.old k d) }
     ensures idle { All (λ m. IsIdle ground.now.board.now m.runner) members.new }
-    ensures handed_out { HasHandedOut ground.now.plan.now (cap_of ground.now.board.now) thieves.now
+    ensures handed_out { HasHandedOut ground.now.plan.now (cap_of ground.now.board.now) ground.now.abort thieves.now
         members.old members.new }
-    ensures alone { (d : M) → 1 ≤ cap_of ground.now.board.now → length thieves.now ≡ 1
+    ensures alone { (d : M) → ground.now.abort ≡ Lazy → 1 ≤ cap_of ground.now.board.now → length thieves.now ≡ 1
         → BeginsAlone ground.now.plan.now (slice_index_or members.old 0 d)
         → LeavesAlone ground.now.plan.now (slice_index_or members.new 0 d) }
 {

@@ -1,32 +1,35 @@
 //! What a worker does with an item that it took.
 ghost use Rattle.std.specs.Prelude.{◌≡◌, ℕ, ◌+◌, ◌<◌, ◌≤◌, List, [], ◌∷◌};
 ghost use Rattle.crossbeam_deque.specs.Handles.{worker_capacity, worker_index};
+ghost use Rattle.morph_base.specs.declared.strategy.Abort.TheVariants.{Lazy};
 ghost use Rattle.morph_base.specs.Plans.{op_count};
 ghost use Rattle.op_words.specs.Hands.{cap_of};
 ghost use Rattle.op_words.specs.Trails.{IsSourceOf};
 ghost use Rattle.steal_explorer.specs.Alone.{readers, IsHandingAlone, Pushes, ServesAlone};
 ghost use Rattle.steal_explorer.specs.Members.{IsGround, IsIdle, HasDeque};
 ghost use Rattle.steal_explorer.specs.declared.finding.Found.TheVariants.{Item};
-ghost use Rattle.steal_explorer.specs.Serving.{Goes, PutsOrWalks, Serves};
+ghost use Rattle.steal_explorer.specs.Serving.{Goes, PutsOrWalks, Visits, Serves};
 ghost use Rattle.steal_explorer.specs.Turns.{After};
 
 use crate::handing::Puts;
 use crate::members::{Ground, Member};
+use crate::sweeping::sweep;
 use crate::turns::Turns;
 use crate::walking::{ask, attempt, walk};
 use op_eval::Evaluation;
 use op_words::Readied;
 
 /// Pushes an operation on the worker's own deque; where that is refused, walks its unit at once.
-fn push<T: Turns>(ground: &Ground<'_>, told: &T, turn: u64, member: &mut Member, op: u32)
+pub(crate) fn push<T: Turns>(ground: &Ground<'_>, told: &T, turn: u64, member: &mut Member, op: u32)
     requires ground { IsGround ground.now }
     requires in_range { op < op_count ground.now.plan.now }
     requires idle { IsIdle ground.now.board.now member.old.runner }
     requires deque { HasDeque ground.now.plan.now member.old }
     ensures idle { IsIdle ground.now.board.now member.new.runner }
     ensures deque { HasDeque ground.now.plan.now member.new }
-    ensures goes { Goes ground.now.plan.now (cap_of ground.now.board.now) member.old member.new }
-    ensures kept { PutsOrWalks ground.now.plan.now (cap_of ground.now.board.now) op member.old member.new }
+    ensures goes { Goes ground.now.plan.now (cap_of ground.now.board.now) ground.now.abort member.old member.new }
+    ensures kept { PutsOrWalks ground.now.plan.now (cap_of ground.now.board.now) ground.now.abort op
+        member.old member.new }
     ensures room { worker_index member.old.owner < worker_capacity member.old.owner → Pushes op member.old member.new }
 {
     match member.owner.push_as::<Puts>(op) {
@@ -43,7 +46,7 @@ fn ask_one<T: Turns>(ground: &Ground<'_>, told: &T, turn: u64, member: &mut Memb
     requires deque { HasDeque ground.now.plan.now member.old }
     ensures idle { IsIdle ground.now.board.now member.new.runner }
     ensures deque { HasDeque ground.now.plan.now member.new }
-    ensures goes { Goes ground.now.plan.now (cap_of ground.now.board.now) member.old member.new }
+    ensures goes { Goes ground.now.plan.now (cap_of ground.now.board.now) ground.now.abort member.old member.new }
     ensures alone { (rest : List ℕ) (s : ℕ) → IsSourceOf ground.now.plan.now op s
         → IsHandingAlone ground.now.plan.now (op ∷ rest) member.old
         → IsHandingAlone ground.now.plan.now rest member.new }
@@ -62,7 +65,7 @@ fn ask_all<T: Turns>(ground: &Ground<'_>, told: &T, turn: u64, member: &mut Memb
     requires deque { HasDeque ground.now.plan.now member.old }
     ensures idle { IsIdle ground.now.board.now member.new.runner }
     ensures deque { HasDeque ground.now.plan.now member.new }
-    ensures goes { Goes ground.now.plan.now (cap_of ground.now.board.now) member.old member.new }
+    ensures goes { Goes ground.now.plan.now (cap_of ground.now.board.now) ground.now.abort member.old member.new }
     ensures alone { IsHandingAlone ground.now.plan.now (readers ground.now.plan.now op) member.old
         → IsHandingAlone ground.now.plan.now [] member.new }
 {
@@ -72,7 +75,7 @@ fn ask_all<T: Turns>(ground: &Ground<'_>, told: &T, turn: u64, member: &mut Memb
     }
 }
 
-/// Tries to evaluate an operation, and asks its dependents where it did.
+/// Tries to evaluate an operation, does what stands behind that, and asks its dependents where it did.
 fn evaluate_and_ask<T: Turns>(
     ground: &Ground<'_>,
     told: &T,
@@ -86,11 +89,16 @@ fn evaluate_and_ask<T: Turns>(
     requires deque { HasDeque ground.now.plan.now member.old }
     ensures idle { IsIdle ground.now.board.now member.new.runner }
     ensures deque { HasDeque ground.now.plan.now member.new }
-    ensures serves { Serves ground.now.plan.now (cap_of ground.now.board.now) op member.old member.new }
-    ensures alone { 1 ≤ cap_of ground.now.board.now → IsHandingAlone ground.now.plan.now [] member.old
+    ensures serves { Serves ground.now.plan.now (cap_of ground.now.board.now) ground.now.abort op
+        member.old member.new }
+    ensures visits { Visits ground.now.plan.now (cap_of ground.now.board.now) ground.now.abort op
+        member.old member.new }
+    ensures alone { ground.now.abort ≡ Lazy → 1 ≤ cap_of ground.now.board.now
+        → IsHandingAlone ground.now.plan.now [] member.old
         → ServesAlone ground.now.plan.now op member.old member.new }
 {
     let answer = attempt(ground, told, turn, &mut member.runner, op);
+    sweep(ground, told, turn, member, op, answer);
     match answer {
         Evaluation::Evaluated { .. } => {
             ask_all(ground, told, turn, member, op);
@@ -109,8 +117,10 @@ fn serve<T: Turns>(ground: &Ground<'_>, told: &T, turn: u64, member: &mut Member
     requires deque { HasDeque ground.now.plan.now member.old }
     ensures idle { IsIdle ground.now.board.now member.new.runner }
     ensures deque { HasDeque ground.now.plan.now member.new }
-    ensures serves { Serves ground.now.plan.now (cap_of ground.now.board.now) op member.old member.new }
-    ensures alone { 1 ≤ cap_of ground.now.board.now → IsHandingAlone ground.now.plan.now [] member.old
+    ensures serves { Serves ground.now.plan.now (cap_of ground.now.board.now) ground.now.abort op
+        member.old member.new }
+    ensures alone { ground.now.abort ≡ Lazy → 1 ≤ cap_of ground.now.board.now
+        → IsHandingAlone ground.now.plan.now [] member.old
         → ServesAlone ground.now.plan.now op member.old member.new }
 {
     let mut answer = evaluate_and_ask(ground, told, turn, member, op);
@@ -137,8 +147,10 @@ pub(crate) fn serve_known<T: Turns>(
     requires deque { HasDeque ground.now.plan.now member.old }
     ensures idle { IsIdle ground.now.board.now member.new.runner }
     ensures deque { HasDeque ground.now.plan.now member.new }
-    ensures after { After ground.now.plan.now (cap_of ground.now.board.now) (Item op) member.old member.new }
-    ensures alone { 1 ≤ cap_of ground.now.board.now → IsHandingAlone ground.now.plan.now [] member.old
+    ensures after { After ground.now.plan.now (cap_of ground.now.board.now) ground.now.abort (Item op)
+        member.old member.new }
+    ensures alone { ground.now.abort ≡ Lazy → 1 ≤ cap_of ground.now.board.now
+        → IsHandingAlone ground.now.plan.now [] member.old
         → ServesAlone ground.now.plan.now op member.old member.new }
 {
     if (op as usize) < ground.plan.ops.len() {

@@ -1,5 +1,6 @@
 //! The turns of a worker.
 ghost use Rattle.std.specs.Prelude.{◌≡◌, ◌+◌, ◌*◌, ◌<◌, ◌≤◌, ◌^◌, length};
+ghost use Rattle.morph_base.specs.declared.strategy.Abort.TheVariants.{Lazy};
 ghost use Rattle.op_words.specs.Hands.{cap_of};
 ghost use Rattle.steal_explorer.specs.Alone.{IsTurningAlone, TurnsAlone, BeginsAlone, EndsAlone};
 ghost use Rattle.steal_explorer.specs.Members.{IsGround, IsIdle, HasDeque, HasTickets};
@@ -39,8 +40,9 @@ fn take_turn<T: Turns>(
     ensures idle { IsIdle ground.now.board.now member.new.runner }
     ensures deque { HasDeque ground.now.plan.now member.new }
     ensures tickets { HasTickets thieves.now member.new }
-    ensures does { Turn ground.now.plan.now (cap_of ground.now.board.now) thieves.now result member.old member.new }
-    ensures alone { 1 ≤ cap_of ground.now.board.now → length thieves.now ≡ 1
+    ensures does { Turn ground.now.plan.now (cap_of ground.now.board.now) ground.now.abort thieves.now result
+        member.old member.new }
+    ensures alone { ground.now.abort ≡ Lazy → 1 ≤ cap_of ground.now.board.now → length thieves.now ≡ 1
         → IsTurningAlone ground.now.plan.now member.old
         → TurnsAlone ground.now.plan.now result member.old member.new }
 {
@@ -81,8 +83,9 @@ pub(crate) fn work<T: Turns>(
     ensures idle { IsIdle ground.now.board.now member.new.runner }
     ensures deque { HasDeque ground.now.plan.now member.new }
     ensures tickets { HasTickets thieves.now member.new }
-    ensures ran { Ran ground.now.plan.now (cap_of ground.now.board.now) thieves.now member.old result member.new }
-    ensures alone { 1 ≤ cap_of ground.now.board.now → length thieves.now ≡ 1
+    ensures ran { Ran ground.now.plan.now (cap_of ground.now.board.now) ground.now.abort thieves.now
+        member.old result member.new }
+    ensures alone { ground.now.abort ≡ Lazy → 1 ≤ cap_of ground.now.board.now → length thieves.now ≡ 1
         → BeginsAlone ground.now.plan.now member.old
         → EndsAlone ground.now.plan.now result member.new }
 {

@@ -1,9 +1,10 @@
 -- Passes one after another, and the union over runners.
 use Rattle.std.proofs.Common.{◌≡◌, ◌≢◌, ◌⊎◌, ℕ, zero, suc, ◌+◌, ◌<◌, ◌≤◌, ◌^◌, false, cond, eqb, List, [], ◌∷◌, length, get_or, set, refl, sym, ap, ◌∙◌, subst, inl, inr, arith}
 use Rattle.std.specs.Prelude.{Contains, All, count_by, slice_index_or, nat_lt}
-use Rattle.std.proofs.lemmas.Bool.{cases_eq, ne_eqb}
+use Rattle.std.proofs.lemmas.Bool.{cases_eq, cases_lt, eq-eqb, ne_eqb}
 use Rattle.std.proofs.lemmas.List.Sums.{sum_by-append}
 use Rattle.morph_base.specs.declared.plan.Plan.{Plan}
+use Rattle.morph_base.specs.declared.strategy.Abort.{Abort}
 use Rattle.morph_base.specs.Contents.{Contents}
 use Rattle.std.proofs.lemmas.List.{get_or-map}
 use Rattle.op_words.specs.declared.trail.Place.{Place}
@@ -16,129 +17,182 @@ use Rattle.op_eval.specs.Running.{hand_view}
 use Rattle.op_eval.proofs.Totals.{tries_total, full_stays}
 use Rattle.strata_explorer.specs.Calls.{Call, Took, Tried, Calls}
 use Rattle.strata_explorer.specs.Passes.{is_tried, names, Worked, IsEnough, IsPassed}
-use Rattle.strata_explorer.specs.Levels.{ops_of, op_of, named, IsStrata, AreStrata, IsWhole}
-use Rattle.strata_explorer.proofs.Turning.{contains_first, contains_later, count_first}
+use Rattle.strata_explorer.specs.Levels.{ops_of, op_of, level_of, named, IsStrata, AreStrata, IsWhole}
+use Rattle.abort_eager.proofs.Sweeping.{attempted}
+use Rattle.strata_explorer.proofs.Turning.{contains_first, contains_later, count_first, times_some}
 use Rattle.strata_explorer.proofs.Running.{calls_keep, calls_reach, calls_places, calls_hold, calls_running}
 
-pub calls_total : (p : Plan) (cap : ℕ) (cs : List Call) (a b : Runner) → Calls p cap cs a b → (total a.answers + count_by is_tried cs ≤ total b.answers) ⊎ (2 ^ 64 ≤ total b.answers + 1)
-calls_total p cap [] a b calls = inl (let e : total b.answers ≡ total a.answers = ap (λ r. total r.answers) calls in omega arith)
-calls_total p cap (Took c n ∷ cs) a b calls =
+pub calls_total : (p : Plan) (cap : ℕ) (abort : Abort) (cs : List Call) (a b : Runner) → Calls p cap abort cs a b → (total a.answers + count_by is_tried cs ≤ total b.answers) ⊎ (2 ^ 64 ≤ total b.answers + 1)
+calls_total p cap abort [] a b calls = inl (let e : total b.answers ≡ total a.answers = ap (λ r. total r.answers) calls in omega arith)
+calls_total p cap abort (Took c n ∷ cs) a b calls =
     let e : total b.answers ≡ total calls.0.answers = ap total calls.2.answers in
     let f : count_by is_tried (Took c n ∷ cs) ≡ 0 + count_by is_tried cs = count_first is_tried (Took c n) cs in
-    elim (calls_total p cap cs a calls.0 calls.1) [ inl few ↦ inl (omega arith) | inr full ↦ inr (omega arith) ]
-calls_total p cap (Tried o ∷ cs) a b calls =
+    elim (calls_total p cap abort cs a calls.0 calls.1) [ inl few ↦ inl (omega arith) | inr full ↦ inr (omega arith) ]
+calls_total p cap abort (Tried o ∷ cs) a b calls =
     let f : count_by is_tried (Tried o ∷ cs) ≡ 1 + count_by is_tried cs = count_first is_tried (Tried o) cs in
-    let step = tries_total p cap o calls.0 b calls.2.0 calls.2.1 in
-    elim (calls_total p cap cs a calls.0 calls.1) [
-      | inl few ↦ elim step [ inl one ↦ inl (omega arith) | inr full ↦ inr full ]
-      | inr full ↦ inr (full_stays (total calls.0.answers) (total b.answers) step full)
+    let does = attempted p cap abort o calls.0 b calls.2 in
+    let same : total b.answers ≡ total does.middle.answers = ap total does.over.answers in
+    let step = tries_total p cap o calls.0 does.middle does.answer does.tries in
+    elim (calls_total p cap abort cs a calls.0 calls.1) [
+      | inl few ↦ elim step [ inl one ↦ inl (omega arith) | inr full ↦ inr (omega arith) ]
+      | inr full ↦ inr (let stays = full_stays (total calls.0.answers) (total does.middle.answers) step full in omega arith)
     ]
 
 -- and full stays full
-pub calls_full : (p : Plan) (cap : ℕ) (cs : List Call) (a b : Runner) → Calls p cap cs a b → 2 ^ 64 ≤ total a.answers + 1 → 2 ^ 64 ≤ total b.answers + 1
-calls_full p cap cs a b calls full = elim (calls_total p cap cs a b calls) [ inl few ↦ omega arith | inr there ↦ there ]
+pub calls_full : (p : Plan) (cap : ℕ) (abort : Abort) (cs : List Call) (a b : Runner) → Calls p cap abort cs a b → 2 ^ 64 ≤ total a.answers + 1 → 2 ^ 64 ≤ total b.answers + 1
+calls_full p cap abort cs a b calls full = elim (calls_total p cap abort cs a b calls) [ inl few ↦ omega arith | inr there ↦ there ]
 
 -- ---- places of one counter alone
 
 pub only_later : (l : ℕ) (c : Call) (cs : List Call) → ((k n : ℕ) → Contains (c ∷ cs) (Took k n) → k ≡ l) → (k n : ℕ) → Contains cs (Took k n) → k ≡ l
 only_later l c cs only k n found = only k n (contains_later c cs (Took k n) found)
 
-pub calls_times : (p : Plan) (cap c l : ℕ) → c ≢ l → (cs : List Call) (a b : Runner) → ((k n : ℕ) → Contains cs (Took k n) → k ≡ l) → Calls p cap cs a b → times c (hand_view b).places ≡ times c (hand_view a).places
-calls_times p cap c l other [] a b only calls = ap (λ r. times c (hand_view r).places) calls
-calls_times p cap c l other (Took k n ∷ cs) a b only calls =
+pub calls_times : (p : Plan) (cap : ℕ) (abort : Abort) (c l : ℕ) → c ≢ l → (cs : List Call) (a b : Runner) → ((k n : ℕ) → Contains cs (Took k n) → k ≡ l) → Calls p cap abort cs a b → times c (hand_view b).places ≡ times c (hand_view a).places
+calls_times p cap abort c l other [] a b only calls = ap (λ r. times c (hand_view r).places) calls
+calls_times p cap abort c l other (Took k n ∷ cs) a b only calls =
     let same : k ≡ l = only k n (contains_first (Took k n) cs) in
     ap (λ (v : View). times c v.places) calls.2.view_is
     ∙ sum_by-append (λ (x : Place). cond (eqb x.counter c) 1 0) (hand_view calls.0).places (place k n ∷ [])
     ∙ ap (λ t. times c (hand_view calls.0).places + (0 + cond t 1 0)) (ne_eqb k c (λ e. other (sym e ∙ same)))
     ∙ none_more (times c (hand_view calls.0).places)
-    ∙ calls_times p cap c l other cs a calls.0 (only_later l (Took k n) cs only) calls.1
+    ∙ calls_times p cap abort c l other cs a calls.0 (only_later l (Took k n) cs only) calls.1
   where
     none_more : (m : ℕ) → m + (0 + cond false 1 0) ≡ m
     none_more m = omega arith
-calls_times p cap c l other (Tried q ∷ cs) a b only calls =
-    let does = calls.2.1.does in
-    ap (times c) does.goes.adds.places ∙ calls_times p cap c l other cs a calls.0 (only_later l (Tried q) cs only) calls.1
+calls_times p cap abort c l other (Tried q ∷ cs) a b only calls =
+    let does = attempted p cap abort q calls.0 b calls.2 in
+    ap (times c) does.goes.adds.places ∙ calls_times p cap abort c l other cs a calls.0 (only_later l (Tried q) cs only) calls.1
 
-pub calls_named : (p : Plan) (cap l : ℕ) (cs : List Call) (a b : Runner) → ((k n : ℕ) → Contains cs (Took k n) → k ≡ l) → Calls p cap cs a b
-    → named p (hand_view b).places ≡ named p (hand_view a).places + count_by (names (length (ops_of p l))) cs
-calls_named p cap l [] a b only calls = ap (λ r. named p (hand_view r).places) calls ∙ sum_none (named p (hand_view a).places)
+pub calls_named : (p : Plan) (cap : ℕ) (abort : Abort) (ls : List ℕ) (l : ℕ) (cs : List Call) (a b : Runner) → ((k n : ℕ) → Contains cs (Took k n) → k ≡ l) → Calls p cap abort cs a b
+    → named p ls (hand_view b).places ≡ named p ls (hand_view a).places + count_by (names (length (ops_of p (level_of ls l)))) cs
+calls_named p cap abort ls l [] a b only calls = ap (λ r. named p ls (hand_view r).places) calls ∙ sum_none (named p ls (hand_view a).places)
   where
     sum_none : (m : ℕ) → m ≡ m + 0
     sum_none m = omega arith
-calls_named p cap l (Took k n ∷ cs) a b only calls =
+calls_named p cap abort ls l (Took k n ∷ cs) a b only calls =
+    let many : ℕ = length (ops_of p (level_of ls l)) in
     let same : k ≡ l = only k n (contains_first (Took k n) cs) in
-    let before : named p (hand_view calls.0).places ≡ named p (hand_view a).places + count_by (names (length (ops_of p l))) cs = calls_named p cap l cs a calls.0 (only_later l (Took k n) cs only) calls.1 in
-    let now : named p (hand_view b).places ≡ named p (hand_view calls.0).places + (0 + cond (nat_lt n (length (ops_of p l))) 1 0) =
-    ap (λ (v : View). named p v.places) calls.2.view_is
-    ∙ sum_by-append (λ (x : Place). cond (nat_lt x.number (length (ops_of p x.counter))) 1 0) (hand_view calls.0).places (place k n ∷ [])
-    ∙ ap (λ j. named p (hand_view calls.0).places + (0 + cond (nat_lt n (length (ops_of p j))) 1 0)) same in
-    let more : count_by (names (length (ops_of p l))) (Took k n ∷ cs) ≡ (0 + cond (nat_lt n (length (ops_of p l))) 1 0) + count_by (names (length (ops_of p l))) cs = count_first (names (length (ops_of p l))) (Took k n) cs in
+    let before : named p ls (hand_view calls.0).places ≡ named p ls (hand_view a).places + count_by (names many) cs = calls_named p cap abort ls l cs a calls.0 (only_later l (Took k n) cs only) calls.1 in
+    let now : named p ls (hand_view b).places ≡ named p ls (hand_view calls.0).places + (0 + cond (nat_lt n many) 1 0) =
+    ap (λ (v : View). named p ls v.places) calls.2.view_is
+    ∙ sum_by-append (λ (x : Place). cond (nat_lt x.number (length (ops_of p (level_of ls x.counter)))) 1 0) (hand_view calls.0).places (place k n ∷ [])
+    ∙ ap (λ j. named p ls (hand_view calls.0).places + (0 + cond (nat_lt n (length (ops_of p (level_of ls j)))) 1 0)) same in
+    let more : count_by (names many) (Took k n ∷ cs) ≡ (0 + cond (nat_lt n many) 1 0) + count_by (names many) cs = count_first (names many) (Took k n) cs in
     omega arith
-calls_named p cap l (Tried q ∷ cs) a b only calls =
-    let does = calls.2.1.does in
-    let before : named p (hand_view calls.0).places ≡ named p (hand_view a).places + count_by (names (length (ops_of p l))) cs = calls_named p cap l cs a calls.0 (only_later l (Tried q) cs only) calls.1 in
-    let now : named p (hand_view b).places ≡ named p (hand_view calls.0).places = ap (named p) does.goes.adds.places in
-    let more : count_by (names (length (ops_of p l))) (Tried q ∷ cs) ≡ 0 + count_by (names (length (ops_of p l))) cs = count_first (names (length (ops_of p l))) (Tried q) cs in
+calls_named p cap abort ls l (Tried q ∷ cs) a b only calls =
+    let many : ℕ = length (ops_of p (level_of ls l)) in
+    let does = attempted p cap abort q calls.0 b calls.2 in
+    let before : named p ls (hand_view calls.0).places ≡ named p ls (hand_view a).places + count_by (names many) cs = calls_named p cap abort ls l cs a calls.0 (only_later l (Tried q) cs only) calls.1 in
+    let now : named p ls (hand_view b).places ≡ named p ls (hand_view calls.0).places = ap (named p ls) does.goes.adds.places in
+    let more : count_by (names many) (Tried q ∷ cs) ≡ 0 + count_by (names many) cs = count_first (names many) (Tried q) cs in
     omega arith
+
+-- ---- the levels of passes
+
+pub level_new : (l : ℕ) (ls : List ℕ) → level_of (l ∷ ls) (length ls) ≡ l
+level_new l ls = ap (λ t. cond t l (level_of ls (length ls))) (eq-eqb (length ls) (length ls) refl)
+
+pub level_old : (l : ℕ) (ls : List ℕ) (k : ℕ) → k < length ls → level_of (l ∷ ls) k ≡ level_of ls k
+level_old l ls k lt = ap (λ t. cond t l (level_of ls k)) (ne_eqb k (length ls) (λ same. apart same))
+  where
+    apart : k ≡ length ls → ⊥
+    apart same = absurd (omega arith)
+
+-- numbers of earlier passes name as much after another pass
+named_old : (p : Plan) (l : ℕ) (ls : List ℕ) (xs : List Place) → ((k n : ℕ) → Contains xs (place k n) → k < length ls) → named p (l ∷ ls) xs ≡ named p ls xs
+named_old p l ls [] earlier = refl
+named_old p l ls (x ∷ xs) earlier =
+    let here : level_of (l ∷ ls) x.counter ≡ level_of ls x.counter = level_old l ls x.counter (earlier x.counter x.number (contains_first x xs)) in
+    let rest : named p (l ∷ ls) xs ≡ named p ls xs = named_old p l ls xs (λ k n found. earlier k n (contains_later x xs (place k n) found)) in
+    count_first (λ (y : Place). nat_lt y.number (length (ops_of p (level_of (l ∷ ls) y.counter)))) x xs
+    ∙ ap (λ j. (0 + cond (nat_lt x.number (length (ops_of p j))) 1 0) + named p (l ∷ ls) xs) here
+    ∙ ap (λ m. (0 + cond (nat_lt x.number (length (ops_of p (level_of ls x.counter)))) 1 0) + m) rest
+    ∙ sym (count_first (λ (y : Place). nat_lt y.number (length (ops_of p (level_of ls y.counter)))) x xs)
 
 -- ---- a pass
 
-module _ (p : Plan) (cap l : ℕ) where
-  pub strata_more : (a b : Runner) → IsStrata p l a → Worked p cap l (ops_of p l) a b → IsStrata p (l + 1) b
+module _ (p : Plan) (cap : ℕ) (abort : Abort) (l : ℕ) (ls : List ℕ) where
+  -- a place that was there before is one of an earlier pass
+  earlier_place : (a : Runner) → IsStrata p ls a → (k n : ℕ) → Contains (hand_view a).places (place k n) → k < length ls
+  earlier_place a strata k n found =
+      elim (cases_lt k (length ls)) [
+        | inl lt ↦ lt
+        | inr past ↦ (let some = times_some k n (hand_view a).places found in let none = strata.unused k past in absurd (omega arith))
+      ]
+
+  pub strata_more : (a b : Runner) → IsStrata p ls a → Worked p cap abort (length ls) (ops_of p l) a b → IsStrata p (l ∷ ls) b
   strata_more a b strata worked = record {
-    exploring = calls_running p cap worked.calls a b strata.exploring worked.made;
+    exploring = calls_running p cap abort worked.calls a b strata.exploring worked.made;
     walked = λ k n found lt.
-        elim (calls_places p cap worked.calls a b worked.made k n found) [
-          | inl before ↦ calls_keep p cap (op_of p k n) worked.calls a b worked.made (strata.walked k n before lt)
+        elim (calls_places p cap abort worked.calls a b worked.made k n found) [
+          | inl before ↦
+              let same : level_of (l ∷ ls) k ≡ level_of ls k = level_old l ls k (earlier_place a strata k n before) in
+              subst (λ j. IsReached p (op_of p j n) (hand_view b).trail) (sym same)
+              (calls_keep p cap abort (op_of p (level_of ls k) n) worked.calls a b worked.made (strata.walked k n before (subst (λ j. n < length (ops_of p j)) same lt)))
           | inr now ↦
-              let same : k ≡ l = worked.only k n now in
-              calls_reach p cap (op_of p k n) worked.calls a b worked.made
-              (subst (λ j. Contains worked.calls (Tried (op_of p j n))) (sym same) (worked.tried n (subst (λ j. Contains worked.calls (Took j n)) same now) (subst (λ j. n < length (ops_of p j)) same lt)))
+              let which : k ≡ length ls = worked.only k n now in
+              let same : level_of (l ∷ ls) k ≡ l = ap (level_of (l ∷ ls)) which ∙ level_new l ls in
+              subst (λ j. IsReached p (op_of p j n) (hand_view b).trail) (sym same)
+              (calls_reach p cap abort (op_of p l n) worked.calls a b worked.made
+              (worked.tried n (subst (λ j. Contains worked.calls (Took j n)) which now) (subst (λ j. n < length (ops_of p j)) same lt)))
         ];
-    unused = λ c above. calls_times p cap c l (λ same. past c above same) worked.calls a b worked.only worked.made ∙ strata.unused c (omega arith);
+    unused = λ c above. calls_times p cap abort c (length ls) (λ same. past c above same) worked.calls a b worked.only worked.made ∙ strata.unused c (omega arith);
     counted =
-        let e : named p (hand_view b).places ≡ named p (hand_view a).places + count_by (names (length (ops_of p l))) worked.calls = calls_named p cap l worked.calls a b worked.only worked.made in
+        let e : named p (l ∷ ls) (hand_view b).places ≡ named p (l ∷ ls) (hand_view a).places + count_by (names (length (ops_of p (level_of (l ∷ ls) (length ls))))) worked.calls = calls_named p cap abort (l ∷ ls) (length ls) worked.calls a b worked.only worked.made in
+        let here : count_by (names (length (ops_of p (level_of (l ∷ ls) (length ls))))) worked.calls ≡ count_by (names (length (ops_of p l))) worked.calls = ap (λ j. count_by (names (length (ops_of p j))) worked.calls) (level_new l ls) in
+        let before : named p (l ∷ ls) (hand_view a).places ≡ named p ls (hand_view a).places = named_old p l ls (hand_view a).places (earlier_place a strata) in
         let few = worked.counted in
         elim strata.counted [
-          | inr full ↦ inr (calls_full p cap worked.calls a b worked.made full)
-          | inl old ↦ elim (calls_total p cap worked.calls a b worked.made) [ inr full ↦ inr full | inl more ↦ inl (omega arith) ]
+          | inr full ↦ inr (calls_full p cap abort worked.calls a b worked.made full)
+          | inl old ↦ elim (calls_total p cap abort worked.calls a b worked.made) [ inr full ↦ inr full | inl more ↦ inl (omega arith) ]
         ];
   }
     where
-      past : (c : ℕ) → l + 1 ≤ c → c ≡ l → ⊥
+      past : (c : ℕ) → suc (length ls) ≤ c → c ≡ length ls → ⊥
       past c above same = absurd (omega arith)
 
-  enough_stays : (c : ℕ) (ops : List ℕ) (cs : List Call) (a b : Runner) → Calls p cap cs a b → IsEnough c ops a → IsEnough c ops b
-  enough_stays c ops cs a b calls enough = elim enough [ inl none ↦ inl none | inr is ↦ inr (is.0, calls_hold p cap cs a b calls (place c is.0) is.1, is.2) ]
+  enough_stays : (c : ℕ) (ops : List ℕ) (cs : List Call) (a b : Runner) → Calls p cap abort cs a b → IsEnough c ops a → IsEnough c ops b
+  enough_stays c ops cs a b calls enough = elim enough [ inl none ↦ inl none | inr is ↦ inr (is.0, calls_hold p cap abort cs a b calls (place c is.0) is.1, is.2) ]
 
-  pub all_strata_more : (rs qs : List Runner) → AreStrata p l rs → IsPassed p cap l (ops_of p l) rs qs → AreStrata p (l + 1) qs
+  pub all_strata_more : (rs qs : List Runner) → AreStrata p ls rs → IsPassed p cap abort (length ls) (ops_of p l) rs qs → AreStrata p (l ∷ ls) qs
   all_strata_more rs qs strata passed = record {
     each = λ k d lt. let less : k < length rs = subst (λ n. k < n) passed.len lt in strata_more (slice_index_or rs k d) (slice_index_or qs k d) (strata.each k d less) (passed.each k d less);
     enough = λ c lt.
-        elim (cases_eq c l) [
+        elim (cases_eq c (length ls)) [
           | inl same ↦
-              (passed.enough.0, subst (λ n. passed.enough.0 < n) (sym passed.len) passed.enough.1, λ d. subst (λ j. IsEnough j (ops_of p j) (slice_index_or qs passed.enough.0 d)) (sym same) (passed.enough.2 d))
+              let level : level_of (l ∷ ls) c ≡ l = ap (level_of (l ∷ ls)) same ∙ level_new l ls in
+              let saw : (d : Runner) → IsEnough c (ops_of p l) (slice_index_or qs passed.enough.0 d) = λ d. subst (λ j. IsEnough j (ops_of p l) (slice_index_or qs passed.enough.0 d)) (sym same) (passed.enough.2 d) in (
+                passed.enough.0,
+                subst (λ n. passed.enough.0 < n) (sym passed.len) passed.enough.1,
+                λ d. subst (λ j. IsEnough c (ops_of p j) (slice_index_or qs passed.enough.0 d)) (sym level) (saw d),
+              )
           | inr other ↦
-              let before = strata.enough c (below c lt other) in
-              (before.0, subst (λ n. before.0 < n) (sym passed.len) before.1, λ d. let worked = passed.each before.0 d before.1 in enough_stays c (ops_of p c) worked.calls (slice_index_or rs before.0 d) (slice_index_or qs before.0 d) worked.made (before.2 d))
+              let less : c < length ls = below c lt other in
+              let level : level_of (l ∷ ls) c ≡ level_of ls c = level_old l ls c less in
+              let before = strata.enough c less in
+              let stays : (d : Runner) → IsEnough c (ops_of p (level_of ls c)) (slice_index_or qs before.0 d) = λ d. let worked = passed.each before.0 d before.1 in enough_stays c (ops_of p (level_of ls c)) worked.calls (slice_index_or rs before.0 d) (slice_index_or qs before.0 d) worked.made (before.2 d) in (
+                before.0,
+                subst (λ n. before.0 < n) (sym passed.len) before.1,
+                λ d. subst (λ j. IsEnough c (ops_of p j) (slice_index_or qs before.0 d)) (sym level) (stays d),
+              )
         ];
   }
     where
-      below : (c : ℕ) → c < l + 1 → c ≢ l → c < l
+      below : (c : ℕ) → c < suc (length ls) → c ≢ length ls → c < length ls
       below c lt other = omega arith
 
 -- ---- the union: where the counter is known whole, each place was taken, and each operation of the level was reached
-pub union : (p : Plan) (level : ℕ) (rs : List Runner) → AreStrata p level rs → (d : Runner) → (l : ℕ) → l < level → IsWhole l rs → (n : ℕ) → n < length (ops_of p l)
-    → (k : ℕ) × (k < length rs) × Contains (hand_view (slice_index_or rs k d)).places (place l n) × IsReached p (op_of p l n) (hand_view (slice_index_or rs k d)).trail
-union p level rs strata d l lt whole n less =
-    let one = strata.enough l lt in
+pub union : (p : Plan) (levels : List ℕ) (rs : List Runner) → AreStrata p levels rs → (d : Runner) → (c : ℕ) → c < length levels → IsWhole c rs → (n : ℕ) → n < length (ops_of p (level_of levels c))
+    → (k : ℕ) × (k < length rs) × Contains (hand_view (slice_index_or rs k d)).places (place c n) × IsReached p (op_of p (level_of levels c) n) (hand_view (slice_index_or rs k d)).trail
+union p levels rs strata d c lt whole n less =
+    let one = strata.enough c lt in
     elim (one.2 d) [
       | inl none ↦ absurd (omega arith)
       | inr last ↦
           let high : last.0 < whole.end = whole.below one.0 d one.1 last.0 last.1 in
-          let past : length (ops_of p l) ≤ last.0 + 1 = last.2 in
+          let past : length (ops_of p (level_of levels c)) ≤ last.0 + 1 = last.2 in
           let by = whole.taken n (omega arith) in
-          (by.0, by.1, by.2 d, (strata.each by.0 d by.1).walked l n (by.2 d) less)
+          (by.0, by.1, by.2 d, (strata.each by.0 d by.1).walked c n (by.2 d) less)
     ]
 
 -- the operations of a level, as the plan's list gives them
@@ -150,8 +204,8 @@ level_is p l lt level at ops same = same ∙ ap (λ (x : Contents ℕ). x.items)
 abbrev pub first_of : List Runner → Runner → Runner
 first_of rs d = slice_index_or rs 0 d
 
-worked_none : (p : Plan) (cap c : ℕ) (ops : List ℕ) (a : Runner) → Worked p cap c ops a a
-worked_none p cap c ops a = record {
+worked_none : (p : Plan) (cap : ℕ) (abort : Abort) (c : ℕ) (ops : List ℕ) (a : Runner) → Worked p cap abort c ops a a
+worked_none p cap abort c ops a = record {
   calls = [];
   made = refl;
   only = λ k n found. absurd (omega (arith, found.1));
@@ -159,17 +213,17 @@ worked_none p cap c ops a = record {
   counted = omega arith;
 }
 
-pub first_passed : (p : Plan) (cap c : ℕ) (ops : List ℕ) (rs : List Runner) (a b : Runner) → 0 < length rs → Worked p cap c ops (first_of rs a) b → IsEnough c ops b → IsPassed p cap c ops rs (set rs 0 b)
-first_passed p cap c ops [] a b some worked enough = absurd (omega arith)
-first_passed p cap c ops (r ∷ rs) a b some worked enough = record {
+pub first_passed : (p : Plan) (cap : ℕ) (abort : Abort) (c : ℕ) (ops : List ℕ) (rs : List Runner) (a b : Runner) → 0 < length rs → Worked p cap abort c ops (first_of rs a) b → IsEnough c ops b → IsPassed p cap abort c ops rs (set rs 0 b)
+first_passed p cap abort c ops [] a b some worked enough = absurd (omega arith)
+first_passed p cap abort c ops (r ∷ rs) a b some worked enough = record {
   len = refl;
   each = each;
   enough = (0, some, λ d. enough);
 }
   where
-    each : (k : ℕ) (d : Runner) → k < length (r ∷ rs) → Worked p cap c ops (get_or (r ∷ rs) k d) (get_or (b ∷ rs) k d)
+    each : (k : ℕ) (d : Runner) → k < length (r ∷ rs) → Worked p cap abort c ops (get_or (r ∷ rs) k d) (get_or (b ∷ rs) k d)
     each zero d lt = worked
-    each (suc k) d lt = worked_none p cap c ops (get_or rs k d)
+    each (suc k) d lt = worked_none p cap abort c ops (get_or rs k d)
 
 pub first_set : (P : Runner → Type 0) (rs : List Runner) (b : Runner) → All P rs → P b → All P (set rs 0 b)
 first_set P [] b all holds k d lt = absurd (omega arith)

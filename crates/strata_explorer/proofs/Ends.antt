@@ -17,8 +17,7 @@ use Rattle.op_eval.specs.Running.{hand_view}
 use Rattle.op_eval.proofs.Seating.{come_back}
 use Rattle.strata_explorer.specs.Passes.{IsSeated}
 use Rattle.strata_explorer.specs.Levels.{named, AreStrata}
-use Rattle.strata_explorer.proofs.Turning.{contains_first}
-use Rattle.strata_explorer.proofs.Lone.{times_some}
+use Rattle.strata_explorer.proofs.Turning.{contains_first, times_some}
 
 -- where no counter was used, no number was taken
 no_places : (xs : List Place) → ((c : ℕ) → times c xs ≡ 0) → xs ≡ []
@@ -28,8 +27,8 @@ no_places (x ∷ xs) none =
     let zero_times = none x.counter in
     absurd (omega arith)
 
-pub strata_none : (p : Plan) (b : Board) (rs : Runners) → p ≡ plan_of b → AreExplored b 0 rs → (lent : List Runner) → lent ≡ runners_of rs → AreStrata p 0 lent
-strata_none p b rs same old lent is = subst (AreStrata p 0) (sym is) (record {
+pub strata_none : (p : Plan) (b : Board) (rs : Runners) → p ≡ plan_of b → AreExplored b 0 rs → (lent : List Runner) → lent ≡ runners_of rs → AreStrata p [] lent
+strata_none p b rs same old lent is = subst (AreStrata p []) (sym is) (record {
   each = λ k d lt.
       record {
         exploring = subst (λ q. IsExploring q (slice_index_or (runners_of rs) k d)) (sym same) (old.exploring k d lt);
@@ -39,27 +38,28 @@ strata_none p b rs same old lent is = subst (AreStrata p 0) (sym is) (record {
             absurd (omega arith);
         unused = λ c above. old.unused c above k d lt;
         counted =
-            let none : named p (hand_view (slice_index_or (runners_of rs) k d)).places ≡ 0 = ap (named p) (no_places (hand_view (slice_index_or (runners_of rs) k d)).places (λ c. old.unused c (omega arith) k d lt)) in
+            let none : named p [] (hand_view (slice_index_or (runners_of rs) k d)).places ≡ 0 = ap (named p []) (no_places (hand_view (slice_index_or (runners_of rs) k d)).places (λ c. old.unused c (omega arith) k d lt)) in
             inl (omega arith);
       };
   enough = λ l lt. absurd (omega arith);
 })
 
-pub handed_on : (p : Plan) (b : Board) (rs : Runners) (n m : ℕ) (lent qs : List Runner) → p ≡ plan_of b → AreExplored b 0 rs → lent ≡ runners_of rs → length qs ≡ length lent → All (IsSeated b) qs
-    → ((d : Runner) → (hand_view (slice_index_or qs 0 d)).tag ≡ (hand_view (slice_index_or lent 0 d)).tag) → AreStrata p n qs → m ≡ n
-    → AreExplored b m (record { runners = with_items rs.runners qs; left = rs.left })
-handed_on p b rs n m lent qs same old is len seated root strata next = record {
+-- passes may have changed the board, but not its plan
+pub handed_on : (p : Plan) (b now : Board) (rs : Runners) (ls : List ℕ) (m : ℕ) (lent qs : List Runner) → p ≡ plan_of b → plan_of now ≡ plan_of b → AreExplored b 0 rs → lent ≡ runners_of rs → length qs ≡ length lent → All (IsSeated now) qs
+    → ((d : Runner) → (hand_view (slice_index_or qs 0 d)).tag ≡ (hand_view (slice_index_or lent 0 d)).tag) → AreStrata p ls qs → m ≡ length ls
+    → AreExplored now m (record { runners = with_items rs.runners qs; left = rs.left })
+handed_on p b now rs ls m lent qs same plan old is len seated root strata next = record {
   places = record {
     none = old.places.none;
     room = let e : length (with_items rs.runners qs).items ≡ length rs.runners.items = ap length back ∙ many in let room = old.places.room in omega arith;
   };
-  rest = subst (AreAtRest b) (sym back) (record {
+  rest = subst (AreAtRest now) (sym back) (record {
     some = let some = old.rest.some in omega (arith, many);
     hands = λ k d lt. (seated k d lt).hand;
     free = λ k d lt. (seated k d lt).free;
     root = λ d. root d ∙ ap (λ (rs : List Runner). (hand_view (slice_index_or rs 0 d)).tag) is ∙ old.rest.root d;
   });
-  exploring = subst (All (IsExploring (plan_of b))) (sym back) (λ k d lt. subst (λ q. IsExploring q (slice_index_or qs k d)) same (strata.each k d lt).exploring);
+  exploring = subst (All (IsExploring (plan_of now))) (sym back) (λ k d lt. subst (λ q. IsExploring q (slice_index_or qs k d)) (same ∙ sym plan) (strata.each k d lt).exploring);
   unused = λ c above. subst (All (Unused c)) (sym back) (λ k d lt. (strata.each k d lt).unused c (subst (λ j. j ≤ c) next above));
 }
   where

@@ -2,6 +2,7 @@
 use Rattle.std.proofs.Common.{ℕ, ◌<◌, List, [], ◌∷◌, length, sym, ap, ◌∙◌, subst, arith}
 use Rattle.std.specs.Prelude.{slice_index_or}
 use Rattle.morph_base.specs.declared.plan.Plan.{Plan}
+use Rattle.morph_base.specs.declared.strategy.Abort.{Abort}
 use Rattle.op_words.specs.declared.trail.View.{View}
 use Rattle.op_words.specs.Trails.{IsCalmAt}
 use Rattle.op_words.proofs.Rows.{no_more}
@@ -12,10 +13,11 @@ use Rattle.op_eval.specs.Further.{IsFurther, AreFurther}
 use Rattle.op_eval.proofs.Further.{same_further, further_then}
 use Rattle.strata_explorer.specs.Calls.{Call, Took, Tried, Calls}
 use Rattle.strata_explorer.specs.Passes.{IsPassed}
+use Rattle.abort_eager.proofs.Sweeping.{attempted}
 
-calls_further : (p : Plan) (cap : ℕ) (cs : List Call) (a b : Runner) → Calls p cap cs a b → IsFurther a b
-calls_further p cap [] a b calls = same_further a b calls
-calls_further p cap (Took c n ∷ cs) a b calls = further_then a calls.0 b (calls_further p cap cs a calls.0 calls.1) (record {
+calls_further : (p : Plan) (cap : ℕ) (abort : Abort) (cs : List Call) (a b : Runner) → Calls p cap abort cs a b → IsFurther a b
+calls_further p cap abort [] a b calls = same_further a b calls
+calls_further p cap abort (Took c n ∷ cs) a b calls = further_then a calls.0 b (calls_further p cap abort cs a calls.0 calls.1) (record {
   tag = ap (λ (v : View). v.tag) calls.2.view_is;
   made = ap (λ (v : View). v.made) calls.2.view_is;
   joined = ap (λ (v : View). v.joined) calls.2.view_is;
@@ -25,9 +27,9 @@ calls_further p cap (Took c n ∷ cs) a b calls = further_then a calls.0 b (call
   open_own = λ t inside. absurd (omega (arith, inside.1));
   calm = λ lone. along_none IsCalmAt (hand_view calls.0).trail;
 })
-calls_further p cap (Tried o ∷ cs) a b calls =
-    let does = calls.2.1.does in
-    further_then a calls.0 b (calls_further p cap cs a calls.0 calls.1) (record {
+calls_further p cap abort (Tried o ∷ cs) a b calls =
+    let does = attempted p cap abort o calls.0 b calls.2 in
+    further_then a calls.0 b (calls_further p cap abort cs a calls.0 calls.1) (record {
       tag = does.goes.adds.tag;
       made = does.goes.adds.made;
       joined = does.goes.adds.joined;
@@ -38,12 +40,12 @@ calls_further p cap (Tried o ∷ cs) a b calls =
       calm = does.goes.adds.calm;
     })
 
-pub passed_further : (p : Plan) (cap c : ℕ) (ops : List ℕ) (start rs qs : List Runner) → AreFurther start rs → IsPassed p cap c ops rs qs → AreFurther start qs
-passed_further p cap c ops start rs qs old passed = record {
+pub passed_further : (p : Plan) (cap : ℕ) (abort : Abort) (c : ℕ) (ops : List ℕ) (start rs qs : List Runner) → AreFurther start rs → IsPassed p cap abort c ops rs qs → AreFurther start qs
+passed_further p cap abort c ops start rs qs old passed = record {
   len = passed.len ∙ old.len;
   each = λ k d lt.
       let there : k < length rs = subst (λ n. k < n) (sym old.len) lt in
       let worked = passed.each k d there in
       further_then (slice_index_or start k d) (slice_index_or rs k d) (slice_index_or qs k d) (old.each k d lt)
-      (calls_further p cap worked.calls (slice_index_or rs k d) (slice_index_or qs k d) worked.made);
+      (calls_further p cap abort worked.calls (slice_index_or rs k d) (slice_index_or qs k d) worked.made);
 }

@@ -1,5 +1,5 @@
 -- The level lists of a valid plan: all operations, each above its sources.
-use Rattle.std.proofs.Common.{◌≡◌, ℕ, zero, suc, ◌+◌, ◌-◌, ◌*◌, ◌<◌, ◌≤◌, Bool, true, false, cond, eqb, List, [], ◌∷◌, map, length, get_or, filter, sym, ap, ◌∙◌, subst, inl, inr, arith, not-suc-le-zero, zero-add}
+use Rattle.std.proofs.Common.{◌≡◌, ℕ, zero, suc, ◌+◌, ◌-◌, ◌*◌, ◌<◌, ◌≤◌, Bool, true, false, cond, eqb, List, [], ◌∷◌, map, length, get_or, filter, refl, sym, ap, ◌∙◌, subst, inl, inr, arith, not-suc-le-zero, zero-add, zero-lt-suc, suc-le-suc}
 use Rattle.std.specs.Prelude.{Contains, All}
 use Rattle.std.proofs.lemmas.Bool.{false≢true, cases_eq, cases_lt, ne_eqb, eq-eqb}
 use Rattle.std.proofs.lemmas.List.{get_or_default, get_or_past, get_or-take, length-map, length-take-le}
@@ -42,6 +42,17 @@ greatest_most f (x ∷ xs) m most =
     let here : f x ≤ m = most 0 x (omega arith) in
     let rest : greatest (map f xs) ≤ m = greatest_most f xs m (λ k d lt. most (suc k) d (omega arith)) in
     omega arith
+
+-- a greatest number above 0 is that of an element
+greatest_found : {X : Type 0} (f : X → ℕ) (xs : List X) → 0 < greatest (map f xs) → (k : ℕ) × (k < length xs) × ((d : X) → f (get_or xs k d) ≡ greatest (map f xs))
+greatest_found f [] some = absurd (omega arith)
+greatest_found f (x ∷ xs) some =
+    elim (cases_lt (f x) (greatest (map f xs))) [
+      | inl less ↦
+          let later = greatest_found f xs (omega arith) in
+          (suc later.0, suc-le-suc later.1, λ d. let there : f (get_or xs later.0 d) ≡ greatest (map f xs) = later.2 d in omega arith)
+      | inr most ↦ (0, zero-lt-suc (length xs), λ d. omega arith)
+    ]
 
 count_most : {X : Type 0} (t : X → Bool) (xs : List X) → length (filter t xs) ≤ length xs
 count_most t [] = omega arith
@@ -157,6 +168,38 @@ module _ (p : Plan) (valid : IsValidPlan p) where
   pub small_levels : length p.op_levels.items ≤ 40960
   small_levels = let few = few_levels in let small : op_count p ≤ EVENT_OPS * EVENTS = op_count-small p valid.plan in omega arith
 
+  -- below an operation's level there is one of each level
+  lower_level : (l k o : ℕ) → o < op_count p → (op_at p o).level ≡ l + 1 + k → (t : ℕ) × (t < op_count p) × ((op_at p t).level ≡ l + 1)
+  lower_level l zero o lt level = (o, lt, omega arith)
+  lower_level l (suc k) o lt level =
+      let is : (op_at p o).level ≡ 1 + greatest (map (op_level p) (origins_of p o)) = valid.graph.op_level_is o lt in
+      let source = greatest_found (op_level p) (origins_of p o) (omega arith) in
+      let same : op_level p (get_or (origins_of p o) source.0 (Base 0)) ≡ greatest (map (op_level p) (origins_of p o)) = source.2 (Base 0) in
+      below_it (lower_level l k) source.0 source.1 (get_or (origins_of p o) source.0 (Base 0)) refl (omega arith)
+    where
+      below_it : ((t : ℕ) → t < op_count p → (op_at p t).level ≡ l + 1 + k → (u : ℕ) × (u < op_count p) × ((op_at p u).level ≡ l + 1)) → (j : ℕ) → j < length (origins_of p o) → (q : Origin) → get_or (origins_of p o) j (Base 0) ≡ q → op_level p q ≡ l + 1 + k → (t : ℕ) × (t < op_count p) × ((op_at p t).level ≡ l + 1)
+      below_it lower j inside (Base v) same at = absurd (omega arith)
+      below_it lower j inside (Written t) same at =
+          let fits = keys_fit p o valid.plan lt in
+          let within : j < length (keys_of p o) = subst (λ n. j < n) (length-take-le (length (keys_of p o)) (op_at p o).origins fits) inside in
+          let origin : origin_at p o j ≡ Written t = sym (get_or-take (length (keys_of p o)) (op_at p o).origins j (Base 0) within) ∙ same in
+          lower t (source_precedes p o j t valid.plan lt within origin).in_range at
+
+  -- so no level is empty
+  pub some_op : (l : ℕ) → l < length p.op_levels.items → 0 < length (ops_of p l)
+  some_op l lt =
+      let many : length p.op_levels.items ≡ op_depth p = length-op_levels p valid.graph in
+      let top = greatest_found (λ q. q.level) p.ops.items (omega arith) in
+      let high : (op_at p top.0).level ≡ op_depth p = top.2 no_plan_op in
+      let one = lower_level l (op_depth p - (l + 1)) top.0 top.1 (omega arith) in
+      let at = stands one.0 one.1 in
+      let is : (op_at p one.0).level ≡ l + 1 = one.2 in
+      let level : at.0 + 1 ≡ (op_at p one.0).level = at.5 in
+      has_one at.0 at.1 at.3 (omega arith)
+    where
+      has_one : (k n : ℕ) → n < length (ops_of p k) → k ≡ l → 0 < length (ops_of p l)
+      has_one k n inside same = let there : n < length (ops_of p l) = subst (λ j. n < length (ops_of p j)) same inside in omega arith
+
   short_level : (l : ℕ) → length (ops_of p l) ≤ op_count p
   short_level l =
       elim (cases_lt l (op_depth p)) [
@@ -173,6 +216,7 @@ module _ (p : Plan) (valid : IsValidPlan p) where
     few = few_levels;
     fits = λ l.
         record {
+          valid = valid;
           partition = partition;
           many_is = many_is;
           few = let short : length (ops_of p l) ≤ op_count p = short_level l in let small : op_count p ≤ EVENT_OPS * EVENTS = op_count-small p valid.plan in omega arith;

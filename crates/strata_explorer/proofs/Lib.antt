@@ -1,3 +1,4 @@
+pub mod Trying
 pub mod Turning
 pub mod Running
 pub mod Further
@@ -5,3 +6,6 @@ pub mod Climbing
 pub mod Lone
 pub mod Leveling
 pub mod Ends
+pub mod Counting
+pub mod Between
+pub mod Ascending

@@ -4,6 +4,7 @@ use Rattle.std.specs.Prelude.{Contains, count_by}
 use Rattle.std.proofs.lemmas.List.Elements.{Contains-append_left, Contains-append_cases}
 use Rattle.std.proofs.lemmas.List.Sums.{sum_by-append}
 use Rattle.morph_base.specs.declared.plan.Plan.{Plan}
+use Rattle.morph_base.specs.declared.strategy.Abort.{Abort}
 use Rattle.morph_base.specs.Plans.{event_count}
 use Rattle.op_words.specs.declared.trail.Item.{Item}
 use Rattle.op_words.specs.declared.trail.Place.{Place}
@@ -21,34 +22,35 @@ use Rattle.strata_explorer.specs.Calls.{Call, Took, Tried, TakesNumber, Calls}
 use Rattle.op_eval.specs.Exploring.{stopped, is_load, loads, IsExploring}
 use Rattle.op_eval.proofs.Following.{evaluated_more}
 use Rattle.op_words.proofs.Trailing.{reached_more, reached_later}
+use Rattle.abort_eager.proofs.Sweeping.{IsSweptOver, attempted}
 use Rattle.strata_explorer.proofs.Turning.{contains_first, contains_later, contains_cases, count_first}
 
 -- ---- what is reached stays so
 
-pub calls_keep : (p : Plan) (cap o : ℕ) (cs : List Call) (a b : Runner) → Calls p cap cs a b → IsReached p o (hand_view a).trail → IsReached p o (hand_view b).trail
-calls_keep p cap o [] a b calls is = subst (λ r. IsReached p o (hand_view r).trail) (sym calls) is
-calls_keep p cap o (Took c n ∷ cs) a b calls is =
-    subst (λ (v : View). IsReached p o v.trail) (sym calls.2.view_is) (calls_keep p cap o cs a calls.0 calls.1 is)
-calls_keep p cap o (Tried q ∷ cs) a b calls is =
-    let does = calls.2.1.does in
-    subst (IsReached p o) (sym does.goes.adds.trail) (reached_more does.words (calls_keep p cap o cs a calls.0 calls.1 is))
+pub calls_keep : (p : Plan) (cap : ℕ) (abort : Abort) (o : ℕ) (cs : List Call) (a b : Runner) → Calls p cap abort cs a b → IsReached p o (hand_view a).trail → IsReached p o (hand_view b).trail
+calls_keep p cap abort o [] a b calls is = subst (λ r. IsReached p o (hand_view r).trail) (sym calls) is
+calls_keep p cap abort o (Took c n ∷ cs) a b calls is =
+    subst (λ (v : View). IsReached p o v.trail) (sym calls.2.view_is) (calls_keep p cap abort o cs a calls.0 calls.1 is)
+calls_keep p cap abort o (Tried q ∷ cs) a b calls is =
+    let does = attempted p cap abort q calls.0 b calls.2 in
+    subst (IsReached p o) (sym does.goes.adds.trail) (reached_more does.words (calls_keep p cap abort o cs a calls.0 calls.1 is))
 
-pub calls_reach : (p : Plan) (cap o : ℕ) (cs : List Call) (a b : Runner) → Calls p cap cs a b → Contains cs (Tried o) → IsReached p o (hand_view b).trail
-calls_reach p cap o [] a b calls found = absurd (omega (arith, found.1))
-calls_reach p cap o (Took c n ∷ cs) a b calls found =
+pub calls_reach : (p : Plan) (cap : ℕ) (abort : Abort) (o : ℕ) (cs : List Call) (a b : Runner) → Calls p cap abort cs a b → Contains cs (Tried o) → IsReached p o (hand_view b).trail
+calls_reach p cap abort o [] a b calls found = absurd (omega (arith, found.1))
+calls_reach p cap abort o (Took c n ∷ cs) a b calls found =
     elim (contains_cases (Took c n) cs (Tried o) found) [
       | inl same ↦ absurd (apart same)
-      | inr later ↦ subst (λ (v : View). IsReached p o v.trail) (sym calls.2.view_is) (calls_reach p cap o cs a calls.0 calls.1 later)
+      | inr later ↦ subst (λ (v : View). IsReached p o v.trail) (sym calls.2.view_is) (calls_reach p cap abort o cs a calls.0 calls.1 later)
     ]
   where
     apart : Tried o ≡ Took c n → ⊥
     apart e = cc
-calls_reach p cap o (Tried q ∷ cs) a b calls found =
-    let does = calls.2.1.does in
+calls_reach p cap abort o (Tried q ∷ cs) a b calls found =
+    let does = attempted p cap abort q calls.0 b calls.2 in
     subst (IsReached p o) (sym does.goes.adds.trail)
     (elim (contains_cases (Tried q) cs (Tried o) found) [
       | inl same ↦ reached_later (hand_view calls.0).trail (subst (λ k. IsReached p k does.words) (sym (op_is same)) does.reached)
-      | inr later ↦ reached_more does.words (calls_reach p cap o cs a calls.0 calls.1 later)
+      | inr later ↦ reached_more does.words (calls_reach p cap abort o cs a calls.0 calls.1 later)
     ])
   where
     op_is : Tried o ≡ Tried q → o ≡ q
@@ -56,11 +58,11 @@ calls_reach p cap o (Tried q ∷ cs) a b calls found =
 
 -- ---- places
 
-pub calls_places : (p : Plan) (cap : ℕ) (cs : List Call) (a b : Runner) → Calls p cap cs a b → (c n : ℕ) → Contains (hand_view b).places (place c n) → Contains (hand_view a).places (place c n) ⊎ Contains cs (Took c n)
-calls_places p cap [] a b calls c n found = inl (subst (λ r. Contains (hand_view r).places (place c n)) calls found)
-calls_places p cap (Took k m ∷ cs) a b calls c n found =
+pub calls_places : (p : Plan) (cap : ℕ) (abort : Abort) (cs : List Call) (a b : Runner) → Calls p cap abort cs a b → (c n : ℕ) → Contains (hand_view b).places (place c n) → Contains (hand_view a).places (place c n) ⊎ Contains cs (Took c n)
+calls_places p cap abort [] a b calls c n found = inl (subst (λ r. Contains (hand_view r).places (place c n)) calls found)
+calls_places p cap abort (Took k m ∷ cs) a b calls c n found =
     elim (Contains-append_cases (hand_view calls.0).places (place k m ∷ []) (place c n) (subst (λ (v : View). Contains v.places (place c n)) calls.2.view_is found)) [
-      | inl old ↦ elim (calls_places p cap cs a calls.0 calls.1 c n old) [ inl before ↦ inl before | inr later ↦ inr (contains_later (Took k m) cs (Took c n) later) ]
+      | inl old ↦ elim (calls_places p cap abort cs a calls.0 calls.1 c n old) [ inl before ↦ inl before | inr later ↦ inr (contains_later (Took k m) cs (Took c n) later) ]
       | inr new ↦
           elim (contains_cases (place k m) [] (place c n) new) [
             | inr none ↦ absurd (omega (arith, none.1))
@@ -70,17 +72,17 @@ calls_places p cap (Took k m ∷ cs) a b calls c n found =
   where
     took_is : c ≡ k → n ≡ m → Took k m ≡ Took c n
     took_is e f = ap (λ x. Took x m) (sym e) ∙ ap (Took c) (sym f)
-calls_places p cap (Tried q ∷ cs) a b calls c n found =
-    let does = calls.2.1.does in
-    elim (calls_places p cap cs a calls.0 calls.1 c n (subst (λ xs. Contains xs (place c n)) does.goes.adds.places found)) [ inl before ↦ inl before | inr later ↦ inr (contains_later (Tried q) cs (Took c n) later) ]
+calls_places p cap abort (Tried q ∷ cs) a b calls c n found =
+    let does = attempted p cap abort q calls.0 b calls.2 in
+    elim (calls_places p cap abort cs a calls.0 calls.1 c n (subst (λ xs. Contains xs (place c n)) does.goes.adds.places found)) [ inl before ↦ inl before | inr later ↦ inr (contains_later (Tried q) cs (Took c n) later) ]
 
-pub calls_hold : (p : Plan) (cap : ℕ) (cs : List Call) (a b : Runner) → Calls p cap cs a b → (x : Place) → Contains (hand_view a).places x → Contains (hand_view b).places x
-calls_hold p cap [] a b calls x found = subst (λ r. Contains (hand_view r).places x) (sym calls) found
-calls_hold p cap (Took k m ∷ cs) a b calls x found =
-    subst (λ (v : View). Contains v.places x) (sym calls.2.view_is) (Contains-append_left (hand_view calls.0).places (place k m ∷ []) x (calls_hold p cap cs a calls.0 calls.1 x found))
-calls_hold p cap (Tried q ∷ cs) a b calls x found =
-    let does = calls.2.1.does in
-    subst (λ xs. Contains xs x) (sym does.goes.adds.places) (calls_hold p cap cs a calls.0 calls.1 x found)
+pub calls_hold : (p : Plan) (cap : ℕ) (abort : Abort) (cs : List Call) (a b : Runner) → Calls p cap abort cs a b → (x : Place) → Contains (hand_view a).places x → Contains (hand_view b).places x
+calls_hold p cap abort [] a b calls x found = subst (λ r. Contains (hand_view r).places x) (sym calls) found
+calls_hold p cap abort (Took k m ∷ cs) a b calls x found =
+    subst (λ (v : View). Contains v.places x) (sym calls.2.view_is) (Contains-append_left (hand_view calls.0).places (place k m ∷ []) x (calls_hold p cap abort cs a calls.0 calls.1 x found))
+calls_hold p cap abort (Tried q ∷ cs) a b calls x found =
+    let does = attempted p cap abort q calls.0 b calls.2 in
+    subst (λ xs. Contains xs x) (sym does.goes.adds.places) (calls_hold p cap abort cs a calls.0 calls.1 x found)
 
 -- ---- answers
 
@@ -153,6 +155,22 @@ module _ (p : Plan) (cap o : ℕ) (a b : Runner) (running : IsExploring p a) whe
         room = subst (λ l. event_count p ≤ l.room) (sym t.kept) running.room;
       }
 
+-- so do the words of a cascade
+swept_running : (p : Plan) (a b : Runner) → IsExploring p a → IsSweptOver a b → IsExploring p b
+swept_running p a b running over =
+    let more = evaluated_more (hand_view a) (hand_view b) over.goes.adds.events in
+    let e : b.answers.evaluated ≡ a.answers.evaluated = ap (λ (n : Answers). n.evaluated) over.answers in
+    let s : stopped b.answers ≡ stopped a.answers = ap stopped over.answers in
+    let high : loads (hand_view a) ≤ loads (hand_view b) = subst (λ xs. loads (hand_view a) ≤ count_by is_load xs) (sym over.goes.adds.trail) (loads_more (hand_view a).trail over.words) in
+    let old = running.finishes in
+    let few = running.stops in
+    record {
+      finishes = omega arith;
+      stops = omega arith;
+      kept = ap (λ l. l.items) over.kept ∙ running.kept;
+      room = subst (λ l. event_count p ≤ l.room) (sym over.kept) running.room;
+    }
+
 pub takes_running : (p : Plan) (c n : ℕ) (a b : Runner) → IsExploring p a → TakesNumber c a b n → IsExploring p b
 takes_running p c n a b running t = record {
   finishes = subst (λ (v : View). b.answers.evaluated ≤ evaluated v.events) (sym t.view_is) (subst (λ (k : Answers). k.evaluated ≤ evaluated (hand_view a).events) (sym t.answers) running.finishes);
@@ -161,7 +179,9 @@ takes_running p c n a b running t = record {
   room = subst (λ l. event_count p ≤ l.room) (sym t.kept) running.room;
 }
 
-pub calls_running : (p : Plan) (cap : ℕ) (cs : List Call) (a b : Runner) → IsExploring p a → Calls p cap cs a b → IsExploring p b
-calls_running p cap [] a b running calls = subst (IsExploring p) (sym calls) running
-calls_running p cap (Took c n ∷ cs) a b running calls = takes_running p c n calls.0 b (calls_running p cap cs a calls.0 running calls.1) calls.2
-calls_running p cap (Tried o ∷ cs) a b running calls = tries_running p cap o calls.0 b (calls_running p cap cs a calls.0 running calls.1) calls.2.0 calls.2.1
+pub calls_running : (p : Plan) (cap : ℕ) (abort : Abort) (cs : List Call) (a b : Runner) → IsExploring p a → Calls p cap abort cs a b → IsExploring p b
+calls_running p cap abort [] a b running calls = subst (IsExploring p) (sym calls) running
+calls_running p cap abort (Took c n ∷ cs) a b running calls = takes_running p c n calls.0 b (calls_running p cap abort cs a calls.0 running calls.1) calls.2
+calls_running p cap abort (Tried o ∷ cs) a b running calls =
+    let does = attempted p cap abort o calls.0 b calls.2 in
+    swept_running p does.middle b (tries_running p cap o calls.0 does.middle (calls_running p cap abort cs a calls.0 running calls.1) does.answer does.tries) does.over

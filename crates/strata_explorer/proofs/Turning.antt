@@ -10,16 +10,18 @@ use Rattle.std.proofs.lemmas.Option.{slice_get-get_or}
 use Rattle.std.proofs.lemmas.Bool.{eq-eqb}
 use Rattle.std.proofs.Common.{eqb}
 use Rattle.morph_base.specs.declared.plan.Plan.{Plan}
+use Rattle.morph_base.specs.declared.strategy.Abort.{Abort}
 use Rattle.op_words.specs.declared.trail.Place.{Place}
 use Rattle.op_words.specs.declared.trail.View.{View}
 use Rattle.op_eval.specs.declared.answers.Evaluation.{Evaluation}
-use Rattle.op_eval.specs.Evaluations.{Tries}
 use Rattle.op_eval.specs.declared.runner.Runner.{Runner}
 use Rattle.op_words.specs.Counting.{times, place}
 use Rattle.op_eval.specs.Exploring.{Unused}
 use Rattle.op_eval.specs.Running.{hand_view}
 use Rattle.strata_explorer.specs.Calls.{Call, Took, Tried, TakesNumber, Calls, IsFree}
+use Rattle.abort_eager.specs.Sweeps.{Attempts}
 use Rattle.strata_explorer.specs.Passes.{is_tried, names, Walked, Worked, IsWorking, IsEnough}
+use Rattle.abort_eager.proofs.Sweeping.{attempted}
 
 pub contains_first : {X : Type 0} (x : X) (xs : List X) → Contains (x ∷ xs) x
 contains_first x xs = (0, zero-lt-suc (length xs), refl)
@@ -38,9 +40,9 @@ contains_cases y xs x inside = at inside.0 inside.1 inside.2
         lt-from : (j : ℕ) → suc j < suc (length xs) → j < length xs
         lt-from j less = omega arith
 
-pub calls_append : (p : Plan) (cap : ℕ) (ds cs : List Call) (a m b : Runner) → Calls p cap cs a m → Calls p cap ds m b → Calls p cap (ds ++ cs) a b
-calls_append p cap [] cs a m b first second = subst (Calls p cap cs a) (sym second) first
-calls_append p cap (d ∷ ds) cs a m b first second = (second.0, calls_append p cap ds cs a m second.0 first second.1, second.2)
+pub calls_append : (p : Plan) (cap : ℕ) (abort : Abort) (ds cs : List Call) (a m b : Runner) → Calls p cap abort cs a m → Calls p cap abort ds m b → Calls p cap abort (ds ++ cs) a b
+calls_append p cap abort [] cs a m b first second = subst (Calls p cap abort cs a) (sym second) first
+calls_append p cap abort (d ∷ ds) cs a m b first second = (second.0, calls_append p cap abort ds cs a m second.0 first second.1, second.2)
 
 pub taking_free : (c n : ℕ) {a b : Runner} → TakesNumber c a b n → IsFree a → IsFree b
 taking_free c n taken free = ap (λ (v : View). v.claim) taken.view_is ∙ free
@@ -50,8 +52,8 @@ pub unit_inside : (units : List (List ℕ)) (many : ℕ) → IsPartition units m
 unit_inside units many partition u ops same i lt =
     partition.inside u i (get_or ops i 0) (subst (λ zs. slice_get zs i ≡ Some (get_or ops i 0)) same (slice_get-get_or ops i 0 lt))
 
-pub walked_first : (p : Plan) (cap o : ℕ) {a b : Runner} {r : Evaluation} → Tries p cap o a b r → Walked p cap o a b
-walked_first p cap o {a} {b} {r} tries = record {
+pub walked_first : (p : Plan) (cap : ℕ) (abort : Abort) (o : ℕ) {a b : Runner} {r : Evaluation} → Attempts p cap abort o a b r → Walked p cap abort o a b
+walked_first p cap abort o {a} {b} {r} tries = record {
   calls = Tried o ∷ [];
   made = (a, refl, (r, tries));
   tried = contains_first (Tried o) [];
@@ -62,8 +64,8 @@ walked_first p cap o {a} {b} {r} tries = record {
     one zero d lt = refl
     one (suc k) d lt = absurd (omega arith)
 
-pub walked_more : (p : Plan) (cap o q : ℕ) {a m b : Runner} {r : Evaluation} → Walked p cap o a m → Tries p cap q m b r → Walked p cap o a b
-walked_more p cap o q {a} {m} {b} {r} walked tries = record {
+pub walked_more : (p : Plan) (cap : ℕ) (abort : Abort) (o q : ℕ) {a m b : Runner} {r : Evaluation} → Walked p cap abort o a m → Attempts p cap abort q m b r → Walked p cap abort o a b
+walked_more p cap abort o q {a} {m} {b} {r} walked tries = record {
   calls = Tried q ∷ walked.calls;
   made = (m, walked.made, (r, tries));
   tried = contains_later (Tried q) walked.calls (Tried o) walked.tried;
@@ -89,12 +91,12 @@ no_take cs all c n found = false≢true (ap is_tried (sym found.2) ∙ all found
 all_later : (x : Call) (xs : List Call) → All (λ c. is_tried c ≡ true) (x ∷ xs) → All (λ c. is_tried c ≡ true) xs
 all_later x xs all k d lt = all (suc k) d (suc-le-suc lt)
 
-pub tried_places : (p : Plan) (cap : ℕ) (cs : List Call) (a b : Runner) → Calls p cap cs a b → All (λ c. is_tried c ≡ true) cs → (hand_view b).places ≡ (hand_view a).places
-tried_places p cap [] a b calls all = ap (λ r. (hand_view r).places) calls
-tried_places p cap (Took c n ∷ cs) a b calls all = absurd (no_take (Took c n ∷ cs) all c n (contains_first (Took c n) cs))
-tried_places p cap (Tried o ∷ cs) a b calls all =
-    let does = calls.2.1.does in
-    does.goes.adds.places ∙ tried_places p cap cs a calls.0 calls.1 (all_later (Tried o) cs all)
+pub tried_places : (p : Plan) (cap : ℕ) (abort : Abort) (cs : List Call) (a b : Runner) → Calls p cap abort cs a b → All (λ c. is_tried c ≡ true) cs → (hand_view b).places ≡ (hand_view a).places
+tried_places p cap abort [] a b calls all = ap (λ r. (hand_view r).places) calls
+tried_places p cap abort (Took c n ∷ cs) a b calls all = absurd (no_take (Took c n ∷ cs) all c n (contains_first (Took c n) cs))
+tried_places p cap abort (Tried o ∷ cs) a b calls all =
+    let does = attempted p cap abort o calls.0 b calls.2 in
+    does.goes.adds.places ∙ tried_places p cap abort cs a calls.0 calls.1 (all_later (Tried o) cs all)
 
 tried_names : (len : ℕ) (cs : List Call) → All (λ c. is_tried c ≡ true) cs → count_by (names len) cs ≡ 0
 tried_names len [] all = refl
@@ -117,10 +119,22 @@ one_tried (Took c n ∷ cs) o found =
 pub times_one : (c n : ℕ) → times c (place c n ∷ []) ≡ 1
 times_one c n = ap (λ t. 0 + cond t 1 0) (eq-eqb c c refl)
 
+-- a place of a counter is one that was taken from it
+pub times_some : (c n : ℕ) (xs : List Place) → Contains xs (place c n) → 1 ≤ times c xs
+times_some c n [] found = absurd (omega (arith, found.1))
+times_some c n (x ∷ xs) found =
+    let e : times c (x ∷ xs) ≡ (0 + cond (eqb x.counter c) 1 0) + times c xs = count_first (λ (y : Place). eqb y.counter c) x xs in
+    elim (contains_cases x xs (place c n) found) [
+      | inl same ↦
+          let one : times c (x ∷ xs) ≡ (0 + cond true 1 0) + times c xs = e ∙ ap (λ t. (0 + cond t 1 0) + times c xs) (eq-eqb x.counter c (sym (ap (λ (y : Place). y.counter) same))) in
+          omega arith
+      | inr later ↦ let rest = times_some c n xs later in omega arith
+    ]
+
 -- ---- turns
 
-module _ (p : Plan) (cap c : ℕ) (ops : List ℕ) (a : Runner) where
-  pub working_none : Unused c a → IsWorking p cap c ops 0 a a
+module _ (p : Plan) (cap : ℕ) (abort : Abort) (c : ℕ) (ops : List ℕ) (a : Runner) where
+  pub working_none : Unused c a → IsWorking p cap abort c ops 0 a a
   working_none unused = record {
     worked = record {
       calls = [];
@@ -133,7 +147,7 @@ module _ (p : Plan) (cap c : ℕ) (ops : List ℕ) (a : Runner) where
     last = inl refl;
   }
 
-  module _ (turn n : ℕ) (m b : Runner) (working : IsWorking p cap c ops turn a m) (takes : TakesNumber c m b n) where
+  module _ (turn n : ℕ) (m b : Runner) (working : IsWorking p cap abort c ops turn a m) (takes : TakesNumber c m b n) where
     pub above : turn ≤ n
     above =
         elim working.last [
@@ -155,7 +169,7 @@ module _ (p : Plan) (cap c : ℕ) (ops : List ℕ) (a : Runner) where
     number_of k q e = (cc, cc)
 
     -- the place names no operation
-    pub ended : length ops ≤ n → Worked p cap c ops a b × IsEnough c ops b
+    pub ended : length ops ≤ n → Worked p cap abort c ops a b × IsEnough c ops b
     ended past = (
       record {
         calls = Took c n ∷ working.worked.calls;
@@ -184,11 +198,11 @@ module _ (p : Plan) (cap c : ℕ) (ops : List ℕ) (a : Runner) where
         not_lt x y le = grind arith
 
     -- the unit of its operation was walked
-    pub went_on : (e : Runner) → n < length ops → Walked p cap (slice_index_or ops n 0) b e → IsWorking p cap c ops (turn + 1) a e
+    pub went_on : (e : Runner) → n < length ops → Walked p cap abort (slice_index_or ops n 0) b e → IsWorking p cap abort c ops (turn + 1) a e
     went_on e lt walked = record {
       worked = record {
         calls = walked.calls ++ (Took c n ∷ working.worked.calls);
-        made = calls_append p cap walked.calls (Took c n ∷ working.worked.calls) a b e (m, working.worked.made, takes) walked.made;
+        made = calls_append p cap abort walked.calls (Took c n ∷ working.worked.calls) a b e (m, working.worked.made, takes) walked.made;
         only = λ k q found.
             elim (Contains-append_cases walked.calls (Took c n ∷ working.worked.calls) (Took k q) found) [
               | inl none ↦ absurd (no_take walked.calls walked.only k q none)
@@ -223,8 +237,8 @@ module _ (p : Plan) (cap c : ℕ) (ops : List ℕ) (a : Runner) where
             let zero_tried : count_by is_tried (Took c n ∷ working.worked.calls) ≡ 0 + count_by is_tried working.worked.calls = count_first is_tried (Took c n) working.worked.calls in
             omega arith;
       };
-      turns = ap (times c) (tried_places p cap walked.calls b e walked.made walked.only) ∙ turned;
-      last = inr (n, subst (λ xs. Contains xs (place c n)) (sym (tried_places p cap walked.calls b e walked.made walked.only)) got, suc-le-suc' above);
+      turns = ap (times c) (tried_places p cap abort walked.calls b e walked.made walked.only) ∙ turned;
+      last = inr (n, subst (λ xs. Contains xs (place c n)) (sym (tried_places p cap abort walked.calls b e walked.made walked.only)) got, suc-le-suc' above);
     }
       where
         suc-le-suc' : turn ≤ n → turn + 1 ≤ n + 1
@@ -235,5 +249,5 @@ module _ (p : Plan) (cap c : ℕ) (ops : List ℕ) (a : Runner) where
         cond_most false k = omega arith
 
   -- all turns were made
-  pub all_turns : (b : Runner) → IsWorking p cap c ops (length ops) a b → IsEnough c ops b
+  pub all_turns : (b : Runner) → IsWorking p cap abort c ops (length ops) a b → IsEnough c ops b
   all_turns b working = working.last

@@ -1,6 +1,8 @@
 -- What a pass over a level makes of runners.
 use Rattle.std.specs.Prelude.{◌≡◌, ℕ, ◌+◌, ◌<◌, ◌≤◌, ◌^◌, ◌⊎◌, Bool, true, false, List, Contains, All, length, count_by, slice_index_or, nat_lt}
 use Rattle.morph_base.specs.declared.plan.Plan.{Plan}
+use Rattle.morph_base.specs.declared.strategy.Abort.{Abort}
+use Rattle.morph_base.specs.Graphs.{IsValidPlan}
 use Rattle.morph_base.specs.Plans.{op_count}
 use Rattle.chain_units.specs.Places.{IsPartition}
 use Rattle.op_words.specs.declared.board.Board.{Board}
@@ -19,8 +21,9 @@ abbrev pub names : ℕ → Call → Bool
 names len (Took c n) = nat_lt n len
 names len (Tried o) = false
 
--- the operations of a pass are the plan's, and so are those of units
+-- the plan is valid, the operations of a pass are its own, and so are those of units
 pub record Fits (p : Plan) (units : List (List ℕ)) (many : ℕ) (ops : List ℕ) : Type 0 where
+  pub valid : IsValidPlan p
   pub partition : IsPartition units (op_count p)
   pub many_is : many ≡ op_count p
   pub few : length ops < 2 ^ 32
@@ -31,17 +34,29 @@ pub record IsSeated (b : Board) (r : Runner) : Type 0 where
   pub hand : IsHandOf b r.hand
   pub free : IsFree r
 
+-- the same runner as far as contracts see it, after a call that changes no view
+pub record IsLike (a b : Runner) : Type 0 where
+  pub view : hand_view b ≡ hand_view a
+  pub answers : b.answers ≡ a.answers
+  pub kept : b.kept ≡ a.kept
+
+-- so for the first runner; the others are the same
+pub record AreLike (before after : List Runner) : Type 0 where
+  pub len : length after ≡ length before
+  pub first : (d : Runner) → IsLike (slice_index_or before 0 d) (slice_index_or after 0 d)
+  pub others : (k : ℕ) (d : Runner) → 0 < k → slice_index_or after k d ≡ slice_index_or before k d
+
 -- a unit was walked from operation o on: nothing but operations was tried, this one first
-pub record Walked (p : Plan) (cap o : ℕ) (a b : Runner) : Type 0 where
+pub record Walked (p : Plan) (cap : ℕ) (abort : Abort) (o : ℕ) (a b : Runner) : Type 0 where
   pub calls : List Call
-  pub made : Calls p cap calls a b
+  pub made : Calls p cap abort calls a b
   pub tried : Contains calls (Tried o)
   pub only : All (λ c. is_tried c ≡ true) calls
 
 -- numbers were taken from counter c alone, and the unit of each that names an operation was walked
-pub record Worked (p : Plan) (cap c : ℕ) (ops : List ℕ) (a b : Runner) : Type 0 where
+pub record Worked (p : Plan) (cap : ℕ) (abort : Abort) (c : ℕ) (ops : List ℕ) (a b : Runner) : Type 0 where
   pub calls : List Call
-  pub made : Calls p cap calls a b
+  pub made : Calls p cap abort calls a b
   pub only : (k n : ℕ) → Contains calls (Took k n) → k ≡ c
   pub tried : (n : ℕ) → Contains calls (Took c n) → n < length ops → Contains calls (Tried (slice_index_or ops n 0))
   pub counted : count_by (names (length ops)) calls ≤ count_by is_tried calls
@@ -51,13 +66,13 @@ abbrev pub IsEnough : ℕ → List ℕ → Runner → Type 0
 IsEnough c ops r = (length ops ≡ 0) ⊎ ((n : ℕ) × Contains (hand_view r).places (place c n) × (length ops ≤ n + 1))
 
 -- after some turns
-pub record IsWorking (p : Plan) (cap c : ℕ) (ops : List ℕ) (turn : ℕ) (a b : Runner) : Type 0 where
-  pub worked : Worked p cap c ops a b
+pub record IsWorking (p : Plan) (cap : ℕ) (abort : Abort) (c : ℕ) (ops : List ℕ) (turn : ℕ) (a b : Runner) : Type 0 where
+  pub worked : Worked p cap abort c ops a b
   pub turns : times c (hand_view b).places ≡ turn
   pub last : (turn ≡ 0) ⊎ ((n : ℕ) × Contains (hand_view b).places (place c n) × (turn ≤ n + 1))
 
 -- all runners took part, or the first alone, and one of them saw the counter at the end
-pub record IsPassed (p : Plan) (cap c : ℕ) (ops : List ℕ) (before after : List Runner) : Type 0 where
+pub record IsPassed (p : Plan) (cap : ℕ) (abort : Abort) (c : ℕ) (ops : List ℕ) (before after : List Runner) : Type 0 where
   pub len : length after ≡ length before
-  pub each : (k : ℕ) (d : Runner) → k < length before → Worked p cap c ops (slice_index_or before k d) (slice_index_or after k d)
+  pub each : (k : ℕ) (d : Runner) → k < length before → Worked p cap abort c ops (slice_index_or before k d) (slice_index_or after k d)
   pub enough : (k : ℕ) × (k < length before) × ((d : Runner) → IsEnough c ops (slice_index_or after k d))

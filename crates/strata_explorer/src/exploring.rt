@@ -1,19 +1,22 @@
-ghost use Rattle.std.specs.Prelude.{◌≡◌, ◌≤◌, ◌<◌, All, length};
+ghost use Rattle.std.specs.Prelude.{◌≡◌, ◌≤◌, ◌<◌, ◌+◌, ◌^◌, true, false, [], ◌∷◌, All, length};
 ghost use Rattle.chain_units.specs.Places.{IsPartition};
+ghost use Rattle.interleaving_core.specs.Counts.{rolled};
+ghost use Rattle.morph_base.specs.declared.strategy.Abort.TheVariants.{Lazy, Eager};
 ghost use Rattle.morph_base.specs.Graphs.{IsValidPlan};
 ghost use Rattle.morph_base.specs.Plans.{op_count};
-ghost use Rattle.op_words.specs.Hands.{plan_of, cap_of, counters_of};
+ghost use Rattle.op_words.specs.declared.board.Board.{Board as B};
+ghost use Rattle.op_words.specs.Hands.{plan_of, cap_of, counters_of, up_to, IsHandOf};
 ghost use Rattle.op_eval.specs.Alone.{IsNewRoot, HasRunAll};
 ghost use Rattle.op_eval.specs.Further.{AreFurther};
-ghost use Rattle.op_eval.specs.declared.explored.RunEnd.TheVariants.{Whole};
-ghost use Rattle.op_eval.specs.Exploring.{AreExplored, IsExplored, parts_of};
+ghost use Rattle.op_eval.specs.Exploring.{AreExplored, IsExplored, Unused, parts_of};
 ghost use Rattle.op_eval.specs.Gathering.{runners_of};
-ghost use Rattle.strata_explorer.specs.Levels.{AreStrata, IsAlone, counters_for};
-ghost use Rattle.strata_explorer.specs.Passes.{IsSeated};
+ghost use Rattle.op_eval.specs.Running.{hand_view};
+ghost use Rattle.strata_explorer.specs.Levels.{ops_of, rolled_by, AreStrata, Follows, HasPassed, IsAlone, counters_for};
+ghost use Rattle.strata_explorer.specs.Passes.{AreLike, IsPassed, IsSeated};
 
 use crate::passing::{Pass, pass_by};
 use chain_units::Units;
-use morph_base::Plan;
+use morph_base::{Abort, Plan};
 use op_eval::{Explored, RunEnd, Runner, Runners};
 use op_words::Board;
 use std::thread::Threads;
@@ -27,56 +30,177 @@ pub fn counters(plan: &Plan) -> u32
     4 * plan.op_levels.len() as u32 + 64
 }
 
-/// A pass over each level, from the lowest on.
-fn pass_all<R: Threads + Sync, G: Gate>(
-    rt: &R,
-    board: &Board,
-    runners: &mut [Runner],
-    plan: &Plan,
-    units: &Units,
-    gate: &G,
-)
-    requires valid { IsValidPlan plan.now }
-    requires plan { plan.now ≡ plan_of board.now }
-    requires units { IsPartition units.now.units (op_count plan.now) }
-    requires number { units.now.ops ≡ op_count plan.now }
-    requires counters { counters_for plan.now ≤ counters_of board.now }
-    requires some { 0 < length runners.old }
-    requires seated { All (IsSeated board.now) runners.old }
-    requires ready { AreStrata plan.now 0 runners.old }
-    ensures seated { All (IsSeated board.now) runners.new }
-    ensures hands { AreFurther runners.old runners.new }
-    ensures strata { AreStrata plan.now (length plan.now.op_levels.items) runners.new }
-    ensures alone { 1 ≤ cap_of board.now
-        → IsAlone plan.now (length plan.now.op_levels.items) runners.old runners.new }
+/// How many operations a runner rolled back, up to the greatest number.
+fn rolled_of(runner: &Runner) -> u64
+    ensures { (b : B) → IsHandOf b runner.now.hand → result ≡ up_to (rolled (hand_view runner.now).events) }
 {
-    let levels = plan.op_levels.len();
-    for level in 0..levels {
-        let pass = Pass {
-            board,
-            gate,
-            plan,
-            units,
-            ops: plan.op_levels.get(level).as_slice(),
-            counter: level as u32,
-        };
-        pass_by(rt, runners, &pass);
+    runner.hand.counts().rolled
+}
+
+/// How many operations all runners rolled back, up to the greatest number.
+fn count_rolled(runners: &[Runner]) -> u64
+    ensures { (b : B) → All (IsSeated b) runners.now → result ≡ up_to (rolled_by runners.now) }
+{
+    let mut total = 0u64;
+    for k in 0..runners.len() {
+        total = total.saturating_add(rolled_of(&runners[k]));
+    }
+    total
+}
+
+/// Whether operations were rolled back, under eager abort, since so many had been. Under lazy abort none are.
+fn has_risen(runners: &[Runner], abort: Abort, rolled: u64) -> bool
+    ensures eager { result ≡ true → abort ≡ Eager }
+    ensures more { result ≡ true → (b : B) → All (IsSeated b) runners.now → rolled < up_to (rolled_by runners.now) }
+{
+    match abort {
+        Abort::Lazy => false,
+        Abort::Eager => count_rolled(runners) > rolled,
     }
 }
 
-/// Explores a batch: a pass over each level, from the lowest on, each with a counter of the board for its own.
+/// Empties the level word before a pass in which workers may lower it.
+fn empty_level(board: &mut Board, runners: &mut [Runner], abort: Abort)
+    requires some { 0 < length runners.old }
+    requires seated { All (IsSeated board.old) runners.old }
+    ensures seated { All (IsSeated board.new) runners.new }
+    ensures like { AreLike runners.old runners.new }
+    ensures plan { plan_of board.new ≡ plan_of board.old }
+    ensures cap { cap_of board.new ≡ cap_of board.old }
+    ensures counters { counters_of board.new ≡ counters_of board.old }
+{
+    match abort {
+        Abort::Lazy => {}
+        Abort::Eager => board.reset_level(&mut runners[0].hand),
+    }
+}
+
+/// The level above, or that of the level word where operations were rolled back and it is lower.
+fn next_level(board: &Board, runners: &mut [Runner], level: usize, risen: bool) -> usize
+    requires some { 0 < length runners.old }
+    requires seated { All (IsSeated board.now) runners.old }
+    requires small { level < 2 ^ 32 }
+    ensures seated { All (IsSeated board.now) runners.new }
+    ensures like { AreLike runners.old runners.new }
+    ensures most { result ≤ level + 1 }
+    ensures above { risen ≡ false → result ≡ level + 1 }
+{
+    if !risen {
+        return level + 1;
+    }
+    // The level word counts from 1 on.
+    let lowest = board.level(&mut runners[0].hand) as usize;
+    lowest.saturating_sub(1).min(level + 1)
+}
+
+/// A pass over a level, by the counter of its own number, and the level that comes next.
+fn pass_once<R: Threads + Sync, G: Gate>(
+    rt: &R,
+    board: &mut Board,
+    runners: &mut [Runner],
+    plan: &Plan,
+    units: &Units,
+    abort: Abort,
+    gate: &G,
+    level: usize,
+    counter: u32,
+) -> usize
+    requires valid { IsValidPlan plan.now }
+    requires plan { plan.now ≡ plan_of board.old }
+    requires units { IsPartition units.now.units (op_count plan.now) }
+    requires number { units.now.ops ≡ op_count plan.now }
+    requires level { level < length plan.now.op_levels.items }
+    requires counter { counter < counters_of board.old }
+    requires some { 0 < length runners.old }
+    requires seated { All (IsSeated board.old) runners.old }
+    requires unused { All (Unused counter) runners.old }
+    ensures seated { All (IsSeated board.new) runners.new }
+    ensures plan { plan_of board.new ≡ plan_of board.old }
+    ensures cap { cap_of board.new ≡ cap_of board.old }
+    ensures counters { counters_of board.new ≡ counters_of board.old }
+    ensures passed { IsPassed plan.now (cap_of board.old) abort counter (ops_of plan.now level) runners.old runners.new }
+    ensures next { Follows plan.now (cap_of board.old) abort result (level ∷ []) runners.old runners.new }
+{
+    empty_level(board, runners, abort);
+    let rolled = count_rolled(runners);
+    let pass = Pass {
+        board,
+        gate,
+        plan,
+        units,
+        abort,
+        ops: plan.op_levels.get(level).as_slice(),
+        counter,
+    };
+    pass_by(rt, runners, &pass);
+    let risen = has_risen(runners, abort, rolled);
+    next_level(board, runners, level, risen)
+}
+
+/// Passes from the lowest level on, until there is no next level or no counter is left; why they ended, and how many
+/// there were.
+fn pass_all<R: Threads + Sync, G: Gate>(
+    rt: &R,
+    board: &mut Board,
+    runners: &mut [Runner],
+    plan: &Plan,
+    units: &Units,
+    abort: Abort,
+    gate: &G,
+) -> (RunEnd, u32)
+    requires valid { IsValidPlan plan.now }
+    requires plan { plan.now ≡ plan_of board.old }
+    requires units { IsPartition units.now.units (op_count plan.now) }
+    requires number { units.now.ops ≡ op_count plan.now }
+    requires counters { counters_for plan.now ≤ counters_of board.old }
+    requires some { 0 < length runners.old }
+    requires seated { All (IsSeated board.old) runners.old }
+    requires ready { AreStrata plan.now [] runners.old }
+    ensures seated { All (IsSeated board.new) runners.new }
+    ensures plan { plan_of board.new ≡ plan_of board.old }
+    ensures cap { cap_of board.new ≡ cap_of board.old }
+    ensures counters { counters_of board.new ≡ counters_of board.old }
+    ensures hands { AreFurther runners.old runners.new }
+    ensures passed { HasPassed plan.now (cap_of board.old) abort runners.old runners.new result.0 result.1 }
+    ensures alone { abort ≡ Lazy → 1 ≤ cap_of board.old
+        → IsAlone plan.now (length plan.now.op_levels.items) runners.old runners.new }
+{
+    let levels = plan.op_levels.len();
+    let most = counters(plan);
+    let mut level = 0;
+    let mut passes = 0;
+    while level < levels && passes < most {
+        level = pass_once(rt, board, runners, plan, units, abort, gate, level, passes);
+        passes += 1;
+    }
+    let end = if level < levels {
+        RunEnd::Spent
+    } else {
+        RunEnd::Whole
+    };
+    (end, passes)
+}
+
+/// Explores a batch by passes over its levels, each with a counter of the board for its own.
 ///
-/// The places of a pass are the operations of its level, and each goes to one worker, who walks the unit of that
-/// operation from it on. So of each pass one worker saw the counter's end, and each place that a worker took had its
-/// operation reached by that worker's own words. Nothing is settled on the way. With one worker all operations have run
-/// at attempt 1. The end is [`RunEnd::Whole`], and the first unused counter is that after the last pass. It takes no
-/// memory.
+/// The first pass is over the lowest level. The places of a pass are the operations of its level, and each goes to one
+/// worker, who walks the unit of that operation from it on. So of each pass one worker saw the counter's end, and each
+/// place that a worker took had its operation reached by that worker's own words. Nothing is settled on the way.
+///
+/// Under lazy abort each level is passed once, and with one worker all operations have run at attempt 1. Under eager
+/// abort a worker runs the cascade of an operation to its end after each evaluation that failed, or that was a second
+/// or later attempt. Where operations were rolled back in a pass, exploring goes back to the lowest level of one of
+/// them.
+///
+/// The end is [`RunEnd::Whole`] after the last level, and [`RunEnd::Spent`] where [`counters`] of the plan passes were
+/// made before that. The first unused counter is that after the last pass. It takes no memory.
 pub fn explore<R: Threads + Sync, G: Gate>(
     rt: &R,
     board: Board,
     runners: Runners,
     plan: &Plan,
     units: &Units,
+    abort: Abort,
     gate: &G,
 ) -> Explored
     requires valid { IsValidPlan plan.now }
@@ -86,18 +210,27 @@ pub fn explore<R: Threads + Sync, G: Gate>(
     requires counters { counters_for plan.now ≤ counters_of board }
     requires ready { AreExplored board 0 runners }
     ensures explored { IsExplored result }
-    ensures board { (parts_of result).0 ≡ board }
+    ensures plan { plan_of (parts_of result).0 ≡ plan_of board }
+    ensures cap { cap_of (parts_of result).0 ≡ cap_of board }
+    ensures counters { counters_of (parts_of result).0 ≡ counters_of board }
     ensures hands { AreFurther (runners_of runners) (runners_of (parts_of result).1) }
-    ensures strata { AreStrata plan.now (length plan.now.op_levels.items) (runners_of (parts_of result).1) }
-    ensures alone { 1 ≤ cap_of board
+    ensures passed { HasPassed plan.now (cap_of board) abort (runners_of runners)
+        (runners_of (parts_of result).1) (parts_of result).2 (parts_of result).3 }
+    ensures alone { abort ≡ Lazy → 1 ≤ cap_of board
         → IsAlone plan.now (length plan.now.op_levels.items) (runners_of runners) (runners_of (parts_of result).1) }
-    ensures ran { 1 ≤ cap_of board → IsNewRoot (runners_of runners)
+    ensures ran { abort ≡ Lazy → 1 ≤ cap_of board → IsNewRoot (runners_of runners)
         → HasRunAll plan.now (runners_of (parts_of result).1) }
-    ensures end { (parts_of result).2 ≡ Whole }
-    ensures next_counter { (parts_of result).3 ≡ length plan.now.op_levels.items }
 {
     let mut runners = runners;
-    pass_all(rt, &board, runners.as_mut_slice(), plan, units, gate);
-    let passes = plan.op_levels.len() as u32;
-    Explored::new(board, runners, RunEnd::Whole, passes)
+    let mut board = board;
+    let (end, passes) = pass_all(
+        rt,
+        &mut board,
+        runners.as_mut_slice(),
+        plan,
+        units,
+        abort,
+        gate,
+    );
+    Explored::new(board, runners, end, passes)
 }

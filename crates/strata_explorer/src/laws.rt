@@ -5,15 +5,16 @@ ghost use Rattle.op_words.specs.Counting.{place};
 ghost use Rattle.op_words.specs.Trails.{IsReached};
 ghost use Rattle.op_eval.specs.declared.runner.Runner.{Runner};
 ghost use Rattle.op_eval.specs.Running.{hand_view};
-ghost use Rattle.strata_explorer.specs.Levels.{ops_of, op_of, AreStrata, IsWhole};
+ghost use Rattle.strata_explorer.specs.Levels.{ops_of, op_of, level_of, AreStrata, IsWhole};
 
-/// Where the numbers that runners took from a level's counter are known to be those below some number, as a closed
-/// board shows it, each place of that level was taken, and its operation was reached by the runner that took it.
+/// Where the numbers that runners took from a pass's counter are known to be those below some number, as a closed
+/// board shows it, each place of the level of that pass was taken, and its operation was reached by the runner that
+/// took it.
 ///
 /// While hands live no single view shows this: each hand knows its own numbers alone.
 pub fn each_place_is_reached()
-    ensures { (p : Plan) (level : ℕ) (rs : List Runner) → AreStrata p level rs → (d : Runner)
-        → (l : ℕ) → l < level → IsWhole l rs → (n : ℕ) → n < length (ops_of p l)
-        → (k : ℕ) × (k < length rs) × Contains (hand_view (slice_index_or rs k d)).places (place l n)
-        × IsReached p (op_of p l n) (hand_view (slice_index_or rs k d)).trail }
+    ensures { (p : Plan) (levels : List ℕ) (rs : List Runner) → AreStrata p levels rs → (d : Runner)
+        → (c : ℕ) → c < length levels → IsWhole c rs → (n : ℕ) → n < length (ops_of p (level_of levels c))
+        → (k : ℕ) × (k < length rs) × Contains (hand_view (slice_index_or rs k d)).places (place c n)
+        × IsReached p (op_of p (level_of levels c) n) (hand_view (slice_index_or rs k d)).trail }
 {}

@@ -1,13 +1,14 @@
 //! A pass over one level, by all workers or by the first alone.
-ghost use Rattle.std.specs.Prelude.{◌≡◌, ◌<◌, All, length};
+ghost use Rattle.std.specs.Prelude.{◌≡◌, ◌<◌, All, length, slice_index_or};
 ghost use Rattle.op_words.specs.Hands.{plan_of, cap_of, counters_of};
+ghost use Rattle.op_eval.specs.declared.runner.Runner.{Runner as Worker};
 ghost use Rattle.op_eval.specs.Exploring.{Unused};
-ghost use Rattle.strata_explorer.specs.Passes.{Fits, IsSeated, IsPassed};
+ghost use Rattle.strata_explorer.specs.Passes.{Fits, IsEnough, IsSeated, IsPassed};
 
 use crate::turns::Told;
 use crate::walking::work;
 use chain_units::Units;
-use morph_base::Plan;
+use morph_base::{Abort, Plan};
 use op_eval::Runner;
 use op_words::Board;
 use std::thread::Threads;
@@ -24,6 +25,7 @@ pub(crate) struct Pass<'a, G> {
     pub(crate) gate: &'a G,
     pub(crate) plan: &'a Plan,
     pub(crate) units: &'a Units,
+    pub(crate) abort: Abort,
     pub(crate) ops: &'a [u32],
     pub(crate) counter: u32,
 }
@@ -39,7 +41,7 @@ impl<G: Gate> Job<Runner> for Pass<'_, G> {
         × (pass.counter < counters_of pass.board.now) × IsSeated pass.board.now runner × Unused pass.counter runner };
 
     ghost changes = { λ pass before after. IsSeated pass.board.now after
-        × Worked pass.plan.now (cap_of pass.board.now) pass.counter pass.ops.now before after
+        × Worked pass.plan.now (cap_of pass.board.now) pass.abort pass.counter pass.ops.now before after
         × IsEnough pass.counter pass.ops.now after };
 
     fn run(&self, worker: &mut Runner) {
@@ -52,6 +54,7 @@ impl<G: Gate> Job<Runner> for Pass<'_, G> {
             &told,
             self.plan,
             self.units,
+            self.abort,
             self.ops,
             self.counter,
             worker,
@@ -72,8 +75,9 @@ pub(crate) fn pass_by<R: Threads + Sync, G: Gate>(
     requires seated { All (IsSeated pass.now.board.now) runners.old }
     requires unused { All (Unused pass.now.counter) runners.old }
     ensures seated { All (IsSeated pass.now.board.now) runners.new }
-    ensures does { IsPassed pass.now.plan.now (cap_of pass.now.board.now) pass.now.counter pass.now.ops.now
-        runners.old runners.new }
+    ensures does { IsPassed pass.now.plan.now (cap_of pass.now.board.now) pass.now.abort pass.now.counter
+        pass.now.ops.now runners.old runners.new }
+    ensures first { (d : Worker) → IsEnough pass.now.counter pass.now.ops.now (slice_index_or runners.new 0 d) }
 {
     if pass.ops.len() < FEW {
         pass.run(&mut runners[0]);

@@ -1,39 +1,44 @@
 //! What one worker does in a pass.
 ghost use Rattle.std.specs.Prelude.{◌≡◌, ◌<◌, ◌≤◌};
 ghost use Rattle.chain_units.specs.Places.{IsPartition};
+ghost use Rattle.morph_base.specs.Graphs.{IsValidPlan};
 ghost use Rattle.morph_base.specs.Plans.{op_count};
 ghost use Rattle.op_words.specs.Counting.{times};
 ghost use Rattle.op_words.specs.Hands.{plan_of, cap_of, counters_of};
 ghost use Rattle.op_words.specs.Rule.{most_taken};
-ghost use Rattle.op_eval.specs.Evaluations.{Tries};
 ghost use Rattle.op_eval.specs.Exploring.{Unused};
 ghost use Rattle.op_eval.specs.Running.{hand_view};
 ghost use Rattle.strata_explorer.specs.Calls.{TakesNumber};
+ghost use Rattle.abort_eager.specs.Sweeps.{Attempts};
 ghost use Rattle.strata_explorer.specs.Passes.{Fits, IsSeated, Walked, Worked, IsEnough};
 
+use crate::sweeping::sweep;
 use crate::turns::Turns;
 use chain_units::Units;
-use morph_base::Plan;
+use morph_base::{Abort, Plan};
 use op_eval::{Evaluation, Runner, evaluate};
 use op_words::Board;
 
-/// Tries to evaluate an operation in a turn, and tells the gate.
+/// Tries to evaluate an operation in a turn, tells the gate, and does what stands behind the evaluation.
 fn attempt<T: Turns>(
     board: &Board,
     told: &T,
     turn: u64,
     runner: &mut Runner,
     plan: &Plan,
+    abort: Abort,
     op: u32,
 ) -> Evaluation
     requires plan { plan.now ≡ plan_of board.now }
+    requires valid { IsValidPlan plan.now }
     requires in_range { op < op_count plan.now }
     requires seated { IsSeated board.now runner.old }
     ensures seated { IsSeated board.now runner.new }
-    ensures does { Tries plan.now (cap_of board.now) op runner.old runner.new result }
+    ensures does { Attempts plan.now (cap_of board.now) abort op runner.old runner.new result }
 {
     let answer = evaluate(board, runner, plan, op);
     told.done(turn);
+    sweep(board, runner, plan, abort, op, answer);
     answer
 }
 
@@ -45,24 +50,26 @@ fn walk<T: Turns>(
     runner: &mut Runner,
     plan: &Plan,
     units: &Units,
+    abort: Abort,
     op: u32,
 )
     requires plan { plan.now ≡ plan_of board.now }
+    requires valid { IsValidPlan plan.now }
     requires in_range { op < op_count plan.now }
     requires units { IsPartition units.now.units (op_count plan.now) }
     requires number { units.now.ops ≡ op_count plan.now }
     requires seated { IsSeated board.now runner.old }
     ensures seated { IsSeated board.now runner.new }
-    ensures does { Walked plan.now (cap_of board.now) op runner.old runner.new }
+    ensures does { Walked plan.now (cap_of board.now) abort op runner.old runner.new }
 {
-    let mut answer = attempt(board, told, turn, runner, plan, op);
+    let mut answer = attempt(board, told, turn, runner, plan, abort, op);
     let unit = units.ops(units.unit_of(op));
     for i in (units.place_of(op) as usize + 1)..unit.len() {
         match answer {
             Evaluation::Evaluated { .. } => {}
             _ => return,
         }
-        answer = attempt(board, told, turn, runner, plan, unit[i]);
+        answer = attempt(board, told, turn, runner, plan, abort, unit[i]);
     }
 }
 
@@ -83,6 +90,7 @@ pub(crate) fn work<T: Turns>(
     told: &T,
     plan: &Plan,
     units: &Units,
+    abort: Abort,
     ops: &[u32],
     counter: u32,
     runner: &mut Runner,
@@ -93,7 +101,7 @@ pub(crate) fn work<T: Turns>(
     requires seated { IsSeated board.now runner.old }
     requires unused { Unused counter runner.old }
     ensures seated { IsSeated board.now runner.new }
-    ensures does { Worked plan.now (cap_of board.now) counter ops.now runner.old runner.new }
+    ensures does { Worked plan.now (cap_of board.now) abort counter ops.now runner.old runner.new }
     ensures enough { IsEnough counter ops.now runner.new }
 {
     for turn in 0..ops.len() {
@@ -109,6 +117,7 @@ pub(crate) fn work<T: Turns>(
             runner,
             plan,
             units,
+            abort,
             ops[number as usize],
         );
     }

@@ -8,11 +8,13 @@
 #![tactic(auto)]
 
 mod gate;
+mod hold_gate;
 mod job;
 mod meet_gate;
 #[cfg(test)]
 mod tests;
 
 pub use gate::{FreeGate, Gate};
+pub use hold_gate::HoldGate;
 pub use job::{Job, run_all};
 pub use meet_gate::MeetGate;

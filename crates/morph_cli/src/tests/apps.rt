@@ -129,14 +129,20 @@ fn counted(text: &[u8]) -> Option<u64> {
 
 /// With a million ids most operations of a batch are on the first level, which is enough of them for several threads.
 #[test]
-fn workers_do_not_change_the_answer(rt: HostRuntime) -> Result<(), Fail> {
-    for size in [b"size=10000".as_slice(), b"size=1000000"] {
-        let made: [&[u8]; 5] = [
+fn workers_and_strategies_do_not_change_the_answer(rt: HostRuntime) -> Result<(), Fail> {
+    let runs: [[&[u8]; 3]; 2] = [
+        [b"size=10000", b"explore=steal", b"abort=eager"],
+        [b"size=1000000", b"explore=strata", b"abort=lazy"],
+    ];
+    for [size, explore, abort] in runs {
+        let made: [&[u8]; 7] = [
             b"self=ledger",
             b"seed=7",
             b"events=20000",
             size,
             b"workers=4",
+            explore,
+            abort,
         ];
         let one = run_words(&rt, rt.alloc(), &made[..4], b"")?;
         let four = run_words(&rt, rt.alloc(), &made, b"")?;

@@ -41,7 +41,7 @@ fn expect_usage(
 
 #[test]
 fn words_that_are_no_settings(rt: HostRuntime) -> Result<(), Fail> {
-    let refused: [&[&[u8]]; 23] = [
+    let refused: [&[&[u8]]; 27] = [
         &[],
         &[b"app=", b"size=1"],
         &[b"app=ledger", b"colour=1"],
@@ -64,7 +64,11 @@ fn words_that_are_no_settings(rt: HostRuntime) -> Result<(), Fail> {
         &[b"app=ledger", b"explore=nothing"],
         &[b"app=ledger", b"explore=steal", b"explore=strata"],
         &[b"app=ledger", b"explore=steal", b"explore=steal"],
+        &[b"app=ledger", b"abort=late"],
+        &[b"app=ledger", b"plan=chosen"],
         &[b"app=ledger", b"plan=auto", b"unit=op"],
+        &[b"app=ledger", b"plan=auto", b"explore=strata"],
+        &[b"app=ledger", b"abort=eager", b"plan=auto"],
     ];
     expect_usage(&rt, &refused)
 }

@@ -11,6 +11,8 @@ pub enum Part {
     Number,
     /// The number before it.
     Before,
+    /// The number behind it.
+    After,
 }
 
 /// Appends bytes to a list.
@@ -28,6 +30,7 @@ fn append_part(list: &mut List<u8>, part: Part, number: u64) -> Result<(), OutOf
         Part::Text(text) => return append(list, text),
         Part::Number => digits.number(number),
         Part::Before => digits.number(number.saturating_sub(1)),
+        Part::After => digits.number(number.saturating_add(1)),
     }
     append(list, digits.bytes())
 }

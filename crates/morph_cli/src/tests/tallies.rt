@@ -1,6 +1,6 @@
 //! What is counted of the batches that were run.
 use super::{FOUR_EVENTS, LEDGER, run_words};
-use morph_base::Explore;
+use morph_base::{Abort, Explore};
 use run_text::Tally;
 use std::test::Fail;
 
@@ -20,8 +20,12 @@ fn numbers_of(tally: Tally) -> [u64; 8] {
     ]
 }
 
-/// Whether the numbers of a tally go together, where batches are explored so and there are so many workers.
-pub fn is_balanced(tally: Tally, explore: Explore, workers: usize) -> bool {
+/// Whether the numbers of a tally go together, where batches are explored and abort so and there are so many workers.
+pub fn is_balanced(tally: Tally, explore: Explore, abort: Abort, workers: usize) -> bool {
+    let rounds: u64 = match abort {
+        Abort::Lazy => 1,
+        Abort::Eager => 7,
+    };
     let counts = tally.settled_by;
     let [finished, ..] = counts;
     let settled = counts
@@ -35,9 +39,9 @@ pub fn is_balanced(tally: Tally, explore: Explore, workers: usize) -> bool {
         && settled == tally.ops
         && !beyond
         && finished <= tally.left.saturating_mul(4)
-        && tally.evaluated <= tally.ops.saturating_mul(2)
-        && tally.rolled <= tally.ops
-        && tally.spread == 0
+        && tally.evaluated.saturating_add(tally.spread) <= tally.ops.saturating_mul(rounds + 1)
+        && tally.spread.saturating_add(tally.rolled) <= tally.ops.saturating_mul(rounds)
+        && (abort == Abort::Eager || tally.spread == 0)
         && tally.stolen <= tally.handed
         && (explore == Explore::Steal || tally.handed == 0)
 }

@@ -2,7 +2,8 @@
 ghost use Rattle.std.specs.Prelude.{◌≡◌, ◌<◌};
 ghost use Rattle.op_words.specs.Counting.{taking, times, Takes};
 ghost use Rattle.op_words.specs.Rule.{most_taken};
-ghost use Rattle.op_words.specs.Hands.{plan_of, counters_of, view_of, IsHandOf};
+ghost use Rattle.op_words.specs.declared.board.Hand.{Hand};
+ghost use Rattle.op_words.specs.Hands.{plan_of, cap_of, counters_of, view_of, IsHandOf};
 
 use super::{Board, Hand};
 use crate::counting::{Pass, Take};
@@ -46,12 +47,15 @@ impl Board {
     }
 
     /// Empties the level word between two passes, while the board is lent to nobody else: the level there is then
-    /// the greatest.
+    /// the greatest. All else stays, so each hand of the board is one of it after that.
     pub fn reset_level(&mut self, root: &mut Hand)
         requires hand { IsHandOf self.old root.old }
         ensures hand { IsHandOf self.new root.new }
         ensures view { view_of root.new ≡ view_of root.old }
         ensures plan { plan_of self.new ≡ plan_of self.old }
+        ensures cap { cap_of self.new ≡ cap_of self.old }
+        ensures counters { counters_of self.new ≡ counters_of self.old }
+        ensures hands { (h : Hand) → IsHandOf self.old h → IsHandOf self.new h }
     {
         self.table
             .shared

@@ -2,13 +2,16 @@ use Rattle.std.proofs.Common.{◌≡◌, ◌∙◌, Result, Ok, Err, ap, subst, 
 use Rattle.std.specs.Prelude.{IfOk}
 use Rattle.std.proofs.lemmas.Result.{IfOk-weaker, on_ok_weaker}
 use Rattle.morph_base.specs.declared.plan.Plan.{Plan}
+use Rattle.morph_base.specs.declared.strategy.Strategy.{Strategy}
 use Rattle.morph_base.specs.Flat.{contents}
 use Rattle.morph_base.specs.Outcomes.{fates}
 use Rattle.morph_base.specs.Plans.{IsSettledOf, transactions}
 use Rattle.morph_base.specs.Transactions.{transactions_of, by_time}
 use Rattle.morph_base.proofs.EndLaws.{state_at-fold}
 use Rattle.morph_engine.specs.declared.engine.BatchEnd.{BatchEnd}
+use Rattle.morph_engine.specs.Accounts.{IsAccount, account_of}
 use Rattle.morph_engine.specs.Fates.{settled_fates}
+use Rattle.morph_cli.specs.Strategies.{strategy_by}
 use Rattle.morph_cli.specs.Tallies.{IsMadeOf}
 use Rattle.morph_cli.proofs.batch.run_batch.Goals as goal
 
@@ -37,3 +40,18 @@ returns-clause-made g c =
 pub returns-clause-settled : goal.returns-clause-settled
 returns-clause-settled g c =
     of_plan c.run_batch.result c.in_ok-plan.plan (λ p end. IsSettledOf p end.settled) c.run_batch.ensures.plan c.run_batch.ensures.settled
+
+-- what holds of the strategy that was asked for holds of the one that is given back
+of_strategy : {E : Type 0} (r : Result BatchEnd E) (s : Strategy) (P : Strategy → BatchEnd → Type 0) → IfOk r (λ end. end.strategy ≡ s) → IfOk r (P s) → IfOk r (λ end. P end.strategy end)
+of_strategy (Ok end) s P same holds = subst (λ q. P q end) (sym same) holds
+of_strategy (Err e) s P same holds = tt
+
+pub returns-clause-strategy : goal.returns-clause-strategy
+returns-clause-strategy g c =
+    let chosen = strategy_by c.args.settings.now.planning c.in_ok-plan.plan c.args.last in
+    of_plan c.run_batch.result c.in_ok-plan.plan (λ p end. end.strategy ≡ strategy_by c.args.settings.now.planning p c.args.last) c.run_batch.ensures.plan
+    (IfOk-weaker c.run_batch.result (λ end. end.strategy ≡ c.strategy_for-strategy.result) (λ end. end.strategy ≡ chosen) (λ end is. is ∙ c.strategy_for-strategy.ensures) c.run_batch.ensures.strategy)
+
+pub returns-clause-account : goal.returns-clause-account
+returns-clause-account g c =
+    of_strategy c.run_batch.result c.strategy_for-strategy.result (λ s end. IsAccount s.explore s.abort c.args.settings.now.workers (account_of end)) c.run_batch.ensures.strategy c.run_batch.ensures.account

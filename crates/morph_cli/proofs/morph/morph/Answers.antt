@@ -48,7 +48,7 @@ returns-clause-told g c =
 
 pub returns-clause-balanced : goal.returns-clause-balanced
 returns-clause-balanced g c =
-    asked_so (λ s. IsBalanced s.strategy.explore s.workers c.run_app-end.new.tally) (settings_of (map (λ word. word.items) c.args.words.now)) c.in-Some.settings (sym c.in-Some.ensures.asked) c.run_app-end.ensures.told.balanced
+    asked_so (λ s. IsBalanced s.planning s.workers c.run_app-end.new.tally) (settings_of (map (λ word. word.items) c.args.words.now)) c.in-Some.settings (sym c.in-Some.ensures.asked) c.run_app-end.ensures.told.balanced
 
 pub returns-clause-write : goal.returns-clause-write
 returns-clause-write g c =

@@ -36,8 +36,8 @@ batches-init g c =
     record {
       run = between_start (course_of g.A.EventApp.event_of (g.A.EventApp.table_count c.args.job.now.app) (g.A.EventApp.name_of c.args.job.now.app) c.args.job.now.app c.args.job.now.settings INPUT_BYTES (g.S.Source.left c.args.source.now)
           (outputs_of (g.K.Sink.written c.args.sink.now) (g.N.Sink.written c.args.notes.now)))
-          c.args.progress.now.reader c.args.progress.now.engine c.args.tally.now c.args.progress.now.out (layout_of (g.A.EventApp.table_count c.args.job.now.app) c.args.job.now.settings.size) c.requires.reader c.requires.layout
-          refl c.requires.opening c.requires.empty c.requires.tally;
+          c.args.progress.now.reader c.args.progress.now.engine c.args.tally.now c.args.progress.now.out c.args.progress.now.last (layout_of (g.A.EventApp.table_count c.args.job.now.app) c.args.job.now.settings.size) c.requires.reader c.requires.layout
+          refl c.requires.opening c.requires.empty c.requires.last c.requires.tally;
       source_faults = omega arith;
       sink_faults = omega arith;
       notes_faults = omega arith;
@@ -65,11 +65,11 @@ pub returns-in_err-end-in-Batch-clause-told : goal.returns-in_err-end-in-Batch-c
 returns-in_err-end-in-Batch-clause-told g c =
     told_short OutOfMemory (error_is c.from_residual-in_err-end-in-Batch.result OutOfMemory c.from_residual-in_err-end-in-Batch.ensures.1) (λ is. absurd (cc)) c.batches.invariant.run.goes
 
-pub add-requires-clause-plan : goal.add-requires-clause-plan
-add-requires-clause-plan g c = c.in_ok-end-in-Batch.ensures.made.valid.plan
+pub count-progress-requires-clause-plan : goal.count-progress-requires-clause-plan
+count-progress-requires-clause-plan g c = c.in_ok-end-in-Batch.ensures.made.valid.plan
 
-pub add-requires-clause-room : goal.add-requires-clause-room
-add-requires-clause-room g c =
+pub count-progress-requires-clause-room : goal.count-progress-requires-clause-room
+count-progress-requires-clause-room g c =
     has_room (account_of c.in_ok-end-in-Batch.end) c.batches.invariant.run (lit≤ tt) c.in_ok-end-in-Batch.ensures.made.valid.plan
     c.in_ok-end-in-Batch.ensures.account
 
@@ -81,7 +81,7 @@ returns-in_err-tell_batch-in-Batch-clause-ends g c =
     let valid = rw c.in-Batch.is at c.in_ok-batch.ensures.valid in
     let answers = rw c.in-Batch.is at c.in_ok-batch.ensures.answers in
     ends_in_batch (g.S.Source.left c.next_batch.new.source) (outputs_of (g.K.Sink.written c.tell_batch.new.sink) (g.N.Sink.written c.tell_batch.new.notes)) c.next_batch.new.self c.in-Batch.batch
-    (settled_fates c.in_ok-end-in-Batch.end.plan c.in_ok-end-in-Batch.end.settled) (note_of c.args.job.now.settings c.add.new.self.batches c.in_ok-end-in-Batch.end.plan)
+    (settled_fates c.in_ok-end-in-Batch.end.plan c.in_ok-end-in-Batch.end.settled) (note_of c.args.job.now.settings c.count-progress.new.tally.batches (account_of c.in_ok-end-in-Batch.end))
     (error_is c.from_residual-in_err-tell_batch-in-Batch.result Write c.from_residual-in_err-tell_batch-in-Batch.ensures.1)
     c.batches.invariant.run answers valid.0 c.in_ok-end-in-Batch.ensures.fates c.in_err-tell_batch-in-Batch.ensures.told
 
@@ -92,8 +92,8 @@ returns-in_err-tell_batch-in-Batch-clause-told g c =
     told_cut_in_batch (g.S.Source.left c.next_batch.new.source) (outputs_of (g.K.Sink.written c.tell_batch.new.sink) (g.N.Sink.written c.tell_batch.new.notes)) c.next_batch.new.self c.in-Batch.batch
     (settled_fates c.in_ok-end-in-Batch.end.plan c.in_ok-end-in-Batch.end.settled) (account_of c.in_ok-end-in-Batch.end)
     (error_is c.from_residual-in_err-tell_batch-in-Batch.result Write c.from_residual-in_err-tell_batch-in-Batch.ensures.1)
-    c.batches.invariant.run answers valid.0 c.in_ok-end-in-Batch.ensures.fates c.add.ensures c.in_ok-end-in-Batch.ensures.account
-    c.in_ok-end-in-Batch.ensures.made c.in_err-tell_batch-in-Batch.ensures.told
+    c.batches.invariant.run answers valid.0 c.in_ok-end-in-Batch.ensures.fates c.count-progress.ensures.adds c.in_ok-end-in-Batch.ensures.account
+    c.in_ok-end-in-Batch.ensures.made c.in_ok-end-in-Batch.ensures.strategy c.in_err-tell_batch-in-Batch.ensures.told
 
 pub returns-in_err-tell_batch-in-Batch-clause-write : goal.returns-in_err-tell_batch-in-Batch-clause-write
 returns-in_err-tell_batch-in-Batch-clause-write g c is =
@@ -112,7 +112,7 @@ batches-preserved g c =
           c.batches.invariant.run answers shows valid.0 counted c.in_ok-batch.ensures.bound
           c.in_ok-batch.ensures.same c.in_ok-batch.ensures.at_end c.in_ok-batch.ensures.unended live c.in_ok-end-in-Batch.ensures.layout
           c.in_ok-end-in-Batch.ensures.state c.in_ok-end-in-Batch.ensures.fates c.in_ok-tell_batch-in-Batch.ensures.told c.in_ok-tell_batch-in-Batch.ensures.empty
-          c.add.ensures c.in_ok-end-in-Batch.ensures.account c.in_ok-end-in-Batch.ensures.made;
+          c.count-progress.ensures.adds c.in_ok-end-in-Batch.ensures.account c.in_ok-end-in-Batch.ensures.made c.in_ok-end-in-Batch.ensures.strategy c.count-progress.ensures.last;
       source_faults = omega (arith, c.batches.invariant.source_faults, c.in_ok-batch.ensures.never_falls);
       sink_faults = omega (arith, c.batches.invariant.sink_faults, c.in_ok-tell_batch-in-Batch.ensures.sink_faults);
       notes_faults = omega (arith, c.batches.invariant.notes_faults, c.in_ok-tell_batch-in-Batch.ensures.notes_faults);

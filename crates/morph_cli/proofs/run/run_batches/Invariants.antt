@@ -8,7 +8,7 @@ abbrev pub invariant-batches : goal.invariant-batches
 invariant-batches g l = record {
   run : Between (course_of g.A.EventApp.event_of (g.A.EventApp.table_count l.job.app) (g.A.EventApp.name_of l.job.app) l.job.app l.job.settings INPUT_BYTES (g.S.Source.left l.initial.source)
       (outputs_of (g.K.Sink.written l.initial.sink) (g.N.Sink.written l.initial.notes)))
-      (g.S.Source.left l.source) (outputs_of (g.K.Sink.written l.sink) (g.N.Sink.written l.notes)) l.progress.reader l.progress.engine l.tally l.progress.out;
+      (g.S.Source.left l.source) (outputs_of (g.K.Sink.written l.sink) (g.N.Sink.written l.notes)) l.progress.reader l.progress.engine l.tally l.progress.out l.progress.last;
   source_faults : g.S.Source.faults l.initial.source ≤ g.S.Source.faults l.source;
   sink_faults : g.K.Sink.faults l.initial.sink ≤ g.K.Sink.faults l.sink;
   notes_faults : g.N.Sink.faults l.initial.notes ≤ g.N.Sink.faults l.notes;

@@ -14,11 +14,8 @@ returns-in_err-workers-clause-none c = none_asked (map (λ word. word.items) c.a
 pub returns-in_err-size-clause-none : goal.returns-in_err-size-clause-none
 returns-in_err-size-clause-none c = none_asked (map (λ word. word.items) c.args.words.now) _ (search rules)
 
-pub returns-in_err-unit-clause-none : goal.returns-in_err-unit-clause-none
-returns-in_err-unit-clause-none c = none_asked (map (λ word. word.items) c.args.words.now) _ (search rules)
-
-pub returns-in_err-explore-clause-none : goal.returns-in_err-explore-clause-none
-returns-in_err-explore-clause-none c = none_asked (map (λ word. word.items) c.args.words.now) _ (search rules)
+pub returns-in_err-planning-clause-none : goal.returns-in_err-planning-clause-none
+returns-in_err-planning-clause-none c = none_asked (map (λ word. word.items) c.args.words.now) _ (search rules)
 
 pub returns-in_err-notes-clause-none : goal.returns-in_err-notes-clause-none
 returns-in_err-notes-clause-none c = none_asked (map (λ word. word.items) c.args.words.now) _ (search rules)

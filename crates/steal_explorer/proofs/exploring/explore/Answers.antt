@@ -16,7 +16,7 @@ use Rattle.steal_explorer.specs.HandingOut.{HasHandedOut}
 use Rattle.morph_base.specs.Plans.{op_count}
 use Rattle.op_words.specs.Hands.{cap_of, up_to}
 use Rattle.std.proofs.lemmas.List.Concat.{length-flat_map}
-use Rattle.steal_explorer.proofs.Closing.{begins_alone, handed_alone, begin_lent, balance_is, drained_is, reached_is, answered_is, further_is, inside_is, explored_is}
+use Rattle.steal_explorer.proofs.Closing.{begins_alone, handed_alone, unstolen_is, begin_lent, balance_is, drained_is, reached_is, answered_is, further_is, inside_is, explored_is}
 use Rattle.steal_explorer.proofs.exploring.explore.Goals as goal
 
 pub hand_out-requires-clause-begins : goal.hand_out-requires-clause-begins
@@ -28,7 +28,7 @@ pub new-requires : goal.new-requires
 new-requires g c =
     let law = c.hand_out.ensures.handed_out in
     let back = come_back c.seat_all.new.members.items c.hand_out.new.members (law.len ∙ ap (λ (l : List Member). length l) c.as_mut_slice.ensures.items) in
-    explored_is _ _ _ _ _ law (runners_of c.args.runners) (ap (map runner_of) c.as_mut_slice.ensures.items ∙ c.seat_all.ensures.seated.runners) c.args.board c.args.runners c.unseat_all.new.runners c.requires.plan refl
+    explored_is _ _ _ _ _ _ law (runners_of c.args.runners) (ap (map runner_of) c.as_mut_slice.ensures.items ∙ c.seat_all.ensures.seated.runners) c.args.board c.args.runners c.unseat_all.new.runners c.requires.plan refl
     c.requires.ready (c.unseat_all.ensures.places (c.seat_all.ensures.places c.requires.ready.places)) (c.unseat_all.ensures.runners ∙ ap (map runner_of) back) c.hand_out.ensures.idle
 
 pub returns-clause-hands : goal.returns-clause-hands
@@ -36,7 +36,7 @@ returns-clause-hands g c =
     let law = c.hand_out.ensures.handed_out in
     let back = come_back c.seat_all.new.members.items c.hand_out.new.members (law.len ∙ ap (λ (l : List Member). length l) c.as_mut_slice.ensures.items) in
     subst (AreFurther (runners_of c.args.runners)) (sym (ap (λ (t : Board × Runners × RunEnd × ℕ). runners_of t.1) c.new.ensures.parts ∙ c.unseat_all.ensures.runners ∙ ap (map runner_of) back))
-    (further_is _ _ _ _ _ law (runners_of c.args.runners) (ap (map runner_of) c.as_mut_slice.ensures.items ∙ c.seat_all.ensures.seated.runners))
+    (further_is _ _ _ _ _ _ law (runners_of c.args.runners) (ap (map runner_of) c.as_mut_slice.ensures.items ∙ c.seat_all.ensures.seated.runners))
 
 pub returns-clause-balance : goal.returns-clause-balance
 returns-clause-balance g c =
@@ -44,7 +44,7 @@ returns-clause-balance g c =
     let back = come_back c.seat_all.new.members.items c.hand_out.new.members (law.len ∙ ap (λ (l : List Member). length l) c.as_mut_slice.ensures.items) in
     λ h.
     subst (λ (l : List Member). sum_by h (flat_map pushed_by l) ≡ sum_by h (flat_map taken_from l) + sum_by h (flat_map left_in l)) (sym (c.of-handed.ensures.workers ∙ back))
-    (balance_is _ _ _ _ _ law h)
+    (balance_is _ _ _ _ _ _ law h)
 
 pub returns-clause-drained : goal.returns-clause-drained
 returns-clause-drained g c =
@@ -52,7 +52,7 @@ returns-clause-drained g c =
     let back = come_back c.seat_all.new.members.items c.hand_out.new.members (law.len ∙ ap (λ (l : List Member). length l) c.as_mut_slice.ensures.items) in
     λ end.
     ap (λ (l : List Member). flat_map left_in l) (c.of-handed.ensures.workers ∙ back)
-    ∙ drained_is _ _ _ _ _ law
+    ∙ drained_is _ _ _ _ _ _ law
     (subst (All (λ m. m.end ≡ Drained)) (c.as_slice-2.ensures ∙ back)
     (c.end_of-end.ensures.drained (sym (ap (λ (t : Board × Runners × RunEnd × ℕ). t.2) c.new.ensures.parts) ∙ end)))
 
@@ -62,20 +62,20 @@ returns-clause-reached g c =
     let back = come_back c.seat_all.new.members.items c.hand_out.new.members (law.len ∙ ap (λ (l : List Member). length l) c.as_mut_slice.ensures.items) in
     let p = c.args.plan.now in
     subst (AreReached p (flat_map taken_from (workers_of c.of-handed.result))) (sym (ap (λ (t : Board × Runners × RunEnd × ℕ). runners_of t.1) c.new.ensures.parts ∙ c.unseat_all.ensures.runners ∙ ap (map runner_of) back))
-    (subst (λ (l : List Member). AreReached p (flat_map taken_from l) (map runner_of c.hand_out.new.members)) (sym (c.of-handed.ensures.workers ∙ back)) (reached_is _ _ _ _ _ law))
+    (subst (λ (l : List Member). AreReached p (flat_map taken_from l) (map runner_of c.hand_out.new.members)) (sym (c.of-handed.ensures.workers ∙ back)) (reached_is _ _ _ _ _ _ law))
 
 pub returns-clause-answers : goal.returns-clause-answers
 returns-clause-answers g c =
     let law = c.hand_out.ensures.handed_out in
     let back = come_back c.seat_all.new.members.items c.hand_out.new.members (law.len ∙ ap (λ (l : List Member). length l) c.as_mut_slice.ensures.items) in
     subst (AreAnswered (flat_map taken_from (workers_of c.of-handed.result))) (sym (ap (λ (t : Board × Runners × RunEnd × ℕ). runners_of t.1) c.new.ensures.parts ∙ c.unseat_all.ensures.runners ∙ ap (map runner_of) back))
-    (subst (λ (l : List Member). AreAnswered (flat_map taken_from l) (map runner_of c.hand_out.new.members)) (sym (c.of-handed.ensures.workers ∙ back)) (answered_is _ _ _ _ _ law))
+    (subst (λ (l : List Member). AreAnswered (flat_map taken_from l) (map runner_of c.hand_out.new.members)) (sym (c.of-handed.ensures.workers ∙ back)) (answered_is _ _ _ _ _ _ law))
 
 pub returns-clause-inside : goal.returns-clause-inside
 returns-clause-inside g c =
     let law = c.hand_out.ensures.handed_out in
     let back = come_back c.seat_all.new.members.items c.hand_out.new.members (law.len ∙ ap (λ (l : List Member). length l) c.as_mut_slice.ensures.items) in
-    λ x. subst (λ (l : List Member). Contains (flat_map taken_from l) x → x < op_count c.args.plan.now) (sym (c.of-handed.ensures.workers ∙ back)) (inside_is _ _ _ _ _ law x)
+    λ x. subst (λ (l : List Member). Contains (flat_map taken_from l) x → x < op_count c.args.plan.now) (sym (c.of-handed.ensures.workers ∙ back)) (inside_is _ _ _ _ _ _ law x)
 
 pub returns-clause-turns : goal.returns-clause-turns
 returns-clause-turns g c =
@@ -86,8 +86,8 @@ returns-clause-turns g c =
       runners = ap (map runner_of) c.as_mut_slice.ensures.items ∙ c.seat_all.ensures.seated.runners;
       seats = ap (map seat_of) c.as_mut_slice.ensures.items ∙ c.seat_all.ensures.seated.seats;
       handed_out =
-          subst (λ ts. HasHandedOut c.args.plan.now (cap_of c.args.board) ts c.as_mut_slice.result.now (workers_of c.of-handed.result)) c.as_slice.ensures
-          (subst (HasHandedOut c.args.plan.now (cap_of c.args.board) c.as_slice.result.now c.as_mut_slice.result.now) (sym (c.of-handed.ensures.workers ∙ back)) law);
+          subst (λ ts. HasHandedOut c.args.plan.now (cap_of c.args.board) c.args.abort ts c.as_mut_slice.result.now (workers_of c.of-handed.result)) c.as_slice.ensures
+          (subst (HasHandedOut c.args.plan.now (cap_of c.args.board) c.args.abort c.as_slice.result.now c.as_mut_slice.result.now) (sym (c.of-handed.ensures.workers ∙ back)) law);
     }
 
 pub returns-clause-end : goal.returns-clause-end
@@ -118,7 +118,7 @@ returns-clause-stolen g c =
     ∙ ap up_to (sym (length-flat_map stolen_from (workers_of c.of-handed.result)))
 
 pub returns-clause-alone : goal.returns-clause-alone
-returns-clause-alone g c = λ some root.
+returns-clause-alone g c = λ lazy some root.
     let law = c.hand_out.ensures.handed_out in
     let back = come_back c.seat_all.new.members.items c.hand_out.new.members (law.len ∙ ap (λ (l : List Member). length l) c.as_mut_slice.ensures.items) in
     let single : length c.as_slice.result.now ≡ 1 = ap length c.as_slice.ensures ∙ sym c.requires.deques.len ∙ sym c.requires.workers ∙ root.one in
@@ -127,6 +127,14 @@ returns-clause-alone g c = λ some root.
     (λ all. ap (λ (t : Board × Runners × RunEnd × ℕ). t.2) c.new.ensures.parts ∙ c.end_of-end.ensures.all (subst (All (λ m. m.end ≡ Drained)) (sym (c.as_slice-2.ensures ∙ back)) all))
     (law.len ∙ ap (λ (l : List Member). length l) c.as_mut_slice.ensures.items ∙ sym (length-map c.seat_all.new.members.items runner_of) ∙ ap length c.seat_all.ensures.seated.runners ∙ root.one)
     (λ d.
-    c.hand_out.ensures.alone d some single
+    c.hand_out.ensures.alone d lazy some single
     (subst (λ (l : List Member). BeginsAlone c.args.plan.now (slice_index_or l 0 d)) (sym c.as_mut_slice.ensures.items)
     (begins_alone c.args.plan.now c.args.deques (runners_of c.args.runners) c.seat_all.new.members.items c.requires.deques c.seat_all.ensures.seated c.requires.valid root d)))
+
+pub returns-clause-unstolen : goal.returns-clause-unstolen
+returns-clause-unstolen g c = λ one.
+    let law = c.hand_out.ensures.handed_out in
+    let back = come_back c.seat_all.new.members.items c.hand_out.new.members (law.len ∙ ap (λ (l : List Member). length l) c.as_mut_slice.ensures.items) in
+    let single : length c.as_slice.result.now ≡ 1 = ap length c.as_slice.ensures ∙ sym c.requires.deques.len ∙ sym c.requires.workers ∙ one in
+    ap (λ (l : List Member). flat_map stolen_from l) (c.of-handed.ensures.workers ∙ back)
+    ∙ unstolen_is _ _ _ _ _ _ law single

@@ -18,8 +18,8 @@ returns-clause-handed_out g c =
     handed_out _ _ _ _ _ c.requires.begins c.requires.len c.work_all.auto.members c.work_all.ensures.work c.gather.ensures.holding c.gather.ensures.totals _ c.empty_all.ensures.emptied
 
 pub returns-clause-alone : goal.returns-clause-alone
-returns-clause-alone g c = λ d some single begins.
+returns-clause-alone g c = λ d lazy some single begins.
     let lt : 0 < length c.args.members.now = omega (arith, c.requires.len, single) in
-    leaves_alone _ _ _ (c.work_all.ensures.work 0 d lt).0 (c.work_all.ensures.alone 0 d lt some single begins) c.requires.ground.valid.plan _ _ _
+    leaves_alone _ _ _ (c.work_all.ensures.work 0 d lt).0 (c.work_all.ensures.alone 0 d lt lazy some single begins) c.requires.ground.valid.plan _ _ _
     (kept_at _ _ _ _ _ c.requires.begins c.requires.len c.work_all.auto.members c.work_all.ensures.work c.gather.ensures.holding c.gather.ensures.totals 0 d lt)
     (c.empty_all.ensures.emptied.each 0 d (omega (arith, lt, c.gather.ensures.holding.len, c.requires.len)))

@@ -12,7 +12,7 @@ pub loop-i-init : goal.loop-i-init
 loop-i-init g c = (
   c.requires.idle,
   c.requires.deque,
-  goes_none _ _ _,
+  goes_none _ _ _ _,
   subst (λ ops. IsHandingAlone c.args.ground.now.plan.now ops c.args.member.now)
       (sym (readers_is c.args.ground.now.plan.now c.requires.ground.valid.graph c.args.op c.requires.in_range _ c.get.ensures.at _ c.as_slice-dependents.ensures)),
 )
@@ -27,7 +27,7 @@ loop-i-preserved g c =
     let same = readers_is p c.requires.ground.valid.graph c.args.op c.requires.in_range _ c.get.ensures.at _ c.as_slice-dependents.ensures in (
       c.ask_one.ensures.idle,
       c.ask_one.ensures.deque,
-      goes_then _ _ _ _ _ c.loop-i.invariant.2 c.ask_one.ensures.goes,
+      goes_then _ _ _ _ _ _ c.loop-i.invariant.2 c.ask_one.ensures.goes,
       λ begins.
           c.ask_one.ensures.alone (drop (c.loop-i.i + 1) c.as_slice-dependents.result.now) c.args.op (next_source p c.requires.ground.valid c.args.op _ same c.loop-i.i c.loop-i-test.true)
           (subst (λ ops. IsHandingAlone p ops c.loop-i.member) (rest_of c.as_slice-dependents.result.now c.loop-i.i c.loop-i-test.true) (c.loop-i.invariant.3 begins)),

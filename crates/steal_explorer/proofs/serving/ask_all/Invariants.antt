@@ -9,5 +9,5 @@ abbrev pub invariant-loop-i : goal.invariant-loop-i
 invariant-loop-i g l =
     IsIdle l.ground.board.now l.member.runner
     × HasDeque l.ground.plan.now l.member
-    × Goes l.ground.plan.now (cap_of l.ground.board.now) l.fn.member l.member
+    × Goes l.ground.plan.now (cap_of l.ground.board.now) l.ground.abort l.fn.member l.member
     × (IsHandingAlone l.ground.plan.now (readers l.ground.plan.now l.op) l.fn.member → IsHandingAlone l.ground.plan.now (drop l.i l.dependents) l.member)

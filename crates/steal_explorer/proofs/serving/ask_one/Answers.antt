@@ -3,10 +3,10 @@ use Rattle.steal_explorer.proofs.Queueing.{asked_in_vain, asked_and_pushed}
 use Rattle.steal_explorer.proofs.serving.ask_one.Goals as goal
 
 pub returns-in-Made-clause-goes : goal.returns-in-Made-clause-goes
-returns-in-Made-clause-goes g c = goes_then _ _ _ _ _ (asked_one _ _ c.args.op c.args.member.now c.ask.new.runner _ c.ask.ensures.does) c.push.ensures.goes
+returns-in-Made-clause-goes g c = goes_then _ _ _ _ _ _ (asked_one _ _ _ c.args.op c.args.member.now c.ask.new.runner _ c.ask.ensures.does) c.push.ensures.goes
 
 pub returns-in-Not-clause-goes : goal.returns-in-Not-clause-goes
-returns-in-Not-clause-goes g c = asked_one _ _ c.args.op c.args.member.now c.ask.new.runner _ c.ask.ensures.does
+returns-in-Not-clause-goes g c = asked_one _ _ _ c.args.op c.args.member.now c.ask.new.runner _ c.ask.ensures.does
 
 pub returns-in-Made-clause-alone : goal.returns-in-Made-clause-alone
 returns-in-Made-clause-alone g c =

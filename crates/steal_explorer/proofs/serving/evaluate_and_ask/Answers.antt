@@ -1,26 +1,46 @@
-use Rattle.steal_explorer.proofs.Going.{serves_first, serves_then}
+use Rattle.std.proofs.Common.{sym, subst}
+use Rattle.op_words.specs.Hands.{cap_of}
+use Rattle.abort_eager.proofs.Sweeping.{cause_shown}
+use Rattle.steal_explorer.specs.Alone.{readers, IsHandingAlone, IsRun, ServesAlone}
+use Rattle.steal_explorer.proofs.Cascading.{none_under_lazy}
+use Rattle.steal_explorer.proofs.Going.{goes_none, visited, serves_first}
 use Rattle.steal_explorer.proofs.Queueing.{tried_and_evaluated, tried_in_vain, goes_ran}
 use Rattle.steal_explorer.proofs.serving.evaluate_and_ask.Goals as goal
 
+pub sweep-requires-clause-deque : goal.sweep-requires-clause-deque
+sweep-requires-clause-deque g c = let old = c.requires.deque in record { fifo = old.fifo; part = old.part; below = old.below; handed = old.handed }
+
+pub sweep-requires-clause-cause : goal.sweep-requires-clause-cause
+sweep-requires-clause-cause g c = cause_shown _ _ _ c.args.ground.now.abort _ _ c.attempt-answer.result c.attempt-answer.ensures.does.does
+
 pub returns-in-Evaluated-clause-serves : goal.returns-in-Evaluated-clause-serves
 returns-in-Evaluated-clause-serves g c =
-    serves_then _ _ _ _ _ _ (serves_first _ _ c.args.op c.args.member.now c.attempt-answer.new.runner _ c.attempt-answer.ensures.does) c.ask_all.ensures.goes
+    serves_first _ _ _ c.args.op c.args.member.now c.attempt-answer.new.runner _ c.attempt-answer.ensures.does c.sweep.new.member _ c.sweep.ensures.touches c.sweep.ensures.goes c.ask_all.ensures.goes
 
-pub returns-in_default : goal.returns-in_default
-returns-in_default g c =
-    let old = c.requires.deque in record {
-      idle = c.attempt-answer.ensures.idle;
-      deque = record { fifo = old.fifo; part = old.part; below = old.below; handed = old.handed };
-      serves = serves_first _ _ c.args.op c.args.member.now c.attempt-answer.new.runner _ c.attempt-answer.ensures.does;
-      alone = λ some is.
-          tried_in_vain _ c.requires.ground.valid _ c.args.member.now some c.args.op c.attempt-answer.new.runner is _ c.attempt-answer.ensures.does
-          c.in_default.not-Evaluated;
-    }
+pub returns-in-Evaluated-clause-visits : goal.returns-in-Evaluated-clause-visits
+returns-in-Evaluated-clause-visits g c =
+    visited _ _ _ c.args.op c.args.member.now c.attempt-answer.new.runner _ c.attempt-answer.ensures.does c.sweep.new.member _ c.sweep.ensures.touches c.sweep.ensures.goes c.ask_all.ensures.goes
 
 pub returns-in-Evaluated-clause-alone : goal.returns-in-Evaluated-clause-alone
-returns-in-Evaluated-clause-alone g c = λ some is.
-    let made = tried_and_evaluated _ c.requires.ground.valid _ c.args.member.now some c.args.op c.attempt-answer.new.runner is _ _ c.in-Evaluated.ensures.does in
+returns-in-Evaluated-clause-alone g c = λ lazy some is.
+    let p = c.args.ground.now.plan.now in
+    let still = none_under_lazy c.args.ground.now.plan.now (cap_of c.args.ground.now.board.now) c.args.ground.now.abort c.args.op c.attempt-answer.result _ c.sweep.new.member lazy c.sweep.ensures.touches in
+    let made = tried_and_evaluated p c.requires.ground.valid _ c.args.member.now some c.args.op c.attempt-answer.new.runner is _ _ c.in-Evaluated.ensures.does in
+    let handing = subst (IsHandingAlone p (readers p c.args.op)) (sym still) made.0 in
     record {
-      handing = c.ask_all.ensures.alone made.0;
-      ran = λ _. goes_ran _ c.requires.ground.valid _ _ c.ask_all.new.member c.ask_all.ensures.goes made.0.lone c.args.op made.1;
+      handing = c.ask_all.ensures.alone handing;
+      ran = λ _. goes_ran p c.requires.ground.valid _ c.sweep.new.member _ lazy c.ask_all.new.member c.ask_all.ensures.goes handing.lone c.args.op (subst (IsRun c.args.op) (sym still) made.1);
     }
+
+pub returns-in_default : goal.returns-in_default
+returns-in_default g c = record {
+  idle = c.sweep.ensures.idle;
+  deque = c.sweep.ensures.deque;
+  serves = serves_first _ _ _ c.args.op c.args.member.now c.attempt-answer.new.runner _ c.attempt-answer.ensures.does c.sweep.new.member _ c.sweep.ensures.touches c.sweep.ensures.goes (goes_none _ _ _ _);
+  visits = visited _ _ _ c.args.op c.args.member.now c.attempt-answer.new.runner _ c.attempt-answer.ensures.does c.sweep.new.member _ c.sweep.ensures.touches c.sweep.ensures.goes (goes_none _ _ _ _);
+  alone = λ lazy some is.
+      let still = none_under_lazy c.args.ground.now.plan.now (cap_of c.args.ground.now.board.now) c.args.ground.now.abort c.args.op c.attempt-answer.result _ c.sweep.new.member lazy c.sweep.ensures.touches in
+      subst (ServesAlone c.args.ground.now.plan.now c.args.op c.args.member.now) (sym still)
+      (tried_in_vain _ c.requires.ground.valid _ c.args.member.now some c.args.op c.attempt-answer.new.runner is _ c.attempt-answer.ensures.does
+      c.in_default.not-Evaluated);
+}

@@ -12,10 +12,10 @@ pub loop-i-preserved : goal.loop-i-preserved
 loop-i-preserved g c = (
   c.evaluate_and_ask-answer-in-loop-i.ensures.idle,
   c.evaluate_and_ask-answer-in-loop-i.ensures.deque,
-  serves_then _ _ _ _ _ _ c.loop-i.invariant.2 c.evaluate_and_ask-answer-in-loop-i.ensures.serves.goes,
-  λ some is.
-      let before = c.loop-i.invariant.3 some is in
-      serves_more _ c.requires.ground.valid _ _ _ _ _ before c.evaluate_and_ask-answer-in-loop-i.ensures.serves.goes (c.evaluate_and_ask-answer-in-loop-i.ensures.alone some before.handing).handing,
+  serves_then _ _ _ _ _ _ _ _ c.loop-i.invariant.2 c.evaluate_and_ask-answer-in-loop-i.ensures.serves.goes c.evaluate_and_ask-answer-in-loop-i.ensures.visits,
+  λ lazy some is.
+      let before = c.loop-i.invariant.3 lazy some is in
+      serves_more _ c.requires.ground.valid _ _ _ lazy _ _ _ before c.evaluate_and_ask-answer-in-loop-i.ensures.serves.goes (c.evaluate_and_ask-answer-in-loop-i.ensures.alone lazy some before.handing).handing,
 )
 
 pub returns-in_default : goal.returns-in_default

@@ -1,4 +1,5 @@
 use Rattle.std.specs.Prelude.{◌≡◌, ◌<◌, ◌≤◌, length}
+use Rattle.morph_base.specs.declared.strategy.Abort.TheVariants.{Lazy}
 use Rattle.op_words.specs.Hands.{cap_of}
 use Rattle.steal_explorer.specs.Alone.{BeginsAlone}
 use Rattle.steal_explorer.specs.Members.{IsIdle, HasDeque, HasTickets}
@@ -11,6 +12,6 @@ invariant-loop-turn g l =
     IsIdle l.ground.board.now l.member.runner
     × HasDeque l.ground.plan.now l.member
     × HasTickets l.thieves l.member
-    × IsTurning l.ground.plan.now (cap_of l.ground.board.now) l.thieves l.fn.member l.turn l.row l.member
+    × IsTurning l.ground.plan.now (cap_of l.ground.board.now) l.ground.abort l.thieves l.fn.member l.turn l.row l.member
     × (l.row < 64)
-    × (1 ≤ cap_of l.ground.board.now → length l.thieves ≡ 1 → BeginsAlone l.ground.plan.now l.fn.member → IsTakingAlone l.ground.plan.now l.turn l.row l.member)
+    × (l.ground.abort ≡ Lazy → 1 ≤ cap_of l.ground.board.now → length l.thieves ≡ 1 → BeginsAlone l.ground.plan.now l.fn.member → IsTakingAlone l.ground.plan.now l.turn l.row l.member)

@@ -1,13 +1,18 @@
-use Rattle.std.specs.Prelude.{◌≤◌, All}
-use Rattle.op_words.specs.Hands.{cap_of}
-use Rattle.op_eval.specs.Further.{AreFurther}
-use Rattle.strata_explorer.specs.Levels.{AreStrata, IsAlone}
+use Rattle.std.specs.Prelude.{◌≡◌, ◌≤◌, ◌-◌, All}
+use Rattle.op_words.specs.Hands.{plan_of, cap_of, counters_of}
+use Rattle.strata_explorer.specs.Levels.{counters_for}
 use Rattle.strata_explorer.specs.Passes.{IsSeated}
+use Rattle.strata_explorer.proofs.Ascending.{IsClimbing}
 use Rattle.strata_explorer.proofs.exploring.pass_all.Given as goal
 
 abbrev pub invariant-loop-level : goal.invariant-loop-level
 invariant-loop-level g l =
     All (IsSeated l.board) l.runners
-    × AreFurther l.fn.runners l.runners
-    × AreStrata l.plan l.level l.runners
-    × (1 ≤ cap_of l.board → IsAlone l.plan l.level l.fn.runners l.runners)
+    × (plan_of l.board ≡ plan_of l.fn.board)
+    × (cap_of l.board ≡ cap_of l.fn.board)
+    × (counters_of l.board ≡ counters_of l.fn.board)
+    × (l.passes ≤ counters_for l.plan)
+    × IsClimbing l.plan (cap_of l.fn.board) l.abort l.level l.passes l.fn.runners l.runners
+
+abbrev pub decreases-loop-level : goal.decreases-loop-level
+decreases-loop-level g l = l.most - l.passes

@@ -7,7 +7,7 @@ returns-then-pass-lt-FEW-clause-seated g c = first_set (IsSeated c.args.pass.now
 
 pub returns-then-pass-lt-FEW-clause-does : goal.returns-then-pass-lt-FEW-clause-does
 returns-then-pass-lt-FEW-clause-does g c =
-    first_passed _ _ _ _ c.args.runners.now c.index-runners-0.result c.run.new.worker c.requires.some c.run.ensures.1 c.run.ensures.2
+    first_passed _ _ _ _ _ c.args.runners.now c.index-runners-0.result c.run.new.worker c.requires.some c.run.ensures.1 c.run.ensures.2
 
 pub returns-else-pass-lt-FEW-clause-does : goal.returns-else-pass-lt-FEW-clause-does
 returns-else-pass-lt-FEW-clause-does g c = record {
@@ -15,3 +15,6 @@ returns-else-pass-lt-FEW-clause-does g c = record {
   each = λ k d lt. (c.run_all.ensures k d lt).1;
   enough = (0, c.requires.some, λ d. (c.run_all.ensures 0 d c.requires.some).2);
 }
+
+pub returns-else-pass-lt-FEW-clause-first : goal.returns-else-pass-lt-FEW-clause-first
+returns-else-pass-lt-FEW-clause-first g c = λ d. (c.run_all.ensures 0 d c.requires.some).2

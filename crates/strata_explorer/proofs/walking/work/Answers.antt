@@ -2,10 +2,10 @@ use Rattle.strata_explorer.proofs.Turning.{ended, went_on}
 use Rattle.strata_explorer.proofs.walking.work.Goals as goal
 
 pub returns-then-number-ops-clause-does : goal.returns-then-number-ops-clause-does
-returns-then-number-ops-clause-does g c = (ended _ _ _ _ _ _ _ _ _ c.loop-turn.invariant.1 c.take-number.ensures.does c.if-number-ops.true).0
+returns-then-number-ops-clause-does g c = (ended _ _ _ _ _ _ _ _ _ _ c.loop-turn.invariant.1 c.take-number.ensures.does c.if-number-ops.true).0
 
 pub returns-then-number-ops-clause-enough : goal.returns-then-number-ops-clause-enough
-returns-then-number-ops-clause-enough g c = (ended _ _ _ _ _ _ _ _ _ c.loop-turn.invariant.1 c.take-number.ensures.does c.if-number-ops.true).1
+returns-then-number-ops-clause-enough g c = (ended _ _ _ _ _ _ _ _ _ _ c.loop-turn.invariant.1 c.take-number.ensures.does c.if-number-ops.true).1
 
 pub loop-turn-preserved : goal.loop-turn-preserved
-loop-turn-preserved g c = (c.walk.ensures.seated, went_on _ _ _ _ _ _ _ _ _ c.loop-turn.invariant.1 c.take-number.ensures.does _ c.if-number-ops.false c.walk.ensures.does)
+loop-turn-preserved g c = (c.walk.ensures.seated, went_on _ _ _ _ _ _ _ _ _ _ c.loop-turn.invariant.1 c.take-number.ensures.does _ c.if-number-ops.false c.walk.ensures.does)

@@ -39,7 +39,7 @@ returns-clause-prepared c =
     } in
     record {
       plan = c.in_ok-board.ensures.plan;
-      cap = c.in_ok-board.ensures.cap;
+      cap = c.in_ok-board.ensures.cap ∙ c.cap_of.ensures;
       counters = c.in_ok-board.ensures.counters ∙ omega (arith, c.counters.ensures, c.len.ensures);
       partition = subst (λ us. IsPartition us (op_count c.args.plan.now)) (sym c.in_ok-units.ensures.units) (each_in_one c.args.plan.now c.args.strategy.now.unit);
       number = c.in_ok-units.ensures.ops;

@@ -10,17 +10,22 @@ use Rattle.strata_explorer.specs.Levels.{counters_for}
 use Rattle.strata_explorer.proofs.Leveling.{small_levels}
 use Rattle.abort_lazy.specs.Ended.{AreCauses}
 use Rattle.abort_lazy.specs.Runs.{AreSettling, root_view}
+use Rattle.morph_engine.specs.Caps.{cap_for}
 use Rattle.morph_engine.specs.Exploring.{explore_of}
+use Rattle.morph_engine.proofs.Caps.{cap_some}
 use Rattle.morph_engine.proofs.Ending.{some_runner, all_made, begun, closed_at, some_after, has_run}
 use Rattle.morph_engine.proofs.EventLevels.{small_event_levels}
 use Rattle.morph_engine.proofs.prepared.Prepared.run.Goals as goal
+
+pub explore_by-explored-requires-clause-cap : goal.explore_by-explored-requires-clause-cap
+explore_by-explored-requires-clause-cap g c κs within = let some = cap_some c.args.self.abort in let is = c.requires.prepared.cap in omega (arith, some, is)
 
 pub settle_all-requires-clause-few : goal.settle_all-requires-clause-few
 settle_all-requires-clause-few g c κs within =
     let p = c.args.plan.now in
     let few = small_event_levels p c.requires.valid in
     let levels = small_levels p c.requires.valid in
-    let is : counters_of c.explore_by-explored.result.0.board ≡ counters_for p + length p.event_levels.items = ap counters_of c.explore_by-explored.ensures.board ∙ c.requires.prepared.counters in
+    let is : counters_of c.explore_by-explored.result.0.board ≡ counters_for p + length p.event_levels.items = c.explore_by-explored.ensures.counters ∙ c.requires.prepared.counters in
     omega (arith, few, levels, is)
 
 pub close-closed-requires-clause-all : goal.close-closed-requires-clause-all
@@ -29,24 +34,27 @@ close-closed-requires-clause-all g c =
     let e = c.explore_by-explored.result.0 in
     let told = c.explore_by-explored.ensures in
     c.settle_all.ensures.all
-    (all_made c.args.plan.now c.requires.valid x c.requires.prepared e (runners_of c.settle_all.result.runners) told.explored told.board told.hands told.ran c.settle_all.ensures.settled c.settle_all.ensures.alone)
+    (all_made c.args.plan.now c.requires.valid x c.requires.prepared e (runners_of c.settle_all.result.runners) told.explored told.plan told.cap told.hands told.ran c.settle_all.ensures.settled c.settle_all.ensures.alone)
 
 pub finish-settled-requires-clause-closed : goal.finish-settled-requires-clause-closed
 finish-settled-requires-clause-closed g c =
     let b = c.settle_all.result.board in
     let rs = runners_of c.settle_all.result.runners in
-    let same = c.settle_all.ensures.board ∙ c.explore_by-explored.ensures.board in
+    let same = c.settle_all.ensures.board in
+    let told = c.explore_by-explored.ensures in
     let d : Runner = some_runner rs c.settle_all.ensures.run.rest.some in (
-      1,
+      cap_for c.args.self.abort,
       counters_of b,
       root_view d rs,
-      closed_at c.args.plan.now b (counters_of b) (root_view d rs) c.close-closed.result.0 (ap plan_of same ∙ c.requires.prepared.plan) (ap cap_of same ∙ c.requires.prepared.cap) (c.close-closed.ensures.closed d),
+      closed_at c.args.plan.now (cap_for c.args.self.abort) b (counters_of b) (root_view d rs) c.close-closed.result.0 (ap plan_of same ∙ told.plan ∙ c.requires.prepared.plan) (ap cap_of same ∙ told.cap ∙ c.requires.prepared.cap)
+          (c.close-closed.ensures.closed d),
     )
 
 pub returns-clause-ran : goal.returns-clause-ran
 returns-clause-ran g c =
     let p : Plan = c.args.plan.now in
     let x = c.args.self in
+    let cap = cap_for x.abort in
     let e = c.explore_by-explored.result.0 in
     let tallied = c.explore_by-explored.result.1 in
     let told = c.explore_by-explored.ensures in
@@ -55,20 +63,20 @@ returns-clause-ran g c =
     let closed = c.close-closed.result.0 in
     let settling = c.settle_all.ensures.settled in
     let by_root = c.settle_all.ensures.alone in
-    let same = c.settle_all.ensures.board ∙ told.board in
-    let one_cap = ap cap_of same ∙ c.requires.prepared.cap in
-    let some = some_after p c.requires.valid x c.requires.prepared e rs told.explored told.board told.hands told.ran settling by_root in
+    let same = c.settle_all.ensures.board in
+    let its_cap = ap cap_of same ∙ told.cap ∙ c.requires.prepared.cap in
+    let some = some_after p c.requires.valid x c.requires.prepared e rs told.explored told.plan told.cap told.hands told.ran settling by_root in
     let d : Runner = some_runner rs some in
-    let is : IsClosed p 1 (counters_of b) (root_view d rs) closed =
-    closed_at p b (counters_of b) (root_view d rs) closed (ap plan_of same ∙ c.requires.prepared.plan) one_cap (c.close-closed.ensures.closed d) in
+    let is : IsClosed p cap (counters_of b) (root_view d rs) closed =
+    closed_at p cap b (counters_of b) (root_view d rs) closed (ap plan_of same ∙ told.plan ∙ c.requires.prepared.plan) its_cap (c.close-closed.ensures.closed d) in
     let lists = map (λ (l : Contents Left). l.items) c.close-closed.result.1.items in
-    let start = begun p c.requires.valid x c.requires.prepared e rs told.explored told.board told.hands told.ran settling by_root in
-    let fits : length p.op_levels.items ≤ counters_of b = (let counters : counters_of b ≡ counters_for p + length p.event_levels.items = ap counters_of same ∙ c.requires.prepared.counters in omega (arith, counters)) in
-    has_run p c.requires.valid x c.requires.prepared e rs told.explored told.board told.hands told.ran settling by_root (counters_of b) fits closed is
+    let start = begun p c.requires.valid x c.requires.prepared e rs told.explored told.plan told.cap told.hands told.ran settling by_root in
+    let fits : counters_for p ≤ counters_of b = (let counters : counters_of b ≡ counters_for p + length p.event_levels.items = ap counters_of same ∙ told.counters ∙ c.requires.prepared.counters in omega (arith, counters)) in
+    has_run p c.requires.valid x c.requires.prepared e rs told.explored told.plan told.cap told.hands told.ran settling by_root (counters_of b) fits closed is
     c.close-closed.result.1.items c.close-closed.ensures.left
-    (subst (λ cap. (z : IsClosed p cap (counters_of b) (root_view d rs) closed) → AreCauses p z.ends.core (root_view d rs) lists) one_cap
+    (subst (λ n. (z : IsClosed p n (counters_of b) (root_view d rs) closed) → AreCauses p z.ends.core (root_view d rs) lists) its_cap
     (λ z.
     c.close-closed.ensures.causes d e.next_counter (runners_of e.runners) z c.requires.valid start
     (subst (λ board. AreSettling board p e.next_counter (length p.event_levels.items) (runners_of e.runners) rs) (sym c.settle_all.ensures.board) settling)) is)
-    c.finish-settled.result.by.items (c.finish-settled.ensures.tags 1 (counters_of b) (root_view d rs) is)
+    c.finish-settled.result.by.items (c.finish-settled.ensures.tags cap (counters_of b) (root_view d rs) is)
     (explore_of x.supply) tallied.handed tallied.stolen told.way

@@ -12,5 +12,5 @@ returns g c =
         tickets = ended_tickets c.work-worker.new.member c.work-worker.result _ is.tickets;
       },
       record { stopped = c.work-worker.new.member; ran = is.ran; noted = refl },
-      λ some single begins. ends_noted _ _ c.work-worker.new.member (is.alone some single begins),
+      λ lazy some single begins. ends_noted _ _ c.work-worker.new.member (is.alone lazy some single begins),
     )

@@ -1,0 +1,42 @@
+-- What stands behind an evaluation: under eager abort, the cascade of one that failed, or that was a second or later attempt.
+use Rattle.std.specs.Prelude.{◌≡◌, ℕ, Bool, true, false, nat_lt, if◌then◌else◌, Option, Some, None}
+use Rattle.morph_base.specs.declared.plan.Plan.{Plan}
+use Rattle.morph_base.specs.declared.strategy.Abort.{Abort}
+use Rattle.morph_base.specs.declared.strategy.Abort.TheVariants.{Lazy, Eager}
+use Rattle.op_words.specs.declared.answers.Outcome.TheVariants.{Executed, Failed}
+use Rattle.op_eval.specs.declared.answers.Evaluation.{Evaluation}
+use Rattle.op_eval.specs.declared.answers.Evaluation.TheVariants.{Evaluated, Blocked, Busy, Already}
+use Rattle.op_eval.specs.declared.runner.Runner.{Runner}
+use Rattle.op_eval.specs.Evaluations.{Tries}
+use Rattle.op_eval.specs.Running.{hand_view}
+use Rattle.abort_eager.specs.Targets.{targets}
+use Rattle.abort_eager.specs.Touching.{Touching}
+
+-- whether there is a cascade behind an answer, and whether it is that of a failure
+abbrev pub cascade_for : Abort → Evaluation → Option Bool
+cascade_for Lazy r = None
+cascade_for Eager (Evaluated a Failed) = Some true
+cascade_for Eager (Evaluated a (Executed x)) = if nat_lt 1 a then Some false else None
+cascade_for Eager (Blocked s w) = None
+cascade_for Eager (Busy w) = None
+cascade_for Eager (Already w) = None
+
+module _ (p : Plan) (cap : ℕ) where
+  -- all targets of operation o were touched, and nothing else changed
+  pub record IsSwept (o : ℕ) (failed : Bool) (a b : Runner) : Type 0 where
+    pub touching : Touching p cap (targets p o failed) (hand_view a) (hand_view b)
+    pub answers : b.answers ≡ a.answers
+    pub kept : b.kept ≡ a.kept
+
+  abbrev pub SweepsFor : (o : ℕ) → Option Bool → Runner → Runner → Type 0
+  SweepsFor o None a b = b ≡ a
+  SweepsFor o (Some failed) a b = IsSwept o failed a b
+
+  module _ (abort : Abort) (o : ℕ) where
+    -- what there is behind an answer was done
+    abbrev pub Sweeps : Evaluation → Runner → Runner → Type 0
+    Sweeps r a b = SweepsFor o (cascade_for abort r) a b
+
+    -- an operation was tried, with what there is behind it
+    abbrev pub Attempts : Runner → Runner → Evaluation → Type 0
+    Attempts a b r = (m : Runner) × Tries p cap o a m r × Sweeps r m b

@@ -1,0 +1,71 @@
+//! A transaction of which another hand holds an operation.
+ghost use Rattle.std.specs.Prelude.{◌≡◌, ◌<◌, None};
+ghost use Rattle.morph_base.specs.Plans.{op_count, event_count};
+ghost use Rattle.op_words.specs.Hands.{plan_of, view_of, IsHandOf};
+ghost use Rattle.op_eval.specs.Running.{hand_view};
+
+use crate::four_events::plan_at;
+use abort_lazy::{TxnAnswer, settle_txn};
+use morph_base::{List, OpState, OpWord, Plan};
+use op_eval::{Answers, Runner};
+use op_words::{Board, Claimed, Hand};
+use std::test::Fail;
+
+/// What a runner is answered of the first event while another hand holds its first operation, and once that was given
+/// back; `None` where it cannot be held.
+fn answers(
+    board: &Board,
+    holder: &mut Hand,
+    runner: &mut Runner,
+    plan: &Plan,
+) -> Option<[TxnAnswer; 2]>
+    requires holder { IsHandOf board.now holder.old }
+    requires hand { IsHandOf board.now runner.old.hand }
+    requires plan { plan.now ≡ plan_of board.now }
+    requires some_ops { 0 < op_count plan.now }
+    requires some_events { 0 < event_count plan.now }
+    requires holder_free { (view_of holder.old).claim ≡ None }
+    requires free { (hand_view runner.old).claim ≡ None }
+{
+    let _ = board.ready(holder, plan, 0);
+    match board.claim(holder, plan, 0) {
+        Claimed::Not { .. } => None,
+        Claimed::Held { .. } => {
+            let held = settle_txn(board, runner, plan, 0);
+            board.give_back(holder, plan, 0);
+            let free = settle_txn(board, runner, plan, 0);
+            Some([held, free])
+        }
+    }
+}
+
+/// The holder is the second hand, and its tag is in the word that the runner found.
+#[test]
+fn a_transaction_waits_for_nobody(rt: HostRuntime) -> Result<(), Fail> {
+    let plan = plan_at(&rt, rt.alloc(), &[1])?;
+    assert!(rt; plan.ops.len() == 2 && plan.events.len() == 1);
+    let (board, mut root) = Board::new(rt.alloc(), &plan, 1, 0)?;
+    let mut second = board.split(&mut root);
+    let mut runner = Runner {
+        hand: root,
+        answers: Answers {
+            evaluated: 0,
+            blocked: 0,
+            busy: 0,
+            already: 0,
+        },
+        kept: List::new(rt.alloc()),
+    };
+    let busy = TxnAnswer::Busy {
+        at: 0,
+        word: OpWord {
+            value: 0,
+            attempt: 1,
+            state: OpState::Claimed,
+            by: 2,
+        },
+    };
+    let got = answers(&board, &mut second, &mut runner, &plan);
+    assert_eq!(rt; got, Some([busy, TxnAnswer::Settled { committed: true }]));
+    Ok(())
+}

@@ -1,0 +1,130 @@
+-- Cascades behind evaluations: their targets one after another, and what was rolled back pushed.
+use Rattle.std.proofs.Common.{◌≡◌, ◌≢◌, ℕ, zero, suc, ◌<◌, true, false, Bool, Some, List, [], ◌∷◌, length, get_or, refl, sym, ap, subst, arith}
+use Rattle.std.proofs.lemmas.Bool.{false≢true}
+use Rattle.std.proofs.lemmas.Option.{none-some}
+use Rattle.morph_base.specs.declared.plan.Plan.{Plan}
+use Rattle.morph_base.specs.declared.strategy.Abort.{Abort}
+use Rattle.morph_base.specs.declared.strategy.Abort.TheVariants.{Lazy, Eager}
+use Rattle.op_words.specs.declared.board.Hand.{Hand}
+use Rattle.op_words.specs.declared.trail.Item.{Item}
+use Rattle.op_words.specs.declared.trail.View.{View}
+use Rattle.op_words.specs.Hands.{view_of}
+use Rattle.op_words.specs.Views.{Goes as Adding, HasShownFailure}
+use Rattle.op_eval.specs.declared.answers.Evaluation.{Evaluation}
+use Rattle.op_eval.specs.declared.runner.Runner.{Runner}
+use Rattle.op_eval.specs.Running.{hand_view}
+use Rattle.abort_eager.specs.declared.answers.Touch.TheVariants.{RolledBack}
+use Rattle.abort_eager.specs.declared.answers.Touched.{Touched}
+use Rattle.abort_eager.specs.declared.cascade.Cascade.{Cascade}
+use Rattle.abort_eager.specs.Sweeps.{cascade_for}
+use Rattle.abort_eager.specs.Targets.{targets_left}
+use Rattle.abort_eager.specs.Touching.{HasCause, NextDoes}
+use Rattle.abort_eager.proofs.Touching.{touched_one}
+use Rattle.steal_explorer.specs.declared.members.Member.{Member}
+use Rattle.steal_explorer.specs.Calls.{Call, Asked, Tried, Swept, is_asked, is_swept, Calls, HasTouched, GoesQuietly}
+use Rattle.steal_explorer.specs.Serving.{Goes, PutsOrWalks, TouchesNext, TouchesAll, TouchesFor}
+use Rattle.steal_explorer.proofs.Going.{goes_calls, lazy_none}
+
+-- ---- when there is a cascade
+
+pub eager_behind : (abort : Abort) (r : Evaluation) (failed : Bool) → cascade_for abort r ≡ Some failed → abort ≡ Eager
+eager_behind Eager r failed some = refl
+eager_behind Lazy r failed some = absurd (none-some failed some)
+
+pub none_under_lazy : (p : Plan) (cap : ℕ) (abort : Abort) (o : ℕ) (r : Evaluation) (a b : Member) → abort ≡ Lazy → TouchesFor p cap abort o (cascade_for abort r) a b → b ≡ a
+none_under_lazy p cap Lazy o r a b lazy touches = touches
+none_under_lazy p cap Eager o r a b lazy touches = absurd (apart lazy)
+  where
+    apart : Eager ≡ Lazy → ⊥
+    apart e = cc
+
+-- ---- the failure stays shown
+
+shown_more : (o : ℕ) {v u : View} {xs : List Item} → Adding v u xs → HasShownFailure v o → HasShownFailure u o
+shown_more o goes shown = record { entry = shown.entry; inside = goes.adds.published shown.entry shown.inside; op_is = shown.op_is; failed_is = shown.failed_is }
+
+calls_shown : (p : Plan) (cap o : ℕ) (cs : List Call) (a b : Runner) → Calls p cap cs a b → HasShownFailure (hand_view a) o → HasShownFailure (hand_view b) o
+calls_shown p cap o [] a b calls shown = subst (λ r. HasShownFailure (hand_view r) o) (sym calls) shown
+calls_shown p cap o (Asked q ∷ cs) a b calls shown = shown_more o calls.2.1.does.goes (calls_shown p cap o cs a calls.0 calls.1 shown)
+calls_shown p cap o (Tried q ∷ cs) a b calls shown = shown_more o calls.2.1.does.goes (calls_shown p cap o cs a calls.0 calls.1 shown)
+calls_shown p cap o (Swept g ∷ cs) a b calls shown =
+    shown_more o (touched_one p cap g (hand_view calls.0) (hand_view b) calls.2.0 calls.2.1.touches).goes (calls_shown p cap o cs a calls.0 calls.1 shown)
+
+pub cause_kept : (p : Plan) (cap : ℕ) (abort : Abort) (c : Cascade) (a b : Member) → Goes p cap abort a b → HasCause c (hand_view a.runner) → HasCause c (hand_view b.runner)
+cause_kept p cap abort c a b goes cause = λ failed. calls_shown p cap c.op goes.calls a.runner b.runner goes.made (cause failed)
+
+-- ---- cascades that push nothing
+
+pub touched_none : (p : Plan) (cap : ℕ) (a : Runner) → HasTouched p cap a a
+touched_none p cap a = record { calls = []; made = refl; only = λ k d lt. absurd (omega arith) }
+
+pub touched_next : (p : Plan) (cap : ℕ) (c d : Cascade) (a m : Runner) (h : Hand) (t : Touched) → HasTouched p cap a m → NextDoes p cap c d (hand_view m) (view_of h) (Some t) → HasTouched p cap a (record m { hand = h })
+touched_next p cap c d a m h t touched next = record {
+  calls = Swept next.target ∷ touched.calls;
+  made = (m, touched.made, (t, record { touches = next.touches; answers = refl; kept = refl }));
+  only = λ k e lt. each k e lt;
+}
+  where
+    each : (k : ℕ) (e : Call) → k < length (Swept next.target ∷ touched.calls) → is_swept (get_or (Swept next.target ∷ touched.calls) k e) ≡ true
+    each zero e lt = refl
+    each (suc k) e lt = touched.only k e (less k lt)
+      where
+        less : (k : ℕ) → suc k < suc (length touched.calls) → k < length touched.calls
+        less k lt = omega arith
+
+pub quiet_none : (p : Plan) (cap : ℕ) (abort : Abort) (a : Runner) → GoesQuietly p cap abort a a
+quiet_none p cap abort a = record { calls = []; made = refl; only = λ k d lt. absurd (omega arith); lazy = lazy_none abort }
+
+-- under eager abort
+eager_lazy : (abort : Abort) → abort ≡ Eager → abort ≡ Lazy → ⊥
+eager_lazy abort eager lazy = cc
+
+pub quiet_touched : (p : Plan) (cap : ℕ) (abort : Abort) (a b : Runner) → abort ≡ Eager → HasTouched p cap a b → GoesQuietly p cap abort a b
+quiet_touched p cap abort a b eager touched = record {
+  calls = touched.calls;
+  made = touched.made;
+  only = λ k d lt. unasked (get_or touched.calls k d) (touched.only k d lt);
+  lazy = λ lazy. absurd (eager_lazy abort eager lazy);
+}
+  where
+    unasked : (c : Call) → is_swept c ≡ true → is_asked c ≡ false
+    unasked (Swept g) is = refl
+    unasked (Tried o) is = refl
+    unasked (Asked o) is = cc
+
+-- ---- cascades that push what they rolled back
+
+-- a hand that did nothing
+pub left_as : (m : Member) (h : Hand) → h ≡ m.runner.hand → record m { runner = record m.runner { hand = h } } ≡ m
+left_as m h still = ap (λ g. record m { runner = record m.runner { hand = g } }) still
+
+module _ (p : Plan) (cap : ℕ) (abort : Abort) (c d : Cascade) where
+  module _ (m : Member) (h : Hand) (t : Touched) (next : NextDoes p cap c d (hand_view m.runner) (view_of h) (Some t)) where
+    abbrev after : Member
+    after = record m { runner = record m.runner { hand = h } }
+
+    pub goes_touched : abort ≡ Eager → Goes p cap abort m after
+    goes_touched eager =
+        goes_calls p cap abort m after.runner (Swept next.target ∷ []) (m.runner, refl, (t, record { touches = next.touches; answers = refl; kept = refl }))
+        (λ lazy. absurd (eager_lazy abort eager lazy))
+
+    pub touches_next : (b : Member) → (t.touch ≡ RolledBack → PutsOrWalks p cap abort t.op after b) → (t.touch ≢ RolledBack → b ≡ after) → TouchesNext p cap abort true c d m b
+    touches_next b pushed other = (
+      next.target,
+      next.left,
+      record { touched = after.runner; answer = t; sweeps = record { touches = next.touches; answers = refl; kept = refl }; pushed = pushed; other = other },
+    )
+
+  module _ (a b : Member) where
+    -- the targets that were left, with this one before them
+    pub touches_more : (r : Bool) → TouchesNext p cap abort r c d a b → r ≡ true → (u : Member) → TouchesAll p cap abort (targets_left p d) b u → TouchesAll p cap abort (targets_left p c) a u
+    touches_more true next some u rest = subst (λ gs. TouchesAll p cap abort gs a u) (sym next.1) (b, next.2, rest)
+    touches_more false next some u rest = absurd (false≢true some)
+
+    pub touches_fewer : (r : Bool) → TouchesNext p cap abort r c d a b → r ≡ true → length (targets_left p d) < length (targets_left p c)
+    touches_fewer true next some = let e : length (targets_left p c) ≡ suc (length (targets_left p d)) = ap length next.1 in omega arith
+    touches_fewer false next some = absurd (false≢true some)
+
+    pub touches_end : (r : Bool) → TouchesNext p cap abort r c d a b → r ≡ false → TouchesAll p cap abort (targets_left p c) a b
+    touches_end false next none = subst (λ gs. TouchesAll p cap abort gs a b) (sym next.0) next.1
+    touches_end true next none = absurd (false≢true (sym none))

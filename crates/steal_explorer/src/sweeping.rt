@@ -1,0 +1,128 @@
+//! Cascades behind evaluations, under eager abort.
+ghost use Rattle.std.specs.Prelude.{◌≡◌, ◌≢◌, ◌<◌, true, Some};
+ghost use Rattle.morph_base.specs.declared.strategy.Abort.TheVariants.{Eager};
+ghost use Rattle.morph_base.specs.Plans.{op_count};
+ghost use Rattle.op_words.specs.Hands.{cap_of};
+ghost use Rattle.op_words.specs.Views.{HasShownFailure};
+ghost use Rattle.op_eval.specs.Running.{hand_view};
+ghost use Rattle.abort_eager.specs.declared.answers.Touch.TheVariants.{RolledBack};
+ghost use Rattle.abort_eager.specs.Sweeps.{cascade_for};
+ghost use Rattle.abort_eager.specs.Targets.{targets, IsCascade};
+ghost use Rattle.abort_eager.specs.Touching.{HasCause};
+ghost use Rattle.steal_explorer.specs.Members.{IsGround, IsIdle, HasDeque};
+ghost use Rattle.steal_explorer.specs.Serving.{Goes, PutsOrWalks, TouchesNext, TouchesAll, TouchesFor};
+
+use crate::members::{Ground, Member};
+use crate::serving::push;
+use crate::turns::Turns;
+use abort_eager::{Cascade, Touch, Touched, cascade_behind};
+use op_eval::Evaluation;
+
+/// Pushes an operation that a cascade touched where it was rolled back, since it has to be evaluated again.
+fn push_rolled<T: Turns>(
+    ground: &Ground<'_>,
+    told: &T,
+    turn: u64,
+    member: &mut Member,
+    touched: Touched,
+)
+    requires ground { IsGround ground.now }
+    requires in_range { touched.op < op_count ground.now.plan.now }
+    requires idle { IsIdle ground.now.board.now member.old.runner }
+    requires deque { HasDeque ground.now.plan.now member.old }
+    ensures idle { IsIdle ground.now.board.now member.new.runner }
+    ensures deque { HasDeque ground.now.plan.now member.new }
+    ensures goes { Goes ground.now.plan.now (cap_of ground.now.board.now) ground.now.abort member.old member.new }
+    ensures pushed { touched.touch ≡ RolledBack
+        → PutsOrWalks ground.now.plan.now (cap_of ground.now.board.now) ground.now.abort touched.op
+        member.old member.new }
+    ensures other { touched.touch ≢ RolledBack → member.new ≡ member.old }
+{
+    match touched.touch {
+        Touch::RolledBack => push(ground, told, turn, member, touched.op),
+        _ => {}
+    }
+}
+
+/// Touches the next target of a cascade, and pushes what was rolled back by that. Whether a target was left.
+fn touch_next<T: Turns>(
+    ground: &Ground<'_>,
+    told: &T,
+    turn: u64,
+    member: &mut Member,
+    cascade: &mut Cascade,
+) -> bool
+    requires ground { IsGround ground.now }
+    requires eager { ground.now.abort ≡ Eager }
+    requires idle { IsIdle ground.now.board.now member.old.runner }
+    requires deque { HasDeque ground.now.plan.now member.old }
+    requires cascade { IsCascade ground.now.plan.now cascade.old }
+    requires cause { HasCause cascade.old (hand_view member.old.runner) }
+    ensures idle { IsIdle ground.now.board.now member.new.runner }
+    ensures deque { HasDeque ground.now.plan.now member.new }
+    ensures cascade { IsCascade ground.now.plan.now cascade.new }
+    ensures cause { HasCause cascade.new (hand_view member.new.runner) }
+    ensures goes { Goes ground.now.plan.now (cap_of ground.now.board.now) ground.now.abort member.old member.new }
+    ensures does { TouchesNext ground.now.plan.now (cap_of ground.now.board.now) ground.now.abort result
+        cascade.old cascade.new member.old member.new }
+{
+    match cascade.next(ground.board, &mut member.runner.hand, ground.plan) {
+        Some(touched) => {
+            push_rolled(ground, told, turn, member, touched);
+            true
+        }
+        None => false,
+    }
+}
+
+/// Runs the cascade of an operation to its end, and pushes what it rolled back.
+fn run_cascade<T: Turns>(
+    ground: &Ground<'_>,
+    told: &T,
+    turn: u64,
+    member: &mut Member,
+    op: u32,
+    failed: bool,
+)
+    requires ground { IsGround ground.now }
+    requires eager { ground.now.abort ≡ Eager }
+    requires in_range { op < op_count ground.now.plan.now }
+    requires idle { IsIdle ground.now.board.now member.old.runner }
+    requires deque { HasDeque ground.now.plan.now member.old }
+    requires cause { failed ≡ true → HasShownFailure (hand_view member.old.runner) op }
+    ensures idle { IsIdle ground.now.board.now member.new.runner }
+    ensures deque { HasDeque ground.now.plan.now member.new }
+    ensures goes { Goes ground.now.plan.now (cap_of ground.now.board.now) ground.now.abort member.old member.new }
+    ensures touches { TouchesAll ground.now.plan.now (cap_of ground.now.board.now) ground.now.abort
+        (targets ground.now.plan.now op failed) member.old member.new }
+{
+    let mut cascade = Cascade::start(ground.plan, op, failed);
+    while touch_next(ground, told, turn, member, &mut cascade) {}
+}
+
+/// What stands behind an evaluation that has been made: under eager abort, the cascade of one that failed, or that was
+/// a second or later attempt.
+pub(crate) fn sweep<T: Turns>(
+    ground: &Ground<'_>,
+    told: &T,
+    turn: u64,
+    member: &mut Member,
+    op: u32,
+    answer: Evaluation,
+)
+    requires ground { IsGround ground.now }
+    requires in_range { op < op_count ground.now.plan.now }
+    requires idle { IsIdle ground.now.board.now member.old.runner }
+    requires deque { HasDeque ground.now.plan.now member.old }
+    requires cause { cascade_for ground.now.abort answer ≡ Some true
+        → HasShownFailure (hand_view member.old.runner) op }
+    ensures idle { IsIdle ground.now.board.now member.new.runner }
+    ensures deque { HasDeque ground.now.plan.now member.new }
+    ensures goes { Goes ground.now.plan.now (cap_of ground.now.board.now) ground.now.abort member.old member.new }
+    ensures touches { TouchesFor ground.now.plan.now (cap_of ground.now.board.now) ground.now.abort op
+        (cascade_for ground.now.abort answer) member.old member.new }
+{
+    if let Some(failed) = cascade_behind(ground.abort, answer) {
+        run_cascade(ground, told, turn, member, op, failed);
+    }
+}

@@ -1,0 +1,186 @@
+-- Passes one after another, each over the level that comes next.
+use Rattle.std.proofs.Common.{◌≡◌, ◌≢◌, ◌⊎◌, ℕ, zero, suc, ◌+◌, ◌<◌, ◌≤◌, List, [], ◌∷◌, length, refl, sym, ap, ◌∙◌, subst, inl, inr, arith}
+use Rattle.std.specs.Prelude.{Contains, All}
+use Rattle.std.proofs.lemmas.Bool.{cases_eq}
+use Rattle.morph_base.specs.declared.plan.Plan.{Plan}
+use Rattle.morph_base.specs.declared.strategy.Abort.{Abort}
+use Rattle.morph_base.specs.declared.strategy.Abort.TheVariants.{Lazy, Eager}
+use Rattle.morph_base.specs.Plans.{IsPlan}
+use Rattle.op_eval.specs.declared.explored.RunEnd.TheVariants.{Whole, Spent}
+use Rattle.op_eval.specs.declared.runner.Runner.{Runner}
+use Rattle.op_eval.specs.Further.{AreFurther}
+use Rattle.op_eval.proofs.Further.{all_same}
+use Rattle.strata_explorer.specs.Levels.{counters_for, ops_of, level_of, AreLevels, AreStrata, Follows, Passes, HasPassed, IsAlone}
+use Rattle.strata_explorer.specs.Passes.{IsPassed}
+use Rattle.strata_explorer.proofs.Turning.{contains_first, contains_later}
+use Rattle.strata_explorer.proofs.Climbing.{level_new, level_old, all_strata_more}
+use Rattle.strata_explorer.proofs.Further.{passed_further}
+use Rattle.strata_explorer.proofs.Lone.{alone_more}
+
+lazy_apart : (abort : Abort) → abort ≡ Lazy → abort ≡ Eager → ⊥
+lazy_apart abort lazy eager = cc
+
+module _ (p : Plan) (cap : ℕ) (abort : Abort) where
+  abbrev depth : ℕ
+  depth = length p.op_levels.items
+
+  -- passes were made over levels, the last first, as many as counters are used, and this level comes next
+  pub record IsClimbing (level counters : ℕ) (start now : List Runner) : Type 0 where
+    pub levels : List ℕ
+    pub before : List Runner
+    pub passes : Passes p cap abort levels start before now
+    pub further : AreFurther start now
+    pub strata : AreStrata p levels now
+    pub counted : counters ≡ length levels
+    pub inside : All (λ l. l < depth) levels
+    pub next : Follows p cap abort level levels before now
+    pub lazy : abort ≡ Lazy → (level ≡ length levels) × ((k : ℕ) → k < length levels → level_of levels k ≡ k)
+    pub alone : abort ≡ Lazy → 1 ≤ cap → IsAlone p level start now
+
+  no_passes : (rs : List Runner) → Passes p cap abort [] rs rs rs
+  unfolding Passes
+  no_passes rs = refl
+
+  one_pass_more : (l : ℕ) (ls : List ℕ) (start earlier before now : List Runner) → Passes p cap abort ls start earlier before → Follows p cap abort l ls earlier before → IsPassed p cap abort (length ls) (ops_of p l) before now → Passes p cap abort (l ∷ ls) start before now
+  unfolding Passes
+  one_pass_more l ls start earlier before now passes follows passed = (earlier, passes, follows, passed)
+
+  pub climbing_none : (rs : List Runner) → AreStrata p [] rs → IsClimbing 0 0 rs rs
+  climbing_none rs strata = record {
+    levels = [];
+    before = rs;
+    passes = no_passes rs;
+    further = all_same rs;
+    strata = strata;
+    counted = refl;
+    inside = λ k d lt. absurd (omega arith);
+    next = refl;
+    lazy = λ lazy. (refl, λ k lt. absurd (omega arith));
+    alone = λ lazy some one d begins. begins;
+  }
+
+  -- ---- a pass more
+
+  all_first : (l : ℕ) (ls : List ℕ) → l < depth → All (λ l. l < depth) ls → All (λ l. l < depth) (l ∷ ls)
+  all_first l ls here rest zero d lt = here
+  all_first l ls here rest (suc k) d lt = rest k d (omega arith)
+
+  -- under lazy the next level is the one above
+  lazy_next : (next level : ℕ) (rs qs : List Runner) → abort ≡ Lazy → Follows p cap abort next (level ∷ []) rs qs → next ≡ level + 1
+  lazy_next next level rs qs lazy (inl above) = above
+  lazy_next next level rs qs lazy (inr back) = absurd (lazy_apart abort lazy back.0)
+
+  in_turn : (level : ℕ) (ls : List ℕ) → level ≡ length ls → ((k : ℕ) → k < length ls → level_of ls k ≡ k) → (k : ℕ) → k < suc (length ls) → level_of (level ∷ ls) k ≡ k
+  in_turn level ls same each k lt =
+      elim (cases_eq k (length ls)) [
+        | inl last ↦ ap (level_of (level ∷ ls)) last ∙ level_new level ls ∙ same ∙ sym last
+        | inr other ↦ let less : k < length ls = below lt other in level_old level ls k less ∙ each k less
+      ]
+    where
+      below : k < suc (length ls) → k ≢ length ls → k < length ls
+      below lt other = omega arith
+
+  pub climbing_more : IsPlan p → (units : List (List ℕ)) (many : ℕ) → AreLevels p units many → (level counter next : ℕ) (start rs qs : List Runner) → IsClimbing level counter start rs → level < depth → IsPassed p cap abort counter (ops_of p level) rs qs → Follows p cap abort next (level ∷ []) rs qs
+      → IsClimbing next (counter + 1) start qs
+  climbing_more valid units many levels level counter next start rs qs old low pass follows =
+      let ls = old.levels in
+      let passed : IsPassed p cap abort (length ls) (ops_of p level) rs qs = subst (λ c. IsPassed p cap abort c (ops_of p level) rs qs) old.counted pass in
+      record {
+        levels = level ∷ ls;
+        before = rs;
+        passes = one_pass_more level ls start old.before rs qs old.passes old.next passed;
+        further = passed_further p cap abort (length ls) (ops_of p level) start rs qs old.further passed;
+        strata = all_strata_more p cap abort level ls rs qs old.strata passed;
+        counted = let many = old.counted in omega arith;
+        inside = all_first level ls low old.inside;
+        next = follows;
+        lazy = λ lazy.
+            let above : next ≡ level + 1 = lazy_next next level rs qs lazy follows in
+            let is : level ≡ length ls = (old.lazy lazy).0 in
+            (omega arith, in_turn level ls is (old.lazy lazy).1);
+        alone = λ lazy some.
+            subst (λ l. IsAlone p l start qs) (sym (lazy_next next level rs qs lazy follows))
+            (alone_more p valid cap some units many levels level ls start rs qs old.further.len old.strata (subst (λ a. IsPassed p cap a (length ls) (ops_of p level) rs qs) lazy passed) (old.alone lazy some));
+      }
+
+  -- ---- the end
+
+  -- what comes next is at most the number of levels
+  low_next : (level : ℕ) (ls : List ℕ) (before now : List Runner) → All (λ l. l < depth) ls → Follows p cap abort level ls before now → level ≤ depth
+  low_next level [] before now inside follows = omega arith
+  low_next level (l ∷ ls) before now inside (inl above) = let low : l < depth = inside 0 l (omega arith) in omega arith
+  low_next level (l ∷ ls) before now inside (inr back) = let low : l < depth = inside 0 l (omega arith) in let most : level ≤ l + 1 = back.1 in omega arith
+
+  -- each level below the one that comes next was passed
+  all_below : (level : ℕ) (ls : List ℕ) (start before now : List Runner) → Passes p cap abort ls start before now → Follows p cap abort level ls before now → (l : ℕ) → l < level → Contains ls l
+  unfolding Passes
+  all_below level [] start before now passes follows l lt = absurd (omega arith)
+  all_below level (k ∷ ks) start before now passes follows l lt =
+      elim (cases_eq l k) [
+        | inl same ↦ subst (λ x. Contains (k ∷ ks) x) (sym same) (contains_first k ks)
+        | inr other ↦ contains_later k ks l (all_below k ks start passes.0 before passes.1 passes.2 l (lower follows other))
+      ]
+    where
+      lower : Follows p cap abort level (k ∷ ks) before now → l ≢ k → l < k
+      lower (inl above) other = omega arith
+      lower (inr back) other = let most : level ≤ k + 1 = back.1 in omega arith
+
+  module _ (level counters : ℕ) (start now : List Runner) (climbing : IsClimbing level counters start now) (few : counters ≤ counters_for p) where
+    low : level ≤ depth
+    low = low_next level climbing.levels climbing.before now climbing.inside climbing.next
+
+    few_passes : length climbing.levels ≤ counters_for p
+    few_passes = subst (λ n. n ≤ counters_for p) climbing.counted few
+
+    pub ends_whole : depth ≤ level → HasPassed p cap abort start now Whole counters
+    ends_whole past = record {
+      levels = climbing.levels;
+      before = climbing.before;
+      passes = climbing.passes;
+      strata = climbing.strata;
+      counted = climbing.counted;
+      few = few_passes;
+      inside = climbing.inside;
+      last = λ e. follows;
+      whole = λ e l lt. all_below depth climbing.levels start climbing.before now climbing.passes follows l lt;
+      spent = λ other. absurd (other refl);
+      lazy = λ lazy. (refl, sym (climbing.lazy lazy).0 ∙ all, (climbing.lazy lazy).1);
+    }
+      where
+        all : level ≡ depth
+        all = let most = low in omega arith
+
+        follows : Follows p cap abort depth climbing.levels climbing.before now
+        follows = subst (λ l. Follows p cap abort l climbing.levels climbing.before now) all climbing.next
+
+    -- under lazy there are counters for all passes
+    lazy_ends : abort ≡ Lazy → counters_for p ≤ counters → depth ≤ level
+    lazy_ends lazy used = let is : level ≡ length climbing.levels = (climbing.lazy lazy).0 in let many = climbing.counted in omega arith
+
+    pub ends_spent : level < depth → counters_for p ≤ counters → HasPassed p cap abort start now Spent counters
+    ends_spent less used = record {
+      levels = climbing.levels;
+      before = climbing.before;
+      passes = climbing.passes;
+      strata = climbing.strata;
+      counted = climbing.counted;
+      few = few_passes;
+      inside = climbing.inside;
+      last = λ e. absurd (apart e);
+      whole = λ e. absurd (apart e);
+      spent = λ other. (refl, let many = climbing.counted in let most = few in omega arith);
+      lazy = λ lazy. absurd (let past = lazy_ends lazy used in omega arith);
+    }
+      where
+        apart : Spent ≡ Whole → ⊥
+        apart e = cc
+
+    pub ends_alone : (depth ≤ level) ⊎ (counters_for p ≤ counters) → abort ≡ Lazy → 1 ≤ cap → IsAlone p depth start now
+    ends_alone end lazy some = subst (λ l. IsAlone p l start now) all (climbing.alone lazy some)
+      where
+        past : (depth ≤ level) ⊎ (counters_for p ≤ counters) → depth ≤ level
+        past (inl there) = there
+        past (inr used) = lazy_ends lazy used
+
+        all : level ≡ depth
+        all = let most = low in let least = past end in omega arith

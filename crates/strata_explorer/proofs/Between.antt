@@ -1,0 +1,132 @@
+-- Between passes the first runner empties or loads the level word: what a pass makes of runners does not depend on it.
+use Rattle.std.proofs.Common.{◌≡◌, ℕ, zero, suc, ◌<◌, Bool, Option, Some, None, List, [], ◌∷◌, length, refl, sym, ap, ◌∙◌, subst, inl, inr, arith}
+use Rattle.std.specs.Prelude.{Contains, slice_index_or}
+use Rattle.morph_base.specs.declared.plan.Plan.{Plan}
+use Rattle.morph_base.specs.declared.strategy.Abort.{Abort}
+use Rattle.op_words.specs.declared.trail.View.{View}
+use Rattle.op_words.specs.Counting.{taking, Takes, place, times}
+use Rattle.op_eval.specs.declared.answers.Evaluation.{Evaluation}
+use Rattle.op_eval.specs.declared.runner.Runner.{Runner}
+use Rattle.op_eval.specs.Evaluations.{EvaluationDoes, Tries}
+use Rattle.op_eval.specs.Exploring.{Unused}
+use Rattle.op_eval.specs.Running.{hand_view, counted}
+use Rattle.abort_eager.specs.Sweeps.{cascade_for, SweepsFor}
+use Rattle.abort_eager.specs.Targets.{targets}
+use Rattle.abort_eager.specs.Touching.{Touching}
+use Rattle.strata_explorer.specs.Calls.{Call, Took, Tried, Calling, Calls}
+use Rattle.strata_explorer.specs.Passes.{IsLike, AreLike, Worked, IsEnough, IsPassed}
+use Rattle.strata_explorer.proofs.Turning.{times_some}
+use Rattle.strata_explorer.proofs.Running.{calls_places}
+
+module _ (p : Plan) (cap : ℕ) (abort : Abort) where
+  -- ---- one call
+
+  tries_from : (o : ℕ) (a from b : Runner) (r : Evaluation) → IsLike a from → Tries p cap o from b r → Tries p cap o a b r
+  tries_from o a from b r like tries = record {
+    in_range = tries.in_range;
+    does = subst (λ v. EvaluationDoes p cap o v (hand_view b) r) like.view tries.does;
+    counts = tries.counts ∙ ap (counted r) like.answers;
+    kept = tries.kept ∙ like.kept;
+  }
+
+  tries_to : (o : ℕ) (a b to : Runner) (r : Evaluation) → Tries p cap o a b r → IsLike b to → Tries p cap o a to r
+  tries_to o a b to r tries like = record {
+    in_range = tries.in_range;
+    does = subst (λ v. EvaluationDoes p cap o (hand_view a) v r) (sym like.view) tries.does;
+    counts = like.answers ∙ tries.counts;
+    kept = like.kept ∙ tries.kept;
+  }
+
+  sweeps_to : (o : ℕ) (a b to : Runner) (r : Evaluation) (f : Option Bool) → (m : Runner) × Tries p cap o a m r × SweepsFor p cap o f m b → IsLike b to → (m : Runner) × Tries p cap o a m r × SweepsFor p cap o f m to
+  sweeps_to o a b to r None made like = (to, tries_to o a made.0 to r made.1 (subst (λ m. IsLike m to) made.2 like), refl)
+  sweeps_to o a b to r (Some failed) made like = (
+    made.0,
+    made.1,
+    record {
+      touching = subst (Touching p cap (targets p o failed) (hand_view made.0)) (sym like.view) made.2.touching;
+      answers = like.answers ∙ made.2.answers;
+      kept = like.kept ∙ made.2.kept;
+    },
+  )
+
+  calling_from : (c : Call) (a from b : Runner) → IsLike a from → Calling p cap abort c from b → Calling p cap abort c a b
+  calling_from (Took c n) a from b like took = record {
+    view_is = took.view_is ∙ ap (taking c n) like.view;
+    takes = subst (Takes c n) like.view took.takes;
+    answers = took.answers ∙ like.answers;
+    kept = took.kept ∙ like.kept;
+  }
+  calling_from (Tried o) a from b like tried = (tried.0, (tried.1.0, tries_from o a from tried.1.0 tried.0 like tried.1.1, tried.1.2))
+
+  calling_to : (c : Call) (a b to : Runner) → Calling p cap abort c a b → IsLike b to → Calling p cap abort c a to
+  calling_to (Took c n) a b to took like = record {
+    view_is = like.view ∙ took.view_is;
+    takes = took.takes;
+    answers = like.answers ∙ took.answers;
+    kept = like.kept ∙ took.kept;
+  }
+  calling_to (Tried o) a b to tried like = (tried.0, sweeps_to o a b to tried.0 (cascade_for abort tried.0) tried.1 like)
+
+  -- ---- calls in turn: with none of them it would be the same runner
+
+  calls_from : (cs : List Call) (a from b : Runner) → 0 < length cs → IsLike a from → Calls p cap abort cs from b → Calls p cap abort cs a b
+  calls_from [] a from b some like calls = absurd (omega arith)
+  calls_from (c ∷ []) a from b some like calls = (a, refl, calling_from c a from b like (subst (λ m. Calling p cap abort c m b) calls.1 calls.2))
+  calls_from (c ∷ d ∷ ds) a from b some like calls = (calls.0, calls_from (d ∷ ds) a from calls.0 (omega arith) like calls.1, calls.2)
+
+  calls_to : (cs : List Call) (a b to : Runner) → 0 < length cs → Calls p cap abort cs a b → IsLike b to → Calls p cap abort cs a to
+  calls_to [] a b to some calls like = absurd (omega arith)
+  calls_to (c ∷ cs) a b to some calls like = (calls.0, calls.1, calling_to c calls.0 b to calls.2 like)
+
+  -- ---- a pass
+
+  -- a runner that saw the end of a counter that it had not used has taken a number
+  some_calls : (c : ℕ) (ops : List ℕ) (a b : Runner) → 0 < length ops → Unused c a → IsEnough c ops b → (worked : Worked p cap abort c ops a b) → 0 < length worked.calls
+  some_calls c ops a b some unused enough worked =
+      elim enough [
+        | inl none ↦ absurd (omega arith)
+        | inr last ↦
+            elim (calls_places p cap abort worked.calls a b worked.made c last.0 last.1) [
+              | inl before ↦ (let one = times_some c last.0 (hand_view a).places before in absurd (omega arith))
+              | inr took ↦ let lt : took.0 < length worked.calls = took.1 in omega arith
+            ]
+      ]
+
+  worked_between : (c : ℕ) (ops : List ℕ) (a from b to : Runner) → IsLike a from → IsLike b to → (worked : Worked p cap abort c ops from b) → 0 < length worked.calls → Worked p cap abort c ops a to
+  worked_between c ops a from b to first last worked some = record {
+    calls = worked.calls;
+    made = calls_to worked.calls a b to some (calls_from worked.calls a from b some first worked.made) last;
+    only = worked.only;
+    tried = worked.tried;
+    counted = worked.counted;
+  }
+
+  enough_like : (c : ℕ) (ops : List ℕ) (a b : Runner) → IsLike a b → IsEnough c ops a → IsEnough c ops b
+  enough_like c ops a b like (inl none) = inl none
+  enough_like c ops a b like (inr last) = inr (last.0, subst (λ (v : View). Contains v.places (place c last.0)) (sym like.view) last.1, last.2)
+
+  pub passed_between : (c : ℕ) (ops : List ℕ) (before rs qs after : List Runner) → AreLike before rs → AreLike qs after → 0 < length ops → 0 < length before → ((d : Runner) → Unused c (slice_index_or before 0 d))
+      → IsPassed p cap abort c ops rs qs → ((d : Runner) → IsEnough c ops (slice_index_or qs 0 d)) → IsPassed p cap abort c ops before after
+  passed_between c ops before rs qs after first last full some unused passed saw = record {
+    len = last.len ∙ passed.len ∙ first.len;
+    each = each;
+    enough = (0, some, λ d. enough_like c ops (slice_index_or qs 0 d) (slice_index_or after 0 d) (last.first d) (saw d));
+  }
+    where
+      less : {k : ℕ} → k < length before → k < length rs
+      less {k} lt = subst (λ n. k < n) (sym first.len) lt
+
+      unused_now : (d : Runner) → Unused c (slice_index_or rs 0 d)
+      unused_now d = unused_like (unused d) (first.first d)
+        where
+          unused_like : {a b : Runner} → Unused c a → IsLike a b → Unused c b
+          unused_like {a} {b} none like = subst (λ (v : View). times c v.places ≡ 0) (sym like.view) none
+
+      each : (k : ℕ) (d : Runner) → k < length before → Worked p cap abort c ops (slice_index_or before k d) (slice_index_or after k d)
+      each zero d lt =
+          let worked = passed.each 0 d (less lt) in
+          worked_between c ops (slice_index_or before 0 d) (slice_index_or rs 0 d) (slice_index_or qs 0 d) (slice_index_or after 0 d) (first.first d) (last.first d) worked
+          (some_calls c ops (slice_index_or rs 0 d) (slice_index_or qs 0 d) full (unused_now d) (saw d) worked)
+      each (suc k) d lt =
+          subst (λ b. Worked p cap abort c ops (slice_index_or before (suc k) d) b) (sym (last.others (suc k) d (omega arith)))
+          (subst (λ a. Worked p cap abort c ops a (slice_index_or qs (suc k) d)) (first.others (suc k) d (omega arith)) (passed.each (suc k) d (less lt)))

@@ -1,0 +1,43 @@
+use crate::gate::Gate;
+use std::hint::spin_loop;
+use std::sync::atomic::{AtomicBool, Ordering};
+
+/// A gate that holds one worker for a number of loads at each of its turns from some turn on. Nobody else is held.
+///
+/// A test runs workers under it to see that one who is late, whenever that is, changes nothing of what all come to.
+#[derive(Drop)]
+pub struct HoldGate {
+    worker: u32,
+    turn: u64,
+    loads: u64,
+    /// What a held worker loads.
+    idle: AtomicBool,
+}
+
+impl HoldGate {
+    /// A gate that holds this worker, counted from 1, for `loads` loads at each turn from this one on, counted from 0.
+    pub fn new(worker: u32, turn: u64, loads: u64) -> HoldGate {
+        HoldGate {
+            worker,
+            turn,
+            loads,
+            idle: AtomicBool::new(true),
+        }
+    }
+}
+
+impl Gate for HoldGate {
+    fn pass(&self, worker: u32, turn: u64) {
+        if worker != self.worker || turn < self.turn {
+            return;
+        }
+        for _ in 0..self.loads {
+            if !self.idle.load(Ordering::SeqCst) {
+                return;
+            }
+            spin_loop();
+        }
+    }
+
+    fn done(&self, _worker: u32, _turn: u64) {}
+}

@@ -1,7 +1,8 @@
 //! The four events of these tests, and their plan.
 ghost use Rattle.std.specs.Prelude.{IfOk};
 ghost use Rattle.morph_base.specs.Graphs.{IsValidPlan};
-ghost use Rattle.morph_base.specs.Plans.{PlanKeysIn};
+ghost use Rattle.morph_base.specs.Plans.{HasBases, PlanKeysIn};
+ghost use Rattle.morph_base.specs.States.{opening_state};
 
 use morph_base::{Batch, Event, Func, Key, Layout, List, Op, OutOfMemory, Plan};
 use morph_engine::Engine;
@@ -70,6 +71,7 @@ pub(crate) fn batch_of(alloc: Global, times: &[u64]) -> Result<Batch, OutOfMemor
 pub(crate) fn plan_for(rt: &impl Abort, alloc: Global, batch: &Batch) -> Result<Plan, OutOfMemory>
     ensures plan { IfOk result IsValidPlan }
     ensures keys { IfOk result (λ plan. PlanKeysIn plan LAYOUT) }
+    ensures bases { IfOk result (λ plan. HasBases plan opening_state) }
 {
     assert!(rt; batch.is_valid() && batch.has_keys_in(LAYOUT));
     Engine::new(alloc, LAYOUT)?.plan(alloc, batch)
@@ -79,6 +81,7 @@ pub(crate) fn plan_for(rt: &impl Abort, alloc: Global, batch: &Batch) -> Result<
 pub(crate) fn plan_at(rt: &impl Abort, alloc: Global, times: &[u64]) -> Result<Plan, OutOfMemory>
     ensures plan { IfOk result IsValidPlan }
     ensures keys { IfOk result (λ plan. PlanKeysIn plan LAYOUT) }
+    ensures bases { IfOk result (λ plan. HasBases plan opening_state) }
 {
     plan_for(rt, alloc, &batch_of(alloc, times)?)
 }
@@ -87,6 +90,7 @@ pub(crate) fn plan_at(rt: &impl Abort, alloc: Global, times: &[u64]) -> Result<P
 pub(crate) fn plan(rt: &impl Abort, alloc: Global) -> Result<Plan, OutOfMemory>
     ensures plan { IfOk result IsValidPlan }
     ensures keys { IfOk result (λ plan. PlanKeysIn plan LAYOUT) }
+    ensures bases { IfOk result (λ plan. HasBases plan opening_state) }
 {
     plan_at(rt, alloc, &[1, 2, 3, 4])
 }

@@ -7,6 +7,8 @@
 #![tactic(auto)]
 
 #[cfg(test)]
+mod balances;
+#[cfg(test)]
 mod board;
 #[cfg(test)]
 mod cascading;

@@ -1,12 +1,13 @@
 -- How a batch is read line by line.
-use Rattle.std.proofs.Common.{◌≡◌, ℕ, ◌+◌, true, false, List, [], ◌++◌, length, refl, sym, ◌∙◌, ap, arith, append_assoc, append-nil, Option, Some, None, Ok, Err}
-use Rattle.std.specs.Prelude.{IfSome, option_map, nat_lt}
+use Rattle.std.proofs.Common.{◌≡◌, ℕ, ◌+◌, Bool, true, false, subst, List, [], ◌++◌, length, refl, sym, ◌∙◌, ap, arith, append_assoc, append-nil, Option, Some, None, Ok, Err}
+use Rattle.std.specs.Prelude.{IsTrue, IfSome, option_map, nat_lt}
 use Rattle.std.specs.List.{IsDistinct}
+use Rattle.std.proofs.lemmas.Bool.{true≢false}
 use Rattle.std.proofs.lemmas.Bool.Decides.{nat_tests}
 use Rattle.std.proofs.lemmas.List.Elements.{All-nil}
 use Rattle.morph_base.specs.declared.key.Layout.{Layout}
 use Rattle.morph_base.specs.Transactions.{Transaction, IsTransaction, HasKeysIn}
-use Rattle.morph_io.specs.Told.{ahead, ahead_nil, ahead_ahead, IsAtEnd}
+use Rattle.morph_io.specs.Told.{ahead, ahead_nil, ahead_ahead}
 use Rattle.event_reader.specs.Limits.{longest_line}
 use Rattle.event_reader.specs.declared.cause.Cause.{Cause}
 use Rattle.event_reader.specs.declared.cause.Cause.TheVariants.{Long}
@@ -17,8 +18,8 @@ use Rattle.event_reader.specs.Lines.{Reading, front, within, with_line, IsLongFi
 use Rattle.event_reader.specs.Steps.{Meaning, Step, step_of}
 use Rattle.event_reader.specs.Accepted.{Accepted, Ended, RefusedAt, CutOff, with_batch, led_by, accepted_lines, accepted_from}
 use Rattle.event_reader.specs.Pending.{IsSound}
-use Rattle.event_reader.proofs.Goings.{end_told}
-use Rattle.event_reader.specs.Reader.{LinesView, room, reading_of, Takes, AnswersLine, ShowsLine, accepted_next, accepted_at, AnswersNext, ShowsBatch}
+use Rattle.event_reader.proofs.Goings.{end_told, at_end_for}
+use Rattle.event_reader.specs.Reader.{LinesView, room, left_for, reading_of, Takes, AnswersLine, ShowsLine, accepted_next, accepted_at, AnswersNext, ShowsBatch}
 
 -- what is still to be given is `F` of the lines that come after `now`
 pub record HasReadTo (meaning : Meaning) (closed : ℕ) (before : LinesView) (left : Option (List ℕ)) (F : Reading → Accepted) (now : LinesView) (left' : Option (List ℕ)) : Type 0 where
@@ -29,7 +30,7 @@ pub record HasReadTo (meaning : Meaning) (closed : ℕ) (before : LinesView) (le
   pub unended : now.ended ≡ false → before.ended ≡ false
 
 -- at the start
-pub reads_nothing : (meaning : Meaning) (closed : ℕ) (v : LinesView) (left : Option (List ℕ)) → HasReadTo meaning closed v left (accepted_from meaning v.number closed []) v left
+unfoldable pub reads_nothing : (meaning : Meaning) (closed : ℕ) (v : LinesView) (left : Option (List ℕ)) → HasReadTo meaning closed v left (accepted_from meaning v.number closed []) v left
 reads_nothing meaning closed v left = record {
   told = refl;
   got = [];
@@ -39,11 +40,11 @@ reads_nothing meaning closed v left = record {
 }
 
 -- functions of what is told
-map_map : (F G : Reading → Accepted) (g : Reading → Reading) (o : Option Reading) → ((r : Reading) → F (g r) ≡ G r) → option_map F (option_map g o) ≡ option_map G o
+pub map_map : (F G : Reading → Accepted) (g : Reading → Reading) (o : Option Reading) → ((r : Reading) → F (g r) ≡ G r) → option_map F (option_map g o) ≡ option_map G o
 map_map F G g None same = refl
 map_map F G g (Some r) same = ap Some (same r)
 
-map_same : (F G : Reading → Accepted) (o : Option Reading) → ((r : Reading) → F r ≡ G r) → option_map F o ≡ option_map G o
+pub map_same : (F G : Reading → Accepted) (o : Option Reading) → ((r : Reading) → F r ≡ G r) → option_map F o ≡ option_map G o
 map_same F G None same = refl
 map_same F G (Some r) same = ap Some (same r)
 
@@ -58,7 +59,7 @@ if_told F P all None h same = tt
 if_told F P all (Some r) h same = same r h
 
 -- the same with another function that agrees
-pub reads_as : (meaning : Meaning) (closed : ℕ) (before : LinesView) (left : Option (List ℕ)) (F G : Reading → Accepted) (now : LinesView) (left' : Option (List ℕ))
+unfoldable pub reads_as : (meaning : Meaning) (closed : ℕ) (before : LinesView) (left : Option (List ℕ)) (F G : Reading → Accepted) (now : LinesView) (left' : Option (List ℕ))
     → HasReadTo meaning closed before left F now left' → ((r : Reading) → F r ≡ G r) → HasReadTo meaning closed before left G now left'
 reads_as meaning closed before left F G now left' h same = record {
   told = h.told ∙ map_same F G (reading_of now left') same;
@@ -69,7 +70,7 @@ reads_as meaning closed before left F G now left' h same = record {
 }
 
 -- a line more
-pub reads_line : (meaning : Meaning) (closed : ℕ) (before : LinesView) (left : Option (List ℕ)) (F : Reading → Accepted) (now : LinesView) (left' : Option (List ℕ)) (next : LinesView) (left'' : Option (List ℕ))
+unfoldable pub reads_line : (meaning : Meaning) (closed : ℕ) (before : LinesView) (left : Option (List ℕ)) (F : Reading → Accepted) (now : LinesView) (left' : Option (List ℕ)) (next : LinesView) (left'' : Option (List ℕ))
     → HasReadTo meaning closed before left F now left' → reading_of now left' ≡ option_map (with_line next.line) (reading_of next left'')
     → Takes left' left'' (ShowsLine now (Ok Line) next) → (next.ended ≡ false → now.ended ≡ false)
     → HasReadTo meaning closed before left (λ r. F (with_line next.line r)) next left''
@@ -180,7 +181,7 @@ module _ (m : Meaning) (closed : ℕ) (before : LinesView) (left : Option (List 
   shows_fault_next OutOfMemory closed' h unended takes = takes_more m closed before left (accepted_from m now.number closed batch) now left' left'' _ _ h takes (λ got none. tt)
 
   -- after a line that leads on
-  pub reads_more : (batch' : List Transaction) → Reads m closed before left batch now left' → reading_of now left' ≡ option_map (with_line next.line) (reading_of next left'')
+  unfoldable pub reads_more : (batch' : List Transaction) → Reads m closed before left batch now left' → reading_of now left' ≡ option_map (with_line next.line) (reading_of next left'')
       → Takes left' left'' (ShowsLine now (Ok Line) next) → (next.ended ≡ false → now.ended ≡ false) → next.number ≡ now.number + 1
       → ((n : ℕ) (r : Reading) → accepted_from m n closed batch (with_line next.line r) ≡ accepted_from m (n + 1) closed batch' r)
       → Reads m closed before left batch' next left''
@@ -247,13 +248,24 @@ reads_some m closed before left batch now left' left'' Shows Shows' h takes show
     takes_more m closed before left (accepted_from m now.number closed batch) now left' left'' Shows Shows' h takes (λ got _. shows (h.got ++ got))
 
 -- at the end of the input, with nothing kept
-pub ended_told : (m : Meaning) (closed : ℕ) (v : LinesView) (left : Option (List ℕ)) → v.kept ≡ [] → IsAtEnd left
+pub ended_told : (m : Meaning) (closed : ℕ) (v : LinesView) (left : Option (List ℕ)) → v.kept ≡ [] → IsTrue v.ended
     → IfSome (accepted_at m closed v left) (λ all. all ≡ record { batches = []; ending = Ended })
 unfolding accepted_lines
-ended_told m closed v left none at_end =
-    let same : reading_of v left ≡ option_map (within (room v)) (ahead [] left)
-    = ap (λ kept. option_map (within (room v)) (ahead kept left)) none in
+ended_told m closed v left none done =
+    let same : reading_of v left ≡ option_map (within (room v)) (ahead [] (left_for v left))
+    = ap (λ kept. option_map (within (room v)) (ahead kept (left_for v left))) none in
     let ended : IfSome (reading_of v left) (λ r. r ≡ record { lines = []; cut = false })
-    = rw same (end_told left (room v) at_end) in
+    = rw same (end_told (left_for v left) (room v) (at_end_for v left done)) in
     if_told (accepted_next m closed v) (λ r. r ≡ record { lines = []; cut = false }) (record { batches = []; ending = Ended })
     (reading_of v left) ended (λ r is. ap (accepted_next m closed v) is)
+
+-- an input that has ended stays so
+pub stays_ended : (old new : Bool) → (new ≡ false → old ≡ false) → IsTrue old → IsTrue new
+stays_ended old true stays ended = refl
+stays_ended old false stays ended = absurd (true≢false (sym ended ∙ stays refl))
+
+-- where the end came in one of two calls, a source that is left alone after the end is there
+pub ends_later : {S : Type 0} (P : S → Type 0) (old now new : Bool) (before after : S) → (old ≡ false → IsTrue now → P before)
+    → (now ≡ false → IsTrue new → P after) → (IsTrue now → after ≡ before) → old ≡ false → IsTrue new → P after
+ends_later P old true new before after first second idle unended ended = subst P (sym (idle refl)) (first unended refl)
+ends_later P old false new before after first second idle unended ended = second refl ended

@@ -1,15 +1,16 @@
 -- What the bytes kept decide.
-use Rattle.std.proofs.Common.{◌≡◌, ℕ, ◌+◌, ◌<◌, ◌≤◌, Bool, true, false, nat_le, List, [], ◌∷◌, ◌++◌, length, take, drop, refl, sym, ◌∙◌, ap, subst, arith, append-nil}
+use Rattle.std.proofs.Common.{◌≡◌, ℕ, ◌+◌, ◌<◌, ◌≤◌, Bool, true, false, nat_le, if◌then◌else◌, List, [], ◌∷◌, ◌++◌, length, take, drop, refl, sym, ◌∙◌, ap, subst, arith, append-nil}
 use Rattle.std.specs.List.{All}
 use Rattle.std.specs.Prelude.{slice_index}
 use Rattle.std.proofs.lemmas.Bool.{true≢false}
 use Rattle.std.proofs.lemmas.Bool.Decides.{nat_tests}
-use Rattle.std.proofs.lemmas.List.{take-take, length-take, drop_all}
+use Rattle.std.proofs.lemmas.List.{take-take, length-take, drop_all, take_more}
+use Rattle.std.proofs.lemmas.List.Sums.{fold-append}
 use Rattle.memchr.specs.Find.{NoneBefore, Passes}
 use Rattle.event_reader.specs.Limits.{deciding_bytes}
 use Rattle.event_reader.specs.declared.decision.Decision.{Decision}
 use Rattle.event_reader.specs.declared.decision.Decision.TheVariants.{Line, Long, End, Open}
-use Rattle.event_reader.specs.Lines.{is_line_feed, without_cr, last_if, lines_of, decided_lines, IsLongFirst}
+use Rattle.event_reader.specs.Lines.{is_line_feed, behind_last_feed, without_cr, last_if, lines_of, decided_lines, IsLongFirst}
 use Rattle.event_reader.specs.Decisions.{DecidesLine, DecidesLong, DecidesNone, Decides, DecidesPiece}
 use Rattle.event_reader.proofs.Cutting.{none_pass_before, split_at_place, lines_by, line_at, lines_open, long_open}
 
@@ -43,6 +44,8 @@ decides_at kept ended at (Line len used) first is d = subst (λ u. DecidesLine k
       inside = omega (arith, inside);
       some = omega arith;
       held = omega (arith, first.high);
+      whole = λ unended. ap behind_last_feed (take_more kept at 0 first.high ∙ ap (λ b. take at kept ++ b ∷ []) is)
+          ∙ fold-append (λ behind b. if is_line_feed b then [] else behind ++ b ∷ []) [] (take at kept) (10 ∷ []);
       all = λ rest follows. rw text (first_line has_bytes kept rest at first is);
       open_end = λ unended rest. rw text (first_line is_overlong kept rest at first is);
     }
@@ -92,6 +95,7 @@ decides_last kept ended (Line len used) none some done is = subst (λ u. Decides
       inside = is.1;
       some = some;
       held = omega arith;
+      whole = λ unended. absurd (true≢false (sym done ∙ unended));
       all = λ rest follows. at_end rest (follows done);
       open_end = λ unended rest. absurd (true≢false (sym done ∙ unended));
     }

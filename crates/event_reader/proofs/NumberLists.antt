@@ -12,9 +12,7 @@ use Rattle.std.proofs.lemmas.List.Folds.{list_all_at, list_all_more}
 use Rattle.event_reader.specs.Limits.{greatest_number}
 use Rattle.event_reader.specs.declared.ranges.Range.{Range}
 use Rattle.event_reader.specs.declared.cause.Cause.TheVariants.{Range as OutOfRange}
-use Rattle.event_reader.specs.Numbers.{is_number, value_of, cut_value, cut_number, is_in, are_in, numbers_in, has_form, AreCutNumbers}
-use Rattle.std.specs.Prelude.{◌==◌}
-use Rattle.std.specs.Str.{bytes_eq}
+use Rattle.event_reader.specs.Numbers.{is_number, value_of, cut_value, cut_number, is_in, are_in, numbers_in, AreCutNumbers}
 use Rattle.event_reader.specs.Reader.{IsOfWords}
 
 -- the numbers from a place on are in their ranges
@@ -166,12 +164,6 @@ numbers_causes ranges words cause is = by_tests (list_all is_number words) (are_
     by_tests false fits is = let same : Form ≡ cause = cc in subst IsOfWords same tt
     by_tests true false is = let same : OutOfRange ≡ cause = cc in subst IsOfWords same tt
     by_tests true true is = absurd (cc)
-
--- words of a form are one more than its numbers
-pub form_length : (letter count : ℕ) (words : List (List ℕ)) → has_form letter count words ≡ true → length words ≡ count + 1
-form_length letter count words is =
-    let parts = and_true (length words == count + 1) (bytes_eq (get_or words 0 []) (letter ∷ [])) is in
-    grind (arith, nat_tests, parts.0)
 
 -- a number between the ends of a range is in it
 pub in_range : (range : Range) (n : ℕ) → range.least ≤ n → n ≤ range.greatest → is_in range n ≡ true

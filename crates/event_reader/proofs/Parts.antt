@@ -4,6 +4,7 @@ use Rattle.std.specs.List.{list_all}
 use Rattle.std.proofs.lemmas.Bool.Decides.{nat_tests}
 use Rattle.std.proofs.lemmas.List.{map-set, take_more_set, length-map}
 use Rattle.std.proofs.lemmas.List.Folds.{list_all-append}
+use Rattle.event_reader.specs.Limits.{line_words}
 use Rattle.event_reader.specs.Words.{parts_of, is_space, is_word, words_of}
 use Rattle.event_reader.proofs.Cutting.{some_piece}
 
@@ -20,22 +21,22 @@ pub words_more : (words : List (List ℕ)) (word : List ℕ) → list_all is_wor
 words_more words word all one = list_all-append is_word words (word ∷ []) ∙ rw (all, one) refl
 
 -- parts that are words, and few enough, are the words of the line
-pub words_are : (line : List ℕ) (parts : List (List ℕ)) → parts_of line ≡ parts → list_all is_word parts ≡ true → length parts ≤ 8
+pub words_are : (line : List ℕ) (parts : List (List ℕ)) → parts_of line ≡ parts → list_all is_word parts ≡ true → length parts ≤ line_words
     → words_of line ≡ Some parts
 words_are line parts is all few =
-    let passes : nat_le (length parts) 8 ≡ true = grind (arith, nat_tests) in
+    let passes : nat_le (length parts) line_words ≡ true = grind (arith, nat_tests) in
     rw is (rw (all, passes) refl)
 
--- eight parts and more are too many
-pub too_many : (line rest : List ℕ) (parts : List (List ℕ)) → parts_of line ≡ parts ++ parts_of rest → 8 ≤ length parts → words_of line ≡ None
+-- more parts than that are too many
+pub too_many : (line rest : List ℕ) (parts : List (List ℕ)) → parts_of line ≡ parts ++ parts_of rest → line_words ≤ length parts → words_of line ≡ None
 too_many line rest parts is many =
     let some = some_piece is_space rest in
-    let more : 8 < length (parts_of line) = rw (is, some.2) (omega (arith, length-append parts (some.0 ∷ some.1))) in
-    let fails : nat_le (length (parts_of line)) 8 ≡ false = grind (arith, nat_tests) in
+    let more : line_words < length (parts_of line) = rw (is, some.2) (omega (arith, length-append parts (some.0 ∷ some.1))) in
+    let fails : nat_le (length (parts_of line)) line_words ≡ false = grind (arith, nat_tests) in
     by_first (list_all is_word (parts_of line)) fails
   where
-    by_first : (all : Bool) → nat_le (length (parts_of line)) 8 ≡ false
-        → (if all && nat_le (length (parts_of line)) 8 then Some (parts_of line) else None) ≡ None
+    by_first : (all : Bool) → nat_le (length (parts_of line)) line_words ≡ false
+        → (if all && nat_le (length (parts_of line)) line_words then Some (parts_of line) else None) ≡ None
     by_first true fails = rw fails refl
     by_first false fails = refl
 

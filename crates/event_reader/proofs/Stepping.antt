@@ -94,20 +94,26 @@ differs (f ∷ batch) ts none =
     let parts = or_parts (f.ts == ts) (has_time batch ts) none in
     (nat_eq_flips ts f.ts ∙ parts.0, differs batch ts parts.1)
 
+-- with an event of a new time the times of a batch still differ
+pub distinct_more : (batch : List Transaction) (e : Transaction) → has_time batch e.ts ≡ false → IsDistinct nat_eq (map time batch)
+    → IsDistinct nat_eq (map time (batch ++ e ∷ []))
+distinct_more batch e fresh distinct =
+    let apart : IsDistinct nat_eq (e.ts ∷ map time batch) = IsDistinct-cons nat_eq e.ts (map time batch) (differs batch e.ts fresh) distinct in
+    rw map_push
+    (IsDistinct-IsPermutation nat_eq nat_eq_flips (e.ts ∷ map time batch) (map time batch ++ e.ts ∷ [])
+    (IsPermutation-sym _ _ (IsPermutation-to_front (map time batch) e.ts)) apart)
+
 -- a batch with one event more stays sound
 pub sound_more : (layout : Layout) (closed : ℕ) (batch : List Transaction) (e : Transaction) (batch' : List Transaction) → IsSound layout batch
     → IsTransaction e → HasKeysIn layout e → joining closed batch e ≡ Adds e → batch' ≡ batch ++ e ∷ [] → IsSound layout batch'
 sound_more layout closed batch e batch' h valid keys joins more =
     let when = joins_when e (nat_le e.ts closed) (has_time batch e.ts) (nat_le EVENTS (length batch)) joins in
     let few : length batch < EVENTS = grind (arith, nat_tests, when.1) in
-    let apart : IsDistinct nat_eq (e.ts ∷ map time batch) = IsDistinct-cons nat_eq e.ts (map time batch) (differs batch e.ts when.0) h.valid.times in
     rw more record {
       valid = record {
         few = omega (arith, length-append batch (e ∷ []));
         valid = All-push IsTransaction batch e h.valid.valid valid;
-        times = rw map_push
-            (IsDistinct-IsPermutation nat_eq nat_eq_flips (e.ts ∷ map time batch) (map time batch ++ e.ts ∷ [])
-            (IsPermutation-sym _ _ (IsPermutation-to_front (map time batch) e.ts)) apart);
+        times = distinct_more batch e when.0 h.valid.times;
       };
       keys = All-push (HasKeysIn layout) batch e h.keys keys;
     }

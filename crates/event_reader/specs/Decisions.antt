@@ -3,19 +3,21 @@ use Rattle.std.specs.Prelude.{◌≡◌, ℕ, ◌<◌, ◌≤◌, Bool, false, I
 use Rattle.event_reader.specs.Limits.{longest_line, deciding_bytes}
 use Rattle.event_reader.specs.declared.decision.Decision.{Decision}
 use Rattle.event_reader.specs.declared.decision.Decision.TheVariants.{Line, Long, End, Open}
-use Rattle.event_reader.specs.Lines.{lines_of, decided_lines, without_cr, IsLongFirst}
+use Rattle.event_reader.specs.Lines.{lines_of, decided_lines, behind_last_feed, without_cr, IsLongFirst}
 
 -- nothing follows where the source came to its end
 abbrev pub MayFollow : (ended : Bool) → List ℕ → Type 0
 MayFollow ended rest = IsTrue ended → rest ≡ []
 
--- the first line is the first `len` of the bytes kept, and with its end it takes up `used` of them
+-- the first line is the first `len` of the bytes kept, and with its end, an LF where more may follow, it takes up `used` of
+-- them
 pub record DecidesLine (kept : List ℕ) (ended : Bool) (len used : ℕ) : Type 0 where
   pub short : len ≤ longest_line
   pub inside : len ≤ used
   pub some : 0 < used
   pub held : used ≤ length kept
   pub all : (rest : List ℕ) → MayFollow ended rest → lines_of (kept ++ rest) ≡ take len kept ∷ lines_of (drop used kept ++ rest)
+  pub whole : ended ≡ false → behind_last_feed (take used kept) ≡ []
   pub open_end : ended ≡ false → (rest : List ℕ) → decided_lines (kept ++ rest) ≡ take len kept ∷ decided_lines (drop used kept ++ rest)
 
 -- the first line is too long

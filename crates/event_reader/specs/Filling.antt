@@ -1,9 +1,11 @@
 -- What a reader of lines has after it asked its source for more bytes.
-use Rattle.std.specs.Prelude.{◌≡◌, ℕ, ◌+◌, ◌<◌, ◌≤◌, false, IsTrue, List, [], ◌∷◌, ◌++◌, length, Option, Result, Ok, Err}
+use Rattle.std.specs.Prelude.{◌≡◌, ℕ, ◌+◌, ◌-◌, ◌<◌, ◌≤◌, true, false, IsTrue, List, [], ◌∷◌, ◌++◌, length, Option, Result, Ok, Err}
 use Rattle.morph_io.specs.Told.{ahead, IsAtEnd}
 use Rattle.event_reader.specs.declared.fault.ReaderFault.{ReaderFault}
 use Rattle.event_reader.specs.declared.fault.ReaderFault.TheVariants.{ReadFault, TooLong, OutOfMemory}
+use Rattle.morph_io.specs.declared.source.ReadFailed.{ReadFailed}
 use Rattle.event_reader.specs.Reader.{LinesView}
+use Rattle.event_reader.specs.Asking.{AsksOnce}
 
 -- it keeps `got` more bytes, or the source came to its end
 pub record KeepsMore (before : LinesView) (left : Option (List ℕ)) (after : LinesView) (left' : Option (List ℕ)) : Type 0 where
@@ -40,3 +42,17 @@ Fills before left (Ok _) after left' = KeepsMore before left after left'
 Fills before left (Err ReadFault) after left' = KeepsAll before after × (left ≡ left')
 Fills before left (Err TooLong) after left' = KeepsAll before after × GivesMore left left' × (after.taken ≡ after.limit)
 Fills before left (Err OutOfMemory) after left' = ⊥
+
+-- it was filled by one read, whose bytes it keeps, and which was the last where the input ended or it was refused
+pub record KeepsRead {S : Type 0} (left_of : S → Option (List ℕ)) (reads : S → ℕ → Result ℕ ReadFailed → S → Type 0) (before : LinesView) (source : S) (after : LinesView) (source' : S) : Type 0 where
+  pub bytes : List ℕ
+  pub asks : AsksOnce left_of reads (length before.kept) (before.limit - before.taken) source bytes after.ended source'
+  pub kept : after.kept ≡ before.kept ++ bytes
+  pub room : after.limit - after.taken ≡ before.limit - before.taken - length bytes
+
+abbrev pub FillsBy : {S : Type 0} → (S → Option (List ℕ)) → (S → ℕ → Result ℕ ReadFailed → S → Type 0) → LinesView → S → Result (Unit {0}) ReaderFault → LinesView → S → Type 0
+FillsBy left_of reads before source (Ok _) after source' = KeepsRead left_of reads before source after source'
+FillsBy left_of reads before source (Err ReadFault) after source' =
+    AsksOnce left_of reads (length before.kept) (before.limit - before.taken) source [] true source'
+FillsBy left_of reads before source (Err _) after source' =
+    (bytes : List ℕ) × AsksOnce left_of reads (length before.kept) (before.limit - before.taken) source bytes true source'

@@ -4,7 +4,10 @@ pub mod Words
 pub mod Lines
 pub mod Steps
 pub mod Accepted
+pub mod LineEvents
+pub mod FirstRefused
 pub mod Reader
+pub mod Asking
 pub mod Decisions
 pub mod Reading
 pub mod Buffers
@@ -16,5 +19,8 @@ pub mod Draws
 pub mod PlainLines
 pub mod Generated
 pub mod Ranges
+pub mod Forms
 pub mod GeneratedText
 pub mod Generating
+pub mod Counter
+pub mod CounterLaws

@@ -1,5 +1,5 @@
 -- The limits of an input and of a generated text. The code's constants of the same names are checked against them.
-use Rattle.std.specs.Prelude.{ℕ, ◌+◌}
+use Rattle.std.specs.Prelude.{ℕ}
 
 -- the most bytes of a line, its LF and one CR at its end not counted
 abbrev pub longest_line : ℕ
@@ -8,6 +8,10 @@ longest_line = 1000
 -- so many bytes without an LF show that their line is too long, with or without a CR at its end
 abbrev pub deciding_bytes : ℕ
 deciding_bytes = 1002
+
+-- how many bytes a reader keeps at most between the source and its lines
+abbrev pub buffer_bytes : ℕ
+buffer_bytes = 4096
 
 -- the most words of an event line
 abbrev pub line_words : ℕ

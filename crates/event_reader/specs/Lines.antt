@@ -1,5 +1,5 @@
 -- How bytes are cut into lines.
-use Rattle.std.specs.Prelude.{◌≡◌, ℕ, ◌-◌, ◌<◌, Bool, true, false, ◌==◌, nat_le, if◌then◌else◌, List, [], ◌∷◌, length, take, map, slice_index}
+use Rattle.std.specs.Prelude.{◌≡◌, ℕ, ◌-◌, ◌<◌, Bool, true, false, ◌==◌, nat_le, fold, if◌then◌else◌, List, [], ◌∷◌, ◌++◌, length, take, map, slice_index}
 use Rattle.std.specs.List.{slice_split}
 use Rattle.event_reader.specs.Limits.{longest_line, deciding_bytes}
 
@@ -9,6 +9,10 @@ is_line_feed b = b == 10
 -- the bytes cut at each LF: every piece but the last ends at one, and the last is what stands after the last LF
 abbrev pub pieces : List ℕ → List (List ℕ)
 pieces bytes = slice_split is_line_feed bytes
+
+-- the bytes behind the last LF
+abbrev pub behind_last_feed : List ℕ → List ℕ
+behind_last_feed bytes = fold (λ behind b. if is_line_feed b then [] else behind ++ b ∷ []) [] bytes
 
 -- the pieces, with the last one only where it passes a test
 unfoldable pub last_if : (List ℕ → Bool) → List (List ℕ) → List (List ℕ)

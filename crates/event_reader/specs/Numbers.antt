@@ -1,10 +1,9 @@
 -- What words say as numbers.
-use Rattle.std.specs.Prelude.{◌≡◌, ℕ, ◌+◌, Bool, true, not, ◌&&◌, ◌||◌, ◌==◌, nat_le, min, if◌then◌else◌, List, [], ◌∷◌, length, map, slice_index, slice_index_or, Option, Some, None, Result, Ok, Err}
+use Rattle.std.specs.Prelude.{◌≡◌, ℕ, ◌+◌, Bool, true, not, ◌&&◌, ◌||◌, ◌==◌, nat_le, min, if◌then◌else◌, List, [], ◌∷◌, length, map, slice_index, Option, Some, None, Result, Ok, Err}
 use Rattle.std.specs.Char.{is_ascii_digit}
 use Rattle.std.specs.List.{list_all}
 use Rattle.std.specs.Str.Parse.{digits_value}
 use Rattle.event_reader.specs.Limits.{greatest_number}
-use Rattle.std.specs.Str.{bytes_eq}
 use Rattle.event_reader.specs.declared.cause.Cause.{Cause}
 use Rattle.event_reader.specs.declared.cause.Cause.TheVariants.{Form, Range as OutOfRange}
 use Rattle.event_reader.specs.declared.number.Number.{Number}
@@ -52,7 +51,3 @@ cut_number word = if is_number word then Some (cut_value word) else None
 pub record AreCutNumbers (words : List (List ℕ)) (numbers : List ℕ) : Type 0 where
   pub all : list_all is_number words ≡ true
   pub values : numbers ≡ map cut_value words
-
--- whether words are one letter and so many more words
-abbrev pub has_form : (letter count : ℕ) → List (List ℕ) → Bool
-has_form letter count words = length words == count + 1 && bytes_eq (slice_index_or words 0 []) (letter ∷ [])

@@ -4,12 +4,17 @@ use Rattle.morph_base.specs.declared.limits.TheConstants.{MAX}
 use Rattle.morph_base.specs.Limits.{latest_time}
 use Rattle.event_reader.specs.declared.ranges.Range.{Range}
 
--- a timestamp, an id where each table has `size` of them, and an amount
+-- a timestamp, and an amount
 abbrev pub times : Range
 times = record { least = 1; greatest = latest_time }
 
-abbrev pub ids : (size : ℕ) → Range
-ids size = record { least = 0; greatest = size - 1 }
-
 abbrev pub amounts : Range
 amounts = record { least = 0; greatest = MAX }
+
+-- an id where each table has `size` of them. Where it has none, 1 - 0 is above 0 - 1, which is 0, and no number is one
+abbrev pub ids : (size : ℕ) → Range
+ids size = record { least = 1 - size; greatest = size - 1 }
+
+-- no number
+abbrev pub nothing : Range
+nothing = record { least = 1; greatest = 0 }

@@ -1,5 +1,5 @@
 -- What contracts see of a reader, and what its answers say.
-use Rattle.std.specs.Prelude.{◌≡◌, ℕ, ◌+◌, ◌-◌, ◌<◌, ◌≤◌, Bool, true, false, List, [], ◌++◌, length, Option, option_map, IfSome, Result, Ok, Err}
+use Rattle.std.specs.Prelude.{◌≡◌, ℕ, ◌+◌, ◌-◌, ◌<◌, ◌≤◌, Bool, true, false, if◌then◌else◌, List, [], ◌++◌, length, Option, option_map, IfSome, Result, Ok, Err}
 use Rattle.morph_base.specs.declared.key.Layout.{Layout}
 use Rattle.morph_base.specs.Transactions.{Transaction, IsTransaction, HasKeysIn, IsBatch, BatchKeysIn, transactions_of, transaction_of}
 use Rattle.morph_base.specs.declared.event.Event.{Event}
@@ -35,7 +35,7 @@ IsOfWords _ = ⊥
 -- every event that an application's words say is valid, and has its keys in the application's tables
 abbrev pub GivesValid : {App : Type 0} → (table_count : App → ℕ) → (App → ℕ → Meaning) → Type 0
 GivesValid {App} table_count event_of =
-    (app : App) (size : ℕ) (words : List (List ℕ)) (e : Transaction) → 0 < size → event_of app size words ≡ Ok e
+    (app : App) (size : ℕ) (words : List (List ℕ)) (e : Transaction) → event_of app size words ≡ Ok e
     → IsTransaction e × HasKeysIn (record { tables = table_count app; size = size }) e
 
 -- a reader of lines: the bytes that it took and gave no line of yet, the line that it gave last, how many lines it gave,
@@ -57,9 +57,14 @@ new_lines limit = record { kept = []; line = []; number = 0; taken = 0; limit = 
 abbrev pub room : LinesView → ℕ
 room v = length v.kept + (v.limit - v.taken)
 
+-- the bytes that it may still be given by a source that has `left`: none where it came to the end of its input, whatever
+-- the source has left
+abbrev pub left_for : LinesView → Option (List ℕ) → Option (List ℕ)
+left_for v left = if v.ended then option_map (λ _. []) left else left
+
 -- the lines that it has still to give, where the source tells its bytes
 abbrev pub reading_of : LinesView → Option (List ℕ) → Option Reading
-reading_of v left = option_map (within (room v)) (ahead v.kept left)
+reading_of v left = option_map (within (room v)) (ahead v.kept (left_for v left))
 
 -- bytes were taken from a source, and they show something
 pub record Takes (old new : Option (List ℕ)) (Shows : List ℕ → Type 0) : Type 0 where

@@ -40,7 +40,6 @@ pub trait EventApp {
 
     /// Reads the words of an event line, where each table has `size` ids.
     fn read_event(&self, alloc: Global, words: &Words<'_>, size: u32) -> Result<Event, LineFault>
-        requires { 1 ≤ size }
         ensures { GivesEvent (event_of self.now size words.now) result };
 
     /// Writes the line of event `i` without its LF into an empty buffer, by draws in their order, where each table has

@@ -1,6 +1,7 @@
 ghost use Rattle.std.specs.Prelude.{◌≡◌, ℕ, ◌+◌, ◌≤◌, [], IsTrue, IfOk, IsErrOf, false};
 ghost use Rattle.morph_io.specs.Told.{IsAtEnd, HasRisen};
 ghost use Rattle.event_reader.specs.Reader.{accepted_at, AnswersNext, ShowsBatch, Takes, IsValidNext, event_count, goes_on};
+ghost use Rattle.event_reader.specs.Asking.{AsksForBatch};
 
 use crate::answers::{LineNext, Next};
 use crate::app::EventApp;
@@ -23,22 +24,23 @@ fn read_batch<A: EventApp, S: Source>(
     lines: &mut Lines,
     source: &mut S,
 ) -> Result<Next, ReaderFault>
-    requires size { 1 ≤ size }
     requires live { IsTrue lines.old.live }
-    requires end { IsTrue lines.old.ended → IsAtEnd (S.left source.old) }
     ensures answers { AnswersNext (accepted_at (A.event_of app.now size) closed.old lines.old (S.left source.old)) result (accepted_at (A.event_of app.now size) closed.new lines.new (S.left source.new)) }
     ensures shows { Takes (S.left source.old) (S.left source.new) (ShowsBatch (A.event_of app.now size) closed.old lines.old result closed.new lines.new) }
     ensures valid { IfOk result (IsValidNext (record { tables = A.table_count app.now; size = size })) }
     ensures counted { IfOk result (λ next. lines.old.number + event_count next ≤ lines.new.number) }
     ensures bound { lines.new.number ≤ lines.new.limit + 1 }
     ensures limit { lines.new.limit ≡ lines.old.limit }
-    ensures at_end { IsTrue lines.new.ended → IsAtEnd (S.left source.new) }
+    ensures numbered { lines.old.number ≤ lines.new.number }
+    ensures at_end { lines.old.ended ≡ false → IsTrue lines.new.ended → IsAtEnd (S.left source.new) }
+    ensures idle { IsTrue lines.old.ended → source.new ≡ source.old }
     ensures unended { lines.new.ended ≡ false → lines.old.ended ≡ false }
     ensures done { IsTrue (goes_on result) → lines.new.live ≡ false → (lines.new.kept ≡ []) × IsTrue lines.new.ended }
     ensures full { IsErrOf result ReaderFault.TooLong → lines.new.taken ≡ lines.new.limit }
     ensures asked { IsErrOf result ReaderFault.ReadFault → lines.old.ended ≡ false }
     ensures never_falls { S.faults source.old ≤ S.faults source.new }
     ensures cause { IsErrOf result ReaderFault.ReadFault → HasRisen (S.faults source.old) (S.faults source.new) }
+    ensures asks { AsksForBatch S.left S.reads (A.event_of app.now size) closed.old lines.old source.old result lines.new source.new }
 {
     let mut pending = Pending::new(alloc, *closed);
     'lines: loop {
@@ -107,13 +109,13 @@ impl<A> Model for BatchReader<A> {
 
 impl<A: EventApp> BatchReader<A> {
     ghost use Rattle.event_reader.specs.Limits.{input_bytes};
+    ghost use Rattle.event_reader.specs.Asking.{AsksForNext};
     ghost use Rattle.event_reader.specs.Reader.{ReaderView, new_reader, accepted_by, ShowsNext};
 
     /// A reader for an application whose tables have `size` ids each, of an input of at most `limit` bytes.
     pub fn new(alloc: Global, app: A, size: u32, limit: u64) -> Result<Self, OutOfMemory>
     where
         A: Drop,
-        requires size { 1 ≤ size }
         requires some { 1 ≤ limit }
         requires bound { limit ≤ input_bytes }
         ensures { IfOk result (λ reader. reader ≡ new_reader app size limit) }
@@ -129,7 +131,9 @@ impl<A: EventApp> BatchReader<A> {
 
     /// Whether it may be asked for a batch: every answer so far was a [`Next::Batch`].
     pub fn live(&self) -> bool
-        ensures { result ≡ self.now.live }
+        ensures live { result ≡ self.now.live }
+        ensures bound { self.now.lines.number ≤ self.now.lines.limit + 1 }
+        ensures limit { self.now.lines.limit ≤ input_bytes }
     {
         self.live
     }
@@ -147,7 +151,6 @@ impl<A: EventApp> BatchReader<A> {
         source: &mut S,
     ) -> Result<Next, ReaderFault>
         requires live { IsTrue self.old.live }
-        requires end { IsTrue self.old.lines.ended → IsAtEnd (S.left source.old) }
         ensures answers { AnswersNext (accepted_by A.event_of self.old (S.left source.old)) result (accepted_by A.event_of self.new (S.left source.new)) }
         ensures shows { Takes (S.left source.old) (S.left source.new) (ShowsNext A.event_of self.old result self.new) }
         ensures valid { IfOk result (IsValidNext (record { tables = A.table_count self.old.app; size = self.old.size })) }
@@ -155,13 +158,16 @@ impl<A: EventApp> BatchReader<A> {
         ensures bound { self.new.lines.number ≤ self.new.lines.limit + 1 }
         ensures same { (self.new.app ≡ self.old.app) × (self.new.size ≡ self.old.size)
             × (self.new.lines.limit ≡ self.old.lines.limit) }
-        ensures at_end { IsTrue self.new.lines.ended → IsAtEnd (S.left source.new) }
+        ensures numbered { self.old.lines.number ≤ self.new.lines.number }
+        ensures at_end { self.old.lines.ended ≡ false → IsTrue self.new.lines.ended → IsAtEnd (S.left source.new) }
+        ensures idle { IsTrue self.old.lines.ended → source.new ≡ source.old }
         ensures unended { self.new.lines.ended ≡ false → self.old.lines.ended ≡ false }
         ensures goes_on { self.new.live ≡ goes_on result }
         ensures full { IsErrOf result ReaderFault.TooLong → self.new.lines.taken ≡ self.new.lines.limit }
         ensures asked { IsErrOf result ReaderFault.ReadFault → self.old.lines.ended ≡ false }
         ensures never_falls { S.faults source.old ≤ S.faults source.new }
         ensures cause { IsErrOf result ReaderFault.ReadFault → HasRisen (S.faults source.old) (S.faults source.new) }
+        ensures asks { AsksForNext S.left S.reads A.event_of self.old source.old result self.new source.new }
     {
         self.live = false;
         if !self.lines.live() {

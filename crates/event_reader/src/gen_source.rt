@@ -1,4 +1,5 @@
 ghost use Rattle.std.specs.Prelude.{◌≡◌, ◌+◌, ◌<◌, ◌≤◌, [], ◌++◌, length, take, Some, IsOk, IfOk};
+ghost use Rattle.morph_io.specs.InMemory.{Gives};
 ghost use Rattle.event_reader.specs.Limits.{generated_events, generated_ids};
 ghost use Rattle.event_reader.specs.GeneratedText.{with_end, new_generator, generated_left};
 
@@ -116,6 +117,9 @@ impl<A: EventApp> Source for GenSource<A> {
     ghost left = { λ source. Some (generated_left A.generated source) };
 
     ghost faults = { λ _. 0 };
+
+    ghost reads = { λ old asked answer new.
+        Gives (generated_left A.generated old) asked answer (generated_left A.generated new) };
 
     /// Gives as much of one line as the buffer has room for. It never fails.
     fn read(&mut self, buf: &mut [u8]) -> Result<usize, ReadFailed>

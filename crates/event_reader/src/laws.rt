@@ -1,7 +1,14 @@
 //! Laws of definitions that callers of this crate cite.
-ghost use Rattle.std.specs.Prelude.{◌≡◌, ℕ, ◌<◌, ◌≤◌, length, sum_by};
+ghost use Rattle.std.specs.Prelude.{◌≡◌, ℕ, ◌<◌, ◌≤◌, ◌↔◌, nat_eq, List, [], map, flat_map, length, sum_by};
+ghost use Rattle.std.specs.List.{All, AllPairs, IsDistinct};
+ghost use Rattle.morph_base.specs.Transactions.{time};
+ghost use Rattle.event_reader.specs.declared.cause.Cause.{Cause};
+ghost use Rattle.event_reader.specs.Lines.{Reading, lines_of};
+ghost use Rattle.event_reader.specs.Steps.{Meaning};
+ghost use Rattle.event_reader.specs.LineEvents.{IsBefore, batches_said, events_said};
+ghost use Rattle.event_reader.specs.FirstRefused.{HasWordCauses, IsFirstRefused};
 ghost use Rattle.event_reader.specs.Limits.{generated_events, generated_ids, input_bytes};
-ghost use Rattle.event_reader.specs.Accepted.{Ended, accepted, accepted_within};
+ghost use Rattle.event_reader.specs.Accepted.{Ended, RefusedAt, accepted, accepted_from, accepted_within};
 ghost use Rattle.event_reader.specs.GeneratedText.{generated_text};
 
 use crate::app::EventApp;
@@ -20,4 +27,30 @@ pub fn generated_text_is_accepted<A: EventApp>()
     ensures within { (app : A) (size seed events : ℕ) → 0 < size → size ≤ generated_ids → events ≤ generated_events
         → let text = generated_text (A.generated app size) seed events in
         accepted_within (A.event_of app size) input_bytes text ≡ accepted (A.event_of app size) text }
+{}
+
+/// The batches of an input of which no line is refused are the events between its punctuations, where there are any.
+/// One after another they are all events that its lines say, in order.
+pub fn batches_stand_between_punctuations()
+    ensures between { (meaning : Meaning) (input : List ℕ) → (accepted meaning input).ending ≡ Ended
+        → (accepted meaning input).batches ≡ batches_said meaning (lines_of input) }
+    ensures joined { (meaning : Meaning) (input : List ℕ) → (accepted meaning input).ending ≡ Ended
+        → flat_map (λ batch. batch) (accepted meaning input).batches ≡ events_said meaning (lines_of input) }
+{}
+
+/// Every event of a batch comes before every one of a later batch, and the events of a batch have different
+/// timestamps, of whatever lines are read.
+pub fn timestamps_rise_from_batch_to_batch()
+    ensures later { (meaning : Meaning) (reading : Reading)
+        → AllPairs IsBefore (accepted_from meaning 0 0 [] reading).batches }
+    ensures apart { (meaning : Meaning) (reading : Reading)
+        → All (λ batch. IsDistinct nat_eq (map time batch)) (accepted_from meaning 0 0 [] reading).batches }
+{}
+
+/// A line is refused exactly where it is the first to which a cause applies, and its cause is the least that does, in
+/// the order long, form, range, same, late, twice, full.
+pub fn the_first_line_with_a_cause_is_refused()
+    ensures { (meaning : Meaning) (reading : Reading) (line : ℕ) (cause : Cause) → HasWordCauses meaning
+        → ((accepted_from meaning 0 0 [] reading).ending ≡ RefusedAt line cause
+        ↔ IsFirstRefused meaning reading.lines line cause) }
 {}

@@ -15,10 +15,10 @@
 //! };
 //! ```
 //!
-//! An application reads its numbers by [`Words::numbers`], each within a [`Range`], and writes lines of its own for
-//! tests of any size: a [`GenSource`] is a source of its generated text, of which [`laws`] say that no line is
-//! refused. [`Draws`] are the random numbers of that, and [`write_line`] puts a line of a letter and numbers into a
-//! buffer.
+//! An application has a [`Form`] for each kind of line, reads its numbers by [`Words::read`], each within a [`Range`],
+//! and writes lines of its own for tests of any size: a [`GenSource`] is a source of its generated text, of which
+//! [`laws`] say that no line is refused. [`Draws`] are the random numbers of that, and [`write_line`] puts a line of a
+//! letter and numbers into a buffer.
 //!
 //! The definitions stand in `specs/`: `Accepted` has the batches of an input, `Steps` what a line does. Below stand
 //! `morph_io`, whose sources give the bytes, `morph_base`, whose events and batches are made, and the kit's `memchr`
@@ -27,16 +27,22 @@
 
 mod answers;
 mod app;
+#[cfg(test)]
+mod batch_tests;
 mod batches;
 mod cause;
+#[cfg(test)]
+mod counter;
 mod decision;
 mod draws;
 mod fault;
+mod form;
 mod gen_source;
 pub mod laws;
 mod limits;
 mod lines;
 mod number;
+mod numbers;
 mod pending;
 mod plain;
 mod ranges;
@@ -51,6 +57,7 @@ pub use batches::BatchReader;
 pub use cause::{Cause, LineFault};
 pub use draws::Draws;
 pub use fault::ReaderFault;
+pub use form::Form;
 pub use gen_source::GenSource;
 pub use limits::{
     BUFFER_BYTES, DECIDING_BYTES, GENERATED_BATCH, GENERATED_BYTES, GENERATED_EVENTS,
@@ -58,6 +65,7 @@ pub use limits::{
 };
 pub use lines::Lines;
 pub use number::{Number, read_number};
+pub use numbers::Numbers;
 pub use plain::write_line;
-pub use ranges::{AMOUNTS, Range, TIMES};
+pub use ranges::{AMOUNTS, NOTHING, Range, TIMES};
 pub use words::Words;

@@ -1,4 +1,4 @@
-ghost use Rattle.std.specs.Prelude.{◌≡◌, ℕ, ◌+◌, ◌-◌, ◌<◌, ◌≤◌, length, take, slice_range, IfOk, OnErr};
+ghost use Rattle.std.specs.Prelude.{◌≡◌, ℕ, ◌+◌, ◌-◌, ◌<◌, ◌≤◌, ◌==◌, min, if◌then◌else◌, length, take, slice_range, IfOk, OnErr};
 ghost use Rattle.morph_io.specs.Told.{ahead, IsAtEnd, HasRisen};
 
 use crate::answers::LineNext;
@@ -78,6 +78,7 @@ fn read_behind<S: Source>(
     ensures failed { OnErr result (S.left source.new ≡ S.left source.old) }
     ensures never_falls { S.faults source.old ≤ S.faults source.new }
     ensures cause { OnErr result (HasRisen (S.faults source.old) (S.faults source.new)) }
+    ensures does { S.reads source.old most result source.new }
 {
     source.read(&mut buffer[end..end + most])
 }
@@ -89,6 +90,7 @@ fn asked_bytes(free: usize, left: u64) -> usize
     ensures some { 0 < result }
     ensures free { result ≤ free }
     ensures left { 0 < left → result ≤ left }
+    ensures bytes { result ≡ (if left == 0 then 1 else min free left) }
 {
     if left == 0 {
         1
@@ -104,7 +106,8 @@ impl Lines {
     ghost use Rattle.morph_io.specs.Told.{ahead, IsAtEnd, HasRisen};
     ghost use Rattle.event_reader.specs.Limits.{longest_line, deciding_bytes, input_bytes};
     ghost use Rattle.event_reader.specs.Reader.{LinesView, new_lines, reading_of, AnswersLine, ShowsLine, Takes, is_line, lines_given};
-    ghost use Rattle.event_reader.specs.Filling.{Fills};
+    ghost use Rattle.event_reader.specs.Filling.{Fills, FillsBy};
+    ghost use Rattle.event_reader.specs.Asking.{AsksForLine};
 
     /// A reader of an input of at most `limit` bytes, which has taken none yet.
     pub fn new(alloc: Global, limit: u64) -> Result<Self, OutOfMemory>
@@ -142,7 +145,9 @@ impl Lines {
 
     /// Whether it may be asked for a line: every answer so far was a [`LineNext::Line`].
     pub fn live(&self) -> bool
-        ensures { result ≡ self.now.live }
+        ensures live { result ≡ self.now.live }
+        ensures bound { self.now.number ≤ self.now.limit + 1 }
+        ensures limit { self.now.limit ≤ input_bytes }
     {
         self.live
     }
@@ -164,6 +169,7 @@ impl Lines {
         ensures bound { self.new.number ≤ self.new.limit + 1 }
         ensures never_falls { S.faults source.old ≤ S.faults source.new }
         ensures cause { IsErrOf result ReaderFault.ReadFault → HasRisen (S.faults source.old) (S.faults source.new) }
+        ensures asks { FillsBy S.left S.reads self.old source.old result self.new source.new }
     {
         to_front(&mut self.buffer, self.start, self.end);
         self.end -= self.start;
@@ -194,10 +200,10 @@ impl Lines {
     /// of their lines is too long, and the source gave one more. It takes no memory.
     pub fn next_line<S: Source>(&mut self, source: &mut S) -> Result<LineNext, ReaderFault>
         requires live { IsTrue self.old.live }
-        requires end { IsTrue self.old.ended → IsAtEnd (S.left source.old) }
         ensures answers { AnswersLine (reading_of self.old (S.left source.old)) result self.new.line (reading_of self.new (S.left source.new)) }
         ensures shows { Takes (S.left source.old) (S.left source.new) (ShowsLine self.old result self.new) }
-        ensures at_end { IsTrue self.new.ended → IsAtEnd (S.left source.new) }
+        ensures at_end { self.old.ended ≡ false → IsTrue self.new.ended → IsAtEnd (S.left source.new) }
+        ensures idle { IsTrue self.old.ended → source.new ≡ source.old }
         ensures unended { self.new.ended ≡ false → self.old.ended ≡ false }
         ensures done { result ≡ Ok LineNext.End → (self.new.kept ≡ []) × IsTrue self.new.ended }
         ensures goes_on { self.new.live ≡ is_line result }
@@ -208,6 +214,7 @@ impl Lines {
         ensures asked { OnErr result (self.new.ended ≡ false) }
         ensures never_falls { S.faults source.old ≤ S.faults source.new }
         ensures cause { IsErrOf result ReaderFault.ReadFault → HasRisen (S.faults source.old) (S.faults source.new) }
+        ensures asks { AsksForLine S.left S.reads self.old source.old result self.new source.new }
     {
         'reads: loop {
             match decide(self.kept(), self.ended) {

@@ -87,7 +87,6 @@ impl Pending {
         closed: u64,
         line: &[u8],
     ) -> Result<LineEffect, OutOfMemory>
-        requires size { 1 ≤ size }
         requires short { length line.now ≤ longest_line }
         requires notes { Notes closed self.old }
         requires sound { IsSound (record { tables = A.table_count app.now; size = size }) (batch_of self.old) }

@@ -1,6 +1,7 @@
 ghost use Rattle.std.specs.Prelude.{◌≡◌, ℕ, ◌<◌, ◌≤◌, List, [], ◌∷◌, length, map, take, slice_index_or, MatchOption};
 ghost use Rattle.event_reader.specs.Words.{parts_of, words_of};
 ghost use Rattle.event_reader.specs.Limits.{line_words};
+ghost use Rattle.event_reader.specs.Forms.{only, letter_of};
 
 use crate::limits::LINE_WORDS;
 use memchr::memchr;
@@ -32,6 +33,13 @@ fn first_part(line: &[u8]) -> (&[u8], Option<&[u8]>)
     }
 }
 
+/// The only byte of a word.
+fn only(word: &[u8]) -> Option<u8>
+    ensures { result ≡ only word.now }
+{
+    if word.len() == 1 { Some(word[0]) } else { None }
+}
+
 impl<'a> Words<'a> {
     /// Cuts a line at its spaces. `None` exactly where one space does not stand between each two words: where a word
     /// would be empty, at either end too, or where there are more than [`LINE_WORDS`].
@@ -61,9 +69,20 @@ impl<'a> Words<'a> {
 
     /// The number of words.
     pub fn count(&self) -> usize
-        ensures { result ≡ length self.now }
+        ensures count { result ≡ length self.now }
+        ensures few { result ≤ line_words }
     {
         self.count
+    }
+
+    /// The letter that the line begins with: the only byte of the first word. `None` where this has more.
+    pub fn letter(&self) -> Option<u8>
+        ensures { result ≡ letter_of self.now }
+    {
+        if self.count == 0 {
+            return None;
+        }
+        only(self.words[0])
     }
 
     /// The word at place `i`.

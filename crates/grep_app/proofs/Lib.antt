@@ -1,1 +1,2 @@
 pub mod Distinctness
+pub mod Cells

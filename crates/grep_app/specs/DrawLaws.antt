@@ -1,49 +1,50 @@
 -- Each line that the generator of GrepSum writes is an event's.
-use Rattle.std.proofs.Common.{◌≡◌, ℕ, zero, suc, ◌+◌, ◌-◌, ◌%◌, ◌<◌, ◌≤◌, Bool, true, false, List, [], ◌∷◌, length, map, replicate, refl, sym, ◌∙◌, ap, arith, inl, inr, Result, Ok, Err}
-use Rattle.std.specs.Prelude.{◌==◌, ◌||◌, if◌then◌else◌, nat_lt, decimal}
+use Rattle.std.proofs.Common.{◌≡◌, ℕ, zero, suc, ◌+◌, ◌-◌, ◌%◌, ◌<◌, ◌≤◌, Bool, true, false, List, [], ◌∷◌, length, map, replicate, refl, sym, ◌∙◌, ap, arith, inl, inr, Result, Ok}
+use Rattle.std.specs.Prelude.{◌==◌, ◌||◌, if◌then◌else◌, nat_le, nat_lt}
 use Rattle.std.specs.List.{All}
 use Rattle.std.proofs.Math.Nat.{add-mod_right, mod-eq_of_lt}
 use Rattle.std.proofs.lemmas.Bool.{cases_lt}
 use Rattle.std.proofs.lemmas.Bool.Decides.{nat_tests}
-use Rattle.std.proofs.lemmas.List.Elements.{All-nil, All-cons, All-head, All-tail, All-weaker}
+use Rattle.std.proofs.lemmas.List.Elements.{All-nil, All-cons, All-head, All-tail}
 use Rattle.morph_base.specs.Transactions.{Transaction}
+use Rattle.event_reader.specs.Forms.{IsForm}
 use Rattle.event_reader.specs.Limits.{generated_events, generated_ids}
 use Rattle.event_reader.specs.declared.cause.Cause.{Cause}
-use Rattle.event_reader.specs.declared.cause.Cause.TheVariants.{Same}
 use Rattle.event_reader.specs.Draws.{after_draws, draw_at}
 use Rattle.event_reader.specs.Generated.{Drawn, IsEventLine}
-use Rattle.event_reader.specs.Numbers.{are_in, numbers_in}
+use Rattle.event_reader.specs.Numbers.{are_in}
 use Rattle.event_reader.specs.PlainLines.{plain_line}
 use Rattle.event_reader.specs.Ranges.{times, ids, amounts}
 use Rattle.event_reader.proofs.Drawing.{draw_below}
 use Rattle.event_reader.proofs.NumberLists.{in_range}
-use Rattle.event_reader.proofs.PlainLines.{IsSmall, numbers_plain, plain_event}
-use Rattle.grep_app.specs.Grep.{cell, are_distinct, setting_ranges, setting, setting_of, gather_ranges, gathering, gather_of, grep_event}
+use Rattle.event_reader.proofs.Forms.{Fits, is_form, kind_line}
+use Rattle.grep_app.specs.Grep.{cell, are_distinct, most_cells, setting, gather, gathering, settings, sums, grep_kinds, grep_event}
 use Rattle.grep_app.specs.GrepDraws.{summed, drawn_setting, drawn_sum, grep_drawn}
 
 abbrev ok : Transaction → Result Transaction Cause
 ok e = Ok e
 
--- three small numbers in front of others
-all_small_three : (a b c : ℕ) (ns : List ℕ) → IsSmall a → IsSmall b → IsSmall c → All IsSmall ns → All IsSmall (a ∷ b ∷ c ∷ ns)
-all_small_three a b c ns h1 h2 h3 rest = All-cons IsSmall a (b ∷ c ∷ ns) h1 (All-cons IsSmall b (c ∷ ns) h2 (All-cons IsSmall c ns h3 rest))
-
 -- the line that sets a cell
-setting_in : (size i k v : ℕ) → 0 < i → i ≤ generated_events → k < size → v < 1000 → are_in (setting_ranges size) (i ∷ k ∷ v ∷ []) ≡ true
+setting_form : (size : ℕ) → size ≤ generated_ids → IsForm (settings size).form
+setting_form size few =
+    is_form (settings size).form (omega arith) (omega arith) (omega arith, (omega arith, (omega arith, tt))) (omega arith)
+
+setting_fits : (size i k v : ℕ) → 0 < i → i ≤ generated_events → k < size → v < 1000 → Fits (settings size).form (i ∷ k ∷ v ∷ [])
 unfolding are_in
-setting_in size i k v start last inside small = rw (
-  in_range times i (omega arith) (omega arith),
-  in_range (ids size) k (omega arith) (omega arith),
-  in_range amounts v (omega arith) (omega arith),
-) refl
+setting_fits size i k v start last inside small = record {
+  count = refl;
+  inside = rw (
+    in_range times i (omega arith) (omega arith),
+    in_range (ids size) k (omega arith) (omega arith),
+    in_range amounts v (omega arith) (omega arith),
+  ) refl;
+}
 
 setting_line : (size i k v : ℕ) → size ≤ generated_ids → 0 < i → i ≤ generated_events → k < size → v < 1000
     → IsEventLine (grep_event size) i (plain_line 87 (i ∷ k ∷ v ∷ []))
 setting_line size i k v few start last inside small =
-    let ns : List ℕ = i ∷ k ∷ v ∷ [] in
-    let all : All IsSmall ns = all_small_three i k v [] (omega arith) (omega arith) (omega arith) (All-nil IsSmall) in
-    let read = numbers_plain (setting_ranges size) ns all (setting_in size i k v start last inside small) in
-    plain_event (grep_event size) i 87 ns (setting i k v) (omega arith) (omega arith) (omega arith) all (ap setting_of read) refl
+    kind_line (grep_kinds size) (settings size) i (i ∷ k ∷ v ∷ []) (setting i k v) (setting_form size few)
+    (setting_fits size i k v start last inside small) (omega arith) (omega arith) refl refl refl
 
 -- of numbers below twice the size, two that are less than the size apart differ modulo the size
 once_around : (size n : ℕ) → size ≤ n → n < size + size → n % size ≡ n - size
@@ -87,6 +88,10 @@ unfolding are_distinct
 four_apart k a b c h1 h2 h3 h4 h5 h6 = rw (h1, h2, h3, h4, h5, h6) refl
 
 -- the line that sums cells: its numbers are in their ranges, and say the sum where the cells differ
+sum_is_form : (size : ℕ) → size ≤ generated_ids → IsForm (sums size).form
+sum_is_form size few =
+    is_form (sums size).form (omega arith) (omega arith) (omega arith, (omega arith, (omega arith, tt))) (omega arith)
+
 ids_in : (size many : ℕ) (cells : List ℕ) → All (λ c. c < size) cells → are_in (replicate many (ids size)) cells ≡ true
 unfolding are_in
 ids_in size zero cells inside = refl
@@ -95,30 +100,20 @@ ids_in size (suc many) (c ∷ cells) inside =
     let here = All-head (λ c. c < size) c cells inside in
     rw (in_range (ids size) c (omega arith) (omega arith), ids_in size many cells (All-tail (λ c. c < size) c cells inside)) refl
 
-gather_in : (size many i k limit : ℕ) (cells : List ℕ) → 0 < i → i ≤ generated_events → k < size → limit < 4000 → All (λ c. c < size) cells
-    → are_in (gather_ranges size many) (i ∷ k ∷ limit ∷ cells) ≡ true
+sum_fits : (size i k limit : ℕ) (cells : List ℕ) → 0 < i → i ≤ generated_events → k < size → limit < 4000 → All (λ c. c < size) cells
+    → 0 < length cells → length cells ≤ most_cells → Fits (sums size).form (i ∷ k ∷ limit ∷ cells)
 unfolding are_in
-gather_in size many i k limit cells start last inside small all = rw (
-  in_range times i (omega arith) (omega arith),
-  in_range (ids size) k (omega arith) (omega arith),
-  in_range amounts limit (omega arith) (omega arith),
-  ids_in size many cells all,
-) refl
-
-sum_small : (size i k limit : ℕ) (cells : List ℕ) → size ≤ generated_ids → i ≤ generated_events → k < size → limit < 4000 → All (λ c. c < size) cells
-    → All IsSmall (i ∷ k ∷ limit ∷ cells)
-sum_small size i k limit cells few last inside small all =
-    all_small_three i k limit cells (omega arith) (omega arith) (omega arith) (All-weaker (λ c. c < size) IsSmall (λ c below. omega (arith, below)) cells all)
-
-sum_said : (size many i k limit : ℕ) (cells : List ℕ) → size ≤ generated_ids → 0 < i → i ≤ generated_events → k < size → limit < 4000
-    → All (λ c. c < size) cells → are_distinct (cell k ∷ map cell cells) ≡ true
-    → gather_of (numbers_in (gather_ranges size many) (map decimal (i ∷ k ∷ limit ∷ cells))) ≡ ok (gathering i limit (cell k) (map cell cells))
-sum_said size many i k limit cells few start last inside small all differ =
-    let ns : List ℕ = i ∷ k ∷ limit ∷ cells in
-    let read = numbers_plain (gather_ranges size many) ns (sum_small size i k limit cells few last inside small all) (gather_in size many i k limit cells start last inside small all) in
-    let apart : (if are_distinct (cell k ∷ map cell cells) then Ok (gathering i limit (cell k) (map cell cells)) else Err Same) ≡ ok (gathering i limit (cell k) (map cell cells))
-    = rw differ refl in
-    ap gather_of read ∙ apart
+sum_fits size i k limit cells start last inside small all some few =
+    let least : nat_le 4 (length (i ∷ k ∷ limit ∷ cells)) ≡ true = grind (arith, nat_tests) in
+    let most : nat_le (length (i ∷ k ∷ limit ∷ cells)) (3 + most_cells) ≡ true = grind (arith, nat_tests) in record {
+      count = rw (least, most) refl;
+      inside = rw (
+        in_range times i (omega arith) (omega arith),
+        in_range (ids size) k (omega arith) (omega arith),
+        in_range amounts limit (omega arith) (omega arith),
+        ids_in size (length (i ∷ k ∷ limit ∷ cells) - 3) cells all,
+      ) refl;
+    }
 
 sum_line : (size i k many limit : ℕ) → 3 < size → size ≤ generated_ids → 0 < i → i ≤ generated_events → k < size → many < 3 → limit < 4000
     → IsEventLine (grep_event size) i (plain_line 71 (summed size i k (many + 1) limit))
@@ -148,26 +143,22 @@ sum_line size i k many limit four few start last inside some small = by_many man
     later : (n m : ℕ) → n < m → m < 4 → ((k + n) % size == (k + m) % size) ≡ false
     later n m less near = unlike size k n m inside less (omega arith)
 
-    line : (cells : List ℕ) → 0 < length cells → length cells < 4 → All (λ c. c < size) cells
-        → grep_event size ((71 ∷ []) ∷ map decimal (i ∷ k ∷ limit ∷ cells)) ≡ ok (gathering i limit (cell k) (map cell cells))
+    line : (cells : List ℕ) → 0 < length cells → length cells ≤ most_cells → All (λ c. c < size) cells → are_distinct (cell k ∷ map cell cells) ≡ true
         → IsEventLine (grep_event size) i (plain_line 71 (i ∷ k ∷ limit ∷ cells))
-    line cells one three all says =
-        plain_event (grep_event size) i 71 (i ∷ k ∷ limit ∷ cells) (gathering i limit (cell k) (map cell cells)) (omega arith) (omega arith) (omega arith)
-        (sum_small size i k limit cells few last inside small all) says refl
+    line cells one three all differ =
+        let says : gather i limit (cell k) (map cell cells) ≡ ok (gathering i limit (cell k) (map cell cells)) = rw differ refl in
+        kind_line (grep_kinds size) (sums size) i (i ∷ k ∷ limit ∷ cells) (gathering i limit (cell k) (map cell cells)) (sum_is_form size few)
+        (sum_fits size i k limit cells start last inside small all one three) (omega arith) (omega arith) refl says refl
 
     by_many : (n : ℕ) → n < 3 → IsEventLine (grep_event size) i (plain_line 71 (summed size i k (n + 1) limit))
-    by_many zero below =
-        line (a ∷ []) (omega arith) (omega arith) (all_one 1)
-        (sum_said size 1 i k limit (a ∷ []) few start last inside small (all_one 1) (two_apart k a (first 1 (omega arith) (omega arith))))
+    by_many zero below = line (a ∷ []) (omega arith) (omega arith) (all_one 1) (two_apart k a (first 1 (omega arith) (omega arith)))
     by_many (suc zero) below =
         line (a ∷ b ∷ []) (omega arith) (omega arith) all_two
-        (sum_said size 2 i k limit (a ∷ b ∷ []) few start last inside small all_two
-        (three_apart k a b (first 1 (omega arith) (omega arith)) (first 2 (omega arith) (omega arith)) (later 1 2 (omega arith) (omega arith))))
+        (three_apart k a b (first 1 (omega arith) (omega arith)) (first 2 (omega arith) (omega arith)) (later 1 2 (omega arith) (omega arith)))
     by_many (suc (suc zero)) below =
         line (a ∷ b ∷ c ∷ []) (omega arith) (omega arith) all_three
-        (sum_said size 3 i k limit (a ∷ b ∷ c ∷ []) few start last inside small all_three
         (four_apart k a b c (first 1 (omega arith) (omega arith)) (first 2 (omega arith) (omega arith)) (first 3 (omega arith) (omega arith))
-        (later 1 2 (omega arith) (omega arith)) (later 1 3 (omega arith) (omega arith)) (later 2 3 (omega arith) (omega arith))))
+        (later 1 2 (omega arith) (omega arith)) (later 1 3 (omega arith) (omega arith)) (later 2 3 (omega arith) (omega arith)))
     by_many (suc (suc (suc n))) below = absurd (omega arith)
 
 pub grep_generates : (size i state : ℕ) → 0 < size → size ≤ generated_ids → 0 < i → i ≤ generated_events

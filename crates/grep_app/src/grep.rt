@@ -1,20 +1,22 @@
-ghost use Rattle.std.specs.Prelude.{◌≡◌, ℕ, ◌^◌, ◌<◌, ◌≤◌, length, drop, codes, IfOk, IfErr};
+ghost use Rattle.std.specs.Prelude.{◌≡◌, ◌^◌, ◌<◌, ◌≤◌, All, length, map, take, codes};
 ghost use Rattle.std.specs.List.{list_any};
-ghost use Rattle.morph_base.specs.declared.limits.TheConstants.{MAX, PARAMS};
+ghost use Rattle.morph_base.specs.declared.limits.TheConstants.{PARAMS};
 ghost use Rattle.morph_base.specs.Operations.{same_key};
-ghost use Rattle.morph_base.specs.Transactions.{transaction_of};
+ghost use Rattle.event_reader.specs.Forms.{said_in};
 ghost use Rattle.event_reader.specs.Reader.{GivesEvent};
-ghost use Rattle.event_reader.specs.Numbers.{numbers_in};
-ghost use Rattle.grep_app.specs.Grep.{cell, are_distinct, setting_of, setting_ranges, gather, gather_of, gather_ranges, grep_event};
+ghost use Rattle.grep_app.specs.Grep.{cell, are_distinct, settings, gather, sums, grep_event};
 
 use crate::generating::{write_setting, write_sum};
-use event_reader::{AMOUNTS, Cause, Draws, EventApp, LineFault, Range, TIMES, Words};
-use morph_base::{Event, Func, Key, List, Op};
+use event_reader::{AMOUNTS, Cause, Draws, EventApp, Form, LineFault, Range, TIMES, Words};
+use morph_base::{Event, Func, Key, List, Op, PARAMS};
 use morph_io::LineBuf;
 use std::alloc::Global;
 
 /// The number of the table of cells.
 pub const CELLS: u8 = 0;
+
+/// The most cells that one line sums.
+const MOST_CELLS: usize = 3;
 
 /// The application GrepSum.
 #[derive(Clone, Copy, Debug, PartialEq, Eq)]
@@ -52,11 +54,10 @@ fn are_distinct(keys: &[Key]) -> bool
 
 /// Reads the words of a line that sets a cell.
 fn set(alloc: Global, words: &Words<'_>, size: u32) -> Result<Event, LineFault>
-    requires size { 1 ≤ size }
-    requires count { length words.now ≡ 4 }
-    ensures { GivesEvent (setting_of (numbers_in (setting_ranges size) (drop 1 words.now))) result }
+    ensures { GivesEvent (said_in (settings size) words.now) result }
 {
-    let [ts, k, v] = words.numbers(&[TIMES, Range::ids(size), AMOUNTS])?;
+    let numbers = words.read(&Form::new(b'W', &[TIMES, Range::ids(size), AMOUNTS]))?;
+    let [ts, k, v] = numbers.first();
     let mut ops = List::with_room(alloc, 1)?;
     ops.add(Op::new(Func::Set, cell(k), &[], v));
     Ok(Event { ts, ops })
@@ -84,37 +85,31 @@ fn gather(
     Ok(Event { ts, ops })
 }
 
-/// Reads the words of a line that sums one cell.
-fn sum_one(alloc: Global, words: &Words<'_>, size: u32) -> Result<Event, LineFault>
-    requires size { 1 ≤ size }
-    requires count { length words.now ≡ 5 }
-    ensures { GivesEvent (gather_of (numbers_in (gather_ranges size 1) (drop 1 words.now))) result }
+/// The keys of cells, of which there are at most [`PARAMS`], with cell 0 in the places behind them.
+fn cells_of(ids: &[u64]) -> [Key; PARAMS]
+    requires few { length ids.now ≤ PARAMS }
+    requires small { All (λ id. id < 2 ^ 32) ids.now }
+    ensures { take (length ids.now) result ≡ map cell ids.now }
 {
-    let ids = Range::ids(size);
-    let [ts, k, limit, k1] = words.numbers(&[TIMES, ids, AMOUNTS, ids])?;
-    gather(alloc, ts, limit, cell(k), &[cell(k1)])
+    let mut cells = [cell(0); PARAMS];
+    for i in 0..ids.len() {
+        cells[i] = cell(ids[i]);
+    }
+    cells
 }
 
-/// Reads the words of a line that sums two cells.
-fn sum_two(alloc: Global, words: &Words<'_>, size: u32) -> Result<Event, LineFault>
-    requires size { 1 ≤ size }
-    requires count { length words.now ≡ 6 }
-    ensures { GivesEvent (gather_of (numbers_in (gather_ranges size 2) (drop 1 words.now))) result }
+/// Reads the words of a line that sums cells.
+fn sum(alloc: Global, words: &Words<'_>, size: u32) -> Result<Event, LineFault>
+    ensures { GivesEvent (said_in (sums size) words.now) result }
 {
     let ids = Range::ids(size);
-    let [ts, k, limit, k1, k2] = words.numbers(&[TIMES, ids, AMOUNTS, ids, ids])?;
-    gather(alloc, ts, limit, cell(k), &[cell(k1), cell(k2)])
-}
-
-/// Reads the words of a line that sums three cells.
-fn sum_three(alloc: Global, words: &Words<'_>, size: u32) -> Result<Event, LineFault>
-    requires size { 1 ≤ size }
-    requires count { length words.now ≡ 7 }
-    ensures { GivesEvent (gather_of (numbers_in (gather_ranges size 3) (drop 1 words.now))) result }
-{
-    let ids = Range::ids(size);
-    let [ts, k, limit, k1, k2, k3] = words.numbers(&[TIMES, ids, AMOUNTS, ids, ids, ids])?;
-    gather(alloc, ts, limit, cell(k), &[cell(k1), cell(k2), cell(k3)])
+    let places = [TIMES, ids, AMOUNTS];
+    let form = Form::new(b'G', &places).with_more(ids, 1, MOST_CELLS);
+    let numbers = words.read(&form)?;
+    let [ts, k, limit] = numbers.first();
+    let others = numbers.rest();
+    let cells = cells_of(others);
+    gather(alloc, ts, limit, cell(k), &cells[..others.len()])
 }
 
 impl EventApp for Grep {
@@ -145,16 +140,10 @@ impl EventApp for Grep {
     }
 
     fn read_event(&self, alloc: Global, words: &Words<'_>, size: u32) -> Result<Event, LineFault> {
-        if words.has_form(b'W', 3) {
-            set(alloc, words, size)
-        } else if words.has_form(b'G', 4) {
-            sum_one(alloc, words, size)
-        } else if words.has_form(b'G', 5) {
-            sum_two(alloc, words, size)
-        } else if words.has_form(b'G', 6) {
-            sum_three(alloc, words, size)
-        } else {
-            Err(LineFault::Refused(Cause::Form))
+        match words.letter() {
+            Some(b'W') => set(alloc, words, size),
+            Some(b'G') => sum(alloc, words, size),
+            _ => Err(LineFault::Refused(Cause::Form)),
         }
     }
 

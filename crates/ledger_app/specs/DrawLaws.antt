@@ -1,15 +1,13 @@
 -- Each line that the ledger's generator writes is an event's.
-use Rattle.std.proofs.Common.{◌≡◌, ℕ, ◌+◌, ◌%◌, ◌<◌, ◌≤◌, Bool, true, false, List, [], ◌∷◌, refl, ◌∙◌, ap, arith, inl, inr, Result, Ok, Err}
+use Rattle.std.proofs.Common.{◌≡◌, ℕ, ◌+◌, ◌%◌, ◌<◌, ◌≤◌, Bool, true, false, [], ◌∷◌, refl, ◌∙◌, ap, arith, inl, inr, Result, Ok}
 use Rattle.std.specs.Prelude.{◌==◌, ◌||◌, if◌then◌else◌, nat_lt}
-use Rattle.std.specs.List.{All}
 use Rattle.std.proofs.Math.Nat.{mod_self, mod-eq_of_lt}
 use Rattle.std.proofs.lemmas.Bool.{cases_lt}
 use Rattle.std.proofs.lemmas.Bool.Decides.{nat_tests}
-use Rattle.std.proofs.lemmas.List.Elements.{All-nil, All-cons}
+use Rattle.event_reader.specs.Forms.{IsForm}
 use Rattle.event_reader.specs.Limits.{generated_events, generated_ids}
 use Rattle.morph_base.specs.Transactions.{Transaction}
 use Rattle.event_reader.specs.declared.cause.Cause.{Cause}
-use Rattle.event_reader.specs.declared.cause.Cause.TheVariants.{Same}
 use Rattle.event_reader.specs.Draws.{after_draws, draw_at}
 use Rattle.event_reader.specs.Generated.{Drawn, IsEventLine}
 use Rattle.event_reader.specs.Numbers.{are_in}
@@ -17,52 +15,37 @@ use Rattle.event_reader.specs.PlainLines.{plain_line}
 use Rattle.event_reader.specs.Ranges.{times, ids, amounts}
 use Rattle.event_reader.proofs.Drawing.{draw_below}
 use Rattle.event_reader.proofs.NumberLists.{in_range}
-use Rattle.event_reader.proofs.PlainLines.{IsSmall, numbers_plain, plain_event}
-use Rattle.ledger_app.specs.Ledger.{deposit, moving, deposit_ranges, transfer_ranges, deposit_of, transfer_of, ledger_event}
+use Rattle.event_reader.proofs.Forms.{Fits, is_form, kind_line}
+use Rattle.ledger_app.specs.Ledger.{deposit, transfer, moving, deposits, transfers, ledger_kinds, ledger_event}
 use Rattle.ledger_app.specs.LedgerDraws.{apart, drawn_amounts, drawn_deposit, drawn_transfer, ledger_drawn}
 
 abbrev ok : Transaction → Result Transaction Cause
 ok e = Ok e
 
--- five small numbers
-all_small_five : (a b c d e : ℕ) → IsSmall a → IsSmall b → IsSmall c → IsSmall d → IsSmall e → All IsSmall (a ∷ b ∷ c ∷ d ∷ e ∷ [])
-all_small_five a b c d e h1 h2 h3 h4 h5 =
-    All-cons IsSmall a (b ∷ c ∷ d ∷ e ∷ []) h1 (All-cons IsSmall b (c ∷ d ∷ e ∷ []) h2 (All-cons IsSmall c (d ∷ e ∷ []) h3
-    (All-cons IsSmall d (e ∷ []) h4 (All-cons IsSmall e [] h5 (All-nil IsSmall)))))
-
--- numbers in their ranges
-deposit_in : (size i acct ast a b : ℕ) → 0 < i → i ≤ generated_events → acct < size → ast < size → a < drawn_amounts → b < drawn_amounts
-    → are_in (deposit_ranges size) (i ∷ acct ∷ ast ∷ a ∷ b ∷ []) ≡ true
-unfolding are_in
-deposit_in size i acct ast a b start last in1 in2 small small' = rw (
-  in_range times i (omega arith) (omega arith),
-  in_range (ids size) acct (omega arith) (omega arith),
-  in_range (ids size) ast (omega arith) (omega arith),
-  in_range amounts a (omega arith) (omega arith),
-  in_range amounts b (omega arith) (omega arith),
-) refl
-
-transfer_in : (size i src dst asrc adst a b : ℕ) → 0 < i → i ≤ generated_events → src < size → dst < size → asrc < size → adst < size → a < drawn_amounts → b < drawn_amounts
-    → are_in (transfer_ranges size) (i ∷ src ∷ dst ∷ asrc ∷ adst ∷ a ∷ b ∷ []) ≡ true
-unfolding are_in
-transfer_in size i src dst asrc adst a b start last in1 in2 in3 in4 small small' = rw (
-  in_range times i (omega arith) (omega arith),
-  in_range (ids size) src (omega arith) (omega arith),
-  in_range (ids size) dst (omega arith) (omega arith),
-  in_range (ids size) asrc (omega arith) (omega arith),
-  in_range (ids size) adst (omega arith) (omega arith),
-  in_range amounts a (omega arith) (omega arith),
-  in_range amounts b (omega arith) (omega arith),
-) refl
-
 -- the line of a deposit
+deposit_form : (size : ℕ) → size ≤ generated_ids → IsForm (deposits size).form
+deposit_form size few =
+    is_form (deposits size).form (omega arith) (omega arith) (omega arith, (omega arith, (omega arith, (omega arith, (omega arith, tt))))) (omega arith)
+
+deposit_fits : (size i acct ast a b : ℕ) → 0 < i → i ≤ generated_events → acct < size → ast < size → a < drawn_amounts → b < drawn_amounts
+    → Fits (deposits size).form (i ∷ acct ∷ ast ∷ a ∷ b ∷ [])
+unfolding are_in
+deposit_fits size i acct ast a b start last in1 in2 small small' = record {
+  count = refl;
+  inside = rw (
+    in_range times i (omega arith) (omega arith),
+    in_range (ids size) acct (omega arith) (omega arith),
+    in_range (ids size) ast (omega arith) (omega arith),
+    in_range amounts a (omega arith) (omega arith),
+    in_range amounts b (omega arith) (omega arith),
+  ) refl;
+}
+
 deposit_line : (size i acct ast a b : ℕ) → size ≤ generated_ids → 0 < i → i ≤ generated_events → acct < size → ast < size → a < drawn_amounts → b < drawn_amounts
     → IsEventLine (ledger_event size) i (plain_line 68 (i ∷ acct ∷ ast ∷ a ∷ b ∷ []))
 deposit_line size i acct ast a b few start last in1 in2 small small' =
-    let ns : List ℕ = i ∷ acct ∷ ast ∷ a ∷ b ∷ [] in
-    let all : All IsSmall ns = all_small_five i acct ast a b (omega arith) (omega arith) (omega arith) (omega arith) (omega arith) in
-    let read = numbers_plain (deposit_ranges size) ns all (deposit_in size i acct ast a b start last in1 in2 small small') in
-    plain_event (ledger_event size) i 68 ns (deposit i acct ast a b) (omega arith) (omega arith) (omega arith) all (ap deposit_of read) refl
+    kind_line (ledger_kinds size) (deposits size) i (i ∷ acct ∷ ast ∷ a ∷ b ∷ []) (deposit i acct ast a b)
+    (deposit_form size few) (deposit_fits size i acct ast a b start last in1 in2 small small') (omega arith) (omega arith) refl refl refl
 
 -- two ids that are brought apart differ
 apart_below : (size first second : ℕ) → first < size → second < size → apart size first second < size
@@ -85,15 +68,32 @@ apart_differs size first second two inside = by_test (first == second) refl
     by_test false differ = differ
 
 -- the line of a transfer
+transfer_form : (size : ℕ) → size ≤ generated_ids → IsForm (transfers size).form
+transfer_form size few =
+    is_form (transfers size).form (omega arith) (omega arith) (omega arith, (omega arith, (omega arith, (omega arith, (omega arith, (omega arith, (omega arith, tt))))))) (omega arith)
+
+transfer_fits : (size i src dst asrc adst a b : ℕ) → 0 < i → i ≤ generated_events → src < size → dst < size → asrc < size → adst < size → a < drawn_amounts → b < drawn_amounts
+    → Fits (transfers size).form (i ∷ src ∷ dst ∷ asrc ∷ adst ∷ a ∷ b ∷ [])
+unfolding are_in
+transfer_fits size i src dst asrc adst a b start last in1 in2 in3 in4 small small' = record {
+  count = refl;
+  inside = rw (
+    in_range times i (omega arith) (omega arith),
+    in_range (ids size) src (omega arith) (omega arith),
+    in_range (ids size) dst (omega arith) (omega arith),
+    in_range (ids size) asrc (omega arith) (omega arith),
+    in_range (ids size) adst (omega arith) (omega arith),
+    in_range amounts a (omega arith) (omega arith),
+    in_range amounts b (omega arith) (omega arith),
+  ) refl;
+}
+
 transfer_line : (size i src dst asrc adst a b : ℕ) → size ≤ generated_ids → 0 < i → i ≤ generated_events → src < size → dst < size → asrc < size → adst < size → a < drawn_amounts → b < drawn_amounts
     → (src == dst) ≡ false → (asrc == adst) ≡ false → IsEventLine (ledger_event size) i (plain_line 88 (i ∷ src ∷ dst ∷ asrc ∷ adst ∷ a ∷ b ∷ []))
 transfer_line size i src dst asrc adst a b few start last in1 in2 in3 in4 small small' differ differ' =
-    let ns : List ℕ = i ∷ src ∷ dst ∷ asrc ∷ adst ∷ a ∷ b ∷ [] in
-    let all : All IsSmall ns = All-cons IsSmall i (src ∷ dst ∷ asrc ∷ adst ∷ a ∷ b ∷ []) (omega arith) (All-cons IsSmall src (dst ∷ asrc ∷ adst ∷ a ∷ b ∷ []) (omega arith)
-    (all_small_five dst asrc adst a b (omega arith) (omega arith) (omega arith) (omega arith) (omega arith))) in
-    let read = numbers_plain (transfer_ranges size) ns all (transfer_in size i src dst asrc adst a b start last in1 in2 in3 in4 small small') in
-    let apart : (if src == dst || asrc == adst then Err Same else Ok (moving i src dst asrc adst a b)) ≡ ok (moving i src dst asrc adst a b) = rw (differ, differ') refl in
-    plain_event (ledger_event size) i 88 ns (moving i src dst asrc adst a b) (omega arith) (omega arith) (omega arith) all (ap transfer_of read ∙ apart) refl
+    let apart : transfer i src dst asrc adst a b ≡ ok (moving i src dst asrc adst a b) = rw (differ, differ') refl in
+    kind_line (ledger_kinds size) (transfers size) i (i ∷ src ∷ dst ∷ asrc ∷ adst ∷ a ∷ b ∷ []) (moving i src dst asrc adst a b)
+    (transfer_form size few) (transfer_fits size i src dst asrc adst a b start last in1 in2 in3 in4 small small') (omega arith) (omega arith) refl apart refl
 
 pub ledger_generates : (size i state : ℕ) → 0 < size → size ≤ generated_ids → 0 < i → i ≤ generated_events
     → IsEventLine (ledger_event size) i (ledger_drawn size i state).line

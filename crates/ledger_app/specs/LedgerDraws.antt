@@ -26,10 +26,10 @@ drawn_transfer size i state =
 
 -- the line of event i: a deposit in two of four draws, and always where there is one id alone, which has nothing apart
 -- from it; else a transfer
-abbrev pub deposits : (size state : ℕ) → Bool
-deposits size state = nat_lt (draw_at state 1 4) 2 || nat_lt size 2
+abbrev pub is_deposit : (size state : ℕ) → Bool
+is_deposit size state = nat_lt (draw_at state 1 4) 2 || nat_lt size 2
 
 abbrev pub ledger_drawn : (size i state : ℕ) → Drawn
 ledger_drawn size i state =
-    if deposits size state then record { line = plain_line 68 (drawn_deposit size i (after_draws state 1)); state = after_draws state 5 }
+    if is_deposit size state then record { line = plain_line 68 (drawn_deposit size i (after_draws state 1)); state = after_draws state 5 }
     else record { line = plain_line 88 (drawn_transfer size i (after_draws state 1)); state = after_draws state 7 }

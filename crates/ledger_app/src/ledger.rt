@@ -1,12 +1,11 @@
-ghost use Rattle.std.specs.Prelude.{◌≡◌, ℕ, ◌^◌, ◌<◌, ◌≤◌, length, drop, codes, if◌then◌else◌, ◌==◌, IfOk, IfErr};
-ghost use Rattle.morph_base.specs.Transactions.{transaction_of};
+ghost use Rattle.std.specs.Prelude.{◌≡◌, ◌^◌, ◌<◌, codes, if◌then◌else◌, ◌==◌};
+ghost use Rattle.event_reader.specs.Forms.{said_in};
 ghost use Rattle.event_reader.specs.Reader.{GivesEvent};
-ghost use Rattle.event_reader.specs.Numbers.{numbers_in};
-ghost use Rattle.ledger_app.specs.Ledger.{account, asset, deposit_of, deposit_ranges, transfer_of, transfer_ranges, ledger_event};
+ghost use Rattle.ledger_app.specs.Ledger.{key, deposits, transfers, ledger_event};
 
 use crate::generating::{write_deposit, write_transfer};
-use event_reader::{AMOUNTS, Cause, Draws, EventApp, LineFault, Range, TIMES, Words};
-use morph_base::{Event, Func, Key, List, Op, OutOfMemory};
+use event_reader::{AMOUNTS, Cause, Draws, EventApp, Form, LineFault, Range, TIMES, Words};
+use morph_base::{Event, Func, Key, List, Op};
 use morph_io::LineBuf;
 use std::alloc::Global;
 
@@ -20,60 +19,48 @@ pub const ASSETS: u8 = 1;
 #[derive(Clone, Copy, Debug, PartialEq, Eq)]
 pub struct Ledger;
 
-/// The key of an account.
-fn account(id: u64) -> Key
+/// The key of an id in a table.
+fn key(table: u8, id: u64) -> Key
     requires { id < 2 ^ 32 }
-    ensures { result ≡ account id }
+    ensures { result ≡ key table id }
 {
     Key {
-        table: ACCOUNTS,
-        id: id as u32,
-    }
-}
-
-/// The key of an asset.
-fn asset(id: u64) -> Key
-    requires { id < 2 ^ 32 }
-    ensures { result ≡ asset id }
-{
-    Key {
-        table: ASSETS,
+        table,
         id: id as u32,
     }
 }
 
 /// Reads the words of a deposit.
 fn deposit(alloc: Global, words: &Words<'_>, size: u32) -> Result<Event, LineFault>
-    requires size { 1 ≤ size }
-    requires count { length words.now ≡ 6 }
-    ensures { GivesEvent (deposit_of (numbers_in (deposit_ranges size) (drop 1 words.now))) result }
+    ensures { GivesEvent (said_in (deposits size) words.now) result }
 {
     let ids = Range::ids(size);
-    let [ts, acct, ast, a, b] = words.numbers(&[TIMES, ids, ids, AMOUNTS, AMOUNTS])?;
+    let numbers = words.read(&Form::new(b'D', &[TIMES, ids, ids, AMOUNTS, AMOUNTS]))?;
+    let [ts, account, asset, a, b] = numbers.first();
     let mut ops = List::with_room(alloc, 2)?;
-    ops.add(Op::new(Func::Add, account(acct), &[], a));
-    ops.add(Op::new(Func::Add, asset(ast), &[], b));
+    ops.add(Op::new(Func::Add, key(ACCOUNTS, account), &[], a));
+    ops.add(Op::new(Func::Add, key(ASSETS, asset), &[], b));
     Ok(Event { ts, ops })
 }
 
 /// Reads the words of a transfer.
 fn transfer(alloc: Global, words: &Words<'_>, size: u32) -> Result<Event, LineFault>
-    requires size { 1 ≤ size }
-    requires count { length words.now ≡ 8 }
-    ensures { GivesEvent (transfer_of (numbers_in (transfer_ranges size) (drop 1 words.now))) result }
+    ensures { GivesEvent (said_in (transfers size) words.now) result }
 {
     let ids = Range::ids(size);
-    let [ts, src, dst, asrc, adst, a, b] = words.numbers(&[
-        TIMES, ids, ids, ids, ids, AMOUNTS, AMOUNTS,
-    ])?;
+    let places = [TIMES, ids, ids, ids, ids, AMOUNTS, AMOUNTS];
+    let numbers = words.read(&Form::new(b'X', &places))?;
+    let [ts, src, dst, asrc, adst, a, b] = numbers.first();
     if src == dst || asrc == adst {
         return Err(LineFault::Refused(Cause::Same));
     }
+    let (src, dst) = (key(ACCOUNTS, src), key(ACCOUNTS, dst));
+    let (asrc, adst) = (key(ASSETS, asrc), key(ASSETS, adst));
     let mut ops = List::with_room(alloc, 4)?;
-    ops.add(Op::new(Func::Sub, account(src), &[], a));
-    ops.add(Op::new(Func::Sub, asset(asrc), &[], b));
-    ops.add(Op::new(Func::MoveIn, account(dst), &[account(src)], a));
-    ops.add(Op::new(Func::MoveIn, asset(adst), &[asset(asrc)], b));
+    ops.add(Op::new(Func::Sub, src, &[], a));
+    ops.add(Op::new(Func::Sub, asrc, &[], b));
+    ops.add(Op::new(Func::MoveIn, dst, &[src], a));
+    ops.add(Op::new(Func::MoveIn, adst, &[asrc], b));
     Ok(Event { ts, ops })
 }
 
@@ -105,12 +92,10 @@ impl EventApp for Ledger {
     }
 
     fn read_event(&self, alloc: Global, words: &Words<'_>, size: u32) -> Result<Event, LineFault> {
-        if words.has_form(b'D', 5) {
-            deposit(alloc, words, size)
-        } else if words.has_form(b'X', 7) {
-            transfer(alloc, words, size)
-        } else {
-            Err(LineFault::Refused(Cause::Form))
+        match words.letter() {
+            Some(b'D') => deposit(alloc, words, size),
+            Some(b'X') => transfer(alloc, words, size),
+            _ => Err(LineFault::Refused(Cause::Form)),
         }
     }
 

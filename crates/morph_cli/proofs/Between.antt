@@ -1,8 +1,7 @@
 -- What holds between two batches of a run, over plain values.
-use Rattle.std.proofs.Common.{◌≡◌, ℕ, ◌+◌, ◌*◌, ◌<◌, ◌≤◌, true, false, List, [], length, Option, Result, Ok, Err, refl, ap, sym, subst, ◌∙◌, arith}
+use Rattle.std.proofs.Common.{◌≡◌, ℕ, ◌+◌, ◌*◌, ◌<◌, ◌≤◌, true, false, List, [], ◌++◌, length, Option, Result, Ok, Err, refl, ap, sym, subst, ◌∙◌, arith}
 use Rattle.std.specs.Prelude.{IsTrue, IsErrAnd, IsErrOf}
 use Rattle.std.proofs.Math.ListN.{length-map}
-use Rattle.std.proofs.lemmas.Bool.{false≢true}
 use Rattle.std.proofs.lemmas.List.Sorted.{length_permutation}
 use Rattle.morph_base.specs.declared.limits.TheConstants.{EVENT_OPS, EVENTS}
 use Rattle.morph_base.specs.declared.key.Layout.{Layout}
@@ -17,11 +16,11 @@ use Rattle.morph_base.proofs.NumberLaws.{op_count-small}
 use Rattle.morph_base.proofs.TimeLaws.{by_time-permutes}
 use Rattle.decision_model.specs.declared.counts.Last.{Last}
 use Rattle.morph_engine.specs.Accounts.{Account}
-use Rattle.morph_io.specs.Told.{IsAtEnd}
 use Rattle.event_reader.specs.declared.fault.ReaderFault.{ReaderFault}
 use Rattle.event_reader.specs.declared.fault.ReaderFault.TheVariants.{ReadFault, TooLong as LongInput, OutOfMemory as NoMemory}
 use Rattle.event_reader.specs.declared.answers.Next.{Next}
 use Rattle.event_reader.specs.declared.answers.Next.TheVariants.{Batch}
+use Rattle.event_reader.specs.Accepted.{Accepted}
 use Rattle.event_reader.specs.Steps.{Meaning}
 use Rattle.event_reader.specs.Reader.{ReaderView, new_reader, accepted_by, Takes, AnswersNext, ShowsNext, ShowsBatch}
 use Rattle.run_text.specs.declared.tally.Tally.{Tally}
@@ -29,7 +28,8 @@ use Rattle.morph_cli.specs.declared.fault.Fault.{Fault}
 use Rattle.morph_cli.specs.declared.fault.Fault.TheVariants.{Write, OutOfMemory as RunMemory}
 use Rattle.morph_cli.specs.declared.run.Finish.{Finish}
 use Rattle.morph_cli.specs.Faults.{fault_of}
-use Rattle.run_text.specs.Text.{told_lines}
+use Rattle.run_text.specs.Reports.{report_of}
+use Rattle.run_text.specs.Text.{told_lines, told_values, counts_line}
 use Rattle.run_text.specs.Counts.{Adds, HasRoom, no_tally}
 use Rattle.morph_cli.specs.Strategies.{last_of, no_last, strategy_by}
 use Rattle.morph_cli.specs.Tallies.{IsMadeOf, IsSound}
@@ -39,13 +39,23 @@ use Rattle.morph_cli.specs.Apps.{telling_by}
 use Rattle.run_text.specs.declared.choices.Settings.{Settings}
 use Rattle.morph_cli.proofs.Noting.{note_of}
 use Rattle.morph_cli.proofs.Tallying.{last_after, last_is, last_start, at_any}
+use Rattle.morph_cli.proofs.Taking.{TakesOn, takes_start, takes_batch}
 use Rattle.morph_cli.proofs.Turns.{cut_text}
-use Rattle.morph_cli.proofs.Ending.{Course, Goes, Ends, IsTold, meaning_in, goes_start, goes_batch, ends_read, ends_long, ends_memory, ends_batch_cut, told_short, told_in_batch}
+use Rattle.morph_cli.proofs.Ending.{Course, Goes, Ends, IsTold, meaning_in, accepted_in, given_at_start, goes_start, goes_batch, ends_read, ends_long, ends_memory, ends_batch_cut, told_short, told_in_batch}
 
 -- an error of which the value is told
 pub error_is : {T E : Type 0} (r : Result T E) (e : E) → IsErrAnd r (λ y. y ≡ e) → r ≡ Err e
 error_is (Ok x) e h = absurd h
 error_is (Err y) e h = ap Err h
+
+-- the closing text of some values, and that it stands at the end
+abbrev pub closing_of : Settings → (name : ℕ → List ℕ) → Kept → Tally → List ℕ
+closing_of s name values tally = told_values (report_of s) values.layout name (contents values) ++ counts_line tally.committed tally.aborted
+
+pub closing_last : (s : Settings) (name : ℕ → List ℕ) (values kept : Kept) (tally : Tally) (layout : Layout) → values ≡ kept → kept.layout ≡ layout →
+    closing_of s name values tally ≡ told_values (report_of s) layout name (contents kept) ++ counts_line tally.committed tally.aborted
+closing_last s name values kept tally layout same is =
+    ap (λ v. closing_of s name v tally) same ∙ ap (λ l. told_values (report_of s) l name (contents kept) ++ counts_line tally.committed tally.aborted) is
 
 -- a transaction has one fate
 pub fates-many : (s : State) (batch : TheBatch) (told : List Fate) → told ≡ fates s (by_time (transactions_of batch)) → length told ≡ length batch.events.items
@@ -71,57 +81,59 @@ course_of event_of tables name app s limit input old = record {
 }
 
 -- what a fault of the reader is to a run is no failed write
-reads_only : (e : ReaderFault) → fault_of e ≡ Write → ⊥
+pub reads_only : (e : ReaderFault) → fault_of e ≡ Write → ⊥
 reads_only ReadFault is = absurd (cc)
 reads_only LongInput is = absurd (cc)
 reads_only NoMemory is = absurd (cc)
 
 module _ {App : Type 0} where
   pub record Between (c : Course App) (left : Option (List ℕ)) (new : Outputs) (r : ReaderView App) (values : Kept) (tally : Tally) (out : List ℕ) (last : Last) : Type 0 where
-    pub goes : Goes c left new r (contents values) tally
+    pub goes : Goes c (accepted_by c.event_of r left) new (contents values) tally
+    pub takes : TakesOn (meaning_in c) c.input left r.closed r.lines goes.done
     pub layout : values.layout ≡ c.telling.layout
     pub app_is : r.app ≡ c.app
     pub size_is : r.size ≡ c.size
     pub limit_is : r.lines.limit ≡ c.limit
     pub number : r.lines.number ≤ c.limit + 1
     pub live : IsTrue r.live
-    pub at_end : IsTrue r.lines.ended → IsAtEnd left
     pub kept : out ≡ []
     -- what came of the batch before is at hand
     pub last_is : last ≡ last_after goes.done
     pub counted : tally.committed + tally.aborted ≤ r.lines.number
 
   abbrev NewFacts : Course App → ReaderView App → Type 0
-  NewFacts c r = (r.app ≡ c.app) × (r.size ≡ c.size) × (r.lines.limit ≡ c.limit) × (r.lines.number ≡ 0) × IsTrue r.live × (r.lines.ended ≡ false)
+  NewFacts c r = (r.app ≡ c.app) × (r.size ≡ c.size) × (r.lines.limit ≡ c.limit) × (r.lines.number ≡ 0) × IsTrue r.live
+
+  -- a new reader has all of them still to give
+  given_new : (c : Course App) (r : ReaderView App) → r ≡ new_reader c.app c.size c.limit → accepted_in c ≡ accepted_by c.event_of r c.input
+  given_new c r new = given_at_start c.event_of c.app c.size c.limit c.input ∙ ap (λ v. accepted_by c.event_of v c.input) (sym new)
 
   pub between_start : (c : Course App) (r : ReaderView App) (values : Kept) (tally : Tally) (out : List ℕ) (last : Last) (layout : Layout) → r ≡ new_reader c.app c.size c.limit →
       values.layout ≡ layout → layout ≡ c.telling.layout → contents values ≡ opening_state → out ≡ [] → last ≡ no_last → tally ≡ no_tally → Between c c.input c.old r values tally out last
   unfolding goes_start
   between_start c r values tally out last layout new layout_is tables_are opening empty unlast none =
-      let facts : NewFacts c r = subst (NewFacts c) (sym new) (refl, refl, refl, refl, refl, refl) in
+      let facts : NewFacts c r = subst (NewFacts c) (sym new) (refl, refl, refl, refl, refl) in
       record {
-        goes = goes_start c r (contents values) tally new opening none;
+        goes = goes_start c (accepted_by c.event_of r c.input) (contents values) tally (given_new c r new) opening none;
+        takes = subst (λ v. TakesOn (meaning_in c) c.input c.input v.closed v.lines []) (sym new) (takes_start (meaning_in c) c.limit c.input);
         layout = layout_is ∙ tables_are;
         app_is = facts.0;
         size_is = facts.1;
         limit_is = facts.2;
         number = omega (arith, facts.3);
         live = facts.4;
-        at_end = λ ended. absurd (false≢true (sym facts.5 ∙ ended));
         kept = empty;
         last_is = unlast ∙ last_start;
         counted = let committed = ap (λ (t : Tally). t.committed) none in let aborted = ap (λ (t : Tally). t.aborted) none in omega (arith, facts.3, committed, aborted);
       }
 
   -- the numbers of the tally have room for one batch more
-  pub has_room : {c : Course App} {left : Option (List ℕ)} {new : Outputs} {r : ReaderView App} {values : Kept} {tally : Tally} {out : List ℕ} {last : Last} (a : Account) →
-      Between c left new r values tally out last → c.limit ≤ 1073741824 → IsPlan a.plan → IsSound c.settings.workers a → HasRoom tally a
-  has_room {c} {left} {new} {r} {values} {tally} {out} {last} a b short valid sound =
-      let t = b.goes.tallied in
+  pub room_for : {c : Course App} {now : Option Accepted} {new : Outputs} {s : State} {tally : Tally} (a : Account) → Goes c now new s tally →
+      tally.committed + tally.aborted ≤ c.limit + 1 → c.limit ≤ 1073741824 → IsPlan a.plan → IsSound c.settings.workers a → HasRoom tally a
+  room_for {c} {now} {new} {s} {tally} a goes told short valid sound =
+      let t = goes.tallied in
       let events = t.balanced.events in
-      let counted = b.counted in
-      let number = b.number in
-      let few_batches : tally.batches ≤ 1073741825 = let batches = t.few_batches in omega (arith, events, batches, counted, number, short) in
+      let few_batches : tally.batches ≤ 1073741825 = let batches = t.few_batches in omega (arith, events, batches, told, short) in
       let few_ops : tally.ops ≤ EVENT_OPS * EVENTS * 1073741825 = let ops = t.few_ops in omega (arith, few_batches, ops) in
       let more : op_count a.plan ≤ EVENT_OPS * EVENTS = op_count-small a.plan valid in
       let more_events : event_count a.plan ≤ EVENTS = valid.numbering.few in
@@ -130,8 +142,8 @@ module _ {App : Type 0} where
       let rolled_few = few.1 in
       record {
         batches = omega (arith, few_batches);
-        events = omega (arith, events, counted, number, short, more_events);
-        counts = omega (arith, counted, number, short, more_events);
+        events = omega (arith, events, told, short, more_events);
+        counts = omega (arith, told, short, more_events);
         ops = omega (arith, few_ops, more);
         evaluated = let old = t.balanced.evaluated in omega (arith, few_ops, more, old, evaluated_few);
         spread = let old = t.balanced.evaluated in omega (arith, few_ops, more, old, evaluated_few);
@@ -140,7 +152,11 @@ module _ {App : Type 0} where
         settled = let old = t.balanced.settled in let added = sound.each in omega (arith, few_ops, more, old, added);
       }
 
-  meaning_is : (c : Course App) (r : ReaderView App) → r.app ≡ c.app → r.size ≡ c.size → c.event_of r.app r.size ≡ meaning_in c
+  pub has_room : {c : Course App} {left : Option (List ℕ)} {new : Outputs} {r : ReaderView App} {values : Kept} {tally : Tally} {out : List ℕ} {last : Last} (a : Account) →
+      Between c left new r values tally out last → c.limit ≤ 1073741824 → IsPlan a.plan → IsSound c.settings.workers a → HasRoom tally a
+  has_room a b short valid sound = let counted = b.counted in let number = b.number in room_for a b.goes (omega (arith, counted, number)) short valid sound
+
+  pub meaning_is : (c : Course App) (r : ReaderView App) → r.app ≡ c.app → r.size ≡ c.size → c.event_of r.app r.size ≡ meaning_in c
   meaning_is c r app_is size_is = ap (λ a. c.event_of a r.size) app_is ∙ ap (c.event_of c.app) size_is
 
   pub between_batch : {c : Course App} {left left' : Option (List ℕ)} {new newer : Outputs} {r r' : ReaderView App} {values values' : Kept} {tally tally' : Tally} {out out' : List ℕ} {last last' : Last}
@@ -148,25 +164,25 @@ module _ {App : Type 0} where
       AnswersNext (accepted_by c.event_of r left) (Ok (Batch batch)) (accepted_by c.event_of r' left') →
       Takes left left' (ShowsNext c.event_of r (Ok (Batch batch)) r') →
       0 < length batch.events.items → r.lines.number + length batch.events.items ≤ r'.lines.number → r'.lines.number ≤ r'.lines.limit + 1 →
-      (r'.app ≡ r.app) × (r'.size ≡ r.size) × (r'.lines.limit ≡ r.lines.limit) → (IsTrue r'.lines.ended → IsAtEnd left') →
+      (r'.app ≡ r.app) × (r'.size ≡ r.size) × (r'.lines.limit ≡ r.lines.limit) →
       (r'.lines.ended ≡ false → r.lines.ended ≡ false) → r'.live ≡ true → values'.layout ≡ values.layout →
       contents values' ≡ fold_batch batch (contents values) → told ≡ fates (contents values) (by_time (transactions_of batch)) →
       newer ≡ with_both new (told_lines c.telling.report told) (note_of c.settings tally'.batches a) → out' ≡ [] →
       Adds tally tally' a told → IsSound c.settings.workers a → IsMadeOf (contents values) (transactions_of batch) a.plan → a.strategy ≡ strategy_by c.settings.planning a.plan last →
       last' ≡ last_of told → Between c left' newer r' values' tally' out' last'
   unfolding goes_batch
-  between_batch {c} {left} {left'} {new} {newer} {r} {r'} {values} {values'} {tally} {tally'} {out} {out'} {last} {last'} batch told a b answers shows some counted bound same at_end unended live layout_is
+  between_batch {c} {left} {left'} {new} {newer} {r} {r'} {values} {values'} {tally} {tally'} {out} {out'} {last} {last'} batch told a b answers shows some counted bound same unended live layout_is
       state fates_are written empty adds sound made chosen last_told = record {
-        goes = goes_batch c left left' new newer r r' (contents values) (contents values') tally tally' batch told a b.goes (simp length-map some) answers unended
-            (subst (λ m. Takes left left' (ShowsBatch m r.closed r.lines (Ok (Batch batch)) r'.closed r'.lines)) (meaning_is c r b.app_is b.size_is) shows) state fates_are
-            written adds sound made (chosen ∙ ap (strategy_by c.settings.planning a.plan) b.last_is) (some_fates (contents values) batch told fates_are some);
+        goes = goes_batch c _ (accepted_by c.event_of r' left') new newer (contents values) (contents values') tally tally' (transactions_of batch) told a b.goes (simp length-map some) answers
+            state fates_are written adds sound made (chosen ∙ ap (strategy_by c.settings.planning a.plan) b.last_is) (some_fates (contents values) batch told fates_are some);
+        takes = takes_batch (meaning_in c) c.input left left' r.closed r'.closed r.lines r'.lines b.goes.done batch b.takes (simp length-map some) unended
+            (subst (λ m. Takes left left' (ShowsBatch m r.closed r.lines (Ok (Batch batch)) r'.closed r'.lines)) (meaning_is c r b.app_is b.size_is) shows);
         layout = layout_is ∙ b.layout;
         app_is = same.0 ∙ b.app_is;
         size_is = same.1 ∙ b.size_is;
         limit_is = same.2 ∙ b.limit_is;
         number = let l = same.2 in omega (arith, b.limit_is);
         live = live;
-        at_end = at_end;
         kept = empty;
         last_is = last_told ∙ last_is b.goes.done (transactions_of batch) told (fates_are ∙ ap (λ s. fates s (by_time (transactions_of batch))) b.goes.runs.state);
         counted = let n = fates-many (contents values) batch told fates_are in let before = b.counted in let all = adds.both in omega (arith, n, before, all, counted);
@@ -174,10 +190,10 @@ module _ {App : Type 0} where
 
   -- memory was refused before the first batch
   pub ends_at_once : {x : Result Finish Fault} (c : Course App) (left' : Option (List ℕ)) (tally : Tally) → x ≡ Err RunMemory → tally ≡ no_tally → Ends c left' x c.old
-  ends_at_once c left' tally failed none = ends_memory left' failed (goes_start c (new_reader c.app c.size c.limit) opening_state tally refl refl none)
+  ends_at_once c left' tally failed none = ends_memory left' failed (goes_start c (accepted_in c) opening_state tally refl refl none)
 
   pub told_at_once : {x : Result Finish Fault} (c : Course App) (tally : Tally) → x ≡ Err RunMemory → tally ≡ no_tally → IsTold c (status_of x) tally c.old
-  told_at_once c tally failed none = told_short RunMemory failed (λ is. absurd (cc)) (goes_start c (new_reader c.app c.size c.limit) opening_state tally refl refl none)
+  told_at_once c tally failed none = told_short RunMemory failed (λ is. absurd (cc)) (goes_start c (accepted_in c) opening_state tally refl refl none)
 
   -- the reader failed
   pub ends_fault : {c : Course App} {left : Option (List ℕ)} {new : Outputs} {r : ReaderView App} {values : Kept} {tally : Tally} {out : List ℕ} {last : Last} {x : Result Finish Fault}
@@ -189,9 +205,9 @@ module _ {App : Type 0} where
       by_fault : (e : ReaderFault) → AnswersNext (accepted_by c.event_of r left) (Err e) (accepted_by c.event_of r' left') →
           Takes left left' (ShowsNext c.event_of r (Err e) r') → (IsErrOf {T = Next} (Err e) ReadFault → r.lines.ended ≡ false) → Ends c left' (Err (fault_of e)) new
       by_fault ReadFault answers shows asked =
-          ends_read c left left' new r (contents values) tally b.goes (asked refl)
+          ends_read c _ new (contents values) tally left left' r.closed r.lines b.goes b.takes (asked refl)
           (subst (λ m. Takes left left' (ShowsBatch m r.closed r.lines (Err ReadFault) r'.closed r'.lines)) (meaning_is c r b.app_is b.size_is) shows)
-      by_fault LongInput answers shows asked = ends_long c left left' new r (contents values) tally b.goes answers
+      by_fault LongInput answers shows asked = ends_long c _ new (contents values) tally left' b.goes answers
       by_fault NoMemory answers shows asked = ends_memory left' refl b.goes
 
   pub told_fault : {c : Course App} {left : Option (List ℕ)} {new : Outputs} {r : ReaderView App} {values : Kept} {tally : Tally} {out : List ℕ} {last : Last} {x : Result Finish Fault}
@@ -204,7 +220,7 @@ module _ {App : Type 0} where
       AnswersNext (accepted_by c.event_of r left) (Ok (Batch batch)) (accepted_by c.event_of r' left') → 0 < length batch.events.items →
       told ≡ fates (contents values) (by_time (transactions_of batch)) → IsCutIn new (told_lines c.telling.report told) note newer → Ends c left' x newer
   ends_in_batch {c} {left} {new} {r} {values} {tally} {out} {last} {x} left' newer r' batch told note failed b answers some fates_are cut =
-      ends_batch_cut left' left' newer r' (transactions_of batch) told failed b.goes (simp length-map some) answers fates_are
+      ends_batch_cut (accepted_by c.event_of r' left') left' newer (transactions_of batch) told failed b.goes (simp length-map some) answers fates_are
       (cut_text new (told_lines c.telling.report told) note newer cut)
 
   pub told_cut_in_batch : {c : Course App} {left : Option (List ℕ)} {new : Outputs} {r : ReaderView App} {values : Kept} {tally tally' : Tally} {out : List ℕ} {last : Last} {x : Result Finish Fault}
@@ -214,5 +230,5 @@ module _ {App : Type 0} where
       Adds tally tally' a told → IsSound c.settings.workers a → IsMadeOf (contents values) (transactions_of batch) a.plan → a.strategy ≡ strategy_by c.settings.planning a.plan last →
       IsCutIn new (told_lines c.telling.report told) (note_of c.settings tally'.batches a) newer → IsTold c (status_of x) tally' newer
   told_cut_in_batch {c} {left} {new} {r} {values} {tally} {tally'} {out} {last} {x} left' newer r' batch told a failed b answers some fates_are adds sound made chosen cut =
-      told_in_batch left' newer r' (transactions_of batch) failed b.goes answers (simp length-map some) fates_are
+      told_in_batch (accepted_by c.event_of r' left') newer (transactions_of batch) failed b.goes answers (simp length-map some) fates_are
       adds sound made (chosen ∙ ap (strategy_by c.settings.planning a.plan) b.last_is) (some_fates (contents values) batch told fates_are some) cut

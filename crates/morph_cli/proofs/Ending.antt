@@ -1,8 +1,7 @@
 -- How a run ends, by the answer that ends it.
 use Rattle.std.proofs.Common.{◌≡◌, ◌⊎◌, inl, inr, ℕ, ◌+◌, ◌-◌, ◌<◌, false, List, [], ◌∷◌, ◌++◌, length, Option, Some, None, Result, Ok, Err, refl, ap, sym, subst, ◌∙◌, arith}
 use Rattle.std.specs.Prelude.{option_map, IfSome}
-use Rattle.morph_base.specs.declared.event.Batch.{Batch as TheBatch}
-use Rattle.morph_base.specs.Transactions.{Transaction, transactions_of, by_time}
+use Rattle.morph_base.specs.Transactions.{Transaction, by_time}
 use Rattle.morph_base.specs.States.{State, opening_state, after_all}
 use Rattle.morph_base.specs.Outcomes.{Fate, fates}
 use Rattle.morph_io.specs.Told.{ahead, behind, AppendsPrefix}
@@ -10,8 +9,7 @@ use Rattle.event_reader.specs.declared.cause.Cause.{Cause}
 use Rattle.event_reader.specs.Steps.{Meaning}
 use Rattle.event_reader.specs.Lines.{front, within}
 use Rattle.event_reader.specs.Accepted.{Accepted, Ending, Ended, RefusedAt, CutOff, with_batch, accepted_within}
-use Rattle.event_reader.specs.declared.answers.Next.TheVariants.{Batch}
-use Rattle.event_reader.specs.Reader.{ReaderView, new_reader, accepted_by, accepted_after, accepted_next, Takes, ShowsBatch}
+use Rattle.event_reader.specs.Reader.{LinesView, new_reader, accepted_by, accepted_after, accepted_next, Takes}
 use Rattle.morph_engine.specs.Accounts.{Account}
 use Rattle.run_text.specs.declared.choices.Settings.{Settings}
 use Rattle.run_text.specs.declared.tally.Tally.{Tally}
@@ -29,7 +27,7 @@ use Rattle.morph_cli.specs.Tallies.{IsMadeOf, IsSound, RunTold}
 use Rattle.run_text.specs.Text.{Telling, event_lines, told_lines, run_state, end_text}
 use Rattle.morph_cli.proofs.Noting.{IsNoted, note_of, notes_of, noted_nothing, noted_more, number_is}
 use Rattle.morph_cli.proofs.Running.{RunsOn, IsLast, fronts, runs_start, runs_batch, runs_ended, runs_done, runs_cut, runs_short, runs_cut_in_batch, whole_more, told_more, last_is}
-use Rattle.morph_cli.proofs.Taking.{TakesOn, takes_start, takes_batch, takes_failed}
+use Rattle.morph_cli.proofs.Taking.{TakesOn, takes_failed}
 use Rattle.morph_cli.proofs.Tallying.{Tallied, last_after, tallied_start, tallied_more}
 use Rattle.morph_cli.proofs.Turns.{both_is, both_as, cut_as}
 
@@ -122,13 +120,12 @@ module _ {App : Type 0} where
   abbrev pub IsTold : Course App → (status : ℕ) → Tally → Outputs → Type 0
   IsTold c status t new = RunTold c.telling (accepted_in c) c.settings status t c.old new
 
-  -- between two batches of a run: some batches were done
-  pub record Goes (c : Course App) (left : Option (List ℕ)) (new : Outputs) (r : ReaderView App) (s : State) (tally : Tally) : Type 0 where
+  -- between two batches of a run: some batches were done, and `now` are those that are still to come
+  pub record Goes (c : Course App) (now : Option Accepted) (new : Outputs) (s : State) (tally : Tally) : Type 0 where
     pub done : List (List Transaction)
     pub accounts : List Account
     pub tallied : Tallied c.settings.planning c.settings.workers done accounts tally
-    pub runs : RunsOn c.telling (accepted_in c) (accepted_by c.event_of r left) c.old.sink new.sink s tally done
-    pub takes : TakesOn (meaning_in c) c.input left r.closed r.lines done
+    pub runs : RunsOn c.telling (accepted_in c) now c.old.sink new.sink s tally done
     pub noted : IsNoted c.settings accounts c.old.notes new.notes
 
   -- the strategy of a batch behind these is the one that was asked for, or chosen
@@ -144,42 +141,36 @@ module _ {App : Type 0} where
       ap (λ n. Some (accepted_after event_of (new_reader app size limit) (within n input))) {x = limit} {y = 0 + (limit - 0)} (omega arith)
 
   -- nothing was done yet
-  unfoldable pub goes_start : (c : Course App) (r : ReaderView App) (s : State) (tally : Tally) → r ≡ new_reader c.app c.size c.limit → s ≡ opening_state → tally ≡ no_tally →
-      Goes c c.input c.old r s tally
-  goes_start c r s tally new opening none = record {
+  unfoldable pub goes_start : (c : Course App) (now : Option Accepted) (s : State) (tally : Tally) → accepted_in c ≡ now → s ≡ opening_state → tally ≡ no_tally →
+      Goes c now c.old s tally
+  goes_start c now s tally given opening none = record {
     done = [];
     accounts = [];
     tallied = tallied_start c.settings.planning c.settings.workers tally none;
-    runs = subst (λ now. RunsOn c.telling (accepted_in c) now c.old.sink c.old.sink s tally [])
-        (given_at_start c.event_of c.app c.size c.limit c.input ∙ ap (λ v. accepted_by c.event_of v c.input) (sym new))
+    runs = subst (λ all. RunsOn c.telling (accepted_in c) all c.old.sink c.old.sink s tally []) given
         (runs_start c.telling (accepted_in c) c.old.sink s tally opening (ap (λ (t : Tally). t.committed) none) (ap (λ (t : Tally). t.aborted) none));
-    takes = subst (λ v. TakesOn (meaning_in c) c.input c.input v.closed v.lines []) (sym new) (takes_start (meaning_in c) c.limit c.input);
     noted = noted_nothing c.settings c.old.notes;
   }
 
   -- a batch was run, and counted
-  pub tallied_batch : (c : Course App) (left : Option (List ℕ)) (new : Outputs) (r : ReaderView App) (s : State) (tally tally' : Tally) (batch : List Transaction) (told : List Fate)
-      (a : Account) → (goes : Goes c left new r s tally) → told ≡ fates s (by_time batch) → Adds tally tally' a told → IsSound c.settings.workers a → IsMadeOf s batch a.plan → IsChosen c goes.done a → 0 < length told →
+  pub tallied_batch : (c : Course App) (now : Option Accepted) (new : Outputs) (s : State) (tally tally' : Tally) (batch : List Transaction) (told : List Fate)
+      (a : Account) → (goes : Goes c now new s tally) → told ≡ fates s (by_time batch) → Adds tally tally' a told → IsSound c.settings.workers a → IsMadeOf s batch a.plan → IsChosen c goes.done a → 0 < length told →
       Tallied c.settings.planning c.settings.workers (goes.done ++ batch ∷ []) (goes.accounts ++ a ∷ []) tally'
-  tallied_batch c left new r s tally tally' batch told a goes told_is adds sound made chosen events =
+  tallied_batch c now new s tally tally' batch told a goes told_is adds sound made chosen events =
       tallied_more c.settings.planning c.settings.workers goes.done goes.accounts tally tally' batch a told goes.tallied adds sound (subst (λ q. IsMadeOf q batch a.plan) goes.runs.state made) chosen
       (told_more goes.done batch s told goes.runs.state told_is) events
 
   -- a batch was done
-  unfoldable pub goes_batch : (c : Course App) (left left' : Option (List ℕ)) (new newer : Outputs) (r r' : ReaderView App) (s t : State) (tally tally' : Tally) (batch : TheBatch)
-      (told : List Fate) (a : Account) → (goes : Goes c left new r s tally) → 0 < length (transactions_of batch) →
-      accepted_by c.event_of r left ≡ option_map (with_batch (transactions_of batch)) (accepted_by c.event_of r' left') → (r'.lines.ended ≡ false → r.lines.ended ≡ false) →
-      Takes left left' (ShowsBatch (meaning_in c) r.closed r.lines (Ok (Batch batch)) r'.closed r'.lines) →
-      t ≡ after_all s (by_time (transactions_of batch)) → told ≡ fates s (by_time (transactions_of batch)) →
-      newer ≡ with_both new (told_lines c.telling.report told) (note_of c.settings tally'.batches a) →
-      Adds tally tally' a told → IsSound c.settings.workers a → IsMadeOf s (transactions_of batch) a.plan → IsChosen c goes.done a → 0 < length told → Goes c left' newer r' t tally'
-  goes_batch c left left' new newer r r' s t tally tally' batch told a goes some was unended took state told_is written adds sound made chosen events = record {
-    done = goes.done ++ transactions_of batch ∷ [];
+  unfoldable pub goes_batch : (c : Course App) (now next : Option Accepted) (new newer : Outputs) (s t : State) (tally tally' : Tally) (batch : List Transaction)
+      (told : List Fate) (a : Account) → (goes : Goes c now new s tally) → 0 < length batch → now ≡ option_map (with_batch batch) next →
+      t ≡ after_all s (by_time batch) → told ≡ fates s (by_time batch) → newer ≡ with_both new (told_lines c.telling.report told) (note_of c.settings tally'.batches a) →
+      Adds tally tally' a told → IsSound c.settings.workers a → IsMadeOf s batch a.plan → IsChosen c goes.done a → 0 < length told → Goes c next newer t tally'
+  goes_batch c now next new newer s t tally tally' batch told a goes some was state told_is written adds sound made chosen events = record {
+    done = goes.done ++ batch ∷ [];
     accounts = goes.accounts ++ a ∷ [];
-    tallied = tallied_batch c left new r s tally tally' (transactions_of batch) told a goes told_is adds sound made chosen events;
-    runs = runs_batch c.telling _ _ _ c.old.sink new.sink newer.sink s t tally tally' goes.done (transactions_of batch) told goes.runs was some state told_is
+    tallied = tallied_batch c now new s tally tally' batch told a goes told_is adds sound made chosen events;
+    runs = runs_batch c.telling _ _ _ c.old.sink new.sink newer.sink s t tally tally' goes.done batch told goes.runs was some state told_is
         (ap (λ (o : Outputs). o.sink) written) adds.committed adds.aborted;
-    takes = takes_batch (meaning_in c) c.input left left' r.closed r'.closed r.lines r'.lines goes.done batch goes.takes some unended took;
     noted = noted_more c.settings goes.accounts a tally'.batches c.old.notes new.notes newer.notes (number_is tally'.batches goes.tallied adds.batches) goes.noted
         (ap (λ (o : Outputs). o.notes) written);
   }
@@ -194,118 +185,118 @@ module _ {App : Type 0} where
       by_input None holds = tt
       by_input (Some input) holds = holds input refl
 
-  runs_over : (c : Course App) (left : Option (List ℕ)) (new : Outputs) (r : ReaderView App) (s : State) (tally : Tally) (input : List ℕ) → c.input ≡ Some input →
-      (goes : Goes c left new r s tally) →
-      RunsOn c.telling (Some (accepted_within (meaning_in c) c.limit input)) (accepted_by c.event_of r left) c.old.sink new.sink s tally goes.done
-  runs_over c left new r s tally input is goes =
-      subst (λ told. RunsOn c.telling (option_map (accepted_within (meaning_in c) c.limit) told) (accepted_by c.event_of r left) c.old.sink new.sink s tally goes.done) is goes.runs
+  runs_over : (c : Course App) (now : Option Accepted) (new : Outputs) (s : State) (tally : Tally) (input : List ℕ) → c.input ≡ Some input →
+      (goes : Goes c now new s tally) →
+      RunsOn c.telling (Some (accepted_within (meaning_in c) c.limit input)) now c.old.sink new.sink s tally goes.done
+  runs_over c now new s tally input is goes =
+      subst (λ told. RunsOn c.telling (option_map (accepted_within (meaning_in c) c.limit) told) now c.old.sink new.sink s tally goes.done) is goes.runs
 
   -- the answer in place of what it is
   ends_as : (c : Course App) (left : Option (List ℕ)) (new : Outputs) (x y : Result Finish Fault) → x ≡ y → Ends c left y new → Ends c left x new
   ends_as c left new x y is ends = subst (λ z. Ends c left z new) (sym is) ends
 
   -- the closing text was written
-  pub ends_complete : {c : Course App} {left : Option (List ℕ)} {new : Outputs} {r : ReaderView App} {s : State} {tally : Tally} (left' : Option (List ℕ)) (newer : Outputs) (text note : List ℕ) →
-      Goes c left new r s tally → IfSome (accepted_by c.event_of r left) (IsOver Ended) → IsLast c.telling s tally Ended text →
+  pub ends_complete : {c : Course App} {now : Option Accepted} {new : Outputs} {s : State} {tally : Tally} (left' : Option (List ℕ)) (newer : Outputs) (text note : List ℕ) →
+      Goes c now new s tally → IfSome now (IsOver Ended) → IsLast c.telling s tally Ended text →
       newer ≡ with_both new text note → Ends c left' (Ok Complete) newer
-  ends_complete {c} {left} {new} {r} {s} {tally} left' newer text note goes over last written =
+  ends_complete {c} {now} {new} {s} {tally} left' newer text note goes over last written =
       over_input c (λ input. EndsSo (meaning_in c) c.telling c.limit input left' c.old.sink (Ok Complete) newer.sink) (λ input is.
-      runs_done c.telling _ _ c.old.sink new.sink newer.sink s tally goes.done Ended text (runs_over c left new r s tally input is goes) over last (ap (λ (o : Outputs). o.sink) written))
+      runs_done c.telling _ _ c.old.sink new.sink newer.sink s tally goes.done Ended text (runs_over c now new s tally input is goes) over last (ap (λ (o : Outputs). o.sink) written))
 
   -- the refused text was written
-  pub ends_refused : {c : Course App} {left : Option (List ℕ)} {new : Outputs} {r : ReaderView App} {s : State} {tally : Tally} (left' : Option (List ℕ)) (newer : Outputs) (line : ℕ) (cause : Cause)
-      (text note : List ℕ) → Goes c left new r s tally → IfSome (accepted_by c.event_of r left) (IsOver (RefusedAt line cause)) → IsLast c.telling s tally (RefusedAt line cause) text →
+  pub ends_refused : {c : Course App} {now : Option Accepted} {new : Outputs} {s : State} {tally : Tally} (left' : Option (List ℕ)) (newer : Outputs) (line : ℕ) (cause : Cause)
+      (text note : List ℕ) → Goes c now new s tally → IfSome now (IsOver (RefusedAt line cause)) → IsLast c.telling s tally (RefusedAt line cause) text →
       newer ≡ with_both new text note → Ends c left' (Ok Refused) newer
-  ends_refused {c} {left} {new} {r} {s} {tally} left' newer line cause text note goes over last written =
+  ends_refused {c} {now} {new} {s} {tally} left' newer line cause text note goes over last written =
       over_input c (λ input. EndsSo (meaning_in c) c.telling c.limit input left' c.old.sink (Ok Refused) newer.sink) (λ input is.
-      let d = runs_done c.telling _ _ c.old.sink new.sink newer.sink s tally goes.done (RefusedAt line cause) text (runs_over c left new r s tally input is goes) over last
+      let d = runs_done c.telling _ _ c.old.sink new.sink newer.sink s tally goes.done (RefusedAt line cause) text (runs_over c now new s tally input is goes) over last
       (ap (λ (o : Outputs). o.sink) written) in (line, cause, d.0, d.1))
 
   -- reading failed
-  pub ends_read : (c : Course App) (left left' : Option (List ℕ)) (new : Outputs) (r : ReaderView App) (s : State) (tally : Tally) →
-      Goes c left new r s tally → r.lines.ended ≡ false →
-      Takes left left' (λ got. accepted_next (meaning_in c) r.closed r.lines (front (r.lines.kept ++ got)) ≡ record { batches = []; ending = CutOff }) → Ends c left' (Err Read) new
-  ends_read c left left' new r s tally goes unended took =
+  pub ends_read : (c : Course App) (now : Option Accepted) (new : Outputs) (s : State) (tally : Tally) (left left' : Option (List ℕ)) (closed : ℕ) (lines : LinesView) →
+      (goes : Goes c now new s tally) → TakesOn (meaning_in c) c.input left closed lines goes.done → lines.ended ≡ false →
+      Takes left left' (λ got. accepted_next (meaning_in c) closed lines (front (lines.kept ++ got)) ≡ record { batches = []; ending = CutOff }) → Ends c left' (Err Read) new
+  ends_read c now new s tally left left' closed lines goes takes unended took =
       over_input c (λ input. EndsSo (meaning_in c) c.telling c.limit input left' c.old.sink (Err Read) new.sink) (λ input is.
-      takes_failed c.telling (meaning_in c) input left left' c.old.sink new.sink r.closed r.lines goes.done
-      (subst (λ told. TakesOn (meaning_in c) told left r.closed r.lines goes.done) is goes.takes) unended took goes.runs.appended)
+      takes_failed c.telling (meaning_in c) input left left' c.old.sink new.sink closed lines goes.done
+      (subst (λ told. TakesOn (meaning_in c) told left closed lines goes.done) is takes) unended took goes.runs.appended)
 
   -- the input is too long
-  pub ends_long : (c : Course App) (left left' : Option (List ℕ)) (new : Outputs) (r : ReaderView App) (s : State) (tally : Tally) →
-      Goes c left new r s tally → IfSome (accepted_by c.event_of r left) (IsOver CutOff) → Ends c left' (Err TooLong) new
-  ends_long c left left' new r s tally goes over =
+  pub ends_long : (c : Course App) (now : Option Accepted) (new : Outputs) (s : State) (tally : Tally) (left' : Option (List ℕ)) →
+      Goes c now new s tally → IfSome now (IsOver CutOff) → Ends c left' (Err TooLong) new
+  ends_long c now new s tally left' goes over =
       over_input c (λ input. EndsSo (meaning_in c) c.telling c.limit input left' c.old.sink (Err TooLong) new.sink) (λ input is.
-      let runs = runs_over c left new r s tally input is goes in
+      let runs = runs_over c now new s tally input is goes in
       let whole = runs_ended c.telling _ _ c.old.sink new.sink s tally goes.done CutOff runs over in
       (ap (λ (a : Accepted). a.ending) whole, runs.appended ∙ ap (λ (a : Accepted). behind c.old.sink (event_lines c.telling.report a.batches)) (sym whole)))
 
   -- memory was refused, before or between batches
-  pub ends_memory : {c : Course App} {left : Option (List ℕ)} {new : Outputs} {r : ReaderView App} {s : State} {tally : Tally} {x : Result Finish Fault} (left' : Option (List ℕ)) →
-      x ≡ Err OutOfMemory → Goes c left new r s tally → Ends c left' x new
-  ends_memory {c} {left} {new} {r} {s} {tally} {x} left' failed goes =
+  pub ends_memory : {c : Course App} {now : Option Accepted} {new : Outputs} {s : State} {tally : Tally} {x : Result Finish Fault} (left' : Option (List ℕ)) →
+      x ≡ Err OutOfMemory → Goes c now new s tally → Ends c left' x new
+  ends_memory {c} {now} {new} {s} {tally} {x} left' failed goes =
       ends_as c left' new x (Err OutOfMemory) failed
       (over_input c (λ input. EndsSo (meaning_in c) c.telling c.limit input left' c.old.sink (Err OutOfMemory) new.sink) (λ input is.
-      runs_short c.telling _ _ c.old.sink new.sink s tally goes.done (runs_over c left new r s tally input is goes)))
+      runs_short c.telling _ _ c.old.sink new.sink s tally goes.done (runs_over c now new s tally input is goes)))
 
   -- writing failed at the end
-  pub ends_cut : {c : Course App} {left : Option (List ℕ)} {new : Outputs} {r : ReaderView App} {s : State} {tally : Tally} {x : Result Finish Fault} (left' : Option (List ℕ)) (newer : Outputs)
-      (ending : Ending) (text : List ℕ) → x ≡ Err Write → Goes c left new r s tally → IfSome (accepted_by c.event_of r left) (IsOver ending) →
+  pub ends_cut : {c : Course App} {now : Option Accepted} {new : Outputs} {s : State} {tally : Tally} {x : Result Finish Fault} (left' : Option (List ℕ)) (newer : Outputs)
+      (ending : Ending) (text : List ℕ) → x ≡ Err Write → Goes c now new s tally → IfSome now (IsOver ending) →
       IsLast c.telling s tally ending text → AppendsPrefix new.sink text newer.sink → Ends c left' x newer
-  ends_cut {c} {left} {new} {r} {s} {tally} {x} left' newer ending text failed goes over last cut =
+  ends_cut {c} {now} {new} {s} {tally} {x} left' newer ending text failed goes over last cut =
       ends_as c left' newer x (Err Write) failed
       (over_input c (λ input. EndsSo (meaning_in c) c.telling c.limit input left' c.old.sink (Err Write) newer.sink) (λ input is.
-      runs_cut c.telling _ _ c.old.sink new.sink newer.sink s tally goes.done ending text (runs_over c left new r s tally input is goes) over last cut))
+      runs_cut c.telling _ _ c.old.sink new.sink newer.sink s tally goes.done ending text (runs_over c now new s tally input is goes) over last cut))
 
   -- writing failed in a batch
-  pub ends_batch_cut : {c : Course App} {left : Option (List ℕ)} {new : Outputs} {r : ReaderView App} {s : State} {tally : Tally} {x : Result Finish Fault}
-      (left' left'' : Option (List ℕ)) (newer : Outputs) (r' : ReaderView App) (batch : List Transaction) (told : List Fate) → x ≡ Err Write → Goes c left new r s tally →
-      0 < length batch → accepted_by c.event_of r left ≡ option_map (with_batch batch) (accepted_by c.event_of r' left') → told ≡ fates s (by_time batch) →
-      AppendsPrefix new.sink (told_lines c.telling.report told) newer.sink → Ends c left'' x newer
-  ends_batch_cut {c} {left} {new} {r} {s} {tally} {x} left' left'' newer r' batch told failed goes some was told_is cut =
-      ends_as c left'' newer x (Err Write) failed
-      (over_input c (λ input. EndsSo (meaning_in c) c.telling c.limit input left'' c.old.sink (Err Write) newer.sink) (λ input is.
-      runs_cut_in_batch c.telling _ _ _ c.old.sink new.sink newer.sink s tally goes.done batch told (runs_over c left new r s tally input is goes) was some told_is cut))
+  pub ends_batch_cut : {c : Course App} {now : Option Accepted} {new : Outputs} {s : State} {tally : Tally} {x : Result Finish Fault}
+      (next : Option Accepted) (left' : Option (List ℕ)) (newer : Outputs) (batch : List Transaction) (told : List Fate) → x ≡ Err Write → Goes c now new s tally →
+      0 < length batch → now ≡ option_map (with_batch batch) next → told ≡ fates s (by_time batch) →
+      AppendsPrefix new.sink (told_lines c.telling.report told) newer.sink → Ends c left' x newer
+  ends_batch_cut {c} {now} {new} {s} {tally} {x} next left' newer batch told failed goes some was told_is cut =
+      ends_as c left' newer x (Err Write) failed
+      (over_input c (λ input. EndsSo (meaning_in c) c.telling c.limit input left' c.old.sink (Err Write) newer.sink) (λ input is.
+      runs_cut_in_batch c.telling _ _ _ c.old.sink new.sink newer.sink s tally goes.done batch told (runs_over c now new s tally input is goes) was some told_is cut))
 
   -- ---- what is told of the run
 
   -- what was written so far
-  wrote : (c : Course App) (left : Option (List ℕ)) (new : Outputs) (r : ReaderView App) (s : State) (tally : Tally) (goes : Goes c left new r s tally) →
+  wrote : (c : Course App) (now : Option Accepted) (new : Outputs) (s : State) (tally : Tally) (goes : Goes c now new s tally) →
       new ≡ with_batches c.old c.telling.report c.settings goes.done goes.accounts
-  wrote c left new r s tally goes =
+  wrote c now new s tally goes =
       both_is new (behind c.old.sink (event_lines c.telling.report goes.done)) (behind c.old.notes (notes_of c.settings goes.accounts)) goes.runs.appended goes.noted
 
   -- the run was cut off between two batches
-  pub told_short : {c : Course App} {left : Option (List ℕ)} {new : Outputs} {r : ReaderView App} {s : State} {tally : Tally} {x : Result Finish Fault} (e : Fault) → x ≡ Err e → (e ≡ Write → ⊥) →
-      Goes c left new r s tally → IsTold c (status_of x) tally new
-  told_short {c} {left} {new} {r} {s} {tally} {x} e failed other goes = subst (λ y. IsTold c (status_of y) tally new) (sym failed) (record {
+  pub told_short : {c : Course App} {now : Option Accepted} {new : Outputs} {s : State} {tally : Tally} {x : Result Finish Fault} (e : Fault) → x ≡ Err e → (e ≡ Write → ⊥) →
+      Goes c now new s tally → IsTold c (status_of x) tally new
+  told_short {c} {now} {new} {s} {tally} {x} e failed other goes = subst (λ y. IsTold c (status_of y) tally new) (sym failed) (record {
     done = goes.done;
-    rest = still (accepted_by c.event_of r left);
+    rest = still now;
     accounts = goes.accounts;
-    parts = parts_are (accepted_in c) (accepted_by c.event_of r left) goes.done goes.runs.whole;
+    parts = parts_are (accepted_in c) now goes.done goes.runs.whole;
     ran = goes.tallied.ran;
     sound = goes.tallied.sound;
     counts = goes.tallied.counts;
     founded = goes.tallied.founded;
     balanced = goes.tallied.balanced;
     whole = λ is. absurd (by_fault e is);
-    short = λ is. wrote c left new r s tally goes;
+    short = λ is. wrote c now new s tally goes;
     cut = λ is. absurd (other (by_write e is));
   })
 
   -- a write failed in a batch that was run
-  pub told_in_batch : {c : Course App} {left : Option (List ℕ)} {new : Outputs} {r : ReaderView App} {s : State} {tally tally' : Tally} {x : Result Finish Fault}
-      {a : Account} {told : List Fate} (left' : Option (List ℕ)) (newer : Outputs) (r' : ReaderView App) (batch : List Transaction) → x ≡ Err Write → (goes : Goes c left new r s tally) →
-      accepted_by c.event_of r left ≡ option_map (with_batch batch) (accepted_by c.event_of r' left') → 0 < length batch → told ≡ fates s (by_time batch) →
+  pub told_in_batch : {c : Course App} {now : Option Accepted} {new : Outputs} {s : State} {tally tally' : Tally} {x : Result Finish Fault}
+      {a : Account} {told : List Fate} (next : Option Accepted) (newer : Outputs) (batch : List Transaction) → x ≡ Err Write → (goes : Goes c now new s tally) →
+      now ≡ option_map (with_batch batch) next → 0 < length batch → told ≡ fates s (by_time batch) →
       Adds tally tally' a told → IsSound c.settings.workers a → IsMadeOf s batch a.plan → IsChosen c goes.done a → 0 < length told →
       IsCutIn new (told_lines c.telling.report told) (note_of c.settings tally'.batches a) newer → IsTold c (status_of x) tally' newer
-  told_in_batch {c} {left} {new} {r} {s} {tally} {tally'} {x} {a} {told} left' newer r' batch failed goes was some told_is adds sound made chosen events cut =
-      let tallied = tallied_batch c left new r s tally tally' batch told a goes told_is adds sound made chosen events in
+  told_in_batch {c} {now} {new} {s} {tally} {tally'} {x} {a} {told} next newer batch failed goes was some told_is adds sound made chosen events cut =
+      let tallied = tallied_batch c now new s tally tally' batch told a goes told_is adds sound made chosen events in
       subst (λ y. IsTold c (status_of y) tally' newer) (sym failed) (record {
         done = goes.done ++ batch ∷ [];
-        rest = still (accepted_by c.event_of r' left');
+        rest = still next;
         accounts = goes.accounts ++ a ∷ [];
-        parts = parts_are (accepted_in c) (accepted_by c.event_of r' left') (goes.done ++ batch ∷ [])
-            (whole_more (accepted_in c) (accepted_by c.event_of r left) (accepted_by c.event_of r' left') goes.done batch goes.runs.whole was some);
+        parts = parts_are (accepted_in c) next (goes.done ++ batch ∷ [])
+            (whole_more (accepted_in c) now next goes.done batch goes.runs.whole was some);
         ran = tallied.ran;
         sound = tallied.sound;
         counts = tallied.counts;
@@ -322,59 +313,59 @@ module _ {App : Type 0} where
           accounts_is = refl;
           cut = cut_as new (with_batches c.old c.telling.report c.settings goes.done goes.accounts) (told_lines c.telling.report told)
               (told_lines c.telling.report (fates (run_state goes.done) (by_time batch))) (note_of c.settings tally'.batches a) (note_of c.settings (length (goes.done ++ batch ∷ [])) a) newer
-              (wrote c left new r s tally goes)
+              (wrote c now new s tally goes)
               (ap (told_lines c.telling.report) (told_is ∙ ap (λ q. fates q (by_time batch)) goes.runs.state))
               (ap (λ k. note_of c.settings k a) tallied.counts.batches) cut;
         });
       })
 
   -- the end was reached
-  abbrev at_last : (c : Course App) (left : Option (List ℕ)) (new : Outputs) (r : ReaderView App) (s : State) (tally : Tally) (ending : Ending) → (ending ≡ CutOff → ⊥) →
-      (goes : Goes c left new r s tally) → IfSome (accepted_by c.event_of r left) (IsOver ending) → IsAtLast (accepted_in c) []
-  at_last c left new r s tally ending reached goes over = record {
+  abbrev at_last : (c : Course App) (now : Option Accepted) (new : Outputs) (s : State) (tally : Tally) (ending : Ending) → (ending ≡ CutOff → ⊥) →
+      (goes : Goes c now new s tally) → IfSome now (IsOver ending) → IsAtLast (accepted_in c) []
+  at_last c now new s tally ending reached goes over = record {
     ending = ending;
-    ends = last_ending (accepted_in c) (accepted_by c.event_of r left) goes.done ending goes.runs.whole over;
+    ends = last_ending (accepted_in c) now goes.done ending goes.runs.whole over;
     reached = reached;
     none_left = refl;
   }
 
   -- the text at the end is that of the batches that were done
-  text_is : (c : Course App) (left : Option (List ℕ)) (new : Outputs) (r : ReaderView App) (s : State) (tally : Tally) (ending : Ending) (text : List ℕ) →
-      (goes : Goes c left new r s tally) → IsLast c.telling s tally ending text → text ≡ end_text c.telling goes.done ending
-  text_is c left new r s tally ending text goes last = last_is c.telling s tally goes.done ending text goes.runs.state goes.runs.committed goes.runs.aborted last
+  text_is : (c : Course App) (now : Option Accepted) (new : Outputs) (s : State) (tally : Tally) (ending : Ending) (text : List ℕ) →
+      (goes : Goes c now new s tally) → IsLast c.telling s tally ending text → text ≡ end_text c.telling goes.done ending
+  text_is c now new s tally ending text goes last = last_is c.telling s tally goes.done ending text goes.runs.state goes.runs.committed goes.runs.aborted last
 
   -- the text and the tally were written there
-  pub told_at_end : {c : Course App} {left : Option (List ℕ)} {new : Outputs} {r : ReaderView App} {s : State} {tally : Tally} (newer : Outputs) (status : ℕ) (ending : Ending) (text : List ℕ) →
-      (status ≡ 0) ⊎ (status ≡ 3) → (ending ≡ CutOff → ⊥) → Goes c left new r s tally → IfSome (accepted_by c.event_of r left) (IsOver ending) →
+  pub told_at_end : {c : Course App} {now : Option Accepted} {new : Outputs} {s : State} {tally : Tally} (newer : Outputs) (status : ℕ) (ending : Ending) (text : List ℕ) →
+      (status ≡ 0) ⊎ (status ≡ 3) → (ending ≡ CutOff → ⊥) → Goes c now new s tally → IfSome now (IsOver ending) →
       IsLast c.telling s tally ending text → newer ≡ with_both new text (noted c.settings.notes (closing_notes c.settings.workers tally)) → IsTold c status tally newer
-  told_at_end {c} {left} {new} {r} {s} {tally} newer status ending text ends reached goes over last written = record {
+  told_at_end {c} {now} {new} {s} {tally} newer status ending text ends reached goes over last written = record {
     done = goes.done;
     rest = [];
     accounts = goes.accounts;
-    parts = last_parts (accepted_in c) (accepted_by c.event_of r left) goes.done ending goes.runs.whole over;
+    parts = last_parts (accepted_in c) now goes.done ending goes.runs.whole over;
     ran = goes.tallied.ran;
     sound = goes.tallied.sound;
     counts = goes.tallied.counts;
     founded = goes.tallied.founded;
     balanced = goes.tallied.balanced;
     whole = λ is. (
-      at_last c left new r s tally ending reached goes over,
+      at_last c now new s tally ending reached goes over,
       both_as new (with_batches c.old c.telling.report c.settings goes.done goes.accounts) text (end_text c.telling goes.done ending) (noted c.settings.notes (closing_notes c.settings.workers tally)) (noted c.settings.notes (closing_notes c.settings.workers tally)) newer
-          (wrote c left new r s tally goes) (text_is c left new r s tally ending text goes last) refl written,
+          (wrote c now new s tally goes) (text_is c now new s tally ending text goes last) refl written,
     );
     short = λ is. absurd (whole_not_short status ends is);
     cut = λ is. absurd (whole_not_write status ends is);
   }
 
   -- a write failed there
-  pub told_cut_at_end : {c : Course App} {left : Option (List ℕ)} {new : Outputs} {r : ReaderView App} {s : State} {tally : Tally} {x : Result Finish Fault} (newer : Outputs) (ending : Ending) (text : List ℕ) →
-      x ≡ Err Write → (ending ≡ CutOff → ⊥) → Goes c left new r s tally → IfSome (accepted_by c.event_of r left) (IsOver ending) →
+  pub told_cut_at_end : {c : Course App} {now : Option Accepted} {new : Outputs} {s : State} {tally : Tally} {x : Result Finish Fault} (newer : Outputs) (ending : Ending) (text : List ℕ) →
+      x ≡ Err Write → (ending ≡ CutOff → ⊥) → Goes c now new s tally → IfSome now (IsOver ending) →
       IsLast c.telling s tally ending text → IsCutIn new text (noted c.settings.notes (closing_notes c.settings.workers tally)) newer → IsTold c (status_of x) tally newer
-  told_cut_at_end {c} {left} {new} {r} {s} {tally} {x} newer ending text failed reached goes over last cut = subst (λ y. IsTold c (status_of y) tally newer) (sym failed) (record {
+  told_cut_at_end {c} {now} {new} {s} {tally} {x} newer ending text failed reached goes over last cut = subst (λ y. IsTold c (status_of y) tally newer) (sym failed) (record {
     done = goes.done;
     rest = [];
     accounts = goes.accounts;
-    parts = last_parts (accepted_in c) (accepted_by c.event_of r left) goes.done ending goes.runs.whole over;
+    parts = last_parts (accepted_in c) now goes.done ending goes.runs.whole over;
     ran = goes.tallied.ran;
     sound = goes.tallied.sound;
     counts = goes.tallied.counts;
@@ -383,8 +374,8 @@ module _ {App : Type 0} where
     whole = λ is. absurd (by_fault Write is);
     short = λ is. absurd (write_not_short 5 refl is);
     cut = λ is. inr (
-      at_last c left new r s tally ending reached goes over,
+      at_last c now new s tally ending reached goes over,
       cut_as new (with_batches c.old c.telling.report c.settings goes.done goes.accounts) text (end_text c.telling goes.done ending) (noted c.settings.notes (closing_notes c.settings.workers tally)) (noted c.settings.notes (closing_notes c.settings.workers tally)) newer
-          (wrote c left new r s tally goes) (text_is c left new r s tally ending text goes last) refl cut,
+          (wrote c now new s tally goes) (text_is c now new s tally ending text goes last) refl cut,
     );
   })

@@ -9,3 +9,4 @@ pub mod Tallying
 pub mod Noting
 pub mod Turns
 pub mod Starting
+pub mod Piping

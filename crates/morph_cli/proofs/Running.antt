@@ -30,11 +30,11 @@ pub record RunsOn (telling : Telling) (before now : Option Accepted) (old new : 
   pub committed : tally.committed ≡ committed_in (run_fates done)
   pub aborted : tally.aborted ≡ aborted_in (run_fates done)
 
-option_map-same : {X : Type 0} (f : X → X) → ((x : X) → f x ≡ x) → (o : Option X) → option_map f o ≡ o
+pub option_map-same : {X : Type 0} (f : X → X) → ((x : X) → f x ≡ x) → (o : Option X) → option_map f o ≡ o
 option_map-same f same None = refl
 option_map-same f same (Some x) = ap Some (same x)
 
-option_map-twice : {X Y Z : Type 0} (g : Y → Z) (f : X → Y) (h : X → Z) → ((x : X) → g (f x) ≡ h x) → (o : Option X) → option_map g (option_map f o) ≡ option_map h o
+pub option_map-twice : {X Y Z : Type 0} (g : Y → Z) (f : X → Y) (h : X → Z) → ((x : X) → g (f x) ≡ h x) → (o : Option X) → option_map g (option_map f o) ≡ option_map h o
 option_map-twice g f h same None = refl
 option_map-twice g f h same (Some x) = ap Some (same x)
 

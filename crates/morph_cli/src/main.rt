@@ -8,6 +8,7 @@
 //! for, on `morph_engine`, which runs them, and on `morph_io`, which reads and writes.
 #![tactic(auto)]
 
+mod ahead;
 mod batch;
 mod ended;
 mod fault;

@@ -17,6 +17,7 @@ use crate::fault::Fault;
 use crate::job::{Host, Job};
 use crate::note::{write_note, write_usage};
 use crate::run::{Finish, run};
+use event_reader::laws::generated_text_is_accepted;
 use event_reader::{EventApp, GenSource};
 use grep_app::Grep;
 use ledger_app::Ledger;
@@ -29,7 +30,14 @@ use toll_app::Toll;
 use worker_gate::Gate;
 
 /// Runs an application over the input that the settings ask for: the source's, or one that the program makes.
-fn run_over<R: Threads + Sync, A: EventApp + Copy, S: Source, K: Sink, N: Sink, G: Gate>(
+fn run_over<
+    R: Threads + Sync,
+    A: EventApp + Copy + Send,
+    S: Source + Send,
+    K: Sink,
+    N: Sink,
+    G: Gate,
+>(
     job: &Job<'_, A, R, G>,
     source: &mut S,
     sink: &mut K,
@@ -66,7 +74,7 @@ fn run_over<R: Threads + Sync, A: EventApp + Copy, S: Source, K: Sink, N: Sink, 
 }
 
 /// Runs an application over an input that the program makes.
-fn run_made<R: Threads + Sync, A: EventApp + Copy, K: Sink, N: Sink, G: Gate>(
+fn run_made<R: Threads + Sync, A: EventApp + Copy + Send, K: Sink, N: Sink, G: Gate>(
     job: &Job<'_, A, R, G>,
     generated: Generated,
     sink: &mut K,
@@ -93,13 +101,15 @@ fn run_made<R: Threads + Sync, A: EventApp + Copy, K: Sink, N: Sink, G: Gate>(
     ensures write { IsErrOf result Fault.Write → HasRisen (K.faults sink.old) (K.faults sink.new)
         ⊎ (IsTrue job.now.settings.notes × HasRisen (N.faults notes.old) (N.faults notes.new)) }
 {
+    // None of its lines is refused, and it has few bytes.
+    generated_text_is_accepted::<A>();
     let size = job.settings.size;
     let mut source = GenSource::new(job.app, generated.seed, generated.events, size);
     run(job, &mut source, sink, notes, tally)
 }
 
 /// Runs the application that the settings name.
-fn run_app<R: Threads + Sync, S: Source, K: Sink, N: Sink, G: Gate>(
+fn run_app<R: Threads + Sync, S: Source + Send, K: Sink, N: Sink, G: Gate>(
     host: &Host<'_, R, G>,
     settings: Settings,
     source: &mut S,
@@ -159,7 +169,7 @@ fn run_app<R: Threads + Sync, S: Source, K: Sink, N: Sink, G: Gate>(
 /// The text is that of applying the events one transaction at a time, in the order of time within each batch, to a map
 /// that is zero everywhere, for every strategy and number of workers and whatever the gate holds. The statuses are
 /// those of [`Ended`]. A fault of writing the last line of the notes changes nothing.
-pub fn morph<R: Threads + Sync, S: Source, K: Sink, N: Sink, G: Gate>(
+pub fn morph<R: Threads + Sync, S: Source + Send, K: Sink, N: Sink, G: Gate>(
     rt: &R,
     alloc: Global,
     words: &[List<u8>],

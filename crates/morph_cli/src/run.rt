@@ -14,6 +14,7 @@ ghost use Rattle.morph_cli.specs.Strategies.{no_last};
 ghost use Rattle.run_text.specs.Counts.{no_tally};
 ghost use Rattle.morph_cli.specs.Tallies.{RunTold};
 
+use crate::ahead::{Ahead, run_ahead};
 use crate::batch::run_batch;
 use crate::fault::Fault;
 use crate::job::Job;
@@ -35,10 +36,18 @@ pub enum Finish {
     Refused,
 }
 
-/// Runs an application over an input: batch by batch, each written whole before the next is read. The batches that
-/// were run are counted in the tally, also those of a run that is cut off, and where the notes are on each is told
-/// there once it is written, and the tally at the end.
-pub fn run<R: Threads + Sync, A: EventApp + Copy, S: Source, K: Sink, N: Sink, G: Gate>(
+/// Runs an application over an input: batch by batch, each written whole before the next is run. With `ahead` 0 the next
+/// is read then too, otherwise it is read and planned while one is run. The batches that were run are counted in the
+/// tally, also those of a run that is cut off, and where the notes are on each is told there once it is written, and the
+/// tally at the end.
+pub fn run<
+    R: Threads + Sync,
+    A: EventApp + Copy + Send,
+    S: Source + Send,
+    K: Sink,
+    N: Sink,
+    G: Gate,
+>(
     job: &Job<'_, A, R, G>,
     source: &mut S,
     sink: &mut K,
@@ -66,7 +75,11 @@ pub fn run<R: Threads + Sync, A: EventApp + Copy, S: Source, K: Sink, N: Sink, G
         ⊎ (IsTrue job.now.settings.notes × HasRisen (N.faults notes.old) (N.faults notes.new)) }
 {
     let mut progress = Progress::new(job)?;
-    run_batches(job, &mut progress, source, sink, notes, tally)
+    if job.settings.ahead == 0 {
+        return run_batches(job, &mut progress, source, sink, notes, tally);
+    }
+    let mut ahead = Ahead::new(job.host.alloc, progress, job.settings.ahead)?;
+    run_ahead(job, &mut ahead, source, sink, notes, tally)
 }
 
 /// Runs an application from the opening state over what the reader reads, batch by batch.

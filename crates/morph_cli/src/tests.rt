@@ -1,4 +1,5 @@
 //! Runs of the program over memory: what stands in the sink and in the notes, and the status.
+mod ahead;
 mod apps;
 mod faults;
 mod holding;
@@ -76,7 +77,7 @@ fn sink_of(
 }
 
 /// Runs the program.
-fn ended<R: Threads + Sync, S: Source, K: Sink, N: Sink>(
+fn ended<R: Threads + Sync, S: Source + Send, K: Sink, N: Sink>(
     rt: &R,
     alloc: Global,
     words: &[List<u8>],

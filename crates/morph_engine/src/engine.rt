@@ -1,5 +1,6 @@
 ghost use Rattle.std.specs.Prelude.{◌≡◌, ℕ, ◌≤◌, IfOk, OnOk, OnErr, map};
 ghost use Rattle.morph_base.specs.Limits.{most_workers};
+ghost use Rattle.morph_base.specs.declared.key.Layout.{Layout};
 ghost use Rattle.morph_base.specs.Flat.{contents};
 ghost use Rattle.morph_base.specs.States.{opening_state};
 ghost use Rattle.morph_base.specs.Transactions.{IsBatch, BatchKeysIn};
@@ -25,6 +26,22 @@ use std::thread::Threads;
 use txn_splitter::split;
 use version_table::State;
 use worker_gate::Gate;
+
+/// The plan of a valid batch, from no state: all its bases are 0 until [`Engine::rebase`] fills them in.
+///
+/// Its keys are in each layout that the keys of the batch are in.
+pub fn plan_batch(alloc: Global, batch: &Batch) -> Result<Plan, OutOfMemory>
+    requires batch { IsBatch batch.now }
+    ensures valid { IfOk result IsValidPlan }
+    ensures events { IfOk result (IsPlanOf batch.now) }
+    ensures bases { IfOk result (λ plan. HasBases plan opening_state) }
+    ensures keys { IfOk result (λ plan. (layout : Layout)
+        → BatchKeysIn layout batch.now → PlanKeysIn plan layout) }
+{
+    let txns = split(alloc, batch)?;
+    let plan = build(alloc, &txns)?;
+    Ok(plan)
+}
 
 /// A state, on which batches are run. Contracts see the state.
 #[derive(Debug, Drop)]
@@ -89,10 +106,24 @@ impl Engine {
         ensures bases { IfOk result (λ plan. HasBases plan (contents self.now)) }
         ensures keys { IfOk result (λ plan. PlanKeysIn plan self.now.layout) }
     {
-        let txns = split(alloc, batch)?;
-        let mut plan = build(alloc, &txns)?;
-        self.state.bases(&mut plan);
+        let mut plan = plan_batch(alloc, batch)?;
+        self.rebase(&mut plan);
         Ok(plan)
+    }
+
+    /// Fills the bases of a plan in from the present state, whatever state they were of before; everything else of the
+    /// plan stays.
+    ///
+    /// It may be run then, until another batch is run.
+    pub fn rebase(&self, plan: &mut Plan)
+        requires plan { IsValidPlan plan.old }
+        requires keys { PlanKeysIn plan.old self.now.layout }
+        ensures valid { IsValidPlan plan.new }
+        ensures transactions { transactions plan.new ≡ transactions plan.old }
+        ensures bases { HasBases plan.new (contents self.now) }
+        ensures keys { PlanKeysIn plan.new self.now.layout }
+    {
+        self.state.bases(plan);
     }
 
     /// Runs a plan that was made from the present state: the state becomes the fold of its events.

@@ -15,4 +15,4 @@ mod engine;
 mod exploring;
 mod prepared;
 
-pub use engine::{BatchEnd, Engine};
+pub use engine::{BatchEnd, Engine, plan_batch};

@@ -1,5 +1,6 @@
 -- What contracts see of the sources and sinks in memory.
-use Rattle.std.specs.Prelude.{◌≡◌, ℕ, zero, suc, ◌+◌, ◌⊎◌, nat_lt, if◌then◌else◌, List, [], ◌++◌, drop, Contains}
+use Rattle.std.specs.Prelude.{◌≡◌, ℕ, zero, suc, ◌+◌, ◌≤◌, ◌⊎◌, ◌↔◌, min, nat_lt, if◌then◌else◌, List, [], ◌++◌, length, drop, Contains, Result, IsOk, IsErr, IfOk, OnErr}
+use Rattle.morph_io.specs.declared.source.ReadFailed.{ReadFailed}
 
 -- a source of given bytes, which gives at most `piece` of them in one call
 pub record Supply : Type 0 where
@@ -29,6 +30,22 @@ pub record Store : Type 0 where
 -- one more, in a count that stops at the last u64
 abbrev pub counted : ℕ → ℕ
 counted n = if nat_lt n 18446744073709551615 then n + 1 else n
+
+-- one read of a source in memory: it fails exactly where the number of the call is among those that fail, and gives as
+-- many bytes as were asked for, at most a piece and those left
+pub record SupplyReads (old : Supply) (asked : ℕ) (answer : Result ℕ ReadFailed) (new : Supply) : Type 0 where
+  pub fails : IsErr answer ↔ Contains old.fail (old.calls + 1)
+  pub failed : OnErr answer (new ≡ record old { calls = counted old.calls; faults = counted old.faults })
+  pub count : IfOk answer (λ n. n ≡ min (min (length old.left) old.piece) asked)
+  pub given : IfOk answer (λ n. new ≡ record old { left = drop n old.left; calls = counted old.calls })
+
+-- one read of a source that never fails, by the bytes left before and after: some of those asked for are given, and none
+-- only at the end
+pub record Gives (old : List ℕ) (asked : ℕ) (answer : Result ℕ ReadFailed) (new : List ℕ) : Type 0 where
+  pub never_fails : IsOk answer
+  pub bound : IfOk answer (λ n. n ≤ asked)
+  pub given : IfOk answer (λ n. (bytes : List ℕ) × (length bytes ≡ n) × (old ≡ bytes ++ new))
+  pub end : IfOk answer (λ n. n ≡ 0 → new ≡ [])
 
 -- the sink's next call appends nothing
 abbrev pub IsRefused : Store → Type 0

@@ -1,5 +1,5 @@
 ghost use Rattle.std.specs.Prelude.{◌≡◌, ℕ, ◌+◌, ◌<◌, ◌↔◌, min, List, [], ◌++◌, length, take, drop, Some, Contains, IsErr, IfOk, OnErr};
-ghost use Rattle.morph_io.specs.InMemory.{Supply, counted};
+ghost use Rattle.morph_io.specs.InMemory.{Supply, SupplyReads, counted};
 
 use crate::calls::{is_next_call_among, next_count};
 use crate::copying::copy_to;
@@ -53,6 +53,8 @@ impl Source for MemSource {
     ghost left = { λ s. Some s.left };
 
     ghost faults = { λ s. s.faults };
+
+    ghost reads = { SupplyReads };
 
     /// Gives as many bytes as `piece`, the buffer and the bytes left allow, or fails where the number of the call is
     /// among the chosen ones.

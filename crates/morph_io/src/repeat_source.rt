@@ -1,5 +1,5 @@
 ghost use Rattle.std.specs.Prelude.{◌≡◌, ◌<◌, ◌≤◌, [], ◌++◌, length, take, Some, IsOk, IfOk};
-ghost use Rattle.morph_io.specs.InMemory.{repeated, left_from};
+ghost use Rattle.morph_io.specs.InMemory.{Gives, repeated, left_from};
 
 use crate::copying::copy_to;
 use crate::source::{ReadFailed, Source};
@@ -54,6 +54,8 @@ impl Source for RepeatSource {
     ghost left = { λ s. Some s };
 
     ghost faults = { λ _. 0 };
+
+    ghost reads = { Gives };
 
     /// Gives as much of one line as the buffer has room for. It never fails.
     fn read(&mut self, buf: &mut [u8]) -> Result<usize, ReadFailed>

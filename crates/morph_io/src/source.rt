@@ -1,4 +1,5 @@
-ghost use Rattle.std.specs.Prelude.{◌≡◌, ℕ, ◌<◌, ◌≤◌, List, Option, Some, length, take, codes, IfOk, OnErr};
+ghost use Rattle.std.specs.Prelude.{◌≡◌, ℕ, ◌<◌, ◌≤◌, List, Option, Some, Result, length, take, codes, IfOk, OnErr};
+ghost use Rattle.morph_io.specs.declared.source.ReadFailed.{ReadFailed};
 ghost use Rattle.morph_io.specs.Told.{ahead, IsAtEnd, HasRisen};
 
 use std::error::Error;
@@ -20,14 +21,18 @@ impl Error for ReadFailed {}
 
 /// Where bytes come from.
 ///
-/// Its meanings are the bytes left, where it tells them, and a count of faults that never falls. The count is a
-/// `u64`: where it stands at its last value it counts as risen in every call.
+/// Its meanings are the bytes left, where it tells them, a count of faults that never falls, and what one read may do.
+/// The count is a `u64`: where it stands at its last value it counts as risen in every call.
 pub trait Source {
     /// The bytes that are still to be read, or `None` where the source tells nothing of them.
     ghost left: { Self → Option (List ℕ) };
 
     /// How many reads have failed so far.
     ghost faults: { Self → ℕ };
+
+    /// What one read for so many bytes may do, from the source before to its answer and the source after; `Unit`
+    /// where the source says nothing more of it than the clauses of [`read`](Source::read).
+    ghost reads: { Self → (asked : ℕ) → Result ℕ ReadFailed → Self → Type 0 };
 
     /// Moves the first bytes that are left into the front of `buf`, and answers how many: at least one, or 0 at the
     /// end of the input.
@@ -40,5 +45,6 @@ pub trait Source {
         ensures end { IfOk result (λ n. n ≡ 0 → IsAtEnd (left self.new)) }
         ensures kept { OnErr result (left self.new ≡ left self.old) }
         ensures never_falls { faults self.old ≤ faults self.new }
-        ensures cause { OnErr result (HasRisen (faults self.old) (faults self.new)) };
+        ensures cause { OnErr result (HasRisen (faults self.old) (faults self.new)) }
+        ensures does { reads self.old (length buf.new) result self.new };
 }

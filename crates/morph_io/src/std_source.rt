@@ -58,6 +58,8 @@ impl<R: Read> Source for StdSource<R> {
 
     ghost faults = { λ s. s };
 
+    ghost reads = { λ _ _ _ _. Unit {0} };
+
     fn read(&mut self, buf: &mut [u8]) -> Result<usize, ReadFailed>
         ensures bound { IfOk result (λ n. n ≤ length buf.new) }
         ensures ok { OnOk result (self.new ≡ self.old) }

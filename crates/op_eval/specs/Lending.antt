@@ -5,7 +5,7 @@ use Rattle.std.specs.Prelude.{List}
 use Rattle.morph_base.specs.Contents.{with_item, with_items}
 use Rattle.op_eval.specs.declared.runner.Runner.{Runner}
 use Rattle.op_eval.specs.declared.runners.Runners.{Runners}
-use Rattle.op_eval.specs.contracts.runner.Runner.{the_row as runner_row}
+use Rattle.op_eval.specs.contracts.runner.Runner.{the_row as of_runner}
 use Rattle.op_eval.specs.contracts.runners.Runners.{the_row}
 
 -- the runners, with what was left in their place
@@ -13,11 +13,11 @@ abbrev pub with_runners : Runners → List Runner → Runners
 with_runners rs items = record rs { runners = with_items rs.runners items }
 
 abbrev pub LendsRunners : MutBor Runners → MutBor (List Runner) → Fml
-LendsRunners rs lent = Lends the_row (Array runner_row 0) rs lent (with_runners rs.now)
+LendsRunners rs lent = Lends the_row (Array of_runner 0) rs lent (with_runners rs.now)
 
 -- with what was left in the place of the runner of a number
 abbrev pub with_runner : Runners → ℕ → Runner → Runners
 with_runner rs number runner = record rs { runners = with_item rs.runners (number - 1) runner }
 
 abbrev pub LendsRunner : MutBor Runners → ℕ → MutBor Runner → Fml
-LendsRunner rs number lent = Lends the_row runner_row rs lent (with_runner rs.now number)
+LendsRunner rs number lent = Lends the_row of_runner rs lent (with_runner rs.now number)

@@ -1,5 +1,4 @@
 pub mod Pieces
-pub mod Summing
 pub mod Writes
 pub mod Verdicts
 pub mod Workers

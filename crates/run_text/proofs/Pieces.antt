@@ -1,9 +1,8 @@
 -- Putting the pieces of a text one by one.
-use Rattle.std.proofs.Common.{arith, ◌≡◌, ℕ, ◌+◌, ◌<◌, List, [], ◌∷◌, ◌++◌, Option, Result, Ok, Err, take, drop, length, get_or, ap, subst, sym, ◌∙◌}
+use Rattle.std.proofs.Common.{◌≡◌, ℕ, ◌+◌, ◌<◌, List, [], ◌∷◌, ◌++◌, Option, Result, Ok, Err, take, drop, length, get_or, ap, subst, sym, ◌∙◌}
 use Rattle.std.specs.Result.{OnErr}
-use Rattle.std.specs.List.{flat_map, range_with_len}
-use Rattle.std.proofs.lemmas.List.FromFn.{length-range_with_len}
-use Rattle.std.proofs.lemmas.List.{take_more, take_all, take-append-drop}
+use Rattle.std.specs.List.{flat_map}
+use Rattle.std.proofs.lemmas.List.{take_more, take-append-drop}
 use Rattle.std.proofs.lemmas.List.Concat.{flat_map-append}
 use Rattle.std.proofs.Common.{append-nil, append_assoc}
 use Rattle.morph_io.specs.Told.{behind, behind_behind, Puts, AppendsPrefix}
@@ -57,10 +56,3 @@ puts_unflushed w0 w1 w2 k0 k1 text none puts cut =
 -- from an empty buffer
 pub prefix_alone : (w0 w1 : Option (List ℕ)) (k0 text : List ℕ) → k0 ≡ [] → AppendsPrefix w0 (k0 ++ text) w1 → AppendsPrefix w0 text w1
 prefix_alone w0 w1 k0 text none cut = subst (λ l. AppendsPrefix w0 l w1) (ap (λ k. k ++ text) none) cut
-
--- the numbers below n: each stands at its own place, and the first n are all of them
-pub inside_range : (n i : ℕ) → i < n → i < length (range_with_len 0 n)
-inside_range n i lt = rw length-range_with_len lt
-
-pub all_of_range : (n i : ℕ) → i ≡ n → take i (range_with_len 0 n) ≡ range_with_len 0 n
-all_of_range n i e = take_all i (range_with_len 0 n) (rw length-range_with_len (omega arith))

@@ -3,8 +3,8 @@ use Rattle.std.specs.Prelude.{◌≡◌, ℕ, ◌≤◌, ◌||◌, Bool, true, f
 use Rattle.std.specs.List.{list_all, list_any}
 use Rattle.std.specs.Str.{bytes_eq}
 use Rattle.run_text.specs.declared.names.Name.{Name}
-use Rattle.run_text.specs.declared.names.Name.TheVariants.{App, Own, Workers, Size, Unit as UnitName, Explore as ExploreName, Abort as AbortName, Plan as PlanName, Seed, Events, Notes}
-use Rattle.run_text.specs.Settings.{text_of, all_names, has_equals, name_of, has_name, value_under, is_given, app_in, switch_in, unit_in, explore_in, abort_in, auto_in, auto_under, is_strategy_given, says_in, worker_counts, sizes, seeds, event_counts}
+use Rattle.run_text.specs.declared.names.Name.TheVariants.{App, Own, Workers, Size, Unit as UnitName, Explore as ExploreName, Abort as AbortName, Plan as PlanName, Seed, Events, Notes, Ahead}
+use Rattle.run_text.specs.Settings.{text_of, all_names, has_equals, name_of, has_name, value_under, is_given, app_in, switch_in, unit_in, explore_in, abort_in, auto_in, auto_under, is_strategy_given, says_in, worker_counts, sizes, seeds, event_counts, ahead_counts}
 
 -- whether bytes are a name that there is
 abbrev pub is_name : List ℕ → Bool
@@ -23,6 +23,7 @@ is_value_of PlanName value = is_some (auto_in value)
 is_value_of Seed value = says_in seeds value
 is_value_of Events value = says_in event_counts value
 is_value_of Notes value = is_some (switch_in value)
+is_value_of Ahead value = says_in ahead_counts value
 
 pub data NoSettings (words : List (List ℕ)) : Type 0 where
   -- a word has no `=`

@@ -18,7 +18,7 @@ use Rattle.run_text.specs.declared.choices.Generated.{Generated}
 use Rattle.run_text.specs.declared.choices.App.{App}
 use Rattle.run_text.specs.declared.choices.App.TheVariants.{Ledger, Grep, Toll}
 use Rattle.run_text.specs.declared.names.Name.{Name}
-use Rattle.run_text.specs.declared.names.Name.TheVariants.{App as AppName, Own, Workers, Size, Unit as UnitName, Explore as ExploreName, Abort as AbortName, Plan as PlanName, Seed, Events, Notes}
+use Rattle.run_text.specs.declared.names.Name.TheVariants.{App as AppName, Own, Workers, Size, Unit as UnitName, Explore as ExploreName, Abort as AbortName, Plan as PlanName, Seed, Events, Notes, Ahead}
 use Rattle.run_text.specs.declared.words.Input.{Input}
 
 -- the names that there are
@@ -34,9 +34,10 @@ text_of PlanName = codes "plan"
 text_of Seed = codes "seed"
 text_of Events = codes "events"
 text_of Notes = codes "notes"
+text_of Ahead = codes "ahead"
 
 abbrev pub all_names : List Name
-all_names = AppName ∷ Own ∷ Workers ∷ Size ∷ UnitName ∷ ExploreName ∷ AbortName ∷ PlanName ∷ Seed ∷ Events ∷ Notes ∷ []
+all_names = AppName ∷ Own ∷ Workers ∷ Size ∷ UnitName ∷ ExploreName ∷ AbortName ∷ PlanName ∷ Seed ∷ Events ∷ Notes ∷ Ahead ∷ []
 
 -- whether a word has an `=`, and its name, which stands before the first one
 abbrev pub has_equals : List ℕ → Bool
@@ -82,7 +83,7 @@ app_in value =
     else (if bytes_eq value (codes "grep") then Some Grep
     else (if bytes_eq value (codes "toll") then Some Toll else None))
 
--- the numbers of workers, of ids in a table, of a seed and of events
+-- the numbers of workers, of ids in a table, of a seed, of events, and of batches that are read and planned ahead
 abbrev pub from_to : (least greatest : ℕ) → Range
 from_to least greatest = record { least = least; greatest = greatest }
 
@@ -97,6 +98,9 @@ seeds = from_to 0 1000000000000
 
 abbrev pub event_counts : Range
 event_counts = from_to 0 1000000
+
+abbrev pub ahead_counts : Range
+ahead_counts = from_to 0 2
 
 -- the number in a range that a value says: decimal digits, of which the first is no 0 unless it is the only one
 abbrev pub says_in : Range → List ℕ → Bool
@@ -240,20 +244,22 @@ input_by words None self = None
 abbrev pub input_of : List (List ℕ) → Option Input
 input_of words = input_by words (app_under AppName words) (app_under Own words)
 
-abbrev pub settings_by : Option Input → (workers size : Option ℕ) → Option Planning → (notes : Option Bool) → Option Settings
-settings_by (Some input) (Some workers) (Some size) (Some planning) (Some notes) =
-    Some (record { app = input.app; workers = workers; size = size; planning = planning; notes = notes; generated = input.generated })
-settings_by (Some input) (Some workers) (Some size) (Some planning) None = None
-settings_by (Some input) (Some workers) (Some size) None notes = None
-settings_by (Some input) (Some workers) None planning notes = None
-settings_by (Some input) None size planning notes = None
-settings_by None workers size planning notes = None
+abbrev pub settings_by : Option Input → (workers size : Option ℕ) → Option Planning → (notes : Option Bool) → (ahead : Option ℕ) → Option Settings
+settings_by (Some input) (Some workers) (Some size) (Some planning) (Some notes) (Some ahead) =
+    Some (record { app = input.app; workers = workers; size = size; planning = planning; notes = notes; generated = input.generated; ahead = ahead })
+settings_by (Some input) (Some workers) (Some size) (Some planning) (Some notes) None = None
+settings_by (Some input) (Some workers) (Some size) (Some planning) None ahead = None
+settings_by (Some input) (Some workers) (Some size) None notes ahead = None
+settings_by (Some input) (Some workers) None planning notes ahead = None
+settings_by (Some input) None size planning notes ahead = None
+settings_by None workers size planning notes ahead = None
 
 -- the settings: every word has a name that there is, no name is given twice, and each value is one of its name's
 abbrev pub settings_of : List (List ℕ) → Option Settings
 settings_of words =
     if list_all is_known words && are_once words
     then settings_by (input_of words) (number_under Workers worker_counts 1 words) (number_under Size sizes 10000 words) (planning_of words) (switch_under Notes words)
+    (number_under Ahead ahead_counts 0 words)
     else None
 
 -- the numbers of an input that the program makes are in their ranges
@@ -267,3 +273,4 @@ pub record AreInRange (s : Settings) : Type 0 where
   pub some_ids : 1 ≤ s.size
   pub few_ids : s.size ≤ sizes.greatest
   pub generated : AreFew s.generated
+  pub few_ahead : s.ahead ≤ ahead_counts.greatest

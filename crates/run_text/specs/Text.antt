@@ -1,5 +1,5 @@
 -- The text of a run: the lines of its events, and what stands at the end.
-use Rattle.std.specs.Prelude.{ℕ, ◌==◌, not, if◌then◌else◌, List, [], ◌∷◌, ◌++◌, codes, decimal, count_by, sum_by}
+use Rattle.std.specs.Prelude.{ℕ, ◌==◌, not, if◌then◌else◌, List, [], ◌∷◌, ◌++◌, codes, decimal, count_by}
 use Rattle.std.specs.List.{flat_map, range_with_len}
 use Rattle.morph_base.specs.declared.key.Layout.{Layout}
 use Rattle.morph_base.specs.Transactions.{Transaction, by_time}
@@ -8,6 +8,7 @@ use Rattle.event_reader.specs.declared.cause.Cause.{Cause}
 use Rattle.event_reader.specs.declared.cause.Cause.TheVariants.{Long, Form, Range, Same, Late, Twice, Full}
 use Rattle.event_reader.specs.Accepted.{Accepted, Ending, Ended, RefusedAt, CutOff}
 use Rattle.morph_base.specs.Outcomes.{Fate, fates}
+use Rattle.version_table.specs.Totals.{total_of}
 use Rattle.run_text.specs.declared.report.Report.{Report}
 use Rattle.run_text.specs.declared.report.Report.TheVariants.{Whole, Summary}
 
@@ -69,11 +70,7 @@ table_lines name s table size = flat_map (λ id. value_line name id (s (record {
 abbrev pub value_lines : Layout → (ℕ → List ℕ) → State → List ℕ
 value_lines layout name s = flat_map (λ table. table_lines (name table) s table layout.size) (range_with_len 0 layout.tables)
 
--- the sum of the values of a table
-abbrev pub total_of : State → (table size : ℕ) → ℕ
-total_of s table size = sum_by (λ id. s (record { table = table; id = id })) (range_with_len 0 size)
-
--- its line
+-- the line of the sum of the values of a table
 abbrev pub total_line : (name : List ℕ) → State → (table size : ℕ) → List ℕ
 total_line name s table size = line (name ++ codes " total" ++ after_space (total_of s table size))
 

@@ -47,6 +47,9 @@ pub struct Settings {
     pub notes: bool,
     /// The input where the program makes it itself; none where it reads one.
     pub generated: Option<Generated>,
+    /// How many batches are read and planned while one is run: 0 to 2. With 0 a batch is read when the one before was
+    /// run and written.
+    pub ahead: u32,
 }
 
 impl Settings {
@@ -71,6 +74,11 @@ pub const DEFAULT_SIZE: u64 = 10_000;
 pub const DEFAULT_SEED: u64 = 1;
 
 pub const DEFAULT_EVENTS: u64 = 1_000;
+
+/// How many batches are read and planned ahead where the words say nothing of it, and at most.
+pub const DEFAULT_AHEAD: u64 = 0;
+
+pub const MOST_AHEAD: u64 = 2;
 
 /// The greatest number of ids in a table.
 pub const GREATEST_SIZE: u64 = 1_000_000;

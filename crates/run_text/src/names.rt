@@ -26,10 +26,12 @@ pub enum Name {
     Events,
     /// Whether there are notes.
     Notes,
+    /// How many batches are read and planned ahead.
+    Ahead,
 }
 
 /// All names, each once.
-pub const NAMES: [Name; 11] = [
+pub const NAMES: [Name; 12] = [
     Name::App,
     Name::Own,
     Name::Workers,
@@ -41,6 +43,7 @@ pub const NAMES: [Name; 11] = [
     Name::Seed,
     Name::Events,
     Name::Notes,
+    Name::Ahead,
 ];
 
 impl Name {
@@ -60,6 +63,7 @@ impl Name {
             Name::Seed => b"seed=",
             Name::Events => b"events=",
             Name::Notes => b"notes=",
+            Name::Ahead => b"ahead=",
         }
     }
 }

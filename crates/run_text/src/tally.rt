@@ -21,7 +21,7 @@ pub struct Tally {
     pub ops: u64,
     /// How often an operation was evaluated.
     pub evaluated: u64,
-    /// How many operations were put back since a source of theirs had been: 0 where aborts are dealt with at the end.
+    /// How often an operation heard of a failure of its event while it was explored: 0 with lazy abort.
     pub spread: u64,
     /// How many operations were rolled back, since a source came to another value than they had read.
     pub rolled: u64,

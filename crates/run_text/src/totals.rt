@@ -3,7 +3,8 @@ ghost use Rattle.morph_base.specs.Flat.{contents};
 ghost use Rattle.event_reader.specs.declared.limits.TheConstants.{NAME_BYTES};
 ghost use Rattle.run_text.specs.declared.choices.TheConstants.{GREATEST_SIZE};
 ghost use Rattle.morph_io.specs.Told.{HasRisen, Puts, AppendsPrefix};
-ghost use Rattle.run_text.specs.Text.{total_of, total_line, total_lines};
+ghost use Rattle.run_text.specs.Text.{total_line, total_lines};
+ghost use Rattle.version_table.specs.Totals.{total_of};
 
 use event_reader::EventApp;
 use morph_base::Key;

@@ -9,8 +9,8 @@ ghost use Rattle.run_text.specs.Settings.{read_input, made_input, AreFew, AreInR
 ghost use Rattle.run_text.specs.NoSettings.{NoSettings};
 
 use crate::choices::{
-    App, DEFAULT_EVENTS, DEFAULT_SEED, DEFAULT_SIZE, DEFAULT_WORKERS, GREATEST_EVENTS,
-    GREATEST_SEED, GREATEST_SIZE, Generated, Planning, Settings,
+    App, DEFAULT_AHEAD, DEFAULT_EVENTS, DEFAULT_SEED, DEFAULT_SIZE, DEFAULT_WORKERS,
+    GREATEST_EVENTS, GREATEST_SEED, GREATEST_SIZE, Generated, MOST_AHEAD, Planning, Settings,
 };
 use crate::names::{NAMES, Name};
 use event_reader::{Number, Range, read_number};
@@ -36,6 +36,12 @@ const SEEDS: Range = Range {
 const EVENTS: Range = Range {
     least: 0,
     greatest: GREATEST_EVENTS,
+};
+
+/// The numbers of batches that are read and planned ahead.
+const AHEAD: Range = Range {
+    least: 0,
+    greatest: MOST_AHEAD,
 };
 
 /// The value in a word that has this name.
@@ -373,6 +379,7 @@ pub fn settings(words: &[List<u8>]) -> Option<Settings>
     let size = number_under(words, Name::Size, SIZES, DEFAULT_SIZE)?;
     let planning = planning_of(words)?;
     let notes = switch_under(words, Name::Notes)?;
+    let ahead = number_under(words, Name::Ahead, AHEAD, DEFAULT_AHEAD)?;
     Some(Settings {
         app: input.app,
         workers: workers as u32,
@@ -380,5 +387,6 @@ pub fn settings(words: &[List<u8>]) -> Option<Settings>
         planning,
         notes,
         generated: input.generated,
+        ahead: ahead as u32,
     })
 }

@@ -1,37 +1,40 @@
 -- What the words of a line of Toll Processing say.
-use Rattle.std.specs.Prelude.{ℕ, ◌+◌, ◌-◌, ◌*◌, ◌==◌, codes, if◌then◌else◌, min, List, [], ◌∷◌, drop, slice_index, Result, Ok, Err}
+use Rattle.std.specs.Prelude.{ℕ, ◌+◌, ◌*◌, ◌==◌, codes, if◌then◌else◌, min, List, [], ◌∷◌, slice_index, Result, Ok}
 use Rattle.morph_base.specs.declared.limits.TheConstants.{MAX}
 use Rattle.morph_base.specs.declared.key.Key.{Key}
 use Rattle.morph_base.specs.declared.operation.Func.TheVariants.{Blend, Set, Enter, Charge}
 use Rattle.morph_base.specs.Operations.{op_of}
 use Rattle.morph_base.specs.Transactions.{Transaction}
 use Rattle.event_reader.specs.declared.cause.Cause.{Cause}
-use Rattle.event_reader.specs.declared.cause.Cause.TheVariants.{Form}
 use Rattle.event_reader.specs.declared.ranges.Range.{Range}
-use Rattle.event_reader.specs.Numbers.{numbers_in, has_form}
+use Rattle.event_reader.specs.Forms.{Kind, form_of, event_by}
 use Rattle.event_reader.specs.Ranges.{times, ids}
+use Rattle.event_reader.specs.Steps.{Meaning}
 
 -- the printed names of the tables
 abbrev pub table_name : ℕ → List ℕ
 table_name table = if table == 0 then codes "spd" else (if table == 1 then codes "at" else (if table == 2 then codes "cnt" else codes "bill"))
 
 -- the keys of a segment's average speed, a vehicle's place, a segment's count of entries and a vehicle's bill
+abbrev pub key : (table id : ℕ) → Key
+key table id = record { table = table; id = id }
+
 abbrev pub speed_of : (segment : ℕ) → Key
-speed_of segment = record { table = 0; id = segment }
+speed_of segment = key 0 segment
 
 abbrev pub place_of : (vehicle : ℕ) → Key
-place_of vehicle = record { table = 1; id = vehicle }
+place_of vehicle = key 1 vehicle
 
 abbrev pub count_of : (segment : ℕ) → Key
-count_of segment = record { table = 2; id = segment }
+count_of segment = key 2 segment
 
 abbrev pub bill_of : (vehicle : ℕ) → Key
-bill_of vehicle = record { table = 3; id = vehicle }
+bill_of vehicle = key 3 vehicle
 
 -- the ranges of a segment, and of a speed in miles per hour. A segment's leaves room for one more among the values, where
 -- vehicles' places are kept
 abbrev pub segments : (size : ℕ) → Range
-segments size = record { least = 0; greatest = min size MAX - 1 }
+segments size = ids (min size MAX)
 
 abbrev pub miles : Range
 miles = record { least = 0; greatest = 100 }
@@ -39,9 +42,6 @@ miles = record { least = 0; greatest = 100 }
 -- `T ts vehicle segment speed`: the segment's average takes in the speed, in hundredths; the vehicle's place is one more
 -- than the segment; the segment's count rises unless the vehicle was there; and the toll of the segment, by its average and
 -- its count before, is added to the vehicle's bill, which is at most 1,000,000
-abbrev pub report_ranges : (size : ℕ) → List Range
-report_ranges size = times ∷ ids size ∷ segments size ∷ miles ∷ []
-
 abbrev pub report : (ts vehicle segment speed : ℕ) → Transaction
 report ts vehicle segment speed = record {
   ts = ts;
@@ -53,10 +53,16 @@ report ts vehicle segment speed = record {
 }
 
 -- what the numbers of a line say, in their places
-abbrev pub report_of : Result (List ℕ) Cause → Result Transaction Cause
-report_of (Ok ns) = Ok (report (slice_index ns 0) (slice_index ns 1) (slice_index ns 2) (slice_index ns 3))
-report_of (Err cause) = Err cause
+abbrev pub report_of : List ℕ → Result Transaction Cause
+report_of ns = Ok (report (slice_index ns 0) (slice_index ns 1) (slice_index ns 2) (slice_index ns 3))
 
--- what the words of a line say: a report begins with T and has four numbers
-abbrev pub toll_event : (size : ℕ) → List (List ℕ) → Result Transaction Cause
-toll_event size words = if has_form 84 4 words then report_of (numbers_in (report_ranges size) (drop 1 words)) else Err Form
+-- the only kind of event line: a report begins with T and has four numbers
+abbrev pub reports : (size : ℕ) → Kind
+reports size = record { form = form_of 84 (times ∷ ids size ∷ segments size ∷ miles ∷ []); says = report_of }
+
+abbrev pub toll_kinds : (size : ℕ) → List Kind
+toll_kinds size = reports size ∷ []
+
+-- what the words of a line say
+abbrev pub toll_event : (size : ℕ) → Meaning
+toll_event size = event_by (toll_kinds size)

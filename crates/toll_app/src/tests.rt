@@ -89,6 +89,16 @@ fn causes_come_in_their_order(rt: HostRuntime) -> Result<(), Fail> {
 }
 
 #[test]
+fn a_table_without_ids_has_no_line(rt: HostRuntime) -> Result<(), Fail> {
+    let words = Words::split(b"T 1 0 0 10").ok_or("no words")?;
+    let Err(fault) = Toll.read_event(rt.alloc(), &words, 0) else {
+        return Err("taken".into());
+    };
+    assert_eq!(rt; fault, LineFault::Refused(Cause::Range));
+    Ok(())
+}
+
+#[test]
 fn lines_are_generated_by_draws_in_order(rt: HostRuntime) {
     let rows: [(u64, u32, &[u8], &[u8]); 4] = [
         (0, 10_000, b"T 1 1807 24 23", b"T 2 5236 25 74"),

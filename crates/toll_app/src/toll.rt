@@ -1,11 +1,10 @@
-ghost use Rattle.std.specs.Prelude.{◌≡◌, ℕ, ◌+◌, ◌*◌, ◌^◌, ◌<◌, ◌≤◌, length, drop, codes, if◌then◌else◌, ◌==◌, IfOk, IfErr};
-ghost use Rattle.morph_base.specs.Transactions.{transaction_of};
+ghost use Rattle.std.specs.Prelude.{◌≡◌, ◌^◌, ◌<◌};
+ghost use Rattle.event_reader.specs.Forms.{said_in};
 ghost use Rattle.event_reader.specs.Reader.{GivesEvent};
-ghost use Rattle.event_reader.specs.Numbers.{numbers_in};
-ghost use Rattle.toll_app.specs.Toll.{segments, speed_of, place_of, count_of, bill_of, table_name, report_of, report_ranges, toll_event};
+ghost use Rattle.toll_app.specs.Toll.{key, segments, table_name, reports, toll_event};
 
 use crate::generating::write_report;
-use event_reader::{Cause, Draws, EventApp, LineFault, Range, TIMES, Words};
+use event_reader::{Cause, Draws, EventApp, Form, LineFault, Range, TIMES, Words};
 use morph_base::{Event, Func, Key, List, Op};
 use morph_io::LineBuf;
 use std::alloc::Global;
@@ -38,66 +37,31 @@ pub struct Toll;
 
 /// The range of a segment. One more than a segment is a value, since a size has 32 bits.
 fn segments(size: u32) -> Range
-    requires { 1 ≤ size }
     ensures { result ≡ segments size }
 {
     Range::ids(size)
 }
 
-/// The key of a segment's average speed.
-fn speed_of(segment: u64) -> Key
-    requires { segment < 2 ^ 32 }
-    ensures { result ≡ speed_of segment }
+/// The key of an id in a table.
+fn key(table: u8, id: u64) -> Key
+    requires { id < 2 ^ 32 }
+    ensures { result ≡ key table id }
 {
     Key {
-        table: SPEEDS,
-        id: segment as u32,
-    }
-}
-
-/// The key of a vehicle's place.
-fn place_of(vehicle: u64) -> Key
-    requires { vehicle < 2 ^ 32 }
-    ensures { result ≡ place_of vehicle }
-{
-    Key {
-        table: PLACES,
-        id: vehicle as u32,
-    }
-}
-
-/// The key of a segment's count of entries.
-fn count_of(segment: u64) -> Key
-    requires { segment < 2 ^ 32 }
-    ensures { result ≡ count_of segment }
-{
-    Key {
-        table: COUNTS,
-        id: segment as u32,
-    }
-}
-
-/// The key of a vehicle's bill.
-fn bill_of(vehicle: u64) -> Key
-    requires { vehicle < 2 ^ 32 }
-    ensures { result ≡ bill_of vehicle }
-{
-    Key {
-        table: BILLS,
-        id: vehicle as u32,
+        table,
+        id: id as u32,
     }
 }
 
 /// Reads the words of a report.
 fn report(alloc: Global, words: &Words<'_>, size: u32) -> Result<Event, LineFault>
-    requires size { 1 ≤ size }
-    requires count { length words.now ≡ 5 }
-    ensures { GivesEvent (report_of (numbers_in (report_ranges size) (drop 1 words.now))) result }
+    ensures { GivesEvent (said_in (reports size) words.now) result }
 {
-    let ranges = [TIMES, Range::ids(size), segments(size), MILES];
-    let [ts, vehicle, segment, speed] = words.numbers(&ranges)?;
-    let (average, count) = (speed_of(segment), count_of(segment));
-    let (place, bill) = (place_of(vehicle), bill_of(vehicle));
+    let places = [TIMES, Range::ids(size), segments(size), MILES];
+    let numbers = words.read(&Form::new(b'T', &places))?;
+    let [ts, vehicle, segment, speed] = numbers.first();
+    let (average, count) = (key(SPEEDS, segment), key(COUNTS, segment));
+    let (place, bill) = (key(PLACES, vehicle), key(BILLS, vehicle));
     let mut ops = List::with_room(alloc, 4)?;
     ops.add(Op::new(Func::Blend, average, &[], 100 * speed));
     ops.add(Op::new(Func::Set, place, &[], segment + 1));
@@ -139,10 +103,9 @@ impl EventApp for Toll {
     }
 
     fn read_event(&self, alloc: Global, words: &Words<'_>, size: u32) -> Result<Event, LineFault> {
-        if words.has_form(b'T', 4) {
-            report(alloc, words, size)
-        } else {
-            Err(LineFault::Refused(Cause::Form))
+        match words.letter() {
+            Some(b'T') => report(alloc, words, size),
+            _ => Err(LineFault::Refused(Cause::Form)),
         }
     }
 

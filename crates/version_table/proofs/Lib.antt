@@ -1,3 +1,4 @@
 pub mod Filled
 pub mod Overwriting
 pub mod Versions
+pub mod Summing

@@ -41,7 +41,7 @@ fn expect_usage(
 
 #[test]
 fn words_that_are_no_settings(rt: HostRuntime) -> Result<(), Fail> {
-    let refused: [&[&[u8]]; 27] = [
+    let refused: [&[&[u8]]; 29] = [
         &[],
         &[b"app=", b"size=1"],
         &[b"app=ledger", b"colour=1"],
@@ -69,6 +69,8 @@ fn words_that_are_no_settings(rt: HostRuntime) -> Result<(), Fail> {
         &[b"app=ledger", b"plan=auto", b"unit=op"],
         &[b"app=ledger", b"plan=auto", b"explore=strata"],
         &[b"app=ledger", b"abort=eager", b"plan=auto"],
+        &[b"app=ledger", b"ahead=3"],
+        &[b"app=ledger", b"ahead=1", b"ahead=1"],
     ];
     expect_usage(&rt, &refused)
 }
@@ -83,16 +85,18 @@ struct Faults {
     stalls: &'static [u64],
 }
 
-/// Runs the ledger on an input with these faults.
+/// Runs the ledger on an input with these faults, with so many batches ahead.
 fn run_failing<R: Threads + Sync>(
     rt: &R,
     alloc: Global,
+    ahead: &[u8],
     input: &[u8],
     faults: &Faults,
 ) -> Result<Ran, OutOfMemory> {
     let mut source = source_of(alloc, input, faults.piece, faults.reads)?;
     let sink = sink_of(alloc, faults.taken, faults.writes, faults.stalls)?;
-    run_with(rt, alloc, LEDGER, &mut source, sink)
+    let words = [b"app=ledger".as_slice(), ahead];
+    run_with(rt, alloc, &words, &mut source, sink)
 }
 
 #[test]
@@ -135,7 +139,9 @@ fn a_read_or_a_write_fails(rt: HostRuntime) -> Result<(), Fail> {
         ),
     ];
     for (input, faults, left) in runs {
-        let ran = run_failing(&rt, rt.alloc(), input, &faults)?;
+        let ran = run_failing(&rt, rt.alloc(), b"ahead=0", input, &faults)?;
+        assert_eq!(rt; (ran.status, ran.sink.bytes(), ran.notes.bytes()), left);
+        let ran = run_failing(&rt, rt.alloc(), b"ahead=2", input, &faults)?;
         assert_eq!(rt; (ran.status, ran.sink.bytes(), ran.notes.bytes()), left);
     }
     Ok(())

@@ -128,7 +128,7 @@ fn a_comment_has_at_most_a_thousand_bytes(rt: HostRuntime) -> Result<(), Fail> {
 }
 
 /// Lines of so many deposits of 1 on account 0, at the times from 1 on.
-fn deposits(alloc: Global, count: u64) -> Result<List<u8>, OutOfMemory> {
+pub fn deposits(alloc: Global, count: u64) -> Result<List<u8>, OutOfMemory> {
     let parts = [Part::Text(b"D "), Part::Number, Part::Text(b" 0 0 1 0")];
     lines(alloc, count, &parts)
 }

@@ -1,20 +1,23 @@
-use Rattle.std.proofs.Common.{◌≡◌, ◌+◌, ◌-◌, ◌≤◌, length}
+use Rattle.std.proofs.Common.{◌≡◌, false, ◌+◌, ◌-◌, ◌≤◌, length}
 use Rattle.std.specs.Prelude.{IsTrue}
 use Rattle.morph_io.specs.Told.{IsAtEnd}
 use Rattle.event_reader.specs.Pending.{batch_of, Notes, IsSound}
-use Rattle.event_reader.proofs.Batching.{Reads}
+use Rattle.event_reader.proofs.BatchAskings.{AskedTo}
 use Rattle.event_reader.proofs.batches.read_batch.Given as goal
 
 abbrev pub invariant-lines : goal.invariant-lines
 invariant-lines g l = record {
-  reads : Reads (g.A.EventApp.event_of l.app l.size) l.initial.closed l.initial.lines (g.S.Source.left l.initial.source) (batch_of l.pending) l.lines (g.S.Source.left l.source);
+  reads : AskedTo g.S.Source.left g.S.Source.reads (g.A.EventApp.event_of l.app l.size) l.initial.closed l.initial.lines l.initial.source (batch_of l.pending) l.lines l.source;
   closed : l.closed ≡ l.initial.closed;
   notes : Notes l.initial.closed l.pending;
   sound : IsSound (record { tables = g.A.EventApp.table_count l.app; size = l.size }) (batch_of l.pending);
   counted : l.initial.lines.number + length (batch_of l.pending) ≤ l.lines.number;
   limit : l.lines.limit ≡ l.initial.lines.limit;
   live : IsTrue l.lines.live;
-  at_end : IsTrue l.lines.ended → IsAtEnd (g.S.Source.left l.source);
+  numbered : l.initial.lines.number ≤ l.lines.number;
+  stays : IsTrue l.initial.lines.ended → IsTrue l.lines.ended;
+  at_end : l.initial.lines.ended ≡ false → IsTrue l.lines.ended → IsAtEnd (g.S.Source.left l.source);
+  idle : IsTrue l.initial.lines.ended → l.source ≡ l.initial.source;
   never_falls : g.S.Source.faults l.initial.source ≤ g.S.Source.faults l.source;
 }
 

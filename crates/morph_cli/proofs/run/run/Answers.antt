@@ -4,7 +4,7 @@ use Rattle.morph_cli.specs.Outputs.{outputs_of}
 use Rattle.morph_cli.proofs.Between.{course_of, error_is, ends_at_once, told_at_once}
 use Rattle.morph_cli.proofs.run.run.Goals as goal
 
--- memory is refused before the first batch
+-- memory is refused before the first batch, for the run or for its pipe
 
 pub returns-in_err-progress-clause-ends : goal.returns-in_err-progress-clause-ends
 returns-in_err-progress-clause-ends g c =
@@ -17,3 +17,15 @@ returns-in_err-progress-clause-told g c =
     told_at_once (course_of g.A.EventApp.event_of (g.A.EventApp.table_count c.args.job.now.app) (g.A.EventApp.name_of c.args.job.now.app) c.args.job.now.app c.args.job.now.settings INPUT_BYTES (g.S.Source.left c.args.source.now)
     (outputs_of (g.K.Sink.written c.args.sink.now) (g.N.Sink.written c.args.notes.now))) c.args.tally.now
     (error_is c.from_residual.result OutOfMemory c.from_residual.ensures.1) c.requires.tally
+
+pub returns-in_err-ahead-clause-ends : goal.returns-in_err-ahead-clause-ends
+returns-in_err-ahead-clause-ends g c =
+    ends_at_once (course_of g.A.EventApp.event_of (g.A.EventApp.table_count c.args.job.now.app) (g.A.EventApp.name_of c.args.job.now.app) c.args.job.now.app c.args.job.now.settings INPUT_BYTES (g.S.Source.left c.args.source.now)
+    (outputs_of (g.K.Sink.written c.args.sink.now) (g.N.Sink.written c.args.notes.now))) (g.S.Source.left c.args.source.now) c.args.tally.now
+    (error_is c.from_residual-in_err-ahead.result OutOfMemory c.from_residual-in_err-ahead.ensures.1) c.requires.tally
+
+pub returns-in_err-ahead-clause-told : goal.returns-in_err-ahead-clause-told
+returns-in_err-ahead-clause-told g c =
+    told_at_once (course_of g.A.EventApp.event_of (g.A.EventApp.table_count c.args.job.now.app) (g.A.EventApp.name_of c.args.job.now.app) c.args.job.now.app c.args.job.now.settings INPUT_BYTES (g.S.Source.left c.args.source.now)
+    (outputs_of (g.K.Sink.written c.args.sink.now) (g.N.Sink.written c.args.notes.now))) c.args.tally.now
+    (error_is c.from_residual-in_err-ahead.result OutOfMemory c.from_residual-in_err-ahead.ensures.1) c.requires.tally

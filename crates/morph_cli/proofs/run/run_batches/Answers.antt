@@ -1,33 +1,19 @@
-use Rattle.std.proofs.Common.{◌≡◌, ℕ, ◌++◌, List, inl, inr, refl, ap, ◌∙◌, arith, lit≤}
+use Rattle.std.proofs.Common.{inl, inr, refl, arith, lit≤}
 use Rattle.event_reader.specs.declared.limits.TheConstants.{INPUT_BYTES}
 use Rattle.event_reader.specs.Accepted.{Ended, RefusedAt}
-use Rattle.morph_base.specs.declared.key.Layout.{Layout}
-use Rattle.morph_base.specs.Flat.{Kept, contents}
 use Rattle.morph_engine.specs.Accounts.{account_of}
 use Rattle.morph_engine.specs.Fates.{settled_fates}
 use Rattle.morph_cli.specs.declared.fault.Fault.TheVariants.{Write, OutOfMemory}
-use Rattle.run_text.specs.declared.choices.Settings.{Settings}
-use Rattle.run_text.specs.declared.tally.Tally.{Tally}
-use Rattle.run_text.specs.Reports.{report_of}
 use Rattle.morph_cli.specs.Faults.{fault_of}
 use Rattle.run_text.specs.Notes.{noted, closing_notes}
 use Rattle.morph_cli.specs.Outputs.{outputs_of}
 use Rattle.morph_cli.specs.Runs.{layout_of}
-use Rattle.run_text.specs.Text.{told_values, refused_text, counts_line}
-use Rattle.morph_cli.proofs.Between.{course_of, error_is, between_start, between_batch, has_room, ends_fault, told_fault, ends_in_batch, told_cut_in_batch}
+use Rattle.run_text.specs.Text.{refused_text}
+use Rattle.morph_cli.proofs.Between.{closing_of, closing_last, course_of, error_is, between_start, between_batch, has_room, ends_fault, told_fault, ends_in_batch, told_cut_in_batch}
 use Rattle.morph_cli.proofs.Ending.{ends_memory, ends_complete, ends_refused, ends_cut, told_short, told_at_end, told_cut_at_end}
 use Rattle.morph_cli.proofs.Noting.{note_of, risen_in_part}
 use Rattle.morph_cli.proofs.Turns.{cut_text}
 use Rattle.morph_cli.proofs.run.run_batches.Goals as goal
-
--- the closing text of some values, and that it stands at the end
-abbrev closing_of : Settings → (name : ℕ → List ℕ) → Kept → Tally → List ℕ
-closing_of s name values tally = told_values (report_of s) values.layout name (contents values) ++ counts_line tally.committed tally.aborted
-
-closing_last : (s : Settings) (name : ℕ → List ℕ) (values kept : Kept) (tally : Tally) (layout : Layout) → values ≡ kept → kept.layout ≡ layout →
-    closing_of s name values tally ≡ told_values (report_of s) layout name (contents kept) ++ counts_line tally.committed tally.aborted
-closing_last s name values kept tally layout same is =
-    ap (λ v. closing_of s name v tally) same ∙ ap (λ l. told_values (report_of s) l name (contents kept) ++ counts_line tally.committed tally.aborted) is
 
 -- ---- between two batches
 
@@ -110,7 +96,7 @@ batches-preserved g c =
     record {
       run = between_batch c.in-Batch.batch (settled_fates c.in_ok-end-in-Batch.end.plan c.in_ok-end-in-Batch.end.settled) (account_of c.in_ok-end-in-Batch.end)
           c.batches.invariant.run answers shows valid.0 counted c.in_ok-batch.ensures.bound
-          c.in_ok-batch.ensures.same c.in_ok-batch.ensures.at_end c.in_ok-batch.ensures.unended live c.in_ok-end-in-Batch.ensures.layout
+          c.in_ok-batch.ensures.same c.in_ok-batch.ensures.unended live c.in_ok-end-in-Batch.ensures.layout
           c.in_ok-end-in-Batch.ensures.state c.in_ok-end-in-Batch.ensures.fates c.in_ok-tell_batch-in-Batch.ensures.told c.in_ok-tell_batch-in-Batch.ensures.empty
           c.count-progress.ensures.adds c.in_ok-end-in-Batch.ensures.account c.in_ok-end-in-Batch.ensures.made c.in_ok-end-in-Batch.ensures.strategy c.count-progress.ensures.last;
       source_faults = omega (arith, c.batches.invariant.source_faults, c.in_ok-batch.ensures.never_falls);

@@ -1,7 +1,7 @@
 use Rattle.std.proofs.Common.{◌≡◌, ◌<◌, ap, arith}
 use Rattle.morph_base.specs.declared.key.Layout.{Layout}
 use Rattle.morph_base.specs.Flat.{contents}
-use Rattle.run_text.proofs.Summing.{total-more, total-all}
+use Rattle.version_table.proofs.Summing.{total-more, total-all}
 use Rattle.run_text.proofs.totals.total.Goals as goal
 
 pub loop-id-preserved : goal.loop-id-preserved

@@ -20,5 +20,8 @@ returns-in_err-planning-clause-none c = none_asked (map (λ word. word.items) c.
 pub returns-in_err-notes-clause-none : goal.returns-in_err-notes-clause-none
 returns-in_err-notes-clause-none c = none_asked (map (λ word. word.items) c.args.words.now) _ (search rules)
 
+pub returns-in_err-ahead-clause-none : goal.returns-in_err-ahead-clause-none
+returns-in_err-ahead-clause-none c = none_asked (map (λ word. word.items) c.args.words.now) _ (search rules)
+
 pub returns-clause-none : goal.returns-clause-none
 returns-clause-none c = none_asked (map (λ word. word.items) c.args.words.now) _ (search rules)

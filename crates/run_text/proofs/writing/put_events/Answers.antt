@@ -10,7 +10,8 @@ use Rattle.morph_engine.specs.Fates.{settled_fate}
 use Rattle.morph_io.specs.Told.{Puts, AppendsPrefix}
 use Rattle.morph_io.proofs.Putting.{puts_nothing}
 use Rattle.run_text.specs.Text.{event_line, event_text}
-use Rattle.run_text.proofs.Pieces.{on_err, puts_more, puts_stop, inside_range, all_of_range}
+use Rattle.version_table.proofs.Summing.{inside_range, all_of_range}
+use Rattle.run_text.proofs.Pieces.{on_err, puts_more, puts_stop}
 use Rattle.run_text.proofs.writing.put_events.Goals as goal
 
 abbrev line_at : Plan → Settled → ℕ → List ℕ

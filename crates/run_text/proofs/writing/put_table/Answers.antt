@@ -7,7 +7,8 @@ use Rattle.morph_base.specs.Flat.{contents}
 use Rattle.morph_io.specs.Told.{Puts}
 use Rattle.morph_io.proofs.Putting.{puts_nothing}
 use Rattle.run_text.specs.Text.{value_line}
-use Rattle.run_text.proofs.Pieces.{on_err, puts_more, puts_stop, inside_range, all_of_range}
+use Rattle.version_table.proofs.Summing.{inside_range, all_of_range}
+use Rattle.run_text.proofs.Pieces.{on_err, puts_more, puts_stop}
 use Rattle.run_text.proofs.writing.put_table.Goals as goal
 
 abbrev at_id : List ℕ → State → ℕ → ℕ → List ℕ

@@ -6,7 +6,8 @@ use Rattle.morph_base.specs.Flat.{contents}
 use Rattle.morph_io.specs.Told.{Puts}
 use Rattle.morph_io.proofs.Putting.{puts_nothing}
 use Rattle.run_text.specs.Text.{table_lines}
-use Rattle.run_text.proofs.Pieces.{on_err, puts_more, puts_stop, inside_range, all_of_range}
+use Rattle.version_table.proofs.Summing.{inside_range, all_of_range}
+use Rattle.run_text.proofs.Pieces.{on_err, puts_more, puts_stop}
 use Rattle.run_text.proofs.writing.put_values.Goals as goal
 
 abbrev of_table : (ℕ → List ℕ) → State → (size table : ℕ) → List ℕ

@@ -1,17 +1,41 @@
-use Rattle.std.proofs.Common.{arith, refl}
-use Rattle.event_reader.specs.Ranges.{ids}
-use Rattle.toll_app.specs.Toll.{segments, miles}
-use Rattle.toll_app.proofs.Bounds.{at_most}
+use Rattle.std.proofs.Common.{◌≡◌, ℕ, [], ◌∷◌, refl, ◌∙◌, ap, arith, rules}
+use Rattle.event_reader.specs.declared.ranges.Range.{Range}
+use Rattle.event_reader.specs.Forms.{Form, form_of, said}
+use Rattle.event_reader.specs.Ranges.{times, ids}
+use Rattle.event_reader.proofs.Forms.{read_by, first_all, first_at, id_at}
+use Rattle.toll_app.specs.Toll.{segments, miles, reports, report_of}
 use Rattle.toll_app.proofs.toll.report.Goals as goal
 
-pub speed_of-average-requires : goal.speed_of-average-requires
-speed_of-average-requires c =
-    omega (arith, at_most _ c.in_ok-ts.field-0 2 (segments c.args.size) c.in_ok-ts.ensures.fits (omega arith) c.segments.ensures, c.ranges.size.fits)
+-- the form is that of reports
+made : (size : ℕ) (id segment : Range) (form : Form) → form ≡ form_of 84 (times ∷ id ∷ segment ∷ miles ∷ []) → id ≡ ids size → segment ≡ segments size
+    → form ≡ (reports size).form
+made size id segment form is same same' =
+    is ∙ ap (λ r. form_of 84 (times ∷ r ∷ segment ∷ miles ∷ [])) same ∙ ap (λ r. form_of 84 (times ∷ ids size ∷ r ∷ miles ∷ [])) same'
 
-pub place_of-place-requires : goal.place_of-place-requires
-place_of-place-requires c =
-    omega (arith, at_most _ c.in_ok-ts.field-0 1 (ids c.args.size) c.in_ok-ts.ensures.fits (omega arith) c.ids.ensures, c.ranges.size.fits)
+pub key-average-requires : goal.key-average-requires
+key-average-requires c =
+    let at = first_at (reports c.args.size).form c.new.result c.args.words.now c.read.result c.in_ok-numbers.numbers c.first.result
+    (made c.args.size c.ids.result c.segments.result c.new.result c.new.ensures c.ids.ensures c.segments.ensures) c.read.ensures c.in_ok-numbers.was c.first.ensures
+    2 (segments c.args.size) (omega arith) refl in
+    omega (arith, at.0, at.1)
+
+pub key-place-requires : goal.key-place-requires
+key-place-requires c =
+    id_at (reports c.args.size).form c.new.result c.args.words.now c.read.result c.in_ok-numbers.numbers c.first.result
+    (made c.args.size c.ids.result c.segments.result c.new.result c.new.ensures c.ids.ensures c.segments.ensures) c.read.ensures c.in_ok-numbers.was c.first.ensures
+    1 c.args.size (omega arith) refl c.ranges.size.fits
 
 pub overflow_mul-speed : goal.overflow_mul-speed
 overflow_mul-speed c =
-    omega (arith, at_most _ c.in_ok-ts.field-0 3 miles c.in_ok-ts.ensures.fits (omega arith) refl)
+    let at = first_at (reports c.args.size).form c.new.result c.args.words.now c.read.result c.in_ok-numbers.numbers c.first.result
+    (made c.args.size c.ids.result c.segments.result c.new.result c.new.ensures c.ids.ensures c.segments.ensures) c.read.ensures c.in_ok-numbers.was c.first.ensures
+    3 miles (omega arith) refl in
+    omega (arith, at.0, at.1)
+
+pub returns : goal.returns
+returns c =
+    let same = made c.args.size c.ids.result c.segments.result c.new.result c.new.ensures c.ids.ensures c.segments.ensures in
+    let form = (reports c.args.size).form in
+    let found = read_by form c.new.result c.args.words.now c.read.result c.in_ok-numbers.numbers c.first.result same c.read.ensures c.in_ok-numbers.was c.first.ensures in
+    let all = first_all form c.new.result c.args.words.now c.read.result c.in_ok-numbers.numbers c.first.result same c.read.ensures c.in_ok-numbers.was c.first.ensures refl in
+    ap (said report_of) found ∙ ap report_of all ∙ search rules

@@ -49,7 +49,7 @@ returns-in-None g c =
     let e = transaction_of c.in-Ok.event in
     let joined = rw c.in-None.is at c.in_ok-join.ensures in
     let is = ap (said_by (g.A.EventApp.event_of c.args.app.now c.args.size)) (sym c.in-Some.ensures) ∙ c.in-Ok.ensures in
-    let valid = g.met.A.EventApp.gives_valid c.args.app.now c.args.size c.in-Some.words e c.requires.size c.in-Ok.ensures in
+    let valid = g.met.A.EventApp.gives_valid c.args.app.now c.args.size c.in-Some.words e c.in-Ok.ensures in
     record {
       leads = leads_joined (g.A.EventApp.event_of c.args.app.now c.args.size) _ (batch_of c.args.self.now) _ c.requires.short e (batch_of c.join.new.self)
           (sym c.if-is_ignored_line.ensures) (sym c.if-is_punctuation_line.ensures) is joined.joins joined.events;

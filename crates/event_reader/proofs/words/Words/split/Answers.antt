@@ -1,6 +1,7 @@
 use Rattle.std.proofs.Common.{◌≡◌, ◌+◌, ◌<◌, ◌≤◌, true, [], ◌∷◌, ◌++◌, length, take, map, set, sym, ◌∙◌, arith, append-nil}
 use Rattle.std.proofs.lemmas.Bool.Decides.{nat_tests}
 use Rattle.std.proofs.lemmas.List.{length-take, length-map, length-set}
+use Rattle.event_reader.specs.Limits.{line_words}
 use Rattle.event_reader.specs.Words.{is_word, parts_of}
 use Rattle.event_reader.proofs.Parts.{placed, words_more, words_are, too_many, parts_more}
 use Rattle.event_reader.proofs.words.Words.split.Goals as goal
@@ -35,6 +36,6 @@ parts-preserved c =
 pub returns : goal.returns
 returns c =
     let parts = map (λ w. w.now) c.parts.words in
-    let many : 8 ≤ length (take c.parts.i parts)
+    let many : line_words ≤ length (take c.parts.i parts)
     = omega (arith, length-take c.parts.i parts, length-map c.parts.words (λ w. w.now)) in
     sym (too_many c.args.line.now c.parts.rest.now (take c.parts.i parts) c.parts.invariant.parts many)

@@ -1,0 +1,6 @@
+pub mod Givings
+pub mod Desks
+pub mod Ahead
+pub mod Rounds
+pub mod Verdicts
+pub mod Courses

@@ -1,0 +1,189 @@
+use Rattle.std.proofs.Common.{◌≡◌, ℕ, ◌+◌, ◌≤◌, [], ◌++◌, List, length, true, false, Option, Some, None, refl, ap, sym, subst, ◌∙◌, arith, inl, inr, ◌⊎◌}
+use Rattle.std.specs.Prelude.{All, IsTrue}
+use Rattle.std.proofs.lemmas.List.Elements.{All-append}
+use Rattle.morph_base.specs.declared.key.Layout.{Layout}
+use Rattle.event_reader.specs.Reader.{ReaderView}
+use Rattle.rtrb.specs.Ring.{sent, received, known_items, known_free, producer_capacity}
+use Rattle.batch_pipe.specs.declared.items.Sent.{Sent}
+use Rattle.batch_pipe.specs.Reading.{stand}
+use Rattle.batch_pipe.specs.Planning.{IsReady, PlansAhead, CanPlan, layout_by}
+use Rattle.batch_pipe.specs.Running.{Manner, manner, somes, one_or_none}
+use Rattle.batch_pipe.specs.Waiting.{PipeView, IsGoing, IsRound}
+use Rattle.batch_pipe.specs.Inside.{view_of}
+use Rattle.batch_pipe.proofs.Ahead.{same_layout}
+use Rattle.batch_pipe.proofs.Desks.{empty_is}
+use Rattle.batch_pipe.proofs.Rounds.{round_is, round_stopped, next_numbered, all_back, planning_is, not_planning, untold, some_waits, one_first, bool_cases, waiting_is, if_none, open_after, given, not_asked}
+use Rattle.batch_pipe.proofs.pipe.Pipe.round.Goals as goal
+
+pub returns-in-Err-clause-round : goal.returns-in-Err-clause-round
+returns-in-Err-clause-round g c =
+    let m : Manner = manner c.args.pick.now c.args.workers in
+    let p = c.self.inside in
+    let layout : Layout = layout_by g.A.EventApp.table_count p.planner.reader in
+    let a : PipeView g.row.A.Denot = view_of p in
+    let b : PipeView g.row.A.Denot = record {
+      reader = c.read_first.new.planner.reader;
+      engine = p.runner.engine;
+      waiting = known_items p.runner.ring;
+      rans = somes p.runner.rans.items;
+      sent = c.read_first.new.planner.sent;
+      last = p.runner.last;
+      tail = Some c.in-Err.tail;
+      ahead = length p.runner.rans.items;
+    } in
+    let none : a.rans ≡ [] = ap (λ (v : PipeView g.row.A.Denot). v.rans) c.self.view_is ∙ c.requires.none in
+    let asked : c.asks_first-asked.result ≡ true = asked_is (bool_cases c.asks_first-asked.result) in
+    let met = c.asks_first-asked.ensures.0 asked in
+    let many = c.cached_slots.ensures in
+    let waits : a.waiting ≡ [] = empty_is a.waiting (omega (arith, met.1, many)) in
+    subst (λ (v : PipeView g.row.A.Denot). IsRound g.A.EventApp.event_of m v (g.S.Source.left c.args.source.now) b (g.S.Source.left c.read_first.new.source)) c.self.view_is
+    (round_stopped g.A.EventApp.event_of layout m {a = a} {b = b} c.in-Err.tail c.in-Err.ensures.stops (untold a.tail c.is_none-planning.result c.is_none-planning.ensures met.0) waits none
+    refl refl refl refl c.in-Err.ensures.unsent refl refl c.in-Err.ensures.planner c.self.invariant.numbered)
+  where
+    asked_is : (c.asks_first-asked.result ≡ true) ⊎ (c.asks_first-asked.result ≡ false) → c.asks_first-asked.result ≡ true
+    asked_is (inl e) = e
+    asked_is (inr e) = absurd (let no = (c.in-Err.ensures.idle e).0 in cc)
+
+pub run_halves-stop-requires-clause-able : goal.run_halves-stop-requires-clause-able
+run_halves-stop-requires-clause-able g c κs within = λ planning. by planning (bool_cases c.asks_first-asked.result)
+  where
+    by : IsTrue c.is_none-planning.result → (c.asks_first-asked.result ≡ true) ⊎ (c.asks_first-asked.result ≡ false) → CanPlan c.read_first.new.planner
+    by planning (inl e) = c.in-Ok.ensures.able e
+    by planning (inr e) =
+        let f = c.in-Ok.ensures in
+        let same = (f.idle e).1 in
+        let none : c.in-Ok.first ≡ None = ap given (f.idle e).0 in
+        let can = c.self.invariant.able (untold c.self.inside.tail c.is_none-planning.result c.is_none-planning.ensures planning) in
+        let sent_none = ap length f.plans.sent_is in
+        let first_none = ap (λ o. length (one_or_none o)) none in
+        let number = ap (λ (r : ReaderView g.row.A.Denot). r.lines.number) same in
+        record {
+          live = subst (λ (r : ReaderView g.row.A.Denot). IsTrue r.live) (sym same) can.live;
+          counted = omega (arith, can.counted, number, f.plans.number_is, sent_none, first_none);
+        }
+
+pub run_halves-stop-requires-clause-waiting : goal.run_halves-stop-requires-clause-waiting
+run_halves-stop-requires-clause-waiting g c κs within =
+    let p = c.self.inside in
+    let i = c.self.invariant in
+    let a : PipeView g.row.A.Denot = view_of p in
+    let layout : Layout = layout_by g.A.EventApp.table_count p.planner.reader in
+    let f = c.in-Ok.ensures.plans in
+    let first : List Sent = one_or_none c.in-Ok.first in
+    let going : IsGoing a = subst (λ (v : PipeView g.row.A.Denot). IsGoing v) (sym c.self.view_is) c.requires.going in
+    let one = one_first a c.in-Ok.first c.asks_first-asked.result c.is_none-planning.result c.cached_slots.result going c.cached_slots.ensures c.is_none-planning.ensures c.asks_first-asked.ensures
+    c.in-Ok.ensures.asked (λ e. ap given (c.in-Ok.ensures.idle e).0) in
+    record {
+      first_ready = subst (λ (l : Layout). All (λ (x : Sent). IsReady l x.plan) first) (sym i.layout)
+          (subst (All (λ (x : Sent). IsReady layout x.plan)) (sym f.sent_is) f.ready);
+      ready = i.ready;
+      empty = ap (λ (v : PipeView g.row.A.Denot). v.rans) c.self.view_is ∙ c.requires.none;
+      some = i.some;
+      few = i.few;
+      room = omega (arith, one, i.room, i.some);
+    }
+
+pub returns-clause-round : goal.returns-clause-round
+returns-clause-round g c =
+    let m : Manner = manner c.args.pick.now c.args.workers in
+    let p = c.self.inside in
+    let i = c.self.invariant in
+    let layout : Layout = layout_by g.A.EventApp.table_count p.planner.reader in
+    let n = c.run_halves-stop.new in
+    let a : PipeView g.row.A.Denot = view_of p in
+    let b : PipeView g.row.A.Denot = record {
+      reader = n.planner.reader;
+      engine = n.runner.engine;
+      waiting = known_items c.bring_together.new.consumer;
+      rans = somes n.runner.rans.items;
+      sent = n.planner.sent;
+      last = n.runner.last;
+      tail = c.tail_after-self-inside.result;
+      ahead = length n.runner.rans.items;
+    } in
+    let going : IsGoing a = subst (λ (v : PipeView g.row.A.Denot). IsGoing v) (sym c.self.view_is) c.requires.going in
+    let none : a.rans ≡ [] = ap (λ (v : PipeView g.row.A.Denot). v.rans) c.self.view_is ∙ c.requires.none in
+    let h = c.run_halves-stop.ensures in
+    let f = c.in-Ok.ensures in
+    let bt = c.bring_together.ensures in
+    let r = h.runs.runs in
+    let q = c.read_first.new.planner in
+    let layout_is : layout_by g.A.EventApp.table_count q.reader ≡ layout = same_layout g.A.EventApp.table_count p.planner.reader q.reader f.same in
+    let plans = subst (λ (l : Layout). PlansAhead g.A.EventApp.event_of l (stand q.reader (g.S.Source.left c.read_first.new.source)) (sent q.ring) q.sent
+    c.run_halves-stop.result.0 (stand n.planner.reader (g.S.Source.left n.source)) (sent n.planner.ring) n.planner.sent) layout_is h.plans in
+    let tails = c.is_none-planning.ensures in
+    let first : Option Sent = c.in-Ok.first in
+    let one = one_first a first c.asks_first-asked.result c.is_none-planning.result c.cached_slots.result going c.cached_slots.ensures tails c.asks_first-asked.ensures
+    f.asked (λ e. ap given (f.idle e).0) in
+    let before = i.fifo ∙ ap (λ r. sent r) (sym f.ring) in
+    let room = subst (λ (k : ℕ). a.ahead ≤ k + length a.waiting) (ap (λ r. known_free r) (sym f.ring)) i.free in
+    subst (λ (v : PipeView g.row.A.Denot). IsRound g.A.EventApp.event_of m v (g.S.Source.left c.args.source.now) b (g.S.Source.left n.source)) c.self.view_is
+    (round_is g.A.EventApp.event_of layout m {a = a} {b = b} (known_free q.ring) first f.plans plans r none refl before
+    (ap (λ l. l ++ known_items c.bring_together.new.consumer) (sym bt.receiving.1) ∙ bt.fifo ∙ bt.sending.1)
+    i.numbered i.number room one
+    (λ some.
+    let off = not_planning a.tail c.is_none-planning.result tails some in
+    let idle = h.idle off in
+    let first_idle = f.idle (not_asked c.asks_first-asked.result c.is_none-planning.result c.cached_slots.result c.asks_first-asked.ensures off) in
+    (idle.0, idle.1, idle.2 ∙ first_idle.1, idle.3 ∙ first_idle.2))
+    h.planner
+    (λ no. h.filled (planning_is a.tail c.is_none-planning.result tails no))
+    (some_waits a going) c.tail_after-self-inside.ensures.whole c.tail_after-self-inside.ensures.refused h.runs.layout r.run.many)
+
+pub invariant_of-self-2 : goal.invariant_of-self-2
+invariant_of-self-2 g c =
+    let m : Manner = manner c.args.pick.now c.args.workers in
+    let p = c.self.inside in
+    let i = c.self.invariant in
+    let layout : Layout = layout_by g.A.EventApp.table_count p.planner.reader in
+    let n = c.run_halves-stop.new in
+    let a : PipeView g.row.A.Denot = view_of p in
+    let b : PipeView g.row.A.Denot = record {
+      reader = n.planner.reader;
+      engine = n.runner.engine;
+      waiting = known_items c.bring_together.new.consumer;
+      rans = somes n.runner.rans.items;
+      sent = n.planner.sent;
+      last = n.runner.last;
+      tail = c.tail_after-self-inside.result;
+      ahead = length n.runner.rans.items;
+    } in
+    let h = c.run_halves-stop.ensures in
+    let f = c.in-Ok.ensures in
+    let bt = c.bring_together.ensures in
+    let r = h.runs.runs in
+    let many = r.run.many in
+    let old = c.read_first.new.planner in
+    let q = subst (λ (v : PipeView g.row.A.Denot). IsRound g.A.EventApp.event_of m v (g.S.Source.left c.args.source.now) b (g.S.Source.left n.source)) (sym c.self.view_is)
+    (returns-clause-round g c) in
+    let next = next_numbered g.A.EventApp.event_of layout m q i.number in
+    let capacity = bt.sending.0.1 ∙ h.ring.1 ∙ ap (λ r. producer_capacity r) f.ring ∙ i.capacity in
+    let first_layout : layout_by g.A.EventApp.table_count old.reader ≡ layout = same_layout g.A.EventApp.table_count p.planner.reader old.reader f.same in
+    let tables_are : layout_by g.A.EventApp.table_count n.planner.reader ≡ layout = same_layout g.A.EventApp.table_count old.reader n.planner.reader h.same ∙ first_layout in
+    let layout_is : n.runner.engine.layout ≡ layout = h.runs.layout ∙ i.layout in
+    let known : List Sent = known_items n.runner.ring in
+    let back = all_back (λ (x : Sent). IsReady p.runner.engine.layout x.plan) r.popped known (subst (All (λ (x : Sent). IsReady p.runner.engine.layout x.plan)) r.known_is i.ready) in
+    let back' = subst (λ (l : Layout). All (λ (x : Sent). IsReady l x.plan) known) i.layout back in
+    let more' = subst (λ (l : Layout). All (λ (x : Sent). IsReady l x.plan) h.plans.more) first_layout h.plans.ready in
+    let before = i.fifo ∙ ap (λ r. sent r) (sym f.ring) in
+    let after = ap (λ l. l ++ known_items c.bring_together.new.consumer) (sym bt.receiving.1) ∙ bt.fifo ∙ bt.sending.1 in
+    let waits : b.waiting ≡ known ++ h.plans.more = waiting_is g.A.EventApp.event_of layout m (received p.runner.ring) (received n.runner.ring) a.waiting b.waiting known
+    (sent old.ring) (sent n.planner.ring) r.popped h.plans.more before after h.plans.sent_is r.known_is r.received_is in
+    let ready' = subst (All (λ (x : Sent). IsReady layout x.plan)) (sym waits) (All-append (λ (x : Sent). IsReady layout x.plan) known h.plans.more back' more') in
+    record {
+      pair = bt.pair;
+      fifo = bt.fifo;
+      room = omega (arith, bt.room, capacity, many);
+      free = omega (arith, bt.free, capacity, many);
+      capacity = capacity ∙ sym many;
+      some = omega (arith, many, i.some);
+      few = omega (arith, many, i.few);
+      ready = subst (λ (l : Layout). All (λ (x : Sent). IsReady l x.plan) b.waiting) (sym layout_is) ready';
+      numbered = next.0;
+      number = next.1;
+      layout = layout_is ∙ sym tables_are;
+      able = λ none.
+          let o = open_after c.tail_after-self-inside.result a.tail c.run_halves-stop.result.0 c.run_halves-stop.result.1 c.tail_after-self-inside.ensures.whole c.tail_after-self-inside.ensures.refused none in
+          let can = if_none c.run_halves-stop.result.0 (CanPlan n.planner) o.1 (h.able (planning_is a.tail c.is_none-planning.result c.is_none-planning.ensures o.0)) in
+          record { live = can.live; counted = can.counted };
+    }

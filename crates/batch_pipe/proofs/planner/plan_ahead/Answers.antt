@@ -1,0 +1,55 @@
+use Rattle.std.proofs.Common.{List, Some, refl, ap, sym, subst, ◌∙◌, ◌+◌, [], ◌∷◌, ◌++◌, length, arith}
+use Rattle.std.proofs.lemmas.List.{length-append}
+use Rattle.morph_base.specs.declared.key.Layout.{Layout}
+use Rattle.rtrb.specs.Ring.{sent}
+use Rattle.batch_pipe.specs.declared.items.Sent.{Sent}
+use Rattle.batch_pipe.specs.Reading.{stand}
+use Rattle.batch_pipe.specs.Planning.{IsReady, PlansAhead, layout_by}
+use Rattle.batch_pipe.proofs.Ahead.{ahead_nothing, ahead_more, ahead_stop, same_producer, same_layout}
+use Rattle.batch_pipe.proofs.planner.plan_ahead.Goals as goal
+
+pub planning-init : goal.planning-init
+planning-init g c =
+    let p = c.args.planner.now in
+    record {
+      plans = ahead_nothing g.A.EventApp.event_of (layout_by g.A.EventApp.table_count p.reader) (stand p.reader (g.S.Source.left c.args.source.now)) (sent p.ring) p.sent;
+      ring = ((refl, refl, refl, refl), refl);
+      enough = omega arith;
+      able = c.requires.able;
+      same = (refl, refl, refl);
+      never_falls = omega arith;
+    }
+
+pub planning-preserved : goal.planning-preserved
+planning-preserved g c =
+    let p = c.args.planner.now in
+    let i = c.planning.invariant in
+    let layout : Layout = layout_by g.A.EventApp.table_count p.reader in
+    let x : Sent = record { number = c.planning.planner.sent + 1; plan = c.in-Ok.plan } in
+    let looked = c.is_full.ensures.looked in
+    let pushed = c.push_reserved.ensures in
+    let now_same = c.in-Ok.ensures.same in
+    record {
+      plans = ahead_more g.A.EventApp.event_of layout x i.plans c.in-Ok.ensures.plan
+          (subst (λ (l : Layout). IsReady l c.in-Ok.plan) (same_layout g.A.EventApp.table_count p.reader c.planning.planner.reader i.same) c.in-Ok.ensures.ready)
+          (pushed.sent.0 ∙ ap (λ l. l ++ x ∷ []) looked.1) refl refl;
+      ring = same_producer p.ring c.is_full.new.self c.push_reserved.new.self
+          (same_producer p.ring c.planning.planner.ring c.is_full.new.self i.ring looked.0) pushed.ring;
+      enough =
+          let before = ap length looked.1 in
+          let after = ap length pushed.sent.0 in
+          let both = length-append (sent c.is_full.new.self) (x ∷ []) in
+          omega (arith, i.enough, looked.2, pushed.sent.1, before, after, both);
+      able = record { live = c.in-Ok.ensures.live; counted = omega (arith, i.able.counted, c.in-Ok.ensures.counted) };
+      same = (now_same.0 ∙ i.same.0, now_same.1 ∙ i.same.1, now_same.2 ∙ i.same.2);
+      never_falls = omega (arith, i.never_falls, c.in-Ok.ensures.never_falls);
+    }
+
+pub returns-in-Err-clause-plans : goal.returns-in-Err-clause-plans
+returns-in-Err-clause-plans g c =
+    let p = c.args.planner.now in
+    let layout : Layout = layout_by g.A.EventApp.table_count p.reader in
+    let looked = c.is_full.ensures.looked in
+    subst (λ (l : List Sent). PlansAhead g.A.EventApp.event_of layout (stand p.reader (g.S.Source.left c.args.source.now)) (sent p.ring) p.sent
+    (Some c.in-Err.tail) (stand c.read_plan.new.reader (g.S.Source.left c.read_plan.new.source)) l c.planning.planner.sent) (sym looked.1)
+    (ahead_stop g.A.EventApp.event_of layout c.in-Err.tail c.planning.invariant.plans c.in-Err.ensures.tail)

@@ -1,0 +1,29 @@
+use Rattle.std.proofs.Common.{[], ◌∷◌, ap, refl}
+use Rattle.morph_base.specs.Transactions.{transactions_of}
+use Rattle.batch_pipe.specs.Planning.{layout_by}
+use Rattle.batch_pipe.specs.Reading.{stand}
+use Rattle.batch_pipe.proofs.Givings.{gives_one}
+use Rattle.batch_pipe.proofs.planner.read_plan.Goals as goal
+
+pub returns-in-Ok-clause-plan : goal.returns-in-Ok-clause-plan
+returns-in-Ok-clause-plan g c =
+    let answers = rw c.in-Ok-Batch.field-0-is at c.in-Ok-Batch.ensures.answers in
+    let shows = rw c.in-Ok-Batch.field-0-is at c.in-Ok-Batch.ensures.shows in
+    let valid = rw c.in-Ok-Batch.field-0-is at c.in-Ok-Batch.ensures.valid in
+    let counted = rw c.in-Ok-Batch.field-0-is at c.in-Ok-Batch.ensures.counted in
+    record {
+      batches = transactions_of c.in-Ok-Batch.batch ∷ [];
+      middle = stand c.next_batch.new.self (g.S.Source.left c.next_batch.new.source);
+      gives = gives_one g.A.EventApp.event_of (stand c.args.reader.now (g.S.Source.left c.args.source.now)) (stand c.next_batch.new.self (g.S.Source.left c.next_batch.new.source))
+          c.in-Ok-Batch.batch answers shows valid.0 counted c.in-Ok-Batch.ensures.bound c.in-Ok-Batch.ensures.unended c.in-Ok-Batch.ensures.same;
+      plans_are = ap (λ t. t ∷ []) c.in-Ok.ensures.events;
+      stops = refl;
+    }
+
+pub returns-in-Ok-clause-ready : goal.returns-in-Ok-clause-ready
+returns-in-Ok-clause-ready g c =
+    let valid = rw c.in-Ok-Batch.field-0-is at c.in-Ok-Batch.ensures.valid in
+    record {
+      valid = c.in-Ok.ensures.valid;
+      keys = c.in-Ok.ensures.keys (layout_by g.A.EventApp.table_count c.args.reader.now) valid.2;
+    }

@@ -1,0 +1,55 @@
+-- What the rounds of a whole run do, one after another.
+use Rattle.std.specs.Prelude.{◌≡◌, ◌≢◌, ℕ, ◌+◌, ◌-◌, ◌*◌, ◌≤◌, List, [], ◌++◌, length, Option, None, Some}
+use Rattle.morph_base.specs.Flat.{Kept, contents}
+use Rattle.event_reader.specs.Accepted.{Ending, Ended, RefusedAt, CutOff}
+use Rattle.event_reader.specs.Reader.{ReaderView}
+use Rattle.event_reader.specs.Steps.{Meaning}
+use Rattle.event_reader.specs.declared.fault.ReaderFault.TheVariants.{TooLong}
+use Rattle.batch_pipe.specs.declared.items.Sent.{Sent}
+use Rattle.batch_pipe.specs.declared.items.Ran.{Ran}
+use Rattle.batch_pipe.specs.declared.tail.Tail.{Tail}
+use Rattle.batch_pipe.specs.declared.tail.Tail.TheVariants.{End, Refused, Fault, RunMemory}
+use Rattle.batch_pipe.specs.Reading.{stand}
+use Rattle.batch_pipe.specs.Planning.{Plans, AreNumbered, plans_of}
+use Rattle.batch_pipe.specs.Running.{Manner, AreRun, no_last, state_after, last_after}
+use Rattle.batch_pipe.specs.Waiting.{PipeView, IsGoing}
+
+-- so many rounds of a pipe that was new, with such a reader and engine, led to the pipe `b`. The plans that were sent, numbered from 1, are those
+-- of the first batches that the reader gave, in order and each once; those that were run are the first of these; and `rans` is
+-- what came of them, in order, whether it was taken out of the pipe or not
+pub record IsCourse {App : Type 0} (event_of : App → ℕ → Meaning) (m : Manner) (reader : ReaderView App) (engine : Kept) (left : Option (List ℕ)) (rounds : ℕ) (rans : List Ran) (b : PipeView App) (left' : Option (List ℕ)) : Type 0 where
+  pub more : List Sent
+  pub stop : Option Tail
+  pub plans : Plans event_of (stand reader left) (plans_of more) stop (stand b.reader left')
+  pub runs : List Sent
+  -- the one for which memory was refused, if there is one
+  pub lost : List Sent
+  pub parts : more ≡ (runs ++ lost) ++ b.waiting
+  pub run : AreRun m (contents engine) no_last runs rans
+  pub state_is : contents b.engine ≡ state_after (contents engine) runs
+  pub last_is : b.last ≡ last_after no_last rans
+  pub sent_is : b.sent ≡ length more
+  pub numbered : AreNumbered 0 more
+  pub layout : b.engine.layout ≡ engine.layout
+  -- where no memory was refused in running, the tail is that of the planner
+  pub whole : b.tail ≢ Some RunMemory → lost ≡ []
+  pub met : b.tail ≡ None → stop ≡ None
+  pub tail_is : b.tail ≢ Some RunMemory → b.tail ≡ stop
+  -- each round but the last took a plan
+  pub few : rounds ≤ length runs + length lost + 1
+  pub few_going : IsGoing b → rounds ≤ length runs
+
+-- how many rounds there can still be, at most: a line that is not yet read may be the one of a batch
+abbrev pub reads_left : Option Tail → (lines : ℕ) → ℕ
+reads_left None lines = 1 + 2 * lines
+reads_left (Some tail) lines = 0
+
+abbrev pub steps_left : {App : Type 0} → PipeView App → ℕ
+steps_left v = length v.waiting + reads_left v.tail (v.reader.lines.limit + 1 - v.reader.lines.number)
+
+-- where an input ends, as a tail tells it
+abbrev pub ending_of : Tail → Option Ending
+ending_of End = Some Ended
+ending_of (Refused line cause) = Some (RefusedAt line cause)
+ending_of (Fault TooLong) = Some CutOff
+ending_of _ = None

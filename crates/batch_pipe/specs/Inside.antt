@@ -1,0 +1,44 @@
+-- What a pipe keeps true.
+use Rattle.std.specs.Prelude.{◌≡◌, ℕ, ◌+◌, ◌-◌, ◌≤◌, List, ◌++◌, length, All, None}
+use Rattle.rtrb.specs.Ring.{sent, received, known_items, known_free, producer_capacity, IsPair}
+use Rattle.batch_pipe.specs.declared.items.Sent.{Sent}
+use Rattle.batch_pipe.specs.declared.pipe.Pipe.TheInside.{Inside}
+use Rattle.batch_pipe.specs.Planning.{IsReady, AreNumbered, CanPlan, layout_by}
+use Rattle.batch_pipe.specs.Running.{somes}
+use Rattle.batch_pipe.specs.Waiting.{PipeView}
+
+module _ {A : Type 0} where
+  abbrev pub waiting_in : Inside A → List Sent
+  waiting_in p = known_items p.runner.ring
+
+  -- how many places there are for what comes of plans
+  abbrev pub places_in : Inside A → ℕ
+  places_in p = length p.runner.rans.items
+
+  abbrev pub view_of : Inside A → PipeView A
+  view_of p = record {
+    reader = p.planner.reader;
+    engine = p.runner.engine;
+    waiting = waiting_in p;
+    rans = somes p.runner.rans.items;
+    sent = p.planner.sent;
+    last = p.runner.last;
+    tail = p.tail;
+    ahead = places_in p;
+  }
+
+  -- the two ends of its ring are brought together between two rounds: what was sent and not received is known to the one that pops, and
+  -- each free place to the one that pushes
+  pub record IsPipe (table_count : A → ℕ) (p : Inside A) : Type 0 where
+    pub pair : IsPair p.planner.ring p.runner.ring
+    pub fifo : received p.runner.ring ++ waiting_in p ≡ sent p.planner.ring
+    pub room : length (waiting_in p) ≤ places_in p
+    pub free : places_in p ≤ known_free p.planner.ring + length (waiting_in p)
+    pub capacity : producer_capacity p.planner.ring ≡ places_in p
+    pub some : 1 ≤ places_in p
+    pub few : places_in p ≤ 2
+    pub ready : All (λ (x : Sent). IsReady p.runner.engine.layout x.plan) (waiting_in p)
+    pub numbered : AreNumbered (p.planner.sent - length (waiting_in p)) (waiting_in p)
+    pub number : length (waiting_in p) ≤ p.planner.sent
+    pub layout : p.runner.engine.layout ≡ layout_by table_count p.planner.reader
+    pub able : p.tail ≡ None → CanPlan p.planner

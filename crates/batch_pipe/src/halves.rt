@@ -1,0 +1,76 @@
+ghost use Rattle.std.specs.Prelude.{◌≡◌, ◌≢◌, ℕ, ◌+◌, ◌≤◌, [], length, false, IfNone, IfSome, IsTrue};
+ghost use Rattle.std.specs.Thread.{IsSync};
+ghost use Rattle.morph_base.specs.Limits.{most_workers};
+ghost use Rattle.morph_io.specs.Told.{HasRisen};
+ghost use Rattle.event_reader.specs.declared.fault.ReaderFault.TheVariants.{ReadFault};
+ghost use Rattle.rtrb.specs.Ring.{SameProducer};
+ghost use Rattle.batch_pipe.specs.Reading.{SameReader};
+ghost use Rattle.batch_pipe.specs.Planning.{HasPlanned, HasFilled, CanPlan, IsIdle};
+ghost use Rattle.batch_pipe.specs.Running.{CanRun, HasRun, manner, one_or_none};
+
+use crate::items::Sent;
+use crate::planner::{Planner, plan_half};
+use crate::runner::{Host, Runner, run_waiting};
+use crate::tail::Tail;
+use event_reader::EventApp;
+use morph_io::Source;
+use std::thread::{Threads, join_mut};
+use worker_gate::Gate;
+
+/// The runner's half of a round.
+fn run_half<R: Threads + Sync, G: Gate>(
+    host: &Host<'_, R, G>,
+    runner: &mut Runner,
+    first: &mut Option<Sent>,
+) -> bool
+    requires waiting { CanRun (one_or_none first.old) runner.old }
+    requires some { 1 ≤ host.now.workers }
+    requires few { host.now.workers ≤ most_workers }
+    ensures { HasRun (manner host.now.pick host.now.workers)
+        (one_or_none first.old) runner.old result runner.new }
+{
+    let first = first.take();
+    run_waiting(host, runner, first)
+}
+
+/// The two halves of a round, side by side. Neither waits for the other.
+pub(crate) fn run_halves<R: Threads + Sync, A: EventApp + Send, S: Source + Send, G: Gate>(
+    host: &Host<'_, R, G>,
+    planning: bool,
+    planner: &mut Planner<A>,
+    source: &mut S,
+    runner: &mut Runner,
+    first: Option<Sent>,
+) -> (Option<Tail>, bool)
+    requires able { IsTrue planning → CanPlan planner.old }
+    requires waiting { CanRun (one_or_none first) runner.old }
+    requires some { 1 ≤ host.now.workers }
+    requires few { host.now.workers ≤ most_workers }
+    ensures plans { HasPlanned A.event_of A.table_count
+        planner.old (S.left source.old) result.0 planner.new (S.left source.new) }
+    ensures ring { SameProducer planner.old.ring planner.new.ring }
+    ensures filled { IsTrue planning → IfNone result.0 (HasFilled planner.old planner.new) }
+    ensures able { IsTrue planning → IfNone result.0 (CanPlan planner.new) }
+    ensures idle { planning ≡ false
+        → IsIdle planner.old (S.left source.old) result.0 planner.new (S.left source.new) }
+    ensures planner { IfSome result.0 (λ tail. tail ≢ Tail.RunMemory) }
+    ensures same { SameReader planner.old.reader planner.new.reader }
+    ensures never_falls { S.faults source.old ≤ S.faults source.new }
+    ensures cause { IfSome result.0 (λ tail. tail ≡ Tail.Fault ReadFault
+        → HasRisen (S.faults source.old) (S.faults source.new)) }
+    ensures runs { HasRun (manner host.now.pick host.now.workers)
+        (one_or_none first) runner.old result.1 runner.new }
+{
+    let mut first = first;
+    let alloc = host.alloc;
+    join_mut(
+        host.rt,
+        &mut || plan_half(alloc, planning, planner, source),
+        &mut || -> bool
+            requires { IsSync R.row × CanRun (one_or_none first) runner.now
+                × (1 ≤ host.now.workers) × (host.now.workers ≤ most_workers) }
+            ensures { HasRun (manner host.entry.now.pick host.entry.now.workers)
+                (one_or_none first.entry) runner.entry.now result runner.exit.now }
+        { run_half(host, runner, &mut first) },
+    )
+}

@@ -1,0 +1,46 @@
+ghost use Rattle.std.specs.Prelude.{◌≡◌};
+ghost use Rattle.morph_base.specs.Graphs.{IsValidPlan};
+ghost use Rattle.batch_pipe.specs.Running.{picked};
+
+use decision_model::{Last, choose, profile};
+use morph_base::{Plan, Strategy};
+use morph_engine::BatchEnd;
+
+/// A plan that was sent to be run, with its number from 1.
+#[derive(Debug, Drop)]
+pub struct Sent {
+    pub number: u64,
+    pub plan: Plan,
+}
+
+/// What the batch of this number came to.
+#[derive(Drop)]
+pub struct Ran {
+    pub number: u64,
+    /// The strategy that was picked for it.
+    pub strategy: Strategy,
+    pub end: BatchEnd,
+}
+
+/// How the strategy of each batch is picked.
+#[derive(Clone, Copy, Debug, PartialEq, Eq)]
+pub struct Picker {
+    /// Whether it is chosen by the batch's plan and by what came of the batch before.
+    pub auto: bool,
+    /// The strategy of all batches, where it isn't.
+    pub strategy: Strategy,
+}
+
+impl Picker {
+    /// The strategy for a valid plan, after a batch that came to `last`.
+    pub(crate) fn pick(&self, plan: &Plan, last: Last) -> Strategy
+        requires { IsValidPlan plan.now }
+        ensures { result ≡ picked self.now last plan.now }
+    {
+        if self.auto {
+            choose(&profile(plan, last))
+        } else {
+            self.strategy
+        }
+    }
+}

@@ -1,0 +1,88 @@
+//! What the rounds of a whole run come to, as the contracts of functions that do nothing.
+//!
+//! A crate above cites the lemmas behind them, which stand in `proofs/`.
+ghost use Rattle.std.specs.Prelude.{◌≡◌, ◌≢◌, ℕ, ◌+◌, ◌*◌, ◌<◌, ◌≤◌, [], ◌++◌, List, length, Option, Some, IfSome};
+ghost use Rattle.morph_base.specs.Flat.{Kept};
+ghost use Rattle.morph_base.specs.Transactions.{Transaction};
+ghost use Rattle.event_reader.specs.Accepted.{Ending, closed_batches};
+ghost use Rattle.event_reader.specs.Reader.{ReaderView, accepted_by, new_reader, Takes};
+ghost use Rattle.event_reader.specs.declared.fault.ReaderFault.TheVariants.{ReadFault};
+ghost use Rattle.batch_pipe.specs.declared.items.Ran.{Ran};
+ghost use Rattle.batch_pipe.specs.declared.tail.Tail.{Tail};
+ghost use Rattle.batch_pipe.specs.declared.tail.Tail.TheVariants.{Fault, RunMemory};
+ghost use Rattle.batch_pipe.specs.Courses.{IsCourse, ending_of, steps_left};
+ghost use Rattle.batch_pipe.specs.Planning.{ArePlansOf, plans_of};
+ghost use Rattle.batch_pipe.specs.Running.{Manner};
+ghost use Rattle.batch_pipe.specs.Waiting.{PipeView, IsGoing, IsRound, new_pipe};
+
+use event_reader::EventApp;
+
+/// Over a whole run the plans that are run are the first of those that are sent, in order, and these are the plans of
+/// the first accepted batches, each once, numbered from 1: a new pipe has such a course, and each round and each
+/// [`Pipe::next`](crate::Pipe::next) goes on with it.
+pub fn courses_go_on<A: EventApp>()
+    ensures begins { (m : Manner) (reader : ReaderView A) (engine : Kept) (ahead : ℕ)
+        (left : Option (List ℕ))
+        → IsCourse A.event_of m reader engine left 0 [] (new_pipe reader engine ahead) left }
+    ensures round { (m : Manner) (reader : ReaderView A) (engine : Kept)
+        (left before after : Option (List ℕ)) (rounds : ℕ) (rans : List Ran) (old new : PipeView A)
+        → IsCourse A.event_of m reader engine left rounds rans old before
+        → IsGoing old → IsRound A.event_of m old before new after
+        → IsCourse A.event_of m reader engine left (rounds + 1) (rans ++ new.rans) new after }
+    ensures taken { (m : Manner) (reader : ReaderView A) (engine : Kept)
+        (left after : Option (List ℕ)) (rounds : ℕ) (rans : List Ran) (old new : PipeView A)
+        → IsCourse A.event_of m reader engine left rounds rans old after
+        → new ≡ record old { rans = new.rans }
+        → IsCourse A.event_of m reader engine left rounds rans new after }
+{}
+
+/// A run ends: each round leaves fewer that there can be, also where what came of a batch counts half a one; and there
+/// is at most one more than batches that were read.
+pub fn rounds_are_few<A: EventApp>()
+    ensures fall { (m : Manner) (before after : Option (List ℕ)) (old new : PipeView A)
+        → IsRound A.event_of m old before new after → IsGoing old
+        → old.reader.lines.number ≤ old.reader.lines.limit + 1
+        → length new.rans + 2 * steps_left new < 2 * steps_left old }
+    ensures few { (m : Manner) (reader : ReaderView A) (engine : Kept)
+        (left after : Option (List ℕ)) (rounds : ℕ) (rans : List Ran) (v : PipeView A)
+        (course : IsCourse A.event_of m reader engine left rounds rans v after)
+        → rounds ≤ length course.plans.batches + 1 }
+{}
+
+/// What was read and what was run, when a run is over or before.
+///
+/// The batches that were read are the first of those that are accepted, and those of which plans were run are the first
+/// of these. Where the pipe isn't going, and memory to run a plan was not refused, all that were read were run. Where
+/// the input came to its end, a line was refused, or the limit was reached, they are all that are accepted. Where the
+/// source failed they are those that are closed within the bytes that were taken.
+pub fn courses_end<A: EventApp>()
+    ensures front { (m : Manner) (reader : ReaderView A) (engine : Kept)
+        (left after : Option (List ℕ)) (rounds : ℕ) (rans : List Ran) (v : PipeView A)
+        (course : IsCourse A.event_of m reader engine left rounds rans v after)
+        → IfSome (accepted_by A.event_of reader left) (λ all. (rest : List (List Transaction))
+        × (all.batches ≡ course.plans.batches ++ rest)) }
+    ensures ran { (m : Manner) (reader : ReaderView A) (engine : Kept)
+        (left after : Option (List ℕ)) (rounds : ℕ) (rans : List Ran) (v : PipeView A)
+        (course : IsCourse A.event_of m reader engine left rounds rans v after)
+        → (done : List (List Transaction)) × (rest : List (List Transaction))
+        × (course.plans.batches ≡ done ++ rest) × ArePlansOf done (plans_of course.runs) }
+    ensures whole { (m : Manner) (reader : ReaderView A) (engine : Kept)
+        (left after : Option (List ℕ)) (rounds : ℕ) (rans : List Ran) (v : PipeView A)
+        (course : IsCourse A.event_of m reader engine left rounds rans v after)
+        → (IsGoing v → ⊥) → v.tail ≢ Some RunMemory
+        → (course.runs ≡ course.more) × (v.waiting ≡ []) }
+    ensures ended { (m : Manner) (reader : ReaderView A) (engine : Kept)
+        (left after : Option (List ℕ)) (rounds : ℕ) (rans : List Ran) (v : PipeView A)
+        (course : IsCourse A.event_of m reader engine left rounds rans v after)
+        (tail : Tail) (ending : Ending)
+        → course.stop ≡ Some tail → ending_of tail ≡ Some ending
+        → IfSome (accepted_by A.event_of reader left) (λ all.
+        (all.ending ≡ ending) × (all.batches ≡ course.plans.batches)) }
+    ensures cut { (m : Manner) (reader : ReaderView A) (engine : Kept)
+        (left after : Option (List ℕ)) (rounds : ℕ) (rans : List Ran) (v : PipeView A)
+        (course : IsCourse A.event_of m reader engine left rounds rans v after)
+        (app : A) (size limit : ℕ)
+        → reader ≡ new_reader app size limit → course.stop ≡ Some (Fault ReadFault)
+        → Takes left after (λ got.
+        closed_batches (A.event_of app size) got ≡ course.plans.batches) }
+{}

@@ -1,0 +1,238 @@
+ghost use Rattle.std.specs.Prelude.{◌≡◌, ◌+◌, ◌<◌, ◌≤◌, ◌↔◌, [], ◌∷◌, ◌++◌, length, replicate, slice_set, slice_index_or, Option, None, Some, IfOk, IfNone, IfSome, IsTrue};
+ghost use Rattle.morph_base.specs.Limits.{most_workers};
+ghost use Rattle.morph_io.specs.Told.{HasRisen};
+ghost use Rattle.event_reader.specs.Limits.{input_bytes};
+ghost use Rattle.event_reader.specs.declared.fault.ReaderFault.TheVariants.{ReadFault};
+ghost use Rattle.rtrb.specs.Ring.{sent, received, known_items, known_free, producer_capacity, IsPair, SameProducer, SameConsumer};
+ghost use Rattle.batch_pipe.specs.declared.items.Ran.{Ran};
+ghost use Rattle.batch_pipe.specs.Planning.{layout_by};
+ghost use Rattle.batch_pipe.specs.Running.{manner, somes};
+ghost use Rattle.batch_pipe.specs.Waiting.{IsGoing, IsRound, new_pipe};
+
+use crate::halves::run_halves;
+use crate::items::{Picker, Ran, Sent};
+use crate::planner::{Planner, read_first};
+use crate::runner::{Host, Runner};
+use crate::tail::{Tail, tail_after};
+use decision_model::Last;
+use event_reader::{BatchReader, EventApp};
+use morph_base::{List, OutOfMemory};
+use morph_engine::Engine;
+use morph_io::Source;
+use rtrb::{Consumer, Producer, RingBuffer};
+use std::alloc::Global;
+use std::marker::Model;
+use std::thread::Threads;
+use worker_gate::Gate;
+
+/// Batches that are read and planned ahead of the one that is run.
+///
+/// Contracts see its reader, its engine, the plans that wait in its ring, what came of those that were run and not yet
+/// taken out, how many plans were sent, what came of the batch that was run last, the tail, and how many plans can wait.
+#[derive(Drop)]
+pub struct Pipe<A: EventApp> {
+    planner: Planner<A>,
+    runner: Runner,
+    tail: Option<Tail>,
+}
+
+impl<A: EventApp> Model for Pipe<A> {
+    ghost use Rattle.batch_pipe.specs.Waiting.{PipeView};
+
+    ghost Value = { PipeView A };
+
+    ghost use Rattle.batch_pipe.specs.Inside.{IsPipe, view_of};
+
+    ghost view = { view_of };
+
+    ghost invariant = { λ pipe. IsPipe A.table_count pipe };
+}
+
+/// Places for what comes of plans, all free.
+fn free_places(alloc: Global, ahead: usize) -> Result<List<Option<Ran>>, OutOfMemory>
+    ensures { IfOk result (λ rans. rans.items ≡ replicate ahead None) }
+{
+    let mut rans = List::with_room(alloc, ahead)?;
+    for _ in 0..ahead {
+        rans.add(None);
+    }
+    Ok(rans)
+}
+
+/// Takes out what stands at a place.
+fn take_at(rans: &mut List<Option<Ran>>, i: usize) -> Option<Ran>
+    requires { i < length rans.old.items }
+    ensures taken { (d : Option Ran) → result ≡ slice_index_or rans.old.items i d }
+    ensures rest { rans.new.items ≡ slice_set rans.old.items i None }
+{
+    rans.as_mut_slice()[i].take()
+}
+
+/// Takes out the first that is there.
+fn take_first(rans: &mut List<Option<Ran>>) -> Option<Ran>
+    ensures some { IfSome result (λ ran. somes rans.old.items ≡ ran ∷ somes rans.new.items) }
+    ensures none { IfNone result ((somes rans.old.items ≡ []) × (somes rans.new.items ≡ [])) }
+    ensures many { length rans.new.items ≡ length rans.old.items }
+{
+    for i in 0..rans.len() {
+        if let Some(ran) = take_at(rans, i) {
+            return Some(ran);
+        }
+    }
+    None
+}
+
+/// Brings the two ends of the ring together: the one that pops then knows all that was pushed, and the one that pushes
+/// each free place.
+fn bring_together(producer: &mut Producer<Sent>, consumer: &mut Consumer<Sent>)
+    requires { IsPair producer.old consumer.old }
+    ensures pair { IsPair producer.new consumer.new }
+    ensures sending { SameProducer producer.old producer.new
+        × (sent producer.new ≡ sent producer.old) }
+    ensures receiving { SameConsumer consumer.old consumer.new
+        × (received consumer.new ≡ received consumer.old) }
+    ensures fifo { received consumer.new ++ known_items consumer.new ≡ sent producer.new }
+    ensures room { length (known_items consumer.new) ≤ producer_capacity producer.new }
+    ensures free { producer_capacity producer.new
+        ≤ known_free producer.new + length (known_items consumer.new) }
+{
+    producer.slots_beside(consumer);
+    consumer.slots_beside(producer);
+}
+
+/// Whether a batch is read before the halves begin: where no plan waits and there is no tail.
+fn asks_first(planning: bool, waiting: usize) -> bool
+    ensures { IsTrue result ↔ (IsTrue planning × (waiting ≡ 0)) }
+{
+    planning && waiting == 0
+}
+
+impl<A: EventApp> Pipe<A> {
+    /// A pipe of one plan or two that wait while another is run, over a reader and an engine for the same application.
+    pub fn new(
+        alloc: Global,
+        reader: BatchReader<A>,
+        engine: Engine,
+        ahead: u32,
+    ) -> Result<Self, OutOfMemory>
+    where
+        A: Drop,
+        requires some { 1 ≤ ahead }
+        requires few { ahead ≤ 2 }
+        requires live { IsTrue reader.live }
+        requires layout { engine.layout ≡ layout_by A.table_count reader }
+        ensures { IfOk result (λ pipe. pipe ≡ new_pipe reader engine ahead) }
+    {
+        let (producer, consumer) = RingBuffer::new(alloc, ahead as usize)?;
+        let rans = free_places(alloc, ahead as usize)?;
+        Ok(Pipe {
+            planner: Planner {
+                reader,
+                ring: producer,
+                sent: 0,
+            },
+            runner: Runner {
+                engine,
+                ring: consumer,
+                rans,
+                last: Last {
+                    events: 0,
+                    aborted: 0,
+                },
+            },
+            tail: None,
+        })
+    }
+
+    /// Why no further batch comes, once that was met.
+    pub fn tail(&self) -> Option<Tail>
+        ensures { result ≡ self.now.tail }
+    {
+        self.tail
+    }
+
+    /// The engine, in the state after the batches that were run.
+    pub fn engine(&self) -> &Engine
+        ensures { result.now ≡ self.now.engine }
+    {
+        &self.runner.engine
+    }
+
+    /// Whether there is more to do: a plan waits or there is no tail, and no run was refused memory.
+    pub fn going(&self) -> bool
+        ensures going { IsTrue result ↔ IsGoing self.now }
+        ensures bound { self.now.reader.lines.number ≤ self.now.reader.lines.limit + 1 }
+        ensures limit { self.now.reader.lines.limit ≤ input_bytes }
+    {
+        let reads = self.planner.reader.live() && self.tail.is_none();
+        (reads || self.runner.ring.cached_slots() > 0) && self.tail != Some(Tail::RunMemory)
+    }
+
+    /// Takes out the next of what came of the plans, in order. There is none exactly where none waits.
+    pub fn next(&mut self) -> Option<Ran>
+        ensures some { IfSome result (λ ran. (self.new ≡ record self.old { rans = self.new.rans })
+            × (self.old.rans ≡ ran ∷ self.new.rans)) }
+        ensures none { IfNone result ((self.new ≡ self.old) × (self.old.rans ≡ [])) }
+    {
+        take_first(&mut self.runner.rans)
+    }
+
+    /// One round: the next batches are read and planned while the plans that wait are run, from 1 to 16 workers each.
+    ///
+    /// Where no plan waits and there is no tail, one batch is read and planned first, and its plan goes to the runner
+    /// without the ring. Then two halves run side by side, of which neither waits for the other. The planner reads,
+    /// plans and sends until it sees no free place or meets a tail; it fills at least the places that were free when the
+    /// halves began. The runner takes the plans that waited then, in order, and picks the strategy of each.
+    ///
+    /// Want of memory to run a plan is told as [`Tail::RunMemory`], whatever tail the planner met: that plan is dropped,
+    /// and the engine stays as it was before it. Want of memory in planning is told as that of the reader, and the batch
+    /// is not sent.
+    pub fn round<R: Threads + Sync, S: Source + Send, G: Gate>(
+        &mut self,
+        rt: &R,
+        alloc: Global,
+        source: &mut S,
+        pick: &Picker,
+        workers: u32,
+        gate: &G,
+    )
+    where
+        A: Send,
+        requires going { IsGoing self.old }
+        requires none { self.old.rans ≡ [] }
+        requires some { 1 ≤ workers }
+        requires few { workers ≤ most_workers }
+        ensures round { IsRound A.event_of (manner pick.now workers)
+            self.old (S.left source.old) self.new (S.left source.new) }
+        ensures never_falls { S.faults source.old ≤ S.faults source.new }
+        ensures cause { self.old.tail ≡ None → self.new.tail ≡ Some (Tail.Fault ReadFault)
+            → HasRisen (S.faults source.old) (S.faults source.new) }
+    {
+        let planning = self.tail.is_none();
+        let asked = asks_first(planning, self.runner.ring.cached_slots());
+        let first = match read_first(alloc, asked, &mut self.planner, source) {
+            Ok(first) => first,
+            Err(tail) => {
+                self.tail = Some(tail);
+                return;
+            }
+        };
+        let host = Host {
+            rt,
+            alloc,
+            gate,
+            pick: *pick,
+            workers,
+        };
+        let (stop, all) = run_halves(
+            &host,
+            planning,
+            &mut self.planner,
+            source,
+            &mut self.runner,
+            first,
+        );
+        bring_together(&mut self.planner.ring, &mut self.runner.ring);
+        self.tail = tail_after(self.tail, stop, all);
+    }
+}

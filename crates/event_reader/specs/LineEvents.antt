@@ -1,0 +1,30 @@
+-- What lines say, by themselves: their events, and the batches between punctuations.
+use Rattle.std.specs.Prelude.{ℕ, ◌<◌, ◌||◌, nat_le, filter, filter_map, if◌then◌else◌, Bool, List, length, map, Option, Some, None, Result, Ok, Err}
+use Rattle.std.specs.List.{All, slice_split}
+use Rattle.morph_base.specs.Transactions.{Transaction}
+use Rattle.event_reader.specs.declared.cause.Cause.{Cause}
+use Rattle.event_reader.specs.Steps.{Meaning, said_by, is_ignored, is_punctuation}
+use Rattle.event_reader.specs.Words.{words_of}
+
+abbrev pub event_if : Result Transaction Cause → Option Transaction
+event_if (Ok e) = Some e
+event_if (Err _) = None
+
+-- the event that a line says; an ignored line and a punctuation say none
+abbrev pub event_said : Meaning → List ℕ → Option Transaction
+event_said meaning line = if is_ignored line || is_punctuation line then None else event_if (said_by meaning (words_of line))
+
+-- the events that lines say, in order
+abbrev pub events_said : Meaning → List (List ℕ) → List Transaction
+events_said meaning lines = filter_map (event_said meaning) lines
+
+abbrev pub has_event : List Transaction → Bool
+has_event batch = nat_le 1 (length batch)
+
+-- the events between punctuations, where there are any
+abbrev pub batches_said : Meaning → List (List ℕ) → List (List Transaction)
+batches_said meaning lines = filter has_event (map (events_said meaning) (slice_split is_punctuation lines))
+
+-- every event of a batch comes before every one of a later batch
+abbrev pub IsBefore : List Transaction → List Transaction → Type 0
+IsBefore earlier later = All (λ e. All (λ f. e.ts < f.ts) later) earlier

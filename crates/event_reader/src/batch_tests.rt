@@ -1,0 +1,187 @@
+ghost use Rattle.std.specs.Prelude.{◌<◌, ◌≤◌};
+ghost use Rattle.event_reader.specs.Limits.{input_bytes};
+
+use crate::counter::Counter;
+use crate::{BatchReader, Cause, GenSource, INPUT_BYTES, LineNext, Lines, Next, ReaderFault};
+use morph_base::{EVENTS, List, OutOfMemory};
+use morph_io::{MemSource, Source};
+use std::alloc::{AllocError, Global};
+use std::test::Fail;
+
+/// How a reading ended.
+#[derive(Clone, Copy, Debug, PartialEq, Eq)]
+enum End {
+    Ended,
+    Refused(u64, Cause),
+    Fault(ReaderFault),
+    Unfinished,
+}
+
+/// The number of events of each batch that was given, and how the reading ended.
+#[derive(Debug, Drop)]
+struct Outcome {
+    sizes: Vec<usize>,
+    end: End,
+}
+
+/// Reads all batches of a source, where the table has `size` ids.
+fn read_batches<S: Source>(
+    alloc: Global,
+    source: &mut S,
+    size: u32,
+    limit: u64,
+) -> Result<Outcome, OutOfMemory>
+    requires some { 1 ≤ limit }
+    requires limit { limit ≤ input_bytes }
+{
+    let mut reader = BatchReader::new(alloc, Counter, size, limit)?;
+    let mut sizes = Vec::new(alloc);
+    'batches: for _ in 0..100 {
+        let end = match reader.next_batch(alloc, source) {
+            Ok(Next::Batch(batch)) => {
+                sizes.push(batch.events.len())?;
+                continue;
+            }
+            Ok(Next::End) => End::Ended,
+            Ok(Next::Refused { line, cause }) => End::Refused(line, cause),
+            Err(fault) => End::Fault(fault),
+        };
+        return Ok(Outcome { sizes, end });
+    }
+    Ok(Outcome {
+        sizes,
+        end: End::Unfinished,
+    })
+}
+
+/// Reads all batches of a text that comes in pieces, where the table has `size` ids.
+fn read_text(
+    alloc: Global,
+    text: &[u8],
+    piece: usize,
+    size: u32,
+    limit: u64,
+) -> Result<Outcome, OutOfMemory>
+    requires piece { 0 < piece }
+    requires some { 1 ≤ limit }
+    requires limit { limit ≤ input_bytes }
+{
+    let mut source = MemSource::new(List::from_slice(alloc, text)?, piece, List::new(alloc));
+    read_batches(alloc, &mut source, size, limit)
+}
+
+#[test]
+fn batches_and_refusals_come_in_pieces_of_every_size(rt: HostRuntime) -> Result<(), Fail> {
+    let rows: [(&[u8], &[usize], End); 14] = [
+        (b"", &[], End::Ended),
+        (b"1\nP\nP\n3\n2", &[1, 2], End::Ended),
+        (b"#x\r\n\r\n1\r\nP\r\n2\r", &[1, 1], End::Ended),
+        (b"1\n+\n", &[], End::Refused(2, Cause::Form)),
+        (b"1\nP\n02\n", &[1], End::Refused(3, Cause::Form)),
+        (b" 1\n", &[], End::Refused(1, Cause::Form)),
+        (b"0\n", &[], End::Refused(1, Cause::Range)),
+        (b"1000000000001\n", &[], End::Refused(1, Cause::Range)),
+        (b"1 1\n", &[], End::Refused(1, Cause::Same)),
+        (b"5\nP\n5\n", &[1], End::Refused(3, Cause::Late)),
+        (b"9\n5\nP\n7\n", &[2], End::Refused(4, Cause::Late)),
+        (b"7\n7\n", &[], End::Refused(2, Cause::Twice)),
+        (b"9\n7\n7\n7 7\n", &[], End::Refused(3, Cause::Twice)),
+        (b"5\nP\n6\n5\n6\n", &[1], End::Refused(4, Cause::Late)),
+    ];
+    for (text, sizes, end) in rows {
+        for piece in 1..=20 {
+            let outcome = read_text(rt.alloc(), text, piece, 1, INPUT_BYTES)?;
+            assert_eq!(rt; outcome.sizes.as_slice(), sizes, "{text:?} by {piece}");
+            assert_eq!(rt; outcome.end, end, "{text:?} by {piece}");
+        }
+    }
+    Ok(())
+}
+
+#[test]
+fn a_table_without_ids_refuses_each_event(rt: HostRuntime) -> Result<(), Fail> {
+    let outcome = read_text(rt.alloc(), b"P\n1\n", 4_096, 0, INPUT_BYTES)?;
+    assert_eq!(rt; outcome.sizes.len(), 0);
+    assert_eq!(rt; outcome.end, End::Refused(2, Cause::Range));
+    Ok(())
+}
+
+#[test]
+fn a_limit_is_reached_exactly_or_passed(rt: HostRuntime) -> Result<(), Fail> {
+    let too_long = End::Fault(ReaderFault::TooLong);
+    let rows: [(u64, &[usize], End); 7] = [
+        (9, &[1, 1], End::Ended),
+        (8, &[1, 1], End::Ended),
+        (7, &[1], too_long),
+        (6, &[1], too_long),
+        (4, &[1], too_long),
+        (3, &[], too_long),
+        (1, &[], too_long),
+    ];
+    for (limit, sizes, end) in rows {
+        assert!(rt; limit >= 1 && limit <= INPUT_BYTES);
+        for piece in [1, 4, 4_096] {
+            let outcome = read_text(rt.alloc(), b"1\nP\n2\nP\n", piece, 1, limit)?;
+            assert_eq!(rt; outcome.sizes.as_slice(), sizes, "limit {limit} by {piece}");
+            assert_eq!(rt; outcome.end, end, "limit {limit} by {piece}");
+        }
+    }
+    Ok(())
+}
+
+#[test]
+fn a_line_is_long_before_the_limit_is_passed(rt: HostRuntime) -> Result<(), Fail> {
+    let alloc = rt.alloc();
+    let rows = [
+        (1_300, 1_002, Ok(LineNext::Long)),
+        (1_300, 1_001, Err(ReaderFault::TooLong)),
+        (1_001, 1_001, Ok(LineNext::Long)),
+        (1_000, 1_000, Ok(LineNext::Line)),
+        (1_000, 999, Err(ReaderFault::TooLong)),
+    ];
+    for (count, limit, answer) in rows {
+        assert!(rt; limit >= 1 && limit <= INPUT_BYTES);
+        let mut source = MemSource::new(List::filled(alloc, count, b'x')?, 4_096, List::new(alloc));
+        let mut lines = Lines::new(alloc, limit)?;
+        assert_eq!(rt;
+            lines.next_line(&mut source),
+            answer,
+            "{count} bytes, limit {limit}"
+        );
+    }
+    Ok(())
+}
+
+/// Events at the times from 1 to `count`.
+fn events(alloc: Global, count: u64) -> Result<String, AllocError> {
+    let mut text = String::new(alloc);
+    'lines: for ts in 1..=count {
+        text.push_str(format!(in alloc; "{ts}\n")?.as_str())?;
+    }
+    Ok(text)
+}
+
+#[test]
+fn a_batch_has_at_most_as_many_events_as_there_may_be(rt: HostRuntime) -> Result<(), Fail> {
+    let most = EVENTS as u64;
+    let rows: [(u64, &[usize], End); 2] = [
+        (most, &[EVENTS], End::Ended),
+        (most + 1, &[], End::Refused(most + 1, Cause::Full)),
+    ];
+    for (count, sizes, end) in rows {
+        let text = events(rt.alloc(), count)?;
+        let outcome = read_text(rt.alloc(), text.as_bytes(), 4_096, 1, INPUT_BYTES)?;
+        assert_eq!(rt; outcome.sizes.as_slice(), sizes, "{count} events");
+        assert_eq!(rt; outcome.end, end, "{count} events");
+    }
+    Ok(())
+}
+
+#[test]
+fn a_generated_text_has_all_its_events(rt: HostRuntime) -> Result<(), Fail> {
+    let mut source = GenSource::new(Counter, 7, 2_500, 1);
+    let outcome = read_batches(rt.alloc(), &mut source, 1, INPUT_BYTES)?;
+    assert_eq!(rt; outcome.sizes.as_slice(), [1_000, 1_000, 500].as_slice());
+    assert_eq!(rt; outcome.end, End::Ended);
+    Ok(())
+}

@@ -1,0 +1,161 @@
+//! Runs that read and plan batches ahead.
+ghost use Rattle.std.specs.Prelude.{◌≡◌, ◌+◌, ◌*◌, ◌≤◌, ◌⊎◌, [], length, option_map, IfOk, IfSome, IsErrOf, IsTrue};
+ghost use Rattle.event_reader.specs.Accepted.{accepted_within};
+ghost use Rattle.event_reader.specs.declared.limits.TheConstants.{INPUT_BYTES};
+ghost use Rattle.event_reader.specs.Reader.{new_reader};
+ghost use Rattle.morph_base.specs.declared.plan.Plan.{Plan};
+ghost use Rattle.morph_base.specs.Flat.{contents};
+ghost use Rattle.morph_base.specs.States.{opening_state};
+ghost use Rattle.morph_io.specs.Told.{HasRisen};
+ghost use Rattle.decision_model.specs.declared.counts.Last.{Last as Came};
+ghost use Rattle.batch_pipe.specs.Running.{picked};
+ghost use Rattle.batch_pipe.specs.Waiting.{new_pipe};
+ghost use Rattle.run_text.specs.Settings.{AreInRange};
+ghost use Rattle.run_text.specs.Counts.{no_tally};
+ghost use Rattle.morph_cli.specs.Apps.{telling_for};
+ghost use Rattle.morph_cli.specs.Outputs.{outputs_of};
+ghost use Rattle.morph_cli.specs.Runs.{EndsSo, layout_of};
+ghost use Rattle.morph_cli.specs.Status.{status_of};
+ghost use Rattle.morph_cli.specs.Strategies.{strategy_by};
+ghost use Rattle.morph_cli.specs.Tallies.{RunTold};
+
+use crate::fault::Fault;
+use crate::job::Job;
+use crate::progress::Progress;
+use crate::run::Finish;
+use crate::strategies::count;
+use crate::tell::{Refusal, tell_batch, tell_closing, tell_refused};
+use batch_pipe::{Picker, Pipe, Tail};
+use event_reader::EventApp;
+use morph_base::{Abort, Explore, OutOfMemory, Strategy, Unit};
+use morph_io::{Out, Sink, Source};
+use run_text::{Planning, Tally};
+use std::alloc::Global;
+use std::thread::Threads;
+use worker_gate::Gate;
+
+/// How far a run that reads ahead has come: its pipe, and what is not yet written.
+#[derive(Drop)]
+pub struct Ahead<A: EventApp> {
+    pub pipe: Pipe<A>,
+    pub out: Out,
+}
+
+impl<A: EventApp> Ahead<A> {
+    /// That of a run which has not begun, and is to read so many batches ahead.
+    pub fn new(alloc: Global, progress: Progress<A>, ahead: u32) -> Result<Self, OutOfMemory>
+    where
+        A: Drop,
+        requires some { 1 ≤ ahead }
+        requires few { ahead ≤ 2 }
+        requires live { IsTrue progress.reader.live }
+        requires layout { progress.engine.layout
+            ≡ layout_of (A.table_count progress.reader.app) progress.reader.size }
+        ensures pipe { IfOk result (λ new. new.pipe ≡ new_pipe progress.reader progress.engine ahead) }
+        ensures out { IfOk result (λ new. new.out ≡ progress.out) }
+    {
+        Ok(Ahead {
+            pipe: Pipe::new(alloc, progress.reader, progress.engine, ahead)?,
+            out: progress.out,
+        })
+    }
+}
+
+/// How a pipe picks the strategy of each batch.
+fn picker(planning: Planning) -> Picker
+    ensures { (last : Came) (plan : Plan) → picked result last plan ≡ strategy_by planning plan last }
+{
+    match planning {
+        Planning::Fixed(strategy) => Picker {
+            auto: false,
+            strategy,
+        },
+        Planning::Auto => Picker {
+            auto: true,
+            strategy: Strategy {
+                unit: Unit::Op,
+                explore: Explore::Strata,
+                abort: Abort::Lazy,
+            },
+        },
+    }
+}
+
+/// Runs an application from the opening state over what the pipe's reader reads: in rounds, of which each reads and plans
+/// batches while those that were planned before are run. What came of each batch is told before the next round begins,
+/// so where a read fails or the limit is met the batches before are written first, and where a write fails the run ends,
+/// whatever the pipe met.
+pub fn run_ahead<
+    R: Threads + Sync,
+    A: EventApp + Copy + Send,
+    S: Source + Send,
+    K: Sink,
+    N: Sink,
+    G: Gate,
+>(
+    job: &Job<'_, A, R, G>,
+    ahead: &mut Ahead<A>,
+    source: &mut S,
+    sink: &mut K,
+    notes: &mut N,
+    tally: &mut Tally,
+) -> Result<Finish, Fault>
+    requires settings { AreInRange job.now.settings }
+    requires tally { tally.old ≡ no_tally }
+    requires pipe { ahead.old.pipe ≡ new_pipe (new_reader job.now.app job.now.settings.size INPUT_BYTES)
+        ahead.old.pipe.engine job.now.settings.ahead }
+    requires layout { ahead.old.pipe.engine.layout
+        ≡ layout_of (A.table_count job.now.app) job.now.settings.size }
+    requires opening { contents ahead.old.pipe.engine ≡ opening_state }
+    requires empty { ahead.old.out ≡ [] }
+    ensures ends { let app = job.now.app in let settings = job.now.settings in
+        IfSome (S.left source.old) (λ input. EndsSo (A.event_of app settings.size)
+        (telling_for settings (A.table_count app) (A.name_of app)) INPUT_BYTES input
+        (S.left source.new) (K.written sink.old) result (K.written sink.new)) }
+    ensures told { let app = job.now.app in let settings = job.now.settings in
+        RunTold (telling_for settings (A.table_count app) (A.name_of app))
+        (option_map (accepted_within (A.event_of app settings.size) INPUT_BYTES)
+        (S.left source.old))
+        settings (status_of result) tally.new
+        (outputs_of (K.written sink.old) (N.written notes.old))
+        (outputs_of (K.written sink.new) (N.written notes.new)) }
+    ensures source_faults { S.faults source.old ≤ S.faults source.new }
+    ensures sink_faults { K.faults sink.old ≤ K.faults sink.new }
+    ensures notes_faults { N.faults notes.old ≤ N.faults notes.new }
+    ensures read { IsErrOf result Fault.Read → HasRisen (S.faults source.old) (S.faults source.new) }
+    ensures write { IsErrOf result Fault.Write → HasRisen (K.faults sink.old) (K.faults sink.new)
+        ⊎ (IsTrue job.now.settings.notes × HasRisen (N.faults notes.old) (N.faults notes.new)) }
+{
+    let (host, settings) = (job.host, &job.settings);
+    let pick = picker(settings.planning);
+    'turns: loop {
+        match ahead.pipe.next() {
+            Some(ran) => {
+                count(tally, &ran.end);
+                let number = tally.batches;
+                tell_batch(&mut ahead.out, sink, notes, settings, number, &ran.end)?;
+            }
+            None if ahead.pipe.going() => {
+                let workers = settings.workers;
+                ahead
+                    .pipe
+                    .round(host.rt, host.alloc, source, &pick, workers, host.gate);
+            }
+            None => break 'turns,
+        }
+    }
+    match ahead.pipe.tail() {
+        Some(Tail::End) => {
+            let values = ahead.pipe.engine().state();
+            tell_closing(&mut ahead.out, sink, notes, job, values, tally)?;
+            Ok(Finish::Complete)
+        }
+        Some(Tail::Refused { line, cause }) => {
+            let refusal = Refusal { line, cause };
+            tell_refused(&mut ahead.out, sink, notes, settings, &refusal, tally)?;
+            Ok(Finish::Refused)
+        }
+        Some(Tail::Fault(fault)) => Err(fault.into()),
+        Some(Tail::RunMemory) | None => Err(Fault::OutOfMemory),
+    }
+}

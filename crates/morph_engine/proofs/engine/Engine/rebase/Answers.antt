@@ -1,0 +1,22 @@
+use Rattle.std.proofs.Common.{ap, sym, subst, ◌∙◌}
+use Rattle.morph_base.specs.declared.plan.Plan.{Plan}
+use Rattle.morph_base.specs.Flat.{contents}
+use Rattle.morph_base.specs.Plans.{PlanKeysIn, transactions}
+use Rattle.morph_base.specs.Graphs.{IsGraph}
+use Rattle.morph_base.proofs.FillLaws.{transactions-filled, keys_in-filled}
+use Rattle.morph_base.proofs.GraphFillLaws.{graph-filled}
+use Rattle.morph_engine.proofs.engine.Engine.rebase.Goals as goal
+
+pub returns-clause-valid : goal.returns-clause-valid
+returns-clause-valid c = record {
+  plan = c.bases.ensures.plan;
+  graph = subst IsGraph (sym c.bases.ensures.filled) (graph-filled (contents c.self.inside.state) c.args.plan.now c.requires.plan.graph);
+}
+
+pub returns-clause-keys : goal.returns-clause-keys
+returns-clause-keys c =
+    subst (λ (q : Plan). PlanKeysIn q c.args.self.now.layout) (sym c.bases.ensures.filled)
+    (keys_in-filled (contents c.self.inside.state) c.args.plan.now c.args.self.now.layout c.requires.keys)
+
+pub returns-clause-transactions : goal.returns-clause-transactions
+returns-clause-transactions c = ap transactions c.bases.ensures.filled ∙ transactions-filled (contents c.self.inside.state) c.args.plan.now

@@ -1,0 +1,11 @@
+use Rattle.std.proofs.Common.{◌∙◌}
+use Rattle.morph_engine.proofs.InKeys.{keys_of_batch}
+use Rattle.morph_engine.proofs.engine.plan_batch.Goals as goal
+
+pub returns-clause-events : goal.returns-clause-events
+returns-clause-events c = c.in_ok-plan.ensures.transactions ∙ c.in_ok-txns.ensures.of.transactions
+
+pub returns-clause-keys : goal.returns-clause-keys
+returns-clause-keys c layout inside =
+    keys_of_batch c.args.batch.now c.in_ok-plan.plan layout c.in_ok-plan.ensures.plan
+    (c.in_ok-plan.ensures.transactions ∙ c.in_ok-txns.ensures.of.transactions) inside

@@ -1,0 +1,36 @@
+//! Readers of balances: they see the state after a whole number of batches, while the next batch runs.
+//!
+//! [`snapshots`] makes a [`Publisher`] and up to four [`Viewer`]s of it. After each batch the publisher makes the values
+//! that the batch settled visible, all of them at one step ([`Publisher::publish`]), and a viewer tells the value of a
+//! key ([`Viewer::value`]) or the sum of a table ([`Viewer::total`]) with the number of batches that it comes after. A
+//! viewer never sees a part of a batch, and never fewer batches than it saw before or was told of
+//! ([`Publisher::tell`]):
+//!
+//! ```text
+//! let (mut publisher, mut viewers) = snapshots(alloc, layout, 1)?;
+//! publisher.publish(rt, alloc, &plan, &settled)?;
+//! publisher.tell(&mut viewers[0]);
+//! viewers[0].total(0) // Some(Total { number: 1, .. }), or None where left_right hands out no guard
+//! publisher.end(rt);
+//! ```
+//!
+//! The balances stand twice, in the kit's `left_right`: viewers read the one while the publisher writes the other, so
+//! that a look never waits, and publishing waits only for a viewer that is reading. `specs/Keeping` has the rule over
+//! both copies: they are the state after some list of batches, which begins with what each viewer has seen and was told
+//! of. Below stand `morph_base` and `version_table`, whose sum of a table is cited.
+#![tactic(auto)]
+
+mod balances;
+mod change;
+mod making;
+mod publisher;
+mod rule;
+mod showing;
+mod summing;
+mod view;
+mod viewer;
+mod writes;
+
+pub use making::{MOST_VIEWERS, snapshots};
+pub use publisher::Publisher;
+pub use viewer::{At, Look, Total, Viewer};

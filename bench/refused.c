@@ -70,28 +70,33 @@ int posix_memalign(void **place, size_t alignment, size_t size) {
     return *place ? 0 : ENOMEM;
 }
 
-static ssize_t moved(long call, int file, const void *bytes, size_t size) {
-    return syscall(call, file, bytes, size);
+/* A stream of the program, and the kinds of refusal that it has. */
+struct stream {
+    int file;
+    long call;
+    const char *fails;
+    const char *moves_one;
+};
+
+static const struct stream input = {STDIN_FILENO, SYS_read, "read", "short_read"};
+static const struct stream output = {STDOUT_FILENO, SYS_write, "write", "short_write"};
+
+static ssize_t move(const struct stream *stream, int file, const void *bytes, size_t size) {
+    if (file == stream->file && refuses(stream->fails)) {
+        errno = EIO;
+        return -1;
+    }
+    if (file == stream->file && size > 1 && refuses(stream->moves_one))
+        size = 1;
+    return syscall(stream->call, file, bytes, size);
 }
 
 ssize_t read(int file, void *bytes, size_t size) {
-    if (file == 0 && refuses("read")) {
-        errno = EIO;
-        return -1;
-    }
-    if (file == 0 && size > 1 && refuses("short_read"))
-        size = 1;
-    return moved(SYS_read, file, bytes, size);
+    return move(&input, file, bytes, size);
 }
 
 ssize_t write(int file, const void *bytes, size_t size) {
-    if (file == 1 && refuses("write")) {
-        errno = EIO;
-        return -1;
-    }
-    if (file == 1 && size > 1 && refuses("short_write"))
-        size = 1;
-    return moved(SYS_write, file, bytes, size);
+    return move(&output, file, bytes, size);
 }
 
 ssize_t __read(int file, void *bytes, size_t size) {

@@ -21,3 +21,4 @@ pub mod Forms
 pub mod Drawing
 pub mod GeneratedLaws
 pub mod GivingText
+pub mod Closings

@@ -250,7 +250,7 @@ stands_after m before closed batch line _ h (is_twice e says later twice) = tt
 stands_after m before closed batch line _ h (is_full e says later fresh full) = tt
 
 -- a batch more leaves the ending
-same_ending : (batch : List Transaction) (all : Accepted) → (with_batch batch all).ending ≡ all.ending
+pub same_ending : (batch : List Transaction) (all : Accepted) → (with_batch batch all).ending ≡ all.ending
 same_ending [] all = refl
 same_ending (e ∷ es) all = refl
 

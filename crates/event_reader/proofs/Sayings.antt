@@ -41,7 +41,7 @@ module _ (m : Meaning) where
   onto batch [] = batch ∷ []
   onto batch (part ∷ more) = (batch ++ part) ∷ more
 
-  some_part : (lines : List (List ℕ)) → (part : List (List ℕ)) × (more : List (List (List ℕ))) × (slice_split is_punctuation lines ≡ part ∷ more)
+  pub some_part : (lines : List (List ℕ)) → (part : List (List ℕ)) × (more : List (List (List ℕ))) × (slice_split is_punctuation lines ≡ part ∷ more)
   some_part [] = ([], [], refl)
   some_part (line ∷ lines) = found (is_punctuation line) (some_part lines)
     where
@@ -51,10 +51,10 @@ module _ (m : Meaning) where
       found true (part, more, is) = ([], slice_split is_punctuation lines, refl)
       found false (part, more, is) = (line ∷ part, more, ap (onto_first line) is)
 
-  parts_marked : (line : List ℕ) (lines : List (List ℕ)) → is_punctuation line ≡ true → parts (line ∷ lines) ≡ [] ∷ parts lines
+  pub parts_marked : (line : List ℕ) (lines : List (List ℕ)) → is_punctuation line ≡ true → parts (line ∷ lines) ≡ [] ∷ parts lines
   parts_marked line lines marked = rw marked refl
 
-  parts_unmarked : (line : List ℕ) (lines : List (List ℕ)) (o : Option Transaction) → is_punctuation line ≡ false → event_said m line ≡ o
+  pub parts_unmarked : (line : List ℕ) (lines : List (List ℕ)) (o : Option Transaction) → is_punctuation line ≡ false → event_said m line ≡ o
       → parts (line ∷ lines) ≡ onto (cons_option o []) (parts lines)
   parts_unmarked line lines o unmarked says =
       let some = some_part lines in
@@ -68,16 +68,16 @@ module _ (m : Meaning) where
       by_said None is part more = ap (λ o. cons_option o (events_said m part) ∷ map (events_said m) more) is
       by_said (Some e) is part more = ap (λ o. cons_option o (events_said m part) ∷ map (events_said m) more) is
 
-  onto_more : (batch events : List Transaction) (lines : List (List ℕ)) → onto batch (onto events (parts lines)) ≡ onto (batch ++ events) (parts lines)
+  pub onto_more : (batch events : List Transaction) (lines : List (List ℕ)) → onto batch (onto events (parts lines)) ≡ onto (batch ++ events) (parts lines)
   onto_more batch events lines =
       let some = some_part lines in
       rw some.2 (ap (λ part. part ∷ map (events_said m) some.1) (sym (append_assoc batch events (events_said m some.0))))
 
-  onto_none : (lines : List (List ℕ)) → onto [] (parts lines) ≡ parts lines
+  pub onto_none : (lines : List (List ℕ)) → onto [] (parts lines) ≡ parts lines
   onto_none lines = let some = some_part lines in rw some.2 refl
 
   -- a batch is kept where it has an event
-  kept_batch : (batch : List Transaction) (rest : List (List Transaction)) (all : Accepted) → all.batches ≡ filter has_event rest
+  pub kept_batch : (batch : List Transaction) (rest : List (List Transaction)) (all : Accepted) → all.batches ≡ filter has_event rest
       → (with_batch batch all).batches ≡ filter has_event (batch ∷ rest)
   kept_batch [] rest all h = h
   kept_batch (e ∷ es) rest all h =

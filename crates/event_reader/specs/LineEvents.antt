@@ -1,5 +1,5 @@
 -- What lines say, by themselves: their events, and the batches between punctuations.
-use Rattle.std.specs.Prelude.{ℕ, ◌<◌, ◌||◌, nat_le, filter, filter_map, if◌then◌else◌, Bool, List, length, map, Option, Some, None, Result, Ok, Err}
+use Rattle.std.specs.Prelude.{ℕ, ◌-◌, ◌<◌, ◌||◌, nat_le, filter, filter_map, if◌then◌else◌, Bool, List, length, map, take, Option, Some, None, Result, Ok, Err}
 use Rattle.std.specs.List.{All, slice_split}
 use Rattle.morph_base.specs.Transactions.{Transaction}
 use Rattle.event_reader.specs.declared.cause.Cause.{Cause}
@@ -28,3 +28,11 @@ batches_said meaning lines = filter has_event (map (events_said meaning) (slice_
 -- every event of a batch comes before every one of a later batch
 abbrev pub IsBefore : List Transaction → List Transaction → Type 0
 IsBefore earlier later = All (λ e. All (λ f. e.ts < f.ts) later) earlier
+
+-- all but the last
+abbrev pub before_last : {X : Type 0} → List X → List X
+before_last xs = take (length xs - 1) xs
+
+-- the events in front of each punctuation, where there are any: those of the batches that lines close
+abbrev pub closed_said : Meaning → List (List ℕ) → List (List Transaction)
+closed_said meaning lines = filter has_event (map (events_said meaning) (before_last (slice_split is_punctuation lines)))

@@ -25,22 +25,30 @@ fn read_batch<A: EventApp, S: Source>(
     source: &mut S,
 ) -> Result<Next, ReaderFault>
     requires live { IsTrue lines.old.live }
-    ensures answers { AnswersNext (accepted_at (A.event_of app.now size) closed.old lines.old (S.left source.old)) result (accepted_at (A.event_of app.now size) closed.new lines.new (S.left source.new)) }
-    ensures shows { Takes (S.left source.old) (S.left source.new) (ShowsBatch (A.event_of app.now size) closed.old lines.old result closed.new lines.new) }
-    ensures valid { IfOk result (IsValidNext (record { tables = A.table_count app.now; size = size })) }
+    ensures answers { let meaning = A.event_of app.now size in
+        AnswersNext (accepted_at meaning closed.old lines.old (S.left source.old)) result
+        (accepted_at meaning closed.new lines.new (S.left source.new)) }
+    ensures shows { Takes (S.left source.old) (S.left source.new)
+        (ShowsBatch (A.event_of app.now size) closed.old lines.old result closed.new lines.new) }
+    ensures valid { IfOk result
+        (IsValidNext (record { tables = A.table_count app.now; size = size })) }
     ensures counted { IfOk result (λ next. lines.old.number + event_count next ≤ lines.new.number) }
     ensures bound { lines.new.number ≤ lines.new.limit + 1 }
     ensures limit { lines.new.limit ≡ lines.old.limit }
     ensures numbered { lines.old.number ≤ lines.new.number }
-    ensures at_end { lines.old.ended ≡ false → IsTrue lines.new.ended → IsAtEnd (S.left source.new) }
+    ensures at_end { lines.old.ended ≡ false → IsTrue lines.new.ended
+        → IsAtEnd (S.left source.new) }
     ensures idle { IsTrue lines.old.ended → source.new ≡ source.old }
     ensures unended { lines.new.ended ≡ false → lines.old.ended ≡ false }
-    ensures done { IsTrue (goes_on result) → lines.new.live ≡ false → (lines.new.kept ≡ []) × IsTrue lines.new.ended }
+    ensures done { IsTrue (goes_on result) → lines.new.live ≡ false
+        → (lines.new.kept ≡ []) × IsTrue lines.new.ended }
     ensures full { IsErrOf result ReaderFault.TooLong → lines.new.taken ≡ lines.new.limit }
     ensures asked { IsErrOf result ReaderFault.ReadFault → lines.old.ended ≡ false }
     ensures never_falls { S.faults source.old ≤ S.faults source.new }
-    ensures cause { IsErrOf result ReaderFault.ReadFault → HasRisen (S.faults source.old) (S.faults source.new) }
-    ensures asks { AsksForBatch S.left S.reads (A.event_of app.now size) closed.old lines.old source.old result lines.new source.new }
+    ensures cause { IsErrOf result ReaderFault.ReadFault
+        → HasRisen (S.faults source.old) (S.faults source.new) }
+    ensures asks { AsksForBatch S.left S.reads (A.event_of app.now size)
+        closed.old lines.old source.old result lines.new source.new }
 {
     let mut pending = Pending::new(alloc, *closed);
     'lines: loop {
@@ -151,23 +159,31 @@ impl<A: EventApp> BatchReader<A> {
         source: &mut S,
     ) -> Result<Next, ReaderFault>
         requires live { IsTrue self.old.live }
-        ensures answers { AnswersNext (accepted_by A.event_of self.old (S.left source.old)) result (accepted_by A.event_of self.new (S.left source.new)) }
-        ensures shows { Takes (S.left source.old) (S.left source.new) (ShowsNext A.event_of self.old result self.new) }
-        ensures valid { IfOk result (IsValidNext (record { tables = A.table_count self.old.app; size = self.old.size })) }
-        ensures counted { IfOk result (λ next. self.old.lines.number + event_count next ≤ self.new.lines.number) }
+        ensures answers { AnswersNext (accepted_by A.event_of self.old (S.left source.old)) result
+            (accepted_by A.event_of self.new (S.left source.new)) }
+        ensures shows { Takes (S.left source.old) (S.left source.new)
+            (ShowsNext A.event_of self.old result self.new) }
+        ensures valid { IfOk result (IsValidNext
+            (record { tables = A.table_count self.old.app; size = self.old.size })) }
+        ensures counted { IfOk result
+            (λ next. self.old.lines.number + event_count next ≤ self.new.lines.number) }
         ensures bound { self.new.lines.number ≤ self.new.lines.limit + 1 }
         ensures same { (self.new.app ≡ self.old.app) × (self.new.size ≡ self.old.size)
             × (self.new.lines.limit ≡ self.old.lines.limit) }
         ensures numbered { self.old.lines.number ≤ self.new.lines.number }
-        ensures at_end { self.old.lines.ended ≡ false → IsTrue self.new.lines.ended → IsAtEnd (S.left source.new) }
+        ensures at_end { self.old.lines.ended ≡ false → IsTrue self.new.lines.ended
+            → IsAtEnd (S.left source.new) }
         ensures idle { IsTrue self.old.lines.ended → source.new ≡ source.old }
         ensures unended { self.new.lines.ended ≡ false → self.old.lines.ended ≡ false }
         ensures goes_on { self.new.live ≡ goes_on result }
-        ensures full { IsErrOf result ReaderFault.TooLong → self.new.lines.taken ≡ self.new.lines.limit }
+        ensures full { IsErrOf result ReaderFault.TooLong → self.new.lines.taken
+            ≡ self.new.lines.limit }
         ensures asked { IsErrOf result ReaderFault.ReadFault → self.old.lines.ended ≡ false }
         ensures never_falls { S.faults source.old ≤ S.faults source.new }
-        ensures cause { IsErrOf result ReaderFault.ReadFault → HasRisen (S.faults source.old) (S.faults source.new) }
-        ensures asks { AsksForNext S.left S.reads A.event_of self.old source.old result self.new source.new }
+        ensures cause { IsErrOf result ReaderFault.ReadFault
+            → HasRisen (S.faults source.old) (S.faults source.new) }
+        ensures asks { AsksForNext S.left S.reads A.event_of self.old source.old result self.new
+            source.new }
     {
         self.live = false;
         if !self.lines.live() {

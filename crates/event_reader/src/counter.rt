@@ -26,7 +26,8 @@ impl EventApp for Counter {
 
     ghost causes = { λ _ size words cause. count_causes size words cause };
 
-    ghost generates = { λ _ size i state some _ start last. count_generates size i state some start last };
+    ghost generates = { λ _ size i state some _ start last. count_generates size i state some start
+        last };
 
     fn tables(&self) -> u8 {
         1

@@ -1,14 +1,14 @@
 //! Laws of definitions that callers of this crate cite.
-ghost use Rattle.std.specs.Prelude.{◌≡◌, ℕ, ◌<◌, ◌≤◌, ◌↔◌, nat_eq, List, [], map, flat_map, length, sum_by};
+ghost use Rattle.std.specs.Prelude.{◌≡◌, ℕ, ◌-◌, ◌<◌, ◌≤◌, ◌↔◌, nat_eq, List, [], map, flat_map, take, length, sum_by};
 ghost use Rattle.std.specs.List.{All, AllPairs, IsDistinct};
 ghost use Rattle.morph_base.specs.Transactions.{time};
 ghost use Rattle.event_reader.specs.declared.cause.Cause.{Cause};
 ghost use Rattle.event_reader.specs.Lines.{Reading, lines_of};
 ghost use Rattle.event_reader.specs.Steps.{Meaning};
-ghost use Rattle.event_reader.specs.LineEvents.{IsBefore, batches_said, events_said};
+ghost use Rattle.event_reader.specs.LineEvents.{IsBefore, batches_said, closed_said, events_said};
 ghost use Rattle.event_reader.specs.FirstRefused.{HasWordCauses, IsFirstRefused};
 ghost use Rattle.event_reader.specs.Limits.{generated_events, generated_ids, input_bytes};
-ghost use Rattle.event_reader.specs.Accepted.{Ended, RefusedAt, accepted, accepted_from, accepted_within};
+ghost use Rattle.event_reader.specs.Accepted.{Ended, RefusedAt, CutOff, accepted, accepted_from, accepted_within};
 ghost use Rattle.event_reader.specs.GeneratedText.{generated_text};
 
 use crate::app::EventApp;
@@ -18,24 +18,43 @@ use crate::app::EventApp;
 ///
 /// So a run on a generated text reads all of it.
 pub fn generated_text_is_accepted<A: EventApp>()
-    ensures ended { (app : A) (size seed events : ℕ) → 0 < size → size ≤ generated_ids → events ≤ generated_events
-        → (accepted (A.event_of app size) (generated_text (A.generated app size) seed events)).ending ≡ Ended }
-    ensures events { (app : A) (size seed events : ℕ) → 0 < size → size ≤ generated_ids → events ≤ generated_events
-        → sum_by (λ batch. length batch) (accepted (A.event_of app size) (generated_text (A.generated app size) seed events)).batches ≡ events }
-    ensures short { (app : A) (size seed events : ℕ) → 0 < size → size ≤ generated_ids → events ≤ generated_events
+    ensures ended { (app : A) (size seed events : ℕ) → 0 < size → size ≤ generated_ids
+        → events ≤ generated_events
+        → (accepted (A.event_of app size)
+        (generated_text (A.generated app size) seed events)).ending ≡ Ended }
+    ensures events { (app : A) (size seed events : ℕ) → 0 < size → size ≤ generated_ids
+        → events ≤ generated_events
+        → sum_by (λ batch. length batch)
+        (accepted (A.event_of app size) (generated_text (A.generated app size) seed events)).batches
+        ≡ events }
+    ensures short { (app : A) (size seed events : ℕ) → 0 < size → size ≤ generated_ids
+        → events ≤ generated_events
         → length (generated_text (A.generated app size) seed events) < input_bytes }
-    ensures within { (app : A) (size seed events : ℕ) → 0 < size → size ≤ generated_ids → events ≤ generated_events
+    ensures within { (app : A) (size seed events : ℕ) → 0 < size → size ≤ generated_ids
+        → events ≤ generated_events
         → let text = generated_text (A.generated app size) seed events in
-        accepted_within (A.event_of app size) input_bytes text ≡ accepted (A.event_of app size) text }
+        accepted_within (A.event_of app size) input_bytes text
+        ≡ accepted (A.event_of app size) text }
 {}
 
 /// The batches of an input of which no line is refused are the events between its punctuations, where there are any.
 /// One after another they are all events that its lines say, in order.
+///
+/// Where a line is refused, or the lines are cut off, they are the events in front of the punctuations that come
+/// before: those of the unfinished batch are left out.
 pub fn batches_stand_between_punctuations()
     ensures between { (meaning : Meaning) (input : List ℕ) → (accepted meaning input).ending ≡ Ended
         → (accepted meaning input).batches ≡ batches_said meaning (lines_of input) }
     ensures joined { (meaning : Meaning) (input : List ℕ) → (accepted meaning input).ending ≡ Ended
-        → flat_map (λ batch. batch) (accepted meaning input).batches ≡ events_said meaning (lines_of input) }
+        → flat_map (λ batch. batch) (accepted meaning input).batches
+        ≡ events_said meaning (lines_of input) }
+    ensures refused { (meaning : Meaning) (reading : Reading) (line : ℕ) (cause : Cause)
+        → (accepted_from meaning 0 0 [] reading).ending ≡ RefusedAt line cause
+        → (accepted_from meaning 0 0 [] reading).batches
+        ≡ closed_said meaning (take (line - 1) reading.lines) }
+    ensures cut { (meaning : Meaning) (reading : Reading)
+        → (accepted_from meaning 0 0 [] reading).ending ≡ CutOff
+        → (accepted_from meaning 0 0 [] reading).batches ≡ closed_said meaning reading.lines }
 {}
 
 /// Every event of a batch comes before every one of a later batch, and the events of a batch have different
@@ -44,13 +63,15 @@ pub fn timestamps_rise_from_batch_to_batch()
     ensures later { (meaning : Meaning) (reading : Reading)
         → AllPairs IsBefore (accepted_from meaning 0 0 [] reading).batches }
     ensures apart { (meaning : Meaning) (reading : Reading)
-        → All (λ batch. IsDistinct nat_eq (map time batch)) (accepted_from meaning 0 0 [] reading).batches }
+        → All (λ batch. IsDistinct nat_eq (map time batch))
+        (accepted_from meaning 0 0 [] reading).batches }
 {}
 
 /// A line is refused exactly where it is the first to which a cause applies, and its cause is the least that does, in
 /// the order long, form, range, same, late, twice, full.
 pub fn the_first_line_with_a_cause_is_refused()
-    ensures { (meaning : Meaning) (reading : Reading) (line : ℕ) (cause : Cause) → HasWordCauses meaning
+    ensures { (meaning : Meaning) (reading : Reading) (line : ℕ) (cause : Cause)
+        → HasWordCauses meaning
         → ((accepted_from meaning 0 0 [] reading).ending ≡ RefusedAt line cause
         ↔ IsFirstRefused meaning reading.lines line cause) }
 {}

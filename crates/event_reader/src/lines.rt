@@ -168,7 +168,8 @@ impl Lines {
         ensures fills { Fills self.old (S.left source.old) result self.new (S.left source.new) }
         ensures bound { self.new.number ≤ self.new.limit + 1 }
         ensures never_falls { S.faults source.old ≤ S.faults source.new }
-        ensures cause { IsErrOf result ReaderFault.ReadFault → HasRisen (S.faults source.old) (S.faults source.new) }
+        ensures cause { IsErrOf result ReaderFault.ReadFault
+            → HasRisen (S.faults source.old) (S.faults source.new) }
         ensures asks { FillsBy S.left S.reads self.old source.old result self.new source.new }
     {
         to_front(&mut self.buffer, self.start, self.end);
@@ -200,9 +201,12 @@ impl Lines {
     /// of their lines is too long, and the source gave one more. It takes no memory.
     pub fn next_line<S: Source>(&mut self, source: &mut S) -> Result<LineNext, ReaderFault>
         requires live { IsTrue self.old.live }
-        ensures answers { AnswersLine (reading_of self.old (S.left source.old)) result self.new.line (reading_of self.new (S.left source.new)) }
-        ensures shows { Takes (S.left source.old) (S.left source.new) (ShowsLine self.old result self.new) }
-        ensures at_end { self.old.ended ≡ false → IsTrue self.new.ended → IsAtEnd (S.left source.new) }
+        ensures answers { AnswersLine (reading_of self.old (S.left source.old)) result self.new.line
+            (reading_of self.new (S.left source.new)) }
+        ensures shows { Takes (S.left source.old) (S.left source.new)
+            (ShowsLine self.old result self.new) }
+        ensures at_end { self.old.ended ≡ false → IsTrue self.new.ended
+            → IsAtEnd (S.left source.new) }
         ensures idle { IsTrue self.old.ended → source.new ≡ source.old }
         ensures unended { self.new.ended ≡ false → self.old.ended ≡ false }
         ensures done { result ≡ Ok LineNext.End → (self.new.kept ≡ []) × IsTrue self.new.ended }
@@ -213,7 +217,8 @@ impl Lines {
         ensures full { IsErrOf result ReaderFault.TooLong → self.new.taken ≡ self.new.limit }
         ensures asked { OnErr result (self.new.ended ≡ false) }
         ensures never_falls { S.faults source.old ≤ S.faults source.new }
-        ensures cause { IsErrOf result ReaderFault.ReadFault → HasRisen (S.faults source.old) (S.faults source.new) }
+        ensures cause { IsErrOf result ReaderFault.ReadFault
+            → HasRisen (S.faults source.old) (S.faults source.new) }
         ensures asks { AsksForLine S.left S.reads self.old source.old result self.new source.new }
     {
         'reads: loop {
@@ -241,7 +246,12 @@ impl Lines {
         requires inside { len ≤ used }
         requires some { 0 < used }
         requires held { used ≤ length self.old.kept }
-        ensures gives { self.new ≡ record self.old { kept = drop used self.old.kept; line = take len self.old.kept; number = self.old.number + 1 } }
+        ensures gives { self.new
+            ≡ record self.old {
+              kept = drop used self.old.kept;
+              line = take len self.old.kept;
+              number = self.old.number + 1;
+            } }
         ensures bound { self.new.number ≤ self.new.limit + 1 }
     {
         self.line_start = self.start;
@@ -253,7 +263,8 @@ impl Lines {
     /// Counts a line that is too long, after which no line is given.
     fn refuse(&mut self)
         requires live { IsTrue self.old.live }
-        ensures refuses { self.new ≡ record self.old { number = self.old.number + 1; live = false } }
+        ensures refuses { self.new
+            ≡ record self.old { number = self.old.number + 1; live = false } }
         ensures bound { self.new.number ≤ self.new.limit + 1 }
     {
         self.number += 1;

@@ -89,8 +89,12 @@ impl Pending {
     ) -> Result<LineEffect, OutOfMemory>
         requires short { length line.now ≤ longest_line }
         requires notes { Notes closed self.old }
-        requires sound { IsSound (record { tables = A.table_count app.now; size = size }) (batch_of self.old) }
-        ensures { IfOk result (TakesLine (A.event_of app.now size) (record { tables = A.table_count app.now; size = size }) closed self.old line.now self.new) }
+        requires sound { IsSound (record { tables = A.table_count app.now; size = size })
+            (batch_of self.old) }
+        ensures { IfOk result
+            (TakesLine (A.event_of app.now size)
+            (record { tables = A.table_count app.now; size = size }) closed self.old line.now
+            self.new) }
     {
         if is_ignored_line(line) {
             return Ok(LineEffect::GoesOn);

@@ -42,7 +42,8 @@ impl Times {
     /// Adds a timestamp, which is not 0, and tells whether it is new.
     pub(crate) fn add(&mut self, ts: u64) -> Result<bool, OutOfMemory>
         ensures fresh { IfOk result (λ fresh. fresh ≡ not (is_among self.old ts)) }
-        ensures added { OnOk result ((t : ℕ) → is_among self.new t ≡ (ts == t || is_among self.old t)) }
+        ensures added { OnOk result
+            ((t : ℕ) → is_among self.new t ≡ (ts == t || is_among self.old t)) }
     {
         if ts > self.greatest {
             self.rising.push(ts)?;

@@ -24,7 +24,8 @@ impl<'a> Model for Words<'a> {
 
 /// The part of a line in front of its first space, and what follows that space; the whole line where there is none.
 fn first_part(line: &[u8]) -> (&[u8], Option<&[u8]>)
-    ensures { MatchOption result.1 (parts_of line.now ≡ result.0.now ∷ []) (λ rest. parts_of line.now
+    ensures { MatchOption result.1 (parts_of line.now ≡ result.0.now ∷ [])
+        (λ rest. parts_of line.now
         ≡ result.0.now ∷ parts_of rest.now) }
 {
     match memchr(b' ', line) {

@@ -65,7 +65,8 @@ fn touch(board: &Board, hand: &mut Hand, plan: &Plan, op: u32, target: Target) -
     requires free { (view_of hand.old).claim ≡ None }
     requires target { CanTouch plan.now op (view_of hand.old) target }
     ensures hand { IsHandOf board.now hand.new }
-    ensures does { Touches plan.now (cap_of board.now) target (view_of hand.old) (view_of hand.new) result }
+    ensures does { Touches plan.now (cap_of board.now) target (view_of hand.old)
+        (view_of hand.new) result }
 {
     match target {
         Target::Spread { op: sibling } => {
@@ -144,7 +145,8 @@ impl Cascade {
     fn pop_reader(&mut self, plan: &Plan) -> Option<Target>
         requires plan { IsValidPlan plan.now }
         requires cascade { IsCascade plan.now self.old }
-        requires none { IsFirstPlace plan.now self.old.first self.old.end self.old.reader self.old.place None }
+        requires none { IsFirstPlace plan.now self.old.first self.old.end self.old.reader
+            self.old.place None }
         ensures does { PlacePops plan.now self.old self.new result }
     {
         let Some(reader) = reader_from(plan, self.first, self.end, self.reader + 1) else {

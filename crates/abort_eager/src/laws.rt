@@ -38,6 +38,7 @@ pub fn calls_touch_what_is_left()
 /// A hand that touches targets adds words to its view, and holds nothing afterwards. Its own steps are on operations
 /// of these targets alone, and settle nothing: the words that it left are open.
 pub fn cascades_settle_nothing()
-    ensures { (p : Plan) (cap : ℕ) (gs : List Target) (v u : View) → IsAtRest v → Touching p cap gs v u
+    ensures { (p : Plan) (cap : ℕ) (gs : List Target) (v u : View) → IsAtRest v
+        → Touching p cap gs v u
         → CascadeDoes gs v u }
 {}

@@ -18,10 +18,12 @@ use op_words::Closed;
 /// are evaluated here, event by event, on the values of their sources; they have the tag 0, which is no worker's.
 pub fn finish(closed: &Closed, plan: &Plan, room: Room) -> Settled
     requires plan { IsPlan plan.now }
-    requires closed { (cap counters : ℕ) × (v : View) × IsClosed plan.now cap counters v closed.now }
+    requires closed { (cap counters : ℕ) × (v : View)
+        × IsClosed plan.now cap counters v closed.now }
     requires room { IsRoomFor plan.now room }
     ensures settled { IsSettledOf plan.now result }
-    ensures tags { (cap counters : ℕ) (v : View) (is : IsClosed plan.now cap counters v closed.now) (o : ℕ)
+    ensures tags { (cap counters : ℕ) (v : View)
+        (is : IsClosed plan.now cap counters v closed.now) (o : ℕ)
         → o < op_count plan.now → slice_index result.by.items o ≡ settler (is.ends.core.word o) }
 {
     let Room {
@@ -43,9 +45,11 @@ pub fn finish(closed: &Closed, plan: &Plan, room: Room) -> Settled
 /// Completes an event. All earlier events are completed.
 fn finish_event(closed: &Closed, plan: &Plan, i: usize, settled: &mut Settled)
     requires plan { IsPlan plan.now }
-    requires closed { (cap counters : ℕ) × (v : View) × IsClosed plan.now cap counters v closed.now }
+    requires closed { (cap counters : ℕ) × (v : View)
+        × IsClosed plan.now cap counters v closed.now }
     requires event { i < event_count plan.now }
-    requires earlier { AreFinishedSoFar plan.now closed.now (event_at plan.now i).first settled.old }
+    requires earlier { AreFinishedSoFar plan.now closed.now
+        (event_at plan.now i).first settled.old }
     requires decided { AreDecidedSoFar plan.now i settled.old }
     ensures finished { let event = event_at plan.now i in
         AreFinishedSoFar plan.now closed.now (event.first + event.count) settled.new }
@@ -59,7 +63,8 @@ fn finish_event(closed: &Closed, plan: &Plan, i: usize, settled: &mut Settled)
 /// Whether an event commits: as it was decided on the board, or where nobody decided by its operations' answers.
 fn verdict_on(closed: &Closed, plan: &Plan, i: usize, values: &List<u64>) -> bool
     requires plan { IsPlan plan.now }
-    requires closed { (cap counters : ℕ) × (v : View) × IsClosed plan.now cap counters v closed.now }
+    requires closed { (cap counters : ℕ) × (v : View)
+        × IsClosed plan.now cap counters v closed.now }
     requires event { i < event_count plan.now }
     requires values { HasValues plan.now (event_at plan.now i).first values.now.items }
     ensures { result ≡ verdict plan.now i }
@@ -90,7 +95,8 @@ fn commits(plan: &Plan, i: usize, values: &List<u64>) -> bool
 fn answer(plan: &Plan, o: usize, values: &List<u64>) -> Option<u64>
     requires plan { IsPlan plan.now }
     requires op { o < op_count plan.now }
-    requires values { HasValues plan.now (event_at plan.now (event_of plan.now o)).first values.now.items }
+    requires values { HasValues plan.now (event_at plan.now (event_of plan.now o)).first
+        values.now.items }
     ensures { result ≡ outcome plan.now (final plan.now) o }
 {
     let planned = plan.ops.get(o);
@@ -101,10 +107,12 @@ fn answer(plan: &Plan, o: usize, values: &List<u64>) -> Option<u64>
 /// Completes the operations of an event whose verdict is known.
 fn finish_ops(closed: &Closed, plan: &Plan, i: usize, committed: bool, settled: &mut Settled)
     requires plan { IsPlan plan.now }
-    requires closed { (cap counters : ℕ) × (v : View) × IsClosed plan.now cap counters v closed.now }
+    requires closed { (cap counters : ℕ) × (v : View)
+        × IsClosed plan.now cap counters v closed.now }
     requires event { i < event_count plan.now }
     requires verdict { committed ≡ verdict plan.now i }
-    requires earlier { AreFinishedSoFar plan.now closed.now (event_at plan.now i).first settled.old }
+    requires earlier { AreFinishedSoFar plan.now closed.now
+        (event_at plan.now i).first settled.old }
     ensures finished { let event = event_at plan.now i in
         AreFinishedSoFar plan.now closed.now (event.first + event.count) settled.new }
     ensures verdicts { settled.new.committed ≡ settled.old.committed }
@@ -118,7 +126,8 @@ fn finish_ops(closed: &Closed, plan: &Plan, i: usize, committed: bool, settled: 
 /// Completes an operation: as it was settled on the board, else as the verdict on its event says.
 fn finish_op(closed: &Closed, plan: &Plan, o: u32, committed: bool, settled: &mut Settled)
     requires plan { IsPlan plan.now }
-    requires closed { (cap counters : ℕ) × (v : View) × IsClosed plan.now cap counters v closed.now }
+    requires closed { (cap counters : ℕ) × (v : View)
+        × IsClosed plan.now cap counters v closed.now }
     requires op { o < op_count plan.now }
     requires verdict { committed ≡ verdict plan.now (event_of plan.now o) }
     requires earlier { AreFinishedSoFar plan.now closed.now o settled.old }
@@ -140,7 +149,8 @@ fn value_left(plan: &Plan, o: usize, committed: bool, values: &List<u64>) -> u64
     requires plan { IsPlan plan.now }
     requires op { o < op_count plan.now }
     requires verdict { committed ≡ verdict plan.now (event_of plan.now o) }
-    requires values { HasValues plan.now (event_at plan.now (event_of plan.now o)).first values.now.items }
+    requires values { HasValues plan.now (event_at plan.now (event_of plan.now o)).first
+        values.now.items }
     ensures { result ≡ final plan.now o }
 {
     if committed {

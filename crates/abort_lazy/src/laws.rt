@@ -18,6 +18,8 @@ ghost use Rattle.abort_lazy.specs.Ended.{AreCauses, causes};
 ///
 /// So where no cause is kept, all is settled.
 pub fn few_are_left()
-    ensures { (p : Plan) (c : Core) (v : View) (lists : List (List Left)) → IsPlan p → AreCauses p c v lists
-        → count_by (λ o. not (is_settled (c.word o).state)) (below (op_count p)) ≤ EVENT_OPS * causes lists }
+    ensures { (p : Plan) (c : Core) (v : View) (lists : List (List Left)) → IsPlan p
+        → AreCauses p c v lists
+        → count_by (λ o. not (is_settled (c.word o).state)) (below (op_count p))
+        ≤ EVENT_OPS * causes lists }
 {}

@@ -40,7 +40,8 @@ fn settle_levels<T: Threads + Sync>(
     requires counters { from + length plan.now.event_levels.items ≤ counters_of board.now }
     requires few { counters_of board.now < 2 ^ 32 }
     requires ready { AreSettling board.now plan.now from 0 runners.old runners.old }
-    ensures does { AreSettling board.now plan.now from (length plan.now.event_levels.items) runners.old runners.new }
+    ensures does { AreSettling board.now plan.now from (length plan.now.event_levels.items)
+        runners.old runners.new }
 {
     for level in 0..plan.event_levels.len() {
         let sweep = Sweep {
@@ -62,11 +63,13 @@ pub fn settle_all<T: Threads + Sync>(rt: &T, run: Explored, plan: &Plan) -> Sett
     requires explored { IsExplored run }
     requires plan { plan.now ≡ plan_of run.board }
     requires valid { IsValidPlan plan.now }
-    requires counters { run.next_counter + length plan.now.event_levels.items ≤ counters_of run.board }
+    requires counters { run.next_counter + length plan.now.event_levels.items
+        ≤ counters_of run.board }
     requires few { counters_of run.board < 2 ^ 32 }
     ensures board { result.board ≡ run.board }
     ensures run { IsSettledRun result }
-    ensures settled { AreSettling run.board plan.now run.next_counter (length plan.now.event_levels.items)
+    ensures settled { AreSettling run.board plan.now run.next_counter
+        (length plan.now.event_levels.items)
         (runners_of run.runners) (runners_of result.runners) }
     ensures alone { IsSettledByRoot plan.now (runners_of run.runners) (runners_of result.runners) }
     ensures all { AreAllHands (runners_of run.runners) → AreAllHands (runners_of result.runners) }
@@ -90,17 +93,20 @@ impl SettledRun {
         requires run { IsSettledRun self }
         requires plan { plan.now ≡ plan_of self.board }
         requires all { AreAllHands (runners_of self.runners) }
-        ensures closed { (d : R) → IsClosed (plan_of self.board) (cap_of self.board) (counters_of self.board)
+        ensures closed { (d : R)
+            → IsClosed (plan_of self.board) (cap_of self.board) (counters_of self.board)
             (root_view d (runners_of self.runners)) result.0 }
         ensures left { result.1.items ≡ map (λ r. r.kept) (runners_of self.runners) }
         ensures tried { (from : ℕ) (start : Listed R) → IsValidPlan plan.now → AreAtStart from start
-            → AreSettling self.board plan.now from (length plan.now.event_levels.items) start (runners_of self.runners)
+            → AreSettling self.board plan.now from (length plan.now.event_levels.items) start
+            (runners_of self.runners)
             → AreTries plan.now start (runners_of self.runners) }
         ensures causes { (d : R) (from : ℕ) (start : Listed R)
             (is : IsClosed plan.now (cap_of self.board) (counters_of self.board)
             (root_view d (runners_of self.runners)) result.0)
             → IsValidPlan plan.now → AreAtStart from start
-            → AreSettling self.board plan.now from (length plan.now.event_levels.items) start (runners_of self.runners)
+            → AreSettling self.board plan.now from (length plan.now.event_levels.items) start
+            (runners_of self.runners)
             → AreCauses plan.now is.ends.core (root_view d (runners_of self.runners))
             (map (λ list. list.items) result.1.items) }
     {

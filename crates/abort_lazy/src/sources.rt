@@ -8,7 +8,8 @@ use morph_base::{List, Plan, READS};
 pub(crate) fn read_settled(plan: &Plan, o: usize, values: &List<u64>) -> [u64; READS]
     requires plan { IsPlan plan.now }
     requires op { o < op_count plan.now }
-    requires values { HasValues plan.now (event_at plan.now (event_of plan.now o)).first values.now.items }
+    requires values { HasValues plan.now (event_at plan.now (event_of plan.now o)).first
+        values.now.items }
     ensures long { length result ≡ READS }
     ensures values { take (length (keys_of plan.now o)) result ≡ settled_sources plan.now o }
 {

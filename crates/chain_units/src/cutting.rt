@@ -27,7 +27,8 @@ pub fn units(alloc: Global, plan: &Plan, unit: Unit) -> Result<Units, OutOfMemor
 /// Each of so many operations alone.
 fn singles(alloc: Global, ops: usize) -> Result<List<List<u32>>, OutOfMemory>
     requires { ops ≤ 2 ^ 32 }
-    ensures { IfOk result (λ units. map (λ unit. unit.items) units.items ≡ map (λ o. o ∷ []) (below ops)) }
+    ensures { IfOk result
+        (λ units. map (λ unit. unit.items) units.items ≡ map (λ o. o ∷ []) (below ops)) }
 {
     let mut units = List::with_room(alloc, ops)?;
     for op in 0..ops {

@@ -21,7 +21,8 @@ impl Model for Units {
 
     ghost Value = { Grouping };
 
-    ghost view = { λ u. record { units = map (λ unit. unit.items) u.units.items; ops = length u.places.items } };
+    ghost view = { λ u. record
+        { units = map (λ unit. unit.items) u.units.items; ops = length u.places.items } };
 
     ghost invariant = { λ u. IsIndexed (map (λ unit. unit.items) u.units.items) u.places.items };
 }

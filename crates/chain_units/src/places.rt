@@ -20,7 +20,8 @@ pub fn places(
     requires few { AreFew (map (λ unit. unit.items) units.now.items) }
     requires partition { IsPartition (map (λ unit. unit.items) units.now.items) ops }
     ensures len { IfOk result (λ places. length places.items ≡ ops) }
-    ensures indexed { IfOk result (λ places. IsIndexed (map (λ unit. unit.items) units.now.items) places.items) }
+    ensures indexed { IfOk result
+        (λ places. IsIndexed (map (λ unit. unit.items) units.now.items) places.items) }
 {
     let mut places = blank(alloc, ops)?;
     for u in 0..units.len() {
@@ -44,10 +45,12 @@ fn blank(alloc: Global, ops: usize) -> Result<List<Place>, OutOfMemory>
 fn enter(units: &List<List<u32>>, u: usize, places: &mut List<Place>)
     requires unit { u < length units.now.items }
     requires few { AreFew (map (λ unit. unit.items) units.now.items) }
-    requires partition { IsPartition (map (λ unit. unit.items) units.now.items) (length places.old.items) }
+    requires partition { IsPartition (map (λ unit. unit.items) units.now.items)
+        (length places.old.items) }
     requires before { AreEntered (map (λ unit. unit.items) units.now.items) u 0 places.old.items }
     ensures len { length places.new.items ≡ length places.old.items }
-    ensures entered { AreEntered (map (λ unit. unit.items) units.now.items) (u + 1) 0 places.new.items }
+    ensures entered { AreEntered (map (λ unit. unit.items) units.now.items) (u + 1) 0
+        places.new.items }
 {
     let ops = units.get(u).as_slice();
     for (i, op) in ops.iter().enumerate() {

@@ -129,7 +129,8 @@ impl EventApp for Grep {
 
     ghost causes = { λ _ size words cause. grep_causes size words cause };
 
-    ghost generates = { λ _ size i state some few start last. grep_generates size i state some few start last };
+    ghost generates = { λ _ size i state some few start last. grep_generates size i state some
+        few start last };
 
     fn tables(&self) -> u8 {
         1

@@ -39,19 +39,24 @@ pub fn one_step()
 /// worker; each attempt is shown at most once, there are at most cap + 1 of them, and the last rests on settled
 /// values alone.
 pub fn every_schedule()
-    ensures sound { (p : Plan) (cap : ℕ) (es : List CoreEvent) (c : Core) → IsPlan p → cap < most_attempts
+    ensures sound { (p : Plan) (cap : ℕ) (es : List CoreEvent) (c : Core) → IsPlan p
+        → cap < most_attempts
         → Run p cap es c → IsSound p cap c }
     ensures none_rests { (p : Plan) (cap : ℕ) (es : List CoreEvent) (c : Core) (o : ℕ) → IsPlan p
         → cap < most_attempts → Run p cap es c → o < op_count p
         → RestsOnAborted p c o → ⊥ }
-    ensures fold { (p : Plan) (cap : ℕ) (es : List CoreEvent) (c : Core) → IsPlan p → cap < most_attempts
+    ensures fold { (p : Plan) (cap : ℕ) (es : List CoreEvent) (c : Core) → IsPlan p
+        → cap < most_attempts
         → Run p cap es c → IsFold p c }
-    ensures once { (p : Plan) (cap : ℕ) (es : List CoreEvent) (c : Core) (o : ℕ) → IsPlan p → cap < most_attempts
+    ensures once { (p : Plan) (cap : ℕ) (es : List CoreEvent) (c : Core) (o : ℕ) → IsPlan p
+        → cap < most_attempts
         → Run p cap es c
         → (count_by (settles o) es ≤ 1) × IsSettledOnce p c }
-    ensures attempts { (p : Plan) (cap : ℕ) (es : List CoreEvent) (c : Core) → IsPlan p → cap < most_attempts
+    ensures attempts { (p : Plan) (cap : ℕ) (es : List CoreEvent) (c : Core) → IsPlan p
+        → cap < most_attempts
         → Run p cap es c → HasFewAttempts p cap c }
-    ensures steps { (p : Plan) (cap : ℕ) (es : List CoreEvent) (c : Core) → Run p cap es c → TellsSteps es c }
+    ensures steps { (p : Plan) (cap : ℕ) (es : List CoreEvent) (c : Core) → Run p cap es c
+        → TellsSteps es c }
 {}
 
 /// Two schedules that settle the same operation settle it with the same value, and two that decide on the same event
@@ -61,7 +66,8 @@ pub fn schedules_agree()
         → cap < most_attempts → m < most_attempts
         → Run p cap es c → Run p m fs d → o < op_count p → IsSettledIn c o → IsSettledIn d o
         → value_in c o ≡ value_in d o }
-    ensures verdicts { (p : Plan) (cap m : ℕ) (es fs : List CoreEvent) (c d : Core) (i : ℕ) (a b : Bool) → IsPlan p
+    ensures verdicts { (p : Plan) (cap m : ℕ) (es fs : List CoreEvent) (c d : Core) (i : ℕ)
+        (a b : Bool) → IsPlan p
         → cap < most_attempts → m < most_attempts
         → Run p cap es c → Run p m fs d → c.decision i ≡ Some a → d.decision i ≡ Some b → a ≡ b }
 {}
@@ -69,13 +75,18 @@ pub fn schedules_agree()
 /// What a sound state comes to: the same, told of one state. Besides, each word is in range, so that it can be
 /// packed, and an operation is in at most one claim.
 pub fn sound_states()
-    ensures none_rests { (p : Plan) (cap : ℕ) (c : Core) (o : ℕ) → IsPlan p → IsSound p cap c → o < op_count p
+    ensures none_rests { (p : Plan) (cap : ℕ) (c : Core) (o : ℕ) → IsPlan p
+        → IsSound p cap c → o < op_count p
         → RestsOnAborted p c o → ⊥ }
     ensures fold { (p : Plan) (cap : ℕ) (c : Core) → IsPlan p → IsSound p cap c → IsFold p c }
-    ensures once { (p : Plan) (cap : ℕ) (c : Core) → IsPlan p → IsSound p cap c → IsSettledOnce p c }
-    ensures attempts { (p : Plan) (cap : ℕ) (c : Core) → IsPlan p → IsSound p cap c → HasFewAttempts p cap c }
-    ensures words { (p : Plan) (cap : ℕ) (c : Core) (o : ℕ) → IsSound p cap c → o < op_count p → IsWord (c.word o) }
-    ensures one_claim { (p : Plan) (cap s t : ℕ) (c : Core) (g h : Held) → IsSound p cap c → c.claim s ≡ Some g
+    ensures once { (p : Plan) (cap : ℕ) (c : Core) → IsPlan p → IsSound p cap c
+        → IsSettledOnce p c }
+    ensures attempts { (p : Plan) (cap : ℕ) (c : Core) → IsPlan p → IsSound p cap c
+        → HasFewAttempts p cap c }
+    ensures words { (p : Plan) (cap : ℕ) (c : Core) (o : ℕ) → IsSound p cap c → o < op_count p
+        → IsWord (c.word o) }
+    ensures one_claim { (p : Plan) (cap s t : ℕ) (c : Core) (g h : Held) → IsSound p cap c
+        → c.claim s ≡ Some g
         → c.claim t ≡ Some h → g.op ≡ h.op → s ≡ t }
 {}
 
@@ -86,17 +97,22 @@ pub fn sound_states()
 pub fn counts()
     ensures attempts { (p : Plan) (cap o : ℕ) (es : List CoreEvent) (c : Core) → Run p cap es c
         → (c.word o).attempt ≡ 1 + count_by (rises_at o) es }
-    ensures few_raised { (p : Plan) (cap : ℕ) (es : List CoreEvent) (c : Core) → IsPlan p → cap < most_attempts
+    ensures few_raised { (p : Plan) (cap : ℕ) (es : List CoreEvent) (c : Core) → IsPlan p
+        → cap < most_attempts
         → Run p cap es c
         → spreads es + rolled es ≤ cap * op_count p }
-    ensures few_shown { (p : Plan) (cap : ℕ) (es : List CoreEvent) (c : Core) → IsPlan p → cap < most_attempts
+    ensures few_shown { (p : Plan) (cap : ℕ) (es : List CoreEvent) (c : Core) → IsPlan p
+        → cap < most_attempts
         → Run p cap es c
         → evaluated es + spreads es ≤ (cap + 1) * op_count p }
-    ensures none_spread { (p : Plan) (es : List CoreEvent) (c : Core) → IsPlan p → Run p 1 es c → spreads es ≡ 0 }
-    ensures shown { (p : Plan) (cap : ℕ) (es : List CoreEvent) (c : Core) → IsPlan p → cap < most_attempts
+    ensures none_spread { (p : Plan) (es : List CoreEvent) (c : Core) → IsPlan p → Run p 1 es c
+        → spreads es ≡ 0 }
+    ensures shown { (p : Plan) (cap : ℕ) (es : List CoreEvent) (c : Core) → IsPlan p
+        → cap < most_attempts
         → Run p cap es c
         → evaluated es ≡ rolled es + sum_by (shown_now c) (below (op_count p)) }
-    ensures committed { (p : Plan) (cap : ℕ) (es : List CoreEvent) (c : Core) → IsPlan p → cap < most_attempts
+    ensures committed { (p : Plan) (cap : ℕ) (es : List CoreEvent) (c : Core) → IsPlan p
+        → cap < most_attempts
         → Run p cap es c
         → count_by (λ o. is_committed (c.word o).state) (below (op_count p)) ≤ evaluated es }
 {}
@@ -108,13 +124,15 @@ pub fn counts()
 /// So one worker that settles the events in order counts as many rollbacks as there are wrong guesses.
 pub fn stale_guesses_are_rolled_back()
     ensures { (p : Plan) (es fs : List CoreEvent) (c : Core) → IsPlan p → Run p 1 (es ++ fs) c
-        → ((b : Core) → Run p 1 fs b → IsExplored p b) → AreAgreed p c → rolled (es ++ fs) ≡ stale_count p }
+        → ((b : Core) → Run p 1 fs b → IsExplored p b) → AreAgreed p c
+        → rolled (es ++ fs) ≡ stale_count p }
 {}
 
 /// A list of steps tells the state that it leads to. It can be read in the order in which the steps are made: from
 /// the start, and on from the state after other steps.
 pub fn steps_in_order()
-    ensures same { (p : Plan) (cap : ℕ) (es : List CoreEvent) (c d : Core) → Run p cap es c → Run p cap es d → c ≡ d }
+    ensures same { (p : Plan) (cap : ℕ) (es : List CoreEvent) (c d : Core) → Run p cap es c
+        → Run p cap es d → c ≡ d }
     ensures reversed { (p : Plan) (cap : ℕ) (es : List CoreEvent) (c : Core) → Run p cap es c
         → Leads p cap start (reverse es) c }
     ensures appended { (p : Plan) (cap : ℕ) (es fs : List CoreEvent) (b c : Core) → Run p cap es b
@@ -124,12 +142,16 @@ pub fn steps_in_order()
 /// What a worker saw of a word, and of a record under a word, stays true as the state grows; and the present word may
 /// be seen. As long as an attempt that was shown is the present one, its operation has a record at each place.
 pub fn sightings()
-    ensures words { (p : Plan) (c d : Core) (o : ℕ) (w : OpWord) → Grows p c d → IsNoted c o w → IsNoted d o w }
-    ensures records { (p : Plan) (c d : Core) (o j x : ℕ) (w : OpWord) → Grows p c d → o < op_count p
+    ensures words { (p : Plan) (c d : Core) (o : ℕ) (w : OpWord) → Grows p c d → IsNoted c o w
+        → IsNoted d o w }
+    ensures records { (p : Plan) (c d : Core) (o j x : ℕ) (w : OpWord)
+        → Grows p c d → o < op_count p
         → IsRecordNoted c o j x w → IsRecordNoted d o j x w }
     ensures present { (p : Plan) (cap : ℕ) (c : Core) (o : ℕ) → IsSound p cap c → o < op_count p
         → IsNoted c o (c.word o) }
-    ensures recorded { (p : Plan) (cap : ℕ) (es : List CoreEvent) (c : Core) (e : Entry) (j : ℕ) → IsPlan p
-        → cap < most_attempts → Run p cap es c → Contains c.published e → e.attempt ≡ (c.word e.op).attempt
+    ensures recorded { (p : Plan) (cap : ℕ) (es : List CoreEvent) (c : Core) (e : Entry)
+        (j : ℕ) → IsPlan p
+        → cap < most_attempts → Run p cap es c → Contains c.published e
+        → e.attempt ≡ (c.word e.op).attempt
         → j < places p e.op → (r : Record) × (c.recorded e.op j ≡ Some r) }
 {}

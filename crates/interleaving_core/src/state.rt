@@ -71,8 +71,10 @@ impl CoreState {
     pub fn step(&mut self, plan: &Plan, event: &CoreEvent) -> Step
         requires plan { IsPlan plan.now }
         requires state { IsStateOf plan.now self.old }
-        ensures taken { (result ≡ Taken) ↔ May plan.now (cap_of self.old) (core_of self.old) event.now }
-        ensures next { result ≡ Taken → core_of self.new ≡ after plan.now (core_of self.old) event.now }
+        ensures taken { (result ≡ Taken)
+            ↔ May plan.now (cap_of self.old) (core_of self.old) event.now }
+        ensures next { result ≡ Taken
+            → core_of self.new ≡ after plan.now (core_of self.old) event.now }
         ensures refused { result ≡ Refused → self.new ≡ self.old }
         ensures state { IsStateOf plan.now self.new }
         ensures cap { cap_of self.new ≡ cap_of self.old }

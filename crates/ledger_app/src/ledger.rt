@@ -81,7 +81,8 @@ impl EventApp for Ledger {
 
     ghost causes = { λ _ size words cause. ledger_causes size words cause };
 
-    ghost generates = { λ _ size i state some few start last. ledger_generates size i state some few start last };
+    ghost generates = { λ _ size i state some few start last. ledger_generates size i state some
+        few start last };
 
     fn tables(&self) -> u8 {
         2

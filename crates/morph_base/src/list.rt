@@ -96,7 +96,8 @@ impl<T> List<T> {
     /// Lends the item at place `i` for change.
     pub fn get_mut(&mut self, i: usize) -> &mut T
         requires { i < length self.old.items }
-        ensures* lends { sem 𝓛 (Lends (the_row T.row) T.row self.entry result (with_item self.old i)) }
+        ensures* lends { sem 𝓛
+            (Lends (the_row T.row) T.row self.entry result (with_item self.old i)) }
         ensures item { (d : T) → result.now ≡ slice_index_or self.old.items i d }
     {
         &mut self.vec[i]
@@ -133,7 +134,8 @@ impl<T> List<T> {
 
     /// Lends the items for change in place; afterwards the list has what was left there.
     pub fn as_mut_slice(&mut self) -> &mut [T]
-        ensures* lends { sem 𝓛 (Lends (the_row T.row) (Array T.row 0) self.entry result (with_items self.old)) }
+        ensures* lends { sem 𝓛
+            (Lends (the_row T.row) (Array T.row 0) self.entry result (with_items self.old)) }
         ensures items { result.now ≡ self.old.items }
     {
         self.vec.as_mut_slice()

@@ -70,7 +70,8 @@ impl Op {
         requires few { length params.now ≤ PARAMS }
         ensures parts { result ≡ op_of func key params.now c }
         ensures reads { reads result ≡ key ∷ params.now }
-        ensures shaped { least_params func ≤ length params.now → length params.now ≤ most_params func → c ≤ MAX
+        ensures shaped { least_params func ≤ length params.now
+            → length params.now ≤ most_params func → c ≤ MAX
             → IsShaped result }
     {
         let mut places = [Key { table: 0, id: 0 }; PARAMS];

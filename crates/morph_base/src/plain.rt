@@ -30,7 +30,9 @@ pub fn fold(alloc: Global, values: &mut Values, batch: &Batch) -> Result<List<Ou
     requires keys { BatchKeysIn values.old.layout batch.now }
     ensures layout { values.new.layout ≡ values.old.layout }
     ensures state { OnOk result (contents values.new ≡ fold_batch batch.now (contents values.old)) }
-    ensures refused { OnErr result (IsAfterSome (contents values.old) (by_time (transactions_of batch.now)) (contents values.new)) }
+    ensures refused { OnErr result
+        (IsAfterSome (contents values.old) (by_time (transactions_of batch.now))
+        (contents values.new)) }
     ensures fates { IfOk result (λ outcomes. map fate_of outcomes.items
         ≡ fates (contents values.old) (by_time (transactions_of batch.now))) }
 {
@@ -47,8 +49,10 @@ fn apply(alloc: Global, values: &mut Values, event: &Event) -> Result<Outcome, O
     requires event { IsTransaction (transaction_of event.now) }
     requires keys { HasKeysIn values.old.layout (transaction_of event.now) }
     ensures layout { values.new.layout ≡ values.old.layout }
-    ensures state { OnOk result (contents values.new ≡ after (contents values.old) (transaction_of event.now)) }
-    ensures fate { IfOk result (λ outcome. fate_of outcome ≡ fate (contents values.old) (transaction_of event.now)) }
+    ensures state { OnOk result
+        (contents values.new ≡ after (contents values.old) (transaction_of event.now)) }
+    ensures fate { IfOk result
+        (λ outcome. fate_of outcome ≡ fate (contents values.old) (transaction_of event.now)) }
     ensures refused { OnErr result (values.new ≡ values.old) }
 {
     let ops = event.ops.as_slice();
@@ -69,7 +73,8 @@ fn transact(alloc: Global, values: &mut Values, event: &Event) -> Result<bool, O
     ensures layout { values.new.layout ≡ values.old.layout }
     ensures committed { IfOk result (λ committed. committed
         ≡ commits (contents values.old) (transaction_of event.now)) }
-    ensures state { OnOk result (contents values.new ≡ after (contents values.old) (transaction_of event.now)) }
+    ensures state { OnOk result
+        (contents values.new ≡ after (contents values.old) (transaction_of event.now)) }
     ensures refused { OnErr result (values.new ≡ values.old) }
 {
     let ops = event.ops.as_slice();
@@ -86,9 +91,11 @@ fn transact(alloc: Global, values: &mut Values, event: &Event) -> Result<bool, O
 fn answers(alloc: Global, values: &Values, ops: &[Op]) -> Result<Option<List<u64>>, OutOfMemory>
     requires shaped { All IsShaped ops.now }
     requires keys { All (λ op. All (InLayout values.now.layout) (reads op)) ops.now }
-    ensures answers { IfOk result (λ r. MatchOption r (all_answer (contents values.now) ops.now ≡ false) (λ answers.
+    ensures answers { IfOk result
+        (λ r. MatchOption r (all_answer (contents values.now) ops.now ≡ false) (λ answers.
         (all_answer (contents values.now) ops.now ≡ true)
-        × (answers.items ≡ map (λ op. unwrap_or (answer_in (contents values.now) op) (contents values.now op.key)) ops.now)
+        × (answers.items ≡ map
+        (λ op. unwrap_or (answer_in (contents values.now) op) (contents values.now op.key)) ops.now)
         × All (λ v. v ≤ MAX) answers.items)) }
 {
     let mut answers = List::with_room(alloc, ops.len())?;
@@ -122,7 +129,8 @@ fn write(values: &mut Values, ops: &[Op], answers: &[u64])
     requires keys { All (λ op. All (InLayout values.old.layout) (reads op)) ops.now }
     requires small { All (λ v. v ≤ MAX) answers.now }
     ensures layout { values.new.layout ≡ values.old.layout }
-    ensures state { contents values.new ≡ put_all (contents values.old) (map (λ op. op.key) ops.now) answers.now }
+    ensures state { contents values.new ≡ put_all (contents values.old)
+        (map (λ op. op.key) ops.now) answers.now }
 {
     if let [op, ..] = ops {
         write(values, &ops[1..], &answers[1..]);

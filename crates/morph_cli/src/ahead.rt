@@ -51,7 +51,8 @@ impl<A: EventApp> Ahead<A> {
         requires live { IsTrue progress.reader.live }
         requires layout { progress.engine.layout
             ≡ layout_of (A.table_count progress.reader.app) progress.reader.size }
-        ensures pipe { IfOk result (λ new. new.pipe ≡ new_pipe progress.reader progress.engine ahead) }
+        ensures pipe { IfOk result
+            (λ new. new.pipe ≡ new_pipe progress.reader progress.engine ahead) }
         ensures out { IfOk result (λ new. new.out ≡ progress.out) }
     {
         Ok(Ahead {
@@ -63,7 +64,8 @@ impl<A: EventApp> Ahead<A> {
 
 /// How a pipe picks the strategy of each batch.
 fn picker(planning: Planning) -> Picker
-    ensures { (last : Came) (plan : Plan) → picked result last plan ≡ strategy_by planning plan last }
+    ensures { (last : Came) (plan : Plan)
+        → picked result last plan ≡ strategy_by planning plan last }
 {
     match planning {
         Planning::Fixed(strategy) => Picker {
@@ -102,7 +104,8 @@ pub fn run_ahead<
 ) -> Result<Finish, Fault>
     requires settings { AreInRange job.now.settings }
     requires tally { tally.old ≡ no_tally }
-    requires pipe { ahead.old.pipe ≡ new_pipe (new_reader job.now.app job.now.settings.size INPUT_BYTES)
+    requires pipe { ahead.old.pipe
+        ≡ new_pipe (new_reader job.now.app job.now.settings.size INPUT_BYTES)
         ahead.old.pipe.engine job.now.settings.ahead }
     requires layout { ahead.old.pipe.engine.layout
         ≡ layout_of (A.table_count job.now.app) job.now.settings.size }
@@ -122,7 +125,8 @@ pub fn run_ahead<
     ensures source_faults { S.faults source.old ≤ S.faults source.new }
     ensures sink_faults { K.faults sink.old ≤ K.faults sink.new }
     ensures notes_faults { N.faults notes.old ≤ N.faults notes.new }
-    ensures read { IsErrOf result Fault.Read → HasRisen (S.faults source.old) (S.faults source.new) }
+    ensures read { IsErrOf result Fault.Read
+        → HasRisen (S.faults source.old) (S.faults source.new) }
     ensures write { IsErrOf result Fault.Write → HasRisen (K.faults sink.old) (K.faults sink.new)
         ⊎ (IsTrue job.now.settings.notes × HasRisen (N.faults notes.old) (N.faults notes.new)) }
 {

@@ -38,7 +38,8 @@ pub fn run_batch<R: Threads + Sync, G: Gate>(
     ensures made { IfOk result (λ end.
         IsMadeOf (contents engine.old) (transactions_of batch.now) end.plan) }
     ensures settled { IfOk result (λ end. IsSettledOf end.plan end.settled) }
-    ensures strategy { IfOk result (λ end. end.strategy ≡ strategy_by settings.now.planning end.plan last) }
+    ensures strategy { IfOk result
+        (λ end. end.strategy ≡ strategy_by settings.now.planning end.plan last) }
     ensures account { IfOk result (λ end. IsSound settings.now.workers (account_of end)) }
     ensures refused { OnErr result (engine.new ≡ engine.old) }
 {

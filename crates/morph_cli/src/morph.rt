@@ -63,7 +63,8 @@ fn run_over<
         (outputs_of (K.written sink.new) (N.written notes.new)) }
     ensures notes_faults { N.faults notes.old ≤ N.faults notes.new }
     ensures made { IsSome job.now.settings.generated → (source.new ≡ source.old) × EndsMade result }
-    ensures read { IsErrOf result Fault.Read → HasRisen (S.faults source.old) (S.faults source.new) }
+    ensures read { IsErrOf result Fault.Read
+        → HasRisen (S.faults source.old) (S.faults source.new) }
     ensures write { IsErrOf result Fault.Write → HasRisen (K.faults sink.old) (K.faults sink.new)
         ⊎ (IsTrue job.now.settings.notes × HasRisen (N.faults notes.old) (N.faults notes.new)) }
 {
@@ -131,7 +132,8 @@ fn run_app<R: Threads + Sync, S: Source + Send, K: Sink, N: Sink, G: Gate>(
         (outputs_of (K.written sink.new) (N.written notes.new)) }
     ensures notes_faults { N.faults notes.old ≤ N.faults notes.new }
     ensures made { IsSome settings.generated → (source.new ≡ source.old) × EndsMade result }
-    ensures read { IsErrOf result Fault.Read → HasRisen (S.faults source.old) (S.faults source.new) }
+    ensures read { IsErrOf result Fault.Read
+        → HasRisen (S.faults source.old) (S.faults source.new) }
     ensures write { IsErrOf result Fault.Write → HasRisen (K.faults sink.old) (K.faults sink.new)
         ⊎ (IsTrue settings.notes × HasRisen (N.faults notes.old) (N.faults notes.new)) }
 {

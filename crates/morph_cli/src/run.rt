@@ -70,7 +70,8 @@ pub fn run<
     ensures source_faults { S.faults source.old ≤ S.faults source.new }
     ensures sink_faults { K.faults sink.old ≤ K.faults sink.new }
     ensures notes_faults { N.faults notes.old ≤ N.faults notes.new }
-    ensures read { IsErrOf result Fault.Read → HasRisen (S.faults source.old) (S.faults source.new) }
+    ensures read { IsErrOf result Fault.Read
+        → HasRisen (S.faults source.old) (S.faults source.new) }
     ensures write { IsErrOf result Fault.Write → HasRisen (K.faults sink.old) (K.faults sink.new)
         ⊎ (IsTrue job.now.settings.notes × HasRisen (N.faults notes.old) (N.faults notes.new)) }
 {
@@ -93,7 +94,8 @@ fn run_batches<R: Threads + Sync, A: EventApp + Copy, S: Source, K: Sink, N: Sin
 ) -> Result<Finish, Fault>
     requires settings { AreInRange job.now.settings }
     requires tally { tally.old ≡ no_tally }
-    requires reader { progress.old.reader ≡ new_reader job.now.app job.now.settings.size INPUT_BYTES }
+    requires reader { progress.old.reader
+        ≡ new_reader job.now.app job.now.settings.size INPUT_BYTES }
     requires layout { progress.old.engine.layout
         ≡ layout_of (A.table_count job.now.app) job.now.settings.size }
     requires opening { contents progress.old.engine ≡ opening_state }
@@ -113,7 +115,8 @@ fn run_batches<R: Threads + Sync, A: EventApp + Copy, S: Source, K: Sink, N: Sin
     ensures source_faults { S.faults source.old ≤ S.faults source.new }
     ensures sink_faults { K.faults sink.old ≤ K.faults sink.new }
     ensures notes_faults { N.faults notes.old ≤ N.faults notes.new }
-    ensures read { IsErrOf result Fault.Read → HasRisen (S.faults source.old) (S.faults source.new) }
+    ensures read { IsErrOf result Fault.Read
+        → HasRisen (S.faults source.old) (S.faults source.new) }
     ensures write { IsErrOf result Fault.Write → HasRisen (K.faults sink.old) (K.faults sink.new)
         ⊎ (IsTrue job.now.settings.notes × HasRisen (N.faults notes.old) (N.faults notes.new)) }
 {

@@ -29,7 +29,8 @@ pub fn count(tally: &mut Tally, end: &BatchEnd) -> Last
     requires plan { IsPlan end.now.plan }
     requires settled { IsSettledOf end.now.plan end.now.settled }
     requires room { HasRoom tally.old (account_of end.now) }
-    ensures adds { Adds tally.old tally.new (account_of end.now) (settled_fates end.now.plan end.now.settled) }
+    ensures adds { Adds tally.old tally.new (account_of end.now)
+        (settled_fates end.now.plan end.now.settled) }
     ensures last { result ≡ last_of (settled_fates end.now.plan end.now.settled) }
 {
     let events = tally.events;

@@ -161,7 +161,8 @@ impl Engine {
         requires keys { PlanKeysIn plan self.old.layout }
         requires some { 1 ≤ workers }
         requires few { workers ≤ most_workers }
-        ensures state { OnOk result (contents self.new ≡ state_at plan (contents self.old) (event_count plan)) }
+        ensures state { OnOk result
+            (contents self.new ≡ state_at plan (contents self.old) (event_count plan)) }
         ensures layout { self.new.layout ≡ self.old.layout }
         ensures plan { IfOk result (λ end. end.plan ≡ plan) }
         ensures strategy { IfOk result (λ end. end.strategy ≡ strategy.now) }
@@ -170,12 +171,14 @@ impl Engine {
         // What was settled tells what becomes of each event.
         ensures fates { IfOk result (λ end. settled_fates plan end.settled
             ≡ fates (contents self.old) (transactions plan)) }
-        ensures run { IfOk result (λ end. HasRun plan strategy.now.explore strategy.now.abort workers end.closed
+        ensures run { IfOk result
+            (λ end. HasRun plan strategy.now.explore strategy.now.abort workers end.closed
             (map (λ list. list.items) end.left.items) end.settled.by.items end.handed end.stolen) }
         ensures counts { IfOk result (λ end. (counters : ℕ) (v : RootView)
             (is : IsClosed plan (cap_for strategy.now.abort) counters v end.closed)
             → end.counts ≡ counts_of is.ends.history) }
-        ensures account { IfOk result (λ end. IsAccount strategy.now.explore strategy.now.abort workers
+        ensures account { IfOk result
+            (λ end. IsAccount strategy.now.explore strategy.now.abort workers
             (account_of end)) }
         ensures refused { OnErr result (self.new ≡ self.old) }
     {

@@ -89,7 +89,8 @@ pub(crate) fn explore_by<R: Threads + Sync, G: Gate>(
     ensures ran { abort ≡ Lazy → IsNewRoot (runners_of runners)
         → HasRunAll plan.now (runners_of result.0.runners) }
     ensures next_counter { result.0.next_counter ≤ counters_for plan.now }
-    ensures way { HasExploredBy (explore_of supply) plan.now abort (runners_of runners) result.0 result.1.handed
+    ensures way { HasExploredBy (explore_of supply) plan.now abort (runners_of runners)
+        result.0 result.1.handed
         result.1.stolen }
 {
     match supply {

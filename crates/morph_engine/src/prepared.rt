@@ -89,7 +89,8 @@ impl Prepared {
         requires valid { IsValidPlan plan.now }
         requires prepared { IsPrepared plan.now self }
         ensures settled { IsSettledOf plan.now result.settled }
-        ensures ran { HasRun plan.now (explore_of self.supply) self.abort (length (runners_of self.runners))
+        ensures ran { HasRun plan.now (explore_of self.supply) self.abort
+            (length (runners_of self.runners))
             result.closed (map (λ list. list.items) result.left.items) result.settled.by.items
             result.tallied.handed result.tallied.stolen }
     {

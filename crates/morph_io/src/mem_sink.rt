@@ -29,7 +29,15 @@ impl Model for MemSink {
 
     ghost Value = { Store };
 
-    ghost view = { λ s. record { written = s.bytes.items; room = s.room; piece = s.piece; fail = s.fail.items; stall = s.stall.items; calls = s.calls; faults = s.faults } };
+    ghost view = { λ s. record {
+      written = s.bytes.items;
+      room = s.room;
+      piece = s.piece;
+      fail = s.fail.items;
+      stall = s.stall.items;
+      calls = s.calls;
+      faults = s.faults;
+    } };
 
     ghost invariant = { λ s. (0 < s.piece) × (vec_len s.bytes + s.room ≤ vec_capacity s.bytes) };
 }
@@ -85,10 +93,12 @@ impl Sink for MemSink {
         requires { 0 < length piece.now }
         ensures fails { IsErr result ↔ IsRefused self.old }
         ensures failed { OnErr result
-            (self.new ≡ record self.old { calls = counted self.old.calls; faults = counted self.old.faults }) }
+            (self.new ≡ record self.old
+            { calls = counted self.old.calls; faults = counted self.old.faults }) }
 
         ensures some { IfOk result (λ n. 0 < n) }
-        ensures count { IfOk result (λ n. n ≡ min (min (length piece.now) self.old.piece) self.old.room) }
+        ensures count { IfOk result
+            (λ n. n ≡ min (min (length piece.now) self.old.piece) self.old.room) }
         ensures taken { IfOk result (λ n. self.new ≡ record self.old {
           written = self.old.written ++ take n piece.now;
           room = self.old.room - n;

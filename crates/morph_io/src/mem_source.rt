@@ -27,7 +27,13 @@ impl Model for MemSource {
 
     ghost Value = { Supply };
 
-    ghost view = { λ s. record { left = drop s.at s.bytes.items; piece = s.piece; fail = s.fail.items; calls = s.calls; faults = s.faults } };
+    ghost view = { λ s. record {
+      left = drop s.at s.bytes.items;
+      piece = s.piece;
+      fail = s.fail.items;
+      calls = s.calls;
+      faults = s.faults;
+    } };
 
     ghost invariant = { λ s. (0 < s.piece) × (s.at ≤ length s.bytes.items) };
 }
@@ -36,7 +42,8 @@ impl MemSource {
     /// A source of `bytes`, of which a call gives at most `piece`. The calls whose number, from 1, is in `fail` fail.
     pub fn new(bytes: List<u8>, piece: usize, fail: List<u64>) -> Self
         requires { 0 < piece }
-        ensures { result ≡ record { left = bytes.items; piece = piece; fail = fail.items; calls = 0; faults = 0 } }
+        ensures { result ≡ record
+            { left = bytes.items; piece = piece; fail = fail.items; calls = 0; faults = 0 } }
     {
         MemSource {
             bytes,
@@ -62,12 +69,15 @@ impl Source for MemSource {
         requires { 0 < length buf.old }
         ensures fails { IsErr result ↔ Contains self.old.fail (self.old.calls + 1) }
         ensures failed { OnErr result
-            (self.new ≡ record self.old { calls = counted self.old.calls; faults = counted self.old.faults }) }
+            (self.new ≡ record self.old
+            { calls = counted self.old.calls; faults = counted self.old.faults }) }
 
-        ensures count { IfOk result (λ n. n ≡ min (min (length self.old.left) self.old.piece) (length buf.new)) }
+        ensures count { IfOk result
+            (λ n. n ≡ min (min (length self.old.left) self.old.piece) (length buf.new)) }
         ensures bytes { IfOk result (λ n. buf.new ≡ take n self.old.left ++ drop n buf.old) }
         ensures given { IfOk result (λ n.
-            self.new ≡ record self.old { left = drop n self.old.left; calls = counted self.old.calls }) }
+            self.new ≡ record self.old
+            { left = drop n self.old.left; calls = counted self.old.calls }) }
         ensures end { IfOk result (λ n. n ≡ 0 → self.new.left ≡ []) }
     {
         let fails = is_next_call_among(self.fail.as_slice(), self.calls);

@@ -30,13 +30,15 @@ impl Model for Out {
 
     ghost view = { λ out. out.kept.items };
 
-    ghost invariant = { λ out. (length out.kept.items < OUT_BYTES) × (OUT_BYTES ≤ vec_capacity out.kept) };
+    ghost invariant = { λ out. (length out.kept.items < OUT_BYTES)
+        × (OUT_BYTES ≤ vec_capacity out.kept) };
 }
 
 /// Writes all of `bytes` to the sink, however few it takes at a time.
 pub fn write_all<K: Sink>(sink: &mut K, bytes: &[u8]) -> Result<(), WriteFailed>
     ensures all { OnOk result (K.written sink.new ≡ behind (K.written sink.old) bytes.now) }
-    ensures prefix { OnErr result (AppendsPrefix (K.written sink.old) bytes.now (K.written sink.new)) }
+    ensures prefix { OnErr result
+        (AppendsPrefix (K.written sink.old) bytes.now (K.written sink.new)) }
     ensures never_falls { K.faults sink.old ≤ K.faults sink.new }
     ensures cause { OnErr result (HasRisen (K.faults sink.old) (K.faults sink.new)) }
     ensures unused { bytes.now ≡ [] → IsOk result × (sink.new ≡ sink.old) }
@@ -51,7 +53,8 @@ pub fn write_all<K: Sink>(sink: &mut K, bytes: &[u8]) -> Result<(), WriteFailed>
 /// Writes all of `kept` to the sink, and empties it.
 fn write_out<K: Sink>(kept: &mut Vec<u8>, sink: &mut K) -> Result<(), WriteFailed>
     ensures all { OnOk result (K.written sink.new ≡ behind (K.written sink.old) kept.old.items) }
-    ensures prefix { OnErr result (AppendsPrefix (K.written sink.old) kept.old.items (K.written sink.new)) }
+    ensures prefix { OnErr result
+        (AppendsPrefix (K.written sink.old) kept.old.items (K.written sink.new)) }
     ensures empty { kept.new.items ≡ [] }
     ensures capacity { vec_capacity kept.old ≤ vec_capacity kept.new }
     ensures never_falls { K.faults sink.old ≤ K.faults sink.new }
@@ -78,9 +81,11 @@ impl Out {
     /// The line has its line feed, if it is to have one. `Err` comes only where the sink's count of faults rose in
     /// this call; the sink has then a prefix of all that was put, and the buffer is not used again.
     pub fn put<K: Sink>(&mut self, sink: &mut K, line: &LineBuf) -> Result<(), WriteFailed>
-        ensures puts { OnOk result (Puts (K.written sink.old) self.old line.now (K.written sink.new) self.new) }
+        ensures puts { OnOk result
+            (Puts (K.written sink.old) self.old line.now (K.written sink.new) self.new) }
         ensures kept { OnOk result (self.new ≡ kept_of OUT_BYTES (self.old ++ line.now)) }
-        ensures unused { length (self.old ++ line.now) < OUT_BYTES → IsOk result × (sink.new ≡ sink.old) }
+        ensures unused { length (self.old ++ line.now) < OUT_BYTES
+            → IsOk result × (sink.new ≡ sink.old) }
 
         ensures prefix { OnErr result
             (AppendsPrefix (K.written sink.old) (self.old ++ line.now) (K.written sink.new)) }
@@ -107,10 +112,12 @@ impl Out {
     /// was put, and the buffer is not used again.
     pub fn flush<K: Sink>(&mut self, sink: &mut K) -> Result<(), WriteFailed>
         ensures all { OnOk result (K.written sink.new ≡ behind (K.written sink.old) self.old) }
-        ensures puts { OnOk result (Puts (K.written sink.old) self.old [] (K.written sink.new) self.new) }
+        ensures puts { OnOk result
+            (Puts (K.written sink.old) self.old [] (K.written sink.new) self.new) }
         ensures unused { self.old ≡ [] → IsOk result × (sink.new ≡ sink.old) }
 
-        ensures prefix { OnErr result (AppendsPrefix (K.written sink.old) self.old (K.written sink.new)) }
+        ensures prefix { OnErr result
+            (AppendsPrefix (K.written sink.old) self.old (K.written sink.new)) }
         ensures empty { self.new ≡ [] }
         ensures never_falls { K.faults sink.old ≤ K.faults sink.new }
         ensures cause { OnErr result (HasRisen (K.faults sink.old) (K.faults sink.new)) }

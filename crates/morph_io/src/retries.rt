@@ -9,7 +9,8 @@ pub const MAX_RETRIES: u32 = 1_000;
 
 /// Whether a call that gave `error` is tried again: it was interrupted, and a try is left, which is then spent.
 pub(crate) fn spends_retry(retries: &mut u32, error: &Error) -> bool
-    ensures again { IsTrue result ↔ (error_kind error.now ≡ ErrorKind.Interrupted) × (0 < retries.old) }
+    ensures again { IsTrue result ↔ (error_kind error.now ≡ ErrorKind.Interrupted)
+        × (0 < retries.old) }
     ensures spent { IsTrue result → retries.new + 1 ≡ retries.old }
     ensures kept { OnFalse result (retries.new ≡ retries.old) }
 {

@@ -36,7 +36,8 @@ pub trait Sink {
         requires { 0 < length piece.now }
         ensures some { IfOk result (λ n. 0 < n) }
         ensures bound { IfOk result (λ n. n ≤ length piece.now) }
-        ensures bytes { IfOk result (λ n. written self.new ≡ behind (written self.old) (take n piece.now)) }
+        ensures bytes { IfOk result
+            (λ n. written self.new ≡ behind (written self.old) (take n piece.now)) }
         ensures kept { OnErr result (written self.new ≡ written self.old) }
         ensures never_falls { faults self.old ≤ faults self.new }
         ensures cause { OnErr result (HasRisen (faults self.old) (faults self.new)) };

@@ -23,11 +23,14 @@ enum Copied {
 /// the bytes that it moved.
 fn copy<S: Source, K: Sink>(source: &mut S, sink: &mut K, reads: u32) -> Copied
     ensures whole { result ≡ Copied.Whole
-        → IfSome (S.left source.old) (λ bytes. K.written sink.new ≡ behind (K.written sink.old) bytes) }
+        → IfSome (S.left source.old)
+        (λ bytes. K.written sink.new ≡ behind (K.written sink.old) bytes) }
     ensures prefix { IfSome (S.left source.old)
         (λ bytes. AppendsPrefix (K.written sink.old) bytes (K.written sink.new)) }
-    ensures read_failed { result ≡ Copied.ReadFailed → HasRisen (S.faults source.old) (S.faults source.new) }
-    ensures write_failed { result ≡ Copied.WriteFailed → HasRisen (K.faults sink.old) (K.faults sink.new) }
+    ensures read_failed { result ≡ Copied.ReadFailed
+        → HasRisen (S.faults source.old) (S.faults source.new) }
+    ensures write_failed { result ≡ Copied.WriteFailed
+        → HasRisen (K.faults sink.old) (K.faults sink.new) }
 {
     let mut buf = [0; 16];
     'reads: for _ in 0..reads {

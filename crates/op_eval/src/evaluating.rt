@@ -30,7 +30,8 @@ fn fetch_all(board: &Board, hand: &mut Hand, plan: &Plan, op: u32) -> Option<Sto
     requires held { (a : ℕ) × Holds (view_of hand.old) op a [] }
     ensures hand { IsHandOf board.now hand.new }
     ensures does { (a : ℕ) → Holds (view_of hand.old) op a []
-        → FetchAllTells plan.now (cap_of board.now) op a (view_of hand.old) (view_of hand.new) result }
+        → FetchAllTells plan.now (cap_of board.now) op a (view_of hand.old)
+        (view_of hand.new) result }
 {
     for j in 0..places_of(plan, op) {
         match board.fetch(hand, plan, op, j) {
@@ -49,7 +50,8 @@ fn hold(board: &Board, hand: &mut Hand, plan: &Plan, op: u32) -> Evaluation
     requires in_range { op < op_count plan.now }
     requires free { (view_of hand.old).claim ≡ None }
     ensures hand { IsHandOf board.now hand.new }
-    ensures does { (start : View) (xs : List Item) (w : Word) → IsEvaluatingSoFar op start (view_of hand.old) xs w
+    ensures does { (start : View) (xs : List Item) (w : Word)
+        → IsEvaluatingSoFar op start (view_of hand.old) xs w
         → w.state ≡ Ready
         → EvaluationDoes plan.now (cap_of board.now) op start (view_of hand.new) result }
 {
@@ -75,7 +77,8 @@ fn make(board: &Board, hand: &mut Hand, plan: &Plan, op: u32) -> Evaluation
     requires in_range { op < op_count plan.now }
     requires free { (view_of hand.old).claim ≡ None }
     ensures hand { IsHandOf board.now hand.new }
-    ensures does { (start : View) (xs : List Item) (w : Word) → IsEvaluatingSoFar op start (view_of hand.old) xs w
+    ensures does { (start : View) (xs : List Item) (w : Word)
+        → IsEvaluatingSoFar op start (view_of hand.old) xs w
         → w.state ≡ Blocked
         → EvaluationDoes plan.now (cap_of board.now) op start (view_of hand.new) result }
 {
@@ -98,7 +101,8 @@ fn evaluate_by(board: &Board, hand: &mut Hand, plan: &Plan, op: u32) -> Evaluati
     requires in_range { op < op_count plan.now }
     requires free { (view_of hand.old).claim ≡ None }
     ensures hand { IsHandOf board.now hand.new }
-    ensures does { EvaluationDoes plan.now (cap_of board.now) op (view_of hand.old) (view_of hand.new) result }
+    ensures does { EvaluationDoes plan.now (cap_of board.now) op (view_of hand.old)
+        (view_of hand.new) result }
 {
     let word = board.peek(hand, plan, op);
     match word.state {

@@ -25,7 +25,8 @@ pub struct Runners {
 /// So many empty lists, each with room for what `events` events leave.
 fn empty_lists(alloc: Global, count: usize, events: usize) -> Result<List<List<Left>>, OutOfMemory>
     ensures len { IfOk result (λ lists. length lists.items ≡ count) }
-    ensures empty { IfOk result (λ lists. All (λ list. (list.items ≡ []) × (events ≤ list.room)) lists.items) }
+    ensures empty { IfOk result
+        (λ lists. All (λ list. (list.items ≡ []) × (events ≤ list.room)) lists.items) }
     ensures room { IfOk result (λ lists. lists.room ≡ 0) }
 {
     let mut lists = List::with_room(alloc, count)?;
@@ -54,7 +55,8 @@ fn seat_all(board: &Board, root: Hand, runners: &mut List<Runner>, lists: &mut L
     requires few { length lists.old.items + (view_of root).made ≤ WORKERS + 1 }
     requires none { runners.old.items ≡ [] }
     requires room { length lists.old.items ≤ runners.old.room }
-    ensures new { (events : ℕ) → All (λ list. (list.items ≡ []) × (events ≤ list.room)) lists.old.items
+    ensures new { (events : ℕ)
+        → All (λ list. (list.items ≡ []) × (events ≤ list.room)) lists.old.items
         → AreNew board.now (view_of root) (length lists.old.items) events runners.new.items }
     ensures full { runners.old.room ≡ runners.new.room + length lists.old.items }
     ensures empty { lists.new.items ≡ [] }
@@ -83,8 +85,10 @@ fn join_all(board: &Board, root: &mut Hand, runners: &mut List<Runner>, left: &m
     requires free { All (λ r. (hand_view r).claim ≡ None) runners.old.items }
     requires room { length runners.old.items ≤ left.old.room }
     ensures root { IsHandOf board.now root.new }
-    ensures view { view_of root.new ≡ gathered (view_of root.old) (map hand_view (reverse runners.old.items)) }
-    ensures left { left.new.items ≡ left.old.items ++ map (λ r. r.kept) (reverse runners.old.items) }
+    ensures view { view_of root.new ≡ gathered (view_of root.old)
+        (map hand_view (reverse runners.old.items)) }
+    ensures left { left.new.items ≡ left.old.items
+        ++ map (λ r. r.kept) (reverse runners.old.items) }
 {
     'joins: for _ in 0..runners.len() {
         let Some(Runner { hand, kept, .. }) = runners.pop() else {
@@ -119,9 +123,12 @@ impl Runners {
         requires few { workers + (view_of root).made ≤ WORKERS + 1 }
         ensures places { IfOk result HasPlaces }
         ensures full { IfOk result (λ runners. spare runners ≡ 0) }
-        ensures new { IfOk result (λ runners. AreNew board.now (view_of root) workers events (runners_of runners)) }
-        ensures rest { IfOk result (λ runners. (view_of root).claim ≡ None → AreAtRest board.now (runners_of runners)) }
-        ensures fresh { IfOk result (λ runners. (view_of root).claim ≡ None → (view_of root).places ≡ []
+        ensures new { IfOk result
+            (λ runners. AreNew board.now (view_of root) workers events (runners_of runners)) }
+        ensures rest { IfOk result (λ runners. (view_of root).claim ≡ None
+            → AreAtRest board.now (runners_of runners)) }
+        ensures fresh { IfOk result (λ runners. (view_of root).claim ≡ None
+            → (view_of root).places ≡ []
             → event_count (plan_of board.now) ≤ events → AreExplored board.now 0 runners) }
     {
         let mut runners = List::with_room(alloc, workers as usize)?;
@@ -151,7 +158,8 @@ impl Runners {
     /// Takes out the runner of the greatest number, `None` exactly where there is none.
     pub fn pop(&mut self) -> Option<Runner>
         ensures empty { IsNone result ↔ (runners_of self.old ≡ []) }
-        ensures last { IfSome result (λ runner. runners_of self.old ≡ runners_of self.new ++ runner ∷ []) }
+        ensures last { IfSome result
+            (λ runner. runners_of self.old ≡ runners_of self.new ++ runner ∷ []) }
         ensures none { IsNone result → runners_of self.new ≡ runners_of self.old }
         ensures spare { IfSome result (λ _. spare self.new ≡ spare self.old + 1) }
         ensures places { HasPlaces self.old → HasPlaces self.new }
@@ -176,7 +184,8 @@ impl Runners {
         requires rest { AreAtRest board.now (runners_of self) }
         ensures hand { IsHandOf board.now result.0 }
         ensures view { (d : R) → view_of result.0
-            ≡ gathered (hand_view (slice_index_or (runners_of self) 0 d)) (map hand_view (drop 1 (runners_of self))) }
+            ≡ gathered (hand_view (slice_index_or (runners_of self) 0 d))
+            (map hand_view (drop 1 (runners_of self))) }
         ensures left { result.1.items ≡ map (λ r. r.kept) (runners_of self) }
     {
         let Runners {

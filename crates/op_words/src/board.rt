@@ -43,7 +43,8 @@ pub struct Board {
     /// The place of the level word; the counters stand behind it.
     level: usize,
     ghost slotless: { table.shared.table_id.slots ≡ 0 },
-    ghost sized: { table.shared.table_id.words ≡ counter_base table.shared.key.plan.value + table.shared.key.counters },
+    ghost sized: { table.shared.table_id.words ≡ counter_base table.shared.key.plan.value +
+        table.shared.key.counters },
     ghost capped: { cap ≡ table.shared.key.cap },
     ghost leveled: { level ≡ level_index table.shared.key.plan.value },
 }

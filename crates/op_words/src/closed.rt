@@ -38,10 +38,12 @@ impl Closed {
 
     /// The word of an operation.
     pub fn word(&self, op: u32) -> OpWord
-        requires op { (p : Plan) × (cap : ℕ) × (counters : ℕ) × (v : View) × IsClosed p cap counters v self.now
+        requires op { (p : Plan) × (cap : ℕ) × (counters : ℕ) × (v : View)
+            × IsClosed p cap counters v self.now
             × (op < op_count p) }
         ensures in_range { IsWord result }
-        ensures word { (p : Plan) (cap counters : ℕ) (v : View) (is : IsClosed p cap counters v self.now)
+        ensures word { (p : Plan) (cap counters : ℕ) (v : View)
+            (is : IsClosed p cap counters v self.now)
             → op < op_count p → result ≡ is.ends.core.word op }
     {
         OpWord::of_packed(self.table.word(op as usize))
@@ -49,7 +51,8 @@ impl Closed {
 
     /// Whether an event was committed, `None` exactly where nothing was decided.
     pub fn decision(&self, event: u32) -> Option<bool>
-        requires event { (p : Plan) × (cap : ℕ) × (counters : ℕ) × (v : View) × IsClosed p cap counters v self.now
+        requires event { (p : Plan) × (cap : ℕ) × (counters : ℕ) × (v : View)
+            × IsClosed p cap counters v self.now
             × (event < event_count p) }
         ensures { (p : Plan) (cap counters : ℕ) (v : View) (is : IsClosed p cap counters v self.now)
             → event < event_count p → result ≡ is.ends.core.decision event }

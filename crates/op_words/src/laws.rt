@@ -11,23 +11,38 @@ ghost use Rattle.op_words.specs.Kinds.{Moment, Loads, Makes, Claims, Records, Fi
 /// An exchange is a step of the machine where it finds the word that it expects; else it is a load. A load changes
 /// nothing but what its hand has noted; neither does a hand that is made or joined.
 pub fn each_step()
-    ensures loads { (p : Plan) (cap counters : ℕ) (m : Moment p cap counters) → Loads p cap counters m }
-    ensures ready { (p : Plan) (cap counters : ℕ) (m : Moment p cap counters) → Makes p cap counters m }
-    ensures claims { (p : Plan) (cap counters : ℕ) (m : Moment p cap counters) → Claims p cap counters m }
-    ensures records { (p : Plan) (cap counters : ℕ) (m : Moment p cap counters) → Records p cap counters m }
-    ensures finishes { (p : Plan) (cap counters : ℕ) (m : Moment p cap counters) → Finishes p cap counters m }
-    ensures gives_back { (p : Plan) (cap counters : ℕ) (m : Moment p cap counters) → GivesBack p cap counters m }
-    ensures spreads { (p : Plan) (cap counters : ℕ) (m : Moment p cap counters) → Spreads p cap counters m }
-    ensures rolls_back { (p : Plan) (cap counters : ℕ) (m : Moment p cap counters) → RollsBack p cap counters m }
-    ensures decides { (p : Plan) (cap counters : ℕ) (m : Moment p cap counters) → Decides p cap counters m }
-    ensures settles { (p : Plan) (cap counters : ℕ) (m : Moment p cap counters) → Settles p cap counters m }
-    ensures loads_record { (p : Plan) (cap counters : ℕ) (m : Moment p cap counters) → LoadsRecord p cap counters m }
+    ensures loads { (p : Plan) (cap counters : ℕ) (m : Moment p cap counters)
+        → Loads p cap counters m }
+    ensures ready { (p : Plan) (cap counters : ℕ) (m : Moment p cap counters)
+        → Makes p cap counters m }
+    ensures claims { (p : Plan) (cap counters : ℕ) (m : Moment p cap counters)
+        → Claims p cap counters m }
+    ensures records { (p : Plan) (cap counters : ℕ) (m : Moment p cap counters)
+        → Records p cap counters m }
+    ensures finishes { (p : Plan) (cap counters : ℕ) (m : Moment p cap counters)
+        → Finishes p cap counters m }
+    ensures gives_back { (p : Plan) (cap counters : ℕ) (m : Moment p cap counters)
+        → GivesBack p cap counters m }
+    ensures spreads { (p : Plan) (cap counters : ℕ) (m : Moment p cap counters)
+        → Spreads p cap counters m }
+    ensures rolls_back { (p : Plan) (cap counters : ℕ) (m : Moment p cap counters)
+        → RollsBack p cap counters m }
+    ensures decides { (p : Plan) (cap counters : ℕ) (m : Moment p cap counters)
+        → Decides p cap counters m }
+    ensures settles { (p : Plan) (cap counters : ℕ) (m : Moment p cap counters)
+        → Settles p cap counters m }
+    ensures loads_record { (p : Plan) (cap counters : ℕ) (m : Moment p cap counters)
+        → LoadsRecord p cap counters m }
     ensures loads_decision { (p : Plan) (cap counters : ℕ) (m : Moment p cap counters)
         → LoadsDecision p cap counters m }
-    ensures takes { (p : Plan) (cap counters : ℕ) (m : Moment p cap counters) → Takes p cap counters m }
-    ensures lowers { (p : Plan) (cap counters : ℕ) (m : Moment p cap counters) → Lowers p cap counters m }
-    ensures makes_hand { (p : Plan) (cap counters : ℕ) (m : Moment p cap counters) → MakesHand p cap counters m }
-    ensures joins { (p : Plan) (cap counters : ℕ) (m : Moment p cap counters) → Joins p cap counters m }
+    ensures takes { (p : Plan) (cap counters : ℕ) (m : Moment p cap counters)
+        → Takes p cap counters m }
+    ensures lowers { (p : Plan) (cap counters : ℕ) (m : Moment p cap counters)
+        → Lowers p cap counters m }
+    ensures makes_hand { (p : Plan) (cap counters : ℕ) (m : Moment p cap counters)
+        → MakesHand p cap counters m }
+    ensures joins { (p : Plan) (cap counters : ℕ) (m : Moment p cap counters)
+        → Joins p cap counters m }
 {}
 
 /// An operation is held by at most one hand at a time.

@@ -57,7 +57,8 @@ pub(crate) fn has_run(word: OpWord) -> bool
 
 /// Whether the value of a word may be read: there is one, and at the last attempt it is settled.
 pub(crate) fn is_usable(word: OpWord, at_last: bool) -> bool
-    ensures usable { IsTrue result → (is_idle word.state ≡ false) × (at_last ≡ true → is_settled word.state ≡ true) }
+    ensures usable { IsTrue result → (is_idle word.state ≡ false)
+        × (at_last ≡ true → is_settled word.state ≡ true) }
     ensures unusable { result ≡ false → (is_settled word.state ≡ false)
         × ((is_idle word.state ≡ true) ⊎ (at_last ≡ true)) }
 {
@@ -152,7 +153,8 @@ pub(crate) fn settled_aborted(attempt: u8, value: u64, by: u8) -> OpWord
 /// The value of a record that is packed so; 0 where there is none.
 pub(crate) fn value_of_record(n: u64) -> u64
     requires record { (r : Option Record) × (record_value r ≤ MAX) × (n ≡ packed_record r) }
-    ensures { (r : Option Record) → record_value r ≤ MAX → n ≡ packed_record r → result ≡ record_value r }
+    ensures { (r : Option Record) → record_value r ≤ MAX → n ≡ packed_record r
+        → result ≡ record_value r }
 {
     n % RECORD_VALUES
 }

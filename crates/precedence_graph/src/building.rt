@@ -26,7 +26,8 @@ pub fn build(alloc: Global, txns: &Txns) -> Result<Plan, OutOfMemory>
 
     // Its operations and its events are those of the transactions.
     ensures ops { IfOk result (λ plan. map (λ q. q.op) plan.ops.items ≡ txns.now.ops.items) }
-    ensures events_of { IfOk result (λ plan. map (λ q. q.event) plan.ops.items ≡ txns.now.event_of.items) }
+    ensures events_of { IfOk result
+        (λ plan. map (λ q. q.event) plan.ops.items ≡ txns.now.event_of.items) }
     ensures events { IfOk result (λ plan. map txn_event plan.events.items ≡ txns.now.events.items) }
     ensures transactions { IfOk result (λ plan. transactions plan ≡ txn_transactions txns.now) }
 

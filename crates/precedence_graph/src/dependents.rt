@@ -18,7 +18,8 @@ pub fn dependents(
     requires ready { All (IsReady (length ops.now)) ops.now }
     requires few { length ops.now < 2 ^ 32 }
     ensures { IfOk result (λ lists. map (λ list. list.items) lists.items
-        ≡ map (λ o. filter (λ t. list_any (is_written_by o) (sources_of (planned ops.now t))) (below (length ops.now)))
+        ≡ map (λ o. filter (λ t. list_any (is_written_by o) (sources_of (planned ops.now t)))
+        (below (length ops.now)))
         (below (length ops.now))) }
 {
     let links = read_links(alloc, ops, reads)?;
@@ -30,7 +31,8 @@ fn read_links(alloc: Global, ops: &[PlanOp], reads: usize) -> Result<List<Link>,
     requires ready { All (IsReady (length ops.now)) ops.now }
     requires few { length ops.now < 2 ^ 32 }
     ensures items { IfOk result (λ links. (o : ℕ) → items_of links.items o
-        ≡ filter (λ t. list_any (is_written_by o) (sources_of (planned ops.now t))) (below (length ops.now))) }
+        ≡ filter (λ t. list_any (is_written_by o) (sources_of (planned ops.now t)))
+        (below (length ops.now))) }
     ensures groups { IfOk result (λ links. All (λ link. link.group < length ops.now) links.items) }
 {
     let mut links = List::with_room(alloc, reads)?;
@@ -46,9 +48,11 @@ fn read_links(alloc: Global, ops: &[PlanOp], reads: usize) -> Result<List<Link>,
 /// Links an item to each operation among its sources, once.
 fn link_sources(links: &mut List<Link>, sources: &[Origin], item: u32) -> Result<(), OutOfMemory>
     ensures items { OnOk result ((o : ℕ) → items_of links.new.items o
-        ≡ items_of links.old.items o ++ (if list_any (is_written_by o) sources.now then item ∷ [] else [])) }
+        ≡ items_of links.old.items o
+        ++ (if list_any (is_written_by o) sources.now then item ∷ [] else [])) }
     ensures groups { OnOk result ((n : ℕ) → All (IsAmong n) sources.now
-        → All (λ link. link.group < n) links.old.items → All (λ link. link.group < n) links.new.items) }
+        → All (λ link. link.group < n) links.old.items
+        → All (λ link. link.group < n) links.new.items) }
 {
     for (j, origin) in sources.iter().enumerate() {
         if let Origin::Op(s) = origin {

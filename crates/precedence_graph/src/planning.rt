@@ -23,7 +23,8 @@ pub struct Planned {
 /// reads of operations there are.
 pub fn plan_transactions(alloc: Global, txns: &Txns) -> Result<Planned, OutOfMemory>
     requires { IsTxns txns.now }
-    ensures ops { IfOk result (λ planned. ArePlanned txns.now (txn_op_count txns.now) planned.ops.items) }
+    ensures ops { IfOk result
+        (λ planned. ArePlanned txns.now (txn_op_count txns.now) planned.ops.items) }
     ensures events { IfOk result (λ planned.
         AreEventsPlanned txns.now planned.ops.items (txn_count txns.now) planned.events.items) }
     ensures written { IfOk result (λ planned. IsWrittenOf planned.ops.items planned.written) }
@@ -73,7 +74,8 @@ fn plan_event_ops(
     requires planned { ArePlanned txns.now (txn_at txns.now i).first ops.old.items }
     requires written { IsWrittenOf ops.old.items written.old }
     ensures room { length ops.new.items + ops.new.room ≡ txn_op_count txns.now }
-    ensures planned { ArePlanned txns.now ((txn_at txns.now i).first + (txn_at txns.now i).count) ops.new.items }
+    ensures planned { ArePlanned txns.now
+        ((txn_at txns.now i).first + (txn_at txns.now i).count) ops.new.items }
     ensures kept { take (txn_at txns.now i).first ops.new.items ≡ ops.old.items }
     ensures level { result ≡ greatest (map (level_of (event_level_in ops.new.items events.now))
         (event_sources_of (members_of txns.now ops.new.items i))) }
@@ -104,7 +106,8 @@ fn enter_event(txns: &Txns, i: usize, writers: &mut Writers)
     requires txns { IsTxns txns.now }
     requires event { i < txn_count txns.now }
     requires writers { HasWriters txns.now (txn_at txns.now i).first writers.old }
-    ensures { HasWriters txns.now ((txn_at txns.now i).first + (txn_at txns.now i).count) writers.new }
+    ensures { HasWriters txns.now
+        ((txn_at txns.now i).first + (txn_at txns.now i).count) writers.new }
 {
     let event = event_at(txns, i);
     for o in event.first..event.first + event.count {

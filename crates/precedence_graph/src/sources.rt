@@ -29,13 +29,17 @@ pub struct Reads {
 /// The sources of an operation, where `ops` has the operations before it and `events` the events before its own.
 pub fn sources(op: &Op, writers: &Writers, ops: &[PlanOp], events: &[PlanEvent]) -> Reads
     requires shaped { IsShaped op.now }
-    requires earlier { (key : Key) → IsOfEarlier ops.now (length events.now) (source_in writers.now key) }
+    requires earlier { (key : Key)
+        → IsOfEarlier ops.now (length events.now) (source_in writers.now key) }
     ensures origins { result.origins ≡ padded (map (source_in writers.now) (reads op.now)) }
     ensures level { result.level
-        ≡ greatest (map (level_of (op_level_in ops.now)) (map (source_in writers.now) (reads op.now))) }
-    ensures event_level { result.event_level ≡ greatest (map (level_of (event_level_in ops.now events.now))
+        ≡ greatest (map (level_of (op_level_in ops.now))
         (map (source_in writers.now) (reads op.now))) }
-    ensures target { result.target ≡ (if is_written (source_in writers.now op.now.key) then 1 else 0) }
+    ensures event_level { result.event_level
+        ≡ greatest (map (level_of (event_level_in ops.now events.now))
+        (map (source_in writers.now) (reads op.now))) }
+    ensures target { result.target
+        ≡ (if is_written (source_in writers.now op.now.key) then 1 else 0) }
     ensures parameters { result.parameters
         ≡ count_by is_written (map (source_in writers.now) (drop 1 (reads op.now))) }
     ensures few { result.parameters ≤ PARAMS }

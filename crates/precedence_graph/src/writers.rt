@@ -39,7 +39,8 @@ impl Writers {
         requires { n < 2 ^ 32 }
         ensures count { IfOk result (λ writers. entered_count writers ≡ 0) }
         ensures room { IfOk result (λ writers. room_of writers ≡ n) }
-        ensures none { IfOk result (λ writers. (key : Key) → source_in writers key ≡ Origin.Base 0) }
+        ensures none { IfOk result
+            (λ writers. (key : Key) → source_in writers key ≡ Origin.Base 0) }
     {
         Ok(Writers {
             ends: List::filled(alloc, (2 * n + 1).next_power_of_two(), 0)?,
@@ -69,7 +70,8 @@ impl Writers {
         ensures count { entered_count self.new ≡ entered_count self.old + 1 }
         ensures room { room_of self.old ≡ room_of self.new + 1 }
         ensures source { (k : Key) → source_in self.new k
-            ≡ (if same_key key k then Origin.Op (entered_count self.old) else source_in self.old k) }
+            ≡ (if same_key key k then Origin.Op (entered_count self.old) else
+            source_in self.old k) }
     {
         let place = place_of(key, self.ends.len());
         let before = *self.ends.get(place);

@@ -59,7 +59,8 @@ impl Balances {
         ensures layout { IfOk result (λ b. b.layout ≡ layout) }
         ensures number { IfOk result (λ b. b.number ≡ 0) }
         ensures last { IfOk result (λ b. b.last ≡ None) }
-        ensures values { IfOk result (λ b. b.values.items ≡ replicate (layout.tables * layout.size) 0) }
+        ensures values { IfOk result
+            (λ b. b.values.items ≡ replicate (layout.tables * layout.size) 0) }
     {
         let len = usize::from(layout.tables) * layout.size as usize;
         Ok(Balances {

@@ -66,7 +66,8 @@ impl<R: Look> Model for Viewer<R> {
     } };
 
     ghost invariant = { λ v. (v.layout.size ≤ most_ids)
-        × IfSome v.reader (λ reader. v.least ≤ max (length (R.seen reader)) (length (R.told reader))) };
+        × IfSome v.reader (λ reader. v.least ≤ max (length (R.seen reader))
+        (length (R.told reader))) };
 }
 
 impl Viewer<BalanceReader> {

@@ -43,7 +43,8 @@ fn clear_rest(ground: &Ground<'_>, member: &mut Member)
     requires fifo { worker_flavor member.old.owner ≡ 0 }
     requires all { (own member.old).parts ≡ whole }
     ensures idle { IsIdle ground.now.board.now member.new.runner }
-    ensures cleared { IsCleared ground.now.plan.now (cap_of ground.now.board.now) member.old member.new }
+    ensures cleared { IsCleared ground.now.plan.now (cap_of ground.now.board.now)
+        member.old member.new }
 {
     while let Some(op) = member.owner.pop_as::<Pops>() {
         walk_known(ground, &mut member.runner, op);
@@ -55,7 +56,8 @@ fn empty(ground: &Ground<'_>, member: &mut Member)
     requires ground { IsGround ground.now }
     requires has_all { HasAll ground.now.board.now member.old }
     ensures idle { IsIdle ground.now.board.now member.new.runner }
-    ensures emptied { IsEmptied ground.now.plan.now (cap_of ground.now.board.now) member.old member.new }
+    ensures emptied { IsEmptied ground.now.plan.now (cap_of ground.now.board.now)
+        member.old member.new }
 {
     match member.end {
         RunEnd::Drained => clear_rest(ground, member),
@@ -69,7 +71,8 @@ pub(crate) fn empty_all(ground: &Ground<'_>, members: &mut [Member])
     requires ground { IsGround ground.now }
     requires have_all { All (HasAll ground.now.board.now) members.old }
     ensures idle { All (λ m. IsIdle ground.now.board.now m.runner) members.new }
-    ensures emptied { AreEmptied ground.now.plan.now (cap_of ground.now.board.now) members.old members.new }
+    ensures emptied { AreEmptied ground.now.plan.now (cap_of ground.now.board.now)
+        members.old members.new }
 {
     for k in 0..members.len() {
         empty(ground, &mut members[k]);

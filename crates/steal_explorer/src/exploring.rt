@@ -79,7 +79,8 @@ impl Handed {
     fn of(members: &List<Member>) -> Handed
         requires { All (λ m. m.handed ≡ up_to (length (pushed_by m))) members.now.items }
         ensures workers { workers_of result ≡ members.now.items }
-        ensures handed { result.handed ≡ up_to (sum_by (λ m. length (pushed_by m)) members.now.items) }
+        ensures handed { result.handed
+            ≡ up_to (sum_by (λ m. length (pushed_by m)) members.now.items) }
         ensures stolen { result.stolen ≡ up_to (sum_by (λ m. m.stolen) members.now.items) }
     {
         Handed {

@@ -110,7 +110,8 @@ fn steal(thieves: &[Thief], tickets: &mut List<Ticket>, number: usize) -> Found
     requires above { AreSeated thieves.now (number + 1) (length thieves.now) tickets.old.items }
     ensures under { AreSeated thieves.now 0 number tickets.new.items }
     ensures above { AreSeated thieves.now (number + 1) (length thieves.now) tickets.new.items }
-    ensures does { StealsRound number (length thieves.now) result tickets.old.items tickets.new.items }
+    ensures does { StealsRound number (length thieves.now) result tickets.old.items
+        tickets.new.items }
 {
     let above = steal_range(thieves, tickets, number + 1, thieves.len());
     if above.is_item() {

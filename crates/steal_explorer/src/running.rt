@@ -34,10 +34,12 @@ impl<G: Gate> Job<Member> for Working<'_, G> {
     ghost use Rattle.steal_explorer.specs.Members.{IsGround, IsWorker};
     ghost use Rattle.steal_explorer.specs.Turns.{HasRun};
 
-    ghost can_run = { λ job member. IsGround job.ground × IsWorker job.ground job.thieves.now member };
+    ghost can_run = { λ job member. IsGround job.ground
+        × IsWorker job.ground job.thieves.now member };
 
     ghost changes = { λ job before after. IsWorker job.ground job.thieves.now after
-        × HasRun job.ground.plan.now (cap_of job.ground.board.now) job.ground.abort job.thieves.now before after
+        × HasRun job.ground.plan.now (cap_of job.ground.board.now) job.ground.abort
+        job.thieves.now before after
         × (job.ground.abort ≡ Lazy → 1 ≤ cap_of job.ground.board.now → length job.thieves.now ≡ 1
         → BeginsAlone job.ground.plan.now before → EndsAlone job.ground.plan.now after.end after) };
 
@@ -67,7 +69,8 @@ fn work_all<R: Threads + Sync, G: Gate>(
     ensures alone { (k : ℕ) (d : M) → k < length members.old → ground.now.abort ≡ Lazy
         → 1 ≤ cap_of ground.now.board.now → length thieves.now ≡ 1
         → BeginsAlone ground.now.plan.now (slice_index_or members.old k d)
-        → EndsAlone ground.now.plan.now (slice_index_or members.new k d).end (slice_index_or members.new k d) }
+        → EndsAlone ground.now.plan.now (slice_index_or members.new k d).end
+        (slice_index_or members.new k d) }
 {
     let working = Working {
         ground: *ground,
@@ -92,9 +95,11 @@ pub(crate) fn hand_out<R: Threads + Sync, G: Gate>(
     requires begins { (k : ℕ) (d : M) → k < length members.old
         → IsBeginning ground.now thieves.now k (slice_index_or members.old k d) }
     ensures idle { All (λ m. IsIdle ground.now.board.now m.runner) members.new }
-    ensures handed_out { HasHandedOut ground.now.plan.now (cap_of ground.now.board.now) ground.now.abort thieves.now
+    ensures handed_out { HasHandedOut ground.now.plan.now (cap_of ground.now.board.now)
+        ground.now.abort thieves.now
         members.old members.new }
-    ensures alone { (d : M) → ground.now.abort ≡ Lazy → 1 ≤ cap_of ground.now.board.now → length thieves.now ≡ 1
+    ensures alone { (d : M) → ground.now.abort ≡ Lazy → 1 ≤ cap_of ground.now.board.now
+        → length thieves.now ≡ 1
         → BeginsAlone ground.now.plan.now (slice_index_or members.old 0 d)
         → LeavesAlone ground.now.plan.now (slice_index_or members.new 0 d) }
 {

@@ -27,10 +27,12 @@ pub(crate) fn push<T: Turns>(ground: &Ground<'_>, told: &T, turn: u64, member: &
     requires deque { HasDeque ground.now.plan.now member.old }
     ensures idle { IsIdle ground.now.board.now member.new.runner }
     ensures deque { HasDeque ground.now.plan.now member.new }
-    ensures goes { Goes ground.now.plan.now (cap_of ground.now.board.now) ground.now.abort member.old member.new }
+    ensures goes { Goes ground.now.plan.now (cap_of ground.now.board.now) ground.now.abort
+        member.old member.new }
     ensures kept { PutsOrWalks ground.now.plan.now (cap_of ground.now.board.now) ground.now.abort op
         member.old member.new }
-    ensures room { worker_index member.old.owner < worker_capacity member.old.owner → Pushes op member.old member.new }
+    ensures room { worker_index member.old.owner < worker_capacity member.old.owner
+        → Pushes op member.old member.new }
 {
     match member.owner.push_as::<Puts>(op) {
         Ok(()) => member.handed = member.handed.saturating_add(1),
@@ -46,7 +48,8 @@ fn ask_one<T: Turns>(ground: &Ground<'_>, told: &T, turn: u64, member: &mut Memb
     requires deque { HasDeque ground.now.plan.now member.old }
     ensures idle { IsIdle ground.now.board.now member.new.runner }
     ensures deque { HasDeque ground.now.plan.now member.new }
-    ensures goes { Goes ground.now.plan.now (cap_of ground.now.board.now) ground.now.abort member.old member.new }
+    ensures goes { Goes ground.now.plan.now (cap_of ground.now.board.now) ground.now.abort
+        member.old member.new }
     ensures alone { (rest : List ℕ) (s : ℕ) → IsSourceOf ground.now.plan.now op s
         → IsHandingAlone ground.now.plan.now (op ∷ rest) member.old
         → IsHandingAlone ground.now.plan.now rest member.new }
@@ -65,7 +68,8 @@ fn ask_all<T: Turns>(ground: &Ground<'_>, told: &T, turn: u64, member: &mut Memb
     requires deque { HasDeque ground.now.plan.now member.old }
     ensures idle { IsIdle ground.now.board.now member.new.runner }
     ensures deque { HasDeque ground.now.plan.now member.new }
-    ensures goes { Goes ground.now.plan.now (cap_of ground.now.board.now) ground.now.abort member.old member.new }
+    ensures goes { Goes ground.now.plan.now (cap_of ground.now.board.now) ground.now.abort
+        member.old member.new }
     ensures alone { IsHandingAlone ground.now.plan.now (readers ground.now.plan.now op) member.old
         → IsHandingAlone ground.now.plan.now [] member.new }
 {
@@ -147,7 +151,8 @@ pub(crate) fn serve_known<T: Turns>(
     requires deque { HasDeque ground.now.plan.now member.old }
     ensures idle { IsIdle ground.now.board.now member.new.runner }
     ensures deque { HasDeque ground.now.plan.now member.new }
-    ensures after { After ground.now.plan.now (cap_of ground.now.board.now) ground.now.abort (Item op)
+    ensures after { After ground.now.plan.now (cap_of ground.now.board.now)
+        ground.now.abort (Item op)
         member.old member.new }
     ensures alone { ground.now.abort ≡ Lazy → 1 ≤ cap_of ground.now.board.now
         → IsHandingAlone ground.now.plan.now [] member.old

@@ -32,7 +32,8 @@ fn push_rolled<T: Turns>(
     requires deque { HasDeque ground.now.plan.now member.old }
     ensures idle { IsIdle ground.now.board.now member.new.runner }
     ensures deque { HasDeque ground.now.plan.now member.new }
-    ensures goes { Goes ground.now.plan.now (cap_of ground.now.board.now) ground.now.abort member.old member.new }
+    ensures goes { Goes ground.now.plan.now (cap_of ground.now.board.now) ground.now.abort
+        member.old member.new }
     ensures pushed { touched.touch ≡ RolledBack
         → PutsOrWalks ground.now.plan.now (cap_of ground.now.board.now) ground.now.abort touched.op
         member.old member.new }
@@ -62,8 +63,10 @@ fn touch_next<T: Turns>(
     ensures deque { HasDeque ground.now.plan.now member.new }
     ensures cascade { IsCascade ground.now.plan.now cascade.new }
     ensures cause { HasCause cascade.new (hand_view member.new.runner) }
-    ensures goes { Goes ground.now.plan.now (cap_of ground.now.board.now) ground.now.abort member.old member.new }
-    ensures does { TouchesNext ground.now.plan.now (cap_of ground.now.board.now) ground.now.abort result
+    ensures goes { Goes ground.now.plan.now (cap_of ground.now.board.now) ground.now.abort
+        member.old member.new }
+    ensures does { TouchesNext ground.now.plan.now (cap_of ground.now.board.now)
+        ground.now.abort result
         cascade.old cascade.new member.old member.new }
 {
     match cascade.next(ground.board, &mut member.runner.hand, ground.plan) {
@@ -92,7 +95,8 @@ fn run_cascade<T: Turns>(
     requires cause { failed ≡ true → HasShownFailure (hand_view member.old.runner) op }
     ensures idle { IsIdle ground.now.board.now member.new.runner }
     ensures deque { HasDeque ground.now.plan.now member.new }
-    ensures goes { Goes ground.now.plan.now (cap_of ground.now.board.now) ground.now.abort member.old member.new }
+    ensures goes { Goes ground.now.plan.now (cap_of ground.now.board.now) ground.now.abort
+        member.old member.new }
     ensures touches { TouchesAll ground.now.plan.now (cap_of ground.now.board.now) ground.now.abort
         (targets ground.now.plan.now op failed) member.old member.new }
 {
@@ -118,8 +122,10 @@ pub(crate) fn sweep<T: Turns>(
         → HasShownFailure (hand_view member.old.runner) op }
     ensures idle { IsIdle ground.now.board.now member.new.runner }
     ensures deque { HasDeque ground.now.plan.now member.new }
-    ensures goes { Goes ground.now.plan.now (cap_of ground.now.board.now) ground.now.abort member.old member.new }
-    ensures touches { TouchesFor ground.now.plan.now (cap_of ground.now.board.now) ground.now.abort op
+    ensures goes { Goes ground.now.plan.now (cap_of ground.now.board.now) ground.now.abort
+        member.old member.new }
+    ensures touches { TouchesFor ground.now.plan.now (cap_of ground.now.board.now)
+        ground.now.abort op
         (cascade_for ground.now.abort answer) member.old member.new }
 {
     if let Some(failed) = cascade_behind(ground.abort, answer) {

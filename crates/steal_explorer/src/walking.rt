@@ -27,7 +27,8 @@ pub(crate) fn attempt<T: Turns>(
     requires in_range { op < op_count ground.now.plan.now }
     requires idle { IsIdle ground.now.board.now runner.old }
     ensures idle { IsIdle ground.now.board.now runner.new }
-    ensures does { Tries ground.now.plan.now (cap_of ground.now.board.now) op runner.old runner.new result }
+    ensures does { Tries ground.now.plan.now (cap_of ground.now.board.now) op runner.old
+        runner.new result }
 {
     let answer = evaluate(ground.board, runner, ground.plan, op);
     told.done(turn);
@@ -40,7 +41,8 @@ pub(crate) fn ask(ground: &Ground<'_>, runner: &mut Runner, op: u32) -> Readied
     requires in_range { op < op_count ground.now.plan.now }
     requires idle { IsIdle ground.now.board.now runner.old }
     ensures idle { IsIdle ground.now.board.now runner.new }
-    ensures does { Asks ground.now.plan.now (cap_of ground.now.board.now) op runner.old runner.new result }
+    ensures does { Asks ground.now.plan.now (cap_of ground.now.board.now) op runner.old
+        runner.new result }
 {
     ground.board.ready(&mut runner.hand, ground.plan, op)
 }
@@ -52,8 +54,10 @@ fn run_quietly(ground: &Ground<'_>, runner: &mut Runner, op: u32, failed: bool)
     requires idle { IsIdle ground.now.board.now runner.old }
     requires cause { failed ≡ true → HasShownFailure (hand_view runner.old) op }
     ensures idle { IsIdle ground.now.board.now runner.new }
-    ensures swept { IsSwept ground.now.plan.now (cap_of ground.now.board.now) op failed runner.old runner.new }
-    ensures calls { HasTouched ground.now.plan.now (cap_of ground.now.board.now) runner.old runner.new }
+    ensures swept { IsSwept ground.now.plan.now (cap_of ground.now.board.now) op failed
+        runner.old runner.new }
+    ensures calls { HasTouched ground.now.plan.now (cap_of ground.now.board.now)
+        runner.old runner.new }
 {
     let mut cascade = Cascade::start(ground.plan, op, failed);
     while let Some(_) = cascade.next(ground.board, &mut runner.hand, ground.plan) {}
@@ -64,9 +68,11 @@ fn sweep_quietly(ground: &Ground<'_>, runner: &mut Runner, op: u32, answer: Eval
     requires ground { IsGround ground.now }
     requires in_range { op < op_count ground.now.plan.now }
     requires idle { IsIdle ground.now.board.now runner.old }
-    requires cause { cascade_for ground.now.abort answer ≡ Some true → HasShownFailure (hand_view runner.old) op }
+    requires cause { cascade_for ground.now.abort answer ≡ Some true
+        → HasShownFailure (hand_view runner.old) op }
     ensures idle { IsIdle ground.now.board.now runner.new }
-    ensures does { Sweeps ground.now.plan.now (cap_of ground.now.board.now) ground.now.abort op answer
+    ensures does { Sweeps ground.now.plan.now (cap_of ground.now.board.now)
+        ground.now.abort op answer
         runner.old runner.new }
     ensures calls { GoesQuietly ground.now.plan.now (cap_of ground.now.board.now) ground.now.abort
         runner.old runner.new }
@@ -88,7 +94,8 @@ fn attempt_quietly<T: Turns>(
     requires in_range { op < op_count ground.now.plan.now }
     requires idle { IsIdle ground.now.board.now runner.old }
     ensures idle { IsIdle ground.now.board.now runner.new }
-    ensures does { TriesQuietly ground.now.plan.now (cap_of ground.now.board.now) ground.now.abort op
+    ensures does { TriesQuietly ground.now.plan.now (cap_of ground.now.board.now)
+        ground.now.abort op
         runner.old runner.new result }
 {
     let answer = attempt(ground, told, turn, runner, op);

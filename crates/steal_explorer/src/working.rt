@@ -40,9 +40,11 @@ fn take_turn<T: Turns>(
     ensures idle { IsIdle ground.now.board.now member.new.runner }
     ensures deque { HasDeque ground.now.plan.now member.new }
     ensures tickets { HasTickets thieves.now member.new }
-    ensures does { Turn ground.now.plan.now (cap_of ground.now.board.now) ground.now.abort thieves.now result
+    ensures does { Turn ground.now.plan.now (cap_of ground.now.board.now) ground.now.abort
+        thieves.now result
         member.old member.new }
-    ensures alone { ground.now.abort ≡ Lazy → 1 ≤ cap_of ground.now.board.now → length thieves.now ≡ 1
+    ensures alone { ground.now.abort ≡ Lazy → 1 ≤ cap_of ground.now.board.now
+        → length thieves.now ≡ 1
         → IsTurningAlone ground.now.plan.now member.old
         → TurnsAlone ground.now.plan.now result member.old member.new }
 {
@@ -85,7 +87,8 @@ pub(crate) fn work<T: Turns>(
     ensures tickets { HasTickets thieves.now member.new }
     ensures ran { Ran ground.now.plan.now (cap_of ground.now.board.now) ground.now.abort thieves.now
         member.old result member.new }
-    ensures alone { ground.now.abort ≡ Lazy → 1 ≤ cap_of ground.now.board.now → length thieves.now ≡ 1
+    ensures alone { ground.now.abort ≡ Lazy → 1 ≤ cap_of ground.now.board.now
+        → length thieves.now ≡ 1
         → BeginsAlone ground.now.plan.now member.old
         → EndsAlone ground.now.plan.now result member.new }
 {

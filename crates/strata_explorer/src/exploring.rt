@@ -32,7 +32,8 @@ pub fn counters(plan: &Plan) -> u32
 
 /// How many operations a runner rolled back, up to the greatest number.
 fn rolled_of(runner: &Runner) -> u64
-    ensures { (b : B) → IsHandOf b runner.now.hand → result ≡ up_to (rolled (hand_view runner.now).events) }
+    ensures { (b : B) → IsHandOf b runner.now.hand
+        → result ≡ up_to (rolled (hand_view runner.now).events) }
 {
     runner.hand.counts().rolled
 }
@@ -51,7 +52,8 @@ fn count_rolled(runners: &[Runner]) -> u64
 /// Whether operations were rolled back, under eager abort, since so many had been. Under lazy abort none are.
 fn has_risen(runners: &[Runner], abort: Abort, rolled: u64) -> bool
     ensures eager { result ≡ true → abort ≡ Eager }
-    ensures more { result ≡ true → (b : B) → All (IsSeated b) runners.now → rolled < up_to (rolled_by runners.now) }
+    ensures more { result ≡ true → (b : B) → All (IsSeated b) runners.now
+        → rolled < up_to (rolled_by runners.now) }
 {
     match abort {
         Abort::Lazy => false,
@@ -118,8 +120,10 @@ fn pass_once<R: Threads + Sync, G: Gate>(
     ensures plan { plan_of board.new ≡ plan_of board.old }
     ensures cap { cap_of board.new ≡ cap_of board.old }
     ensures counters { counters_of board.new ≡ counters_of board.old }
-    ensures passed { IsPassed plan.now (cap_of board.old) abort counter (ops_of plan.now level) runners.old runners.new }
-    ensures next { Follows plan.now (cap_of board.old) abort result (level ∷ []) runners.old runners.new }
+    ensures passed { IsPassed plan.now (cap_of board.old) abort counter (ops_of plan.now level)
+        runners.old runners.new }
+    ensures next { Follows plan.now (cap_of board.old) abort result (level ∷ [])
+        runners.old runners.new }
 {
     empty_level(board, runners, abort);
     let rolled = count_rolled(runners);
@@ -161,7 +165,8 @@ fn pass_all<R: Threads + Sync, G: Gate>(
     ensures cap { cap_of board.new ≡ cap_of board.old }
     ensures counters { counters_of board.new ≡ counters_of board.old }
     ensures hands { AreFurther runners.old runners.new }
-    ensures passed { HasPassed plan.now (cap_of board.old) abort runners.old runners.new result.0 result.1 }
+    ensures passed { HasPassed plan.now (cap_of board.old) abort runners.old runners.new
+        result.0 result.1 }
     ensures alone { abort ≡ Lazy → 1 ≤ cap_of board.old
         → IsAlone plan.now (length plan.now.op_levels.items) runners.old runners.new }
 {
@@ -217,7 +222,8 @@ pub fn explore<R: Threads + Sync, G: Gate>(
     ensures passed { HasPassed plan.now (cap_of board) abort (runners_of runners)
         (runners_of (parts_of result).1) (parts_of result).2 (parts_of result).3 }
     ensures alone { abort ≡ Lazy → 1 ≤ cap_of board
-        → IsAlone plan.now (length plan.now.op_levels.items) (runners_of runners) (runners_of (parts_of result).1) }
+        → IsAlone plan.now (length plan.now.op_levels.items) (runners_of runners)
+        (runners_of (parts_of result).1) }
     ensures ran { abort ≡ Lazy → 1 ≤ cap_of board → IsNewRoot (runners_of runners)
         → HasRunAll plan.now (runners_of (parts_of result).1) }
 {

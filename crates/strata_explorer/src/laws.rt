@@ -14,7 +14,9 @@ ghost use Rattle.strata_explorer.specs.Levels.{ops_of, op_of, level_of, AreStrat
 /// While hands live no single view shows this: each hand knows its own numbers alone.
 pub fn each_place_is_reached()
     ensures { (p : Plan) (levels : List ℕ) (rs : List Runner) → AreStrata p levels rs → (d : Runner)
-        → (c : ℕ) → c < length levels → IsWhole c rs → (n : ℕ) → n < length (ops_of p (level_of levels c))
-        → (k : ℕ) × (k < length rs) × Contains (hand_view (slice_index_or rs k d)).places (place c n)
+        → (c : ℕ) → c < length levels → IsWhole c rs → (n : ℕ)
+        → n < length (ops_of p (level_of levels c))
+        → (k : ℕ) × (k < length rs)
+        × Contains (hand_view (slice_index_or rs k d)).places (place c n)
         × IsReached p (op_of p (level_of levels c) n) (hand_view (slice_index_or rs k d)).trail }
 {}

@@ -38,10 +38,12 @@ impl<G: Gate> Job<Runner> for Pass<'_, G> {
 
     ghost can_run = { λ pass runner. (pass.plan.now ≡ plan_of pass.board.now)
         × Fits pass.plan.now pass.units.now.units pass.units.now.ops pass.ops.now
-        × (pass.counter < counters_of pass.board.now) × IsSeated pass.board.now runner × Unused pass.counter runner };
+        × (pass.counter < counters_of pass.board.now) × IsSeated pass.board.now runner
+        × Unused pass.counter runner };
 
     ghost changes = { λ pass before after. IsSeated pass.board.now after
-        × Worked pass.plan.now (cap_of pass.board.now) pass.abort pass.counter pass.ops.now before after
+        × Worked pass.plan.now (cap_of pass.board.now) pass.abort pass.counter
+        pass.ops.now before after
         × IsEnough pass.counter pass.ops.now after };
 
     fn run(&self, worker: &mut Runner) {
@@ -70,14 +72,17 @@ pub(crate) fn pass_by<R: Threads + Sync, G: Gate>(
 )
     requires some { 0 < length runners.old }
     requires plan { pass.now.plan.now ≡ plan_of pass.now.board.now }
-    requires fits { Fits pass.now.plan.now pass.now.units.now.units pass.now.units.now.ops pass.now.ops.now }
+    requires fits { Fits pass.now.plan.now pass.now.units.now.units pass.now.units.now.ops
+        pass.now.ops.now }
     requires in_range { pass.now.counter < counters_of pass.now.board.now }
     requires seated { All (IsSeated pass.now.board.now) runners.old }
     requires unused { All (Unused pass.now.counter) runners.old }
     ensures seated { All (IsSeated pass.now.board.now) runners.new }
-    ensures does { IsPassed pass.now.plan.now (cap_of pass.now.board.now) pass.now.abort pass.now.counter
+    ensures does { IsPassed pass.now.plan.now (cap_of pass.now.board.now)
+        pass.now.abort pass.now.counter
         pass.now.ops.now runners.old runners.new }
-    ensures first { (d : Worker) → IsEnough pass.now.counter pass.now.ops.now (slice_index_or runners.new 0 d) }
+    ensures first { (d : Worker)
+        → IsEnough pass.now.counter pass.now.ops.now (slice_index_or runners.new 0 d) }
 {
     if pass.ops.len() < FEW {
         pass.run(&mut runners[0]);

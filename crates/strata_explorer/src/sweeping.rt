@@ -61,7 +61,8 @@ pub(crate) fn sweep(
     requires valid { IsValidPlan plan.now }
     requires in_range { op < op_count plan.now }
     requires seated { IsSeated board.now runner.old }
-    requires cause { cascade_for abort answer ≡ Some true → HasShownFailure (hand_view runner.old) op }
+    requires cause { cascade_for abort answer ≡ Some true
+        → HasShownFailure (hand_view runner.old) op }
     ensures seated { IsSeated board.now runner.new }
     ensures does { Sweeps plan.now (cap_of board.now) abort op answer runner.old runner.new }
 {

@@ -87,7 +87,8 @@ impl EventApp for Toll {
 
     ghost causes = { λ _ size words cause. toll_causes size words cause };
 
-    ghost generates = { λ _ size i state some few start last. toll_generates size i state some few start last };
+    ghost generates = { λ _ size i state some few start last. toll_generates size i state some
+        few start last };
 
     fn tables(&self) -> u8 {
         4

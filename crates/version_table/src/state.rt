@@ -104,7 +104,8 @@ impl State {
         requires keys { PlanKeysIn plan.now self.old.layout }
         requires bases { HasBases plan.now (contents self.old) }
         requires settled { IsSettledOf plan.now settled.now }
-        ensures state { contents self.new ≡ state_at plan.now (contents self.old) (event_count plan.now) }
+        ensures state { contents self.new ≡ state_at plan.now (contents self.old)
+            (event_count plan.now) }
         ensures layout { self.new.layout ≡ self.old.layout }
     {
         for o in 0..settled.values.len() {

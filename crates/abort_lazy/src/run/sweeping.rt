@@ -60,9 +60,11 @@ fn try_event(board: &Board, runner: &mut Runner, plan: &Plan, event: u32)
 
 /// Takes numbers from the counter, and tries the event of each, until none is left.
 fn go_over(sweep: &Sweep<'_>, runner: &mut Runner)
-    requires fits { FitsBoard sweep.now.board.now sweep.now.plan.now sweep.now.counter sweep.now.events.now }
+    requires fits { FitsBoard sweep.now.board.now sweep.now.plan.now sweep.now.counter
+        sweep.now.events.now }
     requires can { CanSweep sweep.now.board.now sweep.now.counter sweep.now.events.now runner.old }
-    ensures does { HasSwept sweep.now.board.now sweep.now.plan.now sweep.now.counter sweep.now.events.now
+    ensures does { HasSwept sweep.now.board.now sweep.now.plan.now sweep.now.counter
+        sweep.now.events.now
         runner.old runner.new }
 {
     for _turn in 0..sweep.events.len() {
@@ -85,7 +87,8 @@ impl Job<Runner> for Sweep<'_> {
     ghost can_run = { λ job runner. FitsBoard job.board.now job.plan.now job.counter job.events.now
         × CanSweep job.board.now job.counter job.events.now runner };
 
-    ghost changes = { λ job before after. HasSwept job.board.now job.plan.now job.counter job.events.now before after };
+    ghost changes = { λ job before after. HasSwept job.board.now job.plan.now job.counter
+        job.events.now before after };
 
     fn run(&self, worker: &mut Runner) {
         go_over(self, worker)
@@ -95,9 +98,12 @@ impl Job<Runner> for Sweep<'_> {
 /// Has the level's events tried by all runners, or by the first alone where there are fewer than 8.
 pub fn sweep_by<T: Threads + Sync>(rt: &T, runners: &mut [Runner], sweep: &Sweep<'_>)
     requires some { 0 < length runners.old }
-    requires fits { FitsBoard sweep.now.board.now sweep.now.plan.now sweep.now.counter sweep.now.events.now }
-    requires can { All (CanSweep sweep.now.board.now sweep.now.counter sweep.now.events.now) runners.old }
-    ensures does { AreSwept sweep.now.board.now sweep.now.plan.now sweep.now.counter sweep.now.events.now
+    requires fits { FitsBoard sweep.now.board.now sweep.now.plan.now sweep.now.counter
+        sweep.now.events.now }
+    requires can { All (CanSweep sweep.now.board.now sweep.now.counter
+        sweep.now.events.now) runners.old }
+    ensures does { AreSwept sweep.now.board.now sweep.now.plan.now sweep.now.counter
+        sweep.now.events.now
         runners.old runners.new }
 {
     if sweep.events.len() < 8 {

@@ -26,7 +26,8 @@ pub(super) fn prepare_all(
     requires in_range { event < event_count plan.now }
     requires free { (hand_view runner.old).claim ≡ None }
     ensures hand { IsHandOf board.now runner.new.hand }
-    ensures does { AllReadyDoes plan.now event (hand_view runner.old) (hand_view runner.new) result }
+    ensures does { AllReadyDoes plan.now event (hand_view runner.old)
+        (hand_view runner.new) result }
     ensures answered { IsAnswered (event_at plan.now event).count runner.old runner.new }
 {
     let first = first_of(plan, event);
@@ -55,7 +56,8 @@ fn prepare(
     requires free { (hand_view runner.old).claim ≡ None }
     ensures hand { IsHandOf board.now runner.new.hand }
     ensures free { (hand_view runner.new).claim ≡ None }
-    ensures does { ReadyDoes plan.now event op (hand_view runner.old) (hand_view runner.new) result }
+    ensures does { ReadyDoes plan.now event op (hand_view runner.old)
+        (hand_view runner.new) result }
     ensures answered { IsAnswered 1 runner.old runner.new }
 {
     match board.verdict(&mut runner.hand, plan, op) {

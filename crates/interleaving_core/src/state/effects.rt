@@ -13,7 +13,8 @@ use morph_base::{OpWord, READS};
 impl CoreState {
     pub(super) fn put_word(&mut self, op: u32, word: OpWord)
         requires { op < word_count self.old }
-        ensures core { core_of self.new ≡ record (core_of self.old) { word = put (core_of self.old).word op word } }
+        ensures core { core_of self.new
+            ≡ record (core_of self.old) { word = put (core_of self.old).word op word } }
         ensures shape { IsSameShape self.old self.new }
     {
         self.words.set(op as usize, word);
@@ -23,7 +24,10 @@ impl CoreState {
         requires place { j < READS }
         requires in_range { op * READS + j < length self.old.records.items }
         ensures core { core_of self.new
-            ≡ record (core_of self.old) { recorded = put (core_of self.old).recorded op (put ((core_of self.old).recorded op) j (Some kept)) } }
+            ≡ record (core_of self.old) {
+              recorded = put (core_of self.old).recorded op
+                  (put ((core_of self.old).recorded op) j (Some kept));
+            } }
         ensures shape { IsSameShape self.old self.new }
     {
         self.records
@@ -34,7 +38,8 @@ impl CoreState {
         requires worker { by < length self.old.claims.items }
         requires fits { (k : Claim) → claim ≡ Some k → Fits k }
         ensures core { core_of self.new
-            ≡ record (core_of self.old) { claim = put (core_of self.old).claim by (held_of claim) } }
+            ≡ record (core_of self.old)
+            { claim = put (core_of self.old).claim by (held_of claim) } }
         ensures shape { IsSameShape self.old self.new }
     {
         self.claims.set(by as usize, claim);
@@ -43,7 +48,8 @@ impl CoreState {
     pub(super) fn put_decision(&mut self, event: u32, committed: bool)
         requires { event < decision_count self.old }
         ensures core { core_of self.new
-            ≡ record (core_of self.old) { decision = put (core_of self.old).decision event (Some committed) } }
+            ≡ record (core_of self.old)
+            { decision = put (core_of self.old).decision event (Some committed) } }
         ensures shape { IsSameShape self.old self.new }
     {
         self.decisions.set(event as usize, Some(committed));
@@ -61,7 +67,8 @@ impl CoreState {
     pub(super) fn book(&mut self, settling: Settling)
         requires { 0 < self.old.settlings.room }
         ensures core { core_of self.new
-            ≡ record (core_of self.old) { settlings = (core_of self.old).settlings ++ settling ∷ [] } }
+            ≡ record (core_of self.old)
+            { settlings = (core_of self.old).settlings ++ settling ∷ [] } }
         ensures shape { IsSameShape self.old self.new }
     {
         self.settlings.add(settling);

@@ -48,7 +48,8 @@ impl CoreState {
     fn may_fetch(&self, plan: &Plan, op: u32, j: u8, by: u8, value: u64) -> bool
         requires plan { IsPlan plan.now }
         requires state { IsStateOf plan.now self.now }
-        ensures { IsTrue result ↔ MayFetch plan.now (cap_of self.now) (core_of self.now) op j by value }
+        ensures { IsTrue result
+            ↔ MayFetch plan.now (cap_of self.now) (core_of self.now) op j by value }
     {
         if !self.is_claimed_by(plan, op, by) {
             return false;
@@ -75,7 +76,8 @@ impl CoreState {
 
     fn may_spread(&self, plan: &Plan, op: u32, sibling: u32) -> bool
         requires { IsStateOf plan.now self.now }
-        ensures { IsTrue result ↔ MaySpread plan.now (cap_of self.now) (core_of self.now) op sibling }
+        ensures { IsTrue result
+            ↔ MaySpread plan.now (cap_of self.now) (core_of self.now) op sibling }
     {
         if !self.is_at(plan, op, OpState::Executed) || sibling as usize >= plan.ops.len() {
             return false;
@@ -107,7 +109,8 @@ impl CoreState {
         requires state { IsStateOf plan.now self.now }
         requires op { op < op_count plan.now }
         requires place { j < places plan.now op }
-        ensures { IsTrue result ↔ HasOtherVersion plan.now (cap_of self.now) (core_of self.now) op j }
+        ensures { IsTrue result
+            ↔ HasOtherVersion plan.now (cap_of self.now) (core_of self.now) op j }
     {
         if self.word(op).attempt >= self.cap {
             return false;
@@ -122,7 +125,8 @@ impl CoreState {
         requires plan { IsPlan plan.now }
         requires state { IsStateOf plan.now self.now }
         requires op { op < op_count plan.now }
-        ensures { IsTrue result ↔ IsSpreadOnSettled plan.now (cap_of self.now) (core_of self.now) op }
+        ensures { IsTrue result
+            ↔ IsSpreadOnSettled plan.now (cap_of self.now) (core_of self.now) op }
     {
         let word = self.word(op);
         word.attempt < self.cap && word.state == OpState::Spread && self.are_settled(plan, op)
@@ -197,7 +201,8 @@ impl CoreState {
         requires plan { IsPlan plan.now }
         requires state { IsStateOf plan.now self.now }
         requires op { op < op_count plan.now }
-        ensures { IsTrue result ↔ ((core_of self.now).decision (event_of plan.now op) ≡ Some committed) }
+        ensures { IsTrue result
+            ↔ ((core_of self.now).decision (event_of plan.now op) ≡ Some committed) }
     {
         match self.decision(plan.ops.get(op as usize).event) {
             Some(decided) => decided == committed,

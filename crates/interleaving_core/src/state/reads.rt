@@ -174,7 +174,8 @@ impl CoreState {
     /// Whether the operation is one of the plan's and in this state.
     pub(super) fn is_at(&self, plan: &Plan, op: u32, state: OpState) -> bool
         requires { IsStateOf plan.now self.now }
-        ensures { IsTrue result ↔ ((op < op_count plan.now) × (((core_of self.now).word op).state ≡ state)) }
+        ensures { IsTrue result
+            ↔ ((op < op_count plan.now) × (((core_of self.now).word op).state ≡ state)) }
     {
         (op as usize) < plan.ops.len() && self.word(op).state == state
     }

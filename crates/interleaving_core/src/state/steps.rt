@@ -181,7 +181,8 @@ impl CoreState {
         requires state { IsStateOf plan.now self.old }
         requires may { MaySettle plan.now (core_of self.old) op by }
         ensures core { core_of self.new
-            ≡ settling plan.now (core_of self.old) op by ((core_of self.old).decision (event_of plan.now op)) }
+            ≡ settling plan.now (core_of self.old) op by
+            ((core_of self.old).decision (event_of plan.now op)) }
         ensures shape { IsSameShape self.old self.new }
     {
         let word = self.word(op);

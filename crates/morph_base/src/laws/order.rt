@@ -10,6 +10,7 @@ ghost use Rattle.morph_base.specs.Transactions.{Transaction, time, by_time};
 pub fn by_rising_time()
     ensures same { (es : List Transaction) → IsPermutation es (by_time es) }
     ensures rises { (es : List Transaction) → IsNonDecreasingBy time (by_time es) }
-    ensures once { (es fs : List Transaction) → IsDistinct nat_eq (map time es) → IsPermutation es fs
+    ensures once { (es fs : List Transaction) → IsDistinct nat_eq (map time es)
+        → IsPermutation es fs
         → IsNonDecreasingBy time fs → fs ≡ by_time es }
 {}

@@ -19,7 +19,8 @@ ghost use Rattle.morph_base.specs.Graphs.{IsGraph, IsValidPlan, op_depth, event_
 /// Who builds a plan shows its bases by any state at hand, as by that of zeros where all of them are 0.
 pub fn bases_tell_a_state()
     ensures { (p : Plan) (s : State)
-        → ((o : ℕ) → o < op_count p → length (keys_of p o) ≤ length (op_at p o).origins) → HasBases p s
+        → ((o : ℕ) → o < op_count p
+        → length (keys_of p o) ≤ length (op_at p o).origins) → HasBases p s
         → HasBases p (opening p) }
 {}
 
@@ -28,7 +29,8 @@ pub fn bases_tell_a_state()
 ///
 /// So a plan can be built before the state that it will start from is known.
 pub fn filling()
-    ensures plan { (p : Plan) (s : State) → IsPlan p → ((key : Key) → s key ≤ high_of p) → IsPlan (filled_plan s p) }
+    ensures plan { (p : Plan) (s : State) → IsPlan p → ((key : Key) → s key ≤ high_of p)
+        → IsPlan (filled_plan s p) }
     ensures bases { (p : Plan) (s : State) → IsPlan p → ((key : Key) → s key ≤ high_of p)
         → HasBases (filled_plan s p) s }
     ensures graph { (p : Plan) (s : State) → IsGraph p → IsGraph (filled_plan s p) }
@@ -65,7 +67,8 @@ pub fn levels_rise()
     ensures op { (p : Plan) (o j t : ℕ) → IsValidPlan p → o < op_count p → j < length (keys_of p o)
         → origin_at p o j ≡ Written t
         → (op_at p t).level < (op_at p o).level }
-    ensures event { (p : Plan) (o j t : ℕ) → IsValidPlan p → o < op_count p → j < length (keys_of p o)
+    ensures event { (p : Plan) (o j t : ℕ) → IsValidPlan p → o < op_count p
+        → j < length (keys_of p o)
         → origin_at p o j ≡ Written t
         → (event_at p (event_of p t)).level < (event_at p (event_of p o)).level }
     ensures op_range { (p : Plan) (o : ℕ) → IsValidPlan p → o < op_count p
@@ -80,11 +83,13 @@ pub fn levels_rise()
 pub fn values_stay_small()
     ensures answers { (op : Op) (xs : List ℕ) (v : ℕ) → value_of op xs ≡ Some v → IsShaped op
         → All (λ x. x ≤ MAX) xs → v ≤ MAX }
-    ensures folds { (s : State) (es : List Transaction) (key : Key) → All IsTransaction es → ((k : Key) → s k ≤ MAX)
+    ensures folds { (s : State) (es : List Transaction) (key : Key) → All IsTransaction es
+        → ((k : Key) → s k ≤ MAX)
         → after_all s es key ≤ MAX }
     ensures batches { (b : Batch) (s : State) (key : Key) → IsBatch b → ((k : Key) → s k ≤ MAX)
         → fold_batch b s key ≤ MAX }
-    ensures states { (p : Plan) (s : State) (i : ℕ) (key : Key) → IsPlan p → ((k : Key) → s k ≤ high_of p)
+    ensures states { (p : Plan) (s : State) (i : ℕ) (key : Key) → IsPlan p
+        → ((k : Key) → s k ≤ high_of p)
         → state_at p s i key ≤ high_of p }
     ensures opening { (p : Plan) (key : Key) → IsPlan p → opening p key ≤ high_of p }
     ensures values { (p : Plan) (o : ℕ) → IsPlan p → final p o ≤ high_of p }

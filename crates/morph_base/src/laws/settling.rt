@@ -19,10 +19,12 @@ pub fn known_sources()
         → verdict p i ≡ true }
     ensures aborts { (p : Plan) (known : ℕ → Bool) (v : ℕ → ℕ) (i o : ℕ) → IsPlan p
         → IsRight p (λ t. IsTrue (known t)) v → i < event_count p
-        → InEvent p i o → AreKnown p (λ t. IsTrue (known t)) o → outcome p v o ≡ None → verdict p i ≡ false }
+        → InEvent p i o → AreKnown p (λ t. IsTrue (known t)) o → outcome p v o ≡ None
+        → verdict p i ≡ false }
     ensures settles { (p : Plan) (known : ℕ → Bool) (v : ℕ → ℕ) (o x : ℕ) → IsPlan p
         → IsRight p (λ t. IsTrue (known t)) v → o < op_count p
-        → AreKnown p (λ t. IsTrue (known t)) o → verdict p (event_of p o) ≡ true → outcome p v o ≡ Some x
+        → AreKnown p (λ t. IsTrue (known t)) o → verdict p (event_of p o) ≡ true
+        → outcome p v o ≡ Some x
         → x ≡ final p o }
     ensures carries { (p : Plan) (known : ℕ → Bool) (v : ℕ → ℕ) (o : ℕ) → IsPlan p
         → IsRight p (λ t. IsTrue (known t)) v → o < op_count p

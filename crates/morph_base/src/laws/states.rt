@@ -16,10 +16,13 @@ pub fn versions()
     ensures written { (p : Plan) (s : State) (i : ℕ) (key : Key) (o : ℕ) → IsPlan p → HasBases p s
         → IsLastWriterIn p i key o
         → state_at p s i key ≡ final p o }
-    ensures unwritten { (p : Plan) (s : State) (i : ℕ) (key : Key) → IsPlan p → IsUnwrittenIn p i key
+    ensures unwritten { (p : Plan) (s : State) (i : ℕ) (key : Key) → IsPlan p
+        → IsUnwrittenIn p i key
         → state_at p s i key ≡ s key }
-    ensures overwritten { (p : Plan) (s : State) (n i : ℕ) → IsPlan p → HasBases p s → n ≤ op_count p
-        → ((o : ℕ) → o < n → event_of p o < i) → ((o : ℕ) → n ≤ o → o < op_count p → i ≤ event_of p o)
+    ensures overwritten { (p : Plan) (s : State) (n i : ℕ) → IsPlan p
+        → HasBases p s → n ≤ op_count p
+        → ((o : ℕ) → o < n → event_of p o < i)
+        → ((o : ℕ) → n ≤ o → o < op_count p → i ≤ event_of p o)
         → overwritten (target p) (final p) s n ≡ state_at p s i }
     ensures until { (p : Plan) (t i : ℕ) → IsPlan p → i < event_count p
         → (i < count_by (λ e. nat_le e.ts t) p.events.items) ↔ ((event_at p i).ts ≤ t) }
@@ -32,5 +35,6 @@ pub fn versions()
 pub fn end_of_batch()
     ensures overwritten { (p : Plan) (s : State) → IsPlan p → HasBases p s
         → overwritten (target p) (final p) s (op_count p) ≡ state_at p s (event_count p) }
-    ensures fold { (b : Batch) (p : Plan) (s : State) → IsPlanOf b p → state_at p s (event_count p) ≡ fold_batch b s }
+    ensures fold { (b : Batch) (p : Plan) (s : State) → IsPlanOf b p → state_at p s (event_count p)
+        ≡ fold_batch b s }
 {}

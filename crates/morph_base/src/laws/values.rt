@@ -13,14 +13,16 @@ ghost use Rattle.morph_base.specs.Clean.{source, IsClean};
 ///
 /// Every way of settling rests on it: it may read sources in place of states.
 pub fn sources()
-    ensures { (p : Plan) (s : State) (o j : ℕ) → IsPlan p → HasBases p s → o < op_count p → j < length (keys_of p o)
+    ensures { (p : Plan) (s : State) (o j : ℕ) → IsPlan p → HasBases p s → o < op_count p
+        → j < length (keys_of p o)
         → state_at p s (event_of p o) (key_at p o j) ≡ source p (value_at p s) o j }
 {}
 
 /// The values and verdicts of the fold are a clean assignment: each operation of a committed event has its answer on
 /// the values of its sources; in an aborted event one fails, and each has the value of its target's source.
 pub fn fold_is_clean()
-    ensures { (p : Plan) (s : State) → IsPlan p → HasBases p s → IsClean p (value_at p s) (commits_at p s) }
+    ensures { (p : Plan) (s : State) → IsPlan p → HasBases p s
+        → IsClean p (value_at p s) (commits_at p s) }
 {}
 
 /// A clean assignment has the fold's value for each operation and the fold's verdict on each event, so there is one
@@ -28,9 +30,11 @@ pub fn fold_is_clean()
 ///
 /// Whoever settles a plan in any order, or looks at what was settled, needs to see no more than that it is clean.
 pub fn clean_is_fold()
-    ensures values { (p : Plan) (v : ℕ → ℕ) (c : ℕ → Bool) (o : ℕ) → IsPlan p → IsClean p v c → o < op_count p
+    ensures values { (p : Plan) (v : ℕ → ℕ) (c : ℕ → Bool) (o : ℕ) → IsPlan p
+        → IsClean p v c → o < op_count p
         → v o ≡ final p o }
-    ensures verdicts { (p : Plan) (v : ℕ → ℕ) (c : ℕ → Bool) (i : ℕ) → IsPlan p → IsClean p v c → i < event_count p
+    ensures verdicts { (p : Plan) (v : ℕ → ℕ) (c : ℕ → Bool) (i : ℕ) → IsPlan p → IsClean p v c
+        → i < event_count p
         → c i ≡ verdict p i }
 {}
 
@@ -50,10 +54,20 @@ pub fn bases_decide()
 pub fn event_fates()
     ensures each { (p : Plan) (s : State) (i : ℕ) (d : Fate) → IsPlan p → i < event_count p
         → slice_index_or (fates s (transactions p)) i d
-        ≡ record { ts = (event_at p i).ts; committed = commits_at p s i; values = map (value_at p s) (ops_in p i) } }
+        ≡ record {
+          ts = (event_at p i).ts;
+          committed = commits_at p s i;
+          values = map
+              (value_at p s) (ops_in p i);
+        } }
     ensures all { (p : Plan) (s : State) → IsPlan p → HasBases p s
         → fates s (transactions p)
-        ≡ map (λ i. record { ts = (event_at p i).ts; committed = verdict p i; values = map (final p) (ops_in p i) }) (below (event_count p)) }
+        ≡ map (λ i. record {
+          ts = (event_at p i).ts;
+          committed = verdict p i;
+          values = map (final p)
+              (ops_in p i);
+        }) (below (event_count p)) }
 {}
 
 /// The guess of each operation is an assignment of guesses, there is no other, and a guess is at most the greatest
@@ -62,6 +76,7 @@ pub fn event_fates()
 /// The first attempts of speculation are these guesses, in whatever order they are made.
 pub fn guesses_alone()
     ensures one { (p : Plan) → IsPlan p → IsGuess p (guess p) }
-    ensures alone { (p : Plan) (g : ℕ → ℕ) (o : ℕ) → IsPlan p → IsGuess p g → o < op_count p → g o ≡ guess p o }
+    ensures alone { (p : Plan) (g : ℕ → ℕ) (o : ℕ) → IsPlan p → IsGuess p g → o < op_count p
+        → g o ≡ guess p o }
     ensures small { (p : Plan) (o : ℕ) → IsPlan p → o < op_count p → guess p o ≤ high_of p }
 {}

@@ -120,7 +120,8 @@ impl Board {
         requires in_range { op < op_count plan.now }
         requires free { (view_of hand.old).claim ≡ None }
         ensures hand { IsHandOf self.now hand.new }
-        ensures does { MakeDoes plan.now (cap_of self.now) op (view_of hand.old) (view_of hand.new) result }
+        ensures does { MakeDoes plan.now (cap_of self.now) op (view_of hand.old)
+            (view_of hand.new) result }
     {
         let word = self.look(hand, op);
         if !is_in(word, OpState::Blocked) {
@@ -145,7 +146,8 @@ impl Board {
         requires in_range { op < op_count plan.now }
         requires free { (view_of hand.old).claim ≡ None }
         ensures hand { IsHandOf self.now hand.new }
-        ensures does { ClaimDoes plan.now (cap_of self.now) op (view_of hand.old) (view_of hand.new) result }
+        ensures does { ClaimDoes plan.now (cap_of self.now) op (view_of hand.old)
+            (view_of hand.new) result }
     {
         let word = self.look(hand, op);
         if !is_in(word, OpState::Ready) {
@@ -167,9 +169,11 @@ impl Board {
         requires plan { plan.now ≡ plan_of self.now }
         requires in_range { op < op_count plan.now }
         requires in_places { j < places plan.now op }
-        requires held { (a : ℕ) × (xs : List ℕ) × Holds (view_of hand.old) op a xs × (length xs ≡ j) }
+        requires held { (a : ℕ) × (xs : List ℕ) × Holds (view_of hand.old) op a xs
+            × (length xs ≡ j) }
         ensures hand { IsHandOf self.now hand.new }
-        ensures does { FetchDoes plan.now (cap_of self.now) op (view_of hand.old) (view_of hand.new) j result }
+        ensures does { FetchDoes plan.now (cap_of self.now) op (view_of hand.old)
+            (view_of hand.new) j result }
     {
         match origin_of(plan, op, j) {
             Origin::Base(value) => {
@@ -186,10 +190,12 @@ impl Board {
         requires plan { plan.now ≡ plan_of self.now }
         requires in_range { op < op_count plan.now }
         requires in_places { j < places plan.now op }
-        requires held { (a : ℕ) × (xs : List ℕ) × Holds (view_of hand.old) op a xs × (length xs ≡ j) }
+        requires held { (a : ℕ) × (xs : List ℕ) × Holds (view_of hand.old) op a xs
+            × (length xs ≡ j) }
         requires source { origin_at plan.now op j ≡ Written source }
         ensures hand { IsHandOf self.now hand.new }
-        ensures does { FetchDoes plan.now (cap_of self.now) op (view_of hand.old) (view_of hand.new) j result }
+        ensures does { FetchDoes plan.now (cap_of self.now) op (view_of hand.old)
+            (view_of hand.new) j result }
     {
         let word = self.look(hand, source);
         let Some(holding) = hand.held else {
@@ -216,9 +222,11 @@ impl Board {
         requires hand { IsHandOf self.now hand.old }
         requires plan { plan.now ≡ plan_of self.now }
         requires in_range { op < op_count plan.now }
-        requires held { (a : ℕ) × (xs : List ℕ) × Holds (view_of hand.old) op a xs × (length xs ≡ places plan.now op) }
+        requires held { (a : ℕ) × (xs : List ℕ) × Holds (view_of hand.old) op a xs
+            × (length xs ≡ places plan.now op) }
         ensures hand { IsHandOf self.now hand.new }
-        ensures does { FinishDoes plan.now (cap_of self.now) op (view_of hand.old) (view_of hand.new) result }
+        ensures does { FinishDoes plan.now (cap_of self.now) op (view_of hand.old)
+            (view_of hand.new) result }
     {
         let Some(holding) = &hand.held else {
             unreachable!()
@@ -237,7 +245,8 @@ impl Board {
         requires in_range { op < op_count plan.now }
         requires held { (a : ℕ) × (xs : List ℕ) × Holds (view_of hand.old) op a xs }
         ensures hand { IsHandOf self.now hand.new }
-        ensures does { GiveBackDoes plan.now (cap_of self.now) op (view_of hand.old) (view_of hand.new) }
+        ensures does { GiveBackDoes plan.now (cap_of self.now) op (view_of hand.old)
+            (view_of hand.new) }
     {
         let Some(holding) = hand.held else {
             unreachable!()

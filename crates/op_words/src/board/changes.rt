@@ -29,7 +29,8 @@ impl Board {
         requires in_range { op < op_count (plan_of self.now) }
         requires word { IsWord word }
         requires value { value ≤ MAX }
-        requires grounds { HasGroundsToSpread (plan_of self.now) (cap_of self.now) op (view_of hand.old) word value }
+        requires grounds { HasGroundsToSpread (plan_of self.now) (cap_of self.now) op
+            (view_of hand.old) word value }
         ensures { let new = spread_at (word.attempt + 1) value in
             Swapped self.now op hand.old hand.new word (spreading op new (view_of hand.old)) new result }
     {
@@ -58,9 +59,11 @@ impl Board {
         requires hand { IsHandOf self.now hand.old }
         requires in_range { op < op_count (plan_of self.now) }
         requires word { IsWord word }
-        requires grounds { HasGroundsToRoll (plan_of self.now) (cap_of self.now) op (view_of hand.old) word
+        requires grounds { HasGroundsToRoll (plan_of self.now) (cap_of self.now) op
+            (view_of hand.old) word
             (last_place 0 (view_of hand.old).records) }
-        ensures { Swapped self.now op hand.old hand.new word (rolling_back op (word.attempt + 1) (view_of hand.old))
+        ensures { Swapped self.now op hand.old hand.new word
+            (rolling_back op (word.attempt + 1) (view_of hand.old))
             (blocked_at (word.attempt + 1)) result }
     {
         let (first, new) = (word.pack(), blocked(word.attempt + 1).pack());

@@ -22,7 +22,8 @@ impl Board {
         requires in_range { event < event_count plan.now }
         requires free { (view_of hand.old).claim ≡ None }
         ensures hand { IsHandOf self.now hand.new }
-        ensures does { DecideDoes plan.now (cap_of self.now) event (view_of hand.old) (view_of hand.new) result }
+        ensures does { DecideDoes plan.now (cap_of self.now) event (view_of hand.old)
+            (view_of hand.new) result }
     {
         if let Some(committed) = self.learn(hand, plan, event) {
             return Decided::of(committed);
@@ -41,7 +42,8 @@ impl Board {
         requires plan { plan.now ≡ plan_of self.now }
         requires in_range { event < event_count plan.now }
         requires free { (view_of hand.old).claim ≡ None }
-        ensures { HasGrounds self.now plan.now (cap_of self.now) event (event_at plan.now event).first
+        ensures { HasGrounds self.now plan.now (cap_of self.now) event
+            (event_at plan.now event).first
             ((event_at plan.now event).first + (event_at plan.now event).count) hand.old hand.new result }
     {
         let entry = plan.events.get(event as usize);

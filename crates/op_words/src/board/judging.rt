@@ -24,7 +24,8 @@ impl Board {
         requires in_range { op < op_count plan.now }
         requires free { (view_of hand.old).claim ≡ None }
         ensures hand { IsHandOf self.now hand.new }
-        ensures does { VerdictDoes plan.now (cap_of self.now) op (view_of hand.old) (view_of hand.new) result }
+        ensures does { VerdictDoes plan.now (cap_of self.now) op (view_of hand.old)
+            (view_of hand.new) result }
     {
         let (_, verdict) = self.judge(hand, plan, op);
         verdict
@@ -36,7 +37,8 @@ impl Board {
         requires plan { plan.now ≡ plan_of self.now }
         requires in_range { op < op_count plan.now }
         requires free { (view_of hand.old).claim ≡ None }
-        ensures { IsJudgedAs self.now plan.now (cap_of self.now) op hand.old hand.new result.0 result.1 }
+        ensures { IsJudgedAs self.now plan.now (cap_of self.now) op hand.old hand.new
+            result.0 result.1 }
     {
         let first = self.look(hand, op);
         if !has_run(first) {

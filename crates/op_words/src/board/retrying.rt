@@ -24,7 +24,8 @@ impl Board {
         requires sibling { IsSpreadFrom plan.now op sibling (view_of hand.old) }
         requires free { (view_of hand.old).claim ≡ None }
         ensures hand { IsHandOf self.now hand.new }
-        ensures does { SpreadDoes plan.now (cap_of self.now) op (view_of hand.old) (view_of hand.new) result }
+        ensures does { SpreadDoes plan.now (cap_of self.now) op (view_of hand.old)
+            (view_of hand.new) result }
     {
         let word = self.look(hand, op);
         if !self.may_spread(word) {
@@ -61,7 +62,8 @@ impl Board {
         requires in_places { j < places plan.now op }
         requires free { (view_of hand.old).claim ≡ None }
         ensures hand { IsHandOf self.now hand.new }
-        ensures does { RollDoes plan.now (cap_of self.now) op (view_of hand.old) (view_of hand.new) j result }
+        ensures does { RollDoes plan.now (cap_of self.now) op (view_of hand.old)
+            (view_of hand.new) j result }
     {
         let word = self.look(hand, op);
         if !self.may_roll(word) {
@@ -99,8 +101,10 @@ impl Board {
 
     /// Whether a word has a value that may be taken back, before the last attempt.
     fn may_roll(&self, word: OpWord) -> bool
-        ensures may { IsTrue result → (is_evaluated word.state ≡ true) × (word.attempt ≤ cap_of self.now) }
-        ensures not { result ≡ false → (is_evaluated word.state ≡ false) ⊎ (cap_of self.now < word.attempt) }
+        ensures may { IsTrue result → (is_evaluated word.state ≡ true)
+            × (word.attempt ≤ cap_of self.now) }
+        ensures not { result ≡ false → (is_evaluated word.state ≡ false)
+            ⊎ (cap_of self.now < word.attempt) }
     {
         word.state.is_evaluated() && word.attempt <= self.cap
     }

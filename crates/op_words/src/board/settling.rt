@@ -26,9 +26,11 @@ impl Board {
         requires plan { plan.now ≡ plan_of self.now }
         requires in_range { op < op_count plan.now }
         requires free { (view_of hand.old).claim ≡ None }
-        requires decided { (committed : Bool) × IsDecisionSeen (view_of hand.old) (event_of plan.now op) committed }
+        requires decided { (committed : Bool) × IsDecisionSeen (view_of hand.old)
+            (event_of plan.now op) committed }
         ensures hand { IsHandOf self.now hand.new }
-        ensures does { SettleDoes plan.now (cap_of self.now) op (view_of hand.old) (view_of hand.new) result }
+        ensures does { SettleDoes plan.now (cap_of self.now) op (view_of hand.old)
+            (view_of hand.new) result }
     {
         let word = self.look(hand, op);
         if !word.state.is_open() {

@@ -46,7 +46,8 @@ impl Board {
         requires hand { IsHandOf self.now hand.old }
         requires in_range { op < op_count (plan_of self.now) }
         requires word { IsWord (blocked_at attempt) }
-        ensures { Swapped self.now op hand.old hand.new (blocked_at attempt) (making op attempt (view_of hand.old)) (ready_at attempt) result }
+        ensures { Swapped self.now op hand.old hand.new (blocked_at attempt)
+            (making op attempt (view_of hand.old)) (ready_at attempt) result }
     {
         let (first, new) = (blocked(attempt).pack(), ready(attempt).pack());
         let found = self
@@ -68,7 +69,9 @@ impl Board {
         requires in_range { op < op_count (plan_of self.now) }
         requires word { IsWord (ready_at attempt) }
         requires free { (view_of hand.old).claim ≡ None }
-        ensures { Swapped self.now op hand.old hand.new (ready_at attempt) (claiming op attempt (view_of hand.old)) (claimed_at attempt (view_of hand.old).tag) result }
+        ensures { Swapped self.now op hand.old hand.new (ready_at attempt)
+            (claiming op attempt (view_of hand.old))
+            (claimed_at attempt (view_of hand.old).tag) result }
     {
         let (first, new) = (ready(attempt).pack(), claimed(attempt, hand.tag).pack());
         let found = self
@@ -96,7 +99,8 @@ impl Board {
         requires in_range { op < op_count (plan_of self.now) }
         requires held { (xs : List ℕ) × Holds (view_of hand.old) op attempt xs }
         requires word { IsWord (blocked_at attempt) }
-        ensures { Left self.now hand.old hand.new (giving_back op attempt (view_of hand.old)) (left op (blocked_at attempt)) }
+        ensures { Left self.now hand.old hand.new (giving_back op attempt (view_of hand.old))
+            (left op (blocked_at attempt)) }
     {
         let word = blocked(attempt).pack();
         self.table
@@ -110,9 +114,11 @@ impl Board {
         requires hand { IsHandOf self.now hand.old }
         requires plan { plan.now ≡ plan_of self.now }
         requires value { value ≤ MAX }
-        requires held { (o a : ℕ) × (xs : List ℕ) × Holds (view_of hand.old) o a xs × (o < op_count plan.now)
+        requires held { (o a : ℕ) × (xs : List ℕ) × Holds (view_of hand.old) o a xs
+            × (o < op_count plan.now)
             × (length xs < places plan.now o)
-            × IsUsable (view_of hand.old) (cap_of self.now) a (origin_at plan.now o (length xs)) value }
+            × IsUsable (view_of hand.old) (cap_of self.now) a
+            (origin_at plan.now o (length xs)) value }
         ensures { (o a : ℕ) (xs : List ℕ) → Holds (view_of hand.old) o a xs
             → Kept self.now o a xs value hand.old hand.new }
     {
@@ -133,10 +139,12 @@ impl Board {
         requires hand { IsHandOf self.now hand.old }
         requires in_range { op < op_count (plan_of self.now) }
         requires held { (a : ℕ) × (xs : List ℕ) × Holds (view_of hand.old) op a xs
-            × (length xs ≡ places (plan_of self.now) op) × (word ≡ finished (op_at (plan_of self.now) op).op a xs) }
+            × (length xs ≡ places (plan_of self.now) op)
+            × (word ≡ finished (op_at (plan_of self.now) op).op a xs) }
         requires word { IsWord word }
         ensures { (a : ℕ) (xs : List ℕ) → Holds (view_of hand.old) op a xs
-            → Left self.now hand.old hand.new (finishing op word xs (view_of hand.old)) (left op word) }
+            → Left self.now hand.old hand.new
+            (finishing op word xs (view_of hand.old)) (left op word) }
     {
         let n = word.pack();
         self.table

@@ -1,4 +1,4 @@
--- The text of the notes where they are on: a line for each batch that was run, and at the end the tally.
+-- The text of the notes: where they are on, a line for each batch that was run and at the end the tally; and what viewers saw.
 use Rattle.std.specs.Prelude.{ℕ, ◌+◌, Bool, true, false, List, [], ◌∷◌, ◌++◌, codes, length, take}
 use Rattle.std.specs.List.{flat_map}
 use Rattle.morph_base.specs.declared.plan.Plan.{Plan}
@@ -44,6 +44,10 @@ batch_note number p s =
 unfoldable pub batch_notes : (number : ℕ) → List Account → List ℕ
 batch_notes number [] = []
 batch_notes number (a ∷ accounts) = batch_note number a.plan a.strategy ++ batch_notes (number + 1) accounts
+
+-- the line of what a viewer of the balances saw: after how many batches it looked, and the sum of the values of table 0 then
+unfoldable pub audit_note : (number total : ℕ) → List ℕ
+audit_note number total = line (codes "audit" ++ after_space number ++ codes " total" ++ after_space total)
 
 -- the line of the tally
 unfoldable pub tally_note : Tally → List ℕ

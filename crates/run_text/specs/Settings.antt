@@ -1,5 +1,5 @@
 -- The settings that words ask for. A word is `name=value`, and is split at its first `=`.
-use Rattle.std.specs.Prelude.{ℕ, ◌+◌, ◌==◌, ◌≤◌, ◌&&◌, ◌||◌, Bool, true, false, nat_le, List, [], ◌∷◌, codes, count_by, drop, length, Option, Some, None, if◌then◌else◌, is_some, IfSome}
+use Rattle.std.specs.Prelude.{◌≡◌, ℕ, ◌+◌, ◌==◌, ◌≤◌, ◌&&◌, ◌||◌, Bool, true, false, nat_lt, nat_le, List, [], ◌∷◌, codes, count_by, drop, length, Option, Some, None, if◌then◌else◌, is_some, IfSome, IsTrue}
 use Rattle.std.specs.List.{list_all, list_any}
 use Rattle.std.specs.Str.{bytes_eq}
 use Rattle.event_reader.specs.declared.ranges.Range.{Range}
@@ -18,7 +18,7 @@ use Rattle.run_text.specs.declared.choices.Generated.{Generated}
 use Rattle.run_text.specs.declared.choices.App.{App}
 use Rattle.run_text.specs.declared.choices.App.TheVariants.{Ledger, Grep, Toll}
 use Rattle.run_text.specs.declared.names.Name.{Name}
-use Rattle.run_text.specs.declared.names.Name.TheVariants.{App as AppName, Own, Workers, Size, Unit as UnitName, Explore as ExploreName, Abort as AbortName, Plan as PlanName, Seed, Events, Notes, Ahead}
+use Rattle.run_text.specs.declared.names.Name.TheVariants.{App as AppName, Own, Workers, Size, Unit as UnitName, Explore as ExploreName, Abort as AbortName, Plan as PlanName, Seed, Events, Notes, Ahead, Watch}
 use Rattle.run_text.specs.declared.words.Input.{Input}
 
 -- the names that there are
@@ -35,9 +35,10 @@ text_of Seed = codes "seed"
 text_of Events = codes "events"
 text_of Notes = codes "notes"
 text_of Ahead = codes "ahead"
+text_of Watch = codes "watch"
 
 abbrev pub all_names : List Name
-all_names = AppName ∷ Own ∷ Workers ∷ Size ∷ UnitName ∷ ExploreName ∷ AbortName ∷ PlanName ∷ Seed ∷ Events ∷ Notes ∷ Ahead ∷ []
+all_names = AppName ∷ Own ∷ Workers ∷ Size ∷ UnitName ∷ ExploreName ∷ AbortName ∷ PlanName ∷ Seed ∷ Events ∷ Notes ∷ Ahead ∷ Watch ∷ []
 
 -- whether a word has an `=`, and its name, which stands before the first one
 abbrev pub has_equals : List ℕ → Bool
@@ -244,29 +245,40 @@ input_by words None self = None
 abbrev pub input_of : List (List ℕ) → Option Input
 input_of words = input_by words (app_under AppName words) (app_under Own words)
 
-abbrev pub settings_by : Option Input → (workers size : Option ℕ) → Option Planning → (notes : Option Bool) → (ahead : Option ℕ) → Option Settings
-settings_by (Some input) (Some workers) (Some size) (Some planning) (Some notes) (Some ahead) =
-    Some (record { app = input.app; workers = workers; size = size; planning = planning; notes = notes; generated = input.generated; ahead = ahead })
-settings_by (Some input) (Some workers) (Some size) (Some planning) (Some notes) None = None
-settings_by (Some input) (Some workers) (Some size) (Some planning) None ahead = None
-settings_by (Some input) (Some workers) (Some size) None notes ahead = None
-settings_by (Some input) (Some workers) None planning notes ahead = None
-settings_by (Some input) None size planning notes ahead = None
-settings_by None workers size planning notes ahead = None
+-- whether at most one is asked for of what may not go together: that batches are read ahead, and that a viewer looks beside
+-- each batch
+abbrev pub is_alone : (ahead : ℕ) → (watch : Bool) → Bool
+is_alone ahead watch = nat_le (count_by (λ asked. asked) (nat_lt 0 ahead ∷ watch ∷ [])) 1
 
--- the settings: every word has a name that there is, no name is given twice, and each value is one of its name's
+-- settings, where they ask for at most one of these
+abbrev pub if_alone : Settings → Option Settings
+if_alone s = if is_alone s.ahead s.watch then Some s else None
+
+abbrev pub settings_by : Option Input → (workers size : Option ℕ) → Option Planning → (notes : Option Bool) → (ahead : Option ℕ) → (watch : Option Bool) → Option Settings
+settings_by (Some input) (Some workers) (Some size) (Some planning) (Some notes) (Some ahead) (Some watch) =
+    if_alone (record { app = input.app; workers = workers; size = size; planning = planning; notes = notes; generated = input.generated; ahead = ahead; watch = watch })
+settings_by (Some input) (Some workers) (Some size) (Some planning) (Some notes) (Some ahead) None = None
+settings_by (Some input) (Some workers) (Some size) (Some planning) (Some notes) None watch = None
+settings_by (Some input) (Some workers) (Some size) (Some planning) None ahead watch = None
+settings_by (Some input) (Some workers) (Some size) None notes ahead watch = None
+settings_by (Some input) (Some workers) None planning notes ahead watch = None
+settings_by (Some input) None size planning notes ahead watch = None
+settings_by None workers size planning notes ahead watch = None
+
+-- the settings: every word has a name that there is, no name is given twice, each value is one of its name's, and at most one is
+-- asked for of what may not go together
 abbrev pub settings_of : List (List ℕ) → Option Settings
 settings_of words =
     if list_all is_known words && are_once words
     then settings_by (input_of words) (number_under Workers worker_counts 1 words) (number_under Size sizes 10000 words) (planning_of words) (switch_under Notes words)
-    (number_under Ahead ahead_counts 0 words)
+    (number_under Ahead ahead_counts 0 words) (switch_under Watch words)
     else None
 
 -- the numbers of an input that the program makes are in their ranges
 abbrev pub AreFew : Option Generated → Type 0
 AreFew generated = IfSome generated (λ g. (g.seed ≤ seeds.greatest) × (g.events ≤ event_counts.greatest))
 
--- the numbers of settings are in their ranges
+-- the numbers of settings are in their ranges, and what may not go together does not
 pub record AreInRange (s : Settings) : Type 0 where
   pub some_workers : 1 ≤ s.workers
   pub few_workers : s.workers ≤ worker_counts.greatest
@@ -274,3 +286,4 @@ pub record AreInRange (s : Settings) : Type 0 where
   pub few_ids : s.size ≤ sizes.greatest
   pub generated : AreFew s.generated
   pub few_ahead : s.ahead ≤ ahead_counts.greatest
+  pub apart : IsTrue s.watch → s.ahead ≡ 0

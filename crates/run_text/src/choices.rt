@@ -50,6 +50,9 @@ pub struct Settings {
     /// How many batches are read and planned while one is run: 0 to 2. With 0 a batch is read when the one before was
     /// run and written.
     pub ahead: u32,
+    /// Whether a viewer looks at the balances beside each batch, and the notes get an audit line of what it saw. It
+    /// does not where batches are read ahead.
+    pub watch: bool,
 }
 
 impl Settings {

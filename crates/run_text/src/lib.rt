@@ -18,7 +18,7 @@ mod words;
 mod writing;
 
 pub use choices::{App, GREATEST_SIZE, Generated, Planning, Settings};
-pub use notes::{note_batch, note_tally};
+pub use notes::{note_audit, note_batch, note_tally};
 pub use report::Report;
 pub use tally::Tally;
 pub use words::settings;

@@ -28,10 +28,12 @@ pub enum Name {
     Notes,
     /// How many batches are read and planned ahead.
     Ahead,
+    /// Whether a viewer looks at the balances beside each batch.
+    Watch,
 }
 
 /// All names, each once.
-pub const NAMES: [Name; 12] = [
+pub const NAMES: [Name; 13] = [
     Name::App,
     Name::Own,
     Name::Workers,
@@ -44,6 +46,7 @@ pub const NAMES: [Name; 12] = [
     Name::Events,
     Name::Notes,
     Name::Ahead,
+    Name::Watch,
 ];
 
 impl Name {
@@ -64,6 +67,7 @@ impl Name {
             Name::Events => b"events=",
             Name::Notes => b"notes=",
             Name::Ahead => b"ahead=",
+            Name::Watch => b"watch=",
         }
     }
 }

@@ -3,7 +3,7 @@ ghost use Rattle.morph_base.specs.declared.limits.TheConstants.{WORKERS};
 ghost use Rattle.morph_io.specs.declared.line_buf.TheConstants.{LINE_BYTES};
 ghost use Rattle.morph_io.specs.Told.{behind, HasRisen, AppendsPrefix};
 ghost use Rattle.run_text.specs.Notes.{noted, unit_word, explore_word, abort_word, strategy_words, batch_note};
-ghost use Rattle.run_text.specs.Notes.{tally_note, settled_note, closing_notes};
+ghost use Rattle.run_text.specs.Notes.{tally_note, settled_note, closing_notes, audit_note};
 
 use crate::tally::Tally;
 use crate::text::put_numbers;
@@ -30,6 +30,20 @@ pub fn note_batch<N: Sink>(
     }
     let line = batch_line(number, plan, strategy);
     write_all(notes, line.bytes())
+}
+
+/// Writes to the notes what a viewer of the balances saw: after how many batches it looked, and the sum of the values
+/// of table 0 then. It is written whether the notes are on or off.
+pub fn note_audit<N: Sink>(notes: &mut N, number: u64, total: u64) -> Result<(), WriteFailed>
+    ensures written { OnOk result (N.written notes.new ≡ behind (N.written notes.old)
+        (audit_note number total)) }
+    ensures prefix { OnErr result (AppendsPrefix (N.written notes.old)
+        (audit_note number total) (N.written notes.new)) }
+    ensures never_falls { N.faults notes.old ≤ N.faults notes.new }
+    ensures cause { OnErr result (HasRisen (N.faults notes.old) (N.faults notes.new)) }
+{
+    let seen = audit_line(number, total);
+    write_all(notes, seen.bytes())
 }
 
 /// Writes the lines of the tally to the notes, where they are on: of what was settled by the plain finish and by each
@@ -134,6 +148,20 @@ fn batch_line(number: u64, plan: &Plan, strategy: Strategy) -> LineBuf
     line.word(b" levels ");
     line.number(plan.op_levels.len() as u64);
     put_strategy(strategy, &mut line);
+    line.word(b"\n");
+    line
+}
+
+/// The line of what a viewer saw.
+#[tactic(auto, unfolding(crate::specs::Notes::audit_note))]
+fn audit_line(number: u64, total: u64) -> LineBuf
+    ensures { result ≡ audit_note number total }
+{
+    let mut line = LineBuf::new();
+    line.word(b"audit ");
+    line.number(number);
+    line.word(b" total ");
+    line.number(total);
     line.word(b"\n");
     line
 }

@@ -5,7 +5,8 @@ ghost use Rattle.run_text.specs.Settings.{has_name, value_in, is_known, is_once,
 ghost use Rattle.run_text.specs.Settings.{app_in, app_under, number_in, number_under, switch_in, switch_under};
 ghost use Rattle.run_text.specs.Settings.{unit_in, unit_under, explore_in, explore_under, abort_in, abort_under};
 ghost use Rattle.run_text.specs.Settings.{auto_in, auto_under, strategy_of, planning_of, input_of};
-ghost use Rattle.run_text.specs.Settings.{read_input, made_input, AreFew, AreInRange, settings_of};
+ghost use Rattle.run_text.specs.Settings.{read_input, made_input, is_alone};
+ghost use Rattle.run_text.specs.Settings.{AreFew, AreInRange, settings_of};
 ghost use Rattle.run_text.specs.NoSettings.{NoSettings};
 
 use crate::choices::{
@@ -360,11 +361,19 @@ fn made_input(words: &[List<u8>], app: App) -> Option<Input>
     })
 }
 
+/// Whether at most one is asked for of what may not go together: that batches are read ahead, and that a viewer looks
+/// beside each batch.
+fn is_alone(ahead: u64, watch: bool) -> bool
+    ensures { result ≡ is_alone ahead watch }
+{
+    u32::from(ahead > 0) + u32::from(watch) <= 1
+}
+
 /// The settings that the words ask for, or `None` where they ask for none.
 ///
 /// They ask for none where a word is not `name=value` with one of the names, a name is given twice, a value is not
-/// one of its name's, not exactly one of `app` and `self` is given, `seed` or `events` is given without `self`, or
-/// `unit`, `explore` or `abort` is given with `plan=auto`.
+/// one of its name's, not exactly one of `app` and `self` is given, `seed` or `events` is given without `self`,
+/// `unit`, `explore` or `abort` is given with `plan=auto`, or `watch` is on where batches are read ahead.
 pub fn settings(words: &[List<u8>]) -> Option<Settings>
     ensures asked { result ≡ settings_of (map (λ word. word.items) words.now) }
     ensures none { (result ≡ None → NoSettings (map (λ word. word.items) words.now))
@@ -380,6 +389,10 @@ pub fn settings(words: &[List<u8>]) -> Option<Settings>
     let planning = planning_of(words)?;
     let notes = switch_under(words, Name::Notes)?;
     let ahead = number_under(words, Name::Ahead, AHEAD, DEFAULT_AHEAD)?;
+    let watch = switch_under(words, Name::Watch)?;
+    if !is_alone(ahead, watch) {
+        return None;
+    }
     Some(Settings {
         app: input.app,
         workers: workers as u32,
@@ -388,5 +401,6 @@ pub fn settings(words: &[List<u8>]) -> Option<Settings>
         notes,
         generated: input.generated,
         ahead: ahead as u32,
+        watch,
     })
 }

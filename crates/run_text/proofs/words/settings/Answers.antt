@@ -23,5 +23,11 @@ returns-in_err-notes-clause-none c = none_asked (map (λ word. word.items) c.arg
 pub returns-in_err-ahead-clause-none : goal.returns-in_err-ahead-clause-none
 returns-in_err-ahead-clause-none c = none_asked (map (λ word. word.items) c.args.words.now) _ (search rules)
 
+pub returns-in_err-watch-clause-none : goal.returns-in_err-watch-clause-none
+returns-in_err-watch-clause-none c = none_asked (map (λ word. word.items) c.args.words.now) _ (search rules)
+
+pub returns-then-not-is_alone-clause-none : goal.returns-then-not-is_alone-clause-none
+returns-then-not-is_alone-clause-none c = none_asked (map (λ word. word.items) c.args.words.now) _ (search rules)
+
 pub returns-clause-none : goal.returns-clause-none
 returns-clause-none c = none_asked (map (λ word. word.items) c.args.words.now) _ (search rules)

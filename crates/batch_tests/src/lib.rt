@@ -33,6 +33,8 @@ mod graph;
 #[cfg(test)]
 mod handing;
 #[cfg(test)]
+mod journals;
+#[cfg(test)]
 mod machine;
 #[cfg(test)]
 mod many_events;

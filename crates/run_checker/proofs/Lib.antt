@@ -1,0 +1,9 @@
+pub mod Leading
+pub mod Fold
+pub mod Apart
+pub mod Numbers
+pub mod Joining
+pub mod LineLaws
+pub mod TextLaws
+pub mod WritingLaws
+pub mod Taken

@@ -1,0 +1,11 @@
+use Rattle.std.proofs.Common.{◌+◌, ◌*◌, ap, ◌∙◌, min}
+use Rattle.event_reader.proofs.Digits.{all_digits_more, value_more}
+use Rattle.run_checker.proofs.words.number_up_to.Goals as goal
+
+pub digits-preserved : goal.digits-preserved
+digits-preserved c = record {
+  digits = all_digits_more c.args.word.now c.digits.byte-index c.digits-test.true c.if-byte-lt48.false c.if-byte-gt57.false c.digits.invariant.digits;
+  value = c.min-value.ensures
+      ∙ ap (λ d. min (10 * c.digits.value + d) (c.args.greatest + 1)) c.from.ensures
+      ∙ value_more c.args.word.now c.digits.byte-index c.digits.value (c.args.greatest + 1) c.digits-test.true c.if-byte-lt48.false c.if-byte-gt57.false c.digits.invariant.value;
+}

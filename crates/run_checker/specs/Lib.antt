@@ -1,0 +1,4 @@
+pub mod Replay
+pub mod Answers
+pub mod Lines
+pub mod Reading

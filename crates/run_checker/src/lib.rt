@@ -1,0 +1,41 @@
+//! A checker of one run's journal: the list of the steps by which a run came to its values, replayed on the machine.
+//!
+//! [`check`] makes the steps of a journal one after another on a [`CoreState`](interleaving_core::CoreState), which
+//! takes a step exactly where it may be made, and compares what they settle with the values of the run. It trusts
+//! nobody: not the maker of the journal, nor the run. Which answer is right is told by `specs/Answers`, and [`laws`]
+//! say what follows: at most one answer is right, and what a journal settles that the machine takes is the fold's.
+//!
+//! A journal is kept as text: [`write_event`] puts an event's line into a buffer, and [`read_journal`] reads a text of
+//! such lines, or names the first that is none. What lines say stands in `specs/Reading`, what is written in
+//! `specs/Lines`, and [`laws`] say that each is the reverse of the other.
+//!
+//! ```text
+//! let journal = read_journal(alloc, b"R 0\nC 0 1\nF 0 0 1 0\nN 0 1\nD 0 c\nT 0 1\n")?;
+//! match check(alloc, &plan, 1, journal.as_slice(), &settled)? {
+//!     Checked::Yes => ..,                      // the run's values are the fold's
+//!     Checked::Broken { at } => ..,            // this step could not be made
+//!     Checked::Unsettled { op } => ..,         // the journal ends too early
+//!     Checked::Differs { op, journal, run } => ..,
+//! }
+//! ```
+//!
+//! Below stand `interleaving_core`, which has the machine, `morph_base` with its plans, `event_reader`, by which lines
+//! are cut into words, `morph_io`, whose buffer a line is put into, and the kit's `memchr` and `thiserror`.
+#![tactic(auto)]
+
+mod checked;
+mod checking;
+mod fault;
+pub mod laws;
+mod reading;
+mod replaying;
+#[cfg(test)]
+mod tests;
+mod words;
+mod writing;
+
+pub use checked::Checked;
+pub use checking::check;
+pub use fault::JournalFault;
+pub use reading::read_journal;
+pub use writing::write_event;

@@ -14,7 +14,7 @@ last_passing test (suc n) = if test n then suc n else last_passing test n
 
 -- the place of a key among so many
 unfoldable pub place_of : Key → ℕ → ℕ
-place_of key places = bit_and ((key.id * 256 + key.table) * MULTIPLIER % 2 ^ 64 / 2 ^ 40) (places - 1)
+place_of key places = bit_and ((key.id * 256 + key.table) * MULTIPLIER % 2 ^ 64 / 2 ^ 44) (places - 1)
 
 -- what stands past the end of a list
 abbrev pub no_entry : Entry

@@ -80,7 +80,8 @@ impl Writers {
     }
 }
 
-/// The place of a key among so many, which are best a power of two.
+/// The place of a key among so many, which are best a power of two, and at most 2^20: the bits that are taken are the
+/// upper 20 of the product. The lower ones differ less, so that more keys would share a place.
 #[tactic(auto, unfolding(crate::specs::Entries::place_of))]
 fn place_of(key: Key, places: usize) -> usize
     requires { 0 < places }
@@ -88,5 +89,5 @@ fn place_of(key: Key, places: usize) -> usize
     ensures inside { result < places }
 {
     let number = u64::from(key.id) * 256 + u64::from(key.table);
-    (number.wrapping_mul(MULTIPLIER) >> 40) as usize & (places - 1)
+    (number.wrapping_mul(MULTIPLIER) >> 44) as usize & (places - 1)
 }

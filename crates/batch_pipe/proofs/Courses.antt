@@ -22,7 +22,8 @@ use Rattle.batch_pipe.specs.declared.tail.Tail.{Tail}
 use Rattle.batch_pipe.specs.declared.tail.Tail.TheVariants.{End, Refused, Fault, RunMemory}
 use Rattle.batch_pipe.specs.Reading.{Stand, stand, with_batches}
 use Rattle.batch_pipe.specs.Planning.{Plans, Stops, MayStop, ArePlansOf, AreNumbered, answer_of, plans_of}
-use Rattle.batch_pipe.specs.Running.{Manner, AreRun, no_last, state_after, last_after}
+use Rattle.batch_pipe.specs.Running.{Manner, AreRun, state_after, last_after}
+use Rattle.decision_model.specs.Choices.{no_last}
 use Rattle.batch_pipe.specs.Waiting.{PipeView, IsRound, IsGoing, new_pipe, number_before, or_else}
 use Rattle.batch_pipe.specs.Courses.{IsCourse, ending_of}
 use Rattle.batch_pipe.proofs.Ahead.{numbered-append}

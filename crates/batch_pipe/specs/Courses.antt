@@ -11,7 +11,8 @@ use Rattle.batch_pipe.specs.declared.tail.Tail.{Tail}
 use Rattle.batch_pipe.specs.declared.tail.Tail.TheVariants.{End, Refused, Fault, RunMemory}
 use Rattle.batch_pipe.specs.Reading.{stand}
 use Rattle.batch_pipe.specs.Planning.{Plans, AreNumbered, plans_of}
-use Rattle.batch_pipe.specs.Running.{Manner, AreRun, no_last, state_after, last_after}
+use Rattle.batch_pipe.specs.Running.{Manner, AreRun, state_after, last_after}
+use Rattle.decision_model.specs.Choices.{no_last}
 use Rattle.batch_pipe.specs.Waiting.{PipeView, IsGoing}
 
 -- so many rounds of a pipe that was new, with such a reader and engine, led to the pipe `b`. The plans that were sent, numbered from 1, are those

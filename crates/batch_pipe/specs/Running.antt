@@ -1,16 +1,16 @@
 -- Plans that are run, one after another, and what is told of them.
-use Rattle.std.specs.Prelude.{◌≡◌, ℕ, ◌+◌, ◌<◌, ◌≤◌, Bool, true, false, not, if◌then◌else◌, count_by, List, [], ◌∷◌, ◌++◌, length, drop, All, Option, Some, None}
+use Rattle.std.specs.Prelude.{◌≡◌, ℕ, ◌+◌, ◌<◌, ◌≤◌, Bool, true, false, if◌then◌else◌, List, [], ◌∷◌, ◌++◌, length, drop, All, Option, Some, None}
 use Rattle.morph_base.specs.declared.plan.Plan.{Plan}
 use Rattle.morph_base.specs.declared.strategy.Strategy.{Strategy}
 use Rattle.morph_base.specs.Flat.{contents}
 use Rattle.morph_base.specs.States.{State, after_all}
-use Rattle.morph_base.specs.Outcomes.{Fate, fates}
+use Rattle.morph_base.specs.Outcomes.{fates}
 use Rattle.morph_base.specs.Plans.{HasBases, IsSettledOf, transactions}
 use Rattle.morph_base.specs.Graphs.{IsValidPlan}
 use Rattle.morph_engine.specs.Accounts.{IsAccount, account_of}
 use Rattle.morph_engine.specs.Fates.{settled_fates}
 use Rattle.decision_model.specs.declared.counts.Last.{Last}
-use Rattle.decision_model.specs.Choices.{profile_of, strategy_for}
+use Rattle.decision_model.specs.Choices.{last_of, profile_of, strategy_for}
 use Rattle.rtrb.specs.Ring.{received, known_items, SameConsumer}
 use Rattle.batch_pipe.specs.declared.items.Sent.{Sent}
 use Rattle.batch_pipe.specs.declared.items.Ran.{Ran}
@@ -30,14 +30,7 @@ manner pick workers = record { pick = pick; workers = workers }
 abbrev pub picked : Picker → Last → Plan → Strategy
 picked pick last p = if pick.auto then strategy_for (profile_of p last) else pick.strategy
 
--- there was no batch before
-abbrev pub no_last : Last
-no_last = record { events = 0; aborted = 0 }
-
--- what came of a batch: how many events it had, and how many of them aborted
-abbrev pub last_of : List Fate → Last
-last_of fs = record { events = length fs; aborted = count_by (λ f. not f.committed) fs }
-
+-- what came of a batch that was run
 abbrev pub came_of : Ran → Last
 came_of r = last_of (settled_fates r.end.plan r.end.settled)
 

@@ -10,7 +10,8 @@ use Rattle.batch_pipe.specs.declared.tail.Tail.{Tail}
 use Rattle.batch_pipe.specs.declared.tail.Tail.TheVariants.{RunMemory}
 use Rattle.batch_pipe.specs.Reading.{stand}
 use Rattle.batch_pipe.specs.Planning.{Plans, AreNumbered, plans_of}
-use Rattle.batch_pipe.specs.Running.{Manner, AreRun, no_last, state_after, last_after}
+use Rattle.batch_pipe.specs.Running.{Manner, AreRun, state_after, last_after}
+use Rattle.decision_model.specs.Choices.{no_last}
 
 -- a pipe: its reader, the state of its engine, the plans that wait and what came of those that were run, in order, how many plans were sent,
 -- what came of the batch run before, the tail, and how many plans the ring can hold

@@ -5,7 +5,8 @@ ghost use Rattle.morph_base.specs.States.{after_all};
 ghost use Rattle.morph_base.specs.Plans.{IsPlan, IsSettledOf, transactions};
 ghost use Rattle.morph_engine.specs.Fates.{settled_fates};
 ghost use Rattle.batch_pipe.specs.Planning.{IsReady};
-ghost use Rattle.batch_pipe.specs.Running.{IsRun, Runs, HasRun, HasPlace, CanRun, IsRefused, came_of, desk, last_of, manner, one_or_none};
+ghost use Rattle.batch_pipe.specs.Running.{IsRun, Runs, HasRun, HasPlace, CanRun, IsRefused, came_of, desk, manner, one_or_none};
+ghost use Rattle.decision_model.specs.Choices.{last_of};
 
 use crate::items::{Picker, Ran, Sent};
 use decision_model::Last;

@@ -1,14 +1,23 @@
 -- The profile of a batch, and the strategy that is chosen for it.
-use Rattle.std.specs.Prelude.{◌*◌, ◌&&◌, nat_le, if◌then◌else◌}
+use Rattle.std.specs.Prelude.{◌*◌, ◌&&◌, nat_le, not, if◌then◌else◌, List, count_by, length}
 use Rattle.morph_base.specs.declared.plan.Plan.{Plan}
 use Rattle.morph_base.specs.declared.strategy.Strategy.{Strategy}
 use Rattle.morph_base.specs.declared.strategy.Unit.TheVariants.{Op, Chain}
 use Rattle.morph_base.specs.declared.strategy.Explore.TheVariants.{Strata, Steal}
 use Rattle.morph_base.specs.declared.strategy.Abort.TheVariants.{Lazy, Eager}
+use Rattle.morph_base.specs.Outcomes.{Fate}
 use Rattle.morph_base.specs.Plans.{op_count}
 use Rattle.morph_base.specs.Graphs.{op_depth}
 use Rattle.decision_model.specs.declared.counts.Last.{Last}
 use Rattle.decision_model.specs.declared.counts.Profile.{Profile}
+
+-- what came of a batch: how many events it had, and how many of them aborted
+abbrev pub last_of : List Fate → Last
+last_of fs = record { events = length fs; aborted = count_by (λ f. not f.committed) fs }
+
+-- there was no batch before
+abbrev pub no_last : Last
+no_last = record { events = 0; aborted = 0 }
 
 -- the counts of a plan: its operations, the levels of these, and its temporal and parametric dependencies
 abbrev pub profile_of : Plan → Last → Profile

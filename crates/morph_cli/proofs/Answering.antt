@@ -12,7 +12,7 @@ use Rattle.morph_cli.specs.Runs.{EndsSo, EndsMade}
 use Rattle.morph_cli.specs.Status.{note_at, status_of, IsMadeStatus}
 use Rattle.event_reader.specs.Accepted.{accepted, accepted_within}
 use Rattle.run_text.specs.declared.tally.Tally.{Tally}
-use Rattle.morph_cli.specs.Outputs.{Outputs, outputs_of}
+use Rattle.morph_cli.specs.Outputs.{Outputs, has_notes, outputs_of}
 use Rattle.morph_cli.specs.Tallies.{RunTold, CallTold}
 use Rattle.morph_io.specs.Told.{behind, HasRisen, AppendsPrefix}
 use Rattle.morph_cli.proofs.Noting.{risen_before, risen_later}
@@ -44,10 +44,10 @@ headline_asked asked s told left old new r status is status_is ends =
         (headline (meaning_of s) (telling_of s) INPUT_BYTES input (left_by s.generated left) old new r ends)
 
 pub completes_asked : (asked : Option Settings) (s : Settings) (told left old new : Option (List ℕ)) (r : Result Finish Fault) (status : ℕ) (risen : Type 0) →
-    asked ≡ Some s → status ≡ status_of r → Ends s told left old r new → (IsErrOf r Read → ⊥) → ((IsTrue s.notes → risen → ⊥) → IsErrOf r Write → ⊥) →
-    IfSome asked (λ s. (IsTrue s.notes → risen → ⊥) → IfSome (input_of s told) (λ input. Completes (meaning_of s) INPUT_BYTES input status))
+    asked ≡ Some s → status ≡ status_of r → Ends s told left old r new → (IsErrOf r Read → ⊥) → ((IsTrue (has_notes s) → risen → ⊥) → IsErrOf r Write → ⊥) →
+    IfSome asked (λ s. (IsTrue (has_notes s) → risen → ⊥) → IfSome (input_of s told) (λ input. Completes (meaning_of s) INPUT_BYTES input status))
 completes_asked asked s told left old new r status risen is status_is ends reads writes =
-    asked_so (λ s. (IsTrue s.notes → risen → ⊥) → IfSome (input_of s told) (λ input. Completes (meaning_of s) INPUT_BYTES input status)) asked s is
+    asked_so (λ s. (IsTrue (has_notes s) → risen → ⊥) → IfSome (input_of s told) (λ input. Completes (meaning_of s) INPUT_BYTES input status)) asked s is
     (λ none. by_told (writes none) (input_of s told) ends)
   where
     by_told : (IsErrOf r Write → ⊥) → (told : Option (List ℕ)) → EndsBy s told left old r new → IfSome told (λ input. Completes (meaning_of s) INPUT_BYTES input status)
@@ -106,10 +106,10 @@ is_write (Err OutOfMemory) five = absurd (omega (arith, five))
 is_write (Err TooLong) five = absurd (omega (arith, five))
 
 pub write_asked : (asked : Option Settings) (s : Settings) (r : Result Finish Fault) (status : ℕ) (Sunk : Type 0) (n0 n1 n2 : ℕ) → asked ≡ Some s → status ≡ status_of r →
-    (IsErrOf r Write → Sunk ⊎ (IsTrue s.notes × HasRisen n0 n1)) → n1 ≤ n2 → IfSome asked (λ s. status ≡ 5 → Sunk ⊎ (IsTrue s.notes × HasRisen n0 n2))
+    (IsErrOf r Write → Sunk ⊎ (IsTrue (has_notes s) × HasRisen n0 n1)) → n1 ≤ n2 → IfSome asked (λ s. status ≡ 5 → Sunk ⊎ (IsTrue (has_notes s) × HasRisen n0 n2))
 write_asked asked s r status Sunk n0 n1 n2 is status_is cause later =
-    asked_so (λ s. status ≡ 5 → Sunk ⊎ (IsTrue s.notes × HasRisen n0 n2)) asked s is (λ five. by_cause (cause (is_write r (sym status_is ∙ five))))
+    asked_so (λ s. status ≡ 5 → Sunk ⊎ (IsTrue (has_notes s) × HasRisen n0 n2)) asked s is (λ five. by_cause (cause (is_write r (sym status_is ∙ five))))
   where
-    by_cause : Sunk ⊎ (IsTrue s.notes × HasRisen n0 n1) → Sunk ⊎ (IsTrue s.notes × HasRisen n0 n2)
+    by_cause : Sunk ⊎ (IsTrue (has_notes s) × HasRisen n0 n1) → Sunk ⊎ (IsTrue (has_notes s) × HasRisen n0 n2)
     by_cause (inl sunk) = inl sunk
     by_cause (inr noted) = inr (noted.0, risen_before n0 n1 n2 later noted.1)

@@ -31,13 +31,15 @@ use Rattle.morph_cli.specs.Faults.{fault_of}
 use Rattle.run_text.specs.Reports.{report_of}
 use Rattle.run_text.specs.Text.{told_lines, told_values, counts_line}
 use Rattle.run_text.specs.Counts.{Adds, HasRoom, no_tally}
-use Rattle.morph_cli.specs.Strategies.{last_of, no_last, strategy_by}
+use Rattle.morph_cli.specs.Strategies.{strategy_by}
+use Rattle.decision_model.specs.Choices.{last_of, no_last}
 use Rattle.morph_cli.specs.Tallies.{IsMadeOf, IsSound}
 use Rattle.morph_cli.specs.Outputs.{Outputs, with_both, IsCutIn}
 use Rattle.morph_cli.specs.Status.{status_of}
 use Rattle.morph_cli.specs.Apps.{telling_by}
 use Rattle.run_text.specs.declared.choices.Settings.{Settings}
-use Rattle.morph_cli.proofs.Noting.{note_of}
+use Rattle.snapshot_reader.specs.declared.viewer.Total.{Total}
+use Rattle.morph_cli.proofs.Noting.{IsAudit, told_note}
 use Rattle.morph_cli.proofs.Tallying.{last_after, last_is, last_start, at_any}
 use Rattle.morph_cli.proofs.Taking.{TakesOn, takes_start, takes_batch}
 use Rattle.morph_cli.proofs.Turns.{cut_text}
@@ -80,7 +82,10 @@ course_of event_of tables name app s limit input old = record {
   old = old;
 }
 
--- what a fault of the reader is to a run is no failed write
+-- want of memory, and what a fault of the reader is to a run, are no failed write
+pub no_write : RunMemory ≡ Write → ⊥
+no_write is = absurd (cc)
+
 pub reads_only : (e : ReaderFault) → fault_of e ≡ Write → ⊥
 reads_only ReadFault is = absurd (cc)
 reads_only LongInput is = absurd (cc)
@@ -160,21 +165,21 @@ module _ {App : Type 0} where
   meaning_is c r app_is size_is = ap (λ a. c.event_of a r.size) app_is ∙ ap (c.event_of c.app) size_is
 
   pub between_batch : {c : Course App} {left left' : Option (List ℕ)} {new newer : Outputs} {r r' : ReaderView App} {values values' : Kept} {tally tally' : Tally} {out out' : List ℕ} {last last' : Last}
-      (batch : TheBatch) (told : List Fate) (a : Account) → Between c left new r values tally out last →
+      (batch : TheBatch) (told : List Fate) (a : Account) (audit : Option Total) → Between c left new r values tally out last →
       AnswersNext (accepted_by c.event_of r left) (Ok (Batch batch)) (accepted_by c.event_of r' left') →
       Takes left left' (ShowsNext c.event_of r (Ok (Batch batch)) r') →
       0 < length batch.events.items → r.lines.number + length batch.events.items ≤ r'.lines.number → r'.lines.number ≤ r'.lines.limit + 1 →
       (r'.app ≡ r.app) × (r'.size ≡ r.size) × (r'.lines.limit ≡ r.lines.limit) →
       (r'.lines.ended ≡ false → r.lines.ended ≡ false) → r'.live ≡ true → values'.layout ≡ values.layout →
       contents values' ≡ fold_batch batch (contents values) → told ≡ fates (contents values) (by_time (transactions_of batch)) →
-      newer ≡ with_both new (told_lines c.telling.report told) (note_of c.settings tally'.batches a) → out' ≡ [] →
+      newer ≡ with_both new (told_lines c.telling.report told) (told_note c.settings tally'.batches audit a) → out' ≡ [] → IsAudit c.settings (contents values) tally.batches audit →
       Adds tally tally' a told → IsSound c.settings.workers a → IsMadeOf (contents values) (transactions_of batch) a.plan → a.strategy ≡ strategy_by c.settings.planning a.plan last →
       last' ≡ last_of told → Between c left' newer r' values' tally' out' last'
   unfolding goes_batch
-  between_batch {c} {left} {left'} {new} {newer} {r} {r'} {values} {values'} {tally} {tally'} {out} {out'} {last} {last'} batch told a b answers shows some counted bound same unended live layout_is
-      state fates_are written empty adds sound made chosen last_told = record {
-        goes = goes_batch c _ (accepted_by c.event_of r' left') new newer (contents values) (contents values') tally tally' (transactions_of batch) told a b.goes (simp length-map some) answers
-            state fates_are written adds sound made (chosen ∙ ap (strategy_by c.settings.planning a.plan) b.last_is) (some_fates (contents values) batch told fates_are some);
+  between_batch {c} {left} {left'} {new} {newer} {r} {r'} {values} {values'} {tally} {tally'} {out} {out'} {last} {last'} batch told a audit b answers shows some counted bound same unended live layout_is
+      state fates_are written empty seen adds sound made chosen last_told = record {
+        goes = goes_batch c _ (accepted_by c.event_of r' left') new newer (contents values) (contents values') tally tally' (transactions_of batch) told a audit b.goes (simp length-map some) answers
+            state fates_are written seen adds sound made (chosen ∙ ap (strategy_by c.settings.planning a.plan) b.last_is) (some_fates (contents values) batch told fates_are some);
         takes = takes_batch (meaning_in c) c.input left left' r.closed r'.closed r.lines r'.lines b.goes.done batch b.takes (simp length-map some) unended
             (subst (λ m. Takes left left' (ShowsBatch m r.closed r.lines (Ok (Batch batch)) r'.closed r'.lines)) (meaning_is c r b.app_is b.size_is) shows);
         layout = layout_is ∙ b.layout;
@@ -224,11 +229,11 @@ module _ {App : Type 0} where
       (cut_text new (told_lines c.telling.report told) note newer cut)
 
   pub told_cut_in_batch : {c : Course App} {left : Option (List ℕ)} {new : Outputs} {r : ReaderView App} {values : Kept} {tally tally' : Tally} {out : List ℕ} {last : Last} {x : Result Finish Fault}
-      (left' : Option (List ℕ)) (newer : Outputs) (r' : ReaderView App) (batch : TheBatch) (told : List Fate) (a : Account) → x ≡ Err Write → Between c left new r values tally out last →
+      (left' : Option (List ℕ)) (newer : Outputs) (r' : ReaderView App) (batch : TheBatch) (told : List Fate) (a : Account) (audit : Option Total) → x ≡ Err Write → Between c left new r values tally out last →
       AnswersNext (accepted_by c.event_of r left) (Ok (Batch batch)) (accepted_by c.event_of r' left') → 0 < length batch.events.items →
       told ≡ fates (contents values) (by_time (transactions_of batch)) →
       Adds tally tally' a told → IsSound c.settings.workers a → IsMadeOf (contents values) (transactions_of batch) a.plan → a.strategy ≡ strategy_by c.settings.planning a.plan last →
-      IsCutIn new (told_lines c.telling.report told) (note_of c.settings tally'.batches a) newer → IsTold c (status_of x) tally' newer
-  told_cut_in_batch {c} {left} {new} {r} {values} {tally} {tally'} {out} {last} {x} left' newer r' batch told a failed b answers some fates_are adds sound made chosen cut =
-      told_in_batch (accepted_by c.event_of r' left') newer (transactions_of batch) failed b.goes answers (simp length-map some) fates_are
-      adds sound made (chosen ∙ ap (strategy_by c.settings.planning a.plan) b.last_is) (some_fates (contents values) batch told fates_are some) cut
+      IsAudit c.settings (contents values) tally.batches audit → IsCutIn new (told_lines c.telling.report told) (told_note c.settings tally'.batches audit a) newer → IsTold c (status_of x) tally' newer
+  told_cut_in_batch {c} {left} {new} {r} {values} {tally} {tally'} {out} {last} {x} left' newer r' batch told a audit failed b answers some fates_are adds sound made chosen seen cut =
+      told_in_batch (accepted_by c.event_of r' left') newer (transactions_of batch) audit failed b.goes answers (simp length-map some) fates_are
+      adds sound made (chosen ∙ ap (strategy_by c.settings.planning a.plan) b.last_is) (some_fates (contents values) batch told fates_are some) seen cut

@@ -1,6 +1,6 @@
 -- How a run ends, by the answer that ends it.
-use Rattle.std.proofs.Common.{◌≡◌, ◌⊎◌, inl, inr, ℕ, ◌+◌, ◌-◌, ◌<◌, false, List, [], ◌∷◌, ◌++◌, length, Option, Some, None, Result, Ok, Err, refl, ap, sym, subst, ◌∙◌, arith}
-use Rattle.std.specs.Prelude.{option_map, IfSome}
+use Rattle.std.proofs.Common.{◌≡◌, ◌⊎◌, inl, inr, ℕ, ◌+◌, ◌-◌, ◌<◌, Bool, false, List, [], ◌∷◌, ◌++◌, length, Option, Some, None, Result, Ok, Err, refl, ap, sym, subst, ◌∙◌, arith}
+use Rattle.std.specs.Prelude.{is_some, option_map, IfSome}
 use Rattle.morph_base.specs.Transactions.{Transaction, by_time}
 use Rattle.morph_base.specs.States.{State, opening_state, after_all}
 use Rattle.morph_base.specs.Outcomes.{Fate, fates}
@@ -18,14 +18,15 @@ use Rattle.morph_cli.specs.declared.fault.Fault.TheVariants.{Read, Write, OutOfM
 use Rattle.morph_cli.specs.declared.run.Finish.{Finish}
 use Rattle.morph_cli.specs.declared.run.Finish.TheVariants.{Complete, Refused}
 use Rattle.run_text.specs.Notes.{noted, closing_notes}
-use Rattle.morph_cli.specs.Outputs.{Outputs, with_both, with_batches, IsCutIn, IsAtLast}
+use Rattle.snapshot_reader.specs.declared.viewer.Total.{Total}
+use Rattle.morph_cli.specs.Outputs.{Outputs, note_of, with_both, with_batches, AreAudits, IsCutIn, IsAtLast}
 use Rattle.morph_cli.specs.Runs.{EndsSo}
 use Rattle.morph_cli.specs.Status.{status_of}
 use Rattle.run_text.specs.Counts.{Adds, no_tally}
 use Rattle.morph_cli.specs.Strategies.{strategy_by}
 use Rattle.morph_cli.specs.Tallies.{IsMadeOf, IsSound, RunTold}
 use Rattle.run_text.specs.Text.{Telling, event_lines, told_lines, run_state, end_text}
-use Rattle.morph_cli.proofs.Noting.{IsNoted, note_of, notes_of, noted_nothing, noted_more, number_is}
+use Rattle.morph_cli.proofs.Noting.{IsNoted, notes_of, noted_nothing, noted_more, IsAudit, told_note, told_note_is, no_audits, audits_more, as_many}
 use Rattle.morph_cli.proofs.Running.{RunsOn, IsLast, fronts, runs_start, runs_batch, runs_ended, runs_done, runs_cut, runs_short, runs_cut_in_batch, whole_more, told_more, last_is}
 use Rattle.morph_cli.proofs.Taking.{TakesOn, takes_failed}
 use Rattle.morph_cli.proofs.Tallying.{Tallied, last_after, tallied_start, tallied_more}
@@ -126,7 +127,9 @@ module _ {App : Type 0} where
     pub accounts : List Account
     pub tallied : Tallied c.settings.planning c.settings.workers done accounts tally
     pub runs : RunsOn c.telling (accepted_in c) now c.old.sink new.sink s tally done
-    pub noted : IsNoted c.settings accounts c.old.notes new.notes
+    pub audits : List Bool
+    pub audited : AreAudits c.settings accounts audits
+    pub noted : IsNoted c.settings done accounts audits c.old.notes new.notes
 
   -- the strategy of a batch behind these is the one that was asked for, or chosen
   abbrev pub IsChosen : Course App → (done : List (List Transaction)) → Account → Type 0
@@ -149,6 +152,8 @@ module _ {App : Type 0} where
     tallied = tallied_start c.settings.planning c.settings.workers tally none;
     runs = subst (λ all. RunsOn c.telling (accepted_in c) all c.old.sink c.old.sink s tally []) given
         (runs_start c.telling (accepted_in c) c.old.sink s tally opening (ap (λ (t : Tally). t.committed) none) (ap (λ (t : Tally). t.aborted) none));
+    audits = [];
+    audited = no_audits c.settings;
     noted = noted_nothing c.settings c.old.notes;
   }
 
@@ -162,17 +167,20 @@ module _ {App : Type 0} where
 
   -- a batch was done
   unfoldable pub goes_batch : (c : Course App) (now next : Option Accepted) (new newer : Outputs) (s t : State) (tally tally' : Tally) (batch : List Transaction)
-      (told : List Fate) (a : Account) → (goes : Goes c now new s tally) → 0 < length batch → now ≡ option_map (with_batch batch) next →
-      t ≡ after_all s (by_time batch) → told ≡ fates s (by_time batch) → newer ≡ with_both new (told_lines c.telling.report told) (note_of c.settings tally'.batches a) →
-      Adds tally tally' a told → IsSound c.settings.workers a → IsMadeOf s batch a.plan → IsChosen c goes.done a → 0 < length told → Goes c next newer t tally'
-  goes_batch c now next new newer s t tally tally' batch told a goes some was state told_is written adds sound made chosen events = record {
+      (told : List Fate) (a : Account) (audit : Option Total) → (goes : Goes c now new s tally) → 0 < length batch → now ≡ option_map (with_batch batch) next →
+      t ≡ after_all s (by_time batch) → told ≡ fates s (by_time batch) → newer ≡ with_both new (told_lines c.telling.report told) (told_note c.settings tally'.batches audit a) →
+      IsAudit c.settings s tally.batches audit → Adds tally tally' a told → IsSound c.settings.workers a → IsMadeOf s batch a.plan → IsChosen c goes.done a → 0 < length told → Goes c next newer t tally'
+  goes_batch c now next new newer s t tally tally' batch told a audit goes some was state told_is written seen adds sound made chosen events = record {
     done = goes.done ++ batch ∷ [];
     accounts = goes.accounts ++ a ∷ [];
     tallied = tallied_batch c now new s tally tally' batch told a goes told_is adds sound made chosen events;
     runs = runs_batch c.telling _ _ _ c.old.sink new.sink newer.sink s t tally tally' goes.done batch told goes.runs was some state told_is
         (ap (λ (o : Outputs). o.sink) written) adds.committed adds.aborted;
-    noted = noted_more c.settings goes.accounts a tally'.batches c.old.notes new.notes newer.notes (number_is tally'.batches goes.tallied adds.batches) goes.noted
-        (ap (λ (o : Outputs). o.notes) written);
+    audits = goes.audits ++ is_some audit ∷ [];
+    audited = audits_more c.settings goes.accounts goes.audits a (is_some audit) goes.audited seen.unwatched;
+    noted = noted_more c.settings goes.done goes.accounts goes.audits batch a (is_some audit) s c.old.notes new.notes newer.notes (as_many goes.tallied) goes.audited goes.runs.state goes.noted
+        (ap (λ (o : Outputs). o.notes) written ∙ ap (behind new.notes) (told_note_is c.settings s tally.batches tally'.batches audit a adds.batches seen)
+        ∙ ap (λ n. behind new.notes (note_of c.settings s n (is_some audit) a)) goes.tallied.counts.batches);
   }
 
   -- ---- how the run ends
@@ -261,9 +269,9 @@ module _ {App : Type 0} where
 
   -- what was written so far
   wrote : (c : Course App) (now : Option Accepted) (new : Outputs) (s : State) (tally : Tally) (goes : Goes c now new s tally) →
-      new ≡ with_batches c.old c.telling.report c.settings goes.done goes.accounts
+      new ≡ with_batches c.old c.telling.report c.settings goes.done goes.accounts goes.audits
   wrote c now new s tally goes =
-      both_is new (behind c.old.sink (event_lines c.telling.report goes.done)) (behind c.old.notes (notes_of c.settings goes.accounts)) goes.runs.appended goes.noted
+      both_is new (behind c.old.sink (event_lines c.telling.report goes.done)) (behind c.old.notes (notes_of c.settings goes.done goes.accounts goes.audits)) goes.runs.appended goes.noted
 
   -- the run was cut off between two batches
   pub told_short : {c : Course App} {now : Option Accepted} {new : Outputs} {s : State} {tally : Tally} {x : Result Finish Fault} (e : Fault) → x ≡ Err e → (e ≡ Write → ⊥) →
@@ -272,6 +280,8 @@ module _ {App : Type 0} where
     done = goes.done;
     rest = still now;
     accounts = goes.accounts;
+    audits = goes.audits;
+    audited = goes.audited;
     parts = parts_are (accepted_in c) now goes.done goes.runs.whole;
     ran = goes.tallied.ran;
     sound = goes.tallied.sound;
@@ -285,16 +295,18 @@ module _ {App : Type 0} where
 
   -- a write failed in a batch that was run
   pub told_in_batch : {c : Course App} {now : Option Accepted} {new : Outputs} {s : State} {tally tally' : Tally} {x : Result Finish Fault}
-      {a : Account} {told : List Fate} (next : Option Accepted) (newer : Outputs) (batch : List Transaction) → x ≡ Err Write → (goes : Goes c now new s tally) →
+      {a : Account} {told : List Fate} (next : Option Accepted) (newer : Outputs) (batch : List Transaction) (audit : Option Total) → x ≡ Err Write → (goes : Goes c now new s tally) →
       now ≡ option_map (with_batch batch) next → 0 < length batch → told ≡ fates s (by_time batch) →
       Adds tally tally' a told → IsSound c.settings.workers a → IsMadeOf s batch a.plan → IsChosen c goes.done a → 0 < length told →
-      IsCutIn new (told_lines c.telling.report told) (note_of c.settings tally'.batches a) newer → IsTold c (status_of x) tally' newer
-  told_in_batch {c} {now} {new} {s} {tally} {tally'} {x} {a} {told} next newer batch failed goes was some told_is adds sound made chosen events cut =
+      IsAudit c.settings s tally.batches audit → IsCutIn new (told_lines c.telling.report told) (told_note c.settings tally'.batches audit a) newer → IsTold c (status_of x) tally' newer
+  told_in_batch {c} {now} {new} {s} {tally} {tally'} {x} {a} {told} next newer batch audit failed goes was some told_is adds sound made chosen events seen cut =
       let tallied = tallied_batch c now new s tally tally' batch told a goes told_is adds sound made chosen events in
       subst (λ y. IsTold c (status_of y) tally' newer) (sym failed) (record {
         done = goes.done ++ batch ∷ [];
         rest = still next;
         accounts = goes.accounts ++ a ∷ [];
+        audits = goes.audits ++ is_some audit ∷ [];
+        audited = audits_more c.settings goes.accounts goes.audits a (is_some audit) goes.audited seen.unwatched;
         parts = parts_are (accepted_in c) next (goes.done ++ batch ∷ [])
             (whole_more (accepted_in c) now next goes.done batch goes.runs.whole was some);
         ran = tallied.ran;
@@ -307,15 +319,21 @@ module _ {App : Type 0} where
         cut = λ is. inl (record {
           before = goes.done;
           before_accounts = goes.accounts;
+          before_audits = goes.audits;
           batch = batch;
           account = a;
+          audited = is_some audit;
           done_is = refl;
           accounts_is = refl;
-          cut = cut_as new (with_batches c.old c.telling.report c.settings goes.done goes.accounts) (told_lines c.telling.report told)
-              (told_lines c.telling.report (fates (run_state goes.done) (by_time batch))) (note_of c.settings tally'.batches a) (note_of c.settings (length (goes.done ++ batch ∷ [])) a) newer
+          audits_is = refl;
+          cut = cut_as new (with_batches c.old c.telling.report c.settings goes.done goes.accounts goes.audits) (told_lines c.telling.report told)
+              (told_lines c.telling.report (fates (run_state goes.done) (by_time batch))) (told_note c.settings tally'.batches audit a)
+              (note_of c.settings (run_state goes.done) (length goes.done) (is_some audit) a) newer
               (wrote c now new s tally goes)
               (ap (told_lines c.telling.report) (told_is ∙ ap (λ q. fates q (by_time batch)) goes.runs.state))
-              (ap (λ k. note_of c.settings k a) tallied.counts.batches) cut;
+              (told_note_is c.settings s tally.batches tally'.batches audit a adds.batches seen
+              ∙ ap (λ q. note_of c.settings q tally.batches (is_some audit) a) goes.runs.state
+              ∙ ap (λ n. note_of c.settings (run_state goes.done) n (is_some audit) a) goes.tallied.counts.batches) cut;
         });
       })
 
@@ -342,6 +360,8 @@ module _ {App : Type 0} where
     done = goes.done;
     rest = [];
     accounts = goes.accounts;
+    audits = goes.audits;
+    audited = goes.audited;
     parts = last_parts (accepted_in c) now goes.done ending goes.runs.whole over;
     ran = goes.tallied.ran;
     sound = goes.tallied.sound;
@@ -350,7 +370,7 @@ module _ {App : Type 0} where
     balanced = goes.tallied.balanced;
     whole = λ is. (
       at_last c now new s tally ending reached goes over,
-      both_as new (with_batches c.old c.telling.report c.settings goes.done goes.accounts) text (end_text c.telling goes.done ending) (noted c.settings.notes (closing_notes c.settings.workers tally)) (noted c.settings.notes (closing_notes c.settings.workers tally)) newer
+      both_as new (with_batches c.old c.telling.report c.settings goes.done goes.accounts goes.audits) text (end_text c.telling goes.done ending) (noted c.settings.notes (closing_notes c.settings.workers tally)) (noted c.settings.notes (closing_notes c.settings.workers tally)) newer
           (wrote c now new s tally goes) (text_is c now new s tally ending text goes last) refl written,
     );
     short = λ is. absurd (whole_not_short status ends is);
@@ -365,6 +385,8 @@ module _ {App : Type 0} where
     done = goes.done;
     rest = [];
     accounts = goes.accounts;
+    audits = goes.audits;
+    audited = goes.audited;
     parts = last_parts (accepted_in c) now goes.done ending goes.runs.whole over;
     ran = goes.tallied.ran;
     sound = goes.tallied.sound;
@@ -375,7 +397,7 @@ module _ {App : Type 0} where
     short = λ is. absurd (write_not_short 5 refl is);
     cut = λ is. inr (
       at_last c now new s tally ending reached goes over,
-      cut_as new (with_batches c.old c.telling.report c.settings goes.done goes.accounts) text (end_text c.telling goes.done ending) (noted c.settings.notes (closing_notes c.settings.workers tally)) (noted c.settings.notes (closing_notes c.settings.workers tally)) newer
+      cut_as new (with_batches c.old c.telling.report c.settings goes.done goes.accounts goes.audits) text (end_text c.telling goes.done ending) (noted c.settings.notes (closing_notes c.settings.workers tally)) (noted c.settings.notes (closing_notes c.settings.workers tally)) newer
           (wrote c now new s tally goes) (text_is c now new s tally ending text goes last) refl cut,
     );
   })

@@ -144,7 +144,7 @@ module _ (meaning : Meaning) (telling : Telling) (limit : ℕ) (input : List ℕ
 
   -- what is told of a run that was cut off before the end, over the whole input
   told_within : (status : ℕ) (t : Tally) (s : Settings) (before after : Outputs) (counted : RunTold telling (Some some) s status t before after) →
-      ((status ≡ 0) ⊎ (status ≡ 3) → ⊥) → (status ≡ 5 → IsCutInBatch telling.report s counted.done counted.accounts before after) →
+      ((status ≡ 0) ⊎ (status ≡ 3) → ⊥) → (status ≡ 5 → IsCutInBatch telling.report s counted.done counted.accounts counted.audits before after) →
       RunTold telling (Some all) s status t before after
   told_within status t s before after counted unended cut =
       let first = within_is_first meaning limit input in
@@ -152,6 +152,8 @@ module _ (meaning : Meaning) (telling : Telling) (limit : ℕ) (input : List ℕ
         done = counted.done;
         rest = counted.rest ++ first.more;
         accounts = counted.accounts;
+        audits = counted.audits;
+        audited = counted.audited;
         parts = first.batches ∙ ap (λ l. l ++ first.more) counted.parts ∙ append_assoc counted.done counted.rest first.more;
         ran = counted.ran;
         sound = counted.sound;
@@ -190,8 +192,8 @@ module _ (meaning : Meaning) (telling : Telling) (limit : ℕ) (input : List ℕ
       told_within 7 t s before after counted (not_whole 7 (omega arith)) (λ is. absurd (omega (arith, is)))
   told_all left old new (Err Write) t s before after ends counted = by_cut (counted.cut refl)
     where
-      by_cut : IsCutInBatch telling.report s counted.done counted.accounts before after ⊎ ((last : IsAtLast (Some some) counted.rest)
-          × IsCutIn (with_batches before telling.report s counted.done counted.accounts) (end_text telling counted.done last.ending) (noted s.notes (closing_notes s.workers t)) after) →
+      by_cut : IsCutInBatch telling.report s counted.done counted.accounts counted.audits before after ⊎ ((last : IsAtLast (Some some) counted.rest)
+          × IsCutIn (with_batches before telling.report s counted.done counted.accounts counted.audits) (end_text telling counted.done last.ending) (noted s.notes (closing_notes s.workers t)) after) →
           RunTold telling (Some all) s 5 t before after
       by_cut (inl cut) = told_within 5 t s before after counted (not_whole 5 (omega arith)) (λ is. cut)
       by_cut (inr last) = told_same 5 t s before after last.0.ending last.0.reached last.0.ends counted

@@ -8,5 +8,7 @@ pub mod Making
 pub mod Tallying
 pub mod Noting
 pub mod Turns
+pub mod Watches
 pub mod Starting
 pub mod Piping
+pub mod Tails

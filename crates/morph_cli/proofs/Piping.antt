@@ -49,7 +49,7 @@ use Rattle.morph_cli.proofs.Between.{room_for, meaning_is}
 use Rattle.morph_cli.proofs.Taking.{TakesOn}
 use Rattle.morph_cli.proofs.Turns.{cut_text}
 use Rattle.morph_cli.proofs.Ending.{Course, Goes, Ends, IsTold, meaning_in, accepted_in, ends_read, ends_long, ends_memory, given_at_start, goes_start, goes_batch, ends_batch_cut, told_in_batch, IsChosen}
-use Rattle.morph_cli.proofs.Noting.{note_of}
+use Rattle.morph_cli.proofs.Noting.{told_note, unseen}
 use Rattle.morph_cli.proofs.Running.{RunsOn, fronts, option_map-same, option_map-twice, with_batch-fronts}
 use Rattle.morph_cli.proofs.Tallying.{last_after, last_is, last_start}
 
@@ -284,6 +284,8 @@ module _ {App : Type 0} where
             accounts = p.goes.accounts;
             tallied = p.goes.tallied;
             runs = subst (λ now. RunsOn c.telling (accepted_in c) now c.old.sink new.sink p.state tally p.goes.done) (still_there o) p.goes.runs;
+            audits = p.goes.audits;
+            audited = p.goes.audited;
             noted = p.goes.noted;
           };
           read = subst (λ l. Gives c.event_of (start_of c) l o.middle) (parts_are p.goes.done) o.read;
@@ -402,13 +404,13 @@ module _ {App : Type 0} where
         ends_batch_cut after left' newer next.batch told failed p.goes some_events was told_is (cut_text new (told_lines c.telling.report told) note newer cut_there)
 
     pub told_in_run : {x : Result Finish Fault} (newer : Outputs) (tally' : Tally) → x ≡ Err Write → Adds tally tally' (account_of r.end) told →
-        IsCutIn new (told_lines c.telling.report told) (note_of c.settings tally'.batches (account_of r.end)) newer → IsTold c (status_of x) tally' newer
+        IsCutIn new (told_lines c.telling.report told) (told_note c.settings tally'.batches None (account_of r.end)) newer → IsTold c (status_of x) tally' newer
     told_in_run newer tally' failed adds cut_there =
-        told_in_batch after newer next.batch failed p.goes was some_events told_is adds is_sound is_made is_chosen some_told cut_there
+        told_in_batch after newer next.batch None failed p.goes was some_events told_is adds is_sound is_made is_chosen some_told (unseen c.settings p.state tally.batches) cut_there
 
     -- it was written
     pub piped_told : (b' : PipeView App) (newer : Outputs) (tally' : Tally) (out' : List ℕ) → b' ≡ record b { rans = rs } →
-        newer ≡ with_both new (told_lines c.telling.report told) (note_of c.settings tally'.batches (account_of r.end)) → out' ≡ [] →
+        newer ≡ with_both new (told_lines c.telling.report told) (told_note c.settings tally'.batches None (account_of r.end)) → out' ≡ [] →
         Adds tally tally' (account_of r.end) told → Piped c m b' left newer tally' out'
     unfolding goes_batch state_after pipe_last
     piped_told b' newer tally' out' same written empty adds =
@@ -418,8 +420,8 @@ module _ {App : Type 0} where
           behind = p.behind;
           state = after_all p.state (transactions next.x.plan);
           last = came_of r;
-          goes = goes_batch c (from_there c (p.front ++ p.behind) p.middle) after new newer p.state (after_all p.state (transactions next.x.plan)) tally tally' next.batch told (account_of r.end) p.goes
-              some_events was (ap (after_all p.state) next.of_batch) told_is written adds is_sound is_made is_chosen some_told;
+          goes = goes_batch c (from_there c (p.front ++ p.behind) p.middle) after new newer p.state (after_all p.state (transactions next.x.plan)) tally tally' next.batch told (account_of r.end) None p.goes
+              some_events was (ap (after_all p.state) next.of_batch) told_is written (unseen c.settings p.state tally.batches) adds is_sound is_made is_chosen some_told;
           read = subst (λ l. Gives c.event_of (start_of c) l p.middle)
               (all_is p.goes.done ∙ sym (append_assoc p.goes.done (next.batch ∷ []) (next.rest ++ p.behind)) ∙ sym (append_assoc (p.goes.done ++ next.batch ∷ []) next.rest p.behind)) p.read;
           stops = p.stops;
@@ -486,6 +488,8 @@ module _ {App : Type 0} where
             accounts = p.goes.accounts;
             tallied = p.goes.tallied;
             runs = subst (λ n. RunsOn c.telling (accepted_in c) n c.old.sink new.sink p.state tally p.goes.done) now p.goes.runs;
+            audits = p.goes.audits;
+            audited = p.goes.audited;
             noted = p.goes.noted;
           };
           read = subst (λ l. Gives c.event_of (start_of c) l p.middle) done p.read;

@@ -3,6 +3,7 @@ use Rattle.std.proofs.Common.{◌≡◌, ◌⊎◌, inl, inr, ℕ, List, [], Opt
 use Rattle.std.specs.Prelude.{IfSome, IfOk, IsTrue}
 use Rattle.morph_io.specs.Told.{behind, behind_nil}
 use Rattle.event_reader.specs.Accepted.{accepted_within}
+use Rattle.morph_cli.specs.Outputs.{has_notes}
 use Rattle.morph_cli.specs.declared.fault.Fault.TheVariants.{OutOfMemory}
 use Rattle.run_text.specs.declared.choices.Settings.{Settings}
 use Rattle.morph_cli.specs.Apps.{input_of, left_by, meaning_of, telling_of}
@@ -53,10 +54,10 @@ no_memory words told old status is = by_settings (settings_of words)
 
 -- a write failed, whatever the settings say of the notes
 pub write_along : (asked : Option Settings) (status status' : ℕ) (Sunk Noted : Type 0) → status' ≡ status → (asked ≡ None → status ≡ 2) →
-    IfSome asked (λ s. status ≡ 5 → Sunk ⊎ (IsTrue s.notes × Noted)) → status' ≡ 5 → Sunk ⊎ Noted
+    IfSome asked (λ s. status ≡ 5 → Sunk ⊎ (IsTrue (has_notes s) × Noted)) → status' ≡ 5 → Sunk ⊎ Noted
 write_along None status status' Sunk Noted is usage cause five = let two = usage refl in absurd (omega (arith, is, two, five))
 write_along (Some s) status status' Sunk Noted is usage cause five = by_cause (cause (sym is ∙ five))
   where
-    by_cause : Sunk ⊎ (IsTrue s.notes × Noted) → Sunk ⊎ Noted
+    by_cause : Sunk ⊎ (IsTrue (has_notes s) × Noted) → Sunk ⊎ Noted
     by_cause (inl sunk) = inl sunk
     by_cause (inr noted) = inr noted.1

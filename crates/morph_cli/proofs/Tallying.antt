@@ -28,7 +28,8 @@ use Rattle.run_text.specs.Text.{in_order, run_state, run_fates, committed_in, ab
 use Rattle.run_text.specs.Counts.{Adds, counted_to, no_tally}
 use Rattle.run_text.proofs.Workers.{counted_more, counts_of_none, settled_beyond}
 use Rattle.steal_explorer.specs.Dealing.{level_one}
-use Rattle.morph_cli.specs.Strategies.{last_of, no_last, last_from, strategy_by}
+use Rattle.morph_cli.specs.Strategies.{last_from, strategy_by}
+use Rattle.decision_model.specs.Choices.{last_of, no_last}
 use Rattle.morph_cli.specs.Tallies.{IsMadeOf, AreRunFrom, IsSound, AreLazy, AreExploredBy, IsTallyOf, IsLazyTally, IsFounded, IsBalancedBy, IsBalanced, committed_by_workers, dealt_by, dealt_count}
 
 -- between two batches: the accounts of those that were done, and their tally with the bounds of its numbers

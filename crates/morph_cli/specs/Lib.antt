@@ -7,3 +7,5 @@ pub mod Apps
 pub mod Strategies
 pub mod Tallies
 pub mod Outputs
+pub mod Batches
+pub mod Endings

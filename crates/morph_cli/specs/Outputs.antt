@@ -1,15 +1,18 @@
--- What stands in the sink and in the notes, by the order of the writes: the lines of a batch, its note, then the lines of the next one; at the end
--- the closing or the refused text, and then the tally.
-use Rattle.std.specs.Prelude.{◌≡◌, ℕ, ◌⊎◌, List, [], ◌∷◌, ◌++◌, length, Option, IfSome, Result, Ok, Err}
+-- What stands in the sink and in the notes, by the order of the writes: the lines of a batch, its audit line and its own line in the notes, then the
+-- lines of the next one; at the end the closing or the refused text, and then the tally.
+use Rattle.std.specs.Prelude.{◌≡◌, ℕ, ◌+◌, ◌⊎◌, ◌||◌, Bool, true, false, All, List, [], ◌∷◌, ◌++◌, length, Option, Some, None, IfSome, Result, Ok, Err}
 use Rattle.morph_base.specs.Transactions.{Transaction, by_time}
 use Rattle.morph_engine.specs.Accounts.{Account}
 use Rattle.morph_base.specs.Outcomes.{fates}
+use Rattle.morph_base.specs.States.{State, opening_state, after_all}
 use Rattle.morph_io.specs.Told.{behind, AppendsPrefix}
 use Rattle.event_reader.specs.Accepted.{Accepted, Ending, CutOff}
 use Rattle.run_text.specs.declared.choices.Settings.{Settings}
 use Rattle.run_text.specs.declared.report.Report.{Report}
 use Rattle.run_text.specs.Text.{event_lines, told_lines, run_state}
-use Rattle.run_text.specs.Notes.{noted, batch_note, batch_notes}
+use Rattle.run_text.specs.Notes.{noted, audit_note, batch_note}
+use Rattle.snapshot_reader.specs.declared.viewer.Total.{Total}
+use Rattle.version_table.specs.Totals.{total_of}
 
 -- what the sink and the notes tell of the bytes that were written to them
 pub record Outputs : Type 0 where
@@ -33,20 +36,54 @@ abbrev pub Tells : {T E : Type 0} → Result T E → Outputs → (text note : Li
 Tells (Ok done) old text note new = new ≡ with_both old text note
 Tells (Err fault) old text note new = IsCutIn old text note new
 
+-- whether a batch is told in the notes: where they are on, or the balances are watched
+abbrev pub has_notes : Settings → Bool
+has_notes s = s.notes || s.watch
+
+-- the audit line of what was seen; where nothing was, nothing
+abbrev pub audit_of : Option Total → List ℕ
+audit_of None = []
+audit_of (Some seen) = audit_note seen.number seen.total
+
+-- the audit line of a batch, where it has one: how many batches are before it, and the sum of the first table in the state before it
+abbrev pub audit_before : (size : ℕ) → State → (before : ℕ) → (audited : Bool) → List ℕ
+audit_before size s before true = audit_note before (total_of s 0 size)
+audit_before size s before false = []
+
+-- what stands in the notes of a batch: its audit line, where it has one, and behind it its own line, where the notes are on
+abbrev pub note_of : Settings → State → (before : ℕ) → (audited : Bool) → Account → List ℕ
+note_of s state before audited a = audit_before s.size state before audited ++ noted s.notes (batch_note (before + 1) a.plan a.strategy)
+
+-- those of batches that are run one after another from a state with so many batches before
+unfoldable pub notes_from : Settings → State → (before : ℕ) → List (List Transaction) → List Account → (audits : List Bool) → List ℕ
+notes_from s state before [] accounts audits = []
+notes_from s state before (batch ∷ batches) [] audits = []
+notes_from s state before (batch ∷ batches) (a ∷ accounts) [] = []
+notes_from s state before (batch ∷ batches) (a ∷ accounts) (audited ∷ audits) =
+    note_of s state before audited a ++ notes_from s (after_all state (by_time batch)) (before + 1) batches accounts audits
+
+-- which of the batches that were run have an audit line: none where the balances are not watched
+pub record AreAudits (s : Settings) (accounts : List Account) (audits : List Bool) : Type 0 where
+  pub each : length audits ≡ length accounts
+  pub unwatched : s.watch ≡ false → All (λ audited. audited ≡ false) audits
+
 -- batches that were run with these accounts were written and noted, whole
-abbrev pub with_batches : Outputs → Report → Settings → List (List Transaction) → List Account → Outputs
-with_batches old report s batches accounts = with_both old (event_lines report batches) (noted s.notes (batch_notes 1 accounts))
+abbrev pub with_batches : Outputs → Report → Settings → List (List Transaction) → List Account → (audits : List Bool) → Outputs
+with_batches old report s batches accounts audits = with_both old (event_lines report batches) (notes_from s opening_state 0 batches accounts audits)
 
 -- a write failed at the last of the batches that were run; those before it were written and noted, whole
-pub record IsCutInBatch (report : Report) (s : Settings) (done : List (List Transaction)) (accounts : List Account) (old new : Outputs) : Type 0 where
+pub record IsCutInBatch (report : Report) (s : Settings) (done : List (List Transaction)) (accounts : List Account) (audits : List Bool) (old new : Outputs) : Type 0 where
   pub before : List (List Transaction)
   pub before_accounts : List Account
+  pub before_audits : List Bool
   pub batch : List Transaction
   pub account : Account
+  pub audited : Bool
   pub done_is : done ≡ before ++ batch ∷ []
   pub accounts_is : accounts ≡ before_accounts ++ account ∷ []
-  pub cut : IsCutIn (with_batches old report s before before_accounts) (told_lines report (fates (run_state before) (by_time batch)))
-      (noted s.notes (batch_note (length done) account.plan account.strategy)) new
+  pub audits_is : audits ≡ before_audits ++ audited ∷ []
+  pub cut : IsCutIn (with_batches old report s before before_accounts before_audits) (told_lines report (fates (run_state before) (by_time batch)))
+      (note_of s (run_state before) (length before) audited account) new
 
 -- the end of the input or a refused line was reached, and no batch is left
 pub record IsAtLast (told : Option Accepted) (rest : List (List Transaction)) : Type 0 where

@@ -1,23 +1,14 @@
 -- The strategy of each batch of a run.
-use Rattle.std.specs.Prelude.{List, [], ◌∷◌, length}
+use Rattle.std.specs.Prelude.{List, [], ◌∷◌}
 use Rattle.morph_base.specs.declared.plan.Plan.{Plan}
 use Rattle.morph_base.specs.declared.strategy.Strategy.{Strategy}
-use Rattle.morph_base.specs.Outcomes.{Fate, fates}
+use Rattle.morph_base.specs.Outcomes.{fates}
 use Rattle.morph_base.specs.States.{State, after_all}
 use Rattle.morph_base.specs.Transactions.{Transaction, by_time}
 use Rattle.decision_model.specs.declared.counts.Last.{Last}
-use Rattle.decision_model.specs.Choices.{profile_of, strategy_for}
+use Rattle.decision_model.specs.Choices.{last_of, profile_of, strategy_for}
 use Rattle.run_text.specs.declared.choices.Planning.{Planning}
 use Rattle.run_text.specs.declared.choices.Planning.TheVariants.{Fixed, Auto}
-use Rattle.run_text.specs.Text.{aborted_in}
-
--- what came of a batch: how many events it had, and how many of them aborted
-abbrev pub last_of : List Fate → Last
-last_of fs = record { events = length fs; aborted = aborted_in fs }
-
--- there was no batch before
-abbrev pub no_last : Last
-no_last = record { events = 0; aborted = 0 }
 
 -- what came of the last of some batches that are run one after another from a state, or of the batch before them
 unfoldable pub last_from : State → Last → List (List Transaction) → Last

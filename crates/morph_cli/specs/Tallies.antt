@@ -1,5 +1,5 @@
 -- What was done in a run: the accounts of the batches that were run, and the numbers that are told of them.
-use Rattle.std.specs.Prelude.{◌≡◌, ℕ, ◌+◌, ◌*◌, ◌<◌, ◌≤◌, ◌⊎◌, All, List, [], ◌∷◌, ◌++◌, count_by, length, slice_index, sum, sum_by, Option, IfSome}
+use Rattle.std.specs.Prelude.{◌≡◌, ℕ, ◌+◌, ◌*◌, ◌<◌, ◌≤◌, ◌⊎◌, Bool, All, List, [], ◌∷◌, ◌++◌, count_by, length, slice_index, sum, sum_by, Option, IfSome}
 use Rattle.morph_base.specs.Limits.{most_workers}
 use Rattle.morph_base.specs.declared.plan.Plan.{Plan}
 use Rattle.morph_base.specs.declared.strategy.Abort.TheVariants.{Lazy}
@@ -23,9 +23,10 @@ use Rattle.run_text.specs.declared.choices.Settings.{Settings}
 use Rattle.run_text.specs.declared.tally.Tally.{Tally}
 use Rattle.morph_io.specs.Told.{behind, AppendsPrefix}
 use Rattle.run_text.specs.Notes.{noted, closing_notes}
-use Rattle.morph_cli.specs.Outputs.{Outputs, with_both, with_batches, IsCutIn, IsCutInBatch, IsAtLast}
+use Rattle.morph_cli.specs.Outputs.{Outputs, with_both, with_batches, AreAudits, IsCutIn, IsCutInBatch, IsAtLast}
 use Rattle.morph_cli.specs.Status.{note_at}
-use Rattle.morph_cli.specs.Strategies.{last_of, no_last, strategy_by}
+use Rattle.morph_cli.specs.Strategies.{strategy_by}
+use Rattle.decision_model.specs.Choices.{last_of, no_last}
 use Rattle.run_text.specs.Text.{Telling, run_fates, committed_in, aborted_in, end_text}
 
 -- a valid plan of the events of a batch, from the state before it
@@ -131,25 +132,28 @@ pub record IsBalanced (planning : Planning) (workers : ℕ) (t : Tally) : Type 0
   pub by : (s : Strategy) → planning ≡ Fixed s → IsBalancedBy s workers t
 
 -- what is told of a run by its status: some first ones of the accepted batches were run, each by a valid plan from the state
--- before it, these are counted, and the lines and the notes of these, in turn, are what was written. At 0 and 3 they are all
+-- before it, these are counted, and the lines and the notes of these, in turn, are what was written, with an audit line in front of the
+-- note of some of them where the balances are watched. At 0 and 3 they are all
 pub record RunTold (telling : Telling) (told : Option Accepted) (s : Settings) (status : ℕ) (t : Tally) (old new : Outputs) : Type 0 where
   pub done : List (List Transaction)
   pub rest : List (List Transaction)
   pub accounts : List Account
+  pub audits : List Bool
   pub parts : IfSome told (λ all. all.batches ≡ done ++ rest)
   pub ran : AreRunFrom s.planning opening_state no_last done accounts
+  pub audited : AreAudits s accounts audits
   pub sound : All (IsSound s.workers) accounts
   pub counts : IsTallyOf done accounts t
   pub founded : IsFounded s.workers accounts t
   pub balanced : IsBalanced s.planning s.workers t
   -- the end was written behind the batches, and the tally was noted
   pub whole : (status ≡ 0) ⊎ (status ≡ 3) → (last : IsAtLast told rest)
-      × (new ≡ with_both (with_batches old telling.report s done accounts) (end_text telling done last.ending) (noted s.notes (closing_notes s.workers t)))
+      × (new ≡ with_both (with_batches old telling.report s done accounts audits) (end_text telling done last.ending) (noted s.notes (closing_notes s.workers t)))
   -- reading failed, memory was refused or the input is too long: that was between two batches
-  pub short : (status ≡ 4) ⊎ (status ≡ 6) ⊎ (status ≡ 7) → new ≡ with_batches old telling.report s done accounts
+  pub short : (status ≡ 4) ⊎ (status ≡ 6) ⊎ (status ≡ 7) → new ≡ with_batches old telling.report s done accounts audits
   -- a write failed: at the last of these batches, or at the end
-  pub cut : status ≡ 5 → IsCutInBatch telling.report s done accounts old new ⊎ ((last : IsAtLast told rest)
-      × IsCutIn (with_batches old telling.report s done accounts) (end_text telling done last.ending) (noted s.notes (closing_notes s.workers t)) new)
+  pub cut : status ≡ 5 → IsCutInBatch telling.report s done accounts audits old new ⊎ ((last : IsAtLast told rest)
+      × IsCutIn (with_batches old telling.report s done accounts audits) (end_text telling done last.ending) (noted s.notes (closing_notes s.workers t)) new)
 
 -- what is told of a call: what its run wrote, and the last line of the notes behind that; a prefix of it where a write of it failed
 pub record CallTold (telling : Telling) (told : Option Accepted) (s : Settings) (status : ℕ) (t : Tally) (old new : Outputs) (HasFailed : Type 0) : Type 0 where

@@ -1,5 +1,5 @@
 //! Runs that read and plan batches ahead.
-ghost use Rattle.std.specs.Prelude.{◌≡◌, ◌+◌, ◌*◌, ◌≤◌, ◌⊎◌, [], length, option_map, IfOk, IfSome, IsErrOf, IsTrue};
+ghost use Rattle.std.specs.Prelude.{◌≡◌, ◌+◌, ◌*◌, ◌≤◌, ◌⊎◌, [], ◌++◌, length, option_map, IfOk, IfSome, IsErrOf, IsTrue};
 ghost use Rattle.event_reader.specs.Accepted.{accepted_within};
 ghost use Rattle.event_reader.specs.declared.limits.TheConstants.{INPUT_BYTES};
 ghost use Rattle.event_reader.specs.Reader.{new_reader};
@@ -12,8 +12,12 @@ ghost use Rattle.batch_pipe.specs.Running.{picked};
 ghost use Rattle.batch_pipe.specs.Waiting.{new_pipe};
 ghost use Rattle.run_text.specs.Settings.{AreInRange};
 ghost use Rattle.run_text.specs.Counts.{no_tally};
+ghost use Rattle.run_text.specs.Notes.{noted, closing_notes};
+ghost use Rattle.run_text.specs.Reports.{report_of};
+ghost use Rattle.run_text.specs.Text.{told_values, counts_line};
 ghost use Rattle.morph_cli.specs.Apps.{telling_for};
-ghost use Rattle.morph_cli.specs.Outputs.{outputs_of};
+ghost use Rattle.morph_cli.specs.Outputs.{has_notes, outputs_of};
+ghost use Rattle.morph_cli.specs.Endings.{EndsBy};
 ghost use Rattle.morph_cli.specs.Runs.{EndsSo, layout_of};
 ghost use Rattle.morph_cli.specs.Status.{status_of};
 ghost use Rattle.morph_cli.specs.Strategies.{strategy_by};
@@ -21,10 +25,11 @@ ghost use Rattle.morph_cli.specs.Tallies.{RunTold};
 
 use crate::fault::Fault;
 use crate::job::Job;
-use crate::progress::Progress;
+use crate::progress::Opening;
 use crate::run::Finish;
 use crate::strategies::count;
 use crate::tell::{Refusal, tell_batch, tell_closing, tell_refused};
+use crate::watching::Watched;
 use batch_pipe::{Picker, Pipe, Tail};
 use event_reader::EventApp;
 use morph_base::{Abort, Explore, OutOfMemory, Strategy, Unit};
@@ -43,21 +48,21 @@ pub struct Ahead<A: EventApp> {
 
 impl<A: EventApp> Ahead<A> {
     /// That of a run which has not begun, and is to read so many batches ahead.
-    pub fn new(alloc: Global, progress: Progress<A>, ahead: u32) -> Result<Self, OutOfMemory>
+    pub fn new(alloc: Global, opening: Opening<A>, ahead: u32) -> Result<Self, OutOfMemory>
     where
         A: Drop,
         requires some { 1 ≤ ahead }
         requires few { ahead ≤ 2 }
-        requires live { IsTrue progress.reader.live }
-        requires layout { progress.engine.layout
-            ≡ layout_of (A.table_count progress.reader.app) progress.reader.size }
+        requires live { IsTrue opening.reader.live }
+        requires layout { opening.engine.layout
+            ≡ layout_of (A.table_count opening.reader.app) opening.reader.size }
         ensures pipe { IfOk result
-            (λ new. new.pipe ≡ new_pipe progress.reader progress.engine ahead) }
-        ensures out { IfOk result (λ new. new.out ≡ progress.out) }
+            (λ new. new.pipe ≡ new_pipe opening.reader opening.engine ahead) }
+        ensures out { IfOk result (λ new. new.out ≡ opening.out) }
     {
         Ok(Ahead {
-            pipe: Pipe::new(alloc, progress.reader, progress.engine, ahead)?,
-            out: progress.out,
+            pipe: Pipe::new(alloc, opening.reader, opening.engine, ahead)?,
+            out: opening.out,
         })
     }
 }
@@ -80,6 +85,47 @@ fn picker(planning: Planning) -> Picker
                 abort: Abort::Lazy,
             },
         },
+    }
+}
+
+/// Ends a run that reads ahead, by the tail that its pipe met: tells the end or the refused line, or answers the fault.
+fn end_ahead<R, A: EventApp + Copy, K: Sink, N: Sink, G>(
+    job: &Job<'_, A, R, G>,
+    ahead: &mut Ahead<A>,
+    sink: &mut K,
+    notes: &mut N,
+    tally: &Tally,
+) -> Result<Finish, Fault>
+    requires settings { AreInRange job.now.settings }
+    requires layout { ahead.old.pipe.engine.layout
+        ≡ layout_of (A.table_count job.now.app) job.now.settings.size }
+    requires all { length tally.now.settled_by ≡ 17 }
+    requires empty { ahead.old.out ≡ [] }
+    ensures ends { let settings = job.now.settings in let kept = ahead.old.pipe.engine in
+        EndsBy ahead.old.pipe.tail result
+        (outputs_of (K.written sink.old) (N.written notes.old))
+        (told_values (report_of settings) kept.layout (A.name_of job.now.app) (contents kept)
+        ++ counts_line tally.now.committed tally.now.aborted)
+        (noted settings.notes (closing_notes settings.workers tally.now))
+        (outputs_of (K.written sink.new) (N.written notes.new)) }
+    ensures sink_faults { K.faults sink.old ≤ K.faults sink.new }
+    ensures notes_faults { N.faults notes.old ≤ N.faults notes.new }
+    ensures write { IsErrOf result Fault.Write → HasRisen (K.faults sink.old) (K.faults sink.new)
+        ⊎ (IsTrue job.now.settings.notes × HasRisen (N.faults notes.old) (N.faults notes.new)) }
+{
+    match ahead.pipe.tail() {
+        Some(Tail::End) => {
+            let values = ahead.pipe.engine().state();
+            tell_closing(&mut ahead.out, sink, notes, job, values, tally)?;
+            Ok(Finish::Complete)
+        }
+        Some(Tail::Refused { line, cause }) => {
+            let refusal = Refusal { line, cause };
+            tell_refused(&mut ahead.out, sink, notes, &job.settings, &refusal, tally)?;
+            Ok(Finish::Refused)
+        }
+        Some(Tail::Fault(fault)) => Err(fault.into()),
+        Some(Tail::RunMemory) | None => Err(Fault::OutOfMemory),
     }
 }
 
@@ -128,7 +174,8 @@ pub fn run_ahead<
     ensures read { IsErrOf result Fault.Read
         → HasRisen (S.faults source.old) (S.faults source.new) }
     ensures write { IsErrOf result Fault.Write → HasRisen (K.faults sink.old) (K.faults sink.new)
-        ⊎ (IsTrue job.now.settings.notes × HasRisen (N.faults notes.old) (N.faults notes.new)) }
+        ⊎ (IsTrue (has_notes job.now.settings)
+        × HasRisen (N.faults notes.old) (N.faults notes.new)) }
 {
     let (host, settings) = (job.host, &job.settings);
     let pick = picker(settings.planning);
@@ -137,7 +184,11 @@ pub fn run_ahead<
             Some(ran) => {
                 count(tally, &ran.end);
                 let number = tally.batches;
-                tell_batch(&mut ahead.out, sink, notes, settings, number, &ran.end)?;
+                let ran = Watched {
+                    end: ran.end,
+                    audit: None,
+                };
+                tell_batch(&mut ahead.out, sink, notes, settings, number, &ran)?;
             }
             None if ahead.pipe.going() => {
                 let workers = settings.workers;
@@ -148,18 +199,5 @@ pub fn run_ahead<
             None => break 'turns,
         }
     }
-    match ahead.pipe.tail() {
-        Some(Tail::End) => {
-            let values = ahead.pipe.engine().state();
-            tell_closing(&mut ahead.out, sink, notes, job, values, tally)?;
-            Ok(Finish::Complete)
-        }
-        Some(Tail::Refused { line, cause }) => {
-            let refusal = Refusal { line, cause };
-            tell_refused(&mut ahead.out, sink, notes, settings, &refusal, tally)?;
-            Ok(Finish::Refused)
-        }
-        Some(Tail::Fault(fault)) => Err(fault.into()),
-        Some(Tail::RunMemory) | None => Err(Fault::OutOfMemory),
-    }
+    end_ahead(job, ahead, sink, notes, tally)
 }

@@ -1,14 +1,9 @@
 ghost use Rattle.std.specs.Prelude.{◌≡◌, IfOk, OnOk, OnErr};
 ghost use Rattle.morph_base.specs.Flat.{contents};
-ghost use Rattle.morph_base.specs.Transactions.{IsBatch, BatchKeysIn, transactions_of, by_time};
+ghost use Rattle.morph_base.specs.Transactions.{IsBatch, BatchKeysIn};
 ghost use Rattle.morph_base.specs.States.{fold_batch};
-ghost use Rattle.morph_base.specs.Outcomes.{fates};
-ghost use Rattle.morph_base.specs.Plans.{IsSettledOf};
-ghost use Rattle.morph_engine.specs.Accounts.{account_of};
-ghost use Rattle.morph_engine.specs.Fates.{settled_fates};
 ghost use Rattle.run_text.specs.Settings.{AreInRange};
-ghost use Rattle.morph_cli.specs.Strategies.{strategy_by};
-ghost use Rattle.morph_cli.specs.Tallies.{IsMadeOf, IsSound};
+ghost use Rattle.morph_cli.specs.Batches.{IsEndOf};
 
 use crate::job::Host;
 use crate::strategies::strategy_for;
@@ -33,14 +28,7 @@ pub fn run_batch<R: Threads + Sync, G: Gate>(
     requires keys { BatchKeysIn engine.old.layout batch.now }
     ensures layout { engine.new.layout ≡ engine.old.layout }
     ensures state { OnOk result (contents engine.new ≡ fold_batch batch.now (contents engine.old)) }
-    ensures fates { IfOk result (λ end. settled_fates end.plan end.settled
-        ≡ fates (contents engine.old) (by_time (transactions_of batch.now))) }
-    ensures made { IfOk result (λ end.
-        IsMadeOf (contents engine.old) (transactions_of batch.now) end.plan) }
-    ensures settled { IfOk result (λ end. IsSettledOf end.plan end.settled) }
-    ensures strategy { IfOk result
-        (λ end. end.strategy ≡ strategy_by settings.now.planning end.plan last) }
-    ensures account { IfOk result (λ end. IsSound settings.now.workers (account_of end)) }
+    ensures ran { IfOk result (IsEndOf settings.now last engine.old batch.now) }
     ensures refused { OnErr result (engine.new ≡ engine.old) }
 {
     let plan = engine.plan(host.alloc, batch)?;

@@ -1,3 +1,8 @@
+ghost use Rattle.std.specs.Prelude.{◌≡◌};
+ghost use Rattle.morph_cli.specs.Runs.{layout_of};
+
+use event_reader::EventApp;
+use morph_base::Layout;
 use run_text::Settings;
 use std::alloc::Global;
 
@@ -17,4 +22,16 @@ pub struct Job<'a, A, R, G> {
     pub host: &'a Host<'a, R, G>,
     pub app: A,
     pub settings: Settings,
+}
+
+impl<'a, A: EventApp, R, G> Job<'a, A, R, G> {
+    /// The tables of the application, with as many ids each as the settings say.
+    pub fn layout(&self) -> Layout
+        ensures { result ≡ layout_of (A.table_count self.now.app) self.now.settings.size }
+    {
+        Layout {
+            tables: self.app.tables(),
+            size: self.settings.size,
+        }
+    }
 }

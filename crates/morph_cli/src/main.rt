@@ -13,6 +13,7 @@ mod batch;
 mod ended;
 mod fault;
 mod job;
+mod laws;
 mod morph;
 mod note;
 mod program;
@@ -22,6 +23,7 @@ mod strategies;
 mod tell;
 #[cfg(test)]
 mod tests;
+mod watching;
 
 use crate::program::program;
 use morph_base::OutOfMemory;

@@ -5,7 +5,7 @@ ghost use Rattle.event_reader.specs.Accepted.{accepted, accepted_within};
 ghost use Rattle.event_reader.specs.GeneratedText.{generated_text};
 ghost use Rattle.morph_cli.specs.Apps.{input_by, input_of, left_by, meaning_of, telling_for, telling_of};
 ghost use Rattle.morph_cli.specs.Headline.{Headline, Completes, input_limit};
-ghost use Rattle.morph_cli.specs.Outputs.{outputs_of};
+ghost use Rattle.morph_cli.specs.Outputs.{has_notes, outputs_of};
 ghost use Rattle.morph_cli.specs.Runs.{EndsSo, EndsMade};
 ghost use Rattle.run_text.specs.Settings.{AreInRange, settings_of};
 ghost use Rattle.morph_cli.specs.Status.{note_at, status_of, IsStatus, IsMadeStatus};
@@ -25,13 +25,14 @@ use morph_base::List;
 use morph_io::{Sink, Source};
 use run_text::{App, Generated, Settings, Tally, settings};
 use std::alloc::Global;
+use std::sync::Wait;
 use std::thread::Threads;
 use toll_app::Toll;
 use worker_gate::Gate;
 
 /// Runs an application over the input that the settings ask for: the source's, or one that the program makes.
 fn run_over<
-    R: Threads + Sync,
+    R: Threads + Wait + Sync,
     A: EventApp + Copy + Send,
     S: Source + Send,
     K: Sink,
@@ -66,7 +67,8 @@ fn run_over<
     ensures read { IsErrOf result Fault.Read
         → HasRisen (S.faults source.old) (S.faults source.new) }
     ensures write { IsErrOf result Fault.Write → HasRisen (K.faults sink.old) (K.faults sink.new)
-        ⊎ (IsTrue job.now.settings.notes × HasRisen (N.faults notes.old) (N.faults notes.new)) }
+        ⊎ (IsTrue (has_notes job.now.settings)
+        × HasRisen (N.faults notes.old) (N.faults notes.new)) }
 {
     match job.settings.generated {
         None => run(job, source, sink, notes, tally),
@@ -75,7 +77,7 @@ fn run_over<
 }
 
 /// Runs an application over an input that the program makes.
-fn run_made<R: Threads + Sync, A: EventApp + Copy + Send, K: Sink, N: Sink, G: Gate>(
+fn run_made<R: Threads + Wait + Sync, A: EventApp + Copy + Send, K: Sink, N: Sink, G: Gate>(
     job: &Job<'_, A, R, G>,
     generated: Generated,
     sink: &mut K,
@@ -100,7 +102,8 @@ fn run_made<R: Threads + Sync, A: EventApp + Copy + Send, K: Sink, N: Sink, G: G
     ensures notes_faults { N.faults notes.old ≤ N.faults notes.new }
     ensures made { EndsMade result }
     ensures write { IsErrOf result Fault.Write → HasRisen (K.faults sink.old) (K.faults sink.new)
-        ⊎ (IsTrue job.now.settings.notes × HasRisen (N.faults notes.old) (N.faults notes.new)) }
+        ⊎ (IsTrue (has_notes job.now.settings)
+        × HasRisen (N.faults notes.old) (N.faults notes.new)) }
 {
     // None of its lines is refused, and it has few bytes.
     generated_text_is_accepted::<A>();
@@ -110,7 +113,7 @@ fn run_made<R: Threads + Sync, A: EventApp + Copy + Send, K: Sink, N: Sink, G: G
 }
 
 /// Runs the application that the settings name.
-fn run_app<R: Threads + Sync, S: Source + Send, K: Sink, N: Sink, G: Gate>(
+fn run_app<R: Threads + Wait + Sync, S: Source + Send, K: Sink, N: Sink, G: Gate>(
     host: &Host<'_, R, G>,
     settings: Settings,
     source: &mut S,
@@ -135,7 +138,7 @@ fn run_app<R: Threads + Sync, S: Source + Send, K: Sink, N: Sink, G: Gate>(
     ensures read { IsErrOf result Fault.Read
         → HasRisen (S.faults source.old) (S.faults source.new) }
     ensures write { IsErrOf result Fault.Write → HasRisen (K.faults sink.old) (K.faults sink.new)
-        ⊎ (IsTrue settings.notes × HasRisen (N.faults notes.old) (N.faults notes.new)) }
+        ⊎ (IsTrue (has_notes settings) × HasRisen (N.faults notes.old) (N.faults notes.new)) }
 {
     match settings.app {
         App::Ledger => {
@@ -171,7 +174,7 @@ fn run_app<R: Threads + Sync, S: Source + Send, K: Sink, N: Sink, G: Gate>(
 /// The text is that of applying the events one transaction at a time, in the order of time within each batch, to a map
 /// that is zero everywhere, for every strategy and number of workers and whatever the gate holds. The statuses are
 /// those of [`Ended`]. A fault of writing the last line of the notes changes nothing.
-pub fn morph<R: Threads + Sync, S: Source + Send, K: Sink, N: Sink, G: Gate>(
+pub fn morph<R: Threads + Wait + Sync, S: Source + Send, K: Sink, N: Sink, G: Gate>(
     rt: &R,
     alloc: Global,
     words: &[List<u8>],
@@ -191,7 +194,7 @@ pub fn morph<R: Threads + Sync, S: Source + Send, K: Sink, N: Sink, G: Gate>(
     ensures completes { (HasRisen (S.faults source.old) (S.faults source.new) → ⊥)
         → (HasRisen (K.faults sink.old) (K.faults sink.new) → ⊥)
         → IfSome (settings_of (map (λ word. word.items) words.now)) (λ s.
-        (IsTrue s.notes → HasRisen (N.faults notes.old) (N.faults notes.new) → ⊥)
+        (IsTrue (has_notes s) → HasRisen (N.faults notes.old) (N.faults notes.new) → ⊥)
         → IfSome (input_of s (S.left source.old)) (λ input.
         Completes (meaning_of s) input_limit input result.status)) }
 
@@ -201,7 +204,7 @@ pub fn morph<R: Threads + Sync, S: Source + Send, K: Sink, N: Sink, G: Gate>(
     ensures read { result.status ≡ 4 → HasRisen (S.faults source.old) (S.faults source.new) }
     ensures write { IfSome (settings_of (map (λ word. word.items) words.now)) (λ s.
         result.status ≡ 5 → HasRisen (K.faults sink.old) (K.faults sink.new)
-        ⊎ (IsTrue s.notes × HasRisen (N.faults notes.old) (N.faults notes.new))) }
+        ⊎ (IsTrue (has_notes s) × HasRisen (N.faults notes.old) (N.faults notes.new))) }
     ensures statuses { IsStatus result.status }
     ensures told { IfSome (settings_of (map (λ word. word.items) words.now)) (λ s.
         CallTold (telling_of s)

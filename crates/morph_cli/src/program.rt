@@ -15,6 +15,7 @@ use morph_base::{List, OutOfMemory};
 use morph_io::{Sink, Source};
 use std::alloc::Global;
 use std::process::ExitCode;
+use std::sync::Wait;
 use std::thread::Threads;
 use worker_gate::FreeGate;
 
@@ -45,7 +46,7 @@ fn end_without_memory<N: Sink>(notes: &mut N) -> ExitCode
 /// none; and answers the status that it ends with, which is that of [`morph`] for the words behind the name.
 ///
 /// Where memory for the words is refused nothing is read, and nothing goes to the sink.
-pub fn program<R: Threads + Sync, S: Source + Send, K: Sink, N: Sink>(
+pub fn program<R: Threads + Wait + Sync, S: Source + Send, K: Sink, N: Sink>(
     rt: &R,
     alloc: Global,
     args: Result<Vec<String>, OutOfMemory>,

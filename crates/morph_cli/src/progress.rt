@@ -4,27 +4,27 @@ ghost use Rattle.event_reader.specs.Reader.{new_reader};
 ghost use Rattle.morph_base.specs.Flat.{contents};
 ghost use Rattle.morph_base.specs.States.{opening_state};
 ghost use Rattle.morph_cli.specs.Runs.{layout_of};
-ghost use Rattle.morph_cli.specs.Strategies.{no_last};
+ghost use Rattle.decision_model.specs.Choices.{no_last};
 ghost use Rattle.run_text.specs.Settings.{AreInRange};
 
 use crate::job::Job;
+use crate::watching::Watching;
 use decision_model::Last;
 use event_reader::{BatchReader, EventApp, INPUT_BYTES};
-use morph_base::{Layout, OutOfMemory};
+use morph_base::OutOfMemory;
 use morph_engine::Engine;
 use morph_io::Out;
+use std::sync::Wait;
 
-/// How far a run has come: the state of its engine, what was read, what is not yet written, and what came of the last
-/// batch.
+/// What a run begins with: an engine, a reader, and what is not yet written.
 #[derive(Drop)]
-pub struct Progress<A> {
+pub struct Opening<A> {
     pub engine: Engine,
     pub reader: BatchReader<A>,
     pub out: Out,
-    pub last: Last,
 }
 
-impl<A: EventApp + Copy> Progress<A> {
+impl<A: EventApp + Copy> Opening<A> {
     /// That of a run which has not begun.
     pub fn new<R, G>(job: &Job<'_, A, R, G>) -> Result<Self, OutOfMemory>
         requires { AreInRange job.now.settings }
@@ -34,22 +34,62 @@ impl<A: EventApp + Copy> Progress<A> {
             new.engine.layout ≡ layout_of (A.table_count job.now.app) job.now.settings.size) }
         ensures opening { IfOk result (λ new. contents new.engine ≡ opening_state) }
         ensures empty { IfOk result (λ new. new.out ≡ []) }
-        ensures last { IfOk result (λ new. new.last ≡ no_last) }
     {
         let alloc = job.host.alloc;
         let size = job.settings.size;
-        let layout = Layout {
-            tables: job.app.tables(),
-            size,
-        };
-        Ok(Progress {
-            engine: Engine::new(alloc, layout)?,
+        Ok(Opening {
+            engine: Engine::new(alloc, job.layout())?,
             reader: BatchReader::new(alloc, job.app, size, INPUT_BYTES)?,
             out: Out::new(alloc)?,
+        })
+    }
+}
+
+/// How far a run has come: the state of its engine, what was read, what is not yet written, what came of the last
+/// batch, and what watches its balances.
+pub struct Progress<A> {
+    pub engine: Engine,
+    pub reader: BatchReader<A>,
+    pub out: Out,
+    pub last: Last,
+    pub watching: Option<Watching>,
+}
+
+impl<A> Progress<A> {
+    /// That of a run which begins, and whose balances are watched so.
+    pub fn new(opening: Opening<A>, watching: Option<Watching>) -> Self
+        ensures engine { result.engine ≡ opening.engine }
+        ensures reader { result.reader ≡ opening.reader }
+        ensures out { result.out ≡ opening.out }
+        ensures last { result.last ≡ no_last }
+        ensures watching { result.watching ≡ watching }
+    {
+        Progress {
+            engine: opening.engine,
+            reader: opening.reader,
+            out: opening.out,
             last: Last {
                 events: 0,
                 aborted: 0,
             },
-        })
+            watching,
+        }
+    }
+
+    /// Ends what watches the balances. It may wait for a viewer that is reading.
+    pub fn end<R: Wait>(self, rt: &R)
+    where
+        A: Drop,
+    {
+        let Progress {
+            engine: _engine,
+            reader: _reader,
+            out: _out,
+            last: _,
+            watching,
+        } = self;
+        if let Some(watching) = watching {
+            watching.end(rt);
+        }
     }
 }

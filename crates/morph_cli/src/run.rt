@@ -1,4 +1,4 @@
-ghost use Rattle.std.specs.Prelude.{◌≡◌, ℕ, [], ◌≤◌, ◌⊎◌, option_map, IfSome, IsErrOf, IsTrue};
+ghost use Rattle.std.specs.Prelude.{◌≡◌, ℕ, [], ◌≤◌, ◌⊎◌, option_map, IfSome, IsErrOf, IsSome, IsTrue};
 ghost use Rattle.event_reader.specs.Accepted.{accepted_within};
 ghost use Rattle.event_reader.specs.declared.limits.TheConstants.{INPUT_BYTES};
 ghost use Rattle.morph_base.specs.States.{opening_state};
@@ -6,24 +6,26 @@ ghost use Rattle.morph_base.specs.Flat.{contents};
 ghost use Rattle.event_reader.specs.Reader.{new_reader};
 ghost use Rattle.morph_io.specs.Told.{HasRisen};
 ghost use Rattle.morph_cli.specs.Apps.{telling_for};
-ghost use Rattle.morph_cli.specs.Outputs.{outputs_of};
+ghost use Rattle.morph_cli.specs.Batches.{IsShown};
+ghost use Rattle.morph_cli.specs.Outputs.{has_notes, outputs_of};
 ghost use Rattle.morph_cli.specs.Runs.{EndsSo, layout_of};
 ghost use Rattle.run_text.specs.Settings.{AreInRange};
 ghost use Rattle.morph_cli.specs.Status.{status_of};
-ghost use Rattle.morph_cli.specs.Strategies.{no_last};
+ghost use Rattle.decision_model.specs.Choices.{no_last};
 ghost use Rattle.run_text.specs.Counts.{no_tally};
 ghost use Rattle.morph_cli.specs.Tallies.{RunTold};
 
 use crate::ahead::{Ahead, run_ahead};
-use crate::batch::run_batch;
 use crate::fault::Fault;
 use crate::job::Job;
-use crate::progress::Progress;
+use crate::progress::{Opening, Progress};
 use crate::strategies::count;
 use crate::tell::{Refusal, tell_batch, tell_closing, tell_refused};
+use crate::watching::{Watching, publish, run_watched};
 use event_reader::{EventApp, Next};
 use morph_io::{Sink, Source};
 use run_text::Tally;
+use std::sync::Wait;
 use std::thread::Threads;
 use worker_gate::Gate;
 
@@ -37,11 +39,13 @@ pub enum Finish {
 }
 
 /// Runs an application over an input: batch by batch, each written whole before the next is run. With `ahead` 0 the next
-/// is read then too, otherwise it is read and planned while one is run. The batches that were run are counted in the
-/// tally, also those of a run that is cut off, and where the notes are on each is told there once it is written, and the
-/// tally at the end.
+/// is read then too, otherwise it is read and planned while one is run. Where the balances are watched they are
+/// published after each batch, and a viewer looks at them while the next one is run; publishing may wait for it.
+///
+/// The batches that were run are counted in the tally, also those of a run that is cut off. Where the notes are on each
+/// is told there once it is written, and the tally at the end; where the balances are watched, what was seen too.
 pub fn run<
-    R: Threads + Sync,
+    R: Threads + Wait + Sync,
     A: EventApp + Copy + Send,
     S: Source + Send,
     K: Sink,
@@ -73,18 +77,24 @@ pub fn run<
     ensures read { IsErrOf result Fault.Read
         → HasRisen (S.faults source.old) (S.faults source.new) }
     ensures write { IsErrOf result Fault.Write → HasRisen (K.faults sink.old) (K.faults sink.new)
-        ⊎ (IsTrue job.now.settings.notes × HasRisen (N.faults notes.old) (N.faults notes.new)) }
+        ⊎ (IsTrue (has_notes job.now.settings)
+        × HasRisen (N.faults notes.old) (N.faults notes.new)) }
 {
-    let mut progress = Progress::new(job)?;
-    if job.settings.ahead == 0 {
-        return run_batches(job, &mut progress, source, sink, notes, tally);
+    let opening = Opening::new(job)?;
+    if job.settings.ahead > 0 {
+        let mut ahead = Ahead::new(job.host.alloc, opening, job.settings.ahead)?;
+        return run_ahead(job, &mut ahead, source, sink, notes, tally);
     }
-    let mut ahead = Ahead::new(job.host.alloc, progress, job.settings.ahead)?;
-    run_ahead(job, &mut ahead, source, sink, notes, tally)
+    let watching = Watching::asked(job)?;
+    let mut progress = Progress::new(opening, watching);
+    let end = run_batches(job, &mut progress, source, sink, notes, tally);
+    progress.end(job.host.rt);
+    end
 }
 
-/// Runs an application from the opening state over what the reader reads, batch by batch.
-fn run_batches<R: Threads + Sync, A: EventApp + Copy, S: Source, K: Sink, N: Sink, G: Gate>(
+/// Runs an application from the opening state over what the reader reads, batch by batch; each is published once it was
+/// told.
+fn run_batches<R: Threads + Wait + Sync, A: EventApp + Copy, S: Source, K: Sink, N: Sink, G: Gate>(
     job: &Job<'_, A, R, G>,
     progress: &mut Progress<A>,
     source: &mut S,
@@ -101,6 +111,9 @@ fn run_batches<R: Threads + Sync, A: EventApp + Copy, S: Source, K: Sink, N: Sin
     requires opening { contents progress.old.engine ≡ opening_state }
     requires empty { progress.old.out ≡ [] }
     requires last { progress.old.last ≡ no_last }
+    requires shown { IfSome (progress.old.watching)
+        (IsShown progress.old.engine.layout 0 opening_state) }
+    requires watch { IsSome (progress.old.watching) → IsTrue job.now.settings.watch }
     ensures ends { let app = job.now.app in let settings = job.now.settings in
         IfSome (S.left source.old) (λ input. EndsSo (A.event_of app settings.size)
         (telling_for settings (A.table_count app) (A.name_of app)) INPUT_BYTES input
@@ -118,21 +131,24 @@ fn run_batches<R: Threads + Sync, A: EventApp + Copy, S: Source, K: Sink, N: Sin
     ensures read { IsErrOf result Fault.Read
         → HasRisen (S.faults source.old) (S.faults source.new) }
     ensures write { IsErrOf result Fault.Write → HasRisen (K.faults sink.old) (K.faults sink.new)
-        ⊎ (IsTrue job.now.settings.notes × HasRisen (N.faults notes.old) (N.faults notes.new)) }
+        ⊎ (IsTrue (has_notes job.now.settings)
+        × HasRisen (N.faults notes.old) (N.faults notes.new)) }
 {
     'batches: loop {
         match progress.reader.next_batch(job.host.alloc, source)? {
             Next::Batch(batch) => {
                 let last = progress.last;
-                let end = run_batch(job.host, &mut progress.engine, &batch, &job.settings, last)?;
-                progress.last = count(tally, &end);
-                tell_batch(
-                    &mut progress.out,
-                    sink,
-                    notes,
-                    &job.settings,
-                    tally.batches,
-                    &end,
+                let watching = &mut progress.watching;
+                let engine = &mut progress.engine;
+                let ran = run_watched(job.host, watching, engine, &batch, &job.settings, last)?;
+                progress.last = count(tally, &ran.end);
+                let number = tally.batches;
+                tell_batch(&mut progress.out, sink, notes, &job.settings, number, &ran)?;
+                publish(
+                    job.host.rt,
+                    job.host.alloc,
+                    &mut progress.watching,
+                    &ran.end,
                 )?;
             }
             Next::End => {

@@ -5,7 +5,8 @@ ghost use Rattle.morph_base.specs.Plans.{IsPlan, IsSettledOf};
 ghost use Rattle.morph_engine.specs.Accounts.{account_of};
 ghost use Rattle.morph_engine.specs.Fates.{settled_fates};
 ghost use Rattle.run_text.specs.Counts.{Adds, HasRoom};
-ghost use Rattle.morph_cli.specs.Strategies.{last_of, strategy_by};
+ghost use Rattle.morph_cli.specs.Strategies.{strategy_by};
+ghost use Rattle.decision_model.specs.Choices.{last_of};
 
 use decision_model::{Last, choose, profile};
 use morph_base::{Plan, Strategy};

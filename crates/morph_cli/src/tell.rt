@@ -1,22 +1,23 @@
-ghost use Rattle.std.specs.Prelude.{◌≡◌, ◌≤◌, ◌⊎◌, [], ◌++◌, length, IsTrue, OnOk, OnErr};
+ghost use Rattle.std.specs.Prelude.{◌≡◌, ◌≤◌, ◌⊎◌, [], ◌++◌, length, IsSome, IsTrue, OnOk, OnErr};
 ghost use Rattle.morph_base.specs.declared.limits.TheConstants.{WORKERS};
 ghost use Rattle.morph_base.specs.Flat.{contents};
 ghost use Rattle.morph_base.specs.Plans.{IsPlan, IsSettledOf};
 ghost use Rattle.morph_engine.specs.Fates.{settled_fates};
-ghost use Rattle.morph_io.specs.Told.{HasRisen};
+ghost use Rattle.morph_io.specs.Told.{behind, AppendsPrefix, HasRisen};
 ghost use Rattle.run_text.specs.declared.choices.TheConstants.{GREATEST_SIZE};
 ghost use Rattle.run_text.specs.Reports.{report_of};
 ghost use Rattle.run_text.specs.Notes.{noted, batch_note, closing_notes};
-ghost use Rattle.morph_cli.specs.Outputs.{outputs_of, Tells};
+ghost use Rattle.morph_cli.specs.Outputs.{audit_of, outputs_of, Tells};
 ghost use Rattle.run_text.specs.Text.{told_lines, told_values, counts_line, refused_text};
 
 use crate::job::Job;
+use crate::watching::Watched;
 use event_reader::{Cause, EventApp};
-use morph_engine::BatchEnd;
 use morph_io::{Out, Sink, WriteFailed};
 use run_text::{
-    Settings, Tally, note_batch, note_tally, write_closing, write_events, write_refused,
+    Settings, Tally, note_audit, note_batch, note_tally, write_closing, write_events, write_refused,
 };
+use snapshot_reader::Total;
 use version_table::State;
 
 /// A refused line: its number, counted from 1, and the cause.
@@ -26,30 +27,73 @@ pub struct Refusal {
     pub cause: Cause,
 }
 
-/// Tells a batch that was run: its lines to the sink, and behind them its line to the notes, where these are on.
+/// Tells a batch that was run: its lines to the sink, and behind them to the notes the audit line, where balances were
+/// seen beside it, and the batch's own line, where the notes are on.
 pub fn tell_batch<K: Sink, N: Sink>(
     out: &mut Out,
     sink: &mut K,
     notes: &mut N,
     settings: &Settings,
     number: u64,
-    end: &BatchEnd,
+    ran: &Watched,
 ) -> Result<(), WriteFailed>
     requires empty { out.old ≡ [] }
-    requires plan { IsPlan end.now.plan }
-    requires settled { IsSettledOf end.now.plan end.now.settled }
+    requires plan { IsPlan ran.now.end.plan }
+    requires settled { IsSettledOf ran.now.end.plan ran.now.end.settled }
     ensures told { Tells result (outputs_of (K.written sink.old) (N.written notes.old))
-        (told_lines (report_of settings.now) (settled_fates end.now.plan end.now.settled))
-        (noted settings.now.notes (batch_note number end.now.plan end.now.strategy))
+        (told_lines (report_of settings.now) (settled_fates ran.now.end.plan ran.now.end.settled))
+        (audit_of ran.now.audit
+        ++ noted settings.now.notes (batch_note number ran.now.end.plan ran.now.end.strategy))
         (outputs_of (K.written sink.new) (N.written notes.new)) }
     ensures empty { OnOk result (out.new ≡ []) }
     ensures sink_faults { K.faults sink.old ≤ K.faults sink.new }
     ensures notes_faults { N.faults notes.old ≤ N.faults notes.new }
     ensures cause { OnErr result (HasRisen (K.faults sink.old) (K.faults sink.new)
-        ⊎ (IsTrue settings.now.notes × HasRisen (N.faults notes.old) (N.faults notes.new))) }
+        ⊎ (((IsSome ran.now.audit) ⊎ IsTrue settings.now.notes)
+        × HasRisen (N.faults notes.old) (N.faults notes.new))) }
 {
-    write_events(out, sink, settings.report(), end)?;
+    write_events(out, sink, settings.report(), &ran.end)?;
+    note_ran(notes, settings, number, ran)
+}
+
+/// Tells the notes of a batch that was run.
+fn note_ran<N: Sink>(
+    notes: &mut N,
+    settings: &Settings,
+    number: u64,
+    ran: &Watched,
+) -> Result<(), WriteFailed>
+    requires { IsPlan ran.now.end.plan }
+    ensures written { OnOk result (N.written notes.new ≡ behind (N.written notes.old)
+        (audit_of ran.now.audit
+        ++ noted settings.now.notes (batch_note number ran.now.end.plan ran.now.end.strategy))) }
+    ensures prefix { OnErr result (AppendsPrefix (N.written notes.old)
+        (audit_of ran.now.audit
+        ++ noted settings.now.notes (batch_note number ran.now.end.plan ran.now.end.strategy))
+        (N.written notes.new)) }
+    ensures never_falls { N.faults notes.old ≤ N.faults notes.new }
+    ensures cause { OnErr result (((IsSome ran.now.audit) ⊎ IsTrue settings.now.notes)
+        × HasRisen (N.faults notes.old) (N.faults notes.new)) }
+{
+    note_seen(notes, &ran.audit)?;
+    let end = &ran.end;
     note_batch(notes, settings.notes, number, &end.plan, end.strategy)
+}
+
+/// Tells the notes what was seen of the balances, where anything was.
+fn note_seen<N: Sink>(notes: &mut N, audit: &Option<Total>) -> Result<(), WriteFailed>
+    ensures written { OnOk result (N.written notes.new
+        ≡ behind (N.written notes.old) (audit_of audit.now)) }
+    ensures prefix { OnErr result
+        (AppendsPrefix (N.written notes.old) (audit_of audit.now) (N.written notes.new)) }
+    ensures never_falls { N.faults notes.old ≤ N.faults notes.new }
+    ensures cause { OnErr result (IsSome audit.now
+        × HasRisen (N.faults notes.old) (N.faults notes.new)) }
+{
+    match audit {
+        Some(seen) => note_audit(notes, seen.number, seen.total),
+        None => Ok(()),
+    }
 }
 
 /// Tells the end of the input: the closing text to the sink, and behind it the tally to the notes, where these are on.

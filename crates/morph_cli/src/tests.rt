@@ -18,6 +18,7 @@ use morph_io::{MemSink, MemSource, Sink, Source};
 use run_text::Tally;
 use std::alloc::Global;
 use std::process::Abort;
+use std::sync::Wait;
 use std::test::Fail;
 use std::thread::Threads;
 use worker_gate::{FreeGate, Gate};
@@ -31,6 +32,14 @@ const FOUR_EVENTS: &[u8] = b"D 1 0 0 100 5\nX 2 0 1 0 1 60 6\nX 3 0 1 0 1 60 5\n
 /// Their text.
 const FOUR: &[u8] =
     b"1 C 100 5\n2 A\n3 C 40 0 60 5\n4 C 0 0 60 5\nacct 0 40\nacct 2 60\nasset 2 5\ncommitted 3 aborted 1\n";
+
+/// The four events, and a batch of one event behind them.
+const TWO_BATCHES: &[u8] =
+    b"D 1 0 0 100 5\nX 2 0 1 0 1 60 6\nX 3 0 1 0 1 60 5\nX 4 1 2 1 2 60 5\nP\nD 9 0 0 1 1\n";
+
+/// Their text.
+const TWO: &[u8] =
+    b"1 C 100 5\n2 A\n3 C 40 0 60 5\n4 C 0 0 60 5\n9 C 41 1\nacct 0 41\nacct 2 60\nasset 0 1\nasset 2 5\ncommitted 4 aborted 1\n";
 
 const NOTHING: &[u8] = b"";
 
@@ -77,7 +86,7 @@ fn sink_of(
 }
 
 /// Runs the program.
-fn ended<R: Threads + Sync, S: Source + Send, K: Sink, N: Sink>(
+fn ended<R: Threads + Wait + Sync, S: Source + Send, K: Sink, N: Sink>(
     rt: &R,
     alloc: Global,
     words: &[List<u8>],
@@ -89,7 +98,7 @@ fn ended<R: Threads + Sync, S: Source + Send, K: Sink, N: Sink>(
 }
 
 /// Runs the program with these words, sink and notes, and tells what it left.
-fn run_noted<R: Threads + Sync>(
+fn run_noted<R: Threads + Wait + Sync>(
     rt: &R,
     alloc: Global,
     words: &[&[u8]],
@@ -108,7 +117,7 @@ fn run_noted<R: Threads + Sync>(
 }
 
 /// Runs the program with these words and this sink, and with notes that take all.
-fn run_with<R: Threads + Sync>(
+fn run_with<R: Threads + Wait + Sync>(
     rt: &R,
     alloc: Global,
     words: &[&[u8]],
@@ -120,7 +129,7 @@ fn run_with<R: Threads + Sync>(
 }
 
 /// Runs the program with these words on an input that comes in pieces of a thousand bytes.
-fn run_words<R: Threads + Sync>(
+fn run_words<R: Threads + Wait + Sync>(
     rt: &R,
     alloc: Global,
     words: &[&[u8]],
@@ -137,7 +146,7 @@ fn run_words<R: Threads + Sync>(
 }
 
 /// Runs the program with these words on an input, under a gate.
-fn run_gated<R: Threads + Sync, G: Gate>(
+fn run_gated<R: Threads + Wait + Sync, G: Gate>(
     rt: &R,
     alloc: Global,
     words: &[&[u8]],
@@ -167,7 +176,7 @@ fn run_gated<R: Threads + Sync, G: Gate>(
 
 /// Runs the program with these words over each input, and expects this status and text, and no notes.
 fn expect(
-    rt: &(impl Threads + Sync + Abort + Alloc<A = Global>),
+    rt: &(impl Threads + Wait + Sync + Abort + Alloc<A = Global>),
     words: &[&[u8]],
     runs: &[(&[u8], u8, &[u8])],
 ) -> Result<(), Fail> {

@@ -3,6 +3,7 @@ use super::inputs::deposits;
 use super::{FOUR_EVENTS, Ran, run_words};
 use morph_base::OutOfMemory;
 use std::alloc::Global;
+use std::sync::Wait;
 use std::test::Fail;
 use std::thread::Threads;
 
@@ -16,7 +17,7 @@ const INPUTS: [&[u8]; 5] = [
 ];
 
 /// Runs an input with so many batches ahead, and with the strategies that the program chooses.
-fn run_by<R: Threads + Sync>(
+fn run_by<R: Threads + Wait + Sync>(
     rt: &R,
     alloc: Global,
     ahead: &[u8],
@@ -27,7 +28,7 @@ fn run_by<R: Threads + Sync>(
 }
 
 /// Whether runs with so many batches ahead and with none leave the same status, text and notes.
-fn is_same<R: Threads + Sync>(
+fn is_same<R: Threads + Wait + Sync>(
     rt: &R,
     alloc: Global,
     ahead: &[u8],

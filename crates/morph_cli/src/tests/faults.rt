@@ -4,6 +4,7 @@ use morph_base::OutOfMemory;
 use morph_io::Source;
 use std::alloc::Global;
 use std::process::Abort;
+use std::sync::Wait;
 use std::test::Fail;
 use std::thread::Threads;
 
@@ -11,7 +12,7 @@ use std::thread::Threads;
 const USAGE: &[u8] = b"usage: morph app=ledger|grep|toll [name=value ...]\n";
 
 /// Runs the program with these words on one line, and tells what it left and how many bytes of the line.
-fn run_unread<R: Threads + Sync>(
+fn run_unread<R: Threads + Wait + Sync>(
     rt: &R,
     alloc: Global,
     words: &[&[u8]],
@@ -25,7 +26,7 @@ fn run_unread<R: Threads + Sync>(
 
 /// Runs the program with each of these words, and expects that nothing but the usage is written, and nothing read.
 fn expect_usage(
-    rt: &(impl Threads + Sync + Abort + Alloc<A = Global>),
+    rt: &(impl Threads + Wait + Sync + Abort + Alloc<A = Global>),
     refused: &[&[&[u8]]],
 ) -> Result<(), Fail> {
     for words in refused {
@@ -41,7 +42,7 @@ fn expect_usage(
 
 #[test]
 fn words_that_are_no_settings(rt: HostRuntime) -> Result<(), Fail> {
-    let refused: [&[&[u8]]; 29] = [
+    let refused: [&[&[u8]]; 33] = [
         &[],
         &[b"app=", b"size=1"],
         &[b"app=ledger", b"colour=1"],
@@ -71,6 +72,10 @@ fn words_that_are_no_settings(rt: HostRuntime) -> Result<(), Fail> {
         &[b"app=ledger", b"abort=eager", b"plan=auto"],
         &[b"app=ledger", b"ahead=3"],
         &[b"app=ledger", b"ahead=1", b"ahead=1"],
+        &[b"app=ledger", b"watch=yes"],
+        &[b"app=ledger", b"watch=off", b"watch=off"],
+        &[b"app=ledger", b"watch=on", b"ahead=1"],
+        &[b"app=ledger", b"ahead=2", b"watch=on"],
     ];
     expect_usage(&rt, &refused)
 }
@@ -86,7 +91,7 @@ struct Faults {
 }
 
 /// Runs the ledger on an input with these faults, with so many batches ahead.
-fn run_failing<R: Threads + Sync>(
+fn run_failing<R: Threads + Wait + Sync>(
     rt: &R,
     alloc: Global,
     ahead: &[u8],

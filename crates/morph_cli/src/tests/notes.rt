@@ -1,12 +1,13 @@
 //! What stands in the notes where they are on.
-use super::{FOUR, FOUR_EVENTS, Ran, run_noted, sink_of, source_of};
+use super::{FOUR, FOUR_EVENTS, Ran, TWO, TWO_BATCHES, run_noted, sink_of, source_of};
 use morph_base::OutOfMemory;
 use std::alloc::Global;
+use std::sync::Wait;
 use std::test::Fail;
 use std::thread::Threads;
 
 /// Runs the program with these words into a sink and notes whose calls of the given numbers fail.
-fn run_failing<R: Threads + Sync>(
+fn run_failing<R: Threads + Wait + Sync>(
     rt: &R,
     alloc: Global,
     words: &[&[u8]],
@@ -28,7 +29,7 @@ fn run_failing<R: Threads + Sync>(
 
 #[test]
 fn notes_and_their_faults(rt: HostRuntime) -> Result<(), Fail> {
-    let runs: [(&[&[u8]], &[u8], &[u64], &[u64], (u8, &[u8], &[u8])); 8] = [
+    let runs: [(&[&[u8]], &[u8], &[u64], &[u64], (u8, &[u8], &[u8])); 11] = [
         (
             &[b"app=ledger", b"notes=on"],
             FOUR_EVENTS,
@@ -104,6 +105,35 @@ fn notes_and_their_faults(rt: HostRuntime) -> Result<(), Fail> {
                 b"1 C 1 1\n2 C 2",
                 b"batch 1: events 1 ops 2 levels 1 op strata lazy\nmorph: write failed\n",
             ),
+        ),
+        (
+            &[b"app=ledger", b"watch=on", b"notes=on"],
+            TWO_BATCHES,
+            &[],
+            &[],
+            (
+                0,
+                TWO,
+                b"audit 0 total 0\nbatch 1: events 4 ops 14 levels 4 op strata lazy\naudit 1 total 100\nbatch 2: events 1 ops 2 levels 1 op strata lazy\ntally: evaluated 18 spread 0 rolled 2 left 0 handed 0 stolen 0\nsettled 0 16\n",
+            ),
+        ),
+        (
+            &[b"app=ledger", b"watch=on"],
+            b"D 1 0 0 7 5\nP\nD 2 1 0 3 1\nP\nx\n",
+            &[],
+            &[],
+            (
+                3,
+                b"1 C 7 5\n2 C 3 6\nrefused line 5: form\n",
+                b"audit 0 total 0\naudit 1 total 7\n",
+            ),
+        ),
+        (
+            &[b"app=ledger", b"watch=on"],
+            b"D 1 0 0 7 5\n",
+            &[],
+            &[1],
+            (5, b"1 C 7 5\n", b"morph: write failed\n"),
         ),
     ];
     for (words, input, sink_fails, notes_fails, left) in runs {

@@ -2,11 +2,12 @@
 use super::{FOUR, FOUR_EVENTS, LEDGER, Ran, expect, run_with, sink_of, source_of};
 use morph_base::OutOfMemory;
 use std::alloc::Global;
+use std::sync::Wait;
 use std::test::Fail;
 use std::thread::Threads;
 
 /// Runs the ledger on the four events, a byte a call, where the calls of the given numbers fail or stall.
-fn run_by_bytes<R: Threads + Sync>(
+fn run_by_bytes<R: Threads + Wait + Sync>(
     rt: &R,
     alloc: Global,
     reads: &[u64],

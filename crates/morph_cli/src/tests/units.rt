@@ -1,9 +1,10 @@
 //! All eight strategies, with one and with several workers.
 use super::tallies::is_balanced;
-use super::{FOUR, FOUR_EVENTS, run_words};
+use super::{FOUR, FOUR_EVENTS, TWO, TWO_BATCHES, run_words};
 use morph_base::{Abort, Explore};
 use std::alloc::Global;
 use std::process;
+use std::sync::Wait;
 use std::test::Fail;
 use std::thread::Threads;
 
@@ -63,7 +64,7 @@ const WAYS: [Way; 4] = [
 
 /// Runs the four events in both units, with 1, 2 and 16 workers, and expects the same text of each run.
 fn expect_four(
-    rt: &(impl Threads + Sync + process::Abort + Alloc<A = Global>),
+    rt: &(impl Threads + Wait + Sync + process::Abort + Alloc<A = Global>),
     way: Way,
 ) -> Result<(), Fail> {
     let runs: [(&[u8], &[u8], usize, &[u8]); 6] = [
@@ -119,14 +120,6 @@ fn a_failure_is_spread_at_once(rt: HostRuntime) -> Result<(), Fail> {
     }
     Ok(())
 }
-
-/// The four events, and a batch of one event behind them.
-const TWO_BATCHES: &[u8] =
-    b"D 1 0 0 100 5\nX 2 0 1 0 1 60 6\nX 3 0 1 0 1 60 5\nX 4 1 2 1 2 60 5\nP\nD 9 0 0 1 1\n";
-
-/// Their text.
-const TWO: &[u8] =
-    b"1 C 100 5\n2 A\n3 C 40 0 60 5\n4 C 0 0 60 5\n9 C 41 1\nacct 0 41\nacct 2 60\nasset 0 1\nasset 2 5\ncommitted 4 aborted 1\n";
 
 /// Nothing had aborted before the first batch, and one event of four did before the second.
 #[test]

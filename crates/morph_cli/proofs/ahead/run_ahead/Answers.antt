@@ -1,30 +1,23 @@
-use Rattle.std.proofs.Common.{◌≡◌, ℕ, ◌++◌, List, Some, Err, inl, inr, refl, ap, sym, ◌∙◌, arith, lit≤}
+use Rattle.std.proofs.Common.{◌≡◌, ℕ, ◌++◌, List, None, refl, ap, sym, ◌∙◌, arith, lit≤}
 use Rattle.event_reader.specs.declared.limits.TheConstants.{INPUT_BYTES}
-use Rattle.event_reader.specs.declared.cause.Cause.{Cause}
-use Rattle.event_reader.specs.Accepted.{Ended, RefusedAt, CutOff}
 use Rattle.morph_base.specs.declared.key.Layout.{Layout}
 use Rattle.morph_base.specs.Flat.{Kept, contents}
-use Rattle.morph_base.specs.States.{State}
 use Rattle.morph_engine.specs.Accounts.{account_of}
-use Rattle.batch_pipe.specs.declared.tail.Tail.TheVariants.{End, Refused}
 use Rattle.batch_pipe.specs.Running.{manner}
 use Rattle.batch_pipe.specs.Waiting.{PipeView, IsGoing}
-use Rattle.morph_cli.specs.declared.fault.Fault.TheVariants.{Write, OutOfMemory}
+use Rattle.morph_cli.specs.declared.fault.Fault.TheVariants.{Write}
 use Rattle.run_text.specs.declared.choices.Settings.{Settings}
 use Rattle.run_text.specs.declared.tally.Tally.{Tally}
 use Rattle.run_text.specs.Reports.{report_of}
-use Rattle.run_text.specs.Notes.{noted, closing_notes}
-use Rattle.run_text.specs.Text.{told_values, refused_text, counts_line}
+use Rattle.run_text.specs.Text.{told_values, counts_line}
 use Rattle.morph_cli.specs.Outputs.{outputs_of}
 use Rattle.std.proofs.lemmas.Bool.{true≢false}
 use Rattle.batch_pipe.specs.Courses.{steps_left}
 use Rattle.batch_pipe.proofs.Rounds.{turns_fall}
-use Rattle.morph_cli.specs.Faults.{fault_of}
-use Rattle.morph_cli.proofs.Between.{closing_of, closing_last, course_of, error_is, reads_only}
-use Rattle.morph_cli.proofs.Ending.{ends_memory, ends_complete, ends_refused, ends_cut, told_short, told_at_end, told_cut_at_end}
-use Rattle.morph_cli.proofs.Turns.{cut_text}
-use Rattle.morph_cli.proofs.Noting.{note_of}
-use Rattle.morph_cli.proofs.Piping.{piped_start, piped_as, piped_round, piped_told, piped_over, state_there, read_in_round, ends_by, next, room_told, ends_in_run, told_in_run}
+use Rattle.morph_cli.proofs.Between.{course_of, error_is}
+use Rattle.morph_cli.proofs.Noting.{told_note, noted_so, risen_in_part}
+use Rattle.morph_cli.proofs.Tails.{read_by_tail, ends_by_tail, told_by_tail}
+use Rattle.morph_cli.proofs.Piping.{piped_start, piped_as, piped_round, piped_told, read_in_round, next, room_told, ends_in_run, told_in_run}
 use Rattle.morph_cli.proofs.ahead.run_ahead.Goals as goal
 
 pub turns-init : goal.turns-init
@@ -68,7 +61,7 @@ pub returns-in_err-tell_batch-in-Some-clause-ends : goal.returns-in_err-tell_bat
 returns-in_err-tell_batch-in-Some-clause-ends g c =
     let got = rw c.in-Some.is at c.next.ensures.some in
     ends_in_run c.picker-pick.ensures refl c.turns.invariant.run c.in-Some.ran c.next.new.self.rans got.1 (g.S.Source.left c.turns.source)
-    (outputs_of (g.K.Sink.written c.tell_batch.new.sink) (g.N.Sink.written c.tell_batch.new.notes)) (note_of c.args.job.now.settings c.count.new.tally.batches (account_of c.in-Some.ran.end))
+    (outputs_of (g.K.Sink.written c.tell_batch.new.sink) (g.N.Sink.written c.tell_batch.new.notes)) (told_note c.args.job.now.settings c.count.new.tally.batches None (account_of c.in-Some.ran.end))
     (error_is c.from_residual.result Write c.from_residual.ensures.1) c.in_err-tell_batch-in-Some.ensures.told
 
 pub returns-in_err-tell_batch-in-Some-clause-told : goal.returns-in_err-tell_batch-in-Some-clause-told
@@ -114,129 +107,45 @@ turns-preserved g c =
 
 -- ---- the end
 
-not_cut_ended : Ended ≡ CutOff → ⊥
-not_cut_ended e = absurd (cc)
-
-not_cut_refused : (line : ℕ) (cause : Cause) → RefusedAt line cause ≡ CutOff → ⊥
-not_cut_refused line cause e = absurd (cc)
-
 -- the closing text of the values at the end
-closing_there : (s : Settings) (name : ℕ → List ℕ) (values kept : Kept) (tally : Tally) (layout : Layout) (state : State) → values ≡ kept → kept.layout ≡ layout → contents kept ≡ state →
-    closing_of s name values tally ≡ told_values (report_of s) layout name state ++ counts_line tally.committed tally.aborted
-closing_there s name values kept tally layout state same is there =
-    closing_last s name values kept tally layout same is ∙ ap (λ st. told_values (report_of s) layout name st ++ counts_line tally.committed tally.aborted) there
+abbrev closing_text : Settings → (name : ℕ → List ℕ) → Kept → Tally → List ℕ
+closing_text s name kept tally = told_values (report_of s) kept.layout name (contents kept) ++ counts_line tally.committed tally.aborted
 
-pub returns-in_ok-tell_closing-in-Some-End-clause-ends : goal.returns-in_ok-tell_closing-in-Some-End-clause-ends
-returns-in_ok-tell_closing-in-Some-End-clause-ends g c =
+closing_there : (s : Settings) (name : ℕ → List ℕ) (kept : Kept) (tally : Tally) (layout : Layout) → kept.layout ≡ layout →
+    told_values (report_of s) kept.layout name (contents kept) ++ counts_line tally.committed tally.aborted ≡ told_values (report_of s) layout name (contents kept) ++ counts_line tally.committed tally.aborted
+closing_there s name kept tally layout is = ap (λ l. told_values (report_of s) l name (contents kept) ++ counts_line tally.committed tally.aborted) is
+
+pub end_ahead-requires-clause-layout : goal.end_ahead-requires-clause-layout
+end_ahead-requires-clause-layout g c =
+    let got = rw c.in-None.is at c.next.ensures.none in (piped_as got.0 c.turns.invariant.run).layout
+
+pub end_ahead-requires-clause-all : goal.end_ahead-requires-clause-all
+end_ahead-requires-clause-all g c = c.turns.invariant.run.goes.tallied.counts.workers
+
+pub returns-clause-ends : goal.returns-clause-ends
+returns-clause-ends g c =
     let got = rw c.in-None.is at c.next.ensures.none in
     let p = piped_as got.0 c.turns.invariant.run in
-    let none = ap (λ (v : PipeView _). v.rans) got.0 ∙ got.1 in
     let over : IsGoing c.next.new.self → ⊥ = λ going. true≢false (sym (c.going.ensures.going.1 going) ∙ c.if-going.false) in
-    let is = sym c.tail.ensures ∙ c.in-Some-End.is ∙ ap Some c.in-Some-End.field-0-is in
-    let o = piped_over p none End over is (λ e. absurd (cc)) in
-    let last = closing_there c.args.job.now.settings (g.A.EventApp.name_of c.args.job.now.app) c.state-values.result.now c.next.new.self.engine c.turns.tally _ p.state
-    (c.state-values.ensures ∙ c.engine.ensures) p.layout (state_there p none) in
-    ends_complete (g.S.Source.left c.turns.source) (outputs_of (g.K.Sink.written c.tell_closing.new.sink) (g.N.Sink.written c.tell_closing.new.notes)) (closing_of c.args.job.now.settings (g.A.EventApp.name_of c.args.job.now.app) c.state-values.result.now c.turns.tally) (noted c.args.job.now.settings.notes (closing_notes c.args.job.now.settings.workers c.turns.tally)) o.goes o.stops.answers last c.in_ok-tell_closing-in-Some-End.ensures.told
+    ends_by_tail c.end_ahead.result (outputs_of (g.K.Sink.written c.end_ahead.new.sink) (g.N.Sink.written c.end_ahead.new.notes))
+    (closing_text c.args.job.now.settings (g.A.EventApp.name_of c.args.job.now.app) c.next.new.self.engine c.turns.tally) p (ap (λ (v : PipeView _). v.rans) got.0 ∙ got.1) over
+    (closing_there c.args.job.now.settings (g.A.EventApp.name_of c.args.job.now.app) c.next.new.self.engine c.turns.tally _ p.layout) c.end_ahead.ensures.ends
 
-pub returns-in_ok-tell_closing-in-Some-End-clause-told : goal.returns-in_ok-tell_closing-in-Some-End-clause-told
-returns-in_ok-tell_closing-in-Some-End-clause-told g c =
+pub returns-clause-told : goal.returns-clause-told
+returns-clause-told g c =
     let got = rw c.in-None.is at c.next.ensures.none in
     let p = piped_as got.0 c.turns.invariant.run in
-    let none = ap (λ (v : PipeView _). v.rans) got.0 ∙ got.1 in
     let over : IsGoing c.next.new.self → ⊥ = λ going. true≢false (sym (c.going.ensures.going.1 going) ∙ c.if-going.false) in
-    let is = sym c.tail.ensures ∙ c.in-Some-End.is ∙ ap Some c.in-Some-End.field-0-is in
-    let o = piped_over p none End over is (λ e. absurd (cc)) in
-    let last = closing_there c.args.job.now.settings (g.A.EventApp.name_of c.args.job.now.app) c.state-values.result.now c.next.new.self.engine c.turns.tally _ p.state
-    (c.state-values.ensures ∙ c.engine.ensures) p.layout (state_there p none) in
-    told_at_end (outputs_of (g.K.Sink.written c.tell_closing.new.sink) (g.N.Sink.written c.tell_closing.new.notes)) 0 Ended (closing_of c.args.job.now.settings (g.A.EventApp.name_of c.args.job.now.app) c.state-values.result.now c.turns.tally) (inl refl) not_cut_ended o.goes o.stops.answers last c.in_ok-tell_closing-in-Some-End.ensures.told
+    told_by_tail c.end_ahead.result (outputs_of (g.K.Sink.written c.end_ahead.new.sink) (g.N.Sink.written c.end_ahead.new.notes))
+    (closing_text c.args.job.now.settings (g.A.EventApp.name_of c.args.job.now.app) c.next.new.self.engine c.turns.tally) p (ap (λ (v : PipeView _). v.rans) got.0 ∙ got.1) over
+    (closing_there c.args.job.now.settings (g.A.EventApp.name_of c.args.job.now.app) c.next.new.self.engine c.turns.tally _ p.layout) c.end_ahead.ensures.ends
 
-pub returns-in_err-tell_closing-in-Some-End-clause-ends : goal.returns-in_err-tell_closing-in-Some-End-clause-ends
-returns-in_err-tell_closing-in-Some-End-clause-ends g c =
+pub returns-clause-read : goal.returns-clause-read
+returns-clause-read g c is =
     let got = rw c.in-None.is at c.next.ensures.none in
-    let p = piped_as got.0 c.turns.invariant.run in
-    let none = ap (λ (v : PipeView _). v.rans) got.0 ∙ got.1 in
-    let over : IsGoing c.next.new.self → ⊥ = λ going. true≢false (sym (c.going.ensures.going.1 going) ∙ c.if-going.false) in
-    let is = sym c.tail.ensures ∙ c.in-Some-End.is ∙ ap Some c.in-Some-End.field-0-is in
-    let o = piped_over p none End over is (λ e. absurd (cc)) in
-    let last = closing_there c.args.job.now.settings (g.A.EventApp.name_of c.args.job.now.app) c.state-values.result.now c.next.new.self.engine c.turns.tally _ p.state
-    (c.state-values.ensures ∙ c.engine.ensures) p.layout (state_there p none) in
-    ends_cut (g.S.Source.left c.turns.source) (outputs_of (g.K.Sink.written c.tell_closing.new.sink) (g.N.Sink.written c.tell_closing.new.notes)) Ended (closing_of c.args.job.now.settings (g.A.EventApp.name_of c.args.job.now.app) c.state-values.result.now c.turns.tally)
-    (error_is c.from_residual-in_err-tell_closing-in-Some-End.result Write c.from_residual-in_err-tell_closing-in-Some-End.ensures.1) o.goes o.stops.answers last
-    (cut_text (outputs_of (g.K.Sink.written c.turns.sink) (g.N.Sink.written c.turns.notes)) (closing_of c.args.job.now.settings (g.A.EventApp.name_of c.args.job.now.app) c.state-values.result.now c.turns.tally) (noted c.args.job.now.settings.notes (closing_notes c.args.job.now.settings.workers c.turns.tally)) (outputs_of (g.K.Sink.written c.tell_closing.new.sink) (g.N.Sink.written c.tell_closing.new.notes)) c.in_err-tell_closing-in-Some-End.ensures.told)
+    c.turns.invariant.read (sym (ap (λ (v : PipeView _). v.tail) got.0) ∙ read_by_tail _ c.end_ahead.result _ _ _ _ c.end_ahead.ensures.ends is)
 
-pub returns-in_err-tell_closing-in-Some-End-clause-told : goal.returns-in_err-tell_closing-in-Some-End-clause-told
-returns-in_err-tell_closing-in-Some-End-clause-told g c =
-    let got = rw c.in-None.is at c.next.ensures.none in
-    let p = piped_as got.0 c.turns.invariant.run in
-    let none = ap (λ (v : PipeView _). v.rans) got.0 ∙ got.1 in
-    let over : IsGoing c.next.new.self → ⊥ = λ going. true≢false (sym (c.going.ensures.going.1 going) ∙ c.if-going.false) in
-    let is = sym c.tail.ensures ∙ c.in-Some-End.is ∙ ap Some c.in-Some-End.field-0-is in
-    let o = piped_over p none End over is (λ e. absurd (cc)) in
-    let last = closing_there c.args.job.now.settings (g.A.EventApp.name_of c.args.job.now.app) c.state-values.result.now c.next.new.self.engine c.turns.tally _ p.state
-    (c.state-values.ensures ∙ c.engine.ensures) p.layout (state_there p none) in
-    told_cut_at_end (outputs_of (g.K.Sink.written c.tell_closing.new.sink) (g.N.Sink.written c.tell_closing.new.notes)) Ended (closing_of c.args.job.now.settings (g.A.EventApp.name_of c.args.job.now.app) c.state-values.result.now c.turns.tally)
-    (error_is c.from_residual-in_err-tell_closing-in-Some-End.result Write c.from_residual-in_err-tell_closing-in-Some-End.ensures.1) not_cut_ended o.goes o.stops.answers last c.in_err-tell_closing-in-Some-End.ensures.told
-
-pub returns-in_ok-tell_refused-in-Some-Refused-clause-ends : goal.returns-in_ok-tell_refused-in-Some-Refused-clause-ends
-returns-in_ok-tell_refused-in-Some-Refused-clause-ends g c =
-    let got = rw c.in-None.is at c.next.ensures.none in
-    let p = piped_as got.0 c.turns.invariant.run in
-    let none = ap (λ (v : PipeView _). v.rans) got.0 ∙ got.1 in
-    let over : IsGoing c.next.new.self → ⊥ = λ going. true≢false (sym (c.going.ensures.going.1 going) ∙ c.if-going.false) in
-    let is = sym c.tail.ensures ∙ c.in-Some-Refused.is ∙ ap Some c.in-Some-Refused.field-0-is in
-    let o = piped_over p none (Refused c.in-Some-Refused.line c.in-Some-Refused.cause) over is (λ e. absurd (cc)) in
-    ends_refused (g.S.Source.left c.turns.source) (outputs_of (g.K.Sink.written c.tell_refused.new.sink) (g.N.Sink.written c.tell_refused.new.notes)) c.in-Some-Refused.line c.in-Some-Refused.cause (refused_text c.in-Some-Refused.line c.in-Some-Refused.cause) (noted c.args.job.now.settings.notes (closing_notes c.args.job.now.settings.workers c.turns.tally)) o.goes o.stops.answers refl c.in_ok-tell_refused-in-Some-Refused.ensures.told
-
-pub returns-in_ok-tell_refused-in-Some-Refused-clause-told : goal.returns-in_ok-tell_refused-in-Some-Refused-clause-told
-returns-in_ok-tell_refused-in-Some-Refused-clause-told g c =
-    let got = rw c.in-None.is at c.next.ensures.none in
-    let p = piped_as got.0 c.turns.invariant.run in
-    let none = ap (λ (v : PipeView _). v.rans) got.0 ∙ got.1 in
-    let over : IsGoing c.next.new.self → ⊥ = λ going. true≢false (sym (c.going.ensures.going.1 going) ∙ c.if-going.false) in
-    let is = sym c.tail.ensures ∙ c.in-Some-Refused.is ∙ ap Some c.in-Some-Refused.field-0-is in
-    let o = piped_over p none (Refused c.in-Some-Refused.line c.in-Some-Refused.cause) over is (λ e. absurd (cc)) in
-    told_at_end (outputs_of (g.K.Sink.written c.tell_refused.new.sink) (g.N.Sink.written c.tell_refused.new.notes)) 3 (RefusedAt c.in-Some-Refused.line c.in-Some-Refused.cause) (refused_text c.in-Some-Refused.line c.in-Some-Refused.cause) (inr refl) (not_cut_refused c.in-Some-Refused.line c.in-Some-Refused.cause) o.goes o.stops.answers refl c.in_ok-tell_refused-in-Some-Refused.ensures.told
-
-pub returns-in_err-tell_refused-in-Some-Refused-clause-ends : goal.returns-in_err-tell_refused-in-Some-Refused-clause-ends
-returns-in_err-tell_refused-in-Some-Refused-clause-ends g c =
-    let got = rw c.in-None.is at c.next.ensures.none in
-    let p = piped_as got.0 c.turns.invariant.run in
-    let none = ap (λ (v : PipeView _). v.rans) got.0 ∙ got.1 in
-    let over : IsGoing c.next.new.self → ⊥ = λ going. true≢false (sym (c.going.ensures.going.1 going) ∙ c.if-going.false) in
-    let is = sym c.tail.ensures ∙ c.in-Some-Refused.is ∙ ap Some c.in-Some-Refused.field-0-is in
-    let o = piped_over p none (Refused c.in-Some-Refused.line c.in-Some-Refused.cause) over is (λ e. absurd (cc)) in
-    ends_cut (g.S.Source.left c.turns.source) (outputs_of (g.K.Sink.written c.tell_refused.new.sink) (g.N.Sink.written c.tell_refused.new.notes)) (RefusedAt c.in-Some-Refused.line c.in-Some-Refused.cause) (refused_text c.in-Some-Refused.line c.in-Some-Refused.cause)
-    (error_is c.from_residual-in_err-tell_refused-in-Some-Refused.result Write c.from_residual-in_err-tell_refused-in-Some-Refused.ensures.1) o.goes o.stops.answers refl
-    (cut_text (outputs_of (g.K.Sink.written c.turns.sink) (g.N.Sink.written c.turns.notes)) (refused_text c.in-Some-Refused.line c.in-Some-Refused.cause) (noted c.args.job.now.settings.notes (closing_notes c.args.job.now.settings.workers c.turns.tally)) (outputs_of (g.K.Sink.written c.tell_refused.new.sink) (g.N.Sink.written c.tell_refused.new.notes)) c.in_err-tell_refused-in-Some-Refused.ensures.told)
-
-pub returns-in_err-tell_refused-in-Some-Refused-clause-told : goal.returns-in_err-tell_refused-in-Some-Refused-clause-told
-returns-in_err-tell_refused-in-Some-Refused-clause-told g c =
-    let got = rw c.in-None.is at c.next.ensures.none in
-    let p = piped_as got.0 c.turns.invariant.run in
-    let none = ap (λ (v : PipeView _). v.rans) got.0 ∙ got.1 in
-    let over : IsGoing c.next.new.self → ⊥ = λ going. true≢false (sym (c.going.ensures.going.1 going) ∙ c.if-going.false) in
-    let is = sym c.tail.ensures ∙ c.in-Some-Refused.is ∙ ap Some c.in-Some-Refused.field-0-is in
-    let o = piped_over p none (Refused c.in-Some-Refused.line c.in-Some-Refused.cause) over is (λ e. absurd (cc)) in
-    told_cut_at_end (outputs_of (g.K.Sink.written c.tell_refused.new.sink) (g.N.Sink.written c.tell_refused.new.notes)) (RefusedAt c.in-Some-Refused.line c.in-Some-Refused.cause) (refused_text c.in-Some-Refused.line c.in-Some-Refused.cause)
-    (error_is c.from_residual-in_err-tell_refused-in-Some-Refused.result Write c.from_residual-in_err-tell_refused-in-Some-Refused.ensures.1) (not_cut_refused c.in-Some-Refused.line c.in-Some-Refused.cause) o.goes o.stops.answers refl c.in_err-tell_refused-in-Some-Refused.ensures.told
-
-pub returns-in-Some-Fault-clause-ends : goal.returns-in-Some-Fault-clause-ends
-returns-in-Some-Fault-clause-ends g c =
-    let got = rw c.in-None.is at c.next.ensures.none in
-    let p = piped_as got.0 c.turns.invariant.run in
-    let none = ap (λ (v : PipeView _). v.rans) got.0 ∙ got.1 in
-    let over : IsGoing c.next.new.self → ⊥ = λ going. true≢false (sym (c.going.ensures.going.1 going) ∙ c.if-going.false) in
-    let is = sym c.tail.ensures ∙ c.in-Some-Fault.is ∙ ap Some c.in-Some-Fault.field-0-is in
-    ends_by c.in-Some-Fault.fault (ap Err c.into.ensures) p none over is
-
-pub returns-in-Some-Fault-clause-told : goal.returns-in-Some-Fault-clause-told
-returns-in-Some-Fault-clause-told g c =
-    told_short (fault_of c.in-Some-Fault.fault) (ap Err c.into.ensures) (reads_only c.in-Some-Fault.fault) c.turns.invariant.run.goes
-
-pub returns-in-Some-RunMemory-clause-ends : goal.returns-in-Some-RunMemory-clause-ends
-returns-in-Some-RunMemory-clause-ends g c =
-    ends_memory (g.S.Source.left c.turns.source) refl c.turns.invariant.run.goes
-
-pub returns-in-Some-RunMemory-clause-told : goal.returns-in-Some-RunMemory-clause-told
-returns-in-Some-RunMemory-clause-told g c =
-    told_short OutOfMemory refl (λ e. absurd (cc)) c.turns.invariant.run.goes
+pub returns-clause-write : goal.returns-clause-write
+returns-clause-write g c is =
+    risen_in_part (noted_so c.args.job.now.settings) (g.K.Sink.faults c.args.sink.now) (g.K.Sink.faults c.turns.sink) (g.K.Sink.faults c.end_ahead.new.sink) (g.N.Sink.faults c.args.notes.now) (g.N.Sink.faults c.turns.notes) (g.N.Sink.faults c.end_ahead.new.notes)
+    c.turns.invariant.sink_faults c.end_ahead.ensures.sink_faults c.turns.invariant.notes_faults c.end_ahead.ensures.notes_faults (c.end_ahead.ensures.write is)

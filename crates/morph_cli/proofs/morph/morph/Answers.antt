@@ -3,7 +3,7 @@ use Rattle.std.proofs.Common.{◌⊎◌, inl, inr, map, sym, ap, subst, ◌∙�
 use Rattle.std.specs.Prelude.{IsTrue}
 use Rattle.morph_io.specs.Told.{behind, HasRisen, AppendsPrefix}
 use Rattle.morph_cli.proofs.Noting.{risen_before}
-use Rattle.morph_cli.specs.Outputs.{outputs_of}
+use Rattle.morph_cli.specs.Outputs.{has_notes, outputs_of}
 use Rattle.morph_cli.specs.Tallies.{IsBalanced}
 use Rattle.run_text.specs.Settings.{settings_of}
 use Rattle.morph_cli.proofs.Answering.{asked_so, headline_asked, completes_asked, made_asked, told_asked, write_asked}
@@ -22,9 +22,9 @@ returns-clause-completes g c no_read no_write =
     (λ no_note is. by_cause no_write no_note (c.run_app-end.ensures.write is))
   where
     by_cause : (HasRisen (g.K.Sink.faults c.args.sink.now) (g.K.Sink.faults c.run_app-end.new.sink) → ⊥)
-        → (IsTrue c.in-Some.settings.notes → HasRisen (g.N.Sink.faults c.args.notes.now) (g.N.Sink.faults c.write_note.new.notes) → ⊥)
+        → (IsTrue (has_notes c.in-Some.settings) → HasRisen (g.N.Sink.faults c.args.notes.now) (g.N.Sink.faults c.write_note.new.notes) → ⊥)
         → HasRisen (g.K.Sink.faults c.args.sink.now) (g.K.Sink.faults c.run_app-end.new.sink)
-        ⊎ (IsTrue c.in-Some.settings.notes × HasRisen (g.N.Sink.faults c.args.notes.now) (g.N.Sink.faults c.run_app-end.new.notes)) → ⊥
+        ⊎ (IsTrue (has_notes c.in-Some.settings) × HasRisen (g.N.Sink.faults c.args.notes.now) (g.N.Sink.faults c.run_app-end.new.notes)) → ⊥
     by_cause no_write no_note (inl risen) = no_write risen
     by_cause no_write no_note (inr risen) =
         no_note risen.0 (risen_before (g.N.Sink.faults c.args.notes.now) (g.N.Sink.faults c.run_app-end.new.notes) (g.N.Sink.faults c.write_note.new.notes) c.write_note.ensures.never_falls risen.1)

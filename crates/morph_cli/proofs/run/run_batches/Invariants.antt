@@ -1,5 +1,8 @@
 use Rattle.std.proofs.Common.{◌+◌, ◌-◌, ◌≤◌}
 use Rattle.event_reader.specs.declared.limits.TheConstants.{INPUT_BYTES}
+use Rattle.std.specs.Prelude.{IfSome, IsSome, IsTrue}
+use Rattle.morph_base.specs.Flat.{contents}
+use Rattle.morph_cli.specs.Batches.{IsShown}
 use Rattle.morph_cli.specs.Outputs.{outputs_of}
 use Rattle.morph_cli.proofs.Between.{Between, course_of}
 use Rattle.morph_cli.proofs.run.run_batches.Given as goal
@@ -9,6 +12,8 @@ invariant-batches g l = record {
   run : Between (course_of g.A.EventApp.event_of (g.A.EventApp.table_count l.job.app) (g.A.EventApp.name_of l.job.app) l.job.app l.job.settings INPUT_BYTES (g.S.Source.left l.initial.source)
       (outputs_of (g.K.Sink.written l.initial.sink) (g.N.Sink.written l.initial.notes)))
       (g.S.Source.left l.source) (outputs_of (g.K.Sink.written l.sink) (g.N.Sink.written l.notes)) l.progress.reader l.progress.engine l.tally l.progress.out l.progress.last;
+  shown : IfSome l.progress.watching (IsShown l.progress.engine.layout l.tally.batches (contents l.progress.engine));
+  watch : IsSome l.progress.watching → IsTrue l.job.settings.watch;
   source_faults : g.S.Source.faults l.initial.source ≤ g.S.Source.faults l.source;
   sink_faults : g.K.Sink.faults l.initial.sink ≤ g.K.Sink.faults l.sink;
   notes_faults : g.N.Sink.faults l.initial.notes ≤ g.N.Sink.faults l.notes;

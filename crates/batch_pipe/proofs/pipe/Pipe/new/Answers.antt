@@ -5,7 +5,8 @@ use Rattle.rtrb.specs.Ring.{known_items}
 use Rattle.batch_pipe.specs.declared.items.Sent.{Sent}
 use Rattle.batch_pipe.specs.declared.items.Ran.{Ran}
 use Rattle.batch_pipe.specs.Planning.{IsReady, AreNumbered}
-use Rattle.batch_pipe.specs.Running.{no_last, somes}
+use Rattle.batch_pipe.specs.Running.{somes}
+use Rattle.decision_model.specs.Choices.{no_last}
 use Rattle.batch_pipe.specs.Waiting.{PipeView}
 use Rattle.batch_pipe.proofs.Desks.{somes_none}
 use Rattle.batch_pipe.proofs.pipe.Pipe.new.Goals as goal

@@ -1,0 +1,188 @@
+ghost use Rattle.std.specs.Prelude.{◌≡◌, ◌+◌, ◌^◌, ◌<◌, ◌≤◌, [], length, true, None, IfOk, IfSome, IsSome, IsTrue, OnOk, OnErr};
+ghost use Rattle.std.specs.Thread.{IsSync};
+ghost use Rattle.morph_base.specs.Flat.{contents};
+ghost use Rattle.morph_base.specs.Plans.{IsPlan, HasBases, PlanKeysIn, IsSettledOf};
+ghost use Rattle.morph_base.specs.States.{fold_batch};
+ghost use Rattle.morph_base.specs.Transactions.{IsBatch, BatchKeysIn};
+ghost use Rattle.run_text.specs.Settings.{AreInRange};
+ghost use Rattle.snapshot_reader.specs.Batches.{after_plans};
+ghost use Rattle.snapshot_reader.specs.Known.{most_ids};
+ghost use Rattle.version_table.specs.Totals.{total_of};
+ghost use Rattle.morph_cli.specs.Batches.{IsEndOf, IsSeen, also_posted};
+ghost use Rattle.morph_cli.specs.Runs.{layout_of};
+
+use crate::batch::run_batch;
+use crate::job::{Host, Job};
+use decision_model::Last;
+use event_reader::EventApp;
+use morph_base::{Batch, Layout, OutOfMemory};
+use morph_engine::{BatchEnd, Engine};
+use run_text::Settings;
+use snapshot_reader::{Publisher, Total, Viewer, snapshots};
+use std::alloc::Global;
+use std::marker::Model;
+use std::sync::Wait;
+use std::thread::{Threads, join_mut};
+use worker_gate::Gate;
+
+/// A batch that was run, and what was seen of the balances beside it.
+#[derive(Drop)]
+pub struct Watched {
+    pub end: BatchEnd,
+    /// The sum of the first table before the batch, with the number of batches before it; none where nothing was seen.
+    pub audit: Option<Total>,
+}
+
+/// Publishes the balances of a run after each batch, and looks at them while the next one is run. Contracts see the
+/// layout and the batches that were published.
+///
+/// It is not `Drop`, since its end may wait for its viewer: end it by [`Watching::end`].
+pub struct Watching {
+    publisher: Publisher,
+    viewer: Viewer,
+}
+
+impl Model for Watching {
+    ghost use Rattle.std.specs.Prelude.{◌≡◌};
+    ghost use Rattle.snapshot_reader.specs.Steady.{Posted};
+
+    ghost Value = { Posted };
+
+    ghost view = { λ w. w.publisher };
+
+    ghost invariant = { λ w. w.viewer.layout ≡ w.publisher.layout };
+}
+
+impl Watching {
+    /// One that has published nothing, of balances that are all 0.
+    pub fn new(alloc: Global, layout: Layout) -> Result<Self, OutOfMemory>
+        requires { layout.size ≤ most_ids }
+        ensures layout { IfOk result (λ made. made.layout ≡ layout) }
+        ensures none { IfOk result (λ made. made.plans ≡ []) }
+    {
+        let (publisher, mut viewers) = snapshots(alloc, layout, 1)?;
+        let viewer = viewers.pop().unwrap();
+        Ok(Watching { publisher, viewer })
+    }
+
+    /// One for a run, where its settings ask for one.
+    pub fn asked<A: EventApp, R, G>(job: &Job<'_, A, R, G>) -> Result<Option<Self>, OutOfMemory>
+        requires { AreInRange job.now.settings }
+        ensures asked { IfOk result (λ made. IsSome made → IsTrue job.now.settings.watch) }
+        ensures layout { IfOk result (λ made. IfSome made (λ posted.
+            posted.layout ≡ layout_of (A.table_count job.now.app) job.now.settings.size)) }
+        ensures none { IfOk result (λ made. IfSome made (λ posted. posted.plans ≡ [])) }
+    {
+        if !job.settings.watch {
+            return Ok(None);
+        }
+        Ok(Some(Watching::new(job.host.alloc, job.layout())?))
+    }
+
+    /// Ends it, its viewer first. It may wait for a viewer that is reading.
+    pub fn end<R: Wait>(self, rt: &R) {
+        let Watching { publisher, viewer } = self;
+        drop(viewer);
+        publisher.end(rt);
+    }
+}
+
+/// The sum of the first table as a viewer sees it, where that is after as many batches as it was told of.
+fn look(viewer: &mut Viewer, told: u64) -> Option<Total>
+    requires { viewer.old.sees ≡ true → told ≡ length viewer.old.told }
+    ensures seen { IfSome result (λ seen. (viewer.old.sees ≡ true) × (seen.number ≡ told)
+        × (seen.total ≡ total_of (after_plans viewer.old.told) 0 viewer.old.layout.size)) }
+    ensures layout { viewer.new.layout ≡ viewer.old.layout }
+{
+    let seen = viewer.total(0)?;
+    if seen.number == told {
+        Some(seen)
+    } else {
+        None
+    }
+}
+
+/// Makes the plan of a batch and runs it, as [`run_batch`]. Where the balances are watched the viewer is told of all
+/// batches that were published, and looks in a thread of its own meanwhile.
+pub fn run_watched<R: Threads + Sync, G: Gate>(
+    host: &Host<'_, R, G>,
+    watching: &mut Option<Watching>,
+    engine: &mut Engine,
+    batch: &Batch,
+    settings: &Settings,
+    last: Last,
+) -> Result<Watched, OutOfMemory>
+    requires settings { AreInRange settings.now }
+    requires batch { IsBatch batch.now }
+    requires keys { BatchKeysIn engine.old.layout batch.now }
+    ensures layout { engine.new.layout ≡ engine.old.layout }
+    ensures state { OnOk result (contents engine.new ≡ fold_batch batch.now (contents engine.old)) }
+    ensures ran { IfOk result (λ ran. IsEndOf settings.now last engine.old batch.now ran.end) }
+    ensures audit { IfOk result (λ ran. IfSome ran.audit (IsSeen watching.old)) }
+    ensures watching { watching.new ≡ watching.old }
+    ensures refused { OnErr result (engine.new ≡ engine.old) }
+{
+    let Some(watching) = watching else {
+        let end = run_batch(host, engine, batch, settings, last)?;
+        return Ok(Watched { end, audit: None });
+    };
+    run_beside(host, watching, engine, batch, settings, last)
+}
+
+/// The same beside a look.
+fn run_beside<R: Threads + Sync, G: Gate>(
+    host: &Host<'_, R, G>,
+    watching: &mut Watching,
+    engine: &mut Engine,
+    batch: &Batch,
+    settings: &Settings,
+    last: Last,
+) -> Result<Watched, OutOfMemory>
+    requires settings { AreInRange settings.now }
+    requires batch { IsBatch batch.now }
+    requires keys { BatchKeysIn engine.old.layout batch.now }
+    ensures layout { engine.new.layout ≡ engine.old.layout }
+    ensures state { OnOk result (contents engine.new ≡ fold_batch batch.now (contents engine.old)) }
+    ensures ran { IfOk result (λ ran. IsEndOf settings.now last engine.old batch.now ran.end) }
+    ensures audit { IfOk result (λ ran. IfSome ran.audit (IsSeen (Some watching.old))) }
+    ensures watching { watching.new ≡ watching.old }
+    ensures refused { OnErr result (engine.new ≡ engine.old) }
+{
+    watching.publisher.tell(&mut watching.viewer);
+    let told = watching.publisher.number();
+    let viewer = &mut watching.viewer;
+    let (audit, end) = join_mut(
+        host.rt,
+        &mut || look(viewer, told),
+        &mut ||
+            requires { IsSync R.row × IsSync G.row × AreInRange settings.now × IsBatch batch.now
+                × BatchKeysIn engine.now.layout batch.now }
+        { run_batch(host, engine, batch, settings, last) },
+    );
+    Ok(Watched { end: end?, audit })
+}
+
+/// Publishes the balances after a batch that was run, where they are watched. It may wait for the viewer. Where memory
+/// is refused nothing was published.
+pub fn publish<R: Wait>(
+    rt: &R,
+    alloc: Global,
+    watching: &mut Option<Watching>,
+    end: &BatchEnd,
+) -> Result<(), OutOfMemory>
+    requires plan { IsPlan end.now.plan }
+    requires settled { IsSettledOf end.now.plan end.now.settled }
+    requires keys { IfSome watching.old (λ posted. PlanKeysIn end.now.plan posted.layout) }
+    requires bases { IfSome watching.old
+        (λ posted. HasBases end.now.plan (after_plans posted.plans)) }
+    requires room { IfSome watching.old (λ posted. length posted.plans + 1 < 2 ^ 64) }
+    ensures published { OnOk result (watching.new ≡ also_posted end.now.plan watching.old) }
+    ensures refused { OnErr result (watching.new ≡ watching.old) }
+{
+    if let Some(watching) = watching {
+        let _ = watching
+            .publisher
+            .publish(rt, alloc, &end.plan, &end.settled)?;
+    }
+    Ok(())
+}

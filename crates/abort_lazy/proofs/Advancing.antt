@@ -23,7 +23,7 @@ use Rattle.abort_lazy.specs.Runs.{Rising, HasTried, IsSettling, AreSettling, eve
 use Rattle.abort_lazy.proofs.Alone.{settled_alone}
 use Rattle.abort_lazy.proofs.Levelling.{level_is, next_room, events_inside, events_few}
 use Rattle.abort_lazy.proofs.Summing.{sum_more, below_same}
-use Rattle.abort_lazy.proofs.Trying.{contains_first, contains_later, contains_none, calls_free, calls_tag, calls_made, calls_joined, calls_hold, calls_left}
+use Rattle.abort_lazy.proofs.Trying.{contains_first, contains_later, contains_none, calls_free, calls_tag, calls_made, calls_room, calls_joined, calls_hold, calls_left}
 
 module _ (p : Plan) where
   calls_append : (ds cs : List Call) (a m b : Runner) → Calls p cs a m → Calls p ds m b → Calls p (ds ++ cs) a b
@@ -187,6 +187,7 @@ module _ (p : Plan) (valid : IsPlan p) (graph : IsGraph p) (from level : ℕ) (l
       room = let next = next_room p graph level lt in let had = old.room in let used = swept.room in omega (arith, next, had, used);
       tag = calls_tag p swept.calls m b swept.made ∙ old.tag;
       made = calls_made p swept.calls m b swept.made ∙ old.made;
+      journal_room = calls_room p swept.calls m b swept.made ∙ old.journal_room;
       joined = calls_joined p swept.calls m b swept.made ∙ old.joined;
     }
 

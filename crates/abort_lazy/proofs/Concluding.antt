@@ -37,6 +37,7 @@ settling_begins b p from rs valid plan counters explored = record {
         room = let room = exploring.room in let first = first_room p in let same = ap event_count plan in omega (arith, room, first, same);
         tag = refl;
         made = refl;
+        journal_room = refl;
         joined = refl;
       };
   enough = λ l less. absurd (omega (arith, less));

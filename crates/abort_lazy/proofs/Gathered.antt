@@ -25,6 +25,11 @@ unfolding gathered
 gathered_tag v [] = refl
 gathered_tag v (w ∷ ws) = gathered_tag (merged v w) ws
 
+pub gathered_room : (v : View) (ws : List View) → (gathered v ws).room ≡ v.room
+unfolding gathered
+gathered_room v [] = refl
+gathered_room v (w ∷ ws) = gathered_room (merged v w) ws
+
 pub gathered_trail : (v : View) (ws : List View) → (gathered v ws).trail ≡ v.trail
 unfolding gathered
 gathered_trail v [] = refl

@@ -73,6 +73,11 @@ module _ (p : Plan) where
   calls_made (Took c n ∷ cs) a b calls = ap (λ (v : View). v.made) calls.2.view ∙ calls_made cs a calls.0 calls.1
   calls_made (Tried i ∷ cs) a b calls = let does = calls.2.1.does in does.goes.adds.made ∙ calls_made cs a calls.0 calls.1
 
+  pub calls_room : (cs : List Call) (a b : Runner) → Calls p cs a b → (hand_view b).room ≡ (hand_view a).room
+  calls_room [] a b calls = ap (λ r. (hand_view r).room) calls
+  calls_room (Took c n ∷ cs) a b calls = ap (λ (v : View). v.room) calls.2.view ∙ calls_room cs a calls.0 calls.1
+  calls_room (Tried i ∷ cs) a b calls = let does = calls.2.1.does in does.goes.adds.room ∙ calls_room cs a calls.0 calls.1
+
   pub calls_joined : (cs : List Call) (a b : Runner) → Calls p cs a b → (hand_view b).joined ≡ (hand_view a).joined
   calls_joined [] a b calls = ap (λ r. (hand_view r).joined) calls
   calls_joined (Took c n ∷ cs) a b calls = ap (λ (v : View). v.joined) calls.2.view ∙ calls_joined cs a calls.0 calls.1

@@ -95,6 +95,7 @@ pub record IsSettling (b : Board) (p : Plan) (from level : ℕ) (before now : Ru
   pub room : to_come p level ≤ now.kept.room
   pub tag : (hand_view now).tag ≡ (hand_view before).tag
   pub made : (hand_view now).made ≡ (hand_view before).made
+  pub journal_room : (hand_view now).room ≡ (hand_view before).room
   pub joined : (hand_view now).joined ≡ (hand_view before).joined
 
 -- a lone root has settled all up to the level, and left nothing

@@ -1,12 +1,15 @@
-//! The journal of a run of one deposit, and what the checker says where something of it was changed.
+//! Journals of runs, and what the checker says where something of one was changed.
 ghost use Rattle.morph_base.specs.Plans.{IsPlan};
+ghost use Rattle.morph_base.specs.Transactions.{IsBatch, BatchKeysIn};
 
-use crate::four_events::plan_at;
+use crate::four_events::{LAYOUT, batch_of, plan_at};
 use interleaving_core::CoreEvent;
-use morph_base::{List, OutOfMemory, Plan, Settled};
+use morph_base::{Abort, Batch, Explore, List, OutOfMemory, Plan, Settled, Strategy, Unit};
+use morph_engine::Engine;
 use run_checker::{Checked, check, read_journal};
 use std::alloc::Global;
 use std::test::Fail;
+use std::thread::Threads;
 
 /// The steps by which one worker settles the deposit of 100 and 5.
 const JOURNAL: &[u8] =
@@ -63,6 +66,66 @@ fn a_changed_journal_is_found_out(rt: HostRuntime) -> Result<(), Fail> {
     for (without, values, answer) in rows {
         let said = said(alloc, &plan, events.as_slice(), without, &values)?;
         assert_eq!(rt; said, Some(answer));
+    }
+    Ok(())
+}
+
+/// The journal that a run by one worker kept of a batch, and what the checker says of it.
+fn kept<R: Threads + Sync>(
+    rt: &R,
+    alloc: Global,
+    batch: &Batch,
+    strategy: Strategy,
+) -> Result<(List<CoreEvent>, Checked), OutOfMemory>
+    requires batch { IsBatch batch.now }
+    requires keys { BatchKeysIn LAYOUT batch.now }
+{
+    let mut engine = Engine::new(alloc, LAYOUT)?;
+    let plan = engine.plan(alloc, batch)?;
+    let end = engine.run_kept(rt, alloc, plan, &strategy)?;
+    let cap = match strategy.abort {
+        Abort::Lazy => 1,
+        Abort::Eager => 7,
+    };
+    let journal = List::from_slice(alloc, end.closed.journal())?;
+    let said = check(alloc, &end.plan, cap, journal.as_slice(), &end.settled)?;
+    Ok((journal, said))
+}
+
+#[test]
+fn a_kept_run_of_a_deposit_writes_its_steps_down(rt: HostRuntime) -> Result<(), Fail> {
+    let alloc = rt.alloc();
+    let batch = batch_of(alloc, &[1])?;
+    assert!(rt; batch.is_valid() && batch.has_keys_in(LAYOUT));
+    let strategy = Strategy {
+        unit: Unit::Op,
+        explore: Explore::Strata,
+        abort: Abort::Lazy,
+    };
+    let (journal, said) = kept(&rt, alloc, &batch, strategy)?;
+    let steps = read_journal(alloc, JOURNAL)?;
+    assert_eq!(rt;
+        (journal.as_slice(), said),
+        (steps.as_slice(), Checked::Yes)
+    );
+    Ok(())
+}
+
+#[test]
+fn kept_runs_of_the_four_events_are_right(rt: HostRuntime) -> Result<(), Fail> {
+    let alloc = rt.alloc();
+    let batch = batch_of(alloc, &[1, 2, 3, 4])?;
+    assert!(rt; batch.is_valid() && batch.has_keys_in(LAYOUT));
+    for explore in [Explore::Strata, Explore::Steal] {
+        for abort in [Abort::Lazy, Abort::Eager] {
+            let strategy = Strategy {
+                unit: Unit::Op,
+                explore,
+                abort,
+            };
+            let (_, said) = kept(&rt, alloc, &batch, strategy)?;
+            assert_eq!(rt; said, Checked::Yes);
+        }
     }
     Ok(())
 }

@@ -37,12 +37,12 @@ use Rattle.abort_lazy.specs.Ended.{AreAtStart, AreCauses, causes}
 use Rattle.abort_lazy.specs.Finishing.{settler}
 use Rattle.abort_lazy.specs.Runs.{AreAllHands, AreSettling, HasSettledAll, IsSettledByRoot, root_view}
 use Rattle.abort_lazy.proofs.Causing.{settler_within}
-use Rattle.abort_lazy.proofs.Gathered.{gathered_made}
+use Rattle.abort_lazy.proofs.Gathered.{gathered_made, gathered_room}
 use Rattle.abort_lazy.proofs.Made.{places_some}
 use Rattle.morph_engine.specs.declared.prepared.Prepared.{Prepared}
 use Rattle.morph_engine.specs.Caps.{cap_for}
 use Rattle.morph_engine.specs.Exploring.{HavePassed, HaveHanded, HasExploredBy}
-use Rattle.morph_engine.specs.Runs.{AreFirst, IsPrepared, HavePassedLevels, IsHandedOut, HasRunAlone, HasRun}
+use Rattle.morph_engine.specs.Runs.{AreFirst, IsPrepared, HasJournalRoom, HavePassedLevels, IsHandedOut, HasRunAlone, HasRun, IsKept}
 use Rattle.morph_engine.proofs.Alone.{IsLoneRun, evaluated_alone, rolled_alone}
 use Rattle.morph_engine.proofs.Reaching.{item_reached, places_reached}
 
@@ -173,6 +173,17 @@ module _ (p : Plan) (valid : IsValidPlan p) (x : Prepared) (prepared : IsPrepare
 
   abbrev pub any : Runner
   any = some_runner rs some_after
+
+  -- the journal of a root that was alone
+  pub kept_run : (room : ℕ) → HasJournalRoom room x → length before ≡ 1 → (counters : ℕ) (closed : Closed) → IsClosed p (cap_for x.abort) counters (root_view any rs) closed → IsKept p x.abort room closed
+  kept_run room fits one counters closed is = record {
+    counters = counters;
+    view = root_view any rs;
+    ended = is;
+    alone = root_made any rs some_after ∙ made_is any ∙ one;
+    room_is =
+        gathered_room (hand_view (slice_index_or rs 0 any)) (map hand_view (drop 1 rs)) ∙ (settling.each 0 any some_after).journal_room ∙ (further.each 0 any some_before).room ∙ fits any;
+  }
 
   module _ (counters : ℕ) (fits : counters_for p ≤ counters) (closed : Closed) (is : IsClosed p (cap_for x.abort) counters (root_view any rs) closed) (left : List (Contents Left)) (kept : left ≡ map (λ r. r.kept) rs)
       (why : AreCauses p is.ends.core (root_view any rs) (map (λ (l : Contents Left). l.items) left)) (by : List ℕ) (tags : (o : ℕ) → o < op_count p → slice_index by o ≡ settler (is.ends.core.word o)) where

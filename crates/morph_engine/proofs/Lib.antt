@@ -9,3 +9,4 @@ pub mod Passing
 pub mod HandingOut
 pub mod Ending
 pub mod Accounting
+pub mod Ended

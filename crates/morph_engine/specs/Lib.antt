@@ -3,3 +3,4 @@ pub mod Fates
 pub mod Accounts
 pub mod Exploring
 pub mod Runs
+pub mod Ends

@@ -1,5 +1,5 @@
 -- What a batch takes its memory for, and what its board shows after its end.
-use Rattle.std.specs.Prelude.{◌≡◌, ℕ, ◌+◌, ◌<◌, ◌⊎◌, List, [], Contains, length, slice_index, slice_index_or}
+use Rattle.std.specs.Prelude.{◌≡◌, ℕ, ◌+◌, ◌*◌, ◌<◌, ◌⊎◌, List, [], Contains, length, slice_index, slice_index_or}
 use Rattle.morph_base.specs.declared.plan.Plan.{Plan}
 use Rattle.morph_base.specs.declared.strategy.Abort.{Abort}
 use Rattle.morph_base.specs.declared.strategy.Abort.TheVariants.{Lazy}
@@ -54,6 +54,10 @@ pub record IsPrepared (p : Plan) (x : Prepared) : Type 0 where
   pub first : AreFirst (runners_of x.runners)
   pub supply : IsSupply p (length (runners_of x.runners)) x.supply
   pub room : IsRoomFor p x.room
+
+-- the root's hand has so much room for its journal
+abbrev pub HasJournalRoom : ℕ → Prepared → Type 0
+HasJournalRoom n x = (d : Runner) → (hand_view (slice_index_or (runners_of x.runners) 0 d)).room ≡ n
 
 -- ---- after
 
@@ -118,3 +122,15 @@ pub record HasRun (p : Plan) (explore : Explore) (abort : Abort) (workers : ℕ)
   pub unhanded : explore ≡ Strata → (handed ≡ 0) × (stolen ≡ 0)
   pub handed_out : explore ≡ Steal → IsHandedOut p abort workers view handed stolen
   pub alone : workers ≡ 1 → HasRunAlone p abort ended.ends.history lists by
+
+-- the root was the only hand made, and kept a journal with so much room
+pub record IsKept (p : Plan) (abort : Abort) (room : ℕ) (closed : Closed) : Type 0 where
+  pub counters : ℕ
+  pub view : View
+  pub ended : IsClosed p (cap_for abort) counters view closed
+  pub alone : view.made ≡ 1
+  pub room_is : view.room ≡ room
+
+-- the room of the journal of a kept run, in steps
+abbrev pub journal_room : Plan → ℕ
+journal_room p = 32 * op_count p + 64

@@ -1,4 +1,4 @@
-ghost use Rattle.std.specs.Prelude.{◌≡◌, ℕ, ◌≤◌, IfOk, OnOk, OnErr, map};
+ghost use Rattle.std.specs.Prelude.{◌≡◌, ℕ, ◌≤◌, IfOk, OnOk, OnErr, length, map};
 ghost use Rattle.morph_base.specs.Limits.{most_workers};
 ghost use Rattle.morph_base.specs.declared.key.Layout.{Layout};
 ghost use Rattle.morph_base.specs.Flat.{contents};
@@ -10,7 +10,10 @@ ghost use Rattle.morph_base.specs.Graphs.{IsValidPlan};
 ghost use Rattle.morph_engine.specs.Accounts.{IsAccount, account_of};
 ghost use Rattle.morph_engine.specs.Caps.{cap_for};
 ghost use Rattle.morph_engine.specs.Fates.{settled_fates};
-ghost use Rattle.morph_engine.specs.Runs.{HasRun};
+ghost use Rattle.morph_engine.specs.Runs.{IsPrepared, HasJournalRoom, HasRun, IsKept};
+ghost use Rattle.morph_engine.specs.Ends.{IsEnd};
+ghost use Rattle.morph_engine.specs.Exploring.{explore_of};
+ghost use Rattle.op_eval.specs.Gathering.{runners_of};
 ghost use Rattle.op_words.specs.Closing.{IsClosed};
 ghost use Rattle.op_words.specs.Hands.{counts_of};
 ghost use Rattle.op_words.specs.declared.trail.View.{View as RootView};
@@ -182,7 +185,33 @@ impl Engine {
             (account_of end)) }
         ensures refused { OnErr result (self.new ≡ self.old) }
     {
-        let prepared = Prepared::new(alloc, &plan, strategy, workers)?;
+        let prepared = Prepared::new(alloc, &plan, strategy, workers, 0)?;
+        Ok(self.run_prepared(rt, prepared, plan, strategy, gate))
+    }
+
+    /// Runs a plan that all memory is taken for, and carries what was settled into the state.
+    pub(crate) fn run_prepared<R: Threads + Sync, G: Gate>(
+        &mut self,
+        rt: &R,
+        prepared: Prepared,
+        plan: Plan,
+        strategy: &Strategy,
+        gate: &G,
+    ) -> BatchEnd
+        requires plan { IsValidPlan plan }
+        requires bases { HasBases plan (contents self.old) }
+        requires keys { PlanKeysIn plan self.old.layout }
+        requires prepared { IsPrepared plan prepared }
+        requires explore { explore_of prepared.supply ≡ strategy.now.explore }
+        requires abort { prepared.abort ≡ strategy.now.abort }
+        ensures state { contents self.new ≡ state_at plan (contents self.old) (event_count plan) }
+        ensures layout { self.new.layout ≡ self.old.layout }
+        ensures ran { IsEnd plan strategy.now (length (runners_of prepared.runners))
+            (contents self.old) result }
+        ensures kept { (room : ℕ) → HasJournalRoom room prepared
+            → length (runners_of prepared.runners) ≡ 1
+            → IsKept plan strategy.now.abort room result.closed }
+    {
         let Ran {
             settled,
             closed,
@@ -191,7 +220,7 @@ impl Engine {
         } = prepared.run(rt, &plan, gate);
         self.state.apply(&plan, &settled);
         let counts = closed.counts();
-        Ok(BatchEnd {
+        BatchEnd {
             plan,
             strategy: *strategy,
             settled,
@@ -200,6 +229,6 @@ impl Engine {
             counts,
             handed: tallied.handed,
             stolen: tallied.stolen,
-        })
+        }
     }
 }

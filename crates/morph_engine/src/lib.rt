@@ -13,6 +13,7 @@
 
 mod engine;
 mod exploring;
+mod kept;
 mod prepared;
 
 pub use engine::{BatchEnd, Engine, plan_batch};

@@ -1,19 +1,23 @@
 //! What a batch takes its memory for, and its run on that, which takes none.
-ghost use Rattle.std.specs.Prelude.{◌≡◌, ◌≤◌, IfOk, length, map};
+ghost use Rattle.std.specs.Prelude.{◌≡◌, ℕ, ◌≤◌, ◌<◌, IfOk, length, map};
 ghost use Rattle.morph_base.specs.Graphs.{IsValidPlan};
 ghost use Rattle.morph_base.specs.Limits.{most_workers};
-ghost use Rattle.morph_base.specs.Plans.{IsSettledOf};
+ghost use Rattle.morph_base.specs.declared.word.TheConstants.{ATTEMPTS};
+ghost use Rattle.morph_base.specs.Plans.{IsPlan, IsSettledOf};
+ghost use Rattle.op_words.specs.Hands.{plan_of, cap_of as cap_of_board, counters_of, view_of, IsHandOf};
+ghost use Rattle.op_words.specs.Journals.{roomed};
+ghost use Rattle.op_words.specs.Rule.{first_view};
 ghost use Rattle.op_eval.specs.Gathering.{runners_of};
 ghost use Rattle.morph_engine.specs.Caps.{cap_for};
 ghost use Rattle.morph_engine.specs.Exploring.{explore_of};
-ghost use Rattle.morph_engine.specs.Runs.{IsPrepared, HasRun};
+ghost use Rattle.morph_engine.specs.Runs.{IsPrepared, HasJournalRoom, HasRun, IsKept};
 
 use crate::exploring::{Supply, Tallied, explore_by};
 use abort_lazy::{Room, finish, settle_all};
 use chain_units::{Units, units};
 use morph_base::{Abort, List, OutOfMemory, Plan, Settled, Strategy};
 use op_eval::{Left, Runners};
-use op_words::{Board, Closed};
+use op_words::{Board, Closed, Hand};
 use std::alloc::Global;
 use std::thread::Threads;
 use strata_explorer::counters;
@@ -30,6 +34,30 @@ fn cap_of(abort: Abort) -> u8
         Abort::Lazy => 1,
         Abort::Eager => 7,
     }
+}
+
+/// The board of a plan and its root, which keeps a journal where there is to be room for one.
+fn board_for(
+    alloc: Global,
+    plan: &Plan,
+    cap: u8,
+    counters: u32,
+    room: usize,
+) -> Result<(Board, Hand), OutOfMemory>
+    requires plan { IsPlan plan.now }
+    requires cap { cap < ATTEMPTS }
+    ensures plan { IfOk result (λ r. plan_of r.0 ≡ plan.now) }
+    ensures cap { IfOk result (λ r. cap_of_board r.0 ≡ cap) }
+    ensures counters { IfOk result (λ r. counters_of r.0 ≡ counters) }
+    ensures hand { IfOk result (λ r. IsHandOf r.0 r.1) }
+    ensures view { IfOk result (λ r. view_of r.1
+        ≡ roomed room (first_view r.0.table.shared.key.plan cap)) }
+{
+    let (board, mut root) = Board::new(alloc, plan, cap, counters)?;
+    if room > 0 {
+        root.keep(alloc, &board, room)?;
+    }
+    Ok((board, root))
 }
 
 /// All that a batch takes its memory for, before its first worker runs.
@@ -53,12 +81,13 @@ pub(crate) struct Ran {
 }
 
 impl Prepared {
-    /// Takes the memory for a plan, by a strategy and for so many workers.
+    /// Takes the memory for a plan, by a strategy and for so many workers, whose root has so much room for a journal.
     pub(crate) fn new(
         alloc: Global,
         plan: &Plan,
         strategy: &Strategy,
         workers: u32,
+        room: usize,
     ) -> Result<Self, OutOfMemory>
         requires valid { IsValidPlan plan.now }
         requires some { 1 ≤ workers }
@@ -67,10 +96,11 @@ impl Prepared {
         ensures workers { IfOk result (λ made. length (runners_of made.runners) ≡ workers) }
         ensures explore { IfOk result (λ made. explore_of made.supply ≡ strategy.now.explore) }
         ensures abort { IfOk result (λ made. made.abort ≡ strategy.now.abort) }
+        ensures journal { IfOk result (HasJournalRoom room) }
     {
         let units = units(alloc, plan, strategy.unit)?;
         let counters = counters(plan) + plan.event_levels.len() as u32;
-        let (board, root) = Board::new(alloc, plan, cap_of(strategy.abort), counters)?;
+        let (board, root) = board_for(alloc, plan, cap_of(strategy.abort), counters, room)?;
         let runners = Runners::new(alloc, &board, root, workers, plan.events.len() as u32)?;
         let supply = Supply::new(alloc, plan, strategy.explore, workers)?;
         let room = Room::new(alloc, plan)?;
@@ -93,6 +123,9 @@ impl Prepared {
             (length (runners_of self.runners))
             result.closed (map (λ list. list.items) result.left.items) result.settled.by.items
             result.tallied.handed result.tallied.stolen }
+        ensures kept { (room : ℕ) → HasJournalRoom room self
+            → length (runners_of self.runners) ≡ 1
+            → IsKept plan.now self.abort room result.closed }
     {
         let Prepared {
             abort,

@@ -14,6 +14,7 @@ pub same_further : (a b : Runner) → b ≡ a → IsFurther a b
 same_further a b same = record {
   tag = ap (λ r. (hand_view r).tag) same;
   made = ap (λ r. (hand_view r).made) same;
+  room = ap (λ r. (hand_view r).room) same;
   joined = ap (λ r. (hand_view r).joined) same;
   words = [];
   trail = ap (λ r. (hand_view r).trail) same ∙ no_more (hand_view a).trail;
@@ -29,6 +30,7 @@ pub further_then : (a m b : Runner) → IsFurther a m → IsFurther m b → IsFu
 further_then a m b first second = record {
   tag = second.tag ∙ first.tag;
   made = second.made ∙ first.made;
+  room = second.room ∙ first.room;
   joined = second.joined ∙ first.joined;
   words = first.words ++ second.words;
   trail = second.trail ∙ ap (λ l. l ++ second.words) first.trail ∙ append_assoc (hand_view a).trail first.words second.words;

@@ -11,6 +11,7 @@ use Rattle.op_eval.specs.Running.{hand_view}
 pub record IsFurther (a b : Runner) : Type 0 where
   pub tag : (hand_view b).tag ≡ (hand_view a).tag
   pub made : (hand_view b).made ≡ (hand_view a).made
+  pub room : (hand_view b).room ≡ (hand_view a).room
   pub joined : (hand_view b).joined ≡ (hand_view a).joined
   pub words : List Item
   pub trail : (hand_view b).trail ≡ (hand_view a).trail ++ words

@@ -30,7 +30,8 @@ use Rattle.op_words.specs.Views.{IsSourceSeen, IsDecisionSeen, Goes, learning, d
 use Rattle.op_words.specs.Layout.{Shows, record_index, decision_base, packed_record, packed_decision}
 use Rattle.op_words.specs.Rule.{Seats, Knows, Lawful, Steps}
 use Rattle.op_words.specs.Plays.{Sat, IsTold, decides}
-use Rattle.op_words.specs.Comparing.{IsAnswerSeen, MaySayOf, IsConcluded}
+use Rattle.op_words.specs.Comparing.{MaySayOf, IsConcluded}
+use Rattle.op_words.specs.Judging.{IsAnswerSeen}
 use Rattle.op_words.proofs.Rows.{no_more, not_inside, one_inside, set_apart, set_same}
 use Rattle.op_words.proofs.Knowing.{knows_more}
 use Rattle.op_words.proofs.Moving.{with_view, advanced, grown, root_before}
@@ -42,6 +43,7 @@ use Rattle.op_words.proofs.Recalling.{learned_stays, learned_still}
 use Rattle.op_words.proofs.Trailing.{along_none}
 use Rattle.op_words.proofs.Walking.{adds_learning}
 use Rattle.op_words.proofs.Handing.{kept, kept_step, still}
+use Rattle.op_words.proofs.Journaling.{HasNoted}
 
 -- ---- the word of a decision changes
 
@@ -223,6 +225,11 @@ Concluding e v committed n me after =
     ((n ≡ 0) × (◌≡◌ {A = Sat} after (Some (deciding e committed v), me.1)) × IsTold (deciding e committed v))
     ⊎ ((n ≡ packed_decision (Some committed)) × (◌≡◌ {A = Sat} after (Some (learning e (Some committed) v), me.1)))
 
+-- the word of a decision is not 0
+some_decided : (committed : Bool) → 0 < packed_decision (Some committed)
+some_decided true = omega arith
+some_decided false = omega arith
+
 pub conclude_told : (b : Board) (h : Hand) → IsHandOf b h → (p : Plan) → p ≡ plan_of b → (e k n second : ℕ) (committed : Bool) (me : Sat) → e < event_count p → k ≡ decision_base p + e → second ≡ packed_decision (Some committed)
     → decides (step b.table.shared.table_id.slots k 0 second none) h.seat.me n me → (verdict p e ≡ committed) × Concluding e (view_of h) committed n h.seat.me me
 conclude_told b h is p plan e k n second committed me lt place new tells =
@@ -232,10 +239,10 @@ conclude_told b h is p plan e k n second committed me lt place new tells =
 
 module _ (b : Board) (h g : Hand) (is : IsHandOf b h) (table : g.seat.table_id ≡ h.seat.table_id) (tag : g.tag ≡ h.tag) (made : g.made ≡ h.made) (held : g.held ≡ h.held) (counts : g.counts ≡ h.counts)
     (free : (view_of h).claim ≡ None) (p : Plan) (e : ℕ) (committed : Bool) (right : verdict p e ≡ committed) where
-  made_hand : g.seat.me ≡ (Some (deciding e committed (view_of h)), []) → IsTold (deciding e committed (view_of h)) → IsHandOf b g
-  made_hand me told_after =
+  made_hand : HasNoted h.journal g.journal (Decide e committed) → g.seat.me ≡ (Some (deciding e committed (view_of h)), []) → IsTold (deciding e committed (view_of h)) → IsHandOf b g
+  made_hand noted me told_after =
       still b h g (deciding e committed (view_of h)) is table me refl refl
-      (kept_step h g (deciding e committed (view_of h)) (Decide e committed) (kept is) tag made counts refl refl refl refl refl refl (ap held_of held ∙ is.held) (λ k same. is.fits k (sym held ∙ same))) told_after
+      (kept_step h g (deciding e committed (view_of h)) (Decide e committed) (kept is) tag made counts noted refl refl refl refl refl refl refl (ap held_of held ∙ is.held) (λ k same. is.fits k (sym held ∙ same))) told_after
 
   goes_deciding : IsTold (deciding e committed (view_of h)) → Goes (view_of h) (deciding e committed (view_of h)) []
   goes_deciding told_after = record {
@@ -265,14 +272,15 @@ module _ (b : Board) (h g : Hand) (is : IsHandOf b h) (table : g.seat.table_id �
   known_after : (v : View) → IsDecisionSeen (learning e (Some committed) v) e committed
   known_after v = Contains-append_right v.decisions _ _ (0, omega arith, refl)
 
-  pub concluded_as : (n : ℕ) → Concluding e (view_of h) committed n h.seat.me g.seat.me → IsConcluded b p e h g committed
-  concluded_as n tells =
+  pub concluded_as : (n : ℕ) → (n ≡ 0 → HasNoted h.journal g.journal (Decide e committed)) → (n ≢ 0 → g.journal ≡ h.journal)
+      → Concluding e (view_of h) committed n h.seat.me g.seat.me → IsConcluded b p e h g committed
+  concluded_as n noted same tells =
       elim tells [
         | inl hit ↦
             let me : g.seat.me ≡ (Some (deciding e committed (view_of h)), []) = hit.1 ∙ ap (λ (m : Sat). (Some (deciding e committed (view_of h)), m.1)) is.seat in
             let view : view_of g ≡ deciding e committed (view_of h) = ap (λ (m : Sat). view_in m.0) me in
             record {
-              hand = made_hand me hit.2;
+              hand = made_hand (noted hit.0) me hit.2;
               goes = subst (λ (u : View). Goes (view_of h) u []) (sym view) (goes_deciding hit.2);
               right = right;
               known = subst (λ (u : View). IsDecisionSeen u e committed) (sym view) (known_after (view_of h));
@@ -281,7 +289,7 @@ module _ (b : Board) (h g : Hand) (is : IsHandOf b h) (table : g.seat.table_id �
             let me : g.seat.me ≡ (Some (learning e (Some committed) (view_of h)), []) = missed.1 ∙ ap (λ (m : Sat). (Some (learning e (Some committed) (view_of h)), m.1)) is.seat in
             let view : view_of g ≡ learning e (Some committed) (view_of h) = ap (λ (m : Sat). view_in m.0) me in
             record {
-              hand = learned_still b h g is table tag made held counts e (Some committed) me;
+              hand = learned_still b h g is table tag made held counts (same (λ zero. let some = some_decided committed in omega (arith, some, zero, missed.0))) e (Some committed) me;
               goes = subst (λ (u : View). Goes (view_of h) u []) (sym view) goes_learning;
               right = right;
               known = subst (λ (u : View). IsDecisionSeen u e committed) (sym view) (known_after (view_of h));

@@ -44,6 +44,7 @@ use Rattle.op_words.proofs.Leaving.{IsLeft, left_steps, left_so, swapped}
 use Rattle.op_words.proofs.Sighting.{seen_present, record_present}
 use Rattle.op_words.proofs.Keeping.{seen_settled, seen_version}
 use Rattle.op_words.proofs.Handing.{IsKept, counts_append}
+use Rattle.op_words.proofs.Journaling.{HasNoted, journal_step}
 
 -- where some pass there is one that does
 passing : {X : Type 0} (q : X → Bool) (xs : List X) → 1 ≤ count_by q xs → (x : X) × Contains xs x × (q x ≡ true)
@@ -309,8 +310,9 @@ one_rolled = record { evaluated = 0; spread = 0; rolled = 1 }
 
 module _ (h g : Hand) (is : IsKept h (view_of h)) (tag : g.tag ≡ h.tag) (made : g.made ≡ h.made) (held : g.held ≡ h.held) where
   pub kept_spread : (o : ℕ) (w : OpWord) → g.counts.evaluated ≡ min (h.counts.evaluated + 0) (2 ^ 64 - 1) → g.counts.spread ≡ min (h.counts.spread + 1) (2 ^ 64 - 1)
-      → g.counts.rolled ≡ min (h.counts.rolled + 0) (2 ^ 64 - 1) → IsKept g (spreading o w (view_of h))
-  kept_spread o w e s r = record {
+      → g.counts.rolled ≡ min (h.counts.rolled + 0) (2 ^ 64 - 1)
+      → HasNoted h.journal g.journal (SpreadStep o (last_op 0 (view_of h).notes)) → IsKept g (spreading o w (view_of h))
+  kept_spread o w e s r noted = record {
     worker = is.worker;
     counted = is.counted;
     tag = tag ∙ is.tag;
@@ -318,11 +320,13 @@ module _ (h g : Hand) (is : IsKept h (view_of h)) (tag : g.tag ≡ h.tag) (made 
     held = ap held_of held ∙ is.held;
     fits = λ k same. is.fits k (sym held ∙ same);
     counts = counts_more g.counts h.counts one_spread (SpreadStep o (last_op 0 (view_of h).notes)) (view_of h).events refl is.counts e s r;
+    journal = journal_step (spreading o w (view_of h)) (SpreadStep o (last_op 0 (view_of h).notes)) is.journal noted refl refl refl;
   }
 
   pub kept_rolled : (o a : ℕ) → g.counts.evaluated ≡ min (h.counts.evaluated + 0) (2 ^ 64 - 1) → g.counts.spread ≡ min (h.counts.spread + 0) (2 ^ 64 - 1)
-      → g.counts.rolled ≡ min (h.counts.rolled + 1) (2 ^ 64 - 1) → IsKept g (rolling_back o a (view_of h))
-  kept_rolled o a e s r = record {
+      → g.counts.rolled ≡ min (h.counts.rolled + 1) (2 ^ 64 - 1)
+      → HasNoted h.journal g.journal (RollBack o (last_place 0 (view_of h).records)) → IsKept g (rolling_back o a (view_of h))
+  kept_rolled o a e s r noted = record {
     worker = is.worker;
     counted = is.counted;
     tag = tag ∙ is.tag;
@@ -330,6 +334,7 @@ module _ (h g : Hand) (is : IsKept h (view_of h)) (tag : g.tag ≡ h.tag) (made 
     held = ap held_of held ∙ is.held;
     fits = λ k same. is.fits k (sym held ∙ same);
     counts = counts_more g.counts h.counts one_rolled (RollBack o (last_place 0 (view_of h).records)) (view_of h).events refl is.counts e s r;
+    journal = journal_step (rolling_back o a (view_of h)) (RollBack o (last_place 0 (view_of h).records)) is.journal noted refl refl refl;
   }
 
 -- the word that is left is one

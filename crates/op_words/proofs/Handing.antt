@@ -1,7 +1,8 @@
 -- A hand stays one of its board's.
-use Rattle.std.proofs.Common.{◌≡◌, ◌≢◌, ℕ, ◌+◌, ◌-◌, ◌^◌, ◌<◌, ◌≤◌, Bool, false, List, [], ◌∷◌, ◌++◌, refl, sym, ap, ◌∙◌, subst, inl, inr, arith, Some, None, zero-add, take}
+use Rattle.std.proofs.Common.{◌≡◌, ◌≢◌, ℕ, ◌+◌, ◌-◌, ◌^◌, ◌<◌, ◌≤◌, Bool, false, List, [], ◌∷◌, ◌++◌, refl, sym, ap, ◌∙◌, subst, inl, inr, arith, Some, None, zero-add, take, length}
 use Rattle.std.specs.Prelude.{cond, min, count_by}
 use Rattle.std.proofs.lemmas.Option.{none-some, same_Some}
+use Rattle.std.proofs.lemmas.List.{length-append}
 use Rattle.std.proofs.lemmas.List.Sums.{sum_by-append, sum_by-cons}
 use Rattle.std.specs.declared.snapshot.Snapshot.{Snapshot}
 use Rattle.morph_base.specs.declared.limits.TheConstants.{WORKERS}
@@ -22,13 +23,16 @@ use Rattle.op_words.specs.declared.board.Board.{Board}
 use Rattle.op_words.specs.declared.board.Hand.{Hand}
 use Rattle.op_words.specs.declared.board.Holding.{Holding}
 use Rattle.op_words.specs.declared.trail.Item.{Item}
+use Rattle.op_words.specs.declared.trail.Joined.{Joined}
 use Rattle.op_words.specs.declared.trail.View.{View}
 use Rattle.op_words.specs.Trails.{left}
-use Rattle.op_words.specs.Views.{Holds, looked, finishing, parent, child, merged}
+use Rattle.op_words.specs.Views.{Holds, looked, finishing, parent, child, joined_of, merged}
 use Rattle.op_words.specs.Plays.{Sat, IsTold, Looks, Leaves, Swaps}
 use Rattle.op_words.specs.Stepping.{Looked, Left}
 use Rattle.op_words.specs.Rule.{first_view}
+use Rattle.op_words.specs.Journals.{room_in, steps_in, IsJournal}
 use Rattle.op_words.specs.Hands.{plan_of, cap_of, view_in, view_of, held_of, up_to, counts_of, Fits, IsHandOf}
+use Rattle.op_words.proofs.Journaling.{HasNoted, journal_same, journal_step, journal_other}
 use Rattle.op_words.proofs.Rows.{not_inside}
 use Rattle.op_words.proofs.Trailing.{last-none}
 
@@ -41,9 +45,10 @@ pub record IsKept (g : Hand) (u : View) : Type 0 where
   pub held : held_of g.held ≡ u.claim
   pub fits : (k : Holding) → g.held ≡ Some k → Fits k
   pub counts : g.counts ≡ counts_of u.events
+  pub journal : IsJournal u g.journal
 
 pub kept : {b : Board} {h : Hand} → IsHandOf b h → IsKept h (view_of h)
-kept is = record { worker = is.worker; counted = is.counted; tag = is.tag; made = is.made; held = is.held; fits = is.fits; counts = is.counts }
+kept is = record { worker = is.worker; counted = is.counted; tag = is.tag; made = is.made; held = is.held; fits = is.fits; counts = is.counts; journal = is.journal }
 
 -- after a step to view u
 pub still : (b : Board) (h g : Hand) (u : View) → IsHandOf b h → g.seat.table_id ≡ h.seat.table_id → g.seat.me ≡ (Some u, []) → u.plan ≡ (view_of h).plan → u.cap ≡ (view_of h).cap
@@ -64,13 +69,14 @@ still b h g u is table me plan cap keeps told =
       held = keeps.held ∙ sym (ap (λ (v : View). v.claim) same);
       fits = keeps.fits;
       counts = keeps.counts ∙ sym (ap (λ (v : View). counts_of v.events) same);
+      journal = subst (λ (v : View). IsJournal v g.journal) (sym same) keeps.journal;
       told = subst IsTold (sym same) told;
     }
 
 -- ---- hands made and joined
 
-pub parent_kept : (h g : Hand) → IsKept h (view_of h) → (view_of h).tag ≡ 1 → g.tag ≡ h.tag → g.made ≡ h.made + 1 → g.held ≡ h.held → g.counts ≡ h.counts → IsKept g (parent (view_of h))
-parent_kept h g is root tag made held counts = record {
+pub parent_kept : (h g : Hand) → IsKept h (view_of h) → (view_of h).tag ≡ 1 → g.tag ≡ h.tag → g.made ≡ h.made + 1 → g.held ≡ h.held → g.counts ≡ h.counts → g.journal ≡ h.journal → IsKept g (parent (view_of h))
+parent_kept h g is root tag made held counts journal = record {
   worker = is.worker;
   counted = λ e. omega arith;
   tag = tag ∙ is.tag;
@@ -78,6 +84,7 @@ parent_kept h g is root tag made held counts = record {
   held = ap held_of held ∙ is.held;
   fits = λ k e. is.fits k (sym held ∙ e);
   counts = counts ∙ is.counts;
+  journal = journal_other (parent (view_of h)) is.journal journal refl (λ one. let some = is.counted root in omega (arith, some, one));
 }
 
 pub parent_told : (v : View) → (v.tag ≡ 1 → 1 ≤ v.made) → IsTold v → IsTold (parent v)
@@ -114,10 +121,17 @@ counts_append k a b es fs first second e s r =
         is ∙ ap (λ (z : ℕ × ℕ). min (z.0 + z.1) (2 ^ 64 - 1)) (λ i. ((ap f first ∙ one) i, (ap f second ∙ two) i)) ∙ capped (count_by q es) (count_by q fs)
         ∙ ap up_to (sym (sum_by-append (λ x. cond (q x) 1 0) es fs))
 
+-- the root has what a hand that was joined left
+pub more_joined : (v w : View) → (merged v w).joined ≡ [] → ⊥
+more_joined v w none =
+    let len = length-append v.joined (joined_of w ∷ []) in
+    let same = ap (λ (l : List Joined). length l) none in
+    omega (arith, len, same)
+
 pub joined_kept : (h o g : Hand) → IsKept h (view_of h) → IsKept o (view_of o) → g.tag ≡ h.tag → g.made ≡ h.made → g.held ≡ h.held
     → g.counts.evaluated ≡ min (h.counts.evaluated + o.counts.evaluated) (2 ^ 64 - 1) → g.counts.spread ≡ min (h.counts.spread + o.counts.spread) (2 ^ 64 - 1)
-    → g.counts.rolled ≡ min (h.counts.rolled + o.counts.rolled) (2 ^ 64 - 1) → IsKept g (merged (view_of h) (view_of o))
-joined_kept h o g is its tag made held e s r = record {
+    → g.counts.rolled ≡ min (h.counts.rolled + o.counts.rolled) (2 ^ 64 - 1) → g.journal ≡ h.journal → ((view_of h).made ≡ 1 → ⊥) → IsKept g (merged (view_of h) (view_of o))
+joined_kept h o g is its tag made held e s r journal more = record {
   worker = is.worker;
   counted = is.counted;
   tag = tag ∙ is.tag;
@@ -125,13 +139,14 @@ joined_kept h o g is its tag made held e s r = record {
   held = ap held_of held ∙ is.held;
   fits = λ k same. is.fits k (sym held ∙ same);
   counts = counts_append g.counts h.counts o.counts (view_of h).events (view_of o).events is.counts its.counts e s r;
+  journal = journal_other (merged (view_of h) (view_of o)) is.journal journal refl more;
 }
 
 -- ---- new hands
 
 pub child_hand : (b : Board) (h g : Hand) → IsHandOf b h → (view_of h).tag ≡ 1 → (view_of h).made < WORKERS → g.seat.table_id ≡ h.seat.table_id → g.seat.me ≡ (Some (child (view_of h)), [])
-    → g.tag ≡ h.made + 1 → g.made ≡ 0 → g.held ≡ None → g.counts ≡ counts_of [] → IsHandOf b g
-child_hand b h g is root few table me tag made held counts =
+    → g.tag ≡ h.made + 1 → g.made ≡ 0 → g.held ≡ None → g.counts ≡ counts_of [] → g.journal ≡ None → IsHandOf b g
+child_hand b h g is root few table me tag made held counts journal =
     still b h g (child (view_of h)) is table me refl refl
     (record {
       worker = record { first = omega arith; last = omega (arith, few) };
@@ -141,6 +156,7 @@ child_hand b h g is root few table me tag made held counts =
       held = ap held_of held;
       fits = λ k e. absurd (none-some k (sym held ∙ e));
       counts = counts;
+      journal = record { room = ap room_in journal; steps = λ one. absurd (omega (arith, one)) };
     })
     (child_told (view_of h) is.told)
   where
@@ -155,8 +171,8 @@ first_told plan cap = record {
 }
 
 pub first_hand : (b : Board) (g : Hand) → g.seat.table_id ≡ b.table.shared.table_id → g.seat.me ≡ (Some (first_view b.table.shared.key.plan b.table.shared.key.cap), [])
-    → IsPlan (plan_of b) → cap_of b < ATTEMPTS → g.tag ≡ 1 → g.made ≡ 1 → g.held ≡ None → g.counts ≡ counts_of [] → IsHandOf b g
-first_hand b g table me valid small tag made held counts =
+    → IsPlan (plan_of b) → cap_of b < ATTEMPTS → g.tag ≡ 1 → g.made ≡ 1 → g.held ≡ None → g.counts ≡ counts_of [] → g.journal ≡ None → IsHandOf b g
+first_hand b g table me valid small tag made held counts journal =
     let u : View = first_view b.table.shared.key.plan b.table.shared.key.cap in
     let same : view_of g ≡ u = ap (λ (m : Sat). view_in m.0) me in
     record {
@@ -173,6 +189,7 @@ first_hand b g table me valid small tag made held counts =
       held = ap held_of held ∙ sym (ap (λ (v : View). v.claim) same);
       fits = λ k e. absurd (none-some k (sym held ∙ e));
       counts = counts ∙ sym (ap (λ (v : View). counts_of v.events) same);
+      journal = subst (λ (v : View). IsJournal v g.journal) (sym same) (record { room = ap room_in journal; steps = λ one. ap steps_in journal });
       told = subst IsTold (sym same) (first_told b.table.shared.key.plan b.table.shared.key.cap);
     }
 
@@ -186,8 +203,8 @@ counts_quiet e es f s r = same_counts (counts_of (e ∷ es)) (counts_of es) (ap 
     none q is = sum_by-cons (λ x. cond (q x) 1 0) e es ∙ ap (λ b. cond b 1 0 + count_by q es) is ∙ zero-add (count_by q es)
 
 -- a hand that holds what it held, after a load
-pub kept_looked : (h g : Hand) (o : ℕ) (w : OpWord) → IsKept h (view_of h) → g.tag ≡ h.tag → g.made ≡ h.made → g.held ≡ h.held → g.counts ≡ h.counts → IsKept g (looked o w (view_of h))
-kept_looked h g o w is tag made held counts = record {
+pub kept_looked : (h g : Hand) (o : ℕ) (w : OpWord) → IsKept h (view_of h) → g.tag ≡ h.tag → g.made ≡ h.made → g.held ≡ h.held → g.counts ≡ h.counts → g.journal ≡ h.journal → IsKept g (looked o w (view_of h))
+kept_looked h g o w is tag made held counts journal = record {
   worker = is.worker;
   counted = is.counted;
   tag = tag ∙ is.tag;
@@ -195,13 +212,14 @@ kept_looked h g o w is tag made held counts = record {
   held = ap held_of held ∙ is.held;
   fits = λ k e. is.fits k (sym held ∙ e);
   counts = counts ∙ is.counts;
+  journal = journal_same (looked o w (view_of h)) is.journal journal refl refl refl;
 }
 
 -- and after a quiet step, with what it holds then
-pub kept_step : (h g : Hand) (u : View) (e : CoreEvent) → IsKept h (view_of h) → g.tag ≡ h.tag → g.made ≡ h.made → g.counts ≡ h.counts
+pub kept_step : (h g : Hand) (u : View) (e : CoreEvent) → IsKept h (view_of h) → g.tag ≡ h.tag → g.made ≡ h.made → g.counts ≡ h.counts → HasNoted h.journal g.journal e → u.room ≡ (view_of h).room
     → u.tag ≡ (view_of h).tag → u.made ≡ (view_of h).made → u.events ≡ e ∷ (view_of h).events → is_finish e ≡ false → is_spread e ≡ false → is_roll e ≡ false
     → held_of g.held ≡ u.claim → ((k : Holding) → g.held ≡ Some k → Fits k) → IsKept g u
-kept_step h g u e is tag made counts same_tag same_made events f s r held fits = record {
+kept_step h g u e is tag made counts noted same_room same_tag same_made events f s r held fits = record {
   worker = subst IsWorker (sym same_tag) is.worker;
   counted = λ root. subst (λ n. 1 ≤ n) (sym same_made) (is.counted (sym same_tag ∙ root));
   tag = tag ∙ is.tag ∙ sym same_tag;
@@ -209,6 +227,7 @@ kept_step h g u e is tag made counts same_tag same_made events f s r held fits =
   held = held;
   fits = fits;
   counts = counts ∙ is.counts ∙ sym (ap counts_of events ∙ counts_quiet e (view_of h).events f s r);
+  journal = journal_step u e is.journal noted same_room same_made events;
 }
 
 module _ (b : Board) (h g : Hand) (is : IsHandOf b h) (table : g.seat.table_id ≡ h.seat.table_id) where
@@ -236,8 +255,8 @@ module _ (b : Board) (h g : Hand) (is : IsHandOf b h) (table : g.seat.table_id �
         ]
 
     pub swap_found : n ≢ first → (z expected : OpWord) → IsWord z → packed z ≡ n → first ≡ packed expected
-        → g.tag ≡ h.tag → g.made ≡ h.made → g.held ≡ h.held → g.counts ≡ h.counts → (z ≢ expected) × Looked b o h g z
-    swap_found other z expected is_word n_is first_is tag made held counts =
+        → g.tag ≡ h.tag → g.made ≡ h.made → g.held ≡ h.held → g.counts ≡ h.counts → g.journal ≡ h.journal → (z ≢ expected) × Looked b o h g z
+    swap_found other z expected is_word n_is first_is tag made held counts journal =
         elim swaps [
           | inl done ↦ absurd (other done.0)
           | inr missed ↦
@@ -246,7 +265,7 @@ module _ (b : Board) (h g : Hand) (is : IsHandOf b h) (table : g.seat.table_id �
               let tells : Looks o (packed z) (view_of h) z = subst (λ (y : ℕ × OpWord). Looks o y.0 (view_of h) y.1) (λ i. (sym n_is i, same i)) missed.3 in (
                 (λ e. other (sym n_is ∙ ap packed e ∙ sym first_is)),
                 record {
-                  hand = still b h g (looked o z (view_of h)) is table me refl refl (kept_looked h g o z (kept is) tag made held counts) tells.told;
+                  hand = still b h g (looked o z (view_of h)) is table me refl refl (kept_looked h g o z (kept is) tag made held counts journal) tells.told;
                   view = ap (λ (m : Sat). view_in m.0) me;
                   tells = tells;
                 },
@@ -275,8 +294,8 @@ counts_finish k a o t es is e s r =
 -- a hand that let go what it held
 pub kept_end : (h g : Hand) (o : ℕ) (w : OpWord) (xs : List ℕ) → IsKept h (view_of h) → g.tag ≡ h.tag → g.made ≡ h.made → g.held ≡ None
     → g.counts.evaluated ≡ min (h.counts.evaluated + 1) (2 ^ 64 - 1) → g.counts.spread ≡ min (h.counts.spread + 0) (2 ^ 64 - 1) → g.counts.rolled ≡ min (h.counts.rolled + 0) (2 ^ 64 - 1)
-    → IsKept g (finishing o w xs (view_of h))
-kept_end h g o w xs is tag made held e s r = record {
+    → HasNoted h.journal g.journal (Finish o (view_of h).tag) → IsKept g (finishing o w xs (view_of h))
+kept_end h g o w xs is tag made held e s r noted = record {
   worker = is.worker;
   counted = is.counted;
   tag = tag ∙ is.tag;
@@ -284,4 +303,5 @@ kept_end h g o w xs is tag made held e s r = record {
   held = ap held_of held;
   fits = λ k same. absurd (none-some k (sym held ∙ same));
   counts = counts_finish g.counts h.counts o (view_of h).tag (view_of h).events is.counts e s r;
+  journal = journal_step (finishing o w xs (view_of h)) (Finish o (view_of h).tag) is.journal noted refl refl refl;
 }

@@ -10,6 +10,7 @@ pub mod Splitting
 pub mod Joining
 pub mod Opening
 pub mod Adding
+pub mod Journaling
 pub mod Handing
 pub mod Leaving
 pub mod Claiming
@@ -29,6 +30,7 @@ pub mod Recalling
 pub mod Fetching
 pub mod Sizes
 pub mod Taking
+pub mod Fitting
 pub mod Holding
 pub mod Closing
 pub mod Noting

@@ -16,7 +16,7 @@ use Rattle.interleaving_core.proofs.Sighting.{present_noted}
 use Rattle.op_words.specs.declared.trail.Item.{Item}
 use Rattle.op_words.specs.declared.trail.View.{View}
 use Rattle.op_words.specs.Trails.{loaded, last_word}
-use Rattle.op_words.specs.Views.{IsPresent, looked}
+use Rattle.op_words.specs.Views.{IsLone, IsPresent, looked}
 use Rattle.op_words.specs.Rule.{Seats, taken, Knows, Lawful, Stays}
 use Rattle.op_words.specs.Plays.{Sat, IsTold, Looks, looks, tells}
 use Rattle.op_words.proofs.Trailing.{last-none, last-append, last-one, last-skip}
@@ -24,6 +24,7 @@ use Rattle.op_words.proofs.Rows.{set_same, one_inside, not_inside, here_long}
 use Rattle.op_words.proofs.Knowing.{same_grows, words_more, knows_more}
 use Rattle.op_words.proofs.Moving.{with_view, moved, sum_kept, root_before}
 use Rattle.op_words.proofs.Sighting.{sight_at}
+use Rattle.op_words.proofs.Taking.{none_joined}
 use Rattle.op_words.proofs.Telling.{told, fresh_at, steady_at, claimed_other, calm_at}
 
 -- the last words of a trail with one item more are the present ones, where they were but for this item's operation
@@ -112,5 +113,6 @@ module _ {p : Plan} {cap counters : ℕ} where
           told_keeps s lawful id v there k,
           λ x same.
               let e : v ≡ x = same_Some v x (sym is ∙ same) in
-              (ap (λ (y : Option View). (y, me.1)) (sym is), subst (λ y. IsTold y) e (told s lawful id v there)),
+              let t = subst (λ (y : View). IsTold y × (IsLone y → y.joined ≡ [])) e (told s lawful id v there, none_joined s lawful id v there) in
+              (ap (λ (y : Option View). (y, me.1)) (sym is), t.0, t.1),
         )

@@ -29,6 +29,7 @@ use Rattle.op_words.specs.declared.board.Hand.{Hand}
 use Rattle.op_words.specs.Hands.{plan_of, view_in, view_of, held_of, IsHandOf}
 use Rattle.op_words.specs.Stepping.{Recalled, Learned}
 use Rattle.op_words.proofs.Handing.{still}
+use Rattle.op_words.proofs.Journaling.{journal_same}
 use Rattle.interleaving_core.proofs.Recorded.{shown_recorded}
 use Rattle.op_words.proofs.Trailing.{last-none, last-cons, last-skip}
 use Rattle.op_words.proofs.Rows.{no_more, not_inside, one_inside, set_same}
@@ -197,7 +198,7 @@ noted_told rs ds v told = record {
   done = λ is. let d = told.done (record { root = is.root; alone = is.alone }) in record { core = d.core; run = d.run; present = record { each = d.present.each } };
 }
 
-module _ (b : Board) (h g : Hand) (is : IsHandOf b h) (table : g.seat.table_id ≡ h.seat.table_id) (tag : g.tag ≡ h.tag) (made : g.made ≡ h.made) (held : g.held ≡ h.held) (counts : g.counts ≡ h.counts) where
+module _ (b : Board) (h g : Hand) (is : IsHandOf b h) (table : g.seat.table_id ≡ h.seat.table_id) (tag : g.tag ≡ h.tag) (made : g.made ≡ h.made) (held : g.held ≡ h.held) (counts : g.counts ≡ h.counts) (journal : g.journal ≡ h.journal) where
   noted_hand : (rs : List RecordSeen) (ds : List DecisionSeen) → g.seat.me ≡ (Some (noting rs ds (view_of h)), []) → IsHandOf b g
   noted_hand rs ds me =
       still b h g (noting rs ds (view_of h)) is table me refl refl
@@ -209,6 +210,7 @@ module _ (b : Board) (h g : Hand) (is : IsHandOf b h) (table : g.seat.table_id �
         held = ap held_of held ∙ is.held;
         fits = λ k e. is.fits k (sym held ∙ e);
         counts = counts ∙ is.counts;
+        journal = journal_same (noting rs ds (view_of h)) is.journal journal refl refl refl;
       })
       (noted_told rs ds (view_of h) is.told)
 

@@ -159,7 +159,7 @@ module _ (b : Board) (p : Plan) (cap o q : ℕ) (h g k m : Hand) (w z : OpWord) 
       subst (λ (u : View). IsRecordSeen u o 0 w x) (sym sibling_did.view)
       (recalled_seen b o 0 g k x w (look_last b o h g w (blocked 1) did) record_did)
 
-  sibling_last : last_op 0 (view_of m).notes ≡ q
+  pub sibling_last : last_op 0 (view_of m).notes ≡ q
   sibling_last = ap (λ (u : View). last_op 0 u.notes) sibling_did.view ∙ last_op-append 0 (view_of k).notes (loaded q z)
 
   failure_kept : HasShownFailure (view_of m) q

@@ -26,7 +26,7 @@ use Rattle.op_words.specs.Views.{Adds, IsRecordSeen, IsSourceSeen, last_place, r
 use Rattle.op_words.specs.Calls.{IsRead}
 use Rattle.op_words.specs.Hands.{plan_of, cap_of, view_of, IsHandOf}
 use Rattle.op_words.specs.Stepping.{Looked, Left, Recalled, IsUsable, IsWalk}
-use Rattle.op_words.specs.Retrying.{RollDoes}
+use Rattle.op_words.specs.Retrying.{IsSpreadAside, RollDoes}
 use Rattle.op_words.specs.Grounds.{HasGroundsToRoll, AreSourcesSettled, IsSourceLoaded, SourceDoes, OpenDoes, OpenTells}
 use Rattle.op_words.proofs.Retrying.{count_one, adds_first, free_next, adds_front, last_front, none_front, free_front, events_front}
 use Rattle.op_words.proofs.Trailing.{last_later}
@@ -131,7 +131,7 @@ module _ (b : Board) (p : Plan) (o j : ℕ) (h g : Hand) (w : OpWord) (free : (v
 
     -- a source stopped the call
     pub source_stops : (stop : Stop) → stop.source ≢ o → IsSourceOf p o stop.source → Contains xs (loaded stop.source stop.word) → is_settled stop.word.state ≡ false
-        → (is_idle stop.word.state ≡ true) ⊎ ((w.attempt ≡ cap_of b) ⊎ (w.state ≡ Spread)) → RollDoes p (cap_of b) o (view_of h) (view_of k) j (Unrolled stop.source stop.word)
+        → (is_idle stop.word.state ≡ true) ⊎ ((w.attempt ≡ cap_of b) ⊎ IsSpreadAside p (cap_of b) o (view_of h) (view_of k) (loaded o w ∷ xs) j w) → RollDoes p (cap_of b) o (view_of h) (view_of k) j (Unrolled stop.source stop.word)
     source_stops stop other source inside settled cause = record {
       words = front;
       goes = record { adds = adds_now; free = free_now };
@@ -261,10 +261,22 @@ module _ (b : Board) (p : Plan) (o j : ℕ) (h g k m : Hand) (w : OpWord) (kept 
     record_later : IsRecordSeen (view_of n) o j w kept
     record_later = open_did.row.adds.records _ record_rolled
 
-    place_is : last_place 0 (view_of n).records ≡ j
+    pub place_is : last_place 0 (view_of n).records ≡ j
     place_is =
         ap (λ (u : View). last_place 0 u.records) open_did.row.view ∙ ap (λ (u : View). last_place 0 u.records) record_did.view
         ∙ last_place-append 0 (view_of k).records (record { op = o; place = j; value = kept; word = last_word o (blocked 1) (view_of k).notes })
+
+    -- its record was right, and its word spread
+    pub spread_aside : w.state ≡ Spread → kept ≡ x → IsSpreadAside p (cap_of b) o (view_of h) (view_of n) (loaded o w ∷ (source_did.words ++ []) ++ open_did.words) j w
+    spread_aside spread same = record {
+      spread = spread;
+      value = x;
+      read =
+          read_more words_source (loaded o w ∷ (words_source ++ []) ++ open_did.words) needed (origin_at p o j) x
+          (λ t inside. Contains-append_right (loaded o w ∷ []) ((words_source ++ []) ++ open_did.words) t (Contains-append_left (words_source ++ []) open_did.words t (Contains-append_left words_source [] t inside)))
+          source_did.tells.read;
+      recorded = subst (IsRecordSeen (view_of n) o j w) same record_later;
+    }
 
     module _ (closed : r ≡ None) where
       sources_settled : asked ≡ true → AreSourcesSettled p o (view_of n)

@@ -5,6 +5,7 @@ use Rattle.std.proofs.lemmas.Option.{same_Some}
 use Rattle.morph_base.specs.declared.limits.TheConstants.{READS}
 use Rattle.morph_base.specs.declared.plan.Plan.{Plan}
 use Rattle.morph_base.specs.Plans.{IsPlan, op_count, op_at}
+use Rattle.interleaving_core.specs.declared.event.CoreEvent.TheVariants.{Fetch}
 use Rattle.interleaving_core.specs.Core.{places}
 use Rattle.op_words.specs.declared.board.Board.{Board}
 use Rattle.op_words.specs.declared.board.Hand.{Hand}
@@ -15,6 +16,7 @@ use Rattle.op_words.specs.Plays.{Sat, IsTold}
 use Rattle.op_words.specs.Layout.{record_index}
 use Rattle.op_words.specs.Hands.{plan_of, view_of, view_in, held_of, fetched_of, Fits, IsHandOf}
 use Rattle.op_words.specs.Stepping.{Kept}
+use Rattle.op_words.proofs.Journaling.{HasNoted}
 use Rattle.op_words.proofs.Handing.{kept, kept_step, still, held_parts}
 
 -- an operation reads a few places
@@ -42,16 +44,18 @@ module _ (b : Board) (h : Hand) (is : IsHandOf b h) (k : Holding) (some : h.held
 
   -- with a value more
   pub kept_hand : (g : Hand) (m : Holding) (x : ℕ) → g.seat.table_id ≡ h.seat.table_id → g.seat.me ≡ (Some (fetching (record { op = o; attempt = a; values = xs }) x (view_of h)), h.seat.me.1)
-      → IsTold (fetching (record { op = o; attempt = a; values = xs }) x (view_of h)) → g.tag ≡ h.tag → g.made ≡ h.made → g.counts ≡ h.counts → g.held ≡ Some m
+      → IsTold (fetching (record { op = o; attempt = a; values = xs }) x (view_of h)) → g.tag ≡ h.tag → g.made ≡ h.made → g.counts ≡ h.counts → HasNoted h.journal g.journal (Fetch k.op k.count h.tag x) → g.held ≡ Some m
       → m.op ≡ k.op → m.attempt ≡ k.attempt → fetched_of m ≡ fetched_of k ++ x ∷ [] → Fits m → Kept b o a xs x h g
-  kept_hand g m x table me told tag made counts held op attempt values fits =
+  kept_hand g m x table me told tag made counts noted held op attempt values fits =
       let u : View = fetching (record { op = o; attempt = a; values = xs }) x (view_of h) in
       let parts = held_parts h k o a xs (kept is) some holds in
       let me_now : g.seat.me ≡ (Some u, []) = me ∙ ap (λ (y : Sat). (Some u, y.1)) is.seat in
       let claim : held_of g.held ≡ u.claim =
       ap held_of held ∙ ap (λ (z : ℕ × ℕ × List ℕ). Some (record { op = z.0; attempt = z.1; values = z.2 })) (λ i. ((op ∙ parts.0) i, (attempt ∙ parts.1) i, (values ∙ ap (λ l. l ++ x ∷ []) parts.2) i)) in
+      let noted_so : HasNoted h.journal g.journal (Fetch o (length xs) (view_of h).tag x) =
+      subst (HasNoted h.journal g.journal) (ap (λ (z : ℕ × ℕ × ℕ). Fetch z.0 z.1 z.2 x) (λ i. (parts.0 i, count_kept i, is.tag i))) noted in
       record {
         hand = still b h g u is table me_now refl refl
-            (kept_step h g u _ (kept is) tag made counts refl refl refl refl refl refl claim (λ n same. subst Fits (same_Some m n (sym held ∙ same)) fits)) told;
+            (kept_step h g u _ (kept is) tag made counts noted_so refl refl refl refl refl refl refl claim (λ n same. subst Fits (same_Some m n (sym held ∙ same)) fits)) told;
         view = ap (λ (y : Sat). view_in y.0) me_now;
       }

@@ -12,6 +12,7 @@ use Rattle.morph_base.specs.declared.plan.Plan.{Plan}
 use Rattle.op_words.specs.declared.trail.Joined.{Joined}
 use Rattle.op_words.specs.declared.trail.Place.{Place}
 use Rattle.op_words.specs.declared.trail.View.{View}
+use Rattle.op_words.specs.Views.{IsLone}
 use Rattle.op_words.specs.Layout.{Shows, record_index, decision_base, level_index, counter_base}
 use Rattle.op_words.specs.Rule.{Seats, live, tags, taken, of_counter, of_joined, one, most_taken, HasNumbers, Knows, Lawful, Stays}
 use Rattle.op_words.specs.declared.board.Hand.{Hand}
@@ -21,6 +22,7 @@ use Rattle.op_words.specs.Counting.{place, taking, times, Takes, takes, passes}
 use Rattle.op_words.proofs.Rows.{sum_set, sum_has, set_apart}
 use Rattle.op_words.proofs.Sizes.{sum_most, sum_inside, single_sum, sum_ones, none_left, sum_below, range_size, sum_above}
 use Rattle.op_words.proofs.Handing.{IsKept}
+use Rattle.op_words.proofs.Journaling.{journal_same}
 use Rattle.op_words.proofs.Moving.{with_view, moved}
 use Rattle.op_words.proofs.Telling.{lone_single}
 
@@ -47,6 +49,15 @@ module _ {p : Plan} {cap counters : ℕ} (s : Seats) (lawful : Lawful p cap coun
 
   pub seats : sum_by (live (tags one)) s.views ≡ length s.views
   seats = lawful.sums.tags_are one ∙ range_size 1 (length s.views)
+
+  -- into a root that is the only hand made none was joined
+  pub none_joined : (i : ℕ) (v : View) → get_elem? s.views i ≡ some (Some v) → IsLone v → v.joined ≡ []
+  none_joined i v at is =
+      let l = lone_single s lawful i v at is in
+      let root : get_elem? s.views 0 ≡ some (Some v) = subst (λ m. get_elem? s.views m ≡ some (Some v)) l.0 at in
+      let sat = single_sum (live (tags one)) s.views (Some v) l.1 root in
+      let within = hands_in v in
+      none_left v.joined (omega (arith, sat, seats, within, l.1))
 
   pub counter_small : (k : ℕ) → k < counters → counted k ≤ 2 ^ 63
   counter_small k below =
@@ -161,10 +172,8 @@ module _ {p : Plan} {cap counters : ℕ} (s : Seats) (lawful : Lawful p cap coun
           let l = lone_single s lawful i v at is in
           let root : get_elem? s.views 0 ≡ some (Some v) = subst (λ m. get_elem? s.views m ≡ some (Some v)) l.0 at in
           let all = single_sum (live (taken k one)) s.views (Some v) l.1 root in
-          let sat = single_sum (live (tags one)) s.views (Some v) l.1 root in
           let law = lawful.numbers.each k below one in
-          let within = hands_in v in
-          let none : v.joined ≡ [] = none_left v.joined (omega (arith, sat, seats, within, l.1)) in
+          let none : v.joined ≡ [] = none_joined i v at is in
           let left : sum_by (of_joined k one) v.joined ≡ 0 = ap (sum_by (of_joined k one)) none in
           let size = range_size 0 n in
           omega (arith, all, law, left, size);
@@ -216,8 +225,8 @@ taking_told k n v told = record {
   done = λ is. let d = told.done (record { root = is.root; alone = is.alone }) in record { core = d.core; run = d.run; present = record { each = d.present.each } };
 }
 
-pub taking_kept : (h g : Hand) (k n : ℕ) → IsKept h (view_of h) → g.tag ≡ h.tag → g.made ≡ h.made → g.held ≡ h.held → g.counts ≡ h.counts → IsKept g (taking k n (view_of h))
-taking_kept h g k n is tag made held counts = record {
+pub taking_kept : (h g : Hand) (k n : ℕ) → IsKept h (view_of h) → g.tag ≡ h.tag → g.made ≡ h.made → g.held ≡ h.held → g.counts ≡ h.counts → g.journal ≡ h.journal → IsKept g (taking k n (view_of h))
+taking_kept h g k n is tag made held counts journal = record {
   worker = is.worker;
   counted = is.counted;
   tag = tag ∙ is.tag;
@@ -225,6 +234,7 @@ taking_kept h g k n is tag made held counts = record {
   held = ap held_of held ∙ is.held;
   fits = λ x e. is.fits x (sym held ∙ e);
   counts = counts ∙ is.counts;
+  journal = journal_same (taking k n (view_of h)) is.journal journal refl refl refl;
 }
 
 -- ---- the level word
@@ -234,7 +244,7 @@ module _ {p : Plan} {cap counters : ℕ} where
     level : ℕ
     level = level_index p
 
-    shows_level : Shows p counters lawful.core (set s.words (level_index p) a)
+    pub shows_level : Shows p counters lawful.core (set s.words (level_index p) a)
     shows_level = record {
       long = length-set s.words (level_index p) a ∙ lawful.shows.long;
       ops = λ o lt. set_apart s.words (level_index p) o a (λ e. omega (arith, lt, e)) ∙ lawful.shows.ops o lt;

@@ -21,11 +21,11 @@ use Rattle.op_words.specs.declared.trail.RecordSeen.{RecordSeen}
 use Rattle.op_words.specs.declared.trail.View.{View}
 use Rattle.op_words.specs.Trails.{loaded, HasLast, IsDisturbed, IsSourceOf, NoneOwn}
 use Rattle.op_words.specs.Views.{IsSettledSeen, Adds}
-use Rattle.op_words.specs.Calls.{IsSettledRead, IsSourceOpen, Elsewhere}
-use Rattle.op_words.specs.Judging.{decided_as, IsStaleWord, IsOwnUnready, IsDecided, DecideTells, DecideDoes}
+use Rattle.op_words.specs.Calls.{IsSettledRead, Elsewhere}
+use Rattle.op_words.specs.Judging.{decided_as, IsStaleWord, IsOwnUnready, IsAnswerSeen, IsGoodSeen, IsDoubtful, IsInDoubt, IsDecided, DecideTells, DecideDoes}
 use Rattle.op_words.specs.Hands.{plan_of, view_of, IsHandOf}
 use Rattle.op_words.specs.Stepping.{Learned}
-use Rattle.op_words.specs.Comparing.{OfReads, IsJudgedAs, IsAnswerSeen, IsDoubtful, WeighTells, IsWeighed, GroundsTell, HasGrounds, MaySayOf, IsConcluded}
+use Rattle.op_words.specs.Comparing.{OfReads, IsJudgedAs, WeighTells, IsWeighed, HasDoubt, GroundsTell, HasGrounds, MaySayOf, IsConcluded}
 use Rattle.op_words.proofs.Rows.{not_inside}
 use Rattle.op_words.proofs.Trailing.{last_later, disturbed_later, disturbed_more}
 use Rattle.op_words.proofs.Adding.{adds_none, goes_then}
@@ -161,28 +161,63 @@ module _ (b : Board) (p : Plan) (cap i start : ℕ) (valid : IsPlan p) (lt : i <
     grounds_with : (r : Decided) → GroundsTell p cap i start (n + 1) (view_of h) (view_of k) (all.words ++ here.words) r → HasGrounds b p cap i start (n + 1) h k r
     grounds_with r tells = record { hand = here.hand; words = all.words ++ here.words; goes = goes_then all.goes here.goes; none = none_then all.words here.words all.none here.none; tells = tells }
 
+    -- the doubt about another operation of the event stays
+    doubt_stays : (o : ℕ) → InEvent p i o → o < n → (at : ℕ) (w : OpWord) → IsDoubtful p cap o (view_of h) (view_of g) all.words at w → IsDoubtful p cap o (view_of h) (view_of k) (all.words ++ here.words) at w
+    doubt_stays o inside less at w is =
+        doubt_wider p cap o (wider_more o all.words here.goes.adds (apart_reads p i o n here.words valid lt inside within (λ same. omega (arith, same, less)) here.none here.reads)) at w is
+
+    good_stays : (o : ℕ) → IsGoodSeen p (view_of g) o → IsGoodSeen p (view_of k) o
+    good_stays o is = (is.0, answer_more p o (Some is.0) here.goes.adds is.1)
+
+    -- the operation itself, where it is not bad
+    weighed_now : (c : Decided) → (c ≡ Aborted → ⊥) → WeighTells p cap n (view_of g) (view_of k) here.words c → IsGoodSeen p (view_of k) n ⊎ IsInDoubt p cap n (view_of h) (view_of k) (all.words ++ here.words)
+    weighed_now Committed fine now = inl now
+    weighed_now (Undecided at w) fine now = inr (at, w, doubt_wider p cap n (wider_later n here.words all.goes.adds) at w now)
+    weighed_now Aborted fine now = absurd (fine refl)
+
+    more_doubt : (at : ℕ) (w : OpWord) (c : Decided) → (c ≡ Aborted → ⊥) → HasDoubt p cap i start n (view_of h) (view_of g) all.words at w → WeighTells p cap n (view_of g) (view_of k) here.words c
+        → HasDoubt p cap i start (n + 1) (view_of h) (view_of k) (all.words ++ here.words) at w
+    more_doubt at w c fine is now = record {
+      culprit = is.culprit;
+      inside = is.inside;
+      below = let less = is.below in omega (arith, less);
+      doubt = doubt_stays is.culprit is.inside is.below at w is.doubt;
+      before = λ o low less. good_stays o (is.before o low less);
+      behind = λ o more less.
+          elim (cases_lt o n) [
+            | inl lower ↦ elim (is.behind o more lower) [
+              | inl good ↦ inl (good_stays o good)
+              | inr doubt ↦ inr (doubt.0, doubt.1, doubt_stays o (record { from = let low = is.inside.from in omega (arith, low, more); below = let high = within.below in omega (arith, high, lower) }) lower doubt.0 doubt.1 doubt.2)
+            ]
+            | inr same ↦
+                let here_is : n ≡ o = omega (arith, same, less) in
+                subst (λ q. IsGoodSeen p (view_of k) q ⊎ IsInDoubt p cap q (view_of h) (view_of k) (all.words ++ here.words)) here_is (weighed_now c fine now)
+          ];
+    }
+
     tells_more : (a c : Decided) → (c ≡ Aborted → ⊥) → GroundsTell p cap i start n (view_of h) (view_of g) all.words a → WeighTells p cap n (view_of g) (view_of k) here.words c → (r : Decided)
         → (a ≡ Aborted → ⊥) → (a ≡ Committed → r ≡ c) → ((a ≡ Committed → ⊥) → r ≡ a) → GroundsTell p cap i start (n + 1) (view_of h) (view_of k) (all.words ++ here.words) r
     tells_more Committed Committed fine before now r not_bad first doubt =
         subst (GroundsTell p cap i start (n + 1) (view_of h) (view_of k) (all.words ++ here.words)) (sym (first refl))
         (λ o low high.
         elim (cases_lt o n) [
-          | inl less ↦ let k = before o low less in (k.0, answer_more p o (Some k.0) here.goes.adds k.1)
-          | inr more ↦ let same : n ≡ o = omega (arith, more, high) in subst (λ q. (x : ℕ) × IsAnswerSeen p (view_of k) q (Some x)) same now
+          | inl less ↦ good_stays o (before o low less)
+          | inr more ↦ let same : n ≡ o = omega (arith, more, high) in subst (IsGoodSeen p (view_of k)) same now
         ])
     tells_more Committed (Undecided at w) fine before now r not_bad first doubt =
         subst (GroundsTell p cap i start (n + 1) (view_of h) (view_of k) (all.words ++ here.words)) (sym (first refl))
-        (n, within, omega arith, doubt_wider p cap n (wider_later n here.words all.goes.adds) at w now)
+        (record {
+          culprit = n;
+          inside = within;
+          below = omega arith;
+          doubt = doubt_wider p cap n (wider_later n here.words all.goes.adds) at w now;
+          before = λ o low less. good_stays o (before o low less);
+          behind = λ o more less. absurd (omega (arith, more, less));
+        })
     tells_more Committed Aborted fine before now r not_bad first doubt = absurd (fine refl)
     tells_more Aborted c fine before now r not_bad first doubt = absurd (not_bad refl)
     tells_more (Undecided at w) c fine before now r not_bad first doubt =
-        let less = before.2 in
-        subst (GroundsTell p cap i start (n + 1) (view_of h) (view_of k) (all.words ++ here.words)) (sym (doubt (λ same. apart same))) (
-          before.0,
-          before.1,
-          omega (arith, less),
-          doubt_wider p cap before.0 (wider_more before.0 all.words here.goes.adds (apart_reads p i before.0 n here.words valid lt before.1 within (λ same. omega (arith, same, less)) here.none here.reads)) at w before.3,
-        )
+        subst (GroundsTell p cap i start (n + 1) (view_of h) (view_of k) (all.words ++ here.words)) (sym (doubt (λ same. apart same))) (more_doubt at w c fine before now)
       where
         apart : Undecided at w ≡ Committed → ⊥
         apart same = cc
@@ -218,25 +253,25 @@ module _ (b : Board) (p : Plan) (cap i : ℕ) (plan : p ≡ plan_of b) (h g : Ha
   view_same : view_of g ≡ view_of h
   view_same = learned.view
 
-  module _ (k : Hand) (start end : ℕ) where
+  module _ (k : Hand) where
     -- it is not decided, and an operation is in doubt
-    pub undecided : (at : ℕ) (w : OpWord) → HasGrounds b p cap i start end g k (Undecided at w) → DecideDoes p cap i (view_of h) (view_of k) (Undecided at w)
+    pub undecided : (at : ℕ) (w : OpWord) → HasGrounds b p cap i (event_at p i).first ((event_at p i).first + (event_at p i).count) g k (Undecided at w)
+        → DecideDoes p cap i (view_of h) (view_of k) (Undecided at w)
     undecided at w all = subst (λ (v : View). DecideDoes p cap i v (view_of k) (Undecided at w)) view_same (record {
       words = all.words;
       goes = all.goes;
       none = all.none;
       tells = record {
-        culprit = all.tells.0;
-        inside = all.tells.1;
+        culprit = all.tells.culprit;
+        inside = all.tells.inside;
         none_settled = λ o inside seen. learned.tells.none_settled refl o (subst (λ (q : Plan). InEvent q i o) plan inside) (subst (λ (v : View). IsSettledSeen v o) view_same seen);
-        cause = by_doubt all.tells.3;
+        cause = all.tells.doubt;
+        before = λ o inside less. all.tells.before o inside.from less;
+        behind = λ o inside more. all.tells.behind o more inside.below;
       };
     })
-      where
-        by_doubt : {o : ℕ} → IsDoubtful p cap o (view_of g) (view_of k) all.words at w
-            → ((at ≡ o) × (IsOwnUnready p cap o (view_of g) (view_of k) all.words w ⊎ IsStaleWord p cap o (view_of g) (view_of k) all.words w)) ⊎ IsSourceOpen p cap o (view_of g) (view_of k) all.words at w
-        by_doubt doubt = doubt
 
+  module _ (k : Hand) (start end : ℕ) where
     -- a decision was made, or found
     module _ (m : Hand) where
       pub decided_now : (committed : Bool) (r : Decided) → HasGrounds b p cap i start end g k r → IsConcluded b p i k m committed → DecideDoes p cap i (view_of h) (view_of m) (decided_as committed)

@@ -20,6 +20,7 @@ use Rattle.std.specs.Slots.{slots_items}
 use Rattle.op_words.specs.declared.closed.Closed.{Closed}
 use Rattle.op_words.specs.Layout.{decision_base}
 use Rattle.op_words.specs.Hands.{counts_of}
+use Rattle.op_words.specs.Journals.{IsJournal}
 
 -- the hand of tag t was joined into the one with this view
 abbrev pub IsJoined : View → ℕ → Type 0
@@ -55,3 +56,4 @@ pub record IsClosed (p : Plan) (cap counters : ℕ) (v : View) (c : Closed) : Ty
   pub ends : Ends p cap counters (words_of c) v
   pub decisions : c.decisions ≡ decision_base p
   pub counts : c.counts ≡ counts_of v.events
+  pub journal : IsJournal v c.journal

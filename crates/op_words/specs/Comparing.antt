@@ -1,10 +1,10 @@
 -- An operation's records beside its settled sources, and what a hand has to have seen to decide and to settle.
-use Rattle.std.specs.Prelude.{◌≡◌, ◌≢◌, ℕ, ◌≤◌, ◌<◌, ◌⊎◌, Bool, true, false, List, [], ◌∷◌, Contains, Option, Some, None, Result, Ok, Err}
+use Rattle.std.specs.Prelude.{◌≡◌, ◌≢◌, ℕ, ◌≤◌, ◌<◌, ◌⊎◌, Bool, true, false, List, [], ◌∷◌, Contains, None, Result, Ok, Err}
 use Rattle.morph_base.specs.declared.plan.Plan.{Plan}
 use Rattle.morph_base.specs.declared.plan.Origin.TheVariants.{Op as Written}
 use Rattle.morph_base.specs.declared.word.OpState.TheVariants.{Executed}
 use Rattle.morph_base.specs.declared.word.OpWord.{OpWord}
-use Rattle.morph_base.specs.Clean.{source, outcome}
+use Rattle.morph_base.specs.Clean.{source}
 use Rattle.morph_base.specs.Plans.{event_of, origin_at, final, verdict, InEvent}
 use Rattle.morph_base.specs.Words.{is_settled, settled, settled_aborted}
 use Rattle.interleaving_core.specs.Core.{blocked, is_open, places}
@@ -23,8 +23,8 @@ use Rattle.op_words.specs.declared.trail.Item.{Item}
 use Rattle.op_words.specs.declared.trail.View.{View}
 use Rattle.op_words.specs.Trails.{loaded, left, last_word, IsSourceOf, OfSources, NoneOwn}
 use Rattle.op_words.specs.Views.{IsDecisionSeen, IsRecordSeen, IsSourceSeen, Goes, settling}
-use Rattle.op_words.specs.Calls.{IsSettledRead, IsSourceOpen}
-use Rattle.op_words.specs.Judging.{IsStaleAt, IsStaleWord, IsOwnUnready, VerdictTells}
+use Rattle.op_words.specs.Calls.{IsSettledRead}
+use Rattle.op_words.specs.Judging.{IsStaleAt, VerdictTells, IsAnswerSeen, IsGoodSeen, IsDoubtful, IsInDoubt}
 use Rattle.op_words.specs.Hands.{plan_of, view_of, IsHandOf}
 use Rattle.op_words.specs.Stepping.{Looked, Left, IsWalk}
 
@@ -128,17 +128,8 @@ pub record IsJudgedAs (b : Board) (p : Plan) (cap o : ℕ) (h g : Hand) (w : OpW
 
 -- ---- what the operations of an event say of it
 
--- on its sources, which the hand saw settled, the operation answers; it fails
-pub record IsAnswerSeen (p : Plan) (u : View) (o : ℕ) (answer : Option ℕ) : Type 0 where
-  pub sources : (j : ℕ) → j < places p o → (x : ℕ) × IsSourceSeen u (origin_at p o j) x
-  pub answer_is : outcome p (final p) o ≡ answer
-
--- it is not ready, or stale
-abbrev pub IsDoubtful : Plan → ℕ → ℕ → View → View → List Item → ℕ → OpWord → Type 0
-IsDoubtful p cap o v u xs at w = ((at ≡ o) × (IsOwnUnready p cap o v u xs w ⊎ IsStaleWord p cap o v u xs w)) ⊎ IsSourceOpen p cap o v u xs at w
-
 abbrev pub WeighTells : Plan → ℕ → ℕ → View → View → List Item → Decided → Type 0
-WeighTells p cap o v u xs Committed = (x : ℕ) × IsAnswerSeen p u o (Some x)
+WeighTells p cap o v u xs Committed = IsGoodSeen p u o
 WeighTells p cap o v u xs Aborted = IsAnswerSeen p u o None
 WeighTells p cap o v u xs (Undecided at w) = IsDoubtful p cap o v u xs at w
 
@@ -150,11 +141,20 @@ pub record IsWeighed (b : Board) (p : Plan) (cap o : ℕ) (h g : Hand) (r : Deci
   pub reads : OfReads p o words
   pub tells : WeighTells p cap o (view_of h) (view_of g) words r
 
--- the first operations of the event, numbered from `start` below `end`, are all good; one of them is bad; or one is doubtful
+-- of the first operations of the event, numbered from `start` below `end`, one is doubtful, those before it are good, and none is bad
+pub record HasDoubt (p : Plan) (cap i start end : ℕ) (v u : View) (xs : List Item) (at : ℕ) (w : OpWord) : Type 0 where
+  pub culprit : ℕ
+  pub inside : InEvent p i culprit
+  pub below : culprit < end
+  pub doubt : IsDoubtful p cap culprit v u xs at w
+  pub before : (o : ℕ) → start ≤ o → o < culprit → IsGoodSeen p u o
+  pub behind : (o : ℕ) → culprit < o → o < end → IsGoodSeen p u o ⊎ IsInDoubt p cap o v u xs
+
+-- all of them are good; one of them is bad; or one is doubtful
 abbrev pub GroundsTell : Plan → ℕ → ℕ → ℕ → ℕ → View → View → List Item → Decided → Type 0
-GroundsTell p cap i start end v u xs Committed = (o : ℕ) → start ≤ o → o < end → (x : ℕ) × IsAnswerSeen p u o (Some x)
+GroundsTell p cap i start end v u xs Committed = (o : ℕ) → start ≤ o → o < end → IsGoodSeen p u o
 GroundsTell p cap i start end v u xs Aborted = (o : ℕ) × InEvent p i o × IsAnswerSeen p u o None
-GroundsTell p cap i start end v u xs (Undecided at w) = (o : ℕ) × InEvent p i o × (o < end) × IsDoubtful p cap o v u xs at w
+GroundsTell p cap i start end v u xs (Undecided at w) = HasDoubt p cap i start end v u xs at w
 
 pub record HasGrounds (b : Board) (p : Plan) (cap i start end : ℕ) (h g : Hand) (r : Decided) : Type 0 where
   pub hand : IsHandOf b g
@@ -167,7 +167,7 @@ pub record HasGrounds (b : Board) (p : Plan) (cap i start end : ℕ) (h g : Hand
 
 -- every operation of the event answers, or one fails, on settled sources
 abbrev pub MaySayOf : Plan → View → ℕ → Bool → Type 0
-MaySayOf p v i true = (o : ℕ) → InEvent p i o → (x : ℕ) × IsAnswerSeen p v o (Some x)
+MaySayOf p v i true = (o : ℕ) → InEvent p i o → IsGoodSeen p v o
 MaySayOf p v i false = (o : ℕ) × InEvent p i o × IsAnswerSeen p v o None
 
 -- word w of the operation becomes settled word z: under commit it is executed on records that are the values of its sources;

@@ -3,6 +3,7 @@ use Rattle.std.specs.Prelude.{◌≡◌, ℕ, ◌+◌, ◌<◌, List, [], ◌∷
 use Rattle.atomic_table.specs.Table.{Step}
 use Rattle.op_words.specs.declared.trail.Place.{Place}
 use Rattle.op_words.specs.declared.trail.View.{View}
+use Rattle.op_words.specs.Journals.{roomed}
 use Rattle.op_words.specs.Layout.{counter_base}
 use Rattle.op_words.specs.Rule.{of_counter, one}
 use Rattle.op_words.specs.Views.{IsLone}
@@ -31,3 +32,7 @@ takes st m n m' = (v : View) → m.0 ≡ Some v → (k : ℕ) → st.word ≡ co
 -- a step on the level word changes no view
 abbrev pub passes : Step (Unit {0}) → Sat → ℕ → Sat → Type 0
 passes st m n m' = m' ≡ m
+
+-- a step on the level word by which the hand has so much room for its journal as the step says
+abbrev pub fits : Step (Unit {0}) → Sat → ℕ → Sat → Type 0
+fits st m n m' = (v : View) → m.0 ≡ Some v → m' ≡ (Some (roomed st.first v), m.1)

@@ -13,6 +13,7 @@ use Rattle.op_words.specs.declared.trail.View.{View}
 use Rattle.op_words.specs.declared.board.Board.{Board}
 use Rattle.op_words.specs.declared.board.Hand.{Hand}
 use Rattle.op_words.specs.declared.board.Holding.{Holding}
+use Rattle.op_words.specs.Journals.{IsJournal}
 use Rattle.op_words.specs.Plays.{IsTold}
 
 -- the plan of a board, its cap, and how many counters it has
@@ -110,6 +111,7 @@ pub record IsHandOf (b : Board) (h : Hand) : Type 0 where
   pub held : held_of h.held ≡ (view_of h).claim
   pub fits : (k : Holding) → h.held ≡ Some k → Fits k
   pub counts : h.counts ≡ counts_of (view_of h).events
+  pub journal : IsJournal (view_of h) h.journal
   -- settled words that it saw are one for each operation, it noted its trail, and where it is the only hand ever made, its own
   -- steps lead to a state whose words are the ones that it last loaded or left
   pub told : IsTold (view_of h)

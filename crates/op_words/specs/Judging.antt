@@ -1,5 +1,5 @@
 -- What the calls tell that judge an operation, decide on its event and settle it.
-use Rattle.std.specs.Prelude.{◌≡◌, ◌≢◌, ℕ, ◌≤◌, ◌<◌, ◌⊎◌, Bool, true, false, List, ◌∷◌, Contains, Some, None, if◌then◌else◌}
+use Rattle.std.specs.Prelude.{◌≡◌, ◌≢◌, ℕ, ◌≤◌, ◌<◌, ◌⊎◌, Bool, true, false, List, ◌∷◌, Contains, Option, Some, None, if◌then◌else◌}
 use Rattle.morph_base.specs.declared.plan.Plan.{Plan}
 use Rattle.morph_base.specs.declared.word.OpState.TheVariants.{Claimed, Executed, Failed, Spread}
 use Rattle.morph_base.specs.declared.word.OpWord.{OpWord}
@@ -16,7 +16,7 @@ use Rattle.op_words.specs.declared.answers.SettleAnswer.TheVariants.{Done as Has
 use Rattle.op_words.specs.declared.trail.Item.{Item}
 use Rattle.op_words.specs.declared.trail.View.{View}
 use Rattle.op_words.specs.Trails.{loaded, left, HasLast, IsDisturbed, OwnOn, NoneOwn}
-use Rattle.op_words.specs.Views.{IsDecisionSeen, IsJudged, IsRecordSeen, IsSettledSeen, Goes}
+use Rattle.op_words.specs.Views.{IsDecisionSeen, IsJudged, IsRecordSeen, IsSettledSeen, IsSourceSeen, Goes}
 use Rattle.op_words.specs.Calls.{IsSettledRead, IsSourceOpen}
 
 -- what an operation with this word, executed or failed, is worth on records that are right
@@ -109,18 +109,36 @@ module _ (p : Plan) (cap o : ℕ) (v u : View) (xs : List Item) where
   SettleTells (HasSettledIt x) = IsDone x
   SettleTells (Unsettled at w) = ((at ≡ o) × IsOwnUnsettled w) ⊎ ((at ≢ o) × IsSourceOpen p cap o v u xs at w)
 
+-- on its sources, which the hand saw settled, the operation answers; it fails
+pub record IsAnswerSeen (p : Plan) (u : View) (o : ℕ) (answer : Option ℕ) : Type 0 where
+  pub sources : (j : ℕ) → j < places p o → (x : ℕ) × IsSourceSeen u (origin_at p o j) x
+  pub answer_is : outcome p (final p) o ≡ answer
+
+abbrev pub IsGoodSeen : Plan → View → ℕ → Type 0
+IsGoodSeen p u o = (x : ℕ) × IsAnswerSeen p u o (Some x)
+
+-- it is not ready, or stale, at word w of operation `at`; at some word
+abbrev pub IsDoubtful : Plan → ℕ → ℕ → View → View → List Item → ℕ → OpWord → Type 0
+IsDoubtful p cap o v u xs at w = ((at ≡ o) × (IsOwnUnready p cap o v u xs w ⊎ IsStaleWord p cap o v u xs w)) ⊎ IsSourceOpen p cap o v u xs at w
+
+abbrev pub IsInDoubt : Plan → ℕ → ℕ → View → View → List Item → Type 0
+IsInDoubt p cap o v u xs = (at : ℕ) × (w : OpWord) × IsDoubtful p cap o v u xs at w
+
 module _ (p : Plan) (cap i : ℕ) (v u : View) (xs : List Item) where
   -- committed or aborted as the fold does, and the hand knows it
   pub record IsDecided (committed : Bool) : Type 0 where
     pub right : verdict p i ≡ committed
     pub known : IsDecisionSeen u i committed
 
-  -- no decision: no operation of the event had been seen settled, one of them is not ready or stale, and none is bad
+  -- no decision: no operation of the event had been seen settled, and one of them is not ready or stale; those before it are good,
+  -- and each behind it is good, or not ready or stale too: none is bad
   pub record IsUndecided (at : ℕ) (w : OpWord) : Type 0 where
     pub culprit : ℕ
     pub inside : InEvent p i culprit
     pub none_settled : (o : ℕ) → InEvent p i o → IsSettledSeen v o → ⊥
-    pub cause : ((at ≡ culprit) × (IsOwnUnready p cap culprit v u xs w ⊎ IsStaleWord p cap culprit v u xs w)) ⊎ IsSourceOpen p cap culprit v u xs at w
+    pub cause : IsDoubtful p cap culprit v u xs at w
+    pub before : (o : ℕ) → InEvent p i o → o < culprit → IsGoodSeen p u o
+    pub behind : (o : ℕ) → InEvent p i o → culprit < o → IsGoodSeen p u o ⊎ IsInDoubt p cap o v u xs
 
   abbrev pub DecideTells : Decided → Type 0
   DecideTells Committed = IsDecided true

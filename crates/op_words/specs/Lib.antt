@@ -5,6 +5,7 @@ pub mod Calls
 pub mod Layout
 pub mod Rule
 pub mod Plays
+pub mod Journals
 pub mod Hands
 pub mod Stepping
 pub mod Counting

@@ -1,5 +1,5 @@
 -- What each kind of step tells the hand that makes it, and what it makes of its view.
-use Rattle.std.specs.Prelude.{◌≡◌, ◌≢◌, ℕ, ◌+◌, ◌≤◌, ◌<◌, ◌⊎◌, Bool, true, List, length, Option, Some, None, slice_index}
+use Rattle.std.specs.Prelude.{◌≡◌, ◌≢◌, ℕ, ◌+◌, ◌≤◌, ◌<◌, ◌⊎◌, Bool, true, List, [], length, Option, Some, None, slice_index}
 use Rattle.atomic_table.specs.Table.{Step, Me}
 use Rattle.morph_base.specs.declared.plan.Plan.{Plan}
 use Rattle.morph_base.specs.declared.word.OpWord.{OpWord}
@@ -75,9 +75,9 @@ learns st m n m' =
     (v : View) → m.0 ≡ Some v → (i : ℕ) → i < event_count v.plan.value → st.word ≡ decision_base v.plan.value + i
     → (d : Option Bool) × (n ≡ packed_decision d) × IsDecision v.plan.value v i d × (m' ≡ (Some (learning i d v), m.1))
 
--- a load that leaves the view as it is
+-- a load that leaves the view as it is; into a root that is the only hand made none was joined
 abbrev pub tells : Step (Unit {0}) → Sat → ℕ → Sat → Type 0
-tells st m n m' = (v : View) → m.0 ≡ Some v → (m' ≡ m) × IsTold v
+tells st m n m' = (v : View) → m.0 ≡ Some v → (m' ≡ m) × IsTold v × (IsLone v → v.joined ≡ [])
 
 -- ---- a word that is left
 

@@ -80,16 +80,23 @@ module _ (p : Plan) (cap o : ℕ) (v u : View) (xs : List Item) where
     pub none : NoneOwn xs
     pub cause : (is_evaluated w.state ≡ false) ⊎ ((w.attempt ≡ cap + 1) ⊎ IsDisturbed o xs)
 
-  -- or a source has no value, or is not settled where the operation is at the cap or spread
-  pub record IsSourceUnrolled (at : ℕ) (w : OpWord) : Type 0 where
+  -- its word is spread, though the record at place j is the value of its source, as it was loaded here
+  pub record IsSpreadAside (j : ℕ) (word : OpWord) : Type 0 where
+    pub spread : word.state ≡ IsSpreadState
+    pub value : ℕ
+    pub read : IsRead xs (origin_at p o j) value
+    pub recorded : IsRecordSeen u o j word value
+
+  -- or a source has no value, or is not settled where the operation is at the cap, or spread with a record that is right
+  pub record IsSourceUnrolled (j at : ℕ) (w : OpWord) : Type 0 where
     pub source_open : IsSourceOpen p cap o v u xs at w
     pub none : NoneOwn xs
-    pub cause : (is_idle w.state ≡ true) ⊎ ((source_open.own.attempt ≡ cap) ⊎ (source_open.own.state ≡ IsSpreadState))
+    pub cause : (is_idle w.state ≡ true) ⊎ ((source_open.own.attempt ≡ cap) ⊎ IsSpreadAside j source_open.own)
 
   abbrev pub RollTells : ℕ → Rolled → Type 0
   RollTells j HasRolled = IsRolled
   RollTells j (Fresh x) = IsUpToDate j x
-  RollTells j (Unrolled at w) = ((at ≡ o) × IsOwnUnrolled w) ⊎ ((at ≢ o) × IsSourceUnrolled at w)
+  RollTells j (Unrolled at w) = ((at ≡ o) × IsOwnUnrolled w) ⊎ ((at ≢ o) × IsSourceUnrolled j at w)
 
 -- ---- the calls, with what they add
 

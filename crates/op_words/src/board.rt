@@ -2,6 +2,7 @@ ghost use Rattle.std.specs.Prelude.{◌≡◌, ◌+◌};
 ghost use Rattle.op_words.specs.Layout.{counter_base, level_index};
 
 use crate::answers::Counts;
+use crate::journal::Journal;
 use crate::rule::{Known, Rule};
 use crate::trail::View;
 use atomic_table::{Seat, Table};
@@ -59,6 +60,8 @@ pub struct Hand {
     made: u8,
     held: Option<Holding>,
     counts: Counts,
+    /// Its first steps, where it keeps them.
+    journal: Option<Journal>,
 }
 
 /// The operation that a hand holds, and the values that it fetched so far, of which there are `count`.

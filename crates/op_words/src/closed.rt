@@ -1,9 +1,11 @@
 //! A board after its end.
-ghost use Rattle.std.specs.Prelude.{◌≡◌, ℕ, ◌<◌};
+ghost use Rattle.std.specs.Prelude.{◌≡◌, ℕ, ◌<◌, ◌≤◌, length};
 ghost use Rattle.std.specs.Slots.{slots_len, IsFull};
 
 use crate::answers::Counts;
+use crate::journal::Journal;
 use atomic_table::Closed as ClosedTable;
+use interleaving_core::CoreEvent;
 use morph_base::OpWord;
 use std::alloc::Global;
 
@@ -13,6 +15,7 @@ pub struct Closed {
     /// The place of the first decision.
     pub(crate) decisions: usize,
     pub(crate) counts: Counts,
+    pub(crate) journal: Option<Journal>,
     ghost full: { IsFull table.words },
     ghost slotless: { slots_len table.slots ≡ 0 },
 }
@@ -23,7 +26,9 @@ impl Drop for Closed {
             table,
             decisions: _,
             counts: _,
+            journal,
         } = self;
+        drop(journal);
         table.free();
     }
 }
@@ -35,6 +40,7 @@ impl Closed {
     ghost use Rattle.op_words.specs.declared.trail.View.{View};
     ghost use Rattle.op_words.specs.Closing.{IsClosed};
     ghost use Rattle.op_words.specs.Hands.{counts_of};
+    ghost use Rattle.op_words.specs.Journals.{IsJournalOf};
 
     /// The word of an operation.
     pub fn word(&self, op: u32) -> OpWord
@@ -59,6 +65,21 @@ impl Closed {
     {
         let word = self.table.word(self.decisions + event as usize);
         if word == 0 { None } else { Some(word == 1) }
+    }
+
+    /// The steps that the root wrote down, in order; none where it kept no journal. Where it was the only hand made the
+    /// machine takes them one after another, and where there was room for more they are all.
+    pub fn journal(&self) -> &[CoreEvent]
+        ensures few { (p : Plan) (cap counters : ℕ) (v : View) → IsClosed p cap counters v self.now
+            → length result.now ≤ v.room }
+        ensures leads { (p : Plan) (cap counters : ℕ) (v : View)
+            (is : IsClosed p cap counters v self.now) → v.made ≡ 1
+            → IsJournalOf p cap v.room result.now is.ends.core }
+    {
+        match &self.journal {
+            Some(journal) => journal.steps(),
+            None => &[],
+        }
     }
 
     /// How many operations all hands evaluated, spread and rolled back.

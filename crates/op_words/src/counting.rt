@@ -19,3 +19,12 @@ impl Play<(), Option<View>> for Pass {
 
     ghost then = { passes };
 }
+
+/// A step that leaves the level word as it is, and tells the room of the hand's journal.
+pub(crate) struct Fit;
+
+impl Play<(), Option<View>> for Fit {
+    ghost use Rattle.op_words.specs.Counting.{fits};
+
+    ghost then = { fits };
+}

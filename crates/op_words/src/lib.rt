@@ -6,11 +6,13 @@ mod answers;
 mod board;
 mod closed;
 mod counting;
+mod journal;
 pub mod laws;
 mod places;
 mod rule;
 mod trail;
 mod words;
+mod writing;
 
 pub use answers::{
     Claimed, Counts, Decided, Fetched, Outcome, Readied, Rolled, SettleAnswer, Spreaded, Verdict,

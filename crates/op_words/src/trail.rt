@@ -54,7 +54,7 @@ pub struct View {
     pub tag: u64,
     /// Of the root, how many hands were made, itself counted; of each other hand 0.
     pub made: u64,
-    /// A number that no call of this crate changes: 0 in every new hand.
+    /// How many of its steps it has room for in its journal: 0 where it keeps none.
     pub room: u64,
     /// What it holds.
     pub claim: Option<Held>,

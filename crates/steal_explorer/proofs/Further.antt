@@ -15,6 +15,7 @@ calls_further p cap (Asked o ∷ cs) a b calls =
     further_then a calls.0 b (calls_further p cap cs a calls.0 calls.1) (record {
       tag = does.goes.adds.tag;
       made = does.goes.adds.made;
+      room = does.goes.adds.room;
       joined = does.goes.adds.joined;
       words = does.words;
       trail = does.goes.adds.trail;
@@ -27,6 +28,7 @@ calls_further p cap (Tried o ∷ cs) a b calls =
     further_then a calls.0 b (calls_further p cap cs a calls.0 calls.1) (record {
       tag = does.goes.adds.tag;
       made = does.goes.adds.made;
+      room = does.goes.adds.room;
       joined = does.goes.adds.joined;
       words = does.words;
       trail = does.goes.adds.trail;
@@ -39,6 +41,7 @@ calls_further p cap (Swept g ∷ cs) a b calls =
     further_then a calls.0 b (calls_further p cap cs a calls.0 calls.1) (record {
       tag = does.goes.adds.tag;
       made = does.goes.adds.made;
+      room = does.goes.adds.room;
       joined = does.goes.adds.joined;
       words = does.words;
       trail = does.goes.adds.trail;

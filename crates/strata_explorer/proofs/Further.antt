@@ -20,6 +20,7 @@ calls_further p cap abort [] a b calls = same_further a b calls
 calls_further p cap abort (Took c n ∷ cs) a b calls = further_then a calls.0 b (calls_further p cap abort cs a calls.0 calls.1) (record {
   tag = ap (λ (v : View). v.tag) calls.2.view_is;
   made = ap (λ (v : View). v.made) calls.2.view_is;
+  room = ap (λ (v : View). v.room) calls.2.view_is;
   joined = ap (λ (v : View). v.joined) calls.2.view_is;
   words = [];
   trail = ap (λ (v : View). v.trail) calls.2.view_is ∙ no_more (hand_view calls.0).trail;
@@ -32,6 +33,7 @@ calls_further p cap abort (Tried o ∷ cs) a b calls =
     further_then a calls.0 b (calls_further p cap abort cs a calls.0 calls.1) (record {
       tag = does.goes.adds.tag;
       made = does.goes.adds.made;
+      room = does.goes.adds.room;
       joined = does.goes.adds.joined;
       words = does.words;
       trail = does.goes.adds.trail;

@@ -54,6 +54,7 @@ impl Board {
             made: 1,
             held: None,
             counts: Counts::none(),
+            journal: None,
         };
         Ok((Board { table, cap, level }, root))
     }
@@ -92,6 +93,7 @@ impl Board {
             made: 0,
             held: None,
             counts: Counts::none(),
+            journal: None,
         }
     }
 

@@ -4,7 +4,7 @@ ghost use Rattle.morph_base.specs.declared.limits.TheConstants.{MAX};
 ghost use Rattle.morph_base.specs.Plans.{op_count};
 ghost use Rattle.morph_base.specs.Words.{IsWord};
 ghost use Rattle.interleaving_core.specs.Core.{blocked as blocked_at, spread as spread_at};
-ghost use Rattle.op_words.specs.Views.{last_place, spreading, rolling_back};
+ghost use Rattle.op_words.specs.Views.{last_op, last_place, spreading, rolling_back};
 ghost use Rattle.op_words.specs.Stepping.{Swapped};
 ghost use Rattle.op_words.specs.Grounds.{HasGroundsToSpread, HasGroundsToRoll};
 ghost use Rattle.op_words.specs.Hands.{plan_of, cap_of, view_of, IsHandOf};
@@ -13,6 +13,8 @@ use super::{Board, Hand};
 use crate::answers::Counts;
 use crate::rule::{Roll, Spread};
 use crate::words::{blocked, spread};
+use crate::writing::note;
+use interleaving_core::CoreEvent;
 use morph_base::OpWord;
 
 impl Board {
@@ -24,6 +26,7 @@ impl Board {
         op: u32,
         word: OpWord,
         value: u64,
+        sibling: u32,
     ) -> Option<OpWord>
         requires hand { IsHandOf self.now hand.old }
         requires in_range { op < op_count (plan_of self.now) }
@@ -31,6 +34,7 @@ impl Board {
         requires value { value ≤ MAX }
         requires grounds { HasGroundsToSpread (plan_of self.now) (cap_of self.now) op
             (view_of hand.old) word value }
+        requires sibling { sibling ≡ last_op 0 (view_of hand.old).notes }
         ensures { let new = spread_at (word.attempt + 1) value in
             Swapped self.now op hand.old hand.new word (spreading op new (view_of hand.old)) new result }
     {
@@ -45,6 +49,7 @@ impl Board {
                 spread: 1,
                 rolled: 0,
             });
+            note(&mut hand.journal, CoreEvent::Spread { op, sibling });
             return None;
         }
         let Some(word) = OpWord::unpack(found) else {
@@ -55,13 +60,20 @@ impl Board {
 
     /// The exchange of a word with a value for blocked, at the next attempt; the word that was found, where it was
     /// another.
-    pub(super) fn leave_blocked(&self, hand: &mut Hand, op: u32, word: OpWord) -> Option<OpWord>
+    pub(super) fn leave_blocked(
+        &self,
+        hand: &mut Hand,
+        op: u32,
+        word: OpWord,
+        j: u8,
+    ) -> Option<OpWord>
         requires hand { IsHandOf self.now hand.old }
         requires in_range { op < op_count (plan_of self.now) }
         requires word { IsWord word }
         requires grounds { HasGroundsToRoll (plan_of self.now) (cap_of self.now) op
             (view_of hand.old) word
             (last_place 0 (view_of hand.old).records) }
+        requires place { j ≡ last_place 0 (view_of hand.old).records }
         ensures { Swapped self.now op hand.old hand.new word
             (rolling_back op (word.attempt + 1) (view_of hand.old))
             (blocked_at (word.attempt + 1)) result }
@@ -77,6 +89,7 @@ impl Board {
                 spread: 0,
                 rolled: 1,
             });
+            note(&mut hand.journal, CoreEvent::RollBack { op, j });
             return None;
         }
         let Some(word) = OpWord::unpack(found) else {

@@ -18,11 +18,17 @@ impl Board {
     {
         let decisions = self.level - plan.events.len();
         let Board { table, .. } = self;
-        let Hand { seat, counts, .. } = root;
+        let Hand {
+            seat,
+            counts,
+            journal,
+            ..
+        } = root;
         Closed {
             table: table.close_with(seat),
             decisions,
             counts,
+            journal,
         }
     }
 }

@@ -9,6 +9,8 @@ use super::{Board, Hand};
 use crate::answers::{Decided, Verdict};
 use crate::rule::Decide;
 use crate::words::{decision_of, pack_decision};
+use crate::writing::note;
+use interleaving_core::CoreEvent;
 use morph_base::Plan;
 
 impl Board {
@@ -91,6 +93,10 @@ impl Board {
             .table
             .shared
             .compare_exchange::<Decide>(&mut hand.seat, place, 0, new);
+        if found == 0 {
+            note(&mut hand.journal, CoreEvent::Decide { event, committed });
+            return committed;
+        }
         decision_of(found).unwrap_or(committed)
     }
 }

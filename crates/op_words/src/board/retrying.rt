@@ -33,7 +33,7 @@ impl Board {
         }
         let kept = self.recall(hand, plan, op, 0);
         self.look(hand, sibling);
-        match self.leave_spread(hand, op, word, kept) {
+        match self.leave_spread(hand, op, word, kept, sibling) {
             None => Spreaded::Done,
             Some(word) => Spreaded::Not { word },
         }
@@ -93,7 +93,7 @@ impl Board {
                 word: stop.word,
             };
         }
-        match self.leave_blocked(hand, op, word) {
+        match self.leave_blocked(hand, op, word, j) {
             None => Rolled::Done,
             Some(word) => Rolled::Not { at: op, word },
         }

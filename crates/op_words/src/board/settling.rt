@@ -13,6 +13,8 @@ use super::{Board, Hand};
 use crate::answers::{Compared, SettleAnswer};
 use crate::rule::Settle;
 use crate::words::{is_in, settled, settled_aborted};
+use crate::writing::note;
+use interleaving_core::CoreEvent;
 use morph_base::{OpState, OpWord, Plan};
 
 impl Board {
@@ -132,6 +134,7 @@ impl Board {
             .shared
             .compare_exchange::<Settle>(&mut hand.seat, op as usize, first, second);
         if found == first {
+            note(&mut hand.journal, CoreEvent::Settle { op, by: hand.tag });
             return SettleAnswer::Done(new.value);
         }
         let Some(word) = OpWord::unpack(found) else {

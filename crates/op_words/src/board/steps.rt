@@ -1,12 +1,12 @@
 //! The single steps of a hand on the table.
-ghost use Rattle.std.specs.Prelude.{◌≡◌, ℕ, ◌≤◌, ◌<◌, List, length, Some, None};
+ghost use Rattle.std.specs.Prelude.{◌≡◌, ℕ, ◌≤◌, ◌<◌, List, [], length, Some, None};
 ghost use Rattle.morph_base.specs.declared.limits.TheConstants.{MAX};
 ghost use Rattle.morph_base.specs.Plans.{op_at, op_count, origin_at};
 ghost use Rattle.morph_base.specs.Words.{IsWord};
 ghost use Rattle.interleaving_core.specs.Core.{blocked as blocked_at, ready as ready_at, claimed as claimed_at, finished, places};
 ghost use Rattle.op_words.specs.declared.trail.View.{View as V};
 ghost use Rattle.op_words.specs.Trails.{left};
-ghost use Rattle.op_words.specs.Views.{Holds, making, claiming, finishing, giving_back};
+ghost use Rattle.op_words.specs.Views.{Holds, IsLone, making, claiming, finishing, giving_back};
 ghost use Rattle.op_words.specs.Plays.{IsTold};
 ghost use Rattle.op_words.specs.Stepping.{IsUsable, Kept, Looked, Left, Swapped};
 ghost use Rattle.op_words.specs.Hands.{plan_of, cap_of, view_of, IsHandOf};
@@ -16,7 +16,9 @@ use crate::answers::Counts;
 use crate::rule::{Claim, End, Give, Keep, Look, Make, Tell};
 use crate::trail::View;
 use crate::words::{blocked, claimed, pack_record, ready};
+use crate::writing::note;
 use atomic_table::Seat;
+use interleaving_core::CoreEvent;
 use morph_base::{OpWord, Plan, READS};
 
 impl Board {
@@ -37,6 +39,7 @@ impl Board {
         ensures table { seat.new.table_id ≡ seat.old.table_id }
         ensures same { seat.new.me ≡ seat.old.me }
         ensures told { (v : V) → seat.old.me.0 ≡ Some v → IsTold v }
+        ensures lone { (v : V) → seat.old.me.0 ≡ Some v → IsLone v → v.joined ≡ [] }
     {
         self.table.shared.load::<Tell>(seat, 0);
     }
@@ -55,6 +58,7 @@ impl Board {
             .shared
             .compare_exchange::<Make>(&mut hand.seat, op as usize, first, new);
         if found == first {
+            note(&mut hand.journal, CoreEvent::Ready { op });
             return None;
         }
         let Some(word) = OpWord::unpack(found) else {
@@ -85,6 +89,7 @@ impl Board {
                 count: 0,
                 values: [0; READS],
             });
+            note(&mut hand.journal, CoreEvent::Claim { op, by: hand.tag });
             return None;
         }
         let Some(word) = OpWord::unpack(found) else {
@@ -107,6 +112,7 @@ impl Board {
             .shared
             .store::<Give>(&mut hand.seat, op as usize, word);
         hand.held = None;
+        note(&mut hand.journal, CoreEvent::GiveBack { op, by: hand.tag });
     }
 
     /// The store of a record: the next place of the operation that the hand holds gets the value.
@@ -127,10 +133,17 @@ impl Board {
         };
         let place = holding.op as usize * READS + holding.count as usize;
         let record = pack_record(value, holding.attempt);
+        let step = CoreEvent::Fetch {
+            op: holding.op,
+            j: holding.count,
+            by: hand.tag,
+            value,
+        };
         holding.put(value);
         self.table
             .shared
             .store::<Keep>(&mut hand.seat, plan.ops.len() + place, record);
+        note(&mut hand.journal, step);
     }
 
     /// Claimed becomes executed or failed, by the hand that holds the operation: nobody else changes its word
@@ -156,5 +169,6 @@ impl Board {
             spread: 0,
             rolled: 0,
         });
+        note(&mut hand.journal, CoreEvent::Finish { op, by: hand.tag });
     }
 }

@@ -48,3 +48,6 @@ returns-clause-prepared c =
       supply = subst (λ n. IsSupply c.args.plan.now n c.in_ok-supply.supply) (sym c.in_ok-runners.ensures.new.len) c.in_ok-supply.ensures.ready;
       room = c.in_ok-room.ensures;
     }
+
+pub returns-clause-journal : goal.returns-clause-journal
+returns-clause-journal c = λ d. ap (λ (v : View). v.room) (c.in_ok-runners.ensures.new.root d) ∙ ap (λ (v : View). v.room) c.in_ok-board.ensures.view

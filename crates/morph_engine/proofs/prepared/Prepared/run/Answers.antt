@@ -13,7 +13,7 @@ use Rattle.abort_lazy.specs.Runs.{AreSettling, root_view}
 use Rattle.morph_engine.specs.Caps.{cap_for}
 use Rattle.morph_engine.specs.Exploring.{explore_of}
 use Rattle.morph_engine.proofs.Caps.{cap_some}
-use Rattle.morph_engine.proofs.Ending.{some_runner, all_made, begun, closed_at, some_after, has_run}
+use Rattle.morph_engine.proofs.Ending.{some_runner, all_made, begun, closed_at, some_after, has_run, kept_run}
 use Rattle.morph_engine.proofs.EventLevels.{small_event_levels}
 use Rattle.morph_engine.proofs.prepared.Prepared.run.Goals as goal
 
@@ -80,3 +80,22 @@ returns-clause-ran g c =
     (subst (λ board. AreSettling board p e.next_counter (length p.event_levels.items) (runners_of e.runners) rs) (sym c.settle_all.ensures.board) settling)) is)
     c.finish-settled.result.by.items (c.finish-settled.ensures.tags cap (counters_of b) (root_view d rs) is)
     (explore_of x.supply) tallied.handed tallied.stolen told.way
+
+pub returns-clause-kept : goal.returns-clause-kept
+returns-clause-kept g c = λ room fits one.
+    let p : Plan = c.args.plan.now in
+    let x = c.args.self in
+    let cap = cap_for x.abort in
+    let e = c.explore_by-explored.result.0 in
+    let told = c.explore_by-explored.ensures in
+    let b = c.settle_all.result.board in
+    let rs = runners_of c.settle_all.result.runners in
+    let closed = c.close-closed.result.0 in
+    let settling = c.settle_all.ensures.settled in
+    let by_root = c.settle_all.ensures.alone in
+    let same = c.settle_all.ensures.board in
+    let some = some_after p c.requires.valid x c.requires.prepared e rs told.explored told.plan told.cap told.hands told.ran settling by_root in
+    let d : Runner = some_runner rs some in
+    let is : IsClosed p cap (counters_of b) (root_view d rs) closed =
+    closed_at p cap b (counters_of b) (root_view d rs) closed (ap plan_of same ∙ told.plan ∙ c.requires.prepared.plan) (ap cap_of same ∙ told.cap ∙ c.requires.prepared.cap) (c.close-closed.ensures.closed d) in
+    kept_run p c.requires.valid x c.requires.prepared e rs told.explored told.plan told.cap told.hands told.ran settling by_root room fits one (counters_of b) closed is

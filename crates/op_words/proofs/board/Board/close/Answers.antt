@@ -20,4 +20,5 @@ returns c = record {
       let many : c.len.result ≡ event_count (plan_of c.args.self) = c.len.ensures ∙ ap (λ (p : Plan). event_count p) c.requires.plan in
       omega (arith, level, many);
   counts = c.requires.root.counts;
+  journal = c.requires.root.journal;
 }

@@ -15,7 +15,7 @@ returns-in-Some-clause-does c =
 pub returns-in-NotYet-clause-does : goal.returns-in-NotYet-clause-does
 returns-in-NotYet-clause-does c =
     let b = c.args.self.now in let p = c.args.plan.now in let i = c.args.event in
-    undecided b p (cap_of b) i c.requires.plan c.args.hand.now c.learn.new.hand (subst (Learned b i c.args.hand.now c.learn.new.hand) c.in_default.is c.learn.ensures) c.requires.hand c.grounds.new.hand _ _ c.in-NotYet.op c.in-NotYet.word
+    undecided b p (cap_of b) i c.requires.plan c.args.hand.now c.learn.new.hand (subst (Learned b i c.args.hand.now c.learn.new.hand) c.in_default.is c.learn.ensures) c.requires.hand c.grounds.new.hand c.in-NotYet.op c.in-NotYet.word
     (subst (HasGrounds b p (cap_of b) i (event_at p i).first ((event_at p i).first + (event_at p i).count) c.learn.new.hand c.grounds.new.hand) c.in-NotYet.is c.grounds.ensures)
 
 pub returns-clause-does : goal.returns-clause-does

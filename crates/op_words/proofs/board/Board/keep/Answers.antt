@@ -50,5 +50,5 @@ returns c = λ o a xs holds.
     let attempt = (held_parts c.args.hand.now c.in-Some.holding o a xs (kept h) c.in-Some.is holds).1 in
     let done = c.store.ensures.2 (view_of c.args.hand.now) (ap (λ (m : Sat). m.0) h.seat) (record { op = o; attempt = a; values = xs }) holds c.args.value
     (c.pack_record-record.ensures ∙ ap (λ (n : ℕ). packed_record (Some (record { value = c.args.value; attempt = n }))) attempt) in
-    kept_hand c.args.self.now c.args.hand.now h c.in-Some.holding c.in-Some.is o a xs holds _ c.put.new.self c.args.value c.store.ensures.0 done.0 done.1 refl refl refl refl
+    kept_hand c.args.self.now c.args.hand.now h c.in-Some.holding c.in-Some.is o a xs holds _ c.put.new.self c.args.value c.store.ensures.0 done.0 done.1 refl refl refl (record { room = c.note.ensures.room; steps = c.note.ensures.steps }) refl
     c.put.ensures.op c.put.ensures.attempt c.put.ensures.values c.put.ensures.fits

@@ -26,5 +26,5 @@ returns c =
     let b = c.args.self.now in
     let at = decision_place (plan_of b) c.args.plan.now c.args.event b.level c.len.result c.requires.plan b.leveled c.len.ensures in
     let t = learn_told b c.args.hand.now c.requires.hand (plan_of b) refl c.load-n.result c.load-n.new.seat.me c.args.event _ (subst (λ (q : Plan). c.args.event < event_count q) c.requires.plan c.requires.in_range) (sym at) c.load-n.ensures.2 in
-    learned_hand b c.args.hand.now _ c.requires.hand c.load-n.ensures.0 refl refl refl refl c.args.event c.decision_of.result (subst (IsDecision (view_of c.args.hand.now).plan.value (view_of c.args.hand.now) c.args.event) (sym (c.decision_of.ensures t.0 t.1)) t.2)
+    learned_hand b c.args.hand.now _ c.requires.hand c.load-n.ensures.0 refl refl refl refl refl c.args.event c.decision_of.result (subst (IsDecision (view_of c.args.hand.now).plan.value (view_of c.args.hand.now) c.args.event) (sym (c.decision_of.ensures t.0 t.1)) t.2)
     (t.3 ∙ ap (λ (d : Option Bool). (Some (learning c.args.event d (view_of c.args.hand.now)), c.args.hand.now.seat.me.1)) (sym (c.decision_of.ensures t.0 t.1)))

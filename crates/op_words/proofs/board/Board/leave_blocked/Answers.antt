@@ -1,4 +1,6 @@
-use Rattle.std.proofs.Common.{◌≡◌, ℕ, ◌+◌, ap, arith, sym, subst, refl, ◌∙◌}
+use Rattle.interleaving_core.specs.declared.event.CoreEvent.TheVariants.{RollBack}
+use Rattle.op_words.specs.Journals.{room_in, steps_in}
+use Rattle.std.proofs.Common.{◌≡◌, ℕ, ◌+◌, ap, arith, sym, subst, refl, ◌∙◌, take, ◌∷◌, ◌++◌, []}
 use prog.Atomic.{either}
 use mathlib.Core.Option.{none}
 use Rattle.std.specs.Prelude.{◌==◌}
@@ -32,7 +34,8 @@ returns-then-found-first c =
     let swaps = c.compare_exchange-found.ensures.2 _ (ap (λ (m : Sat). m.0) h.seat) (c.args.word.attempt + 1) (c.pack-new.ensures ∙ ap packed c.blocked.ensures) in
     let counts = c.and-hand.ensures in
     swap_left c.args.self.now c.args.hand.now _ h c.compare_exchange-found.ensures.0 _ _ _ (rolling_back c.args.op (c.args.word.attempt + 1) (view_of c.args.hand.now)) (blocked (c.args.word.attempt + 1)) swaps c.if-found-first.true refl refl
-    (kept_rolled c.args.hand.now _ (kept h) refl refl refl c.args.op (c.args.word.attempt + 1) counts.evaluated counts.spread counts.rolled)
+    (kept_rolled c.args.hand.now _ (kept h) refl refl refl c.args.op (c.args.word.attempt + 1) counts.evaluated counts.spread counts.rolled
+    (record { room = c.note.ensures.room; steps = c.note.ensures.steps ∙ ap (λ (j : ℕ). take (room_in c.args.hand.now.journal) (steps_in c.args.hand.now.journal ++ RollBack c.args.op j ∷ [])) c.requires.place }))
 
 pub unreachable-requires : goal.unreachable-requires
 unreachable-requires c =
@@ -46,4 +49,4 @@ returns c =
     let h = c.requires.hand in
     let swaps = c.compare_exchange-found.ensures.2 _ (ap (λ (m : Sat). m.0) h.seat) (c.args.word.attempt + 1) (c.pack-new.ensures ∙ ap packed c.blocked.ensures) in
     swap_found c.args.self.now c.args.hand.now _ h c.compare_exchange-found.ensures.0 _ _ _ (rolling_back c.args.op (c.args.word.attempt + 1) (view_of c.args.hand.now)) (blocked (c.args.word.attempt + 1)) swaps c.if-found-first.false
-    c.in-Some.word c.args.word c.in-Some.ensures.word.0 c.in-Some.ensures.word.1 c.pack-first.ensures refl refl refl refl
+    c.in-Some.word c.args.word c.in-Some.ensures.word.0 c.in-Some.ensures.word.1 c.pack-first.ensures refl refl refl refl refl

@@ -1,4 +1,6 @@
-use Rattle.std.proofs.Common.{◌≡◌, ℕ, ◌+◌, ap, arith, sym, subst, refl, ◌∙◌}
+use Rattle.interleaving_core.specs.declared.event.CoreEvent.TheVariants.{Spread as SpreadStep}
+use Rattle.op_words.specs.Journals.{room_in, steps_in}
+use Rattle.std.proofs.Common.{◌≡◌, ℕ, ◌+◌, ap, arith, sym, subst, refl, ◌∙◌, take, ◌∷◌, ◌++◌, []}
 use prog.Atomic.{either}
 use mathlib.Core.Option.{none}
 use Rattle.std.specs.Prelude.{◌==◌}
@@ -34,7 +36,8 @@ returns-then-found-first c =
     let swaps = c.compare_exchange-found.ensures.2 _ (ap (λ (m : Sat). m.0) h.seat) (spread (c.args.word.attempt + 1) c.args.value) word (c.pack-new.ensures ∙ ap packed c.spread.ensures) in
     let counts = c.and-hand.ensures in
     swap_left c.args.self.now c.args.hand.now _ h c.compare_exchange-found.ensures.0 _ _ _ (spreading c.args.op (spread (c.args.word.attempt + 1) c.args.value) (view_of c.args.hand.now)) (spread (c.args.word.attempt + 1) c.args.value) swaps c.if-found-first.true refl refl
-    (kept_spread c.args.hand.now _ (kept h) refl refl refl c.args.op (spread (c.args.word.attempt + 1) c.args.value) counts.evaluated counts.spread counts.rolled)
+    (kept_spread c.args.hand.now _ (kept h) refl refl refl c.args.op (spread (c.args.word.attempt + 1) c.args.value) counts.evaluated counts.spread counts.rolled
+    (record { room = c.note.ensures.room; steps = c.note.ensures.steps ∙ ap (λ (s : ℕ). take (room_in c.args.hand.now.journal) (steps_in c.args.hand.now.journal ++ SpreadStep c.args.op s ∷ [])) c.requires.sibling }))
 
 pub unreachable-requires : goal.unreachable-requires
 unreachable-requires c =
@@ -50,4 +53,4 @@ returns c =
     let word = word_spread c.args.word (cap_of c.args.self.now) c.args.value c.requires.word c.requires.grounds.below h.small c.requires.value in
     let swaps = c.compare_exchange-found.ensures.2 _ (ap (λ (m : Sat). m.0) h.seat) (spread (c.args.word.attempt + 1) c.args.value) word (c.pack-new.ensures ∙ ap packed c.spread.ensures) in
     swap_found c.args.self.now c.args.hand.now _ h c.compare_exchange-found.ensures.0 _ _ _ (spreading c.args.op (spread (c.args.word.attempt + 1) c.args.value) (view_of c.args.hand.now)) (spread (c.args.word.attempt + 1) c.args.value) swaps c.if-found-first.false
-    c.in-Some.word c.args.word c.in-Some.ensures.word.0 c.in-Some.ensures.word.1 c.pack-first.ensures refl refl refl refl
+    c.in-Some.word c.args.word c.in-Some.ensures.word.0 c.in-Some.ensures.word.1 c.pack-first.ensures refl refl refl refl refl

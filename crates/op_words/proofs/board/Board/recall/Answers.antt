@@ -36,5 +36,5 @@ pub returns : goal.returns
 returns c =
     let place = record_place c.args.plan.now c.args.plan.now c.args.op c.args.j c.len.result refl c.len.ensures in
     let t = recall_told c.args.self.now c.args.hand.now c.requires.hand c.args.plan.now c.requires.plan c.load-n.result c.load-n.new.seat.me c.args.op c.args.j _ c.requires.in_range c.requires.in_places (sym place) c.load-n.ensures.2 in
-    recalled_hand c.args.self.now c.args.hand.now _ c.requires.hand c.load-n.ensures.0 refl refl refl refl c.args.op c.args.j c.value_of_record.result (subst (λ (x : ℕ). x ≤ MAX) (sym (c.value_of_record.ensures t.0 t.1 t.2)) t.1)
+    recalled_hand c.args.self.now c.args.hand.now _ c.requires.hand c.load-n.ensures.0 refl refl refl refl refl c.args.op c.args.j c.value_of_record.result (subst (λ (x : ℕ). x ≤ MAX) (sym (c.value_of_record.ensures t.0 t.1 t.2)) t.1)
     (t.3 ∙ ap (λ (x : ℕ). (Some (recalling c.args.op c.args.j x (view_of c.args.hand.now)), c.args.hand.now.seat.me.1)) (sym (c.value_of_record.ensures t.0 t.1 t.2)))

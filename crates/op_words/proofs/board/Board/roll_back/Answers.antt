@@ -1,6 +1,7 @@
-use Rattle.std.proofs.Common.{◌∙◌, ℕ, ◌++◌, [], sym, subst, inl, inr}
+use Rattle.std.proofs.Common.{◌≡◌, ◌∙◌, ℕ, ◌++◌, [], sym, subst, inl, inr}
 use Rattle.std.proofs.lemmas.Bool.{false≢true}
 use Rattle.std.proofs.lemmas.List.Elements.{Contains-append_right}
+use Rattle.morph_base.specs.declared.word.OpState.TheVariants.{Spread}
 use Rattle.morph_base.specs.declared.word.OpWord.{OpWord}
 use Rattle.morph_base.specs.declared.plan.Plan.{Plan}
 use Rattle.morph_base.specs.Plans.{IsPlan}
@@ -11,7 +12,7 @@ use Rattle.op_words.specs.Trails.{loaded}
 use Rattle.op_words.specs.Views.{IsRecordSeen, last_place}
 use Rattle.op_words.proofs.Seeking.{source_other}
 use Rattle.op_words.proofs.Walking.{walk_row}
-use Rattle.op_words.proofs.Rolling.{not_rolled, source_stops, found_unrolled, found_fresh, rolled_done, walk_source, record_rolled, source_read, source_known, walk_sources, grounds_roll}
+use Rattle.op_words.proofs.Rolling.{not_rolled, source_stops, found_unrolled, found_fresh, rolled_done, walk_source, record_rolled, source_read, source_known, walk_sources, place_is, spread_aside, grounds_roll}
 use Rattle.op_words.proofs.board.Board.roll_back.Goals as goal
 
 pub returns-then-not-may_roll-clause-does : goal.returns-then-not-may_roll-clause-does
@@ -61,7 +62,9 @@ returns-in-Some-clause-does c =
     found.tells.source (Contains-append_right (d.words ++ []) found.words (loaded stop.source stop.word) found.tells.inside) found.tells.settled
     (elim (c.needs_settled-needed.ensures.0 found.tells.asked) [
       | inl at_cap ↦ inr (inl at_cap)
-      | inr same ↦ inr (inr (elim wrong [ inl differs ↦ absurd (differs same) | inr spread ↦ spread ]))
+      | inr same ↦
+          let spread : w.state ≡ Spread = elim wrong [ inl differs ↦ absurd (differs same) | inr spread ↦ spread ] in
+          inr (inr (spread_aside b p o j h g k m w kept x c.is_at_cap.result c.requires.free c.look-word.ensures d c.recall-kept.ensures c.needs_settled-needed.result found spread same))
     ])
 
 pub leave_blocked-requires-clause-grounds : goal.leave_blocked-requires-clause-grounds
@@ -72,6 +75,12 @@ leave_blocked-requires-clause-grounds c =
     subst (λ (q : Plan). HasGroundsToRoll q (cap_of b) o (view_of c.open_source.new.hand) w (last_place 0 (view_of c.open_source.new.hand).records)) c.requires.plan
     (grounds_roll b p o j h g k m w kept x c.is_at_cap.result c.requires.free c.look-word.ensures d c.recall-kept.ensures c.needs_settled-needed.result c.open_source.ensures c.in_default.is
     c.requires.in_places may.0 may.1 c.is_at_cap.ensures.1 c.needs_settled-needed.ensures.1 (c.is_right.ensures.wrong c.if-is_right.false))
+
+pub leave_blocked-requires-clause-place : goal.leave_blocked-requires-clause-place
+leave_blocked-requires-clause-place c =
+    let b = c.args.self.now in let p = c.args.plan.now in let o = c.args.op in let j = c.args.j in
+    let h = c.args.hand.now in let g = c.look-word.new.hand in let k = c.source_value.new.hand in let m = c.recall-kept.new.hand in let w = c.look-word.result in
+    sym (place_is b p o j h g k m w c.recall-kept.result c.in-Ok.value c.is_at_cap.result c.requires.free c.look-word.ensures c.in-Ok.ensures c.recall-kept.ensures c.needs_settled-needed.result c.open_source.ensures)
 
 pub returns-in-None-clause-does : goal.returns-in-None-clause-does
 returns-in-None-clause-does c =

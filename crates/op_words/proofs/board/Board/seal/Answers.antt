@@ -1,4 +1,5 @@
-use Rattle.std.proofs.Common.{◌≡◌, ℕ, ap, arith, sym, subst, refl, ◌∙◌}
+use Rattle.op_words.specs.Journals.{room_in, steps_in}
+use Rattle.std.proofs.Common.{◌≡◌, ℕ, ap, arith, sym, subst, refl, ◌∙◌, take, ◌∷◌, ◌++◌, []}
 use prog.Atomic.{either}
 use mathlib.Core.Option.{none}
 use Rattle.std.specs.Prelude.{◌==◌}
@@ -33,7 +34,7 @@ returns-then-found-first c =
     let h = c.requires.hand in let v = view_of c.args.hand.now in
     let t = c.compare_exchange-found.ensures.2 v (ap (λ (m : Sat). m.0) h.seat) c.args.new c.requires.new c.pack-second.ensures in
     let step = swap_left c.args.self.now c.args.hand.now _ h c.compare_exchange-found.ensures.0 _ _ _ (settling c.args.op c.args.new v) c.args.new t.0 c.if-found-first.true refl refl
-    (kept_step c.args.hand.now _ _ (Settle c.args.op v.tag) (kept h) refl refl refl refl refl refl refl refl refl h.held h.fits) in
+    (kept_step c.args.hand.now _ _ (Settle c.args.op v.tag) (kept h) refl refl refl (record { room = c.note.ensures.room; steps = c.note.ensures.steps ∙ ap (λ (t : ℕ). take (room_in c.args.hand.now.journal) (steps_in c.args.hand.now.journal ++ Settle c.args.op t ∷ [])) h.tag }) refl refl refl refl refl refl refl h.held h.fits) in
     record { hand = step.hand; tells = (step, refl, t.1 c.if-found-first.true ∙ ap (λ (q : Plan). final q c.args.op) h.plan) }
 
 pub unreachable-requires : goal.unreachable-requires
@@ -48,5 +49,5 @@ returns c =
     let h = c.requires.hand in let v = view_of c.args.hand.now in
     let t = c.compare_exchange-found.ensures.2 v (ap (λ (m : Sat). m.0) h.seat) c.args.new c.requires.new c.pack-second.ensures in
     let found = swap_found c.args.self.now c.args.hand.now _ h c.compare_exchange-found.ensures.0 _ _ _ (settling c.args.op c.args.new v) c.args.new t.0 c.if-found-first.false
-    c.in-Some.word c.args.word c.in-Some.ensures.word.0 c.in-Some.ensures.word.1 c.pack-first.ensures refl refl refl refl in
+    c.in-Some.word c.args.word c.in-Some.ensures.word.0 c.in-Some.ensures.word.1 c.pack-first.ensures refl refl refl refl refl in
     record { hand = found.1.hand; tells = (refl, found.0, found.1) }

@@ -15,9 +15,9 @@ pub returns-clause-root : goal.returns-clause-root
 returns-clause-root c =
     let h = c.requires.hand in let s = c.split_seat-seat.ensures in
     still c.args.self.now c.args.root.now _ (parent (view_of c.args.root.now)) h s.0 (s.2 ∙ ap (λ (m : Sat). (staying m.0, m.1)) h.seat) refl refl
-    (parent_kept c.args.root.now _ (kept h) c.requires.root refl refl refl refl) (parent_told _ h.counted h.told)
+    (parent_kept c.args.root.now _ (kept h) c.requires.root refl refl refl refl refl) (parent_told _ h.counted h.told)
 
 pub returns-clause-hand : goal.returns-clause-hand
 returns-clause-hand c =
     let h = c.requires.hand in let s = c.split_seat-seat.ensures in
-    child_hand c.args.self.now c.args.root.now _ h c.requires.root c.requires.few s.3 (s.4 ∙ ap (λ (m : Sat). (going m.0, [])) h.seat) refl refl refl c.none.ensures
+    child_hand c.args.self.now c.args.root.now _ h c.requires.root c.requires.few s.3 (s.4 ∙ ap (λ (m : Sat). (going m.0, [])) h.seat) refl refl refl c.none.ensures refl

@@ -1,8 +1,8 @@
-use Rattle.std.proofs.Common.{subst}
+use Rattle.std.proofs.Common.{sym, subst}
 use Rattle.morph_base.specs.declared.plan.Plan.{Plan}
 use Rattle.op_words.specs.Grounds.{HasGroundsToSpread}
 use Rattle.op_words.specs.Hands.{cap_of, view_of}
-use Rattle.op_words.proofs.Retrying.{not_spread, walk_spread, record_spread, grounds_spread, spread_done, found_unspread}
+use Rattle.op_words.proofs.Retrying.{not_spread, walk_spread, record_spread, sibling_last, grounds_spread, spread_done, found_unspread}
 use Rattle.op_words.proofs.board.Board.spread.Goals as goal
 
 pub returns-then-not-may_spread-clause-does : goal.returns-then-not-may_spread-clause-does
@@ -13,6 +13,9 @@ leave_spread-requires-clause-grounds c =
     let may = c.may_spread.ensures.may c.if-not-may_spread.false in
     subst (λ (p : Plan). HasGroundsToSpread p (cap_of c.args.self.now) c.args.op (view_of c.look.new.hand) c.look-word.result c.recall-kept.result) c.requires.plan
     (grounds_spread _ _ _ _ _ _ _ _ _ _ _ _ c.requires.free c.requires.sibling c.look-word.ensures c.recall-kept.ensures c.look.ensures may.0 may.1)
+
+pub leave_spread-requires-clause-sibling : goal.leave_spread-requires-clause-sibling
+leave_spread-requires-clause-sibling c = sym (sibling_last c.args.self.now c.args.plan.now (cap_of c.args.self.now) _ _ _ _ _ _ _ _ _ c.requires.free c.requires.sibling c.look-word.ensures c.recall-kept.ensures c.look.ensures)
 
 pub returns-in-None-clause-does : goal.returns-in-None-clause-does
 returns-in-None-clause-does c =

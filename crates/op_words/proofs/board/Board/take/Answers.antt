@@ -41,4 +41,4 @@ returns-clause-hand c =
     let index : c.args.self.now.level + 1 + c.args.counter ≡ counter_base (view_of c.args.hand.now).plan.value + c.args.counter = let p = ap counter_base h.plan in let l = c.args.self.now.leveled in omega (arith, p, l) in
     let t = c.fetch_add.ensures.2 (view_of c.args.hand.now) (ap (λ (m : Sat). m.0) h.seat) c.args.counter index in
     let u = taking c.args.counter c.fetch_add.result (view_of c.args.hand.now) in
-    still _ c.args.hand.now _ u h c.fetch_add.ensures.0 (t.1 ∙ ap (λ (m : Sat). (Some u, m.1)) h.seat) refl refl (taking_kept c.args.hand.now _ _ _ (kept h) refl refl refl refl) (taking_told _ _ _ h.told)
+    still _ c.args.hand.now _ u h c.fetch_add.ensures.0 (t.1 ∙ ap (λ (m : Sat). (Some u, m.1)) h.seat) refl refl (taking_kept c.args.hand.now _ _ _ (kept h) refl refl refl refl refl) (taking_told _ _ _ h.told)

@@ -12,3 +12,6 @@ returns-clause-same c = (c.load.ensures.2 c.requires.live.0 c.requires.live.1).0
 
 pub returns-clause-told : goal.returns-clause-told
 returns-clause-told c = λ v is. (c.load.ensures.2 v is).1
+
+pub returns-clause-lone : goal.returns-clause-lone
+returns-clause-lone c = λ v is. (c.load.ensures.2 v is).2

@@ -18,7 +18,7 @@ use Rattle.op_eval.specs.declared.runner.Runner.{Runner}
 use Rattle.op_eval.specs.Running.{hand_view}
 use Rattle.abort_lazy.specs.declared.run.sweeping.Call.{Call}
 use Rattle.abort_lazy.specs.declared.run.sweeping.Call.TheVariants.{Took, Tried}
-use Rattle.abort_lazy.specs.Sweeps.{IsThrough, Calls, Swept, AreSwept, IsEnough, FitsBoard, CanSweep, tried_by, taken_by, weight_at}
+use Rattle.abort_lazy.specs.Sweeps.{IsThrough, Calls, Swept, AreSwept, IsEnough, FitsBoard, CanSweep, shared_from, tried_by, taken_by, weight_at}
 use Rattle.abort_lazy.specs.Runs.{Rising, HasTried, IsSettling, AreSettling, events_of, event_in}
 use Rattle.abort_lazy.proofs.Alone.{settled_alone}
 use Rattle.abort_lazy.proofs.Levelling.{level_is, next_room, events_inside, events_few}
@@ -220,6 +220,30 @@ module _ (p : Plan) (valid : IsPlan p) (graph : IsGraph p) (from level : ℕ) (l
                 subst (λ n. old.0 < n) (sym swept.len) old.1,
                 λ d. let one-swept = swept.each old.0 d old.1 in enough_hold (from + l) (length (events_of p l)) one-swept.calls (slice_index_or rs old.0 d) (slice_index_or qs old.0 d) one-swept.made (old.2 d),
               )
+        ];
+    first = λ l less few k d above lt.
+        let before : k < length rs = subst (λ n. k < n) swept.len lt in
+        let one-swept = swept.each k d before in
+        elim (cases_eq l level) [
+          | inl same ↦
+              let few-now : length (events_of p level) < shared_from = subst (λ j. length (events_of p j) < shared_from) same few in
+              let old = settling.each k d before in
+              ap (λ (r : Runner). times (from + l) (hand_view r).places) (swept.first few-now k d above before) ∙ old.unused (from + l) (omega (arith, same))
+          | inr other ↦
+              calls_times p (from + l) (from + level) (λ same. absurd (omega (arith, less, other, same))) one-swept.calls (slice_index_or rs k d) (slice_index_or qs k d) one-swept.only one-swept.made
+              ∙ settling.first l (omega (arith, less, other)) few k d above before
+        ];
+    shared = λ l less many k d lt.
+        let before : k < length rs = subst (λ n. k < n) swept.len lt in
+        let one-swept = swept.each k d before in
+        elim (cases_eq l level) [
+          | inl same ↦
+              let many-now : shared_from ≤ length (events_of p level) = subst (λ j. shared_from ≤ length (events_of p j)) same many in
+              let through = swept.shared many-now k d before in
+              subst (λ j. IsEnough (from + j) (length (events_of p j)) (slice_index_or qs k d)) (sym same) through.enough
+          | inr other ↦
+              enough_hold (from + l) (length (events_of p l)) one-swept.calls (slice_index_or rs k d) (slice_index_or qs k d) one-swept.made
+              (settling.shared l (omega (arith, less, other)) many k d before)
         ];
     alone = λ only d lone.
         let some : 0 < length rs = (let len = settling.len in omega (arith, len, only)) in

@@ -41,6 +41,8 @@ settling_begins b p from rs valid plan counters explored = record {
         joined = refl;
       };
   enough = λ l less. absurd (omega (arith, less));
+  first = λ l less. absurd (omega (arith, less));
+  shared = λ l less. absurd (omega (arith, less));
   alone = λ only d lone. alone_begins p valid.plan valid.graph (slice_index_or (runners_of rs) 0 d);
 }
 

@@ -18,7 +18,7 @@ use Rattle.op_eval.specs.Exploring.{Unused}
 use Rattle.op_eval.specs.Running.{hand_view}
 use Rattle.abort_lazy.specs.declared.run.sweeping.Call.{Call}
 use Rattle.abort_lazy.specs.declared.run.sweeping.Call.TheVariants.{Took, Tried}
-use Rattle.abort_lazy.specs.Sweeps.{HasTaken, HasTriedOne, Swept, IsThrough, HasSwept, AreSwept, IsSweeping, CanSweep, tried_by, taken_by, weight_at}
+use Rattle.abort_lazy.specs.Sweeps.{HasTaken, HasTriedOne, Swept, IsThrough, HasSwept, AreSwept, IsSweeping, CanSweep, shared_from, tried_by, taken_by, weight_at}
 use Rattle.abort_lazy.proofs.Trying.{contains_first, contains_later, contains_cases, contains_none, calls_lone}
 
 times_one : (c n : ℕ) → times c (place c n ∷ []) ≡ 1
@@ -195,8 +195,8 @@ all_turns b p c events turn a r past sweeping = record {
 
 -- the first runner alone took part
 pub first_alone : (b : Board) (p : Plan) (c : ℕ) (events : List ℕ) (rs : List Runner) (x y : Runner) → 0 < length rs → ((d : Runner) → slice_index_or rs 0 d ≡ x)
-    → All (CanSweep b c events) rs → HasSwept b p c events x y → AreSwept b p c events rs (slice_set rs 0 y)
-first_alone b p c events rs x y some is can has = record {
+    → All (CanSweep b c events) rs → length events < shared_from → HasSwept b p c events x y → AreSwept b p c events rs (slice_set rs 0 y)
+first_alone b p c events rs x y some is can few has = record {
   len = length-set rs 0 y;
   hands = λ k d lt.
       elim (cases_eq k 0) [
@@ -215,6 +215,8 @@ first_alone b p c events rs x y some is can has = record {
             subst (λ z. Swept p c events (slice_index_or rs k d) z) (sym (get_or-set_other rs 0 k y d other)) (swept_none p c events (slice_index_or rs k d) here.unused)
       ];
   through = (0, some, λ d. subst (λ z. IsThrough c events (slice_index_or rs 0 d) z) (sym (get_or-set_same rs 0 y d some)) (subst (λ z. IsThrough c events z y) (sym (is d)) has.through));
+  first = λ less k d above lt. get_or-set_other rs 0 k y d (λ same. absurd (omega (arith, above, same)));
+  shared = λ many. absurd (omega (arith, few, many));
 }
 
 -- what a number that was taken leaves as it was
@@ -225,11 +227,13 @@ pub taken_room : (c n : ℕ) (a b : Runner) → HasTaken c n a b → b.kept.room
 taken_room c n a b taken = ap (λ l. l.room) taken.kept
 
 -- all took part
-pub all_alike : (b : Board) (p : Plan) (c : ℕ) (events : List ℕ) (rs qs : List Runner) → 0 < length rs → length qs ≡ length rs
+pub all_alike : (b : Board) (p : Plan) (c : ℕ) (events : List ℕ) (rs qs : List Runner) → 0 < length rs → shared_from ≤ length events → length qs ≡ length rs
     → ((k : ℕ) (d : Runner) → k < length rs → HasSwept b p c events (slice_index_or rs k d) (slice_index_or qs k d)) → AreSwept b p c events rs qs
-all_alike b p c events rs qs some len has = record {
+all_alike b p c events rs qs some many len has = record {
   len = len;
   hands = λ k d lt. let one-has = has k d (subst (λ n. k < n) len lt) in one-has.hand;
   each = λ k d lt. let one-has = has k d lt in one-has.swept;
   through = (0, some, λ d. let one-has = has 0 d some in one-has.through);
+  first = λ few. absurd (omega (arith, few, many));
+  shared = λ enough k d lt. let one-has = has k d lt in one-has.through;
 }

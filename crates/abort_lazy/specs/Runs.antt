@@ -16,12 +16,13 @@ use Rattle.op_words.specs.Trails.{loaded, IsSourceOf, IsShaken}
 use Rattle.op_words.specs.Views.{IsLone, IsSettledSeen}
 use Rattle.op_eval.specs.declared.answers.Left.{Left}
 use Rattle.op_eval.specs.declared.runner.Runner.{Runner}
+use Rattle.op_eval.specs.Exploring.{Unused}
 use Rattle.op_eval.specs.Gathering.{runners_of, gathered, HasPlaces, AreAtRest}
 use Rattle.op_eval.specs.Running.{hand_view}
 use Rattle.abort_lazy.specs.declared.run.SettledRun.{SettledRun}
 use Rattle.abort_lazy.specs.declared.run.sweeping.Call.{Call}
 use Rattle.abort_lazy.specs.declared.run.sweeping.Call.TheVariants.{Took, Tried}
-use Rattle.abort_lazy.specs.Sweeps.{Calls, IsEnough, tried_by, taken_by, weight_at}
+use Rattle.abort_lazy.specs.Sweeps.{Calls, IsEnough, shared_from, tried_by, taken_by, weight_at}
 
 -- ---- why an event was left, over the whole trail of the hand that tried it
 
@@ -103,12 +104,16 @@ pub record HasSettledAlone (p : Plan) (level : ℕ) (before now : Runner) : Type
   pub settled : AreSettledUpTo p level (hand_view now)
   pub none : now.kept.items ≡ before.kept.items
 
--- all runners; for each level, which has a counter of the board, one of them saw its counter at the end
+-- all runners; for each level, which has a counter of the board, one of them saw its counter at the end, and each of them where they
+-- share the level. Of any other level the first alone took numbers
 pub record AreSettling (b : Board) (p : Plan) (from level : ℕ) (start rs : List Runner) : Type 0 where
   pub counters : from + level ≤ counters_of b
   pub len : length rs ≡ length start
   pub each : (k : ℕ) (d : Runner) → k < length rs → IsSettling b p from level (slice_index_or start k d) (slice_index_or rs k d)
   pub enough : (l : ℕ) → l < level → (k : ℕ) × (k < length rs) × ((d : Runner) → IsEnough (from + l) (length (events_of p l)) (slice_index_or rs k d))
+  pub first : (l : ℕ) → l < level → length (events_of p l) < shared_from → (k : ℕ) (d : Runner) → 0 < k → k < length rs → Unused (from + l) (slice_index_or rs k d)
+  pub shared : (l : ℕ) → l < level → shared_from ≤ length (events_of p l) → (k : ℕ) (d : Runner) → k < length rs
+      → IsEnough (from + l) (length (events_of p l)) (slice_index_or rs k d)
   pub alone : length start ≡ 1 → (d : Runner) → IsLone (hand_view (slice_index_or start 0 d))
       → HasSettledAlone p level (slice_index_or start 0 d) (slice_index_or rs 0 d)
 

@@ -103,12 +103,19 @@ pub record HasSwept (b : Board) (p : Plan) (c : ℕ) (events : List ℕ) (before
   pub swept : Swept p c events before after
   pub through : IsThrough c events before after
 
--- all runners took part or none but the first, and one of them saw the counter at the end
+-- all runners share a level of so many events; the first one goes over one of fewer alone
+abbrev pub shared_from : ℕ
+shared_from = 8
+
+-- all runners took part or none but the first, and one of them saw the counter at the end, or each of them where they share the level
 pub record AreSwept (b : Board) (p : Plan) (c : ℕ) (events : List ℕ) (before after : List Runner) : Type 0 where
   pub len : length after ≡ length before
   pub hands : All (λ r. IsHandOf b r.hand) after
   pub each : (k : ℕ) (d : Runner) → k < length before → Swept p c events (slice_index_or before k d) (slice_index_or after k d)
   pub through : (k : ℕ) × (k < length before) × ((d : Runner) → IsThrough c events (slice_index_or before k d) (slice_index_or after k d))
+  pub first : length events < shared_from → (k : ℕ) (d : Runner) → 0 < k → k < length before → slice_index_or after k d ≡ slice_index_or before k d
+  pub shared : shared_from ≤ length events → (k : ℕ) (d : Runner) → k < length before
+      → IsThrough c events (slice_index_or before k d) (slice_index_or after k d)
 
 -- after so many turns
 pub record IsSweeping (b : Board) (p : Plan) (c : ℕ) (events : List ℕ) (turn : ℕ) (before now : Runner) : Type 0 where

@@ -57,8 +57,9 @@ fn settle_levels<T: Threads + Sync>(
 /// Settles what exploring left: each event is tried once, event level by event level.
 ///
 /// A level has a counter of its own, the first one `next_counter` of the run; its runners take numbers from it, and
-/// try the event of that number in the level. The first runner goes over a level of fewer than 8 events alone. Why an
-/// event was not settled is kept by the runner that tried it. The root alone, the only hand ever made, settles all.
+/// try the event of that number in the level. The first runner goes over a level of fewer than 8 events alone; over any
+/// other all go, each until it saw the counter at the end. Why an event was not settled is kept by the runner that
+/// tried it. The root alone, the only hand ever made, settles all.
 pub fn settle_all<T: Threads + Sync>(rt: &T, run: Explored, plan: &Plan) -> SettledRun
     requires explored { IsExplored run }
     requires plan { plan.now ≡ plan_of run.board }

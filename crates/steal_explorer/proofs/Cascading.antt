@@ -1,4 +1,4 @@
--- Cascades behind evaluations: their targets one after another, and what was rolled back pushed.
+-- Cascades behind evaluations: their targets one after another, and what was rolled back asked.
 use Rattle.std.proofs.Common.{◌≡◌, ◌≢◌, ℕ, zero, suc, ◌<◌, true, false, Bool, Some, List, [], ◌∷◌, length, get_or, refl, sym, ap, subst, arith}
 use Rattle.std.proofs.lemmas.Bool.{false≢true}
 use Rattle.std.proofs.lemmas.Option.{none-some}
@@ -22,7 +22,7 @@ use Rattle.abort_eager.specs.Touching.{HasCause, NextDoes}
 use Rattle.abort_eager.proofs.Touching.{touched_one}
 use Rattle.steal_explorer.specs.declared.members.Member.{Member}
 use Rattle.steal_explorer.specs.Calls.{Call, Asked, Tried, Swept, is_asked, is_swept, Calls, HasTouched, GoesQuietly}
-use Rattle.steal_explorer.specs.Serving.{Goes, PutsOrWalks, TouchesNext, TouchesAll, TouchesFor}
+use Rattle.steal_explorer.specs.Serving.{Goes, AsksAndPuts, TouchesNext, TouchesAll, TouchesFor}
 use Rattle.steal_explorer.proofs.Going.{goes_calls, lazy_none}
 
 -- ---- when there is a cascade
@@ -92,7 +92,7 @@ quiet_touched p cap abort a b eager touched = record {
     unasked (Tried o) is = refl
     unasked (Asked o) is = cc
 
--- ---- cascades that push what they rolled back
+-- ---- cascades that ask what they rolled back
 
 -- a hand that did nothing
 pub left_as : (m : Member) (h : Hand) → h ≡ m.runner.hand → record m { runner = record m.runner { hand = h } } ≡ m
@@ -108,11 +108,11 @@ module _ (p : Plan) (cap : ℕ) (abort : Abort) (c d : Cascade) where
         goes_calls p cap abort m after.runner (Swept next.target ∷ []) (m.runner, refl, (t, record { touches = next.touches; answers = refl; kept = refl }))
         (λ lazy. absurd (eager_lazy abort eager lazy))
 
-    pub touches_next : (b : Member) → (t.touch ≡ RolledBack → PutsOrWalks p cap abort t.op after b) → (t.touch ≢ RolledBack → b ≡ after) → TouchesNext p cap abort true c d m b
-    touches_next b pushed other = (
+    pub touches_next : (b : Member) → (t.touch ≡ RolledBack → AsksAndPuts p cap abort t.op after b) → (t.touch ≢ RolledBack → b ≡ after) → TouchesNext p cap abort true c d m b
+    touches_next b asked other = (
       next.target,
       next.left,
-      record { touched = after.runner; answer = t; sweeps = record { touches = next.touches; answers = refl; kept = refl }; pushed = pushed; other = other },
+      record { touched = after.runner; answer = t; sweeps = record { touches = next.touches; answers = refl; kept = refl }; asked = asked; other = other },
     )
 
   module _ (a b : Member) where

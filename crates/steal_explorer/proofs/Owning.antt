@@ -1,6 +1,7 @@
 -- What popping, stealing and pushing leave of a worker's deque and tickets.
 use Rattle.std.proofs.Common.{◌≡◌, ℕ, ◌+◌, ◌-◌, ◌^◌, ◌<◌, ◌≤◌, List, [], ◌∷◌, ◌++◌, length, min, refl, sym, ap, ◌∙◌, subst, arith, length-append}
 use Rattle.std.specs.Prelude.{All, sum_by}
+use Rattle.std.proofs.lemmas.Bool.{false≢true}
 use Rattle.std.proofs.lemmas.List.Elements.{All-push}
 use Rattle.std.proofs.lemmas.List.Sums.{sum_by_push}
 use Rattle.crossbeam_deque.specs.Handles.{view, worker_index, worker_view, SameWorker}
@@ -63,6 +64,7 @@ module _ (a : Member) (o : Owner) (op : ℕ) (same : SameWorker a.owner o) (pops
         let e : sum_by h (worker_view o).popped ≡ sum_by h ((own a).popped ++ op ∷ []) = ap (λ (v : Log). sum_by h v.popped) pops in
         let f : sum_by h ((own a).popped ++ op ∷ []) ≡ sum_by h (own a).popped + h op = sum_by_push h (own a).popped op in
         omega arith;
+    missed = λ none. absurd (false≢true (sym none));
     empty = λ e. absurd (apart e);
     alone = λ _ e. apart' e;
   }
@@ -117,6 +119,7 @@ module _ (a : Member) (o : Owner) (l : Contents Ticket) (s : ℕ) (f : Found) (s
           let e : sum_by h (worker_view o).popped ≡ sum_by h (own a).popped = ap (λ (v : Log). sum_by h v.popped) still in
           let g : stolen_by h l.items ≡ stolen_by h (tickets_of a) + weight_of h f = round.gets h in
           omega arith;
+      missed = λ none. let both = round.missed none in (subst WasEmpty (sym still) was, both.0, both.1);
       empty = λ e. let both = round.empty e in (subst WasEmpty (sym still) was, both.0, both.1);
       alone = λ single retried. apart (sym (round.alone single) ∙ retried);
     }

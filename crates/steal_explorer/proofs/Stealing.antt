@@ -10,7 +10,7 @@ use Rattle.steal_explorer.specs.declared.finding.Found.TheVariants.{Item, Nothin
 use Rattle.steal_explorer.specs.declared.handing.Log.{Log}
 use Rattle.steal_explorer.specs.Handing.{parts_of, WasEmpty}
 use Rattle.steal_explorer.specs.Members.{Thief, Ticket, SitsAt, AreSeated, stolen_by}
-use Rattle.steal_explorer.specs.Finding.{is_item, or_then, weight_of, Steals, WereEmpty, StealsAmong, StealsRound}
+use Rattle.steal_explorer.specs.Finding.{is_item, or_then, weight_of, Misses, AreMissed, Steals, WereEmpty, StealsAmong, StealsRound}
 
 pub ticket_part : (t : Thief) (x : Ticket) → SitsAt t x → 0 < (view x).parts
 ticket_part t x sits = let e : (view x).parts ≡ 1 = ap parts_of sits.view_is in omega arith
@@ -27,6 +27,7 @@ pub record IsStealing (ts : List Thief) (from to k : ℕ) (retried : Bool) (xs y
   pub seated : AreSeated ts from to ys
   pub others : (j : ℕ) (x : Ticket) → (j < from) ⊎ (k ≤ j) → slice_index_or ys j x ≡ slice_index_or xs j x
   pub gets : (h : ℕ → ℕ) → stolen_by h ys ≡ stolen_by h xs
+  pub missed : AreMissed xs ys from k
   pub empty : retried ≡ false → WereEmpty ys from k
 
 pub none_stolen : (ts : List Thief) (from to : ℕ) (xs : List Ticket) → AreSeated ts from to xs → IsStealing ts from to from false xs xs
@@ -38,7 +39,8 @@ none_stolen ts from to xs seated = record {
   seated = seated;
   others = λ j x _. refl;
   gets = λ h. refl;
-  empty = λ _ j x high low. absurd (omega arith);
+  missed = λ j x low high. absurd (omega arith);
+  empty = λ _ j x low high. absurd (omega arith);
 }
 
 -- a ticket was lent, with the deque that it is of
@@ -84,8 +86,18 @@ module _ (ts : List Thief) (from to k : ℕ) (retried : Bool) (xs ys : List Tick
       let d : stolen_of h old ≡ stolen_of h (get_or ys k x') = ap (stolen_of h) (old_is x') in
       omega arith
 
+  -- it was missed, as those before it were
+  missed_still : Misses old x' → AreMissed xs zs from (k + 1)
+  missed_still misses j x low high =
+      elim (cases_eq j k) [
+        | inl same ↦
+            subst (λ i. Misses (slice_index_or xs i x) (slice_index_or zs i x)) (sym same)
+            (subst (λ (y : Ticket). Misses (slice_index_or xs k x) y) (sym (here x)) (subst (λ (y : Ticket). Misses y x') (old_is x ∙ is.others k x (inr (omega arith))) misses))
+        | inr other ↦ subst (λ (y : Ticket). Misses (slice_index_or xs j x) y) (sym (elsewhere j x other)) (is.missed j x low (omega arith))
+      ]
+
   -- it gave an item
-  pub stolen_one : (op : ℕ) → Steals (Item op) (view old) (view x') → AreSeated ts from to zs × StealsAmong from to (Item op) xs zs
+  pub stolen_one : (op : ℕ) → Steals (Item op) old x' → AreSeated ts from to zs × StealsAmong from to (Item op) xs zs
   stolen_one op steals = (
     still_seated,
     record {
@@ -95,6 +107,7 @@ module _ (ts : List Thief) (from to k : ℕ) (retried : Bool) (xs ys : List Tick
           let a : stolen_of h x' ≡ sum_by h ((view old).stolen ++ op ∷ []) = ap (λ (v : Log). sum_by h v.stolen) steals in
           let b : sum_by h ((view old).stolen ++ op ∷ []) ≡ stolen_of h old + h op = sum_by_push h (view old).stolen op in
           weighs h (h op) (omega arith);
+      missed = λ none. absurd (false≢true (sym none));
       empty = λ e. absurd (apart e);
     },
   )
@@ -108,7 +121,7 @@ module _ (ts : List Thief) (from to k : ℕ) (retried : Bool) (xs ys : List Tick
       omega arith
 
   -- it gave none
-  pub none_here : Steals Nothing (view old) (view x') → IsStealing ts from to (k + 1) retried xs zs
+  pub none_here : Steals Nothing old x' → IsStealing ts from to (k + 1) retried xs zs
   none_here steals = record {
     above = let a = is.above in omega arith;
     within = inl (omega arith);
@@ -117,6 +130,7 @@ module _ (ts : List Thief) (from to k : ℕ) (retried : Bool) (xs ys : List Tick
     seated = still_seated;
     others = others_still;
     gets = same_weight steals.0;
+    missed = missed_still (steals.0, inr steals.1);
     empty = λ never j x low high.
         elim (cases_eq j k) [
           | inl same ↦
@@ -126,7 +140,7 @@ module _ (ts : List Thief) (from to k : ℕ) (retried : Bool) (xs ys : List Tick
         ];
   }
 
-  pub retry_here : Steals Retry (view old) (view x') → IsStealing ts from to (k + 1) true xs zs
+  pub retry_here : Steals Retry old x' → IsStealing ts from to (k + 1) true xs zs
   retry_here steals = record {
     above = let a = is.above in omega arith;
     within = inl (omega arith);
@@ -134,7 +148,8 @@ module _ (ts : List Thief) (from to k : ℕ) (retried : Bool) (xs ys : List Tick
     len = still_long;
     seated = still_seated;
     others = others_still;
-    gets = same_weight steals;
+    gets = same_weight steals.0;
+    missed = missed_still steals;
     empty = λ never. absurd (apart never);
   }
     where
@@ -173,6 +188,7 @@ module _ (ts : List Thief) (from to k : ℕ) (xs ys : List Ticket) (past : to �
     len = is.len;
     others = others_all false is;
     gets = λ h. let e = is.gets h in omega arith;
+    missed = λ _ j x low high. is.missed j x low (omega arith);
     empty = λ _ j x low high. is.empty refl j x low (omega arith);
   }
 
@@ -181,6 +197,7 @@ module _ (ts : List Thief) (from to k : ℕ) (xs ys : List Ticket) (past : to �
     len = is.len;
     others = others_all true is;
     gets = λ h. let e = is.gets h in omega arith;
+    missed = λ _ j x low high. is.missed j x low (omega arith);
     empty = λ e. absurd (apart e);
   }
     where
@@ -206,6 +223,7 @@ round_above number count f xs ys inside found first none_above = record {
   len = first.len;
   guest = λ x. first.others number x (inl (omega arith));
   gets = first.gets;
+  missed = λ none. absurd (false≢true (sym none ∙ found));
   empty = λ none. absurd (item_not f found none);
   alone = λ single. none_above (omega arith);
 }
@@ -230,6 +248,10 @@ round_below number count f g xs ys zs inside none first second none_above none_b
       let c : weight_of h f ≡ 0 = weightless f none h in
       let d : weight_of h (or_then f g) ≡ weight_of h g = same_weight_of f g none h in
       omega arith;
+  missed = λ missed. (
+    λ j x low high. subst (λ (y : Ticket). Misses y (slice_index_or zs j x)) (first.others j x (inl (omega arith))) (second.missed (no_item f g missed) j x low high),
+    λ j x low high. subst (λ (y : Ticket). Misses (slice_index_or xs j x) y) (sym (second.others j x (inr (omega arith)))) (first.missed none j x low high),
+  );
   empty = λ e. (
     second.empty (both_none f g e).1,
     λ j x low high. subst (λ (y : Ticket). WasEmpty (view y)) (sym (second.others j x (inr (omega arith)))) (first.empty (both_none f g e).0 j x low high),
@@ -246,6 +268,11 @@ round_below number count f g xs ys zs inside none first second none_above none_b
     same_weight_of f (Item x) is h = refl
     same_weight_of f Nothing is h = weightless f is h
     same_weight_of f Retry is h = refl
+
+    no_item : (f g : Found) → is_item (or_then f g) ≡ false → is_item g ≡ false
+    no_item f (Item x) is = is
+    no_item f Nothing is = refl
+    no_item f Retry is = refl
 
     both_none : (f g : Found) → or_then f g ≡ Nothing → (f ≡ Nothing) × (g ≡ Nothing)
     both_none f (Item x) e = absurd (apart e)

@@ -1,9 +1,8 @@
 -- What a worker finds in a turn.
 use Rattle.std.specs.Prelude.{◌≡◌, ◌≢◌, ℕ, ◌+◌, ◌<◌, ◌≤◌, ◌⊎◌, Bool, true, false, List, [], ◌∷◌, length, slice_index_or}
-use Rattle.crossbeam_deque.specs.Handles.{view, worker_deque}
+use Rattle.crossbeam_deque.specs.Handles.{view, taken, worker_deque}
 use Rattle.steal_explorer.specs.declared.finding.Found.{Found}
 use Rattle.steal_explorer.specs.declared.finding.Found.TheVariants.{Item, Nothing, Retry}
-use Rattle.steal_explorer.specs.declared.handing.Log.{Log}
 use Rattle.steal_explorer.specs.declared.members.Member.{Member}
 use Rattle.steal_explorer.specs.Handing.{stole, WasEmpty}
 use Rattle.steal_explorer.specs.Members.{Thief, Ticket, own, tickets_of, stolen_by, taken_by}
@@ -25,21 +24,30 @@ or_then f (Item x) = Item x
 or_then f Nothing = f
 or_then f Retry = Retry
 
--- a steal, by what the ticket has done before and after it
-abbrev pub Steals : Found → Log → Log → Type 0
-Steals (Item x) v w = w ≡ stole v (x ∷ [])
-Steals Nothing v w = (w ≡ v) × WasEmpty v
-Steals Retry v w = w ≡ v
+-- a ticket, before and after, that got no item: it learned that more items had left the deque than it knew of, or the deque was empty
+abbrev pub Misses : Ticket → Ticket → Type 0
+Misses x y = (view y ≡ view x) × ((taken x < taken y) ⊎ WasEmpty (view x))
+
+-- each of these deques was missed
+abbrev pub AreMissed : List Ticket → List Ticket → (from to : ℕ) → Type 0
+AreMissed xs ys from to = (k : ℕ) (x : Ticket) → from ≤ k → k < to → Misses (slice_index_or xs k x) (slice_index_or ys k x)
+
+-- a steal, by its ticket before and after it
+abbrev pub Steals : Found → Ticket → Ticket → Type 0
+Steals (Item i) x y = view y ≡ stole (view x) (i ∷ [])
+Steals Nothing x y = (view y ≡ view x) × WasEmpty (view x)
+Steals Retry x y = Misses x y
 
 -- each of these deques was empty while its ticket had done what it has done
 abbrev pub WereEmpty : List Ticket → (from to : ℕ) → Type 0
 WereEmpty xs from to = (k : ℕ) (x : Ticket) → from ≤ k → k < to → WasEmpty (view (slice_index_or xs k x))
 
--- steals from the deques whose numbers are from `from` on and below `to`, until one gave an item
+-- steals from the deques whose numbers are from `from` on and below `to`, until one gave an item; where none did, each was missed
 pub record StealsAmong (from to : ℕ) (f : Found) (xs ys : List Ticket) : Type 0 where
   pub len : length ys ≡ length xs
   pub others : (k : ℕ) (x : Ticket) → (k < from) ⊎ (to ≤ k) → slice_index_or ys k x ≡ slice_index_or xs k x
   pub gets : (h : ℕ → ℕ) → stolen_by h ys ≡ stolen_by h xs + weight_of h f
+  pub missed : is_item f ≡ false → AreMissed xs ys from to
   pub empty : f ≡ Nothing → WereEmpty ys from to
 
 -- the same with all deques but that of this number, of so many
@@ -47,6 +55,7 @@ pub record StealsRound (number count : ℕ) (f : Found) (xs ys : List Ticket) : 
   pub len : length ys ≡ length xs
   pub guest : (x : Ticket) → slice_index_or ys number x ≡ slice_index_or xs number x
   pub gets : (h : ℕ → ℕ) → stolen_by h ys ≡ stolen_by h xs + weight_of h f
+  pub missed : is_item f ≡ false → AreMissed xs ys 0 number × AreMissed xs ys (number + 1) count
   pub empty : f ≡ Nothing → WereEmpty ys 0 number × WereEmpty ys (number + 1) count
   pub alone : count ≡ 1 → f ≡ Nothing
 
@@ -54,7 +63,12 @@ pub record StealsRound (number count : ℕ) (f : Found) (xs ys : List Ticket) : 
 abbrev pub FoundEmpty : List Thief → Member → Type 0
 FoundEmpty ts m = WasEmpty (own m) × WereEmpty (tickets_of m) 0 m.number × WereEmpty (tickets_of m) (m.number + 1) (length ts)
 
--- an item left its own deque or another one for the worker, or all were found empty, or a steal was too late; nothing else changed
+-- its own deque was found empty, and each other one was missed
+abbrev pub FoundNone : List Thief → Member → Member → Type 0
+FoundNone ts a b = WasEmpty (own b) × AreMissed (tickets_of a) (tickets_of b) 0 a.number × AreMissed (tickets_of a) (tickets_of b) (a.number + 1) (length ts)
+
+-- an item left its own deque or another one for the worker; or none did, and then it was found so, and by `Nothing` all were found
+-- empty; nothing else changed
 pub record Finds (ts : List Thief) (f : Found) (a b : Member) : Type 0 where
   pub runner : b.runner ≡ a.runner
   pub number : b.number ≡ a.number
@@ -62,5 +76,6 @@ pub record Finds (ts : List Thief) (f : Found) (a b : Member) : Type 0 where
   pub deque : worker_deque b.owner ≡ worker_deque a.owner
   pub pushed : (own b).pushed ≡ (own a).pushed
   pub takes : (h : ℕ → ℕ) → taken_by h b ≡ taken_by h a + weight_of h f
+  pub missed : is_item f ≡ false → FoundNone ts a b
   pub empty : f ≡ Nothing → FoundEmpty ts b
   pub alone : length ts ≡ 1 → f ≢ Retry

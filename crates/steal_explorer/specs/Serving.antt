@@ -3,6 +3,8 @@ use Rattle.std.specs.Prelude.{◌≡◌, ◌≢◌, ◌⊎◌, ℕ, Bool, true, 
 use Rattle.crossbeam_deque.specs.Handles.{worker_deque}
 use Rattle.morph_base.specs.declared.plan.Plan.{Plan}
 use Rattle.morph_base.specs.declared.strategy.Abort.{Abort}
+use Rattle.op_words.specs.declared.answers.Readied.{Readied}
+use Rattle.op_words.specs.declared.answers.Readied.TheVariants.{Made}
 use Rattle.op_eval.specs.declared.answers.Evaluation.{Evaluation}
 use Rattle.op_eval.specs.declared.runner.Runner.{Runner}
 use Rattle.op_eval.specs.Evaluations.{Tries}
@@ -13,7 +15,7 @@ use Rattle.abort_eager.specs.declared.cascade.Cascade.{Cascade}
 use Rattle.abort_eager.specs.Sweeps.{cascade_for}
 use Rattle.abort_eager.specs.Targets.{targets, targets_left}
 use Rattle.steal_explorer.specs.declared.members.Member.{Member}
-use Rattle.steal_explorer.specs.Calls.{Call, Tried, NoneSwept, Calls, SweepsOne, Walked}
+use Rattle.steal_explorer.specs.Calls.{Call, Tried, NoneSwept, Asks, Calls, SweepsOne, Walked}
 use Rattle.steal_explorer.specs.Handing.{put}
 use Rattle.steal_explorer.specs.Members.{own}
 
@@ -35,12 +37,20 @@ module _ (p : Plan) (cap : ℕ) (abort : Abort) where
   abbrev pub PutsOrWalks : (o : ℕ) → Member → Member → Type 0
   PutsOrWalks o a b = ((own b ≡ put (own a) (o ∷ [])) × (b.runner ≡ a.runner)) ⊎ Walked p cap abort o a.runner b.runner
 
-  -- a target of a cascade was touched; where it was rolled back by that, it was pushed, or its unit was walked at once
+  -- an operation was asked; where that made it ready, it was pushed, or its unit was walked at once
+  pub record AsksAndPuts (o : ℕ) (a b : Member) : Type 0 where
+    pub asked : Runner
+    pub answer : Readied
+    pub asks : Asks p cap o a.runner asked answer
+    pub made : answer ≡ Made → PutsOrWalks o (record a { runner = asked }) b
+    pub other : answer ≢ Made → b ≡ record a { runner = asked }
+
+  -- a target of a cascade was touched; where it was rolled back by that, it was asked, and pushed where that made it ready
   pub record TouchesOne (g : Target) (a b : Member) : Type 0 where
     pub touched : Runner
     pub answer : Touched
     pub sweeps : SweepsOne p cap g a.runner touched answer
-    pub pushed : answer.touch ≡ RolledBack → PutsOrWalks answer.op (record a { runner = touched }) b
+    pub asked : answer.touch ≡ RolledBack → AsksAndPuts answer.op (record a { runner = touched }) b
     pub other : answer.touch ≢ RolledBack → b ≡ record a { runner = touched }
 
   -- the first target that a cascade had left was; or none was left, and nothing was done

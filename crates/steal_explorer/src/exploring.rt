@@ -127,7 +127,8 @@ fn end_of(members: &[Member]) -> RunEnd
 /// memory.
 ///
 /// Under eager abort a worker runs the cascade of an operation to its end after each evaluation that failed, or that
-/// was a second or later attempt, and pushes each operation that it rolled back, to be evaluated again.
+/// was a second or later attempt, asks each operation that it rolled back, and pushes it, to be evaluated again, where
+/// that made it ready.
 ///
 /// One worker steals nothing. Under lazy abort a root alone pushes each operation once, runs it at attempt 1, and ends
 /// with [`RunEnd::Drained`]; no push is refused.

@@ -1,6 +1,5 @@
 //! How a worker finds an item.
 ghost use Rattle.std.specs.Prelude.{◌≡◌, ◌≢◌, ◌+◌, ◌<◌, ◌≤◌, length};
-ghost use Rattle.crossbeam_deque.specs.Handles.{view};
 ghost use Rattle.steal_explorer.specs.Alone.{FindsAlone};
 ghost use Rattle.steal_explorer.specs.declared.finding.Found.TheVariants.{Nothing, Retry};
 ghost use Rattle.steal_explorer.specs.Members.{SitsAt, AreSeated, HasTickets, HasDeque};
@@ -17,7 +16,7 @@ pub enum Found {
     Item(u32),
     /// Its own deque and each other's, each at a moment of the turn, were empty.
     Nothing,
-    /// No item, and at some deque another thread was faster.
+    /// No item: its own deque was empty, and from each other one more items had left than was known, or it was empty.
     Retry,
 }
 
@@ -69,7 +68,7 @@ impl Found {
 fn steal_at(thief: &Thief, ticket: &mut Ticket) -> Found
     requires sits { SitsAt thief.now ticket.old }
     ensures sits { SitsAt thief.now ticket.new }
-    ensures does { DoesSteal result (view ticket.old) (view ticket.new) }
+    ensures does { DoesSteal result ticket.old ticket.new }
 {
     match thief.steal_as::<Steals>(ticket) {
         Steal::Success(op) => Found::Item(op),

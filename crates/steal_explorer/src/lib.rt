@@ -9,9 +9,10 @@
 //!
 //! Under eager abort a worker runs the cascade of an operation to its end after each evaluation that failed, or that
 //! was a second or later attempt, before it asks the dependents: it spreads the failure, rolls back what read a value
-//! that is no longer right, and pushes each operation that it rolled back, to be evaluated again. Where a push is
-//! refused, the operation's unit is walked at once; there, as where a deque is emptied in the end, cascades are run to
-//! their end too, but nothing is asked or pushed, so that nothing nests, and what was rolled back is left to settling.
+//! that is no longer right, and asks each operation that it rolled back; whoever makes one ready pushes it, to be
+//! evaluated again. Where a push is refused, the operation's unit is walked at once; there, as where a deque is emptied
+//! in the end, cascades are run to their end too, but nothing is asked or pushed, so that nothing nests, and what was
+//! rolled back is left to settling.
 //!
 //! Once all have returned, each worker gets all parts of its deque back, which others held to steal by, and the deque
 //! is popped until nothing is there: a worker that made all its turns leaves what it had with nobody, and one that

@@ -8,7 +8,7 @@ ghost use Rattle.op_words.specs.Trails.{IsSourceOf};
 ghost use Rattle.steal_explorer.specs.Alone.{readers, IsHandingAlone, Pushes, ServesAlone};
 ghost use Rattle.steal_explorer.specs.Members.{IsGround, IsIdle, HasDeque};
 ghost use Rattle.steal_explorer.specs.declared.finding.Found.TheVariants.{Item};
-ghost use Rattle.steal_explorer.specs.Serving.{Goes, PutsOrWalks, Visits, Serves};
+ghost use Rattle.steal_explorer.specs.Serving.{Goes, PutsOrWalks, AsksAndPuts, Visits, Serves};
 ghost use Rattle.steal_explorer.specs.Turns.{After};
 
 use crate::handing::Puts;
@@ -41,7 +41,13 @@ pub(crate) fn push<T: Turns>(ground: &Ground<'_>, told: &T, turn: u64, member: &
 }
 
 /// Asks an operation, and pushes it where that made it ready.
-fn ask_one<T: Turns>(ground: &Ground<'_>, told: &T, turn: u64, member: &mut Member, op: u32)
+pub(crate) fn ask_one<T: Turns>(
+    ground: &Ground<'_>,
+    told: &T,
+    turn: u64,
+    member: &mut Member,
+    op: u32,
+)
     requires ground { IsGround ground.now }
     requires in_range { op < op_count ground.now.plan.now }
     requires idle { IsIdle ground.now.board.now member.old.runner }
@@ -49,6 +55,8 @@ fn ask_one<T: Turns>(ground: &Ground<'_>, told: &T, turn: u64, member: &mut Memb
     ensures idle { IsIdle ground.now.board.now member.new.runner }
     ensures deque { HasDeque ground.now.plan.now member.new }
     ensures goes { Goes ground.now.plan.now (cap_of ground.now.board.now) ground.now.abort
+        member.old member.new }
+    ensures does { AsksAndPuts ground.now.plan.now (cap_of ground.now.board.now) ground.now.abort op
         member.old member.new }
     ensures alone { (rest : List ℕ) (s : ℕ) → IsSourceOf ground.now.plan.now op s
         → IsHandingAlone ground.now.plan.now (op ∷ rest) member.old

@@ -10,16 +10,17 @@ ghost use Rattle.abort_eager.specs.Sweeps.{cascade_for};
 ghost use Rattle.abort_eager.specs.Targets.{targets, IsCascade};
 ghost use Rattle.abort_eager.specs.Touching.{HasCause};
 ghost use Rattle.steal_explorer.specs.Members.{IsGround, IsIdle, HasDeque};
-ghost use Rattle.steal_explorer.specs.Serving.{Goes, PutsOrWalks, TouchesNext, TouchesAll, TouchesFor};
+ghost use Rattle.steal_explorer.specs.Serving.{Goes, AsksAndPuts, TouchesNext, TouchesAll, TouchesFor};
 
 use crate::members::{Ground, Member};
-use crate::serving::push;
+use crate::serving::ask_one;
 use crate::turns::Turns;
 use abort_eager::{Cascade, Touch, Touched, cascade_behind};
 use op_eval::Evaluation;
 
-/// Pushes an operation that a cascade touched where it was rolled back, since it has to be evaluated again.
-fn push_rolled<T: Turns>(
+/// Asks an operation that a cascade touched where it was rolled back, since it has to be evaluated again, and pushes it
+/// where that made it ready. Where a source has no value, whoever evaluates that one will ask it.
+fn ask_rolled<T: Turns>(
     ground: &Ground<'_>,
     told: &T,
     turn: u64,
@@ -34,18 +35,18 @@ fn push_rolled<T: Turns>(
     ensures deque { HasDeque ground.now.plan.now member.new }
     ensures goes { Goes ground.now.plan.now (cap_of ground.now.board.now) ground.now.abort
         member.old member.new }
-    ensures pushed { touched.touch ≡ RolledBack
-        → PutsOrWalks ground.now.plan.now (cap_of ground.now.board.now) ground.now.abort touched.op
+    ensures asked { touched.touch ≡ RolledBack
+        → AsksAndPuts ground.now.plan.now (cap_of ground.now.board.now) ground.now.abort touched.op
         member.old member.new }
     ensures other { touched.touch ≢ RolledBack → member.new ≡ member.old }
 {
     match touched.touch {
-        Touch::RolledBack => push(ground, told, turn, member, touched.op),
+        Touch::RolledBack => ask_one(ground, told, turn, member, touched.op),
         _ => {}
     }
 }
 
-/// Touches the next target of a cascade, and pushes what was rolled back by that. Whether a target was left.
+/// Touches the next target of a cascade, and asks what was rolled back by that. Whether a target was left.
 fn touch_next<T: Turns>(
     ground: &Ground<'_>,
     told: &T,
@@ -71,14 +72,14 @@ fn touch_next<T: Turns>(
 {
     match cascade.next(ground.board, &mut member.runner.hand, ground.plan) {
         Some(touched) => {
-            push_rolled(ground, told, turn, member, touched);
+            ask_rolled(ground, told, turn, member, touched);
             true
         }
         None => false,
     }
 }
 
-/// Runs the cascade of an operation to its end, and pushes what it rolled back.
+/// Runs the cascade of an operation to its end, asks what it rolled back, and pushes what that made ready.
 fn run_cascade<T: Turns>(
     ground: &Ground<'_>,
     told: &T,

@@ -20,7 +20,7 @@ use Rattle.strata_explorer.proofs.Lone.{alone_more}
 lazy_apart : (abort : Abort) → abort ≡ Lazy → abort ≡ Eager → ⊥
 lazy_apart abort lazy eager = cc
 
-module _ (p : Plan) (cap : ℕ) (abort : Abort) where
+module _ (p : Plan) (cap : ℕ) (abort : Abort) (units : List (List ℕ)) where
   abbrev depth : ℕ
   depth = length p.op_levels.items
 
@@ -28,7 +28,7 @@ module _ (p : Plan) (cap : ℕ) (abort : Abort) where
   pub record IsClimbing (level counters : ℕ) (start now : List Runner) : Type 0 where
     pub levels : List ℕ
     pub before : List Runner
-    pub passes : Passes p cap abort levels start before now
+    pub passes : Passes p cap abort units levels start before now
     pub further : AreFurther start now
     pub strata : AreStrata p levels now
     pub counted : counters ≡ length levels
@@ -37,11 +37,11 @@ module _ (p : Plan) (cap : ℕ) (abort : Abort) where
     pub lazy : abort ≡ Lazy → (level ≡ length levels) × ((k : ℕ) → k < length levels → level_of levels k ≡ k)
     pub alone : abort ≡ Lazy → 1 ≤ cap → IsAlone p level start now
 
-  no_passes : (rs : List Runner) → Passes p cap abort [] rs rs rs
+  no_passes : (rs : List Runner) → Passes p cap abort units [] rs rs rs
   unfolding Passes
   no_passes rs = refl
 
-  one_pass_more : (l : ℕ) (ls : List ℕ) (start earlier before now : List Runner) → Passes p cap abort ls start earlier before → Follows p cap abort l ls earlier before → IsPassed p cap abort (length ls) (ops_of p l) before now → Passes p cap abort (l ∷ ls) start before now
+  one_pass_more : (l : ℕ) (ls : List ℕ) (start earlier before now : List Runner) → Passes p cap abort units ls start earlier before → Follows p cap abort l ls earlier before → IsPassed p cap abort units (length ls) (ops_of p l) before now → Passes p cap abort units (l ∷ ls) start before now
   unfolding Passes
   one_pass_more l ls start earlier before now passes follows passed = (earlier, passes, follows, passed)
 
@@ -80,17 +80,17 @@ module _ (p : Plan) (cap : ℕ) (abort : Abort) where
       below : k < suc (length ls) → k ≢ length ls → k < length ls
       below lt other = omega arith
 
-  pub climbing_more : IsPlan p → (units : List (List ℕ)) (many : ℕ) → AreLevels p units many → (level counter next : ℕ) (start rs qs : List Runner) → IsClimbing level counter start rs → level < depth → IsPassed p cap abort counter (ops_of p level) rs qs → Follows p cap abort next (level ∷ []) rs qs
+  pub climbing_more : IsPlan p → (many : ℕ) → AreLevels p units many → (level counter next : ℕ) (start rs qs : List Runner) → IsClimbing level counter start rs → level < depth → IsPassed p cap abort units counter (ops_of p level) rs qs → Follows p cap abort next (level ∷ []) rs qs
       → IsClimbing next (counter + 1) start qs
-  climbing_more valid units many levels level counter next start rs qs old low pass follows =
+  climbing_more valid many levels level counter next start rs qs old low pass follows =
       let ls = old.levels in
-      let passed : IsPassed p cap abort (length ls) (ops_of p level) rs qs = subst (λ c. IsPassed p cap abort c (ops_of p level) rs qs) old.counted pass in
+      let passed : IsPassed p cap abort units (length ls) (ops_of p level) rs qs = subst (λ c. IsPassed p cap abort units c (ops_of p level) rs qs) old.counted pass in
       record {
         levels = level ∷ ls;
         before = rs;
         passes = one_pass_more level ls start old.before rs qs old.passes old.next passed;
-        further = passed_further p cap abort (length ls) (ops_of p level) start rs qs old.further passed;
-        strata = all_strata_more p cap abort level ls rs qs old.strata passed;
+        further = passed_further p cap abort units (length ls) (ops_of p level) start rs qs old.further passed;
+        strata = all_strata_more p cap abort level ls units rs qs old.strata passed;
         counted = let many = old.counted in omega arith;
         inside = all_first level ls low old.inside;
         next = follows;
@@ -100,7 +100,7 @@ module _ (p : Plan) (cap : ℕ) (abort : Abort) where
             (omega arith, in_turn level ls is (old.lazy lazy).1);
         alone = λ lazy some.
             subst (λ l. IsAlone p l start qs) (sym (lazy_next next level rs qs lazy follows))
-            (alone_more p valid cap some units many levels level ls start rs qs old.further.len old.strata (subst (λ a. IsPassed p cap a (length ls) (ops_of p level) rs qs) lazy passed) (old.alone lazy some));
+            (alone_more p valid cap some units many levels level ls start rs qs old.further.len old.strata (subst (λ a. IsPassed p cap a units (length ls) (ops_of p level) rs qs) lazy passed) (old.alone lazy some));
       }
 
   -- ---- the end
@@ -112,7 +112,7 @@ module _ (p : Plan) (cap : ℕ) (abort : Abort) where
   low_next level (l ∷ ls) before now inside (inr back) = let low : l < depth = inside 0 l (omega arith) in let most : level ≤ l + 1 = back.1 in omega arith
 
   -- each level below the one that comes next was passed
-  all_below : (level : ℕ) (ls : List ℕ) (start before now : List Runner) → Passes p cap abort ls start before now → Follows p cap abort level ls before now → (l : ℕ) → l < level → Contains ls l
+  all_below : (level : ℕ) (ls : List ℕ) (start before now : List Runner) → Passes p cap abort units ls start before now → Follows p cap abort level ls before now → (l : ℕ) → l < level → Contains ls l
   unfolding Passes
   all_below level [] start before now passes follows l lt = absurd (omega arith)
   all_below level (k ∷ ks) start before now passes follows l lt =
@@ -132,7 +132,7 @@ module _ (p : Plan) (cap : ℕ) (abort : Abort) where
     few_passes : length climbing.levels ≤ counters_for p
     few_passes = subst (λ n. n ≤ counters_for p) climbing.counted few
 
-    pub ends_whole : depth ≤ level → HasPassed p cap abort start now Whole counters
+    pub ends_whole : depth ≤ level → HasPassed p cap abort units start now Whole counters
     ends_whole past = record {
       levels = climbing.levels;
       before = climbing.before;
@@ -157,7 +157,7 @@ module _ (p : Plan) (cap : ℕ) (abort : Abort) where
     lazy_ends : abort ≡ Lazy → counters_for p ≤ counters → depth ≤ level
     lazy_ends lazy used = let is : level ≡ length climbing.levels = (climbing.lazy lazy).0 in let many = climbing.counted in omega arith
 
-    pub ends_spent : level < depth → counters_for p ≤ counters → HasPassed p cap abort start now Spent counters
+    pub ends_spent : level < depth → counters_for p ≤ counters → HasPassed p cap abort units start now Spent counters
     ends_spent less used = record {
       levels = climbing.levels;
       before = climbing.before;

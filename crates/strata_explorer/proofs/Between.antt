@@ -1,5 +1,6 @@
 -- Between passes the first runner empties or loads the level word: what a pass makes of runners does not depend on it.
-use Rattle.std.proofs.Common.{◌≡◌, ℕ, zero, suc, ◌<◌, Bool, Option, Some, None, List, [], ◌∷◌, length, refl, sym, ap, ◌∙◌, subst, inl, inr, arith}
+use Rattle.std.proofs.lemmas.Bool.{cases_lt}
+use Rattle.std.proofs.Common.{◌≡◌, ℕ, zero, suc, ◌+◌, ◌<◌, ◌≤◌, drop, true, false, Bool, Option, Some, None, List, [], ◌∷◌, length, refl, sym, ap, ◌∙◌, subst, inl, inr, arith}
 use Rattle.std.specs.Prelude.{Contains, slice_index_or}
 use Rattle.morph_base.specs.declared.plan.Plan.{Plan}
 use Rattle.morph_base.specs.declared.strategy.Abort.{Abort}
@@ -10,12 +11,14 @@ use Rattle.op_eval.specs.declared.runner.Runner.{Runner}
 use Rattle.op_eval.specs.Evaluations.{EvaluationDoes, Tries}
 use Rattle.op_eval.specs.Exploring.{Unused}
 use Rattle.op_eval.specs.Running.{hand_view, counted}
-use Rattle.abort_eager.specs.Sweeps.{cascade_for, SweepsFor}
+use Rattle.abort_eager.specs.Sweeps.{cascade_for, SweepsFor, Attempts}
 use Rattle.abort_eager.specs.Targets.{targets}
 use Rattle.abort_eager.specs.Touching.{Touching}
-use Rattle.strata_explorer.specs.Calls.{Call, Took, Tried, Calling, Calls}
-use Rattle.strata_explorer.specs.Passes.{IsLike, AreLike, Worked, IsEnough, IsPassed}
+use Rattle.strata_explorer.specs.Calls.{Call, Took, Tried, TakesNumber, Calling, Calls}
+use Rattle.strata_explorer.specs.Passes.{IsLike, AreLike, shared_from, Worked, IsEnough, IsPassed}
+use Rattle.strata_explorer.specs.Walks.{has_evaluated, TriesInTurn, WalksUnit, WalksPlaces, WalksAll}
 use Rattle.strata_explorer.proofs.Turning.{times_some}
+use Rattle.strata_explorer.proofs.UnitWalks.{drop_at}
 use Rattle.strata_explorer.proofs.Running.{calls_places}
 
 module _ (p : Plan) (cap : ℕ) (abort : Abort) where
@@ -105,12 +108,79 @@ module _ (p : Plan) (cap : ℕ) (abort : Abort) where
   enough_like c ops a b like (inl none) = inl none
   enough_like c ops a b like (inr last) = inr (last.0, subst (λ (v : View). Contains v.places (place c last.0)) (sym like.view) last.1, last.2)
 
-  pub passed_between : (c : ℕ) (ops : List ℕ) (before rs qs after : List Runner) → AreLike before rs → AreLike qs after → 0 < length ops → 0 < length before → ((d : Runner) → Unused c (slice_index_or before 0 d))
-      → IsPassed p cap abort c ops rs qs → ((d : Runner) → IsEnough c ops (slice_index_or qs 0 d)) → IsPassed p cap abort c ops before after
-  passed_between c ops before rs qs after first last full some unused passed saw = record {
+  -- ---- walks
+
+  -- behind an attempt, operations of a list
+  ends_to : (os : List ℕ) (o : ℕ) (r : Evaluation) (a m b to : Runner) → Attempts p cap abort o a m r → (t : Bool) → TriesInTurn p cap abort t os m b → IsLike b to → (n : Runner) × Attempts p cap abort o a n r × TriesInTurn p cap abort t os n to
+  ends_to [] o r a m b to tries t rest like = (to, sweeps_to o a m to r (cascade_for abort r) tries (subst (λ x. IsLike x to) rest like), none t)
+    where
+      none : (t : Bool) → TriesInTurn p cap abort t [] to to
+      none true = refl
+      none false = refl
+  ends_to (q ∷ qs) o r a m b to tries false rest like = (to, sweeps_to o a m to r (cascade_for abort r) tries (subst (λ x. IsLike x to) rest like), refl)
+  ends_to (q ∷ qs) o r a m b to tries true rest like =
+      let next = ends_to qs q rest.1 m rest.0 b to rest.2 (has_evaluated rest.1) rest.3 like in
+      (m, tries, (next.0, rest.1, next.1, next.2))
+
+  unit_to : (units : List (List ℕ)) (o : ℕ) (a b to : Runner) → WalksUnit p cap abort units o a b → IsLike b to → WalksUnit p cap abort units o a to
+  unit_to units o a b to walks like = record {
+    unit = walks.unit;
+    at = walks.at;
+    stands = walks.stands;
+    tries = subst (λ os. TriesInTurn p cap abort true os a to) (sym whole) (next.0, made.1, next.1, next.2);
+  }
+    where
+      ops : List ℕ
+      ops = slice_index_or units walks.unit []
+
+      whole : drop walks.at ops ≡ o ∷ drop (walks.at + 1) ops
+      whole = drop_at ops walks.at o walks.stands
+
+      made : TriesInTurn p cap abort true (o ∷ drop (walks.at + 1) ops) a b
+      made = subst (λ os. TriesInTurn p cap abort true os a b) whole walks.tries
+
+      next : (n : Runner) × Attempts p cap abort o a n made.1 × TriesInTurn p cap abort (has_evaluated made.1) (drop (walks.at + 1) ops) n to
+      next = ends_to (drop (walks.at + 1) ops) o made.1 a made.0 b to made.2 (has_evaluated made.1) made.3 like
+
+  module _ (units : List (List ℕ)) (c : ℕ) (ops : List ℕ) where
+    places_from : (ns : List ℕ) (a from b : Runner) → 0 < length ns → IsLike a from → WalksPlaces p cap abort units c ops ns from b → WalksPlaces p cap abort units c ops ns a b
+    places_from [] a from b some like walks = absurd (omega arith)
+    places_from (n ∷ []) a from b some like walks =
+        (a, walks.1, refl, calling_from (Took c n) a from walks.1 like (subst (λ m. TakesNumber c m walks.1 n) walks.2 walks.3), walks.4, walks.5)
+    places_from (n ∷ m ∷ ns) a from b some like walks = (walks.0, walks.1, places_from (m ∷ ns) a from walks.0 (omega arith) like walks.2, walks.3, walks.4, walks.5)
+
+    places_to : (ns : List ℕ) (a b to : Runner) → 0 < length ns → WalksPlaces p cap abort units c ops ns a b → IsLike b to → WalksPlaces p cap abort units c ops ns a to
+    places_to [] a b to some walks like = absurd (omega arith)
+    places_to (n ∷ ns) a b to some walks like =
+        elim (cases_lt n (length ops)) [
+          | inl lt ↦ (walks.0, walks.1, walks.2, walks.3, (λ _. unit_to units (slice_index_or ops n 0) walks.1 b to (walks.4 lt) like), (λ past. absurd (omega arith)))
+          | inr past ↦ (walks.0, to, walks.2, calling_to (Took c n) walks.0 walks.1 to walks.3 (subst (λ x. IsLike x to) (walks.5 past) like), (λ lt. absurd (omega arith)), (λ _. refl))
+        ]
+
+    -- a runner that saw the end of a counter that it had not used has taken a number
+    some_numbers : (ns : List ℕ) (a b : Runner) → 0 < length ops → Unused c a → IsEnough c ops b → WalksPlaces p cap abort units c ops ns a b → 0 < length ns
+    some_numbers (n ∷ ns) a b some unused enough walks = omega arith
+    some_numbers [] a b some unused enough walks =
+        elim enough [
+          | inl none ↦ absurd (omega arith)
+          | inr last ↦ (
+              let one = times_some c last.0 (hand_view b).places last.1 in
+              let same : times c (hand_view b).places ≡ times c (hand_view a).places = ap (λ r. times c (hand_view r).places) walks in
+              absurd (omega (arith, unused)))
+        ]
+
+    all_between : (a from b to : Runner) → IsLike a from → IsLike b to → (all : WalksAll p cap abort units c ops from b) → 0 < length all.numbers → WalksAll p cap abort units c ops a to
+    all_between a from b to first last all some = record { numbers = all.numbers; walks = places_to all.numbers a b to some (places_from all.numbers a from b some first all.walks) last }
+
+  pub passed_between : (units : List (List ℕ)) (c : ℕ) (ops : List ℕ) (before rs qs after : List Runner) → AreLike before rs → AreLike qs after → 0 < length ops → 0 < length before → ((d : Runner) → Unused c (slice_index_or before 0 d))
+      → IsPassed p cap abort units c ops rs qs → ((d : Runner) → IsEnough c ops (slice_index_or qs 0 d)) → IsPassed p cap abort units c ops before after
+  passed_between units c ops before rs qs after first last full some unused passed saw = record {
     len = last.len ∙ passed.len ∙ first.len;
     each = each;
+    walks = walks;
     enough = (0, some, λ d. enough_like c ops (slice_index_or qs 0 d) (slice_index_or after 0 d) (last.first d) (saw d));
+    first = λ few k d above lt. last.others k d above ∙ passed.first few k d above (less lt) ∙ first.others k d above;
+    shared = shared;
   }
     where
       less : {k : ℕ} → k < length before → k < length rs
@@ -122,6 +192,10 @@ module _ (p : Plan) (cap : ℕ) (abort : Abort) where
           unused_like : {a b : Runner} → Unused c a → IsLike a b → Unused c b
           unused_like {a} {b} none like = subst (λ (v : View). times c v.places ≡ 0) (sym like.view) none
 
+      shared : shared_from ≤ length ops → (k : ℕ) (d : Runner) → k < length before → IsEnough c ops (slice_index_or after k d)
+      shared many zero d lt = enough_like c ops (slice_index_or qs 0 d) (slice_index_or after 0 d) (last.first d) (saw d)
+      shared many (suc k) d lt = subst (λ b. IsEnough c ops b) (sym (last.others (suc k) d (omega arith))) (passed.shared many (suc k) d (less lt))
+
       each : (k : ℕ) (d : Runner) → k < length before → Worked p cap abort c ops (slice_index_or before k d) (slice_index_or after k d)
       each zero d lt =
           let worked = passed.each 0 d (less lt) in
@@ -130,3 +204,12 @@ module _ (p : Plan) (cap : ℕ) (abort : Abort) where
       each (suc k) d lt =
           subst (λ b. Worked p cap abort c ops (slice_index_or before (suc k) d) b) (sym (last.others (suc k) d (omega arith)))
           (subst (λ a. Worked p cap abort c ops a (slice_index_or qs (suc k) d)) (first.others (suc k) d (omega arith)) (passed.each (suc k) d (less lt)))
+
+      walks : (k : ℕ) (d : Runner) → k < length before → WalksAll p cap abort units c ops (slice_index_or before k d) (slice_index_or after k d)
+      walks zero d lt =
+          let all = passed.walks 0 d (less lt) in
+          all_between units c ops (slice_index_or before 0 d) (slice_index_or rs 0 d) (slice_index_or qs 0 d) (slice_index_or after 0 d) (first.first d) (last.first d) all
+          (some_numbers units c ops all.numbers (slice_index_or rs 0 d) (slice_index_or qs 0 d) full (unused_now d) (saw d) all.walks)
+      walks (suc k) d lt =
+          subst (λ b. WalksAll p cap abort units c ops (slice_index_or before (suc k) d) b) (sym (last.others (suc k) d (omega arith)))
+          (subst (λ a. WalksAll p cap abort units c ops a (slice_index_or qs (suc k) d)) (first.others (suc k) d (omega arith)) (passed.walks (suc k) d (less lt)))

@@ -16,10 +16,12 @@ use Rattle.op_eval.specs.Exploring.{total}
 use Rattle.op_eval.specs.Running.{hand_view}
 use Rattle.op_eval.proofs.Totals.{tries_total, full_stays}
 use Rattle.strata_explorer.specs.Calls.{Call, Took, Tried, Calls}
-use Rattle.strata_explorer.specs.Passes.{is_tried, names, Worked, IsEnough, IsPassed}
+use Rattle.strata_explorer.specs.Passes.{is_tried, names, shared_from, Worked, IsEnough, IsPassed}
 use Rattle.strata_explorer.specs.Levels.{ops_of, op_of, level_of, named, IsStrata, AreStrata, IsWhole}
+use Rattle.strata_explorer.specs.Walks.{WalksAll}
 use Rattle.abort_eager.proofs.Sweeping.{attempted}
 use Rattle.strata_explorer.proofs.Turning.{contains_first, contains_later, count_first, times_some}
+use Rattle.strata_explorer.proofs.UnitWalks.{all_none}
 use Rattle.strata_explorer.proofs.Running.{calls_keep, calls_reach, calls_places, calls_hold, calls_running}
 
 pub calls_total : (p : Plan) (cap : ℕ) (abort : Abort) (cs : List Call) (a b : Runner) → Calls p cap abort cs a b → (total a.answers + count_by is_tried cs ≤ total b.answers) ⊎ (2 ^ 64 ≤ total b.answers + 1)
@@ -154,8 +156,8 @@ module _ (p : Plan) (cap : ℕ) (abort : Abort) (l : ℕ) (ls : List ℕ) where
   enough_stays : (c : ℕ) (ops : List ℕ) (cs : List Call) (a b : Runner) → Calls p cap abort cs a b → IsEnough c ops a → IsEnough c ops b
   enough_stays c ops cs a b calls enough = elim enough [ inl none ↦ inl none | inr is ↦ inr (is.0, calls_hold p cap abort cs a b calls (place c is.0) is.1, is.2) ]
 
-  pub all_strata_more : (rs qs : List Runner) → AreStrata p ls rs → IsPassed p cap abort (length ls) (ops_of p l) rs qs → AreStrata p (l ∷ ls) qs
-  all_strata_more rs qs strata passed = record {
+  pub all_strata_more : (units : List (List ℕ)) (rs qs : List Runner) → AreStrata p ls rs → IsPassed p cap abort units (length ls) (ops_of p l) rs qs → AreStrata p (l ∷ ls) qs
+  all_strata_more units rs qs strata passed = record {
     each = λ k d lt. let less : k < length rs = subst (λ n. k < n) passed.len lt in strata_more (slice_index_or rs k d) (slice_index_or qs k d) (strata.each k d less) (passed.each k d less);
     enough = λ c lt.
         elim (cases_eq c (length ls)) [
@@ -213,17 +215,29 @@ worked_none p cap abort c ops a = record {
   counted = omega arith;
 }
 
-pub first_passed : (p : Plan) (cap : ℕ) (abort : Abort) (c : ℕ) (ops : List ℕ) (rs : List Runner) (a b : Runner) → 0 < length rs → Worked p cap abort c ops (first_of rs a) b → IsEnough c ops b → IsPassed p cap abort c ops rs (set rs 0 b)
-first_passed p cap abort c ops [] a b some worked enough = absurd (omega arith)
-first_passed p cap abort c ops (r ∷ rs) a b some worked enough = record {
+pub first_passed : (p : Plan) (cap : ℕ) (abort : Abort) (units : List (List ℕ)) (c : ℕ) (ops : List ℕ) (rs : List Runner) (a b : Runner) → 0 < length rs → Worked p cap abort c ops (first_of rs a) b → WalksAll p cap abort units c ops (first_of rs a) b → IsEnough c ops b
+    → length ops < shared_from → IsPassed p cap abort units c ops rs (set rs 0 b)
+first_passed p cap abort units c ops [] a b some worked all enough few = absurd (omega arith)
+first_passed p cap abort units c ops (r ∷ rs) a b some worked all enough few = record {
   len = refl;
   each = each;
+  walks = walks;
   enough = (0, some, λ d. enough);
+  first = λ less. others;
+  shared = λ many. absurd (omega (arith, few, many));
 }
   where
+    walks : (k : ℕ) (d : Runner) → k < length (r ∷ rs) → WalksAll p cap abort units c ops (get_or (r ∷ rs) k d) (get_or (b ∷ rs) k d)
+    walks zero d lt = all
+    walks (suc k) d lt = all_none p cap abort units c ops (get_or rs k d)
+
     each : (k : ℕ) (d : Runner) → k < length (r ∷ rs) → Worked p cap abort c ops (get_or (r ∷ rs) k d) (get_or (b ∷ rs) k d)
     each zero d lt = worked
     each (suc k) d lt = worked_none p cap abort c ops (get_or rs k d)
+
+    others : (k : ℕ) (d : Runner) → 0 < k → k < length (r ∷ rs) → get_or (b ∷ rs) k d ≡ get_or (r ∷ rs) k d
+    others zero d above lt = absurd (omega (arith, above))
+    others (suc k) d above lt = refl
 
 pub first_set : (P : Runner → Type 0) (rs : List Runner) (b : Runner) → All P rs → P b → All P (set rs 0 b)
 first_set P [] b all holds k d lt = absurd (omega arith)

@@ -42,8 +42,8 @@ calls_further p cap abort (Tried o ∷ cs) a b calls =
       calm = does.goes.adds.calm;
     })
 
-pub passed_further : (p : Plan) (cap : ℕ) (abort : Abort) (c : ℕ) (ops : List ℕ) (start rs qs : List Runner) → AreFurther start rs → IsPassed p cap abort c ops rs qs → AreFurther start qs
-passed_further p cap abort c ops start rs qs old passed = record {
+pub passed_further : (p : Plan) (cap : ℕ) (abort : Abort) (units : List (List ℕ)) (c : ℕ) (ops : List ℕ) (start rs qs : List Runner) → AreFurther start rs → IsPassed p cap abort units c ops rs qs → AreFurther start qs
+passed_further p cap abort units c ops start rs qs old passed = record {
   len = passed.len ∙ old.len;
   each = λ k d lt.
       let there : k < length rs = subst (λ n. k < n) (sym old.len) lt in

@@ -1,5 +1,6 @@
 pub mod Trying
 pub mod Turning
+pub mod UnitWalks
 pub mod Running
 pub mod Further
 pub mod Climbing

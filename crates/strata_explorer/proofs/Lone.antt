@@ -161,7 +161,7 @@ module _ (p : Plan) (valid : IsPlan p) (cap : ℕ) (some : 1 ≤ cap) where
       lower : (k : ℕ) → k < l + 1 → k ≢ l → k < l
       lower k below other = omega arith
 
-  pub alone_more : (units : List (List ℕ)) (many : ℕ) → AreLevels p units many → (l : ℕ) (ls : List ℕ) (start rs qs : List Runner) → length rs ≡ length start → AreStrata p ls rs → IsPassed p cap Lazy (length ls) (ops_of p l) rs qs → IsAlone p l start rs → IsAlone p (l + 1) start qs
+  pub alone_more : (units : List (List ℕ)) (many : ℕ) → AreLevels p units many → (l : ℕ) (ls : List ℕ) (start rs qs : List Runner) → length rs ≡ length start → AreStrata p ls rs → IsPassed p cap Lazy units (length ls) (ops_of p l) rs qs → IsAlone p l start rs → IsAlone p (l + 1) start qs
   alone_more units many levels l ls start rs qs len strata passed alone one d begins =
       let lt : 0 < length rs = less (len ∙ one) in
       let which : passed.enough.0 ≡ 0 = only (len ∙ one) passed.enough.0 passed.enough.1 in

@@ -69,27 +69,28 @@ module _ (p : Plan) (cap : ℕ) (abort : Abort) where
   Follows l [] before now = l ≡ 0
   Follows l (k ∷ ks) before now = (l ≡ k + 1) ⊎ ((abort ≡ Eager) × (l ≤ k + 1) × (rolled_by before < rolled_by now))
 
-  -- passes over these levels were made, the last first; `before` is how the last one found the runners
-  unfoldable pub Passes : List ℕ → (start before now : List Runner) → Type 0
-  Passes [] start before now = now ≡ start
-  Passes (l ∷ ls) start before now =
-      (earlier : List Runner) × Passes ls start earlier before × Follows l ls earlier before × IsPassed p cap abort (length ls) (ops_of p l) before now
+  module _ (units : List (List ℕ)) where
+    -- passes over these levels were made, the last first; `before` is how the last one found the runners
+    unfoldable pub Passes : List ℕ → (start before now : List Runner) → Type 0
+    Passes [] start before now = now ≡ start
+    Passes (l ∷ ls) start before now =
+        (earlier : List Runner) × Passes ls start earlier before × Follows l ls earlier before × IsPassed p cap abort units (length ls) (ops_of p l) before now
 
-  -- passes were made over levels, as many as counters are used. The end is Whole once there is no level left that comes next, and
-  -- then each was passed; it is Spent where as many passes were made as there are counters for them. Under lazy abort each level
-  -- was passed once, from the lowest on
-  pub record HasPassed (start now : List Runner) (end : RunEnd) (counters : ℕ) : Type 0 where
-    pub levels : List ℕ
-    pub before : List Runner
-    pub passes : Passes levels start before now
-    pub strata : AreStrata p levels now
-    pub counted : counters ≡ length levels
-    pub few : length levels ≤ counters_for p
-    pub inside : All (λ l. l < length p.op_levels.items) levels
-    pub last : end ≡ Whole → Follows (length p.op_levels.items) levels before now
-    pub whole : end ≡ Whole → (l : ℕ) → l < length p.op_levels.items → Contains levels l
-    pub spent : end ≢ Whole → (end ≡ Spent) × (length levels ≡ counters_for p)
-    pub lazy : abort ≡ Lazy → (end ≡ Whole) × (length levels ≡ length p.op_levels.items) × ((k : ℕ) → k < length levels → level_of levels k ≡ k)
+    -- passes were made over levels, as many as counters are used. The end is Whole once there is no level left that comes next, and
+    -- then each was passed; it is Spent where as many passes were made as there are counters for them. Under lazy abort each level
+    -- was passed once, from the lowest on. At each place of a pass the unit of its operation was walked
+    pub record HasPassed (start now : List Runner) (end : RunEnd) (counters : ℕ) : Type 0 where
+      pub levels : List ℕ
+      pub before : List Runner
+      pub passes : Passes levels start before now
+      pub strata : AreStrata p levels now
+      pub counted : counters ≡ length levels
+      pub few : length levels ≤ counters_for p
+      pub inside : All (λ l. l < length p.op_levels.items) levels
+      pub last : end ≡ Whole → Follows (length p.op_levels.items) levels before now
+      pub whole : end ≡ Whole → (l : ℕ) → l < length p.op_levels.items → Contains levels l
+      pub spent : end ≢ Whole → (end ≡ Spent) × (length levels ≡ counters_for p)
+      pub lazy : abort ≡ Lazy → (end ≡ Whole) × (length levels ≡ length p.op_levels.items) × ((k : ℕ) → k < length levels → level_of levels k ≡ k)
 
 -- a lone root after the passes over the levels below: what it called `evaluate` on has run at attempt 1
 pub record IsLoneStrata (p : Plan) (level : ℕ) (r : Runner) : Type 0 where

@@ -11,6 +11,7 @@ use Rattle.op_words.specs.Hands.{IsHandOf}
 use Rattle.op_eval.specs.declared.runner.Runner.{Runner}
 use Rattle.op_eval.specs.Running.{hand_view}
 use Rattle.strata_explorer.specs.Calls.{Call, Took, Tried, Calls, IsFree}
+use Rattle.strata_explorer.specs.Walks.{WalksAll}
 
 abbrev pub is_tried : Call → Bool
 is_tried (Took c n) = false
@@ -46,7 +47,7 @@ pub record AreLike (before after : List Runner) : Type 0 where
   pub first : (d : Runner) → IsLike (slice_index_or before 0 d) (slice_index_or after 0 d)
   pub others : (k : ℕ) (d : Runner) → 0 < k → slice_index_or after k d ≡ slice_index_or before k d
 
--- a unit was walked from operation o on: nothing but operations was tried, this one first
+-- nothing but operations was tried, this one among them
 pub record Walked (p : Plan) (cap : ℕ) (abort : Abort) (o : ℕ) (a b : Runner) : Type 0 where
   pub calls : List Call
   pub made : Calls p cap abort calls a b
@@ -71,8 +72,16 @@ pub record IsWorking (p : Plan) (cap : ℕ) (abort : Abort) (c : ℕ) (ops : Lis
   pub turns : times c (hand_view b).places ≡ turn
   pub last : (turn ≡ 0) ⊎ ((n : ℕ) × Contains (hand_view b).places (place c n) × (turn ≤ n + 1))
 
--- all runners took part, or the first alone, and one of them saw the counter at the end
-pub record IsPassed (p : Plan) (cap : ℕ) (abort : Abort) (c : ℕ) (ops : List ℕ) (before after : List Runner) : Type 0 where
+-- all runners share a level of so many operations; the first one passes over one of fewer alone
+abbrev pub shared_from : ℕ
+shared_from = 8
+
+-- the first runner took part alone, or all of them where they share the level. One of them saw the counter at the end, or each where
+-- they share it; the unit of each place was walked
+pub record IsPassed (p : Plan) (cap : ℕ) (abort : Abort) (units : List (List ℕ)) (c : ℕ) (ops : List ℕ) (before after : List Runner) : Type 0 where
   pub len : length after ≡ length before
   pub each : (k : ℕ) (d : Runner) → k < length before → Worked p cap abort c ops (slice_index_or before k d) (slice_index_or after k d)
+  pub walks : (k : ℕ) (d : Runner) → k < length before → WalksAll p cap abort units c ops (slice_index_or before k d) (slice_index_or after k d)
   pub enough : (k : ℕ) × (k < length before) × ((d : Runner) → IsEnough c ops (slice_index_or after k d))
+  pub first : length ops < shared_from → (k : ℕ) (d : Runner) → 0 < k → k < length before → slice_index_or after k d ≡ slice_index_or before k d
+  pub shared : shared_from ≤ length ops → (k : ℕ) (d : Runner) → k < length before → IsEnough c ops (slice_index_or after k d)

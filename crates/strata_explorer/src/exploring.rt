@@ -14,6 +14,7 @@ ghost use Rattle.op_eval.specs.Running.{hand_view};
 ghost use Rattle.strata_explorer.specs.Levels.{ops_of, rolled_by, AreStrata, Follows, HasPassed, IsAlone, counters_for};
 ghost use Rattle.strata_explorer.specs.Passes.{AreLike, IsPassed, IsSeated};
 
+use crate::ground::{Course, Ground};
 use crate::passing::{Pass, pass_by};
 use chain_units::Units;
 use morph_base::{Abort, Plan};
@@ -100,18 +101,15 @@ fn pass_once<R: Threads + Sync, G: Gate>(
     rt: &R,
     board: &mut Board,
     runners: &mut [Runner],
-    plan: &Plan,
-    units: &Units,
-    abort: Abort,
-    gate: &G,
+    course: &Course<'_, G>,
     level: usize,
     counter: u32,
 ) -> usize
-    requires valid { IsValidPlan plan.now }
-    requires plan { plan.now ≡ plan_of board.old }
-    requires units { IsPartition units.now.units (op_count plan.now) }
-    requires number { units.now.ops ≡ op_count plan.now }
-    requires level { level < length plan.now.op_levels.items }
+    requires valid { IsValidPlan course.now.plan.now }
+    requires plan { course.now.plan.now ≡ plan_of board.old }
+    requires units { IsPartition course.now.units.now.units (op_count course.now.plan.now) }
+    requires number { course.now.units.now.ops ≡ op_count course.now.plan.now }
+    requires level { level < length course.now.plan.now.op_levels.items }
     requires counter { counter < counters_of board.old }
     requires some { 0 < length runners.old }
     requires seated { All (IsSeated board.old) runners.old }
@@ -120,24 +118,27 @@ fn pass_once<R: Threads + Sync, G: Gate>(
     ensures plan { plan_of board.new ≡ plan_of board.old }
     ensures cap { cap_of board.new ≡ cap_of board.old }
     ensures counters { counters_of board.new ≡ counters_of board.old }
-    ensures passed { IsPassed plan.now (cap_of board.old) abort counter (ops_of plan.now level)
+    ensures passed { IsPassed course.now.plan.now (cap_of board.old) course.now.abort
+        course.now.units.now.units counter (ops_of course.now.plan.now level)
         runners.old runners.new }
-    ensures next { Follows plan.now (cap_of board.old) abort result (level ∷ [])
-        runners.old runners.new }
+    ensures next { Follows course.now.plan.now (cap_of board.old) course.now.abort result
+        (level ∷ []) runners.old runners.new }
 {
-    empty_level(board, runners, abort);
+    empty_level(board, runners, course.abort);
     let rolled = count_rolled(runners);
     let pass = Pass {
-        board,
-        gate,
-        plan,
-        units,
-        abort,
-        ops: plan.op_levels.get(level).as_slice(),
+        ground: Ground {
+            board,
+            plan: course.plan,
+            units: course.units,
+            abort: course.abort,
+        },
+        gate: course.gate,
+        ops: course.plan.op_levels.get(level).as_slice(),
         counter,
     };
     pass_by(rt, runners, &pass);
-    let risen = has_risen(runners, abort, rolled);
+    let risen = has_risen(runners, course.abort, rolled);
     next_level(board, runners, level, risen)
 }
 
@@ -147,35 +148,33 @@ fn pass_all<R: Threads + Sync, G: Gate>(
     rt: &R,
     board: &mut Board,
     runners: &mut [Runner],
-    plan: &Plan,
-    units: &Units,
-    abort: Abort,
-    gate: &G,
+    course: &Course<'_, G>,
 ) -> (RunEnd, u32)
-    requires valid { IsValidPlan plan.now }
-    requires plan { plan.now ≡ plan_of board.old }
-    requires units { IsPartition units.now.units (op_count plan.now) }
-    requires number { units.now.ops ≡ op_count plan.now }
-    requires counters { counters_for plan.now ≤ counters_of board.old }
+    requires valid { IsValidPlan course.now.plan.now }
+    requires plan { course.now.plan.now ≡ plan_of board.old }
+    requires units { IsPartition course.now.units.now.units (op_count course.now.plan.now) }
+    requires number { course.now.units.now.ops ≡ op_count course.now.plan.now }
+    requires counters { counters_for course.now.plan.now ≤ counters_of board.old }
     requires some { 0 < length runners.old }
     requires seated { All (IsSeated board.old) runners.old }
-    requires ready { AreStrata plan.now [] runners.old }
+    requires ready { AreStrata course.now.plan.now [] runners.old }
     ensures seated { All (IsSeated board.new) runners.new }
     ensures plan { plan_of board.new ≡ plan_of board.old }
     ensures cap { cap_of board.new ≡ cap_of board.old }
     ensures counters { counters_of board.new ≡ counters_of board.old }
     ensures hands { AreFurther runners.old runners.new }
-    ensures passed { HasPassed plan.now (cap_of board.old) abort runners.old runners.new
-        result.0 result.1 }
-    ensures alone { abort ≡ Lazy → 1 ≤ cap_of board.old
-        → IsAlone plan.now (length plan.now.op_levels.items) runners.old runners.new }
+    ensures passed { HasPassed course.now.plan.now (cap_of board.old) course.now.abort
+        course.now.units.now.units runners.old runners.new result.0 result.1 }
+    ensures alone { course.now.abort ≡ Lazy → 1 ≤ cap_of board.old
+        → IsAlone course.now.plan.now (length course.now.plan.now.op_levels.items)
+        runners.old runners.new }
 {
-    let levels = plan.op_levels.len();
-    let most = counters(plan);
+    let levels = course.plan.op_levels.len();
+    let most = counters(course.plan);
     let mut level = 0;
     let mut passes = 0;
     while level < levels && passes < most {
-        level = pass_once(rt, board, runners, plan, units, abort, gate, level, passes);
+        level = pass_once(rt, board, runners, course, level, passes);
         passes += 1;
     }
     let end = if level < levels {
@@ -219,7 +218,7 @@ pub fn explore<R: Threads + Sync, G: Gate>(
     ensures cap { cap_of (parts_of result).0 ≡ cap_of board }
     ensures counters { counters_of (parts_of result).0 ≡ counters_of board }
     ensures hands { AreFurther (runners_of runners) (runners_of (parts_of result).1) }
-    ensures passed { HasPassed plan.now (cap_of board) abort (runners_of runners)
+    ensures passed { HasPassed plan.now (cap_of board) abort units.now.units (runners_of runners)
         (runners_of (parts_of result).1) (parts_of result).2 (parts_of result).3 }
     ensures alone { abort ≡ Lazy → 1 ≤ cap_of board
         → IsAlone plan.now (length plan.now.op_levels.items) (runners_of runners)
@@ -229,14 +228,12 @@ pub fn explore<R: Threads + Sync, G: Gate>(
 {
     let mut runners = runners;
     let mut board = board;
-    let (end, passes) = pass_all(
-        rt,
-        &mut board,
-        runners.as_mut_slice(),
+    let course = Course {
         plan,
         units,
         abort,
         gate,
-    );
+    };
+    let (end, passes) = pass_all(rt, &mut board, runners.as_mut_slice(), &course);
     Explored::new(board, runners, end, passes)
 }

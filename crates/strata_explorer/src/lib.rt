@@ -24,6 +24,7 @@
 #![tactic(auto)]
 
 mod exploring;
+mod ground;
 pub mod laws;
 mod passing;
 mod sweeping;

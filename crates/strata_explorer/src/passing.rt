@@ -5,12 +5,10 @@ ghost use Rattle.op_eval.specs.declared.runner.Runner.{Runner as Worker};
 ghost use Rattle.op_eval.specs.Exploring.{Unused};
 ghost use Rattle.strata_explorer.specs.Passes.{Fits, IsEnough, IsSeated, IsPassed};
 
+use crate::ground::Ground;
 use crate::turns::Told;
 use crate::walking::work;
-use chain_units::Units;
-use morph_base::{Abort, Plan};
 use op_eval::Runner;
-use op_words::Board;
 use std::thread::Threads;
 use worker_gate::{Gate, Job, run_all};
 
@@ -21,11 +19,8 @@ pub const FEW: usize = 8;
 /// A pass over the operations of a level, whose places workers take from a counter.
 #[derive(Drop)]
 pub(crate) struct Pass<'a, G> {
-    pub(crate) board: &'a Board,
+    pub(crate) ground: Ground<'a>,
     pub(crate) gate: &'a G,
-    pub(crate) plan: &'a Plan,
-    pub(crate) units: &'a Units,
-    pub(crate) abort: Abort,
     pub(crate) ops: &'a [u32],
     pub(crate) counter: u32,
 }
@@ -35,32 +30,27 @@ impl<G: Gate> Job<Runner> for Pass<'_, G> {
     ghost use Rattle.op_words.specs.Hands.{plan_of, cap_of, counters_of};
     ghost use Rattle.op_eval.specs.Exploring.{Unused};
     ghost use Rattle.strata_explorer.specs.Passes.{Fits, IsSeated, Worked, IsEnough};
+    ghost use Rattle.strata_explorer.specs.Walks.{WalksAll};
 
-    ghost can_run = { λ pass runner. (pass.plan.now ≡ plan_of pass.board.now)
-        × Fits pass.plan.now pass.units.now.units pass.units.now.ops pass.ops.now
-        × (pass.counter < counters_of pass.board.now) × IsSeated pass.board.now runner
-        × Unused pass.counter runner };
+    ghost can_run = { λ pass runner. (pass.ground.plan.now ≡ plan_of pass.ground.board.now)
+        × Fits pass.ground.plan.now pass.ground.units.now.units pass.ground.units.now.ops
+        pass.ops.now
+        × (pass.counter < counters_of pass.ground.board.now)
+        × IsSeated pass.ground.board.now runner × Unused pass.counter runner };
 
-    ghost changes = { λ pass before after. IsSeated pass.board.now after
-        × Worked pass.plan.now (cap_of pass.board.now) pass.abort pass.counter
+    ghost changes = { λ pass before after. IsSeated pass.ground.board.now after
+        × Worked pass.ground.plan.now (cap_of pass.ground.board.now) pass.ground.abort pass.counter
         pass.ops.now before after
-        × IsEnough pass.counter pass.ops.now after };
+        × IsEnough pass.counter pass.ops.now after
+        × WalksAll pass.ground.plan.now (cap_of pass.ground.board.now) pass.ground.abort
+        pass.ground.units.now.units pass.counter pass.ops.now before after };
 
     fn run(&self, worker: &mut Runner) {
         let told = Told {
             gate: self.gate,
             worker: u32::from(worker.hand.tag()),
         };
-        work(
-            self.board,
-            &told,
-            self.plan,
-            self.units,
-            self.abort,
-            self.ops,
-            self.counter,
-            worker,
-        )
+        work(&self.ground, &told, self.ops, self.counter, worker)
     }
 }
 
@@ -71,15 +61,16 @@ pub(crate) fn pass_by<R: Threads + Sync, G: Gate>(
     pass: &Pass<'_, G>,
 )
     requires some { 0 < length runners.old }
-    requires plan { pass.now.plan.now ≡ plan_of pass.now.board.now }
-    requires fits { Fits pass.now.plan.now pass.now.units.now.units pass.now.units.now.ops
+    requires plan { pass.now.ground.plan.now ≡ plan_of pass.now.ground.board.now }
+    requires fits { Fits pass.now.ground.plan.now pass.now.ground.units.now.units
+        pass.now.ground.units.now.ops
         pass.now.ops.now }
-    requires in_range { pass.now.counter < counters_of pass.now.board.now }
-    requires seated { All (IsSeated pass.now.board.now) runners.old }
+    requires in_range { pass.now.counter < counters_of pass.now.ground.board.now }
+    requires seated { All (IsSeated pass.now.ground.board.now) runners.old }
     requires unused { All (Unused pass.now.counter) runners.old }
-    ensures seated { All (IsSeated pass.now.board.now) runners.new }
-    ensures does { IsPassed pass.now.plan.now (cap_of pass.now.board.now)
-        pass.now.abort pass.now.counter
+    ensures seated { All (IsSeated pass.now.ground.board.now) runners.new }
+    ensures does { IsPassed pass.now.ground.plan.now (cap_of pass.now.ground.board.now)
+        pass.now.ground.abort pass.now.ground.units.now.units pass.now.counter
         pass.now.ops.now runners.old runners.new }
     ensures first { (d : Worker)
         → IsEnough pass.now.counter pass.now.ops.now (slice_index_or runners.new 0 d) }

@@ -11,65 +11,59 @@ ghost use Rattle.op_eval.specs.Running.{hand_view};
 ghost use Rattle.strata_explorer.specs.Calls.{TakesNumber};
 ghost use Rattle.abort_eager.specs.Sweeps.{Attempts};
 ghost use Rattle.strata_explorer.specs.Passes.{Fits, IsSeated, Walked, Worked, IsEnough};
+ghost use Rattle.strata_explorer.specs.Walks.{WalksUnit, WalksAll};
 
+use crate::ground::Ground;
 use crate::sweeping::sweep;
 use crate::turns::Turns;
-use chain_units::Units;
-use morph_base::{Abort, Plan};
 use op_eval::{Evaluation, Runner, evaluate};
 use op_words::Board;
 
 /// Tries to evaluate an operation in a turn, tells the gate, and does what stands behind the evaluation.
 fn attempt<T: Turns>(
-    board: &Board,
+    ground: &Ground<'_>,
     told: &T,
     turn: u64,
     runner: &mut Runner,
-    plan: &Plan,
-    abort: Abort,
     op: u32,
 ) -> Evaluation
-    requires plan { plan.now ≡ plan_of board.now }
-    requires valid { IsValidPlan plan.now }
-    requires in_range { op < op_count plan.now }
-    requires seated { IsSeated board.now runner.old }
-    ensures seated { IsSeated board.now runner.new }
-    ensures does { Attempts plan.now (cap_of board.now) abort op runner.old runner.new result }
+    requires plan { ground.now.plan.now ≡ plan_of ground.now.board.now }
+    requires valid { IsValidPlan ground.now.plan.now }
+    requires in_range { op < op_count ground.now.plan.now }
+    requires seated { IsSeated ground.now.board.now runner.old }
+    ensures seated { IsSeated ground.now.board.now runner.new }
+    ensures does { Attempts ground.now.plan.now (cap_of ground.now.board.now) ground.now.abort op
+        runner.old runner.new result }
 {
-    let answer = evaluate(board, runner, plan, op);
+    let answer = evaluate(ground.board, runner, ground.plan, op);
     told.done(turn);
-    sweep(board, runner, plan, abort, op, answer);
+    sweep(ground.board, runner, ground.plan, ground.abort, op, answer);
     answer
 }
 
 /// Walks the unit of an operation from it on, until an answer is not `Evaluated`.
-fn walk<T: Turns>(
-    board: &Board,
-    told: &T,
-    turn: u64,
-    runner: &mut Runner,
-    plan: &Plan,
-    units: &Units,
-    abort: Abort,
-    op: u32,
-)
-    requires plan { plan.now ≡ plan_of board.now }
-    requires valid { IsValidPlan plan.now }
-    requires in_range { op < op_count plan.now }
-    requires units { IsPartition units.now.units (op_count plan.now) }
-    requires number { units.now.ops ≡ op_count plan.now }
-    requires seated { IsSeated board.now runner.old }
-    ensures seated { IsSeated board.now runner.new }
-    ensures does { Walked plan.now (cap_of board.now) abort op runner.old runner.new }
+fn walk<T: Turns>(ground: &Ground<'_>, told: &T, turn: u64, runner: &mut Runner, op: u32)
+    requires plan { ground.now.plan.now ≡ plan_of ground.now.board.now }
+    requires valid { IsValidPlan ground.now.plan.now }
+    requires in_range { op < op_count ground.now.plan.now }
+    requires units { IsPartition ground.now.units.now.units (op_count ground.now.plan.now) }
+    requires number { ground.now.units.now.ops ≡ op_count ground.now.plan.now }
+    requires seated { IsSeated ground.now.board.now runner.old }
+    ensures seated { IsSeated ground.now.board.now runner.new }
+    ensures does { Walked ground.now.plan.now (cap_of ground.now.board.now) ground.now.abort op
+        runner.old runner.new }
+    ensures unit { WalksUnit ground.now.plan.now (cap_of ground.now.board.now) ground.now.abort
+        ground.now.units.now.units op runner.old runner.new }
 {
-    let mut answer = attempt(board, told, turn, runner, plan, abort, op);
-    let unit = units.ops(units.unit_of(op));
-    for i in (units.place_of(op) as usize + 1)..unit.len() {
+    let mut answer = attempt(ground, told, turn, runner, op);
+    let unit = ground.units.ops(ground.units.unit_of(op));
+    let place = ground.units.place_of(op) as usize;
+    for i in place + 1..unit.len() {
         match answer {
             Evaluation::Evaluated { .. } => {}
             _ => return,
         }
-        answer = attempt(board, told, turn, runner, plan, abort, unit[i]);
+        answer = attempt(ground, told, turn, runner, unit[i]);
     }
 }
 
@@ -86,39 +80,31 @@ fn take(board: &Board, runner: &mut Runner, counter: u32) -> u64
 
 /// Takes places of a pass, and walks the unit of each, until no place is left.
 pub(crate) fn work<T: Turns>(
-    board: &Board,
+    ground: &Ground<'_>,
     told: &T,
-    plan: &Plan,
-    units: &Units,
-    abort: Abort,
     ops: &[u32],
     counter: u32,
     runner: &mut Runner,
 )
-    requires plan { plan.now ≡ plan_of board.now }
-    requires fits { Fits plan.now units.now.units units.now.ops ops.now }
-    requires in_range { counter < counters_of board.now }
-    requires seated { IsSeated board.now runner.old }
+    requires plan { ground.now.plan.now ≡ plan_of ground.now.board.now }
+    requires fits { Fits ground.now.plan.now ground.now.units.now.units ground.now.units.now.ops
+        ops.now }
+    requires in_range { counter < counters_of ground.now.board.now }
+    requires seated { IsSeated ground.now.board.now runner.old }
     requires unused { Unused counter runner.old }
-    ensures seated { IsSeated board.now runner.new }
-    ensures does { Worked plan.now (cap_of board.now) abort counter ops.now runner.old runner.new }
+    ensures seated { IsSeated ground.now.board.now runner.new }
+    ensures does { Worked ground.now.plan.now (cap_of ground.now.board.now) ground.now.abort counter
+        ops.now runner.old runner.new }
     ensures enough { IsEnough counter ops.now runner.new }
+    ensures walks { WalksAll ground.now.plan.now (cap_of ground.now.board.now) ground.now.abort
+        ground.now.units.now.units counter ops.now runner.old runner.new }
 {
     for turn in 0..ops.len() {
-        let number = take(board, runner, counter);
+        let number = take(ground.board, runner, counter);
         if number >= ops.len() as u64 {
             return;
         }
         told.pass(turn as u64);
-        walk(
-            board,
-            told,
-            turn as u64,
-            runner,
-            plan,
-            units,
-            abort,
-            ops[number as usize],
-        );
+        walk(ground, told, turn as u64, runner, ops[number as usize]);
     }
 }

@@ -13,6 +13,9 @@ use op_words::Board;
 use std::thread::Threads;
 use worker_gate::{Job, run_all};
 
+/// A level of fewer events than these is left to the first runner alone: threads would cost more than they bring.
+const FEW: usize = 8;
+
 /// The events of a level, whose numbers there workers take from a counter.
 #[derive(Drop)]
 pub struct Sweep<'a> {
@@ -95,7 +98,7 @@ impl Job<Runner> for Sweep<'_> {
     }
 }
 
-/// Has the level's events tried by all runners, or by the first alone where there are fewer than 8.
+/// Has the level's events tried by all runners, or by the first alone where there are fewer than [`FEW`].
 pub fn sweep_by<T: Threads + Sync>(rt: &T, runners: &mut [Runner], sweep: &Sweep<'_>)
     requires some { 0 < length runners.old }
     requires fits { FitsBoard sweep.now.board.now sweep.now.plan.now sweep.now.counter
@@ -106,7 +109,7 @@ pub fn sweep_by<T: Threads + Sync>(rt: &T, runners: &mut [Runner], sweep: &Sweep
         sweep.now.events.now
         runners.old runners.new }
 {
-    if sweep.events.len() < 8 {
+    if sweep.events.len() < FEW {
         sweep.run(&mut runners[0]);
     } else {
         run_all(rt, runners, sweep);

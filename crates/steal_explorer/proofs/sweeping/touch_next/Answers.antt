@@ -6,22 +6,22 @@ use Rattle.steal_explorer.proofs.Cascading.{cause_kept, goes_touched, touches_ne
 use Rattle.steal_explorer.proofs.Going.{goes_none, goes_then}
 use Rattle.steal_explorer.proofs.sweeping.touch_next.Goals as goal
 
-pub push_rolled-requires-clause-in_range : goal.push_rolled-requires-clause-in_range
-push_rolled-requires-clause-in_range g c = next_in_range _ _ c.args.cascade.now c.next.new.self _ _ c.in-Some.touched c.in-Some.ensures.does
+pub ask_rolled-requires-clause-in_range : goal.ask_rolled-requires-clause-in_range
+ask_rolled-requires-clause-in_range g c = next_in_range _ _ c.args.cascade.now c.next.new.self _ _ c.in-Some.touched c.in-Some.ensures.does
 
-pub push_rolled-requires-clause-deque : goal.push_rolled-requires-clause-deque
-push_rolled-requires-clause-deque g c = let old = c.requires.deque in record { fifo = old.fifo; part = old.part; below = old.below; handed = old.handed }
+pub ask_rolled-requires-clause-deque : goal.ask_rolled-requires-clause-deque
+ask_rolled-requires-clause-deque g c = let old = c.requires.deque in record { fifo = old.fifo; part = old.part; below = old.below; handed = old.handed }
 
 pub returns-in-Some-clause-cause : goal.returns-in-Some-clause-cause
-returns-in-Some-clause-cause g c = cause_kept _ _ _ c.next.new.self _ c.push_rolled.new.member c.push_rolled.ensures.goes c.in-Some.ensures.cause
+returns-in-Some-clause-cause g c = cause_kept _ _ _ c.next.new.self _ c.ask_rolled.new.member c.ask_rolled.ensures.goes c.in-Some.ensures.cause
 
 pub returns-in-Some-clause-goes : goal.returns-in-Some-clause-goes
 returns-in-Some-clause-goes g c =
-    goes_then _ _ _ _ _ _ (goes_touched _ _ _ c.args.cascade.now c.next.new.self c.args.member.now c.next.new.hand c.in-Some.touched c.in-Some.ensures.does c.requires.eager) c.push_rolled.ensures.goes
+    goes_then _ _ _ _ _ _ (goes_touched _ _ _ c.args.cascade.now c.next.new.self c.args.member.now c.next.new.hand c.in-Some.touched c.in-Some.ensures.does c.requires.eager) c.ask_rolled.ensures.goes
 
 pub returns-in-Some-clause-does : goal.returns-in-Some-clause-does
 returns-in-Some-clause-does g c =
-    touches_next _ _ _ c.args.cascade.now c.next.new.self c.args.member.now c.next.new.hand c.in-Some.touched c.in-Some.ensures.does c.push_rolled.new.member c.push_rolled.ensures.pushed c.push_rolled.ensures.other
+    touches_next _ _ _ c.args.cascade.now c.next.new.self c.args.member.now c.next.new.hand c.in-Some.touched c.in-Some.ensures.does c.ask_rolled.new.member c.ask_rolled.ensures.asked c.ask_rolled.ensures.other
 
 pub returns-in-None-clause-goes : goal.returns-in-None-clause-goes
 returns-in-None-clause-goes g c =

@@ -11,8 +11,8 @@ invariant-loop-level g l =
     × (plan_of l.board ≡ plan_of l.fn.board)
     × (cap_of l.board ≡ cap_of l.fn.board)
     × (counters_of l.board ≡ counters_of l.fn.board)
-    × (l.passes ≤ counters_for l.plan)
-    × IsClimbing l.plan (cap_of l.fn.board) l.abort l.level l.passes l.fn.runners l.runners
+    × (l.passes ≤ counters_for l.course.plan.now)
+    × IsClimbing l.course.plan.now (cap_of l.fn.board) l.course.abort l.course.units.now.units l.level l.passes l.fn.runners l.runners
 
 abbrev pub decreases-loop-level : goal.decreases-loop-level
 decreases-loop-level g l = l.most - l.passes

@@ -1,4 +1,5 @@
-use Rattle.strata_explorer.proofs.Turning.{ended, went_on}
+use Rattle.strata_explorer.proofs.Turning.{working_none, ended, went_on}
+use Rattle.strata_explorer.proofs.UnitWalks.{all_none, all_ended, all_more}
 use Rattle.strata_explorer.proofs.walking.work.Goals as goal
 
 pub returns-then-number-ops-clause-does : goal.returns-then-number-ops-clause-does
@@ -8,4 +9,14 @@ pub returns-then-number-ops-clause-enough : goal.returns-then-number-ops-clause-
 returns-then-number-ops-clause-enough g c = (ended _ _ _ _ _ _ _ _ _ _ c.loop-turn.invariant.1 c.take-number.ensures.does c.if-number-ops.true).1
 
 pub loop-turn-preserved : goal.loop-turn-preserved
-loop-turn-preserved g c = (c.walk.ensures.seated, went_on _ _ _ _ _ _ _ _ _ _ c.loop-turn.invariant.1 c.take-number.ensures.does _ c.if-number-ops.false c.walk.ensures.does)
+loop-turn-preserved g c = (
+  c.walk.ensures.seated,
+  went_on _ _ _ _ _ _ _ _ _ _ c.loop-turn.invariant.1 c.take-number.ensures.does _ c.if-number-ops.false c.walk.ensures.does,
+  all_more _ _ _ _ _ _ _ _ _ _ _ c.loop-turn.invariant.2 c.take-number.ensures.does c.if-number-ops.false c.walk.ensures.unit,
+)
+
+pub returns-then-number-ops-clause-walks : goal.returns-then-number-ops-clause-walks
+returns-then-number-ops-clause-walks g c = all_ended _ _ _ _ _ _ _ _ _ _ c.loop-turn.invariant.2 c.take-number.ensures.does c.if-number-ops.true
+
+pub loop-turn-init : goal.loop-turn-init
+loop-turn-init g c = (c.requires.seated, working_none _ _ _ _ _ _ c.requires.unused, all_none _ _ _ _ _ _ _)

@@ -8,6 +8,7 @@ use Rattle.morph_base.specs.Outcomes.{fates}
 use Rattle.morph_base.specs.Plans.{HasBases, IsSettledOf, transactions}
 use Rattle.morph_base.specs.Graphs.{IsValidPlan}
 use Rattle.morph_engine.specs.Accounts.{IsAccount, account_of}
+use Rattle.morph_engine.specs.Ends.{IsEnd}
 use Rattle.morph_engine.specs.Fates.{settled_fates}
 use Rattle.decision_model.specs.declared.counts.Last.{Last}
 use Rattle.decision_model.specs.Choices.{last_of, profile_of, strategy_for}
@@ -44,6 +45,8 @@ pub record IsRun (m : Manner) (s : State) (last : Last) (x : Sent) (r : Ran) : T
   pub fates_are : settled_fates r.end.plan r.end.settled ≡ fates s (transactions x.plan)
   pub strategy : r.strategy ≡ picked m.pick last r.end.plan
   pub run_by : r.end.strategy ≡ r.strategy
+  -- all that is told of a batch's end holds of it: its closed board, the causes by worker, the counts
+  pub ended : IsEnd r.end.plan r.end.strategy m.workers s r.end
   pub account : IsAccount r.end.strategy.explore r.end.strategy.abort m.workers (account_of r.end)
 
 -- the state after plans, one after another

@@ -24,6 +24,7 @@ use Rattle.interleaving_core.proofs.Bounds.{spreads-rolled, evaluated-spreads, n
 use Rattle.interleaving_core.proofs.Committed.{settled-evaluated}
 use Rattle.interleaving_core.proofs.Sources.{settled_cases}
 use Rattle.op_words.specs.declared.answers.Counts.{Counts}
+use Rattle.op_words.specs.Closing.{journal_of}
 use Rattle.op_words.specs.declared.closed.Closed.{Closed}
 use Rattle.op_words.specs.Hands.{counts_of, up_to}
 use Rattle.op_words.proofs.Sizes.{range_size}
@@ -109,7 +110,7 @@ module _ (p : Plan) (valid : IsPlan p) (strategy : Strategy) (workers : ℕ) (cl
   abort = strategy.abort
 
   abbrev account : Account
-  account = record { plan = p; strategy = strategy; by = by; counts = counts; left = left; handed = handed; stolen = stolen }
+  account = record { plan = p; strategy = strategy; by = by; counts = counts; left = left; handed = handed; stolen = stolen; journal = journal_of closed }
 
   -- ---- who settled an operation
 

@@ -174,7 +174,14 @@ module _ (p : Plan) (valid : IsValidPlan p) (x : Prepared) (prepared : IsPrepare
   abbrev pub any : Runner
   any = some_runner rs some_after
 
-  -- the journal of a root that was alone
+  -- what a root that was alone settled
+  all_settled : length before ≡ 1 → (counters : ℕ) (closed : Closed) (is : IsClosed p (cap_for x.abort) counters (root_view any rs) closed) → (o : ℕ) → o < op_count p → is_settled (is.ends.core.word o).state ≡ true
+  all_settled one counters closed is o lt =
+      let seen = (settled_all one any).settled o lt in
+      let present : IsSettledSeen (root_view any rs) o = subst (λ v. IsSettledSeen v o) (sym (single_root any rs (many ∙ one))) seen in
+      ap (λ (w : OpWord). is_settled w.state) (noted_present is.ends.noted present) ∙ present.settled
+
+  -- the journal that it kept
   pub kept_run : (room : ℕ) → HasJournalRoom room x → length before ≡ 1 → (counters : ℕ) (closed : Closed) → IsClosed p (cap_for x.abort) counters (root_view any rs) closed → IsKept p x.abort room closed
   kept_run room fits one counters closed is = record {
     counters = counters;
@@ -183,16 +190,14 @@ module _ (p : Plan) (valid : IsValidPlan p) (x : Prepared) (prepared : IsPrepare
     alone = root_made any rs some_after ∙ made_is any ∙ one;
     room_is =
         gathered_room (hand_view (slice_index_or rs 0 any)) (map hand_view (drop 1 rs)) ∙ (settling.each 0 any some_after).journal_room ∙ (further.each 0 any some_before).room ∙ fits any;
+    settled = all_settled one counters closed is;
   }
 
   module _ (counters : ℕ) (fits : counters_for p ≤ counters) (closed : Closed) (is : IsClosed p (cap_for x.abort) counters (root_view any rs) closed) (left : List (Contents Left)) (kept : left ≡ map (λ r. r.kept) rs)
       (why : AreCauses p is.ends.core (root_view any rs) (map (λ (l : Contents Left). l.items) left)) (by : List ℕ) (tags : (o : ℕ) → o < op_count p → slice_index by o ≡ settler (is.ends.core.word o)) where
     settled_by_one : length before ≡ 1 → (o : ℕ) → o < op_count p → slice_index by o ≡ 1
     settled_by_one one o lt =
-        let seen = (settled_all one any).settled o lt in
-        let root = single_root any rs (many ∙ one) in
-        let present : IsSettledSeen (root_view any rs) o = subst (λ v. IsSettledSeen v o) (sym root) seen in
-        let now : is_settled (is.ends.core.word o).state ≡ true = ap (λ (w : OpWord). is_settled w.state) (noted_present is.ends.noted present) ∙ present.settled in
+        let now = all_settled one counters closed is o lt in
         let within = settler_within is.ends o lt now in
         let made = root_made any rs some_after ∙ made_is any ∙ one in
         let least = within.0 in

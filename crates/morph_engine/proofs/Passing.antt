@@ -22,7 +22,7 @@ whole_cases Spent = inr apart
     apart : Spent ≡ Whole → ⊥
     apart e = cc
 
-module _ (p : Plan) (cap : ℕ) (abort : Abort) (start : List Runner) (e : Explored) (passed : HasPassed p cap abort start (runners_of e.runners) e.end e.next_counter) where
+module _ (p : Plan) (cap : ℕ) (abort : Abort) (units : List (List ℕ)) (start : List Runner) (e : Explored) (passed : HasPassed p cap abort units start (runners_of e.runners) e.end e.next_counter) where
   all_passed : ((l : ℕ) → l < length p.op_levels.items → Contains passed.levels l) ⊎ (length passed.levels ≡ counters_for p)
   all_passed =
       elim (whole_cases e.end) [

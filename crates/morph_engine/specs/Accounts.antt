@@ -9,14 +9,16 @@ use Rattle.morph_base.specs.declared.strategy.Strategy.{Strategy}
 use Rattle.morph_base.specs.Graphs.{below}
 use Rattle.morph_base.specs.Guesses.{stale_count}
 use Rattle.morph_base.specs.Plans.{op_count, event_of, verdict}
+use Rattle.interleaving_core.specs.declared.event.CoreEvent.{CoreEvent}
 use Rattle.op_words.specs.declared.answers.Counts.{Counts}
+use Rattle.op_words.specs.Closing.{journal_of}
 use Rattle.steal_explorer.specs.Dealing.{level_one}
 use Rattle.morph_engine.specs.declared.engine.BatchEnd.{BatchEnd}
 use Rattle.morph_engine.specs.Caps.{cap_for}
 
--- of a batch: its plan and the strategy that it was run with, for each operation the worker that settled it, or 0 where the plain finish did, how often operations were
--- evaluated, spread and rolled back, how many causes were kept why an event was left to the plain finish, and how many operations
--- were handed out to workers and stolen
+-- of a batch: its plan and the strategy that it was run with, for each operation the worker that settled it, or 0 where the plain
+-- finish did, how often operations were evaluated, spread and rolled back, how many causes were kept why an event was left to the
+-- plain finish, how many operations were handed out to workers and stolen, and the journal, which is empty where none was kept
 pub record Account : Type 0 where
   pub plan : Plan
   pub strategy : Strategy
@@ -25,6 +27,7 @@ pub record Account : Type 0 where
   pub left : ℕ
   pub handed : ℕ
   pub stolen : ℕ
+  pub journal : List CoreEvent
 
 abbrev pub account_of : BatchEnd → Account
 account_of e = record {
@@ -35,6 +38,7 @@ account_of e = record {
   left = sum_by (λ list. length list.items) e.left.items;
   handed = e.handed;
   stolen = e.stolen;
+  journal = journal_of e.closed;
 }
 
 -- how many operations this worker settled

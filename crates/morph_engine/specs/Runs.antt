@@ -9,6 +9,7 @@ use Rattle.morph_base.specs.Guesses.{stale_count}
 use Rattle.morph_base.specs.Plans.{op_count}
 use Rattle.chain_units.specs.Places.{IsPartition}
 use Rattle.interleaving_core.specs.declared.event.CoreEvent.{CoreEvent}
+use Rattle.interleaving_core.specs.Core.{IsSettledIn}
 use Rattle.interleaving_core.specs.Counts.{evaluated, rolled}
 use Rattle.op_words.specs.declared.closed.Closed.{Closed}
 use Rattle.op_words.specs.declared.trail.Item.{Item}
@@ -123,13 +124,14 @@ pub record HasRun (p : Plan) (explore : Explore) (abort : Abort) (workers : ℕ)
   pub handed_out : explore ≡ Steal → IsHandedOut p abort workers view handed stolen
   pub alone : workers ≡ 1 → HasRunAlone p abort ended.ends.history lists by
 
--- the root was the only hand made, and kept a journal with so much room
+-- the root was the only hand made, kept a journal with so much room, and settled each operation on the board
 pub record IsKept (p : Plan) (abort : Abort) (room : ℕ) (closed : Closed) : Type 0 where
   pub counters : ℕ
   pub view : View
   pub ended : IsClosed p (cap_for abort) counters view closed
   pub alone : view.made ≡ 1
   pub room_is : view.room ≡ room
+  pub settled : (o : ℕ) → o < op_count p → IsSettledIn ended.ends.core o
 
 -- the room of the journal of a kept run, in steps
 abbrev pub journal_room : Plan → ℕ

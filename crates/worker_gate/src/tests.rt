@@ -1,6 +1,8 @@
 ghost use Rattle.std.specs.Prelude.{◌≡◌, ◌+◌, ◌<◌};
 
 use super::*;
+use std::hint::spin_loop;
+use std::sync::atomic::{AtomicBool, AtomicU64, Ordering};
 use std::test::Fail;
 
 /// Adds a number to a worker's own.
@@ -81,4 +83,103 @@ fn two_workers_meet_and_one_alone_does_not(rt: HostRuntime) {
             gate: &MeetGate::new(0),
         },
     );
+}
+
+/// The loads of each hold, in which a worker that is free takes many more turns than `MANY`.
+const LOADS: u64 = 10_000_000;
+
+const MANY: u64 = 1_000;
+
+/// Worker 1 passes a gate that holds it from its turn 4 on, while worker 2 passes the same gate over and over.
+#[derive(Drop)]
+struct Passing {
+    gate: HoldGate,
+    /// The turn that worker 2 took last.
+    other: AtomicU64,
+    /// Worker 1 has taken all of its turns.
+    over: AtomicBool,
+}
+
+/// A worker, and what it saw of the turns of the other: the fewest that this took while the gate was passed once.
+#[derive(Clone, Copy, Drop)]
+struct Passer {
+    number: u32,
+    before: u64,
+    held: u64,
+}
+
+impl Passer {
+    fn new(number: u32) -> Passer {
+        Passer {
+            number,
+            before: 0,
+            held: 0,
+        }
+    }
+}
+
+impl Passing {
+    /// Takes turns as worker 2 until worker 1 has taken all of its own.
+    fn go_on(&self) {
+        for turn in 0..u64::MAX {
+            if self.over.load(Ordering::SeqCst) {
+                return;
+            }
+            self.gate.pass(2, turn);
+            self.gate.done(2, turn);
+            self.other.store(turn, Ordering::SeqCst);
+        }
+    }
+
+    /// Waits until worker 2 is seen at work, or has not begun for long.
+    fn await_the_other(&self) {
+        for _ in 0..1_000_000_000 {
+            if self.other.load(Ordering::SeqCst) > 0 {
+                return;
+            }
+            spin_loop();
+        }
+    }
+
+    /// The fewest turns of worker 2 while worker 1 passes the gate once, at the four turns from this one on.
+    fn fewest_meanwhile(&self, from: u64) -> u64 {
+        let mut fewest = u64::MAX;
+        for k in 0..4 {
+            let before = self.other.load(Ordering::SeqCst);
+            self.gate.pass(1, from.saturating_add(k));
+            let taken = self.other.load(Ordering::SeqCst).saturating_sub(before);
+            fewest = fewest.min(taken);
+        }
+        fewest
+    }
+}
+
+impl Job<Passer> for Passing {
+    ghost can_run = { λ job worker. worker ≡ worker };
+
+    ghost changes = { λ job before after. after.number ≡ before.number };
+
+    fn run(&self, worker: &mut Passer) {
+        if worker.number == 2 {
+            self.go_on();
+            return;
+        }
+        self.await_the_other();
+        worker.before = self.fewest_meanwhile(0);
+        worker.held = self.fewest_meanwhile(4);
+        self.over.store(true, Ordering::SeqCst);
+    }
+}
+
+#[test]
+fn one_worker_is_held_from_a_turn_on_and_the_other_goes_on(rt: HostRuntime) {
+    let passing = Passing {
+        gate: HoldGate::new(1, 4, LOADS),
+        other: AtomicU64::new(0),
+        over: AtomicBool::new(false),
+    };
+    let mut workers = [Passer::new(1), Passer::new(2)];
+    run_all(&rt, &mut workers, &passing);
+    let [first, _] = workers;
+    assert_eq!(rt; (first.before < MANY, first.held >= MANY), (true, true));
 }

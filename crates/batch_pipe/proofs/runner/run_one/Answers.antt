@@ -8,6 +8,7 @@ use Rattle.morph_base.specs.Plans.{HasBases, IsSettledOf, event_count, transacti
 use Rattle.morph_base.specs.Graphs.{IsValidPlan}
 use Rattle.morph_base.proofs.PlanLaws.{state_at-past}
 use Rattle.morph_engine.specs.Accounts.{IsAccount, account_of}
+use Rattle.morph_engine.specs.Ends.{IsEnd}
 use Rattle.morph_engine.specs.Fates.{settled_fates}
 use Rattle.batch_pipe.specs.Running.{picked}
 use Rattle.batch_pipe.proofs.runner.run_one.Goals as goal
@@ -16,7 +17,8 @@ pub returns-clause-run : goal.returns-clause-run
 returns-clause-run g c =
     let e = c.in_ok-end.ensures.plan in
     let s = contents c.args.engine.now in
-    let r = c.in_ok-end.end.settled in
+    let end = c.in_ok-end.end in
+    let r = end.settled in
     let host = c.args.host.now in
     record {
       number = refl;
@@ -27,6 +29,18 @@ returns-clause-run g c =
       fates_are = ap (λ (p : Plan). settled_fates p r) e ∙ c.in_ok-end.ensures.fates ∙ ap (fates s) c.rebase.ensures.transactions;
       strategy = c.pick-strategy.ensures ∙ ap (picked host.pick c.args.last.now) (sym e);
       run_by = c.in_ok-end.ensures.strategy;
+      ended =
+          subst (λ (p : Plan). IsEnd p end.strategy host.workers s end) (sym e)
+          (subst (λ (t : Strategy). IsEnd c.rebase.new.plan t host.workers s end) (sym c.in_ok-end.ensures.strategy)
+          record {
+            plan = e;
+            strategy_is = c.in_ok-end.ensures.strategy;
+            settled = c.in_ok-end.ensures.settled;
+            fates_are = c.in_ok-end.ensures.fates;
+            run = c.in_ok-end.ensures.run;
+            counts = c.in_ok-end.ensures.counts;
+            account = c.in_ok-end.ensures.account;
+          });
       account = subst (λ (t : Strategy). IsAccount t.explore t.abort host.workers (account_of c.in_ok-end.end)) (sym c.in_ok-end.ensures.strategy) c.in_ok-end.ensures.account;
     }
 

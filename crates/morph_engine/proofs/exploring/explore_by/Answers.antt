@@ -10,7 +10,7 @@ pub returns-in-Counters-clause-way : goal.returns-in-Counters-clause-way
 returns-in-Counters-clause-way g c =
     let e = c.explore-explored.result in
     subst (λ supply. HasExploredBy (explore_of supply) c.args.plan.now c.args.abort (runners_of c.args.runners) e 0 0) (sym c.in-Counters.is)
-    (have_passed c.args.plan.now (cap_of c.args.board) c.args.abort (runners_of c.args.runners) e c.explore-explored.ensures.passed)
+    (have_passed c.args.plan.now (cap_of c.args.board) c.args.abort c.args.units.now.units (runners_of c.args.runners) e c.explore-explored.ensures.passed)
 
 pub returns-in-Deques-clause-way : goal.returns-in-Deques-clause-way
 returns-in-Deques-clause-way g c =

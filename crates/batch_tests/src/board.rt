@@ -58,7 +58,7 @@ pub(crate) fn evaluate(board: &Board, hand: &mut Hand, plan: &Plan, op: u32) -> 
 }
 
 /// Blocked at attempt 1.
-const BLOCKED: u64 = 0x0000_0100_0000_0000;
+const BLOCKED: u64 = 0x0000_1000_0000_0000;
 
 fn word(state: OpState, value: u64, by: u8) -> OpWord {
     OpWord {
@@ -116,10 +116,10 @@ fn one_hand_evaluates(rt: HostRuntime) -> Result<(), Fail> {
     };
     assert_eq!(rt; board.ready(&mut root, &plan, 2), not);
     let rows = [
-        (0, whole(0, Outcome::Executed(100)), 0x0000_3100_0000_0064),
-        (1, whole(0, Outcome::Executed(5)), 0x0000_3100_0000_0005),
-        (2, whole(100, Outcome::Executed(40)), 0x0000_3100_0000_0028),
-        (3, whole(5, Outcome::Failed), 0x0000_4100_0000_0005),
+        (0, whole(0, Outcome::Executed(100)), 0x0003_1000_0000_0064),
+        (1, whole(0, Outcome::Executed(5)), 0x0003_1000_0000_0005),
+        (2, whole(100, Outcome::Executed(40)), 0x0003_1000_0000_0028),
+        (3, whole(5, Outcome::Failed), 0x0004_1000_0000_0005),
     ];
     assert!(rt; held(&board, &mut root, &plan, &rows));
     let counts = Counts {

@@ -13,6 +13,6 @@ most_workers = 16
 abbrev pub most_attempts : ℕ
 most_attempts = 8
 
--- how many values a packed word has room for, 2^40: they stand in 40 bits
+-- how many values a packed word has room for, 2^44: they stand in 44 bits
 abbrev pub value_room : ℕ
-value_room = 1099511627776
+value_room = 17592186044416

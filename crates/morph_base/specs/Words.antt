@@ -116,7 +116,7 @@ pub record IsWord (w : OpWord) : Type 0 where
   pub by_worker : has_worker w.state ≡ true → (1 ≤ w.by) × (w.by ≤ most_workers)
   pub by_none : has_worker w.state ≡ false → w.by ≡ 0
 
--- one number for a word: 40 bits of value, 4 of attempt, 4 of state, and the worker above them
+-- one number for a word: 44 bits of value, 4 of attempt, 4 of state, and the worker above them
 abbrev pub packed : OpWord → ℕ
 packed w = w.value + value_room * (w.attempt + 16 * (code_of w.state + 16 * w.by))
 

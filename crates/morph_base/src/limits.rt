@@ -23,5 +23,5 @@ pub const EVENTS: usize = 10_240;
 /// The most workers, which are numbered from 1.
 pub const WORKERS: u8 = 16;
 
-/// The number of values that a packed word has room for: 2^40, which is above [`MAX`].
-pub(crate) const VALUES: u64 = 1_099_511_627_776;
+/// The number of values that a packed word has room for: 2^44, which is above [`MAX`].
+pub(crate) const VALUES: u64 = 17_592_186_044_416;

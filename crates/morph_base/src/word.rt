@@ -162,12 +162,12 @@ impl OpWord {
         attempt && value && by
     }
 
-    /// The word as one number: the value in bits 0 to 39, the attempt in 40 to 43, the state in 44 to 47, blocked 0 to
-    /// settled-aborted 7 in the order of [`OpState`], and the worker in 48 to 52.
+    /// The word as one number: the value in bits 0 to 43, the attempt in 44 to 47, the state in 48 to 51, blocked 0 to
+    /// settled-aborted 7 in the order of [`OpState`], and the worker in 52 to 56.
     ///
     /// ```text
-    /// blocked at attempt 1           0x0000_0100_0000_0000
-    /// executed at attempt 1 with 40  0x0000_3100_0000_0028
+    /// blocked at attempt 1           0x0000_1000_0000_0000
+    /// executed at attempt 1 with 40  0x0003_1000_0000_0028
     /// ```
     pub fn pack(self) -> u64
         requires { IsWord self }
@@ -231,12 +231,24 @@ mod tests {
             state: OpState::SettledAborted,
             by: 1,
         };
-        assert_eq!(rt; blocked.pack(), 1_099_511_627_776);
-        assert_eq!(rt; executed.pack(), 53_876_069_761_064);
-        assert_eq!(rt; aborted.pack(), 405_719_790_649_444);
-        assert_eq!(rt; OpWord::unpack(0x0000_0100_0000_0000), Some(blocked));
-        assert_eq!(rt; OpWord::unpack(0x0000_3100_0000_0028), Some(executed));
-        assert_eq!(rt; OpWord::unpack(0x0001_7100_0000_0064), Some(aborted));
+        let settled = OpWord {
+            state: OpState::Settled,
+            ..aborted
+        };
+        let spread = OpWord {
+            value: 100,
+            attempt: 2,
+            state: OpState::Spread,
+            by: 0,
+        };
+        assert_eq!(rt; blocked.pack(), 17_592_186_044_416);
+        assert_eq!(rt; executed.pack(), 862_017_116_176_424);
+        assert_eq!(rt; aborted.pack(), 6_491_516_650_389_604);
+        assert_eq!(rt; settled.pack(), 6_210_041_673_678_948);
+        assert_eq!(rt; spread.pack(), 1_442_559_255_642_212);
+        assert_eq!(rt; OpWord::unpack(0x0000_1000_0000_0000), Some(blocked));
+        assert_eq!(rt; OpWord::unpack(0x0003_1000_0000_0028), Some(executed));
+        assert_eq!(rt; OpWord::unpack(0x0017_1000_0000_0064), Some(aborted));
     }
 
     /// No attempt; an attempt of 9; a value at blocked; a value above the greatest; a state of 8; nobody, and a
@@ -245,17 +257,17 @@ mod tests {
     fn knows_what_no_word_packs_to(rt: HostRuntime) {
         for n in [
             0x0000_0000_0000_0000,
-            0x0000_0900_0000_0000,
-            0x0000_0100_0000_0001,
-            0x0000_31e8_d4a5_1001,
-            0x0000_8100_0000_0000,
-            0x0000_2100_0000_0000,
-            0x0011_2100_0000_0000,
-            0x0001_3100_0000_0028,
-            0x0020_3100_0000_0028,
+            0x0000_9000_0000_0000,
+            0x0000_1000_0000_0001,
+            0x0003_10e8_d4a5_1001,
+            0x0008_1000_0000_0000,
+            0x0002_1000_0000_0000,
+            0x0112_1000_0000_0000,
+            0x0013_1000_0000_0028,
+            0x0203_1000_0000_0028,
         ] {
             assert_eq!(rt; OpWord::unpack(n), None, "at {n}");
         }
-        assert!(rt; OpWord::unpack(0x0000_31e8_d4a5_1000).is_some());
+        assert!(rt; OpWord::unpack(0x0003_10e8_d4a5_1000).is_some());
     }
 }

@@ -20,7 +20,7 @@ use Rattle.std.specs.Slots.{slots_items}
 use Rattle.op_words.specs.declared.closed.Closed.{Closed}
 use Rattle.op_words.specs.Layout.{decision_base}
 use Rattle.op_words.specs.Hands.{counts_of}
-use Rattle.op_words.specs.Journals.{IsJournal}
+use Rattle.op_words.specs.Journals.{steps_in, IsJournal}
 
 -- the hand of tag t was joined into the one with this view
 abbrev pub IsJoined : View → ℕ → Type 0
@@ -50,6 +50,10 @@ pub record Ends (p : Plan) (cap counters : ℕ) (ws : List ℕ) (v : View) : Typ
 -- the words of a board after its end
 abbrev pub words_of : Closed → List ℕ
 words_of c = slots_items c.table.words
+
+-- the steps that its root wrote down
+abbrev pub journal_of : Closed → List CoreEvent
+journal_of c = steps_in c.journal
 
 -- a board that was closed by the root with this view
 pub record IsClosed (p : Plan) (cap counters : ℕ) (v : View) (c : Closed) : Type 0 where

@@ -38,7 +38,7 @@ impl Closed {
     ghost use Rattle.morph_base.specs.Plans.{op_count, event_count};
     ghost use Rattle.morph_base.specs.Words.{IsWord};
     ghost use Rattle.op_words.specs.declared.trail.View.{View};
-    ghost use Rattle.op_words.specs.Closing.{IsClosed};
+    ghost use Rattle.op_words.specs.Closing.{IsClosed, journal_of};
     ghost use Rattle.op_words.specs.Hands.{counts_of};
     ghost use Rattle.op_words.specs.Journals.{IsJournalOf};
 
@@ -70,6 +70,7 @@ impl Closed {
     /// The steps that the root wrote down, in order; none where it kept no journal. Where it was the only hand made the
     /// machine takes them one after another, and where there was room for more they are all.
     pub fn journal(&self) -> &[CoreEvent]
+        ensures steps { result.now ≡ journal_of self.now }
         ensures few { (p : Plan) (cap counters : ℕ) (v : View) → IsClosed p cap counters v self.now
             → length result.now ≤ v.room }
         ensures leads { (p : Plan) (cap counters : ℕ) (v : View)

@@ -15,8 +15,8 @@ use std::alloc::{AllocError, Global};
 /// What the level word has where no level was lowered to: the greatest u32.
 pub(crate) const NO_LEVEL: u64 = 4_294_967_295;
 
-/// The number of values that a record has room for: 2^40, which is above [`MAX`](morph_base::MAX).
-const RECORD_VALUES: u64 = 1_099_511_627_776;
+/// The number of values that a record has room for: 2^44, which is above [`MAX`](morph_base::MAX).
+const RECORD_VALUES: u64 = 17_592_186_044_416;
 
 /// The words at the start: each operation is blocked at attempt 1, and nothing is recorded, decided or counted.
 pub(crate) fn first_words(alloc: Global, plan: &Plan, counters: u32) -> Result<Vec<u64>, AllocError>
@@ -117,7 +117,7 @@ pub(crate) fn spread(attempt: u8, value: u64) -> OpWord
     }
 }
 
-/// A record as one number: bits 0 to 39 are its value, bits 40 to 43 the attempt that recorded it, and bit 44 is 1.
+/// A record as one number: bits 0 to 43 are its value, bits 44 to 47 the attempt that recorded it, and bit 48 is 1.
 pub(crate) fn pack_record(value: u64, attempt: u8) -> u64
     requires value { value ≤ MAX }
     requires attempt { (1 ≤ attempt) × (attempt ≤ ATTEMPTS) }

@@ -5,3 +5,4 @@ pub mod Workers
 pub mod Asked
 pub mod WordLaws
 pub mod NoSettingsLaws
+pub mod Journals

@@ -14,12 +14,13 @@ use Rattle.morph_base.specs.declared.strategy.Strategy.{Strategy}
 use Rattle.run_text.specs.declared.choices.Planning.{Planning}
 use Rattle.run_text.specs.declared.choices.Planning.TheVariants.{Auto}
 use Rattle.run_text.specs.declared.names.Name.{Name}
-use Rattle.run_text.specs.declared.names.Name.TheVariants.{App as AppName, Own, Workers, Size, Unit as UnitName, Explore as ExploreName, Abort as AbortName, Plan as PlanName, Seed, Events, Notes, Ahead, Watch}
+use Rattle.run_text.specs.declared.names.Name.TheVariants.{App as AppName, Own, Workers, Size, Unit as UnitName, Explore as ExploreName, Abort as AbortName, Plan as PlanName, Seed, Events, Notes, Ahead, Watch, Check as CheckName}
+use Rattle.run_text.specs.declared.choices.Check.{Check}
 use Rattle.run_text.specs.declared.choices.App.{App}
 use Rattle.run_text.specs.declared.choices.Settings.{Settings}
 use Rattle.run_text.specs.declared.words.Input.{Input}
-use Rattle.run_text.specs.Settings.{text_of, all_names, has_equals, name_of, has_name, is_known, is_once, are_once, value_under, is_given, app_in, some_app, app_given, app_under, number_given, number_under, says_in, switch_in, switch_given, switch_under, unit_in, unit_given, unit_under, explore_in, explore_given, explore_under, abort_in, abort_given, abort_under, auto_in, auto_given, auto_under, strategy_by, strategy_of, is_strategy_given, fixed, planning_by, planning_of, worker_counts, sizes, seeds, event_counts, ahead_counts, read_input, made_of, made_input, input_by, input_of, is_alone, settings_by, settings_of}
-use Rattle.run_text.specs.NoSettings.{is_name, is_value_of, NoSettings, no_equals, unknown_name, given_twice, other_value, both_inputs, no_input, made_alone, chosen_and_given, not_alone}
+use Rattle.run_text.specs.Settings.{text_of, all_names, has_equals, name_of, has_name, is_known, is_once, are_once, value_under, is_given, app_in, some_app, app_given, app_under, number_given, number_under, says_in, switch_in, switch_given, switch_under, unit_in, unit_given, unit_under, explore_in, explore_given, explore_under, abort_in, abort_given, abort_under, auto_in, auto_given, auto_under, strategy_by, strategy_of, is_strategy_given, fixed, planning_by, planning_of, worker_counts, sizes, seeds, event_counts, ahead_counts, check_in, check_given, check_under, read_input, made_of, made_input, input_by, input_of, is_alone, can_check, settings_by, settings_of}
+use Rattle.run_text.specs.NoSettings.{is_name, is_value_of, NoSettings, no_equals, unknown_name, given_twice, other_value, both_inputs, no_input, made_alone, chosen_and_given, not_alone, not_checkable}
 
 -- ---- the names
 
@@ -67,6 +68,7 @@ all_false test Events is = list_all_at test all_names 9 Events (lit< tt) is
 all_false test Notes is = list_all_at test all_names 10 Notes (lit< tt) is
 all_false test Ahead is = list_all_at test all_names 11 Ahead (lit< tt) is
 all_false test Watch is = list_all_at test all_names 12 Watch (lit< tt) is
+all_false test CheckName is = list_all_at test all_names 13 CheckName (lit< tt) is
 
 -- ---- the values
 
@@ -96,6 +98,10 @@ number_out range other given value is out = ap (number_given range other) is ∙
 switch_none : (given : Option (List ℕ)) → switch_given given ≡ None → (value : List ℕ) × (given ≡ Some value) × (is_some (switch_in value) ≡ false)
 switch_none None is = absurd (cc)
 switch_none (Some value) is = (value, refl, something (switch_in value) is)
+
+check_none : (given : Option (List ℕ)) → check_given given ≡ None → (value : List ℕ) × (given ≡ Some value) × (is_some (check_in value) ≡ false)
+check_none None is = absurd (cc)
+check_none (Some value) is = (value, refl, something (check_in value) is)
 
 unit_none : (given : Option (List ℕ)) → unit_given given ≡ None → (value : List ℕ) × (given ≡ Some value) × (is_some (unit_in value) ≡ false)
 unit_none None is = absurd (cc)
@@ -132,7 +138,7 @@ given_cases (Some value) = by_app (app_in value) refl
 abbrev rest_of : List (List ℕ) → Option Settings
 rest_of words =
     settings_by (input_of words) (number_under Workers worker_counts 1 words) (number_under Size sizes 10000 words) (planning_of words) (switch_under Notes words)
-    (number_under Ahead ahead_counts 0 words) (switch_under Watch words)
+    (number_under Ahead ahead_counts 0 words) (switch_under Watch words) (check_under CheckName words)
 
 by_rest : (words : List (List ℕ)) → rest_of words ≡ None → settings_of words ≡ None
 by_rest words is = by_test (list_all is_known words && are_once words)
@@ -141,45 +147,45 @@ by_rest words is = by_test (list_all is_known words && are_once words)
     by_test true = is
     by_test false = refl
 
-module _ (i : Option Input) (w s : Option ℕ) (p : Option Planning) (n : Option Bool) (a : Option ℕ) (v : Option Bool) where
-  no_workers : w ≡ None → settings_by i w s p n a v ≡ None
-  no_workers is = ap (λ w. settings_by i w s p n a v) is ∙ by_input i
+module _ (i : Option Input) (w s : Option ℕ) (p : Option Planning) (n : Option Bool) (a : Option ℕ) (v : Option Bool) (c : Option Check) where
+  no_workers : w ≡ None → settings_by i w s p n a v c ≡ None
+  no_workers is = ap (λ w. settings_by i w s p n a v c) is ∙ by_input i
     where
-      by_input : (i : Option Input) → settings_by i None s p n a v ≡ None
+      by_input : (i : Option Input) → settings_by i None s p n a v c ≡ None
       by_input None = refl
       by_input (Some i) = refl
 
-  no_size : s ≡ None → settings_by i w s p n a v ≡ None
-  no_size is = ap (λ s. settings_by i w s p n a v) is ∙ by_parts i w
+  no_size : s ≡ None → settings_by i w s p n a v c ≡ None
+  no_size is = ap (λ s. settings_by i w s p n a v c) is ∙ by_parts i w
     where
-      by_parts : (i : Option Input) (w : Option ℕ) → settings_by i w None p n a v ≡ None
+      by_parts : (i : Option Input) (w : Option ℕ) → settings_by i w None p n a v c ≡ None
       by_parts None w = refl
       by_parts (Some i) None = refl
       by_parts (Some i) (Some w) = refl
 
-  no_planning : p ≡ None → settings_by i w s p n a v ≡ None
-  no_planning is = ap (λ p. settings_by i w s p n a v) is ∙ by_parts i w s
+  no_planning : p ≡ None → settings_by i w s p n a v c ≡ None
+  no_planning is = ap (λ p. settings_by i w s p n a v c) is ∙ by_parts i w s
     where
-      by_parts : (i : Option Input) (w s : Option ℕ) → settings_by i w s None n a v ≡ None
+      by_parts : (i : Option Input) (w s : Option ℕ) → settings_by i w s None n a v c ≡ None
       by_parts None w s = refl
       by_parts (Some i) None s = refl
       by_parts (Some i) (Some w) None = refl
       by_parts (Some i) (Some w) (Some s) = refl
 
-  no_notes : n ≡ None → settings_by i w s p n a v ≡ None
-  no_notes is = ap (λ n. settings_by i w s p n a v) is ∙ by_parts i w s p
+  no_notes : n ≡ None → settings_by i w s p n a v c ≡ None
+  no_notes is = ap (λ n. settings_by i w s p n a v c) is ∙ by_parts i w s p
     where
-      by_parts : (i : Option Input) (w s : Option ℕ) (p : Option Planning) → settings_by i w s p None a v ≡ None
+      by_parts : (i : Option Input) (w s : Option ℕ) (p : Option Planning) → settings_by i w s p None a v c ≡ None
       by_parts None w s p = refl
       by_parts (Some i) None s p = refl
       by_parts (Some i) (Some w) None p = refl
       by_parts (Some i) (Some w) (Some s) None = refl
       by_parts (Some i) (Some w) (Some s) (Some p) = refl
 
-  no_ahead : a ≡ None → settings_by i w s p n a v ≡ None
-  no_ahead is = ap (λ a. settings_by i w s p n a v) is ∙ by_parts i w s p n
+  no_ahead : a ≡ None → settings_by i w s p n a v c ≡ None
+  no_ahead is = ap (λ a. settings_by i w s p n a v c) is ∙ by_parts i w s p n
     where
-      by_parts : (i : Option Input) (w s : Option ℕ) (p : Option Planning) (n : Option Bool) → settings_by i w s p n None v ≡ None
+      by_parts : (i : Option Input) (w s : Option ℕ) (p : Option Planning) (n : Option Bool) → settings_by i w s p n None v c ≡ None
       by_parts None w s p n = refl
       by_parts (Some i) None s p n = refl
       by_parts (Some i) (Some w) None p n = refl
@@ -187,10 +193,10 @@ module _ (i : Option Input) (w s : Option ℕ) (p : Option Planning) (n : Option
       by_parts (Some i) (Some w) (Some s) (Some p) None = refl
       by_parts (Some i) (Some w) (Some s) (Some p) (Some n) = refl
 
-  no_watch : v ≡ None → settings_by i w s p n a v ≡ None
-  no_watch is = ap (settings_by i w s p n a) is ∙ by_parts i w s p n a
+  no_watch : v ≡ None → settings_by i w s p n a v c ≡ None
+  no_watch is = ap (λ v. settings_by i w s p n a v c) is ∙ by_parts i w s p n a
     where
-      by_parts : (i : Option Input) (w s : Option ℕ) (p : Option Planning) (n : Option Bool) (a : Option ℕ) → settings_by i w s p n a None ≡ None
+      by_parts : (i : Option Input) (w s : Option ℕ) (p : Option Planning) (n : Option Bool) (a : Option ℕ) → settings_by i w s p n a None c ≡ None
       by_parts None w s p n a = refl
       by_parts (Some i) None s p n a = refl
       by_parts (Some i) (Some w) None p n a = refl
@@ -199,18 +205,44 @@ module _ (i : Option Input) (w s : Option ℕ) (p : Option Planning) (n : Option
       by_parts (Some i) (Some w) (Some s) (Some p) (Some n) None = refl
       by_parts (Some i) (Some w) (Some s) (Some p) (Some n) (Some a) = refl
 
-  -- more than one is asked for of what may not go together
-  no_both : (ahead : ℕ) (watch : Bool) → a ≡ Some ahead → v ≡ Some watch → is_alone ahead watch ≡ false → settings_by i w s p n a v ≡ None
-  no_both ahead watch same same' both =
-      ap (λ a. settings_by i w s p n a v) same ∙ ap (settings_by i w s p n (Some ahead)) same' ∙ by_parts i w s p n
+  no_check : c ≡ None → settings_by i w s p n a v c ≡ None
+  no_check is = ap (settings_by i w s p n a v) is ∙ by_parts i w s p n a v
     where
-      by_parts : (i : Option Input) (w s : Option ℕ) (p : Option Planning) (n : Option Bool) → settings_by i w s p n (Some ahead) (Some watch) ≡ None
+      by_parts : (i : Option Input) (w s : Option ℕ) (p : Option Planning) (n : Option Bool) (a : Option ℕ) (v : Option Bool) → settings_by i w s p n a v None ≡ None
+      by_parts None w s p n a v = refl
+      by_parts (Some i) None s p n a v = refl
+      by_parts (Some i) (Some w) None p n a v = refl
+      by_parts (Some i) (Some w) (Some s) None n a v = refl
+      by_parts (Some i) (Some w) (Some s) (Some p) None a v = refl
+      by_parts (Some i) (Some w) (Some s) (Some p) (Some n) None v = refl
+      by_parts (Some i) (Some w) (Some s) (Some p) (Some n) (Some a) None = refl
+      by_parts (Some i) (Some w) (Some s) (Some p) (Some n) (Some a) (Some v) = refl
+
+  -- more than one is asked for of what may not go together
+  no_both : (ahead : ℕ) (watch : Bool) (check : Check) → a ≡ Some ahead → v ≡ Some watch → c ≡ Some check → is_alone ahead watch check ≡ false → settings_by i w s p n a v c ≡ None
+  no_both ahead watch check same_a same_v same_c both =
+      ap (λ (z : Option ℕ × Option Bool × Option Check). settings_by i w s p n z.0 z.1 z.2) (λ k. (same_a k, same_v k, same_c k)) ∙ by_parts i w s p n
+    where
+      by_parts : (i : Option Input) (w s : Option ℕ) (p : Option Planning) (n : Option Bool) → settings_by i w s p n (Some ahead) (Some watch) (Some check) ≡ None
       by_parts None w s p n = refl
       by_parts (Some i) None s p n = refl
       by_parts (Some i) (Some w) None p n = refl
       by_parts (Some i) (Some w) (Some s) None n = refl
       by_parts (Some i) (Some w) (Some s) (Some p) None = refl
-      by_parts (Some i) (Some w) (Some s) (Some p) (Some n) = cond-false (is_alone ahead watch) _ _ both
+      by_parts (Some i) (Some w) (Some s) (Some p) (Some n) = cond-false (is_alone ahead watch check && can_check check w p) _ _ (and_left (is_alone ahead watch check) (can_check check w p) both)
+
+  -- journals are to be checked of runs that cannot be
+  no_checkable : (workers : ℕ) (planning : Planning) (check : Check) → w ≡ Some workers → p ≡ Some planning → c ≡ Some check → can_check check workers planning ≡ false → settings_by i w s p n a v c ≡ None
+  no_checkable workers planning check same_w same_p same_c cannot =
+      ap (λ (z : Option ℕ × Option Planning × Option Check). settings_by i z.0 s z.1 n a v z.2) (λ k. (same_w k, same_p k, same_c k)) ∙ by_parts i s n a v
+    where
+      by_parts : (i : Option Input) (s : Option ℕ) (n : Option Bool) (a : Option ℕ) (v : Option Bool) → settings_by i (Some workers) s (Some planning) n a v (Some check) ≡ None
+      by_parts None s n a v = refl
+      by_parts (Some i) None n a v = refl
+      by_parts (Some i) (Some s) None a v = refl
+      by_parts (Some i) (Some s) (Some n) None v = refl
+      by_parts (Some i) (Some s) (Some n) (Some a) None = refl
+      by_parts (Some i) (Some s) (Some n) (Some a) (Some v) = cond-false (is_alone a v check && can_check check workers planning) _ _ (and_right (is_alone a v check) (can_check check workers planning) cannot)
 
 -- a part of a strategy is none
 
@@ -228,7 +260,7 @@ no_abort (Some u) (Some e) a is = ap (strategy_by (Some u) (Some e)) is
 
 by_planning : (words : List (List ℕ)) → planning_of words ≡ None → settings_of words ≡ None
 by_planning words is =
-    by_rest words (no_planning (input_of words) _ _ (planning_of words) _ _ _ is)
+    by_rest words (no_planning (input_of words) _ _ (planning_of words) _ _ _ _ is)
 
 -- a part that is given, where the program chooses; and one that is none, where the words give it
 by_part : (words : List (List ℕ)) → is_strategy_given words ≡ true → strategy_of words ≡ None → planning_of words ≡ None
@@ -241,7 +273,7 @@ by_part words given none = by_auto (auto_under PlanName words)
 
 by_input : (words : List (List ℕ)) → input_of words ≡ None → settings_of words ≡ None
 by_input words is =
-    by_rest words (ap (λ i. settings_by i (number_under Workers worker_counts 1 words) (number_under Size sizes 10000 words) (planning_of words) (switch_under Notes words) (number_under Ahead ahead_counts 0 words) (switch_under Watch words)) is)
+    by_rest words (ap (λ i. settings_by i (number_under Workers worker_counts 1 words) (number_under Size sizes 10000 words) (planning_of words) (switch_under Notes words) (number_under Ahead ahead_counts 0 words) (switch_under Watch words) (check_under CheckName words)) is)
 
 no_app : (words : List (List ℕ)) (a b : Option (Option App)) → a ≡ None → input_by words a b ≡ None
 no_app words a b is = ap (λ a. input_by words a b) is
@@ -282,9 +314,9 @@ module _ (words : List (List ℕ)) where
   other_none Own value is other =
       by_input words (no_own words (app_under AppName words) (app_under Own words) (ap app_given is ∙ ap some_app (nothing (app_in value) other)))
   other_none Workers value is other =
-      by_rest words (no_workers (input_of words) _ _ _ _ _ _ (number_out worker_counts 1 (value_under Workers words) value is other))
+      by_rest words (no_workers (input_of words) _ _ _ _ _ _ _ (number_out worker_counts 1 (value_under Workers words) value is other))
   other_none Size value is other =
-      by_rest words (no_size (input_of words) _ _ _ _ _ _ (number_out sizes 10000 (value_under Size words) value is other))
+      by_rest words (no_size (input_of words) _ _ _ _ _ _ _ (number_out sizes 10000 (value_under Size words) value is other))
   other_none UnitName value is other =
       by_planning words (by_part words (ap (λ o. is_some o || (is_given ExploreName words || is_given AbortName words)) is)
       (no_unit (unit_under UnitName words) (explore_under ExploreName words) (abort_under AbortName words) (ap unit_given is ∙ nothing (unit_in value) other)))
@@ -304,11 +336,13 @@ module _ (words : List (List ℕ)) where
       by_input words (no_made (app_under AppName words) (app_under Own words) (ap (λ o. is_given Seed words || is_some o) is ∙ or_true (is_given Seed words))
       (λ app. no_events app (number_out event_counts 1000 (value_under Events words) value is other)))
   other_none Notes value is other =
-      by_rest words (no_notes (input_of words) _ _ _ _ _ _ (ap switch_given is ∙ nothing (switch_in value) other))
+      by_rest words (no_notes (input_of words) _ _ _ _ _ _ _ (ap switch_given is ∙ nothing (switch_in value) other))
   other_none Ahead value is other =
-      by_rest words (no_ahead (input_of words) _ _ _ _ _ _ (number_out ahead_counts 0 (value_under Ahead words) value is other))
+      by_rest words (no_ahead (input_of words) _ _ _ _ _ _ _ (number_out ahead_counts 0 (value_under Ahead words) value is other))
   other_none Watch value is other =
-      by_rest words (no_watch (input_of words) _ _ _ _ _ _ (ap switch_given is ∙ nothing (switch_in value) other))
+      by_rest words (no_watch (input_of words) _ _ _ _ _ _ _ (ap switch_given is ∙ nothing (switch_in value) other))
+  other_none CheckName value is other =
+      by_rest words (no_check (input_of words) _ _ _ _ _ _ _ (ap check_given is ∙ nothing (check_in value) other))
 
   along : (a b a' b' : Option (Option App)) → a ≡ a' → b ≡ b' → input_by words a b ≡ None → input_by words a' b' ≡ None
   along a b a' b' first second none =
@@ -354,29 +388,53 @@ module _ (words : List (List ℕ)) where
   none_by (no_input app own) = by_input words (neither_none app own)
   none_by (made_alone given own) = by_input words (alone_none given own)
   none_by (chosen_and_given auto given) = by_planning words (ap (planning_by words) auto ∙ cond-true (is_strategy_given words) _ _ given)
-  none_by (not_alone ahead watch same same' both) = by_rest words (no_both (input_of words) _ _ _ _ _ _ ahead watch same same' both)
+  none_by (not_alone ahead watch check same_a same_v same_c both) = by_rest words (no_both (input_of words) _ _ _ _ _ _ _ ahead watch check same_a same_v same_c both)
+  none_by (not_checkable check workers planning same_c same_w same_p cannot) = by_rest words (no_checkable (input_of words) _ _ _ _ _ _ _ workers planning check same_w same_p same_c cannot)
 
   -- ---- no settings, and a cause
 
-  -- both are given, and more than one is asked for of what may not go together
-  abbrev AreBoth : (a : Option ℕ) (v : Option Bool) → Type 0
-  AreBoth a v = (ahead : ℕ) × (watch : Bool) × (a ≡ Some ahead) × (v ≡ Some watch) × (is_alone ahead watch ≡ false)
+  -- all are given, and they do not fit together
+  record IsUnfit (w : Option ℕ) (p : Option Planning) (a : Option ℕ) (v : Option Bool) (c : Option Check) : Type 0 where
+    workers : ℕ
+    planning : Planning
+    ahead : ℕ
+    watch : Bool
+    check : Check
+    workers_is : w ≡ Some workers
+    planning_is : p ≡ Some planning
+    ahead_is : a ≡ Some ahead
+    watch_is : v ≡ Some watch
+    check_is : c ≡ Some check
+    unfit : (is_alone ahead watch check ≡ false) ⊎ (can_check check workers planning ≡ false)
 
   none_alone : (s : Settings) (t : Bool) → (if t then Some s else None) ≡ None → t ≡ false
   none_alone s true is = absurd (cc)
   none_alone s false is = refl
 
-  missing : (i : Option Input) (w s : Option ℕ) (p : Option Planning) (n : Option Bool) (a : Option ℕ) (v : Option Bool) → settings_by i w s p n a v ≡ None →
-      (i ≡ None) ⊎ ((w ≡ None) ⊎ ((s ≡ None) ⊎ ((p ≡ None) ⊎ ((n ≡ None) ⊎ ((a ≡ None) ⊎ ((v ≡ None) ⊎ AreBoth a v))))))
-  missing None w s p n a v is = inl refl
-  missing (Some i) None s p n a v is = inr (inl refl)
-  missing (Some i) (Some w) None p n a v is = inr (inr (inl refl))
-  missing (Some i) (Some w) (Some s) None n a v is = inr (inr (inr (inl refl)))
-  missing (Some i) (Some w) (Some s) (Some p) None a v is = inr (inr (inr (inr (inl refl))))
-  missing (Some i) (Some w) (Some s) (Some p) (Some n) None v is = inr (inr (inr (inr (inr (inl refl)))))
-  missing (Some i) (Some w) (Some s) (Some p) (Some n) (Some a) None is = inr (inr (inr (inr (inr (inr (inl refl))))))
-  missing (Some i) (Some w) (Some s) (Some p) (Some n) (Some a) (Some v) is =
-      inr (inr (inr (inr (inr (inr (inr (a, v, refl, refl, none_alone _ (is_alone a v) is)))))))
+  missing : (i : Option Input) (w s : Option ℕ) (p : Option Planning) (n : Option Bool) (a : Option ℕ) (v : Option Bool) (c : Option Check) → settings_by i w s p n a v c ≡ None →
+      (i ≡ None) ⊎ ((w ≡ None) ⊎ ((s ≡ None) ⊎ ((p ≡ None) ⊎ ((n ≡ None) ⊎ ((a ≡ None) ⊎ ((v ≡ None) ⊎ ((c ≡ None) ⊎ IsUnfit w p a v c)))))))
+  missing None w s p n a v c is = inl refl
+  missing (Some i) None s p n a v c is = inr (inl refl)
+  missing (Some i) (Some w) None p n a v c is = inr (inr (inl refl))
+  missing (Some i) (Some w) (Some s) None n a v c is = inr (inr (inr (inl refl)))
+  missing (Some i) (Some w) (Some s) (Some p) None a v c is = inr (inr (inr (inr (inl refl))))
+  missing (Some i) (Some w) (Some s) (Some p) (Some n) None v c is = inr (inr (inr (inr (inr (inl refl)))))
+  missing (Some i) (Some w) (Some s) (Some p) (Some n) (Some a) None c is = inr (inr (inr (inr (inr (inr (inl refl))))))
+  missing (Some i) (Some w) (Some s) (Some p) (Some n) (Some a) (Some v) None is = inr (inr (inr (inr (inr (inr (inr (inl refl)))))))
+  missing (Some i) (Some w) (Some s) (Some p) (Some n) (Some a) (Some v) (Some c) is =
+      inr (inr (inr (inr (inr (inr (inr (inr (record {
+        workers = w;
+        planning = p;
+        ahead = a;
+        watch = v;
+        check = c;
+        workers_is = refl;
+        planning_is = refl;
+        ahead_is = refl;
+        watch_is = refl;
+        check_is = refl;
+        unfit = and_cases (is_alone a v c) (can_check c w p) (none_alone _ (is_alone a v c && can_check c w p) is);
+      }))))))))
 
   part_missing : (u : Option UnitKind) (e : Option ExploreKind) (a : Option AbortKind) → strategy_by u e a ≡ None → (u ≡ None) ⊎ ((e ≡ None) ⊎ (a ≡ None))
   part_missing None e a is = inl refl
@@ -438,7 +496,17 @@ module _ (words : List (List ℕ)) where
           made_alone (cause_read app (along (app_under AppName words) (app_under Own words) (Some (Some app)) (Some None) a b is)) lacks
       by_both (given_one app has a) (given_one own has' b) = both_inputs has has'
 
-  cause_rest : (input_of words ≡ None) ⊎ ((number_under Workers worker_counts 1 words ≡ None) ⊎ ((number_under Size sizes 10000 words ≡ None) ⊎ ((planning_of words ≡ None) ⊎ ((switch_under Notes words ≡ None) ⊎ ((number_under Ahead ahead_counts 0 words ≡ None) ⊎ ((switch_under Watch words ≡ None) ⊎ AreBoth (number_under Ahead ahead_counts 0 words) (switch_under Watch words)))))))
+  abbrev Unfit : Type 0
+  Unfit = IsUnfit (number_under Workers worker_counts 1 words) (planning_of words) (number_under Ahead ahead_counts 0 words) (switch_under Watch words) (check_under CheckName words)
+
+  cause_unfit : Unfit → NoSettings words
+  cause_unfit u =
+      elim u.unfit [
+        | inl both ↦ not_alone u.ahead u.watch u.check u.ahead_is u.watch_is u.check_is both
+        | inr cannot ↦ not_checkable u.check u.workers u.planning u.check_is u.workers_is u.planning_is cannot
+      ]
+
+  cause_rest : (input_of words ≡ None) ⊎ ((number_under Workers worker_counts 1 words ≡ None) ⊎ ((number_under Size sizes 10000 words ≡ None) ⊎ ((planning_of words ≡ None) ⊎ ((switch_under Notes words ≡ None) ⊎ ((number_under Ahead ahead_counts 0 words ≡ None) ⊎ ((switch_under Watch words ≡ None) ⊎ ((check_under CheckName words ≡ None) ⊎ Unfit)))))))
       → NoSettings words
   cause_rest (inl input) = cause_input input
   cause_rest (inr (inl workers)) = let m = number_none worker_counts 1 (value_under Workers words) workers in other_value Workers m.0 m.1 m.2
@@ -447,7 +515,8 @@ module _ (words : List (List ℕ)) where
   cause_rest (inr (inr (inr (inr (inl notes))))) = let m = switch_none (value_under Notes words) notes in other_value Notes m.0 m.1 m.2
   cause_rest (inr (inr (inr (inr (inr (inl ahead)))))) = let m = number_none ahead_counts 0 (value_under Ahead words) ahead in other_value Ahead m.0 m.1 m.2
   cause_rest (inr (inr (inr (inr (inr (inr (inl watch))))))) = let m = switch_none (value_under Watch words) watch in other_value Watch m.0 m.1 m.2
-  cause_rest (inr (inr (inr (inr (inr (inr (inr (ahead, watch, same, same', both)))))))) = not_alone ahead watch same same' both
+  cause_rest (inr (inr (inr (inr (inr (inr (inr (inl check)))))))) = let m = check_none (value_under CheckName words) check in other_value CheckName m.0 m.1 m.2
+  cause_rest (inr (inr (inr (inr (inr (inr (inr (inr unfit)))))))) = cause_unfit unfit
 
   cause_known : (list_all has_equals words ≡ false) ⊎ (list_all (λ word. is_name (name_of word)) words ≡ false) → NoSettings words
   cause_known (inl lacks) = no_equals lacks
@@ -465,7 +534,7 @@ module _ (words : List (List ℕ)) where
     where
       by_tests : ((list_all is_known words && are_once words) ≡ true) ⊎ ((list_all is_known words && are_once words) ≡ false) → NoSettings words
       by_tests (inl named) =
-          cause_rest (missing (input_of words) (number_under Workers worker_counts 1 words) (number_under Size sizes 10000 words) (planning_of words) (switch_under Notes words) (number_under Ahead ahead_counts 0 words) (switch_under Watch words)
+          cause_rest (missing (input_of words) (number_under Workers worker_counts 1 words) (number_under Size sizes 10000 words) (planning_of words) (switch_under Notes words) (number_under Ahead ahead_counts 0 words) (switch_under Watch words) (check_under CheckName words)
           (sym (cond-true (list_all is_known words && are_once words) (rest_of words) None named) ∙ is))
       by_tests (inr unnamed) = cause_names (and_cases (list_all is_known words) (are_once words) unnamed)
 

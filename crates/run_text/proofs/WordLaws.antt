@@ -5,7 +5,7 @@ use Rattle.std.specs.List.{list_all}
 use Rattle.std.specs.Str.{bytes_eq}
 use Rattle.std.proofs.lemmas.Bool.{and_parts, both_ways, not-true}
 use Rattle.run_text.specs.declared.names.Name.{Name}
-use Rattle.run_text.specs.declared.names.Name.TheVariants.{App, Own, Workers, Size, Unit as UnitName, Explore as ExploreName, Abort as AbortName, Plan as PlanName, Seed, Events, Notes, Ahead, Watch}
+use Rattle.run_text.specs.declared.names.Name.TheVariants.{App, Own, Workers, Size, Unit as UnitName, Explore as ExploreName, Abort as AbortName, Plan as PlanName, Seed, Events, Notes, Ahead, Watch, Check}
 use Rattle.run_text.specs.Settings.{text_of, has_equals, name_of, has_name, value_in}
 
 abbrev is_other : ℕ → Bool
@@ -61,6 +61,7 @@ named Events word = split (text_of Events) word refl
 named Notes word = split (text_of Notes) word refl
 named Ahead word = split (text_of Ahead) word refl
 named Watch word = split (text_of Watch) word refl
+named Check word = split (text_of Check) word refl
 
 abbrev Stripped : {X : Type 0} → (now : X → List ℕ) → (prefix word : List ℕ) → X → Type 0
 Stripped now prefix word x = (begins prefix word ≡ true) × (now x ≡ drop (length prefix) word) × (length (now x) + length prefix ≡ length word)

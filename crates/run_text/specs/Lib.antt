@@ -1,3 +1,4 @@
+pub mod Checks
 pub mod Text
 pub mod Reports
 pub mod Counts

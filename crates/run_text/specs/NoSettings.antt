@@ -3,8 +3,10 @@ use Rattle.std.specs.Prelude.{◌≡◌, ℕ, ◌≤◌, ◌||◌, Bool, true, f
 use Rattle.std.specs.List.{list_all, list_any}
 use Rattle.std.specs.Str.{bytes_eq}
 use Rattle.run_text.specs.declared.names.Name.{Name}
-use Rattle.run_text.specs.declared.names.Name.TheVariants.{App, Own, Workers, Size, Unit as UnitName, Explore as ExploreName, Abort as AbortName, Plan as PlanName, Seed, Events, Notes, Ahead, Watch}
-use Rattle.run_text.specs.Settings.{text_of, all_names, has_equals, name_of, has_name, value_under, is_given, app_in, switch_in, unit_in, explore_in, abort_in, auto_in, auto_under, is_strategy_given, says_in, worker_counts, sizes, seeds, event_counts, ahead_counts, number_under, switch_under, is_alone}
+use Rattle.run_text.specs.declared.names.Name.TheVariants.{App, Own, Workers, Size, Unit as UnitName, Explore as ExploreName, Abort as AbortName, Plan as PlanName, Seed, Events, Notes, Ahead, Watch, Check as CheckName}
+use Rattle.run_text.specs.declared.choices.Check.{Check}
+use Rattle.run_text.specs.declared.choices.Planning.{Planning}
+use Rattle.run_text.specs.Settings.{text_of, all_names, has_equals, name_of, has_name, value_under, is_given, app_in, switch_in, unit_in, explore_in, abort_in, auto_in, auto_under, is_strategy_given, says_in, worker_counts, sizes, seeds, event_counts, ahead_counts, number_under, switch_under, check_in, check_under, planning_of, is_alone, can_check}
 
 -- whether bytes are a name that there is
 abbrev pub is_name : List ℕ → Bool
@@ -25,6 +27,7 @@ is_value_of Events value = says_in event_counts value
 is_value_of Notes value = is_some (switch_in value)
 is_value_of Ahead value = says_in ahead_counts value
 is_value_of Watch value = is_some (switch_in value)
+is_value_of CheckName value = is_some (check_in value)
 
 pub data NoSettings (words : List (List ℕ)) : Type 0 where
   -- a word has no `=`
@@ -43,4 +46,8 @@ pub data NoSettings (words : List (List ℕ)) : Type 0 where
   -- a part of the strategy is given though the program chooses it
   chosen_and_given : auto_under PlanName words ≡ Some true → is_strategy_given words ≡ true → NoSettings words
   -- more than one is asked for of what may not go together
-  not_alone : (ahead : ℕ) (watch : Bool) → number_under Ahead ahead_counts 0 words ≡ Some ahead → switch_under Watch words ≡ Some watch → is_alone ahead watch ≡ false → NoSettings words
+  not_alone : (ahead : ℕ) (watch : Bool) (check : Check) → number_under Ahead ahead_counts 0 words ≡ Some ahead → switch_under Watch words ≡ Some watch
+      → check_under CheckName words ≡ Some check → is_alone ahead watch check ≡ false → NoSettings words
+  -- journals are to be checked of runs that cannot be: by several workers, with eager abort, or by strategies that the program chooses
+  not_checkable : (check : Check) (workers : ℕ) (planning : Planning) → check_under CheckName words ≡ Some check → number_under Workers worker_counts 1 words ≡ Some workers
+      → planning_of words ≡ Some planning → can_check check workers planning ≡ false → NoSettings words

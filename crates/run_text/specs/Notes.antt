@@ -1,5 +1,6 @@
--- The text of the notes: where they are on, a line for each batch that was run and at the end the tally; and what viewers saw.
-use Rattle.std.specs.Prelude.{ℕ, ◌+◌, Bool, true, false, List, [], ◌∷◌, ◌++◌, codes, length, take}
+-- The text of the notes: where they are on, a line for each batch that was run and at the end the tally; and what viewers saw, and
+-- what came of journals.
+use Rattle.std.specs.Prelude.{ℕ, ◌+◌, ◌==◌, if◌then◌else◌, Bool, true, false, List, [], ◌∷◌, ◌++◌, codes, length, take}
 use Rattle.std.specs.List.{flat_map}
 use Rattle.morph_base.specs.declared.plan.Plan.{Plan}
 use Rattle.morph_base.specs.Plans.{event_count, op_count}
@@ -10,7 +11,13 @@ use Rattle.morph_base.specs.declared.strategy.Explore.{Explore}
 use Rattle.morph_base.specs.declared.strategy.Explore.TheVariants.{Strata, Steal}
 use Rattle.morph_base.specs.declared.strategy.Abort.{Abort}
 use Rattle.morph_base.specs.declared.strategy.Abort.TheVariants.{Lazy, Eager}
+use Rattle.interleaving_core.specs.declared.event.CoreEvent.{CoreEvent}
+use Rattle.run_checker.specs.Lines.{text_of}
+use Rattle.run_text.specs.declared.choices.Check.{Check}
+use Rattle.run_text.specs.declared.choices.Check.TheVariants.{Off, On, Text}
 use Rattle.run_text.specs.declared.tally.Tally.{Tally}
+use Rattle.run_text.specs.Checks.{is_checked}
+use Rattle.morph_engine.specs.Runs.{journal_room}
 use Rattle.morph_engine.specs.Accounts.{Account}
 use Rattle.run_text.specs.Text.{line, after_space}
 
@@ -48,6 +55,28 @@ batch_notes number (a ∷ accounts) = batch_note number a.plan a.strategy ++ bat
 -- the line of what a viewer of the balances saw: after how many batches it looked, and the sum of the values of table 0 then
 unfoldable pub audit_note : (number total : ℕ) → List ℕ
 audit_note number total = line (codes "audit" ++ after_space number ++ codes " total" ++ after_space total)
+
+-- whether a journal is cut off: it is as long as there is room for
+abbrev pub is_cut : Plan → (journal : List CoreEvent) → Bool
+is_cut p journal = length journal == journal_room p
+
+-- the line of a journal that was checked, and is right or cut off
+abbrev pub check_word : (cut : Bool) → List ℕ
+check_word true = codes "cut"
+check_word false = codes "yes"
+
+unfoldable pub check_note : (number : ℕ) → (cut : Bool) → List ℕ
+check_note number cut = line (codes "check" ++ after_space number ++ codes ": " ++ check_word cut)
+
+-- the lines of the journal, where they are asked for
+abbrev pub step_notes : Check → (journal : List CoreEvent) → List ℕ
+step_notes Off journal = []
+step_notes On journal = []
+step_notes Text journal = text_of journal
+
+-- what is noted of the journal of a batch, by its number and its plan
+abbrev pub check_notes : Check → (number : ℕ) → Plan → (journal : List CoreEvent) → List ℕ
+check_notes check number p journal = if is_checked check then step_notes check journal ++ check_note number (is_cut p journal) else []
 
 -- the line of the tally
 unfoldable pub tally_note : Tally → List ℕ

@@ -1,5 +1,5 @@
 -- The settings that words ask for. A word is `name=value`, and is split at its first `=`.
-use Rattle.std.specs.Prelude.{◌≡◌, ℕ, ◌+◌, ◌==◌, ◌≤◌, ◌&&◌, ◌||◌, Bool, true, false, nat_lt, nat_le, List, [], ◌∷◌, codes, count_by, drop, length, Option, Some, None, if◌then◌else◌, is_some, IfSome, IsTrue}
+use Rattle.std.specs.Prelude.{◌≡◌, ℕ, ◌+◌, ◌==◌, ◌≤◌, ◌&&◌, ◌||◌, not, Bool, true, false, nat_lt, nat_le, List, [], ◌∷◌, codes, count_by, drop, length, Option, Some, None, if◌then◌else◌, is_some, IfSome, IsTrue}
 use Rattle.std.specs.List.{list_all, list_any}
 use Rattle.std.specs.Str.{bytes_eq}
 use Rattle.event_reader.specs.declared.ranges.Range.{Range}
@@ -18,7 +18,10 @@ use Rattle.run_text.specs.declared.choices.Generated.{Generated}
 use Rattle.run_text.specs.declared.choices.App.{App}
 use Rattle.run_text.specs.declared.choices.App.TheVariants.{Ledger, Grep, Toll}
 use Rattle.run_text.specs.declared.names.Name.{Name}
-use Rattle.run_text.specs.declared.names.Name.TheVariants.{App as AppName, Own, Workers, Size, Unit as UnitName, Explore as ExploreName, Abort as AbortName, Plan as PlanName, Seed, Events, Notes, Ahead, Watch}
+use Rattle.run_text.specs.declared.names.Name.TheVariants.{App as AppName, Own, Workers, Size, Unit as UnitName, Explore as ExploreName, Abort as AbortName, Plan as PlanName, Seed, Events, Notes, Ahead, Watch, Check as CheckName}
+use Rattle.run_text.specs.declared.choices.Check.{Check}
+use Rattle.run_text.specs.declared.choices.Check.TheVariants.{Off, On, Text}
+use Rattle.run_text.specs.Checks.{is_checked}
 use Rattle.run_text.specs.declared.words.Input.{Input}
 
 -- the names that there are
@@ -36,9 +39,10 @@ text_of Events = codes "events"
 text_of Notes = codes "notes"
 text_of Ahead = codes "ahead"
 text_of Watch = codes "watch"
+text_of CheckName = codes "check"
 
 abbrev pub all_names : List Name
-all_names = AppName ∷ Own ∷ Workers ∷ Size ∷ UnitName ∷ ExploreName ∷ AbortName ∷ PlanName ∷ Seed ∷ Events ∷ Notes ∷ Ahead ∷ Watch ∷ []
+all_names = AppName ∷ Own ∷ Workers ∷ Size ∷ UnitName ∷ ExploreName ∷ AbortName ∷ PlanName ∷ Seed ∷ Events ∷ Notes ∷ Ahead ∷ Watch ∷ CheckName ∷ []
 
 -- whether a word has an `=`, and its name, which stands before the first one
 abbrev pub has_equals : List ℕ → Bool
@@ -190,6 +194,11 @@ auto_given (Some value) = auto_in value
 abbrev pub auto_under : Name → List (List ℕ) → Option Bool
 auto_under name words = auto_given (value_under name words)
 
+-- whether failures are dealt with late
+abbrev pub is_late : AbortKind → Bool
+is_late Lazy = true
+is_late Eager = false
+
 -- the strategy that words give for all batches
 abbrev pub strategy_by : Option UnitKind → Option ExploreKind → Option AbortKind → Option Strategy
 strategy_by (Some unit) (Some explore) (Some abort) = Some (record { unit = unit; explore = explore; abort = abort })
@@ -245,33 +254,58 @@ input_by words None self = None
 abbrev pub input_of : List (List ℕ) → Option Input
 input_of words = input_by words (app_under AppName words) (app_under Own words)
 
--- whether at most one is asked for of what may not go together: that batches are read ahead, and that a viewer looks beside
--- each batch
-abbrev pub is_alone : (ahead : ℕ) → (watch : Bool) → Bool
-is_alone ahead watch = nat_le (count_by (λ asked. asked) (nat_lt 0 ahead ∷ watch ∷ [])) 1
+-- what is done with journals, by a name
+abbrev pub check_in : List ℕ → Option Check
+check_in value =
+    if bytes_eq value (codes "off") then Some Off
+    else (if bytes_eq value (codes "on") then Some On
+    else (if bytes_eq value (codes "text") then Some Text else None))
 
--- settings, where they ask for at most one of these
-abbrev pub if_alone : Settings → Option Settings
-if_alone s = if is_alone s.ahead s.watch then Some s else None
+-- as it is given under a name, none is kept where that is missing
+abbrev pub check_given : Option (List ℕ) → Option Check
+check_given None = Some Off
+check_given (Some value) = check_in value
 
-abbrev pub settings_by : Option Input → (workers size : Option ℕ) → Option Planning → (notes : Option Bool) → (ahead : Option ℕ) → (watch : Option Bool) → Option Settings
-settings_by (Some input) (Some workers) (Some size) (Some planning) (Some notes) (Some ahead) (Some watch) =
-    if_alone (record { app = input.app; workers = workers; size = size; planning = planning; notes = notes; generated = input.generated; ahead = ahead; watch = watch })
-settings_by (Some input) (Some workers) (Some size) (Some planning) (Some notes) (Some ahead) None = None
-settings_by (Some input) (Some workers) (Some size) (Some planning) (Some notes) None watch = None
-settings_by (Some input) (Some workers) (Some size) (Some planning) None ahead watch = None
-settings_by (Some input) (Some workers) (Some size) None notes ahead watch = None
-settings_by (Some input) (Some workers) None planning notes ahead watch = None
-settings_by (Some input) None size planning notes ahead watch = None
-settings_by None workers size planning notes ahead watch = None
+abbrev pub check_under : Name → List (List ℕ) → Option Check
+check_under name words = check_given (value_under name words)
 
--- the settings: every word has a name that there is, no name is given twice, each value is one of its name's, and at most one is
--- asked for of what may not go together
+-- whether at most one is asked for of what may not go together: that batches are read ahead, that a viewer looks beside each
+-- batch, and that journals are checked
+abbrev pub is_alone : (ahead : ℕ) → (watch : Bool) → Check → Bool
+is_alone ahead watch check = nat_le (count_by (λ asked. asked) (nat_lt 0 ahead ∷ watch ∷ is_checked check ∷ [])) 1
+
+-- whether the strategy of each batch is given, and has lazy abort
+abbrev pub is_lazy : Planning → Bool
+is_lazy (Fixed strategy) = is_late strategy.abort
+is_lazy Auto = false
+
+-- whether runs can be checked where that is asked for: by one worker, with lazy abort
+abbrev pub can_check : Check → (workers : ℕ) → Planning → Bool
+can_check check workers planning = not (is_checked check) || ((workers == 1) && is_lazy planning)
+
+-- settings, where they ask for nothing that may not go together
+abbrev pub if_fitting : Settings → Option Settings
+if_fitting s = if is_alone s.ahead s.watch s.check && can_check s.check s.workers s.planning then Some s else None
+
+abbrev pub settings_by : Option Input → (workers size : Option ℕ) → Option Planning → (notes : Option Bool) → (ahead : Option ℕ) → (watch : Option Bool) → (check : Option Check) → Option Settings
+settings_by (Some input) (Some workers) (Some size) (Some planning) (Some notes) (Some ahead) (Some watch) (Some check) =
+    if_fitting (record { app = input.app; workers = workers; size = size; planning = planning; notes = notes; generated = input.generated; ahead = ahead; watch = watch; check = check })
+settings_by (Some input) (Some workers) (Some size) (Some planning) (Some notes) (Some ahead) (Some watch) None = None
+settings_by (Some input) (Some workers) (Some size) (Some planning) (Some notes) (Some ahead) None check = None
+settings_by (Some input) (Some workers) (Some size) (Some planning) (Some notes) None watch check = None
+settings_by (Some input) (Some workers) (Some size) (Some planning) None ahead watch check = None
+settings_by (Some input) (Some workers) (Some size) None notes ahead watch check = None
+settings_by (Some input) (Some workers) None planning notes ahead watch check = None
+settings_by (Some input) None size planning notes ahead watch check = None
+settings_by None workers size planning notes ahead watch check = None
+
+-- the settings: every word has a name that there is, no name is given twice, each value is one of its name's, and nothing is
+-- asked for together that may not go together
 abbrev pub settings_of : List (List ℕ) → Option Settings
 settings_of words =
     if list_all is_known words && are_once words
     then settings_by (input_of words) (number_under Workers worker_counts 1 words) (number_under Size sizes 10000 words) (planning_of words) (switch_under Notes words)
-    (number_under Ahead ahead_counts 0 words) (switch_under Watch words)
+    (number_under Ahead ahead_counts 0 words) (switch_under Watch words) (check_under CheckName words)
     else None
 
 -- the numbers of an input that the program makes are in their ranges
@@ -287,3 +321,4 @@ pub record AreInRange (s : Settings) : Type 0 where
   pub generated : AreFew s.generated
   pub few_ahead : s.ahead ≤ ahead_counts.greatest
   pub apart : IsTrue s.watch → s.ahead ≡ 0
+  pub unchecked : IsTrue (is_checked s.check) → (s.ahead ≡ 0) × (s.watch ≡ false) × (s.workers ≡ 1) × (is_lazy s.planning ≡ true)

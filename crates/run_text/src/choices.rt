@@ -1,4 +1,5 @@
 ghost use Rattle.std.specs.Prelude.{◌≡◌};
+ghost use Rattle.run_text.specs.Checks.{is_checked};
 ghost use Rattle.run_text.specs.Reports.{report_of};
 
 use crate::report::Report;
@@ -33,6 +34,29 @@ pub enum Planning {
     Auto,
 }
 
+/// What is done with the journal of a batch, which has the steps of its run.
+#[derive(Clone, Copy, Debug, PartialEq, Eq)]
+pub enum Check {
+    /// None is kept.
+    Off,
+    /// It is kept and checked, and the notes say what came of it.
+    On,
+    /// The same, and the notes have the journal too.
+    Text,
+}
+
+impl Check {
+    /// Whether a journal is kept and checked.
+    pub fn is_on(self) -> bool
+        ensures { result ≡ is_checked self }
+    {
+        match self {
+            Check::Off => false,
+            Check::On | Check::Text => true,
+        }
+    }
+}
+
 /// What the words of the program ask for.
 #[derive(Clone, Copy, Debug, PartialEq, Eq)]
 pub struct Settings {
@@ -53,6 +77,9 @@ pub struct Settings {
     /// Whether a viewer looks at the balances beside each batch, and the notes get an audit line of what it saw. It
     /// does not where batches are read ahead.
     pub watch: bool,
+    /// What is done with the journals of batches. None is kept where batches are read ahead or watched, where there
+    /// are several workers, with eager abort, and where the program chooses the strategies.
+    pub check: Check,
 }
 
 impl Settings {

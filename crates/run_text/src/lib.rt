@@ -2,11 +2,13 @@
 //! notes, and the tally that they tell.
 //!
 //! It stands on `event_reader` for numbers and names of tables, on `morph_engine` for the batches that were run, with
-//! `op_eval` for what they left, on `version_table` for their values and on `morph_io` for what is written.
+//! `op_eval` for what they left, on `version_table` for their values, on `run_checker` for the lines of journals and on
+//! `morph_io` for what is written.
 //! [`settings()`] reads the words; the writing functions take a sink that bytes go to, and their contracts say which
 //! bytes these are.
 #![tactic(auto)]
 
+mod checks;
 mod choices;
 mod names;
 mod notes;
@@ -17,7 +19,8 @@ mod totals;
 mod words;
 mod writing;
 
-pub use choices::{App, GREATEST_SIZE, Generated, Planning, Settings};
+pub use checks::{is_cut, note_check};
+pub use choices::{App, Check, GREATEST_SIZE, Generated, Planning, Settings};
 pub use notes::{note_audit, note_batch, note_tally};
 pub use report::Report;
 pub use tally::Tally;

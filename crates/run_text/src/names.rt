@@ -30,10 +30,12 @@ pub enum Name {
     Ahead,
     /// Whether a viewer looks at the balances beside each batch.
     Watch,
+    /// Whether a journal of each batch is kept and checked, and told.
+    Check,
 }
 
 /// All names, each once.
-pub const NAMES: [Name; 13] = [
+pub const NAMES: [Name; 14] = [
     Name::App,
     Name::Own,
     Name::Workers,
@@ -47,6 +49,7 @@ pub const NAMES: [Name; 13] = [
     Name::Notes,
     Name::Ahead,
     Name::Watch,
+    Name::Check,
 ];
 
 impl Name {
@@ -68,6 +71,7 @@ impl Name {
             Name::Notes => b"notes=",
             Name::Ahead => b"ahead=",
             Name::Watch => b"watch=",
+            Name::Check => b"check=",
         }
     }
 }

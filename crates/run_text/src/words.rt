@@ -1,7 +1,7 @@
 ghost use Rattle.std.specs.Prelude.{◌≡◌, ◌<◌, ◌≤◌, ◌^◌, map, count_by, length, true, false, MatchOption, IfSome};
 ghost use Rattle.std.specs.List.{list_all};
 ghost use Rattle.event_reader.specs.declared.limits.TheConstants.{GREATEST_NUMBER};
-ghost use Rattle.run_text.specs.Settings.{has_name, value_in, is_known, is_once, are_once, value_under, is_given};
+ghost use Rattle.run_text.specs.Settings.{has_name, value_in, is_known, is_once, are_once, value_under, is_given, is_lazy, can_check, check_in, check_under};
 ghost use Rattle.run_text.specs.Settings.{app_in, app_under, number_in, number_under, switch_in, switch_under};
 ghost use Rattle.run_text.specs.Settings.{unit_in, unit_under, explore_in, explore_under, abort_in, abort_under};
 ghost use Rattle.run_text.specs.Settings.{auto_in, auto_under, strategy_of, planning_of, input_of};
@@ -10,7 +10,7 @@ ghost use Rattle.run_text.specs.Settings.{AreFew, AreInRange, settings_of};
 ghost use Rattle.run_text.specs.NoSettings.{NoSettings};
 
 use crate::choices::{
-    App, DEFAULT_AHEAD, DEFAULT_EVENTS, DEFAULT_SEED, DEFAULT_SIZE, DEFAULT_WORKERS,
+    App, Check, DEFAULT_AHEAD, DEFAULT_EVENTS, DEFAULT_SEED, DEFAULT_SIZE, DEFAULT_WORKERS,
     GREATEST_EVENTS, GREATEST_SEED, GREATEST_SIZE, Generated, MOST_AHEAD, Planning, Settings,
 };
 use crate::names::{NAMES, Name};
@@ -361,19 +361,63 @@ fn made_input(words: &[List<u8>], app: App) -> Option<Input>
     })
 }
 
-/// Whether at most one is asked for of what may not go together: that batches are read ahead, and that a viewer looks
-/// beside each batch.
-fn is_alone(ahead: u64, watch: bool) -> bool
-    ensures { result ≡ is_alone ahead watch }
+/// What is done with journals, by this name.
+fn check_of(value: &[u8]) -> Option<Check>
+    ensures { result ≡ check_in value.now }
 {
-    u32::from(ahead > 0) + u32::from(watch) <= 1
+    if value == b"off".as_slice() {
+        Some(Check::Off)
+    } else if value == b"on".as_slice() {
+        Some(Check::On)
+    } else if value == b"text".as_slice() {
+        Some(Check::Text)
+    } else {
+        None
+    }
+}
+
+/// What is done with journals, as it is given under a name; none is kept where the name is not given.
+fn check_under(words: &[List<u8>], name: Name) -> Option<Check>
+    ensures { result ≡ check_under name (map (λ word. word.items) words.now) }
+{
+    match value_under(words, name) {
+        Some(value) => check_of(value),
+        None => Some(Check::Off),
+    }
+}
+
+/// Whether at most one is asked for of what may not go together: that batches are read ahead, that a viewer looks
+/// beside each batch, and that journals are checked.
+fn is_alone(ahead: u64, watch: bool, check: Check) -> bool
+    ensures { result ≡ is_alone ahead watch check }
+{
+    u32::from(ahead > 0) + u32::from(watch) + u32::from(check.is_on()) <= 1
+}
+
+/// Whether the strategy of each batch is known beforehand, and has lazy abort.
+fn is_lazy(planning: Planning) -> bool
+    ensures { result ≡ is_lazy planning }
+{
+    match planning {
+        Planning::Fixed(strategy) => strategy.abort == Abort::Lazy,
+        Planning::Auto => false,
+    }
+}
+
+/// Whether runs can be checked where that is asked for: by one worker, with lazy abort.
+fn can_check(check: Check, workers: u64, planning: Planning) -> bool
+    ensures { result ≡ can_check check workers planning }
+{
+    !check.is_on() || (workers == 1 && is_lazy(planning))
 }
 
 /// The settings that the words ask for, or `None` where they ask for none.
 ///
 /// They ask for none where a word is not `name=value` with one of the names, a name is given twice, a value is not
 /// one of its name's, not exactly one of `app` and `self` is given, `seed` or `events` is given without `self`,
-/// `unit`, `explore` or `abort` is given with `plan=auto`, or `watch` is on where batches are read ahead.
+/// `unit`, `explore` or `abort` is given with `plan=auto`, more than one is asked for of batches that are read ahead,
+/// watched balances and checked journals, or journals are to be checked with several workers, eager abort or
+/// `plan=auto`.
 pub fn settings(words: &[List<u8>]) -> Option<Settings>
     ensures asked { result ≡ settings_of (map (λ word. word.items) words.now) }
     ensures none { (result ≡ None → NoSettings (map (λ word. word.items) words.now))
@@ -390,7 +434,8 @@ pub fn settings(words: &[List<u8>]) -> Option<Settings>
     let notes = switch_under(words, Name::Notes)?;
     let ahead = number_under(words, Name::Ahead, AHEAD, DEFAULT_AHEAD)?;
     let watch = switch_under(words, Name::Watch)?;
-    if !is_alone(ahead, watch) {
+    let check = check_under(words, Name::Check)?;
+    if !is_alone(ahead, watch, check) || !can_check(check, workers, planning) {
         return None;
     }
     Some(Settings {
@@ -402,5 +447,6 @@ pub fn settings(words: &[List<u8>]) -> Option<Settings>
         generated: input.generated,
         ahead: ahead as u32,
         watch,
+        check,
     })
 }

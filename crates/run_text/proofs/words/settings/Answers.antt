@@ -26,6 +26,9 @@ returns-in_err-ahead-clause-none c = none_asked (map (λ word. word.items) c.arg
 pub returns-in_err-watch-clause-none : goal.returns-in_err-watch-clause-none
 returns-in_err-watch-clause-none c = none_asked (map (λ word. word.items) c.args.words.now) _ (search rules)
 
+pub returns-in_err-check-clause-none : goal.returns-in_err-check-clause-none
+returns-in_err-check-clause-none c = none_asked (map (λ word. word.items) c.args.words.now) _ (search rules)
+
 pub returns-then-not-is_alone-clause-none : goal.returns-then-not-is_alone-clause-none
 returns-then-not-is_alone-clause-none c = none_asked (map (λ word. word.items) c.args.words.now) _ (search rules)
 

@@ -172,7 +172,7 @@ module _ {App : Type 0} where
       (r'.app ≡ r.app) × (r'.size ≡ r.size) × (r'.lines.limit ≡ r.lines.limit) →
       (r'.lines.ended ≡ false → r.lines.ended ≡ false) → r'.live ≡ true → values'.layout ≡ values.layout →
       contents values' ≡ fold_batch batch (contents values) → told ≡ fates (contents values) (by_time (transactions_of batch)) →
-      newer ≡ with_both new (told_lines c.telling.report told) (told_note c.settings tally'.batches audit a) → out' ≡ [] → IsAudit c.settings (contents values) tally.batches audit →
+      newer ≡ with_both new (told_lines c.telling.report told) (told_note c.settings tally'.batches audit a) → out' ≡ [] → IsAudit c.settings (contents values) tally.batches audit a →
       Adds tally tally' a told → IsSound c.settings.workers a → IsMadeOf (contents values) (transactions_of batch) a.plan → a.strategy ≡ strategy_by c.settings.planning a.plan last →
       last' ≡ last_of told → Between c left' newer r' values' tally' out' last'
   unfolding goes_batch
@@ -233,7 +233,7 @@ module _ {App : Type 0} where
       AnswersNext (accepted_by c.event_of r left) (Ok (Batch batch)) (accepted_by c.event_of r' left') → 0 < length batch.events.items →
       told ≡ fates (contents values) (by_time (transactions_of batch)) →
       Adds tally tally' a told → IsSound c.settings.workers a → IsMadeOf (contents values) (transactions_of batch) a.plan → a.strategy ≡ strategy_by c.settings.planning a.plan last →
-      IsAudit c.settings (contents values) tally.batches audit → IsCutIn new (told_lines c.telling.report told) (told_note c.settings tally'.batches audit a) newer → IsTold c (status_of x) tally' newer
+      IsAudit c.settings (contents values) tally.batches audit a → IsCutIn new (told_lines c.telling.report told) (told_note c.settings tally'.batches audit a) newer → IsTold c (status_of x) tally' newer
   told_cut_in_batch {c} {left} {new} {r} {values} {tally} {tally'} {out} {last} {x} left' newer r' batch told a audit failed b answers some fates_are adds sound made chosen seen cut =
       told_in_batch (accepted_by c.event_of r' left') newer (transactions_of batch) audit failed b.goes answers (simp length-map some) fates_are
       adds sound made (chosen ∙ ap (strategy_by c.settings.planning a.plan) b.last_is) (some_fates (contents values) batch told fates_are some) seen cut

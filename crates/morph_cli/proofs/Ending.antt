@@ -1,6 +1,7 @@
 -- How a run ends, by the answer that ends it.
 use Rattle.std.proofs.Common.{◌≡◌, ◌⊎◌, inl, inr, ℕ, ◌+◌, ◌-◌, ◌<◌, Bool, false, List, [], ◌∷◌, ◌++◌, length, Option, Some, None, Result, Ok, Err, refl, ap, sym, subst, ◌∙◌, arith}
-use Rattle.std.specs.Prelude.{is_some, option_map, IfSome}
+use Rattle.std.specs.Prelude.{is_some, option_map, All, IfSome, IsTrue}
+use Rattle.std.proofs.lemmas.List.Elements.{All-nil}
 use Rattle.morph_base.specs.Transactions.{Transaction, by_time}
 use Rattle.morph_base.specs.States.{State, opening_state, after_all}
 use Rattle.morph_base.specs.Outcomes.{Fate, fates}
@@ -11,6 +12,7 @@ use Rattle.event_reader.specs.Lines.{front, within}
 use Rattle.event_reader.specs.Accepted.{Accepted, Ending, Ended, RefusedAt, CutOff, with_batch, accepted_within}
 use Rattle.event_reader.specs.Reader.{LinesView, new_reader, accepted_by, accepted_after, accepted_next, Takes}
 use Rattle.morph_engine.specs.Accounts.{Account}
+use Rattle.run_text.specs.Checks.{is_checked}
 use Rattle.run_text.specs.declared.choices.Settings.{Settings}
 use Rattle.run_text.specs.declared.tally.Tally.{Tally}
 use Rattle.morph_cli.specs.declared.fault.Fault.{Fault}
@@ -24,9 +26,9 @@ use Rattle.morph_cli.specs.Runs.{EndsSo}
 use Rattle.morph_cli.specs.Status.{status_of}
 use Rattle.run_text.specs.Counts.{Adds, no_tally}
 use Rattle.morph_cli.specs.Strategies.{strategy_by}
-use Rattle.morph_cli.specs.Tallies.{IsMadeOf, IsSound, RunTold}
+use Rattle.morph_cli.specs.Tallies.{IsMadeOf, IsSound, RunTold, IsChecked}
 use Rattle.run_text.specs.Text.{Telling, event_lines, told_lines, run_state, end_text}
-use Rattle.morph_cli.proofs.Noting.{IsNoted, notes_of, noted_nothing, noted_more, IsAudit, told_note, told_note_is, no_audits, audits_more, as_many}
+use Rattle.morph_cli.proofs.Noting.{IsNoted, notes_of, noted_nothing, noted_more, IsAudit, told_note, told_note_is, no_audits, audits_more, as_many, checked_more}
 use Rattle.morph_cli.proofs.Running.{RunsOn, IsLast, fronts, runs_start, runs_batch, runs_ended, runs_done, runs_cut, runs_short, runs_cut_in_batch, whole_more, told_more, last_is}
 use Rattle.morph_cli.proofs.Taking.{TakesOn, takes_failed}
 use Rattle.morph_cli.proofs.Tallying.{Tallied, last_after, tallied_start, tallied_more}
@@ -128,6 +130,7 @@ module _ {App : Type 0} where
     pub tallied : Tallied c.settings.planning c.settings.workers done accounts tally
     pub runs : RunsOn c.telling (accepted_in c) now c.old.sink new.sink s tally done
     pub audits : List Bool
+    pub checked : IsTrue (is_checked c.settings.check) → All IsChecked accounts
     pub audited : AreAudits c.settings accounts audits
     pub noted : IsNoted c.settings done accounts audits c.old.notes new.notes
 
@@ -153,6 +156,7 @@ module _ {App : Type 0} where
     runs = subst (λ all. RunsOn c.telling (accepted_in c) all c.old.sink c.old.sink s tally []) given
         (runs_start c.telling (accepted_in c) c.old.sink s tally opening (ap (λ (t : Tally). t.committed) none) (ap (λ (t : Tally). t.aborted) none));
     audits = [];
+    checked = λ on. All-nil IsChecked;
     audited = no_audits c.settings;
     noted = noted_nothing c.settings c.old.notes;
   }
@@ -169,7 +173,7 @@ module _ {App : Type 0} where
   unfoldable pub goes_batch : (c : Course App) (now next : Option Accepted) (new newer : Outputs) (s t : State) (tally tally' : Tally) (batch : List Transaction)
       (told : List Fate) (a : Account) (audit : Option Total) → (goes : Goes c now new s tally) → 0 < length batch → now ≡ option_map (with_batch batch) next →
       t ≡ after_all s (by_time batch) → told ≡ fates s (by_time batch) → newer ≡ with_both new (told_lines c.telling.report told) (told_note c.settings tally'.batches audit a) →
-      IsAudit c.settings s tally.batches audit → Adds tally tally' a told → IsSound c.settings.workers a → IsMadeOf s batch a.plan → IsChosen c goes.done a → 0 < length told → Goes c next newer t tally'
+      IsAudit c.settings s tally.batches audit a → Adds tally tally' a told → IsSound c.settings.workers a → IsMadeOf s batch a.plan → IsChosen c goes.done a → 0 < length told → Goes c next newer t tally'
   goes_batch c now next new newer s t tally tally' batch told a audit goes some was state told_is written seen adds sound made chosen events = record {
     done = goes.done ++ batch ∷ [];
     accounts = goes.accounts ++ a ∷ [];
@@ -177,6 +181,7 @@ module _ {App : Type 0} where
     runs = runs_batch c.telling _ _ _ c.old.sink new.sink newer.sink s t tally tally' goes.done batch told goes.runs was some state told_is
         (ap (λ (o : Outputs). o.sink) written) adds.committed adds.aborted;
     audits = goes.audits ++ is_some audit ∷ [];
+    checked = checked_more c.settings goes.accounts a goes.checked seen.checked;
     audited = audits_more c.settings goes.accounts goes.audits a (is_some audit) goes.audited seen.unwatched;
     noted = noted_more c.settings goes.done goes.accounts goes.audits batch a (is_some audit) s c.old.notes new.notes newer.notes (as_many goes.tallied) goes.audited goes.runs.state goes.noted
         (ap (λ (o : Outputs). o.notes) written ∙ ap (behind new.notes) (told_note_is c.settings s tally.batches tally'.batches audit a adds.batches seen)
@@ -285,6 +290,7 @@ module _ {App : Type 0} where
     parts = parts_are (accepted_in c) now goes.done goes.runs.whole;
     ran = goes.tallied.ran;
     sound = goes.tallied.sound;
+    checked = goes.checked;
     counts = goes.tallied.counts;
     founded = goes.tallied.founded;
     balanced = goes.tallied.balanced;
@@ -298,7 +304,7 @@ module _ {App : Type 0} where
       {a : Account} {told : List Fate} (next : Option Accepted) (newer : Outputs) (batch : List Transaction) (audit : Option Total) → x ≡ Err Write → (goes : Goes c now new s tally) →
       now ≡ option_map (with_batch batch) next → 0 < length batch → told ≡ fates s (by_time batch) →
       Adds tally tally' a told → IsSound c.settings.workers a → IsMadeOf s batch a.plan → IsChosen c goes.done a → 0 < length told →
-      IsAudit c.settings s tally.batches audit → IsCutIn new (told_lines c.telling.report told) (told_note c.settings tally'.batches audit a) newer → IsTold c (status_of x) tally' newer
+      IsAudit c.settings s tally.batches audit a → IsCutIn new (told_lines c.telling.report told) (told_note c.settings tally'.batches audit a) newer → IsTold c (status_of x) tally' newer
   told_in_batch {c} {now} {new} {s} {tally} {tally'} {x} {a} {told} next newer batch audit failed goes was some told_is adds sound made chosen events seen cut =
       let tallied = tallied_batch c now new s tally tally' batch told a goes told_is adds sound made chosen events in
       subst (λ y. IsTold c (status_of y) tally' newer) (sym failed) (record {
@@ -311,6 +317,7 @@ module _ {App : Type 0} where
             (whole_more (accepted_in c) now next goes.done batch goes.runs.whole was some);
         ran = tallied.ran;
         sound = tallied.sound;
+        checked = checked_more c.settings goes.accounts a goes.checked seen.checked;
         counts = tallied.counts;
         founded = tallied.founded;
         balanced = tallied.balanced;
@@ -365,6 +372,7 @@ module _ {App : Type 0} where
     parts = last_parts (accepted_in c) now goes.done ending goes.runs.whole over;
     ran = goes.tallied.ran;
     sound = goes.tallied.sound;
+    checked = goes.checked;
     counts = goes.tallied.counts;
     founded = goes.tallied.founded;
     balanced = goes.tallied.balanced;
@@ -390,6 +398,7 @@ module _ {App : Type 0} where
     parts = last_parts (accepted_in c) now goes.done ending goes.runs.whole over;
     ran = goes.tallied.ran;
     sound = goes.tallied.sound;
+    checked = goes.checked;
     counts = goes.tallied.counts;
     founded = goes.tallied.founded;
     balanced = goes.tallied.balanced;

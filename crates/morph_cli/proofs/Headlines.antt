@@ -157,6 +157,7 @@ module _ (meaning : Meaning) (telling : Telling) (limit : ℕ) (input : List ℕ
         parts = first.batches ∙ ap (λ l. l ++ first.more) counted.parts ∙ append_assoc counted.done counted.rest first.more;
         ran = counted.ran;
         sound = counted.sound;
+        checked = counted.checked;
         counts = counted.counts;
         founded = counted.founded;
         balanced = counted.balanced;

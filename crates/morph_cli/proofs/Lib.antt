@@ -9,6 +9,8 @@ pub mod Tallying
 pub mod Noting
 pub mod Turns
 pub mod Watches
+pub mod Checking
+pub mod Takings
 pub mod Starting
 pub mod Piping
 pub mod Tails

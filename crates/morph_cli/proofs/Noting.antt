@@ -3,7 +3,7 @@ use Rattle.std.proofs.Common.{◌≡◌, ◌⊎◌, inl, inr, ℕ, suc, ◌+◌,
 use Rattle.std.specs.Prelude.{◌||◌, is_some, IfSome, IsSome, IsTrue}
 use Rattle.std.proofs.lemmas.List.{length-append}
 use Rattle.std.proofs.lemmas.List.Elements.{All-nil, All-cons, All-append, All-tail}
-use Rattle.std.proofs.lemmas.Bool.{cases_lt, or_left, or_right}
+use Rattle.std.proofs.lemmas.Bool.{cases_Bool, cases_lt, cond-false, or_left, or_right, true≢false}
 use Rattle.decision_model.specs.declared.counts.Last.{Last}
 use Rattle.morph_base.specs.Outcomes.{fates}
 use Rattle.morph_base.specs.Transactions.{Transaction, by_time}
@@ -13,14 +13,16 @@ use Rattle.morph_io.specs.Told.{behind, behind_nil, behind_behind, HasRisen, App
 use Rattle.morph_engine.specs.Accounts.{Account}
 use Rattle.run_text.specs.declared.choices.Settings.{Settings}
 use Rattle.run_text.specs.declared.tally.Tally.{Tally}
-use Rattle.run_text.specs.Notes.{noted, audit_note, batch_note, batch_notes}
+use Rattle.run_text.specs.Notes.{noted, audit_note, batch_note, batch_notes, check_note, is_cut, step_notes}
+use Rattle.run_text.specs.Checks.{is_checked}
+use Rattle.run_text.specs.Settings.{AreInRange}
 use Rattle.run_text.specs.Text.{in_order, run_state}
 use Rattle.snapshot_reader.specs.declared.viewer.Total.{Total}
 use Rattle.version_table.specs.Totals.{total_of}
-use Rattle.morph_cli.specs.Outputs.{AreAudits, has_notes, audit_before, audit_of, note_of, notes_from}
+use Rattle.morph_cli.specs.Outputs.{AreAudits, has_notes, audit_before, audit_of, own_note, note_of, notes_from}
 use Rattle.run_text.specs.declared.choices.Planning.{Planning}
 use Rattle.decision_model.specs.Choices.{last_of}
-use Rattle.morph_cli.specs.Tallies.{AreRunFrom}
+use Rattle.morph_cli.specs.Tallies.{AreRunFrom, IsChecked}
 use Rattle.morph_cli.proofs.Tallying.{Tallied}
 
 -- the notes of one batch more
@@ -46,24 +48,26 @@ notes_more s state before (b ∷ bs) (x ∷ xs) (y ∷ ys) batch a audited ran e
 
 -- what is told of a batch in the notes
 abbrev pub told_note : Settings → (number : ℕ) → Option Total → Account → List ℕ
-told_note s number audit a = audit_of audit ++ noted s.notes (batch_note number a.plan a.strategy)
+told_note s number audit a = audit_of audit ++ own_note s number a
 
--- what was seen beside it is the audit of the state before it, and something was only where the balances are watched
-pub record IsAudit (s : Settings) (state : State) (before : ℕ) (audit : Option Total) : Type 0 where
+-- what was seen beside it is the audit of the state before it, and something was only where the balances are watched; and its journal
+-- was checked where journals are
+pub record IsAudit (s : Settings) (state : State) (before : ℕ) (audit : Option Total) (a : Account) : Type 0 where
   pub seen : IfSome audit (λ x. (x.number ≡ before) × (x.total ≡ total_of state 0 s.size))
   pub unwatched : s.watch ≡ false → is_some audit ≡ false
+  pub checked : IsTrue (is_checked s.check) → IsChecked a
 
-pub unseen : (s : Settings) (state : State) (before : ℕ) → IsAudit s state before None
-unseen s state before = record { seen = tt; unwatched = λ off. refl }
+pub unseen : (s : Settings) (state : State) (before : ℕ) (a : Account) → is_checked s.check ≡ false → IsAudit s state before None a
+unseen s state before a off = record { seen = tt; unwatched = λ off. refl; checked = λ on. absurd (true≢false (sym on ∙ off)) }
 
 -- so it is the note of the batch
-pub told_note_is : (s : Settings) (state : State) (before number : ℕ) (audit : Option Total) (a : Account) → number ≡ before + 1 → IsAudit s state before audit →
+pub told_note_is : (s : Settings) (state : State) (before number : ℕ) (audit : Option Total) (a : Account) → number ≡ before + 1 → IsAudit s state before audit a →
     told_note s number audit a ≡ note_of s state before (is_some audit) a
-told_note_is s state before number None a next is = ap (λ n. noted s.notes (batch_note n a.plan a.strategy)) next
+told_note_is s state before number None a next is = ap (λ n. own_note s n a) next
 told_note_is s state before number (Some x) a next is =
-    ap (λ n. audit_note n x.total ++ noted s.notes (batch_note number a.plan a.strategy)) is.seen.0
-    ∙ ap (λ n. audit_note before n ++ noted s.notes (batch_note number a.plan a.strategy)) is.seen.1
-    ∙ ap (λ n. audit_note before (total_of state 0 s.size) ++ noted s.notes (batch_note n a.plan a.strategy)) next
+    ap (λ n. audit_note n x.total ++ own_note s number a) is.seen.0
+    ∙ ap (λ n. audit_note before n ++ own_note s number a) is.seen.1
+    ∙ ap (λ n. audit_note before (total_of state 0 s.size) ++ own_note s n a) next
 
 -- the notes of the batches that were run
 abbrev pub notes_of : Settings → List (List Transaction) → List Account → List Bool → List ℕ
@@ -93,28 +97,35 @@ noted_more s done accounts audits batch a audited state old now newer ran each s
     ∙ ap (λ n. behind old (notes_of s done accounts audits ++ note_of s (run_state done) n audited a)) (zero_more (length done))
     ∙ ap (behind old) (sym (notes_more s opening_state 0 done accounts audits batch a audited ran each.each))
 
+-- where no journal is checked nothing is noted of it
+unchecked_note : (s : Settings) (number : ℕ) (a : Account) → is_checked s.check ≡ false → own_note s number a ≡ noted s.notes (batch_note number a.plan a.strategy)
+unchecked_note s number a off =
+    let own = noted s.notes (batch_note number a.plan a.strategy) in
+    ap (λ l. own ++ l) (cond-false (is_checked s.check) (step_notes s.check a.journal ++ check_note number (is_cut a.plan a.journal)) [] off) ∙ append-nil own
+
 noted_append : (on : Bool) (front back : List ℕ) → noted on (front ++ back) ≡ noted on front ++ noted on back
 noted_append true front back = refl
 noted_append false front back = refl
 
--- where no batch has an audit line, the notes are the lines of the batches
+-- where no batch has an audit line and no journal is checked, the notes are the lines of the batches
 pub unwatched_notes : (s : Settings) (state : State) (before : ℕ) (done : List (List Transaction)) (accounts : List Account) (audits : List Bool) → length done ≡ length accounts → length audits ≡ length accounts →
-    All (λ audited. audited ≡ false) audits → notes_from s state before done accounts audits ≡ noted s.notes (batch_notes (before + 1) accounts)
+    All (λ audited. audited ≡ false) audits → is_checked s.check ≡ false → notes_from s state before done accounts audits ≡ noted s.notes (batch_notes (before + 1) accounts)
 unfolding notes_from batch_notes
-unwatched_notes s state before [] [] audits ran each none = by_notes s.notes
+unwatched_notes s state before [] [] audits ran each none off = by_notes s.notes
   where
     by_notes : (on : Bool) → [] ≡ noted on []
     by_notes true = refl
     by_notes false = refl
-unwatched_notes s state before [] (x ∷ xs) audits ran each none = absurd (omega (arith, ran))
-unwatched_notes s state before (b ∷ bs) [] audits ran each none = absurd (omega (arith, ran))
-unwatched_notes s state before (b ∷ bs) (x ∷ xs) [] ran each none = absurd (omega (arith, each))
-unwatched_notes s state before (b ∷ bs) (x ∷ xs) (y ∷ ys) ran each none =
+unwatched_notes s state before [] (x ∷ xs) audits ran each none off = absurd (omega (arith, ran))
+unwatched_notes s state before (b ∷ bs) [] audits ran each none off = absurd (omega (arith, ran))
+unwatched_notes s state before (b ∷ bs) (x ∷ xs) [] ran each none off = absurd (omega (arith, each))
+unwatched_notes s state before (b ∷ bs) (x ∷ xs) (y ∷ ys) ran each none off =
     let next = after_all state (by_time b) in
     let note = noted s.notes (batch_note (before + 1) x.plan x.strategy) in
     let unseen : y ≡ false = none 0 y (omega arith) in
-    ap (λ audited. audit_before s.size state before audited ++ note ++ notes_from s next (before + 1) bs xs ys) unseen
-    ∙ ap (λ l. note ++ l) (unwatched_notes s next (before + 1) bs xs ys (omega (arith, ran)) (omega (arith, each)) (All-tail (λ (audited : Bool). audited ≡ false) y ys none))
+    ap (λ audited. audit_before s.size state before audited ++ own_note s (before + 1) x ++ notes_from s next (before + 1) bs xs ys) unseen
+    ∙ ap (λ l. l ++ notes_from s next (before + 1) bs xs ys) (unchecked_note s (before + 1) x off)
+    ∙ ap (λ l. note ++ l) (unwatched_notes s next (before + 1) bs xs ys (omega (arith, ran)) (omega (arith, each)) (All-tail (λ (audited : Bool). audited ≡ false) y ys none) off)
     ∙ sym (noted_append s.notes (batch_note (before + 1) x.plan x.strategy) (batch_notes (before + 1 + 1) xs))
 
 -- no batch has one yet; and one more, which has one only where the balances are watched
@@ -127,6 +138,19 @@ audits_more s accounts audits a audited are unwatched = record {
   each = length-append audits (audited ∷ []) ∙ ap (λ n. n + 1) are.each ∙ sym (length-append accounts (a ∷ []));
   unwatched = λ off. All-append (λ (x : Bool). x ≡ false) audits (audited ∷ []) (are.unwatched off) (All-cons (λ (x : Bool). x ≡ false) audited [] (unwatched off) (All-nil (λ (x : Bool). x ≡ false)));
 }
+
+-- all journals were checked, and one more
+pub checked_more : (s : Settings) (accounts : List Account) (a : Account) → (IsTrue (is_checked s.check) → All IsChecked accounts) → (IsTrue (is_checked s.check) → IsChecked a) →
+    IsTrue (is_checked s.check) → All IsChecked (accounts ++ a ∷ [])
+checked_more s accounts a before new on = All-append IsChecked accounts (a ∷ []) (before on) (All-cons IsChecked a [] (new on) (All-nil IsChecked))
+
+-- where batches are read ahead none is
+pub unchecked_ahead : (s : Settings) → AreInRange s → 0 < s.ahead → is_checked s.check ≡ false
+unchecked_ahead s range ahead =
+    elim (cases_Bool (is_checked s.check)) [
+      | inl on ↦ absurd (let none = (range.unchecked on).0 in omega (arith, ahead, none))
+      | inr off ↦ off
+    ]
 
 -- there is an account for each batch, so its number is the next one
 pub ran_length : (planning : Planning) (s : State) (last : Last) (done : List (List Transaction)) (accounts : List Account) → AreRunFrom planning s last done accounts → length done ≡ length accounts
@@ -154,16 +178,20 @@ risen_later a b c before after risen small = by_size (cases_lt b 184467440737095
 pub risen_before : (a b c : ℕ) → b ≤ c → HasRisen a b → HasRisen a c
 risen_before a b c after risen small = let rises = risen small in omega (arith, rises, after)
 
--- where the notes are on, or something was seen, the notes tell of a batch
+-- where the notes are on, something was seen, or a journal was checked, the notes tell of a batch
 pub noted_so : (s : Settings) → IsTrue s.notes → IsTrue (has_notes s)
-noted_so s on = or_left s.notes s.watch on
+noted_so s on = or_left s.notes (s.watch || is_checked s.check) on
 
-pub audited_so : (s : Settings) (audit : Option Total) → (s.watch ≡ false → is_some audit ≡ false) → IsSome audit ⊎ IsTrue s.notes → IsTrue (has_notes s)
-audited_so s audit unwatched (inr on) = noted_so s on
+pub checked_so : (s : Settings) → IsTrue (is_checked s.check) → IsTrue (has_notes s)
+checked_so s on = or_right s.notes (s.watch || is_checked s.check) (or_right s.watch (is_checked s.check) on)
+
+pub audited_so : (s : Settings) (audit : Option Total) → (s.watch ≡ false → is_some audit ≡ false) → IsSome audit ⊎ (IsTrue s.notes ⊎ IsTrue (is_checked s.check)) → IsTrue (has_notes s)
+audited_so s audit unwatched (inr (inl on)) = noted_so s on
+audited_so s audit unwatched (inr (inr on)) = checked_so s on
 audited_so s audit unwatched (inl some) = by_watch s.watch refl audit some unwatched
   where
-    by_watch : (b : Bool) → s.watch ≡ b → (o : Option Total) → IsSome o → (s.watch ≡ false → is_some o ≡ false) → s.notes || s.watch ≡ true
-    by_watch true is o some unwatched = or_right s.notes s.watch is
+    by_watch : (b : Bool) → s.watch ≡ b → (o : Option Total) → IsSome o → (s.watch ≡ false → is_some o ≡ false) → IsTrue (has_notes s)
+    by_watch true is o some unwatched = or_right s.notes (s.watch || is_checked s.check) (or_left s.watch (is_checked s.check) is)
     by_watch false is None some unwatched = absurd (cc)
     by_watch false is (Some x) some unwatched = absurd (let e : true ≡ false = unwatched is in cc)
 

@@ -1,5 +1,6 @@
 -- What holds of a run that reads ahead, between what is told of one batch and of the next, over plain values.
-use Rattle.std.proofs.Common.{◌≡◌, ℕ, ◌+◌, ◌<◌, ◌≤◌, ◌⊎◌, inl, inr, List, [], ◌∷◌, ◌++◌, length, map, sum_by, Option, Some, None, Result, Err, refl, ap, sym, subst, ◌∙◌, arith, append-nil, append_assoc}
+use Rattle.run_text.specs.Checks.{is_checked}
+use Rattle.std.proofs.Common.{◌≡◌, ℕ, ◌+◌, ◌<◌, ◌≤◌, ◌⊎◌, inl, inr, List, [], ◌∷◌, ◌++◌, length, map, sum_by, Option, Some, None, Result, Err, refl, ap, sym, subst, ◌∙◌, arith, append-nil, append_assoc, false}
 use Rattle.std.specs.Prelude.{IsSome, option_map, ◌≢◌}
 use Rattle.std.proofs.lemmas.List.{map-append}
 use Rattle.std.proofs.lemmas.List.Sorted.{length_permutation}
@@ -285,6 +286,7 @@ module _ {App : Type 0} where
             tallied = p.goes.tallied;
             runs = subst (λ now. RunsOn c.telling (accepted_in c) now c.old.sink new.sink p.state tally p.goes.done) (still_there o) p.goes.runs;
             audits = p.goes.audits;
+            checked = p.goes.checked;
             audited = p.goes.audited;
             noted = p.goes.noted;
           };
@@ -403,17 +405,17 @@ module _ {App : Type 0} where
     ends_in_run left' newer note failed cut_there =
         ends_batch_cut after left' newer next.batch told failed p.goes some_events was told_is (cut_text new (told_lines c.telling.report told) note newer cut_there)
 
-    pub told_in_run : {x : Result Finish Fault} (newer : Outputs) (tally' : Tally) → x ≡ Err Write → Adds tally tally' (account_of r.end) told →
+    pub told_in_run : {x : Result Finish Fault} (newer : Outputs) (tally' : Tally) → is_checked c.settings.check ≡ false → x ≡ Err Write → Adds tally tally' (account_of r.end) told →
         IsCutIn new (told_lines c.telling.report told) (told_note c.settings tally'.batches None (account_of r.end)) newer → IsTold c (status_of x) tally' newer
-    told_in_run newer tally' failed adds cut_there =
-        told_in_batch after newer next.batch None failed p.goes was some_events told_is adds is_sound is_made is_chosen some_told (unseen c.settings p.state tally.batches) cut_there
+    told_in_run newer tally' off failed adds cut_there =
+        told_in_batch after newer next.batch None failed p.goes was some_events told_is adds is_sound is_made is_chosen some_told (unseen c.settings p.state tally.batches (account_of r.end) off) cut_there
 
     -- it was written
-    pub piped_told : (b' : PipeView App) (newer : Outputs) (tally' : Tally) (out' : List ℕ) → b' ≡ record b { rans = rs } →
+    pub piped_told : (b' : PipeView App) (newer : Outputs) (tally' : Tally) (out' : List ℕ) → is_checked c.settings.check ≡ false → b' ≡ record b { rans = rs } →
         newer ≡ with_both new (told_lines c.telling.report told) (told_note c.settings tally'.batches None (account_of r.end)) → out' ≡ [] →
         Adds tally tally' (account_of r.end) told → Piped c m b' left newer tally' out'
     unfolding goes_batch state_after pipe_last
-    piped_told b' newer tally' out' same written empty adds =
+    piped_told b' newer tally' out' off same written empty adds =
         subst (λ (v : PipeView App). Piped c m v left newer tally' out') (sym same) record {
           middle = p.middle;
           front = next.rest;
@@ -421,7 +423,7 @@ module _ {App : Type 0} where
           state = after_all p.state (transactions next.x.plan);
           last = came_of r;
           goes = goes_batch c (from_there c (p.front ++ p.behind) p.middle) after new newer p.state (after_all p.state (transactions next.x.plan)) tally tally' next.batch told (account_of r.end) None p.goes
-              some_events was (ap (after_all p.state) next.of_batch) told_is written (unseen c.settings p.state tally.batches) adds is_sound is_made is_chosen some_told;
+              some_events was (ap (after_all p.state) next.of_batch) told_is written (unseen c.settings p.state tally.batches (account_of r.end) off) adds is_sound is_made is_chosen some_told;
           read = subst (λ l. Gives c.event_of (start_of c) l p.middle)
               (all_is p.goes.done ∙ sym (append_assoc p.goes.done (next.batch ∷ []) (next.rest ++ p.behind)) ∙ sym (append_assoc (p.goes.done ++ next.batch ∷ []) next.rest p.behind)) p.read;
           stops = p.stops;
@@ -489,6 +491,7 @@ module _ {App : Type 0} where
             tallied = p.goes.tallied;
             runs = subst (λ n. RunsOn c.telling (accepted_in c) n c.old.sink new.sink p.state tally p.goes.done) now p.goes.runs;
             audits = p.goes.audits;
+            checked = p.goes.checked;
             audited = p.goes.audited;
             noted = p.goes.noted;
           };

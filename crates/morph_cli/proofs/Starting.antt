@@ -1,16 +1,26 @@
 -- What is said of the program, from what is said of the call.
-use Rattle.std.proofs.Common.{◌≡◌, ◌⊎◌, inl, inr, ℕ, List, [], Option, Some, None, Result, Ok, Err, refl, ap, sym, ◌∙◌, subst, arith}
-use Rattle.std.specs.Prelude.{IfSome, IfOk, IsTrue}
+use Rattle.std.proofs.Common.{◌≡◌, ◌⊎◌, inl, inr, ℕ, List, [], ◌++◌, Option, Some, None, Result, Ok, Err, refl, ap, sym, ◌∙◌, subst, arith}
+use Rattle.std.proofs.lemmas.List.Elements.{All-nil}
+use Rattle.std.specs.Prelude.{option_map, IsSome, IfSome, IfOk, IsTrue}
+use Rattle.morph_base.specs.Transactions.{Transaction}
 use Rattle.morph_io.specs.Told.{behind, behind_nil}
-use Rattle.event_reader.specs.Accepted.{accepted_within}
-use Rattle.morph_cli.specs.Outputs.{has_notes}
-use Rattle.morph_cli.specs.declared.fault.Fault.TheVariants.{OutOfMemory}
+use Rattle.event_reader.specs.Accepted.{Accepted, accepted, accepted_within}
 use Rattle.run_text.specs.declared.choices.Settings.{Settings}
-use Rattle.morph_cli.specs.Apps.{input_of, left_by, meaning_of, telling_of}
-use Rattle.morph_cli.specs.Headline.{Headline, input_limit}
+use Rattle.run_text.specs.declared.report.Report.{Report}
+use Rattle.run_text.specs.declared.tally.Tally.{Tally}
+use Rattle.run_text.specs.Counts.{no_tally}
 use Rattle.run_text.specs.Settings.{settings_of}
+use Rattle.run_text.specs.Text.{Telling, event_lines}
+use Rattle.morph_cli.specs.declared.fault.Fault.TheVariants.{OutOfMemory}
+use Rattle.morph_cli.specs.Apps.{input_of, left_by, meaning_of, telling_of}
+use Rattle.morph_cli.specs.Headline.{Headline, Completes, input_limit}
+use Rattle.morph_cli.specs.Outputs.{Outputs, has_notes, outputs_of, with_batches, notes_from}
+use Rattle.morph_cli.specs.Status.{IsMadeStatus, EndsNotes}
+use Rattle.morph_cli.specs.Tallies.{RunTold, CallTold, IsChecked}
 use Rattle.morph_cli.proofs.Headlines.{headline}
+use Rattle.morph_cli.proofs.Noting.{no_audits}
 use Rattle.morph_cli.proofs.Running.{nothing_told}
+use Rattle.morph_cli.proofs.Tallying.{tallied_start}
 
 pub at_ok : {T E : Type 0} (r : Result T E) (x : T) → r ≡ Ok x → (P : T → Type 0) → P x → IfOk r P
 at_ok r x is P holds = subst (λ r. IfOk r P) (sym is) holds
@@ -19,18 +29,47 @@ abbrev pub HeadlineBy : (words : List (List ℕ)) → (told left old new : Optio
 HeadlineBy words told left old new status =
     IfSome (settings_of words) (λ s. IfSome (input_of s told) (λ input. Headline (meaning_of s) (telling_of s) input_limit input (left_by s.generated left) old new status))
 
-pub headline_along : (words words' : List (List ℕ)) (told left old new : Option (List ℕ)) (status status' : ℕ) → words ≡ words' → status' ≡ status →
-    HeadlineBy words told left old new status → HeadlineBy words' told left old new status'
-headline_along words words' told left old new status status' same is holds =
-    subst (λ w. HeadlineBy w told left old new status') same (subst (λ n. HeadlineBy words told left old new n) (sym is) holds)
-
 abbrev pub UsageBy : (words : List (List ℕ)) → (status : ℕ) → Type 0
 UsageBy words status = (status ≡ 2 → settings_of words ≡ None) × (settings_of words ≡ None → (status ≡ 2) ⊎ (status ≡ 6))
 
+-- what came of a run, where nothing is said of the sink and the source but by these
+abbrev pub CompletesBy : (told : Option (List ℕ)) → (HasFailed : Type 0) → (words : List (List ℕ)) → (status : ℕ) → Type 0
+CompletesBy told HasFailed words status =
+    IfSome (settings_of words) (λ s. (IsTrue (has_notes s) → HasFailed → ⊥) → IfSome (input_of s told) (λ input. Completes (meaning_of s) input_limit input status))
+
+abbrev pub MadeBy : (Same : Type 0) → (words : List (List ℕ)) → (status : ℕ) → Type 0
+MadeBy Same words status = IfSome (settings_of words) (λ s. IsSome s.generated → Same × IsMadeStatus status)
+
+abbrev pub ToldBy : (told : Option (List ℕ)) → (old new : Outputs) → (HasFailed : Type 0) → (words : List (List ℕ)) → (status : ℕ) → Type 0
+ToldBy told old new HasFailed words status =
+    IfSome (settings_of words) (λ s. (t : Tally) × CallTold (telling_of s) (option_map (accepted (meaning_of s)) (input_of s told)) s status t old new HasFailed)
+
+abbrev pub UntouchedBy : {S K : Type 0} → (source source' : S) → (sink sink' : K) → (old new : Option (List ℕ)) → (HasFailed : Type 0) → (words : List (List ℕ)) → (status : ℕ) → Type 0
+UntouchedBy source source' sink sink' old new HasFailed words status =
+    settings_of words ≡ None → (source' ≡ source) × (sink' ≡ sink) × EndsNotes status old new HasFailed
+
+-- what holds of the words that the call was given, and of its status, holds of those of the arguments, and of the program's
+pub along : (P : List (List ℕ) → ℕ → Type 0) (words words' : List (List ℕ)) (status status' : ℕ) → words ≡ words' → status' ≡ status → P words status → P words' status'
+along P words words' status status' same is holds = subst (λ w. P w status') same (subst (λ n. P words n) (sym is) holds)
+
+for_some : {A : Type 0} (P : A → Type 0) (o : Option A) → ((x : A) → P x) → IfSome o P
+for_some P None holds = tt
+for_some P (Some x) holds = holds x
+
+-- without memory for the words the status is 6, whatever they are
 pub usage_along : (words words' : List (List ℕ)) (status status' : ℕ) → words ≡ words' → status' ≡ status →
     (status ≡ 2 → settings_of words ≡ None) × (settings_of words ≡ None → status ≡ 2) → UsageBy words' status'
-usage_along words words' status status' same is holds =
-    subst (λ w. UsageBy w status') same ((λ two. holds.0 (sym is ∙ two)), (λ none. inl (is ∙ holds.1 none)))
+usage_along words words' status status' same is holds = along UsageBy words words' status status' same is (holds.0, λ none. inl (holds.1 none))
+
+-- the tally of a call is some tally
+pub tally_told : (told : Option (List ℕ)) (old new : Outputs) (HasFailed : Type 0) (words : List (List ℕ)) (status : ℕ) (t : Tally)
+    → IfSome (settings_of words) (λ s. CallTold (telling_of s) (option_map (accepted (meaning_of s)) (input_of s told)) s status t old new HasFailed) → ToldBy told old new HasFailed words status
+tally_told told old new HasFailed words status t holds = by_settings (settings_of words) holds
+  where
+    by_settings : (o : Option Settings) → IfSome o (λ s. CallTold (telling_of s) (option_map (accepted (meaning_of s)) (input_of s told)) s status t old new HasFailed)
+        → IfSome o (λ s. (t : Tally) × CallTold (telling_of s) (option_map (accepted (meaning_of s)) (input_of s told)) s status t old new HasFailed)
+    by_settings None holds = tt
+    by_settings (Some s) holds = (t, holds)
 
 -- nothing was read or written for want of memory
 pub no_memory : (words : List (List ℕ)) (told old : Option (List ℕ)) (status : ℕ) → status ≡ 6 → HeadlineBy words told told old old status
@@ -51,6 +90,70 @@ no_memory words told old status is = by_settings (settings_of words)
     by_settings : (o : Option Settings) → IfSome o (λ s. IfSome (input_of s told) (λ input. Headline (meaning_of s) (telling_of s) input_limit input (left_by s.generated told) old old status))
     by_settings None = tt
     by_settings (Some s) = by_input s (input_of s told)
+
+pub no_memory_completes : (told : Option (List ℕ)) (HasFailed : Type 0) (words : List (List ℕ)) (status : ℕ) → status ≡ 6 → CompletesBy told HasFailed words status
+no_memory_completes told HasFailed words status is =
+    for_some (λ s. (IsTrue (has_notes s) → HasFailed → ⊥) → IfSome (input_of s told) (λ input. Completes (meaning_of s) input_limit input status)) (settings_of words)
+    (λ s none. for_some (λ input. Completes (meaning_of s) input_limit input status) (input_of s told)
+    (λ input. record { done = λ few ended. inr is; refused = λ line cause refused. inr is; long = λ long. inr is }))
+
+pub no_memory_made : (Same : Type 0) (words : List (List ℕ)) (status : ℕ) → status ≡ 6 → Same → MadeBy Same words status
+no_memory_made Same words status is same = for_some (λ s. IsSome s.generated → Same × IsMadeStatus status) (settings_of words) (λ s made. (same, inr (inr is)))
+
+-- no batch was run
+nothing_written : (report : Report) (s : Settings) (old : Outputs) → old ≡ with_batches old report s [] [] []
+unfolding notes_from
+nothing_written report s old =
+    ap (λ sink. outputs_of sink old.notes) (sym (behind_nil old.sink) ∙ ap (behind old.sink) (nothing_told report))
+    ∙ ap (outputs_of (behind old.sink (event_lines report []))) (sym (behind_nil old.notes))
+
+abbrev batches_of : Option Accepted → List (List Transaction)
+batches_of None = []
+batches_of (Some all) = all.batches
+
+are_left : (told : Option Accepted) → IfSome told (λ all. all.batches ≡ [] ++ batches_of told)
+are_left None = tt
+are_left (Some all) = refl
+
+told_unrun : (telling : Telling) (told : Option Accepted) (s : Settings) (old : Outputs) → RunTold telling told s 6 no_tally old old
+told_unrun telling told s old =
+    let tallied = tallied_start s.planning s.workers no_tally refl in
+    record {
+      done = [];
+      rest = batches_of told;
+      accounts = [];
+      audits = [];
+      parts = are_left told;
+      ran = tallied.ran;
+      audited = no_audits s;
+      sound = tallied.sound;
+      checked = λ on. All-nil IsChecked;
+      counts = tallied.counts;
+      founded = tallied.founded;
+      balanced = tallied.balanced;
+      whole = λ is. elim is [ inl none ↦ absurd (omega (arith, none)) | inr refused ↦ absurd (omega (arith, refused)) ];
+      short = λ is. nothing_written telling.report s old;
+      cut = λ five. absurd (omega (arith, five));
+    }
+
+pub no_memory_notes : (old new : Option (List ℕ)) (HasFailed : Type 0) (status : ℕ) → status ≡ 6 → EndsNotes 6 old new HasFailed → EndsNotes status old new HasFailed
+no_memory_notes old new HasFailed status is noted = subst (λ n. EndsNotes n old new HasFailed) (sym is) noted
+
+pub no_memory_told : (told sink old new : Option (List ℕ)) (HasFailed : Type 0) (words : List (List ℕ)) (status : ℕ) → status ≡ 6 → EndsNotes 6 old new HasFailed
+    → ToldBy told (outputs_of sink old) (outputs_of sink new) HasFailed words status
+no_memory_told told sink old new HasFailed words status is noted =
+    for_some (λ s. (t : Tally) × CallTold (telling_of s) (option_map (accepted (meaning_of s)) (input_of s told)) s status t (outputs_of sink old) (outputs_of sink new) HasFailed) (settings_of words)
+    (λ s. (
+      no_tally,
+      subst (λ n. CallTold (telling_of s) (option_map (accepted (meaning_of s)) (input_of s told)) s n no_tally (outputs_of sink old) (outputs_of sink new) HasFailed) (sym is)
+          (record {
+            ran = outputs_of sink old;
+            run = told_unrun (telling_of s) (option_map (accepted (meaning_of s)) (input_of s told)) s (outputs_of sink old);
+            sink = refl;
+            last = noted.last;
+            whole = noted.whole;
+          }),
+    ))
 
 -- a write failed, whatever the settings say of the notes
 pub write_along : (asked : Option Settings) (status status' : ℕ) (Sunk Noted : Type 0) → status' ≡ status → (asked ≡ None → status ≡ 2) →

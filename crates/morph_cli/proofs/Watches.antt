@@ -6,6 +6,8 @@ use Rattle.morph_base.specs.declared.key.Layout.{Layout}
 use Rattle.morph_base.specs.declared.plan.Plan.{Plan}
 use Rattle.morph_base.specs.Plans.{HasBases, PlanKeysIn, transactions}
 use Rattle.morph_base.specs.States.{State, after_all}
+use Rattle.morph_engine.specs.Accounts.{Account}
+use Rattle.run_text.specs.Checks.{is_checked}
 use Rattle.run_text.specs.declared.choices.Settings.{Settings}
 use Rattle.snapshot_reader.specs.declared.viewer.Total.{Total}
 use Rattle.snapshot_reader.specs.Batches.{after_plans}
@@ -13,6 +15,7 @@ use Rattle.snapshot_reader.specs.Steady.{Posted}
 use Rattle.snapshot_reader.proofs.Overwrites.{after_plans-more}
 use Rattle.version_table.specs.Totals.{total_of}
 use Rattle.morph_cli.specs.Batches.{IsSeen, IsShown, also_posted}
+use Rattle.morph_cli.specs.Tallies.{IsChecked}
 use Rattle.morph_cli.proofs.Noting.{IsAudit}
 
 -- what holds of what is published, where anything is
@@ -22,16 +25,17 @@ if_posted (Some p) so shown = so p shown
 
 module _ (layout : Layout) (before : ℕ) (state : State) where
   -- what was seen beside a batch is the audit of the state before it
-  pub audit_is : (s : Settings) (posted : Option Posted) (audit : Option Total) → IfSome posted (IsShown layout before state) → (IsSome posted → IsTrue s.watch) →
-      layout.size ≡ s.size → IfSome audit (IsSeen posted) → IsAudit s state before audit
-  audit_is s posted None shown watch size seen = record { seen = tt; unwatched = λ off. refl }
-  audit_is s None (Some x) shown watch size seen = absurd seen
-  audit_is s (Some p) (Some x) shown watch size seen = record {
+  pub audit_is : (s : Settings) (posted : Option Posted) (audit : Option Total) (a : Account) → IfSome posted (IsShown layout before state) → (IsSome posted → IsTrue s.watch) →
+      layout.size ≡ s.size → IfSome audit (IsSeen posted) → (IsTrue (is_checked s.check) → IsChecked a) → IsAudit s state before audit a
+  audit_is s posted None a shown watch size seen checked = record { seen = tt; unwatched = λ off. refl; checked = checked }
+  audit_is s None (Some x) a shown watch size seen checked = absurd seen
+  audit_is s (Some p) (Some x) a shown watch size seen checked = record {
     seen = (
       seen.0 ∙ shown.count,
       seen.1 ∙ ap (λ q. total_of q 0 p.layout.size) shown.state ∙ ap (λ (l : Layout). total_of state 0 l.size) shown.layout_is ∙ ap (total_of state 0) size,
     );
     unwatched = λ off. absurd (let e : true ≡ false = sym (watch refl) ∙ off in cc);
+    checked = checked;
   }
 
   -- the plan of the next batch may be published

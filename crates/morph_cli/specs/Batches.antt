@@ -1,24 +1,33 @@
 -- What came of a batch that was run, and what was seen of the balances beside it.
-use Rattle.std.specs.Prelude.{◌≡◌, ℕ, [], ◌∷◌, ◌++◌, length, Option, Some, None}
+use Rattle.std.specs.Prelude.{◌≡◌, ℕ, ◌⊎◌, List, [], ◌∷◌, ◌++◌, length, Option, Some, None, IfSome, IsTrue, Result, Ok, Err}
 use Rattle.morph_base.specs.declared.event.Batch.{Batch}
 use Rattle.morph_base.specs.declared.key.Layout.{Layout}
 use Rattle.morph_base.specs.declared.plan.Plan.{Plan}
 use Rattle.morph_base.specs.Flat.{Kept, contents}
 use Rattle.morph_base.specs.Transactions.{transactions_of, by_time}
-use Rattle.morph_base.specs.States.{State}
+use Rattle.morph_base.specs.States.{State, fold_batch}
 use Rattle.morph_base.specs.Outcomes.{fates}
 use Rattle.morph_base.specs.Plans.{IsSettledOf, PlanKeysIn}
 use Rattle.decision_model.specs.declared.counts.Last.{Last}
 use Rattle.morph_engine.specs.declared.engine.BatchEnd.{BatchEnd}
 use Rattle.morph_engine.specs.Accounts.{account_of}
 use Rattle.morph_engine.specs.Fates.{settled_fates}
+use Rattle.decision_model.specs.Choices.{last_of}
 use Rattle.run_text.specs.declared.choices.Settings.{Settings}
+use Rattle.run_text.specs.declared.tally.Tally.{Tally}
+use Rattle.run_text.specs.Counts.{Adds}
+use Rattle.run_text.specs.Checks.{is_checked}
+use Rattle.run_text.specs.Reports.{report_of}
+use Rattle.run_text.specs.Text.{told_lines}
 use Rattle.snapshot_reader.specs.declared.viewer.Total.{Total}
 use Rattle.snapshot_reader.specs.Batches.{after_plans}
 use Rattle.snapshot_reader.specs.Steady.{Posted}
 use Rattle.version_table.specs.Totals.{total_of}
+use Rattle.morph_cli.specs.declared.fault.Fault.{Fault}
+use Rattle.morph_cli.specs.declared.fault.Fault.TheVariants.{Read, Write, OutOfMemory as NoMemory, TooLong}
+use Rattle.morph_cli.specs.Outputs.{Outputs, audit_of, own_note, with_both, IsCutIn}
 use Rattle.morph_cli.specs.Strategies.{strategy_by}
-use Rattle.morph_cli.specs.Tallies.{IsMadeOf, IsSound}
+use Rattle.morph_cli.specs.Tallies.{IsMadeOf, IsSound, IsChecked}
 
 -- a batch was run on these values as the settings ask for; `last` is what came of the batch before it
 pub record IsEndOf (s : Settings) (last : Last) (before : Kept) (batch : Batch) (end : BatchEnd) : Type 0 where
@@ -28,6 +37,7 @@ pub record IsEndOf (s : Settings) (last : Last) (before : Kept) (batch : Batch) 
   pub settled : IsSettledOf end.plan end.settled
   pub strategy : end.strategy ≡ strategy_by s.planning end.plan last
   pub account : IsSound s.workers (account_of end)
+  pub checked : IsTrue (is_checked s.check) → IsChecked (account_of end)
 
 -- what a viewer saw are the balances after all batches that were published: how many these are, and the sum of the first table.
 -- Where nothing is published nothing is seen
@@ -48,3 +58,37 @@ pub record IsShown (layout : Layout) (batches : ℕ) (s : State) (posted : Poste
   pub layout_is : posted.layout ≡ layout
   pub count : length posted.plans ≡ batches
   pub state : after_plans posted.plans ≡ s
+
+-- a batch was run, told and counted: how it was run, and what was seen beside it
+pub record IsTaken (s : Settings) (last : Last) (before : Kept) (posted : Option Posted) (batch : Batch) (t t' : Tally) : Type 0 where
+  pub end : BatchEnd
+  pub audit : Option Total
+  pub ran : IsEndOf s last before batch end
+  pub seen : IfSome audit (IsSeen posted)
+  pub adds : Adds t t' (account_of end) (settled_fates end.plan end.settled)
+
+-- its lines, and what stands of it in the notes
+abbrev pub lines_of_batch : Settings → BatchEnd → List ℕ
+lines_of_batch s end = told_lines (report_of s) (settled_fates end.plan end.settled)
+
+abbrev pub note_of_batch : Settings → (number : ℕ) → Option Total → BatchEnd → List ℕ
+note_of_batch s number audit end = audit_of audit ++ own_note s number (account_of end)
+
+-- the batch was taken whole: it was written and noted, and the values are those behind it
+pub record IsTakenWhole (s : Settings) (last : Last) (before after : Kept) (posted : Option Posted) (batch : Batch) (t t' : Tally) (old new : Outputs) : Type 0 where
+  pub taken : IsTaken s last before posted batch t t'
+  pub state : contents after ≡ fold_batch batch (contents before)
+  pub written : new ≡ with_both old (lines_of_batch s taken.end) (note_of_batch s t'.batches taken.audit taken.end)
+
+-- what a call did that takes a batch: all of it, and it was published; or a write failed; or memory was refused, to run it, where nothing was done,
+-- or to publish it
+abbrev pub TakesBatch : {T : Type 0} → Result T Fault → Settings → (last : Last) → (before after : Kept) → (posted posted' : Option Posted) → Batch → (t t' : Tally) → (last' : Last) → (old new : Outputs) → Type 0
+TakesBatch (Ok done) s last before after posted posted' batch t t' last' old new =
+    (whole : IsTakenWhole s last before after posted batch t t' old new)
+    × (last' ≡ last_of (settled_fates whole.taken.end.plan whole.taken.end.settled)) × (posted' ≡ also_posted whole.taken.end.plan posted)
+TakesBatch (Err Write) s last before after posted posted' batch t t' last' old new =
+    (taken : IsTaken s last before posted batch t t') × IsCutIn old (lines_of_batch s taken.end) (note_of_batch s t'.batches taken.audit taken.end) new
+TakesBatch (Err NoMemory) s last before after posted posted' batch t t' last' old new =
+    ((new ≡ old) × (t' ≡ t)) ⊎ IsTakenWhole s last before after posted batch t t' old new
+TakesBatch (Err Read) s last before after posted posted' batch t t' last' old new = ⊥
+TakesBatch (Err TooLong) s last before after posted posted' batch t t' last' old new = ⊥

@@ -10,7 +10,8 @@ use Rattle.event_reader.specs.Accepted.{Accepted, Ending, CutOff}
 use Rattle.run_text.specs.declared.choices.Settings.{Settings}
 use Rattle.run_text.specs.declared.report.Report.{Report}
 use Rattle.run_text.specs.Text.{event_lines, told_lines, run_state}
-use Rattle.run_text.specs.Notes.{noted, audit_note, batch_note}
+use Rattle.run_text.specs.Notes.{noted, audit_note, batch_note, check_notes}
+use Rattle.run_text.specs.Checks.{is_checked}
 use Rattle.snapshot_reader.specs.declared.viewer.Total.{Total}
 use Rattle.version_table.specs.Totals.{total_of}
 
@@ -36,9 +37,9 @@ abbrev pub Tells : {T E : Type 0} → Result T E → Outputs → (text note : Li
 Tells (Ok done) old text note new = new ≡ with_both old text note
 Tells (Err fault) old text note new = IsCutIn old text note new
 
--- whether a batch is told in the notes: where they are on, or the balances are watched
+-- whether a batch is told in the notes: where they are on, the balances are watched, or journals are checked
 abbrev pub has_notes : Settings → Bool
-has_notes s = s.notes || s.watch
+has_notes s = s.notes || (s.watch || is_checked s.check)
 
 -- the audit line of what was seen; where nothing was, nothing
 abbrev pub audit_of : Option Total → List ℕ
@@ -50,9 +51,13 @@ abbrev pub audit_before : (size : ℕ) → State → (before : ℕ) → (audited
 audit_before size s before true = audit_note before (total_of s 0 size)
 audit_before size s before false = []
 
--- what stands in the notes of a batch: its audit line, where it has one, and behind it its own line, where the notes are on
+-- the line of a batch, where the notes are on, and what came of its journal behind it, where journals are checked
+abbrev pub own_note : Settings → (number : ℕ) → Account → List ℕ
+own_note s number a = noted s.notes (batch_note number a.plan a.strategy) ++ check_notes s.check number a.plan a.journal
+
+-- what stands in the notes of a batch: its audit line, where it has one, and behind it what is noted of itself
 abbrev pub note_of : Settings → State → (before : ℕ) → (audited : Bool) → Account → List ℕ
-note_of s state before audited a = audit_before s.size state before audited ++ noted s.notes (batch_note (before + 1) a.plan a.strategy)
+note_of s state before audited a = audit_before s.size state before audited ++ own_note s (before + 1) a
 
 -- those of batches that are run one after another from a state with so many batches before
 unfoldable pub notes_from : Settings → State → (before : ℕ) → List (List Transaction) → List Account → (audits : List Bool) → List ℕ

@@ -1,9 +1,10 @@
 -- The statuses, and the last line of the notes.
-use Rattle.std.specs.Prelude.{◌≡◌, ℕ, ◌≤◌, ◌⊎◌, ◌==◌, if◌then◌else◌, List, [], codes, Result, Ok, Err}
+use Rattle.std.specs.Prelude.{◌≡◌, ℕ, ◌≤◌, ◌⊎◌, ◌==◌, if◌then◌else◌, List, [], codes, Option, Result, Ok, Err}
 use Rattle.morph_cli.specs.declared.fault.Fault.{Fault}
 use Rattle.morph_cli.specs.declared.fault.Fault.TheVariants.{Read, Write, OutOfMemory, TooLong}
 use Rattle.morph_cli.specs.declared.run.Finish.{Finish}
 use Rattle.morph_cli.specs.declared.run.Finish.TheVariants.{Complete, Refused}
+use Rattle.morph_io.specs.Told.{behind, AppendsPrefix}
 use Rattle.run_text.specs.Text.{line}
 
 -- the status of a run
@@ -23,6 +24,11 @@ note_at status =
     else (if status == 5 then line (codes "morph: write failed")
     else (if status == 6 then line (codes "morph: out of memory")
     else (if status == 7 then line (codes "morph: input too long") else []))))
+
+-- the last line of the notes stands behind what stood there; a prefix of it where a write of it failed
+pub record EndsNotes (status : ℕ) (old new : Option (List ℕ)) (HasFailed : Type 0) : Type 0 where
+  pub last : AppendsPrefix old (note_at status) new
+  pub whole : (HasFailed → ⊥) → new ≡ behind old (note_at status)
 
 -- the statuses: 0, and 2 to 7
 abbrev pub IsStatus : ℕ → Type 0

@@ -1,5 +1,5 @@
 -- What was done in a run: the accounts of the batches that were run, and the numbers that are told of them.
-use Rattle.std.specs.Prelude.{◌≡◌, ℕ, ◌+◌, ◌*◌, ◌<◌, ◌≤◌, ◌⊎◌, Bool, All, List, [], ◌∷◌, ◌++◌, count_by, length, slice_index, sum, sum_by, Option, IfSome}
+use Rattle.std.specs.Prelude.{◌≡◌, ℕ, ◌+◌, ◌*◌, ◌<◌, ◌≤◌, ◌⊎◌, Bool, false, All, List, [], ◌∷◌, ◌++◌, count_by, length, slice_index, sum, sum_by, Option, IfSome, IsTrue}
 use Rattle.morph_base.specs.Limits.{most_workers}
 use Rattle.morph_base.specs.declared.plan.Plan.{Plan}
 use Rattle.morph_base.specs.declared.strategy.Abort.TheVariants.{Lazy}
@@ -22,7 +22,11 @@ use Rattle.run_text.specs.declared.choices.Planning.TheVariants.{Fixed}
 use Rattle.run_text.specs.declared.choices.Settings.{Settings}
 use Rattle.run_text.specs.declared.tally.Tally.{Tally}
 use Rattle.morph_io.specs.Told.{behind, AppendsPrefix}
-use Rattle.run_text.specs.Notes.{noted, closing_notes}
+use Rattle.run_text.specs.Notes.{noted, closing_notes, is_cut}
+use Rattle.run_text.specs.Checks.{is_checked}
+use Rattle.interleaving_core.specs.Core.{Core, start}
+use Rattle.interleaving_core.specs.Orders.{Leads}
+use Rattle.run_checker.specs.Answers.{SettlesWholeFold}
 use Rattle.morph_cli.specs.Outputs.{Outputs, with_both, with_batches, AreAudits, IsCutIn, IsCutInBatch, IsAtLast}
 use Rattle.morph_cli.specs.Status.{note_at}
 use Rattle.morph_cli.specs.Strategies.{strategy_by}
@@ -47,6 +51,12 @@ AreRunFrom planning s last (batch ∷ batches) (a ∷ accounts) =
 -- the numbers of a batch go together
 abbrev pub IsSound : (workers : ℕ) → Account → Type 0
 IsSound workers a = IsAccount a.strategy.explore a.strategy.abort workers a
+
+-- the machine takes the journal of a batch step by step; where it is not cut off, that settles each operation, with the fold's value
+pub record IsChecked (a : Account) : Type 0 where
+  pub state : Core
+  pub leads : Leads a.plan 1 start a.journal state
+  pub right : is_cut a.plan a.journal ≡ false → SettlesWholeFold a.plan 1 a.journal
 
 -- all batches aborted lazily; all were explored so
 abbrev pub AreLazy : List Account → Type 0
@@ -143,6 +153,7 @@ pub record RunTold (telling : Telling) (told : Option Accepted) (s : Settings) (
   pub ran : AreRunFrom s.planning opening_state no_last done accounts
   pub audited : AreAudits s accounts audits
   pub sound : All (IsSound s.workers) accounts
+  pub checked : IsTrue (is_checked s.check) → All IsChecked accounts
   pub counts : IsTallyOf done accounts t
   pub founded : IsFounded s.workers accounts t
   pub balanced : IsBalanced s.planning s.workers t

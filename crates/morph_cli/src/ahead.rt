@@ -1,22 +1,27 @@
 //! Runs that read and plan batches ahead.
-ghost use Rattle.std.specs.Prelude.{◌≡◌, ◌+◌, ◌*◌, ◌≤◌, ◌⊎◌, [], ◌++◌, length, option_map, IfOk, IfSome, IsErrOf, IsTrue};
+ghost use Rattle.std.specs.Prelude.{◌≡◌, false, ◌<◌, ◌+◌, ◌*◌, ◌≤◌, ◌⊎◌, [], ◌++◌, length, None, option_map, IfOk, IfSome, IsErrOf, IsTrue, OnOk, OnErr};
 ghost use Rattle.event_reader.specs.Accepted.{accepted_within};
 ghost use Rattle.event_reader.specs.declared.limits.TheConstants.{INPUT_BYTES};
 ghost use Rattle.event_reader.specs.Reader.{new_reader};
 ghost use Rattle.morph_base.specs.declared.plan.Plan.{Plan};
 ghost use Rattle.morph_base.specs.Flat.{contents};
+ghost use Rattle.morph_base.specs.Plans.{IsPlan, IsSettledOf};
+ghost use Rattle.morph_engine.specs.Accounts.{account_of};
+ghost use Rattle.morph_engine.specs.Fates.{settled_fates};
 ghost use Rattle.morph_base.specs.States.{opening_state};
 ghost use Rattle.morph_io.specs.Told.{HasRisen};
 ghost use Rattle.decision_model.specs.declared.counts.Last.{Last as Came};
 ghost use Rattle.batch_pipe.specs.Running.{picked};
 ghost use Rattle.batch_pipe.specs.Waiting.{new_pipe};
+ghost use Rattle.run_text.specs.Checks.{is_checked};
 ghost use Rattle.run_text.specs.Settings.{AreInRange};
-ghost use Rattle.run_text.specs.Counts.{no_tally};
+ghost use Rattle.run_text.specs.Counts.{Adds, HasRoom, no_tally};
 ghost use Rattle.run_text.specs.Notes.{noted, closing_notes};
 ghost use Rattle.run_text.specs.Reports.{report_of};
 ghost use Rattle.run_text.specs.Text.{told_values, counts_line};
 ghost use Rattle.morph_cli.specs.Apps.{telling_for};
-ghost use Rattle.morph_cli.specs.Outputs.{has_notes, outputs_of};
+ghost use Rattle.morph_cli.specs.Batches.{lines_of_batch, note_of_batch};
+ghost use Rattle.morph_cli.specs.Outputs.{has_notes, outputs_of, Tells};
 ghost use Rattle.morph_cli.specs.Endings.{EndsBy};
 ghost use Rattle.morph_cli.specs.Runs.{EndsSo, layout_of};
 ghost use Rattle.morph_cli.specs.Status.{status_of};
@@ -27,14 +32,13 @@ use crate::fault::Fault;
 use crate::job::Job;
 use crate::progress::Opening;
 use crate::run::Finish;
-use crate::strategies::count;
-use crate::tell::{Refusal, tell_batch, tell_closing, tell_refused};
+use crate::tell::{Refusal, tell_closing, tell_counted, tell_refused};
 use crate::watching::Watched;
-use batch_pipe::{Picker, Pipe, Tail};
+use batch_pipe::{Picker, Pipe, Ran, Tail};
 use event_reader::EventApp;
 use morph_base::{Abort, Explore, OutOfMemory, Strategy, Unit};
-use morph_io::{Out, Sink, Source};
-use run_text::{Planning, Tally};
+use morph_io::{Out, Sink, Source, WriteFailed};
+use run_text::{Planning, Settings, Tally};
 use std::alloc::Global;
 use std::thread::Threads;
 use worker_gate::Gate;
@@ -86,6 +90,40 @@ fn picker(planning: Planning) -> Picker
             },
         },
     }
+}
+
+/// Counts and tells the next batch that was run.
+fn tell_next<K: Sink, N: Sink>(
+    out: &mut Out,
+    sink: &mut K,
+    notes: &mut N,
+    settings: &Settings,
+    tally: &mut Tally,
+    ran: Ran,
+) -> Result<(), WriteFailed>
+    requires empty { out.old ≡ [] }
+    requires plan { IsPlan ran.end.plan }
+    requires settled { IsSettledOf ran.end.plan ran.end.settled }
+    requires unchecked { is_checked settings.now.check ≡ false }
+    requires room { HasRoom tally.old (account_of ran.end) }
+    ensures adds { Adds tally.old tally.new (account_of ran.end)
+        (settled_fates ran.end.plan ran.end.settled) }
+    ensures told { Tells result (outputs_of (K.written sink.old) (N.written notes.old))
+        (lines_of_batch settings.now ran.end)
+        (note_of_batch settings.now tally.new.batches None ran.end)
+        (outputs_of (K.written sink.new) (N.written notes.new)) }
+    ensures empty { OnOk result (out.new ≡ []) }
+    ensures sink_faults { K.faults sink.old ≤ K.faults sink.new }
+    ensures notes_faults { N.faults notes.old ≤ N.faults notes.new }
+    ensures cause { OnErr result (HasRisen (K.faults sink.old) (K.faults sink.new)
+        ⊎ (IsTrue settings.now.notes × HasRisen (N.faults notes.old) (N.faults notes.new))) }
+{
+    let ran = Watched {
+        end: ran.end,
+        audit: None,
+    };
+    tell_counted(out, sink, notes, settings, tally, &ran)?;
+    Ok(())
 }
 
 /// Ends a run that reads ahead, by the tail that its pipe met: tells the end or the refused line, or answers the fault.
@@ -149,6 +187,7 @@ pub fn run_ahead<
     tally: &mut Tally,
 ) -> Result<Finish, Fault>
     requires settings { AreInRange job.now.settings }
+    requires ahead { 0 < job.now.settings.ahead }
     requires tally { tally.old ≡ no_tally }
     requires pipe { ahead.old.pipe
         ≡ new_pipe (new_reader job.now.app job.now.settings.size INPUT_BYTES)
@@ -182,13 +221,8 @@ pub fn run_ahead<
     'turns: loop {
         match ahead.pipe.next() {
             Some(ran) => {
-                count(tally, &ran.end);
-                let number = tally.batches;
-                let ran = Watched {
-                    end: ran.end,
-                    audit: None,
-                };
-                tell_batch(&mut ahead.out, sink, notes, settings, number, &ran)?;
+                tell_next(&mut ahead.out, sink, notes, settings, tally, ran)?;
+                continue 'turns;
             }
             None if ahead.pipe.going() => {
                 let workers = settings.workers;

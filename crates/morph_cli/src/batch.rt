@@ -1,10 +1,12 @@
-ghost use Rattle.std.specs.Prelude.{◌≡◌, IfOk, OnOk, OnErr};
+ghost use Rattle.std.specs.Prelude.{◌≡◌, false, IfOk, OnOk, OnErr};
 ghost use Rattle.morph_base.specs.Flat.{contents};
 ghost use Rattle.morph_base.specs.Transactions.{IsBatch, BatchKeysIn};
 ghost use Rattle.morph_base.specs.States.{fold_batch};
+ghost use Rattle.run_text.specs.Checks.{is_checked};
 ghost use Rattle.run_text.specs.Settings.{AreInRange};
 ghost use Rattle.morph_cli.specs.Batches.{IsEndOf};
 
+use crate::checked::run_checked;
 use crate::job::Host;
 use crate::strategies::strategy_for;
 use decision_model::Last;
@@ -15,7 +17,8 @@ use std::thread::Threads;
 use worker_gate::Gate;
 
 /// Makes the plan of a batch and runs it on the engine, with the workers of the settings and the strategy that they ask
-/// for. Where memory is refused the engine stays.
+/// for. Where its journal is to be checked it is kept and checked. Where memory is refused the engine stays, but where it
+/// is refused to check a journal.
 pub fn run_batch<R: Threads + Sync, G: Gate>(
     host: &Host<'_, R, G>,
     engine: &mut Engine,
@@ -29,10 +32,14 @@ pub fn run_batch<R: Threads + Sync, G: Gate>(
     ensures layout { engine.new.layout ≡ engine.old.layout }
     ensures state { OnOk result (contents engine.new ≡ fold_batch batch.now (contents engine.old)) }
     ensures ran { IfOk result (IsEndOf settings.now last engine.old batch.now) }
-    ensures refused { OnErr result (engine.new ≡ engine.old) }
+    ensures refused { is_checked settings.now.check ≡ false
+        → OnErr result (engine.new ≡ engine.old) }
 {
     let plan = engine.plan(host.alloc, batch)?;
     let strategy = strategy_for(settings.planning, &plan, last);
+    if settings.check.is_on() {
+        return run_checked(host, engine, plan, &strategy);
+    }
     let workers = settings.workers;
     engine.run_batch(host.rt, host.alloc, plan, &strategy, workers, host.gate)
 }

@@ -10,12 +10,14 @@
 
 mod ahead;
 mod batch;
+mod checked;
 mod ended;
 mod fault;
 mod job;
 mod laws;
 mod morph;
 mod note;
+mod one_batch;
 mod program;
 mod progress;
 mod run;

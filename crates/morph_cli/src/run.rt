@@ -1,4 +1,4 @@
-ghost use Rattle.std.specs.Prelude.{◌≡◌, ℕ, [], ◌≤◌, ◌⊎◌, option_map, IfSome, IsErrOf, IsSome, IsTrue};
+ghost use Rattle.std.specs.Prelude.{◌≡◌, ℕ, [], ◌≤◌, ◌⊎◌, ◌↔◌, option_map, IfSome, IsErrOf, IsSome, IsTrue};
 ghost use Rattle.event_reader.specs.Accepted.{accepted_within};
 ghost use Rattle.event_reader.specs.declared.limits.TheConstants.{INPUT_BYTES};
 ghost use Rattle.morph_base.specs.States.{opening_state};
@@ -18,10 +18,10 @@ ghost use Rattle.morph_cli.specs.Tallies.{RunTold};
 use crate::ahead::{Ahead, run_ahead};
 use crate::fault::Fault;
 use crate::job::Job;
+use crate::one_batch::take_batch;
 use crate::progress::{Opening, Progress};
-use crate::strategies::count;
-use crate::tell::{Refusal, tell_batch, tell_closing, tell_refused};
-use crate::watching::{Watching, publish, run_watched};
+use crate::tell::{Refusal, tell_closing, tell_refused};
+use crate::watching::Watching;
 use event_reader::{EventApp, Next};
 use morph_io::{Sink, Source};
 use run_text::Tally;
@@ -113,7 +113,7 @@ fn run_batches<R: Threads + Wait + Sync, A: EventApp + Copy, S: Source, K: Sink,
     requires last { progress.old.last ≡ no_last }
     requires shown { IfSome (progress.old.watching)
         (IsShown progress.old.engine.layout 0 opening_state) }
-    requires watch { IsSome (progress.old.watching) → IsTrue job.now.settings.watch }
+    requires watch { IsSome (progress.old.watching) ↔ IsTrue job.now.settings.watch }
     ensures ends { let app = job.now.app in let settings = job.now.settings in
         IfSome (S.left source.old) (λ input. EndsSo (A.event_of app settings.size)
         (telling_for settings (A.table_count app) (A.name_of app)) INPUT_BYTES input
@@ -136,21 +136,7 @@ fn run_batches<R: Threads + Wait + Sync, A: EventApp + Copy, S: Source, K: Sink,
 {
     'batches: loop {
         match progress.reader.next_batch(job.host.alloc, source)? {
-            Next::Batch(batch) => {
-                let last = progress.last;
-                let watching = &mut progress.watching;
-                let engine = &mut progress.engine;
-                let ran = run_watched(job.host, watching, engine, &batch, &job.settings, last)?;
-                progress.last = count(tally, &ran.end);
-                let number = tally.batches;
-                tell_batch(&mut progress.out, sink, notes, &job.settings, number, &ran)?;
-                publish(
-                    job.host.rt,
-                    job.host.alloc,
-                    &mut progress.watching,
-                    &ran.end,
-                )?;
-            }
+            Next::Batch(batch) => take_batch(job, progress, batch, sink, notes, tally)?,
             Next::End => {
                 let values = progress.engine.state();
                 tell_closing(&mut progress.out, sink, notes, job, values, tally)?;

@@ -1,21 +1,30 @@
-ghost use Rattle.std.specs.Prelude.{◌≡◌, ◌≤◌, ◌⊎◌, [], ◌++◌, length, IsSome, IsTrue, OnOk, OnErr};
+ghost use Rattle.std.specs.Prelude.{◌≡◌, ◌≤◌, ◌⊎◌, [], ◌++◌, length, IfOk, IsSome, IsTrue, OnOk, OnErr};
 ghost use Rattle.morph_base.specs.declared.limits.TheConstants.{WORKERS};
 ghost use Rattle.morph_base.specs.Flat.{contents};
 ghost use Rattle.morph_base.specs.Plans.{IsPlan, IsSettledOf};
+ghost use Rattle.decision_model.specs.Choices.{last_of};
+ghost use Rattle.morph_engine.specs.Accounts.{account_of};
 ghost use Rattle.morph_engine.specs.Fates.{settled_fates};
 ghost use Rattle.morph_io.specs.Told.{behind, AppendsPrefix, HasRisen};
 ghost use Rattle.run_text.specs.declared.choices.TheConstants.{GREATEST_SIZE};
+ghost use Rattle.run_text.specs.Checks.{is_checked};
+ghost use Rattle.run_text.specs.Counts.{Adds, HasRoom};
 ghost use Rattle.run_text.specs.Reports.{report_of};
-ghost use Rattle.run_text.specs.Notes.{noted, batch_note, closing_notes};
-ghost use Rattle.morph_cli.specs.Outputs.{audit_of, outputs_of, Tells};
+ghost use Rattle.run_text.specs.Notes.{noted, closing_notes};
+ghost use Rattle.morph_cli.specs.Batches.{lines_of_batch, note_of_batch};
+ghost use Rattle.morph_cli.specs.Outputs.{audit_of, own_note, outputs_of, Tells};
 ghost use Rattle.run_text.specs.Text.{told_lines, told_values, counts_line, refused_text};
 
 use crate::job::Job;
+use crate::strategies::count;
 use crate::watching::Watched;
+use decision_model::Last;
 use event_reader::{Cause, EventApp};
+use morph_engine::BatchEnd;
 use morph_io::{Out, Sink, WriteFailed};
 use run_text::{
-    Settings, Tally, note_audit, note_batch, note_tally, write_closing, write_events, write_refused,
+    Settings, Tally, note_audit, note_batch, note_check, note_tally, write_closing, write_events,
+    write_refused,
 };
 use snapshot_reader::Total;
 use version_table::State;
@@ -27,9 +36,9 @@ pub struct Refusal {
     pub cause: Cause,
 }
 
-/// Tells a batch that was run: its lines to the sink, and behind them to the notes the audit line, where balances were
-/// seen beside it, and the batch's own line, where the notes are on.
-pub fn tell_batch<K: Sink, N: Sink>(
+/// Tells a batch that was run, with its number: its lines to the sink, and behind them to the notes
+/// the audit line, where balances were seen beside it, and the batch's own line, where the notes are on.
+fn tell_batch<K: Sink, N: Sink>(
     out: &mut Out,
     sink: &mut K,
     notes: &mut N,
@@ -42,42 +51,103 @@ pub fn tell_batch<K: Sink, N: Sink>(
     requires settled { IsSettledOf ran.now.end.plan ran.now.end.settled }
     ensures told { Tells result (outputs_of (K.written sink.old) (N.written notes.old))
         (told_lines (report_of settings.now) (settled_fates ran.now.end.plan ran.now.end.settled))
-        (audit_of ran.now.audit
-        ++ noted settings.now.notes (batch_note number ran.now.end.plan ran.now.end.strategy))
+        (audit_of ran.now.audit ++ own_note settings.now number (account_of ran.now.end))
         (outputs_of (K.written sink.new) (N.written notes.new)) }
     ensures empty { OnOk result (out.new ≡ []) }
     ensures sink_faults { K.faults sink.old ≤ K.faults sink.new }
     ensures notes_faults { N.faults notes.old ≤ N.faults notes.new }
     ensures cause { OnErr result (HasRisen (K.faults sink.old) (K.faults sink.new)
-        ⊎ (((IsSome ran.now.audit) ⊎ IsTrue settings.now.notes)
+        ⊎ (((IsSome ran.now.audit)
+        ⊎ ((IsTrue settings.now.notes) ⊎ IsTrue (is_checked settings.now.check)))
         × HasRisen (N.faults notes.old) (N.faults notes.new))) }
 {
     write_events(out, sink, settings.report(), &ran.end)?;
-    note_ran(notes, settings, number, ran)
+    note_ran(out, notes, settings, number, ran)
 }
 
-/// Tells the notes of a batch that was run.
+/// Counts a batch that was run, tells it with its number, and says what came of it.
+pub fn tell_counted<K: Sink, N: Sink>(
+    out: &mut Out,
+    sink: &mut K,
+    notes: &mut N,
+    settings: &Settings,
+    tally: &mut Tally,
+    ran: &Watched,
+) -> Result<Last, WriteFailed>
+    requires empty { out.old ≡ [] }
+    requires plan { IsPlan ran.now.end.plan }
+    requires settled { IsSettledOf ran.now.end.plan ran.now.end.settled }
+    requires room { HasRoom tally.old (account_of ran.now.end) }
+    ensures adds { Adds tally.old tally.new (account_of ran.now.end)
+        (settled_fates ran.now.end.plan ran.now.end.settled) }
+    ensures last { IfOk result
+        (λ last. last ≡ last_of (settled_fates ran.now.end.plan ran.now.end.settled)) }
+    ensures told { Tells result (outputs_of (K.written sink.old) (N.written notes.old))
+        (lines_of_batch settings.now ran.now.end)
+        (note_of_batch settings.now tally.new.batches ran.now.audit ran.now.end)
+        (outputs_of (K.written sink.new) (N.written notes.new)) }
+    ensures empty { OnOk result (out.new ≡ []) }
+    ensures sink_faults { K.faults sink.old ≤ K.faults sink.new }
+    ensures notes_faults { N.faults notes.old ≤ N.faults notes.new }
+    ensures cause { OnErr result (HasRisen (K.faults sink.old) (K.faults sink.new)
+        ⊎ (((IsSome ran.now.audit)
+        ⊎ ((IsTrue settings.now.notes) ⊎ IsTrue (is_checked settings.now.check)))
+        × HasRisen (N.faults notes.old) (N.faults notes.new))) }
+{
+    let last = count(tally, &ran.end);
+    tell_batch(out, sink, notes, settings, tally.batches, ran)?;
+    Ok(last)
+}
+
+/// Tells the notes of a batch that was run: what was seen beside it, and what is noted of itself.
 fn note_ran<N: Sink>(
+    out: &mut Out,
     notes: &mut N,
     settings: &Settings,
     number: u64,
     ran: &Watched,
 ) -> Result<(), WriteFailed>
-    requires { IsPlan ran.now.end.plan }
+    requires empty { out.old ≡ [] }
+    requires plan { IsPlan ran.now.end.plan }
     ensures written { OnOk result (N.written notes.new ≡ behind (N.written notes.old)
-        (audit_of ran.now.audit
-        ++ noted settings.now.notes (batch_note number ran.now.end.plan ran.now.end.strategy))) }
+        (audit_of ran.now.audit ++ own_note settings.now number (account_of ran.now.end))) }
     ensures prefix { OnErr result (AppendsPrefix (N.written notes.old)
-        (audit_of ran.now.audit
-        ++ noted settings.now.notes (batch_note number ran.now.end.plan ran.now.end.strategy))
+        (audit_of ran.now.audit ++ own_note settings.now number (account_of ran.now.end))
         (N.written notes.new)) }
+    ensures empty { OnOk result (out.new ≡ []) }
     ensures never_falls { N.faults notes.old ≤ N.faults notes.new }
-    ensures cause { OnErr result (((IsSome ran.now.audit) ⊎ IsTrue settings.now.notes)
+    ensures cause { OnErr result (((IsSome ran.now.audit)
+        ⊎ ((IsTrue settings.now.notes) ⊎ IsTrue (is_checked settings.now.check)))
         × HasRisen (N.faults notes.old) (N.faults notes.new)) }
 {
     note_seen(notes, &ran.audit)?;
-    let end = &ran.end;
-    note_batch(notes, settings.notes, number, &end.plan, end.strategy)
+    note_own(out, notes, settings, number, &ran.end)
+}
+
+/// Tells the notes of a batch its line, where they are on, and behind it what came of its journal, where journals are
+/// checked.
+fn note_own<N: Sink>(
+    out: &mut Out,
+    notes: &mut N,
+    settings: &Settings,
+    number: u64,
+    end: &BatchEnd,
+) -> Result<(), WriteFailed>
+    requires empty { out.old ≡ [] }
+    requires plan { IsPlan end.now.plan }
+    ensures written { OnOk result (N.written notes.new ≡ behind (N.written notes.old)
+        (own_note settings.now number (account_of end.now))) }
+    ensures prefix { OnErr result (AppendsPrefix (N.written notes.old)
+        (own_note settings.now number (account_of end.now)) (N.written notes.new)) }
+    ensures empty { OnOk result (out.new ≡ []) }
+    ensures never_falls { N.faults notes.old ≤ N.faults notes.new }
+    ensures cause { OnErr result (((IsTrue settings.now.notes)
+        ⊎ IsTrue (is_checked settings.now.check))
+        × HasRisen (N.faults notes.old) (N.faults notes.new)) }
+{
+    note_batch(notes, settings.notes, number, &end.plan, end.strategy)?;
+    let journal = end.closed.journal();
+    note_check(out, notes, settings.check, number, &end.plan, journal)
 }
 
 /// Tells the notes what was seen of the balances, where anything was.

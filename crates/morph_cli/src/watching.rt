@@ -1,9 +1,10 @@
-ghost use Rattle.std.specs.Prelude.{◌≡◌, ◌+◌, ◌^◌, ◌<◌, ◌≤◌, [], length, true, None, IfOk, IfSome, IsSome, IsTrue, OnOk, OnErr};
+ghost use Rattle.std.specs.Prelude.{◌≡◌, ◌+◌, ◌^◌, ◌<◌, ◌≤◌, ◌↔◌, [], length, true, false, IfOk, IfSome, IsSome, IsTrue, OnOk, OnErr};
 ghost use Rattle.std.specs.Thread.{IsSync};
 ghost use Rattle.morph_base.specs.Flat.{contents};
 ghost use Rattle.morph_base.specs.Plans.{IsPlan, HasBases, PlanKeysIn, IsSettledOf};
 ghost use Rattle.morph_base.specs.States.{fold_batch};
 ghost use Rattle.morph_base.specs.Transactions.{IsBatch, BatchKeysIn};
+ghost use Rattle.run_text.specs.Checks.{is_checked};
 ghost use Rattle.run_text.specs.Settings.{AreInRange};
 ghost use Rattle.snapshot_reader.specs.Batches.{after_plans};
 ghost use Rattle.snapshot_reader.specs.Known.{most_ids};
@@ -68,7 +69,7 @@ impl Watching {
     /// One for a run, where its settings ask for one.
     pub fn asked<A: EventApp, R, G>(job: &Job<'_, A, R, G>) -> Result<Option<Self>, OutOfMemory>
         requires { AreInRange job.now.settings }
-        ensures asked { IfOk result (λ made. IsSome made → IsTrue job.now.settings.watch) }
+        ensures asked { IfOk result (λ made. IsSome made ↔ IsTrue job.now.settings.watch) }
         ensures layout { IfOk result (λ made. IfSome made (λ posted.
             posted.layout ≡ layout_of (A.table_count job.now.app) job.now.settings.size)) }
         ensures none { IfOk result (λ made. IfSome made (λ posted. posted.plans ≡ [])) }
@@ -102,8 +103,28 @@ fn look(viewer: &mut Viewer, told: u64) -> Option<Total>
     }
 }
 
-/// Makes the plan of a batch and runs it, as [`run_batch`]. Where the balances are watched the viewer is told of all
-/// batches that were published, and looks in a thread of its own meanwhile.
+/// Does a job. Where the balances are watched the viewer is told of all batches that were published, and looks in a
+/// thread of its own while the job is done.
+pub fn look_beside<R: Threads, F: FnMut() -> T, T>(
+    rt: &R,
+    watching: &mut Option<Watching>,
+    job: &mut F,
+) -> (Option<Total>, T)
+    requires { F.pre job.old }
+    ensures audit { IfSome result.0 (IsSeen watching.old) }
+    ensures watching { watching.new ≡ watching.old }
+    ensures job { F.step job.old result.1 job.new }
+{
+    let Some(watching) = watching else {
+        return (None, job());
+    };
+    watching.publisher.tell(&mut watching.viewer);
+    let told = watching.publisher.number();
+    let viewer = &mut watching.viewer;
+    join_mut(rt, &mut || look(viewer, told), job)
+}
+
+/// Makes the plan of a batch and runs it, as [`run_batch`], beside a look where the balances are watched.
 pub fn run_watched<R: Threads + Sync, G: Gate>(
     host: &Host<'_, R, G>,
     watching: &mut Option<Watching>,
@@ -120,40 +141,12 @@ pub fn run_watched<R: Threads + Sync, G: Gate>(
     ensures ran { IfOk result (λ ran. IsEndOf settings.now last engine.old batch.now ran.end) }
     ensures audit { IfOk result (λ ran. IfSome ran.audit (IsSeen watching.old)) }
     ensures watching { watching.new ≡ watching.old }
-    ensures refused { OnErr result (engine.new ≡ engine.old) }
+    ensures refused { is_checked settings.now.check ≡ false
+        → OnErr result (engine.new ≡ engine.old) }
 {
-    let Some(watching) = watching else {
-        let end = run_batch(host, engine, batch, settings, last)?;
-        return Ok(Watched { end, audit: None });
-    };
-    run_beside(host, watching, engine, batch, settings, last)
-}
-
-/// The same beside a look.
-fn run_beside<R: Threads + Sync, G: Gate>(
-    host: &Host<'_, R, G>,
-    watching: &mut Watching,
-    engine: &mut Engine,
-    batch: &Batch,
-    settings: &Settings,
-    last: Last,
-) -> Result<Watched, OutOfMemory>
-    requires settings { AreInRange settings.now }
-    requires batch { IsBatch batch.now }
-    requires keys { BatchKeysIn engine.old.layout batch.now }
-    ensures layout { engine.new.layout ≡ engine.old.layout }
-    ensures state { OnOk result (contents engine.new ≡ fold_batch batch.now (contents engine.old)) }
-    ensures ran { IfOk result (λ ran. IsEndOf settings.now last engine.old batch.now ran.end) }
-    ensures audit { IfOk result (λ ran. IfSome ran.audit (IsSeen (Some watching.old))) }
-    ensures watching { watching.new ≡ watching.old }
-    ensures refused { OnErr result (engine.new ≡ engine.old) }
-{
-    watching.publisher.tell(&mut watching.viewer);
-    let told = watching.publisher.number();
-    let viewer = &mut watching.viewer;
-    let (audit, end) = join_mut(
+    let (audit, end) = look_beside(
         host.rt,
-        &mut || look(viewer, told),
+        watching,
         &mut ||
             requires { IsSync R.row × IsSync G.row × AreInRange settings.now × IsBatch batch.now
                 × BatchKeysIn engine.now.layout batch.now }
@@ -180,7 +173,7 @@ pub fn publish<R: Wait>(
     ensures refused { OnErr result (watching.new ≡ watching.old) }
 {
     if let Some(watching) = watching {
-        let _ = watching
+        watching
             .publisher
             .publish(rt, alloc, &end.plan, &end.settled)?;
     }

@@ -42,7 +42,7 @@ fn expect_usage(
 
 #[test]
 fn words_that_are_no_settings(rt: HostRuntime) -> Result<(), Fail> {
-    let refused: [&[&[u8]]; 33] = [
+    let refused: [&[&[u8]]; 40] = [
         &[],
         &[b"app=", b"size=1"],
         &[b"app=ledger", b"colour=1"],
@@ -76,6 +76,13 @@ fn words_that_are_no_settings(rt: HostRuntime) -> Result<(), Fail> {
         &[b"app=ledger", b"watch=off", b"watch=off"],
         &[b"app=ledger", b"watch=on", b"ahead=1"],
         &[b"app=ledger", b"ahead=2", b"watch=on"],
+        &[b"app=ledger", b"check=yes"],
+        &[b"app=ledger", b"check=off", b"check=off"],
+        &[b"app=ledger", b"check=on", b"watch=on"],
+        &[b"app=ledger", b"ahead=1", b"check=text"],
+        &[b"app=ledger", b"check=on", b"workers=2"],
+        &[b"app=ledger", b"abort=eager", b"check=on"],
+        &[b"app=ledger", b"check=text", b"plan=auto"],
     ];
     expect_usage(&rt, &refused)
 }

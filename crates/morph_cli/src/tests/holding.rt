@@ -26,7 +26,7 @@ fn a_held_worker_does_not_change_the_answer(rt: HostRuntime) -> Result<(), Fail>
     for [unit, explore, abort] in STRATEGIES {
         let words = [b"app=ledger".as_slice(), b"workers=4", unit, explore, abort];
         for hold in 0..HOLDS {
-            let gate = HoldGate::new((hold / 4) as u32 + 1, hold % 4, 10_000);
+            let gate = HoldGate::new((hold / 4) as u32 + 1, hold % 4, 100_000);
             let ran = run_gated(&rt, rt.alloc(), &words, FOUR_EVENTS, &gate)?;
             let got = (ran.status, ran.sink.bytes() == FOUR);
             assert_eq!(rt; got, (0, true));

@@ -29,7 +29,7 @@ fn run_failing<R: Threads + Wait + Sync>(
 
 #[test]
 fn notes_and_their_faults(rt: HostRuntime) -> Result<(), Fail> {
-    let runs: [(&[&[u8]], &[u8], &[u64], &[u64], (u8, &[u8], &[u8])); 11] = [
+    let runs: [(&[&[u8]], &[u8], &[u64], &[u64], (u8, &[u8], &[u8])); 15] = [
         (
             &[b"app=ledger", b"notes=on"],
             FOUR_EVENTS,
@@ -130,6 +130,42 @@ fn notes_and_their_faults(rt: HostRuntime) -> Result<(), Fail> {
         ),
         (
             &[b"app=ledger", b"watch=on"],
+            b"D 1 0 0 7 5\n",
+            &[],
+            &[1],
+            (5, b"1 C 7 5\n", b"morph: write failed\n"),
+        ),
+        (
+            &[b"app=ledger", b"check=text"],
+            b"D 1 0 0 100 5\n",
+            &[],
+            &[],
+            (
+                0,
+                b"1 C 100 5\nacct 0 100\nasset 0 5\ncommitted 1 aborted 0\n",
+                b"R 0\nC 0 1\nF 0 0 1 0\nN 0 1\nR 1\nC 1 1\nF 1 0 1 0\nN 1 1\nD 0 c\nT 0 1\nT 1 1\ncheck 1: yes\n",
+            ),
+        ),
+        (
+            &[b"app=ledger", b"check=on"],
+            FOUR_EVENTS,
+            &[],
+            &[],
+            (0, FOUR, b"check 1: yes\n"),
+        ),
+        (
+            &[b"app=ledger", b"check=on", b"notes=on", b"explore=steal"],
+            TWO_BATCHES,
+            &[],
+            &[],
+            (
+                0,
+                TWO,
+                b"batch 1: events 4 ops 14 levels 4 op steal lazy\ncheck 1: yes\nbatch 2: events 1 ops 2 levels 1 op steal lazy\ncheck 2: yes\ntally: evaluated 18 spread 0 rolled 2 left 0 handed 16 stolen 0\nsettled 0 16\n",
+            ),
+        ),
+        (
+            &[b"app=ledger", b"check=on"],
             b"D 1 0 0 7 5\n",
             &[],
             &[1],

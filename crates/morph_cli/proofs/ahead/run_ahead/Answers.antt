@@ -15,7 +15,7 @@ use Rattle.std.proofs.lemmas.Bool.{true≢false}
 use Rattle.batch_pipe.specs.Courses.{steps_left}
 use Rattle.batch_pipe.proofs.Rounds.{turns_fall}
 use Rattle.morph_cli.proofs.Between.{course_of, error_is}
-use Rattle.morph_cli.proofs.Noting.{told_note, noted_so, risen_in_part}
+use Rattle.morph_cli.proofs.Noting.{unchecked_ahead, told_note, noted_so, risen_in_part}
 use Rattle.morph_cli.proofs.Tails.{read_by_tail, ends_by_tail, told_by_tail}
 use Rattle.morph_cli.proofs.Piping.{piped_start, piped_as, piped_round, piped_told, read_in_round, next, room_told, ends_in_run, told_in_run}
 use Rattle.morph_cli.proofs.ahead.run_ahead.Goals as goal
@@ -32,56 +32,49 @@ turns-init g c =
       notes_faults = omega arith;
     }
 
-pub count-requires-clause-plan : goal.count-requires-clause-plan
-count-requires-clause-plan g c =
+pub tell_next-requires-clause-plan : goal.tell_next-requires-clause-plan
+tell_next-requires-clause-plan g c =
     let got = rw c.in-Some.is at c.next.ensures.some in
     (next c.picker-pick.ensures refl c.turns.invariant.run c.in-Some.ran c.next.new.self.rans got.1).run.valid.plan
 
-pub count-requires-clause-settled : goal.count-requires-clause-settled
-count-requires-clause-settled g c =
+pub tell_next-requires-clause-settled : goal.tell_next-requires-clause-settled
+tell_next-requires-clause-settled g c =
     let got = rw c.in-Some.is at c.next.ensures.some in
     (next c.picker-pick.ensures refl c.turns.invariant.run c.in-Some.ran c.next.new.self.rans got.1).run.settled
 
-pub count-requires-clause-room : goal.count-requires-clause-room
-count-requires-clause-room g c =
+pub tell_next-requires-clause-room : goal.tell_next-requires-clause-room
+tell_next-requires-clause-room g c =
     let got = rw c.in-Some.is at c.next.ensures.some in
     room_told c.picker-pick.ensures refl c.turns.invariant.run c.in-Some.ran c.next.new.self.rans got.1 (lit≤ tt)
 
-pub tell_batch-requires-clause-plan : goal.tell_batch-requires-clause-plan
-tell_batch-requires-clause-plan g c =
-    let got = rw c.in-Some.is at c.next.ensures.some in
-    (next c.picker-pick.ensures refl c.turns.invariant.run c.in-Some.ran c.next.new.self.rans got.1).run.valid.plan
+pub tell_next-requires-clause-unchecked : goal.tell_next-requires-clause-unchecked
+tell_next-requires-clause-unchecked g c = unchecked_ahead c.args.job.now.settings c.requires.settings c.requires.ahead
 
-pub tell_batch-requires-clause-settled : goal.tell_batch-requires-clause-settled
-tell_batch-requires-clause-settled g c =
-    let got = rw c.in-Some.is at c.next.ensures.some in
-    (next c.picker-pick.ensures refl c.turns.invariant.run c.in-Some.ran c.next.new.self.rans got.1).run.settled
-
-pub returns-in_err-tell_batch-in-Some-clause-ends : goal.returns-in_err-tell_batch-in-Some-clause-ends
-returns-in_err-tell_batch-in-Some-clause-ends g c =
+pub returns-in_err-tell_next-in-Some-clause-ends : goal.returns-in_err-tell_next-in-Some-clause-ends
+returns-in_err-tell_next-in-Some-clause-ends g c =
     let got = rw c.in-Some.is at c.next.ensures.some in
     ends_in_run c.picker-pick.ensures refl c.turns.invariant.run c.in-Some.ran c.next.new.self.rans got.1 (g.S.Source.left c.turns.source)
-    (outputs_of (g.K.Sink.written c.tell_batch.new.sink) (g.N.Sink.written c.tell_batch.new.notes)) (told_note c.args.job.now.settings c.count.new.tally.batches None (account_of c.in-Some.ran.end))
-    (error_is c.from_residual.result Write c.from_residual.ensures.1) c.in_err-tell_batch-in-Some.ensures.told
+    (outputs_of (g.K.Sink.written c.tell_next.new.sink) (g.N.Sink.written c.tell_next.new.notes)) (told_note c.args.job.now.settings c.tell_next.new.tally.batches None (account_of c.in-Some.ran.end))
+    (error_is c.from_residual.result Write c.from_residual.ensures.1) c.in_err-tell_next-in-Some.ensures.told
 
-pub returns-in_err-tell_batch-in-Some-clause-told : goal.returns-in_err-tell_batch-in-Some-clause-told
-returns-in_err-tell_batch-in-Some-clause-told g c =
+pub returns-in_err-tell_next-in-Some-clause-told : goal.returns-in_err-tell_next-in-Some-clause-told
+returns-in_err-tell_next-in-Some-clause-told g c =
     let got = rw c.in-Some.is at c.next.ensures.some in
     told_in_run c.picker-pick.ensures refl c.turns.invariant.run c.in-Some.ran c.next.new.self.rans got.1
-    (outputs_of (g.K.Sink.written c.tell_batch.new.sink) (g.N.Sink.written c.tell_batch.new.notes)) c.count.new.tally
-    (error_is c.from_residual.result Write c.from_residual.ensures.1) c.count.ensures.adds c.in_err-tell_batch-in-Some.ensures.told
+    (outputs_of (g.K.Sink.written c.tell_next.new.sink) (g.N.Sink.written c.tell_next.new.notes)) c.tell_next.new.tally (unchecked_ahead c.args.job.now.settings c.requires.settings c.requires.ahead)
+    (error_is c.from_residual.result Write c.from_residual.ensures.1) c.tell_next.ensures.adds c.in_err-tell_next-in-Some.ensures.told
 
 pub turns-preserved-in-Some : goal.turns-preserved-in-Some
 turns-preserved-in-Some g c =
     let got = rw c.in-Some.is at c.next.ensures.some in
     record {
       run = piped_told c.picker-pick.ensures refl c.turns.invariant.run c.in-Some.ran c.next.new.self.rans got.1 c.next.new.self
-          (outputs_of (g.K.Sink.written c.tell_batch.new.sink) (g.N.Sink.written c.tell_batch.new.notes)) c.count.new.tally c.tell_batch.new.out
-          got.0 c.in_ok-tell_batch-in-Some.ensures.told c.in_ok-tell_batch-in-Some.ensures.empty c.count.ensures.adds;
+          (outputs_of (g.K.Sink.written c.tell_next.new.sink) (g.N.Sink.written c.tell_next.new.notes)) c.tell_next.new.tally c.tell_next.new.out (unchecked_ahead c.args.job.now.settings c.requires.settings c.requires.ahead)
+          got.0 c.in_ok-tell_next-in-Some.ensures.told c.in_ok-tell_next-in-Some.ensures.empty c.tell_next.ensures.adds;
       read = λ is. c.turns.invariant.read (sym (ap (λ (v : PipeView _). v.tail) got.0) ∙ is);
       source_faults = c.turns.invariant.source_faults;
-      sink_faults = omega (arith, c.turns.invariant.sink_faults, c.in_ok-tell_batch-in-Some.ensures.sink_faults);
-      notes_faults = omega (arith, c.turns.invariant.notes_faults, c.in_ok-tell_batch-in-Some.ensures.notes_faults);
+      sink_faults = omega (arith, c.turns.invariant.sink_faults, c.in_ok-tell_next-in-Some.ensures.sink_faults);
+      notes_faults = omega (arith, c.turns.invariant.notes_faults, c.in_ok-tell_next-in-Some.ensures.notes_faults);
     }
 
 pub turns-smaller : goal.turns-smaller

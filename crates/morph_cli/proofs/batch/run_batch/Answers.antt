@@ -1,5 +1,12 @@
-use Rattle.std.proofs.Common.{◌≡◌, ◌∙◌, Result, Ok, Err, ap, subst, sym}
-use Rattle.std.specs.Prelude.{IfOk}
+use Rattle.std.proofs.Common.{◌≡◌, ◌∙◌, ℕ, true, false, Result, Ok, Err, ap, refl, subst, sym}
+use Rattle.std.specs.Prelude.{IfOk, IsTrue}
+use Rattle.std.proofs.lemmas.Bool.{true≢false}
+use Rattle.morph_base.specs.declared.strategy.Abort.{Abort}
+use Rattle.morph_base.specs.declared.strategy.Abort.TheVariants.{Lazy, Eager}
+use Rattle.run_text.specs.declared.choices.Planning.{Planning}
+use Rattle.run_text.specs.declared.choices.Planning.TheVariants.{Fixed, Auto}
+use Rattle.run_text.specs.Checks.{is_checked}
+use Rattle.run_text.specs.Settings.{is_late, is_lazy}
 use Rattle.std.proofs.lemmas.Result.{on_ok_weaker}
 use Rattle.morph_base.specs.declared.plan.Plan.{Plan}
 use Rattle.morph_base.specs.declared.strategy.Strategy.{Strategy}
@@ -16,7 +23,7 @@ use Rattle.decision_model.specs.declared.counts.Last.{Last}
 use Rattle.run_text.specs.declared.choices.Settings.{Settings}
 use Rattle.morph_cli.specs.Batches.{IsEndOf}
 use Rattle.morph_cli.specs.Strategies.{strategy_by}
-use Rattle.morph_cli.specs.Tallies.{IsMadeOf}
+use Rattle.morph_cli.specs.Tallies.{IsMadeOf, IsChecked}
 use Rattle.morph_cli.proofs.batch.run_batch.Goals as goal
 
 pub returns-clause-state : goal.returns-clause-state
@@ -26,22 +33,62 @@ returns-clause-state g c =
 -- what came of the run is what came of the batch
 ends_are : {E : Type 0} (r : Result BatchEnd E) (s : Settings) (last : Last) (before : Kept) (batch : Batch) (p : Plan) (q : Strategy) →
     IfOk r (λ end. end.plan ≡ p) → IfOk r (λ end. end.strategy ≡ q) → IfOk r (λ end. settled_fates p end.settled ≡ fates (contents before) (transactions p)) →
-    IfOk r (λ end. IsSettledOf p end.settled) → IfOk r (λ end. IsAccount q.explore q.abort s.workers (account_of end)) →
+    IfOk r (λ end. IsSettledOf p end.settled) → IfOk r (λ end. IsAccount q.explore q.abort s.workers (account_of end)) → IfOk r (λ end. IsTrue (is_checked s.check) → IsChecked (account_of end)) →
     transactions p ≡ by_time (transactions_of batch) → IsMadeOf (contents before) (transactions_of batch) p → PlanKeysIn p before.layout → q ≡ strategy_by s.planning p last →
     IfOk r (IsEndOf s last before batch)
-ends_are (Err e) s last before batch p q plan strategy fates_are settled account events made keys chosen = tt
-ends_are (Ok end) s last before batch p q plan strategy fates_are settled account events made keys chosen = record {
+ends_are (Err e) s last before batch p q plan strategy fates_are settled account checked events made keys chosen = tt
+ends_are (Ok end) s last before batch p q plan strategy fates_are settled account checked events made keys chosen = record {
   fates_are = ap (λ (x : Plan). settled_fates x end.settled) plan ∙ fates_are ∙ ap (fates (contents before)) events;
   made = subst (IsMadeOf (contents before) (transactions_of batch)) (sym plan) made;
   keys = subst (λ (x : Plan). PlanKeysIn x before.layout) (sym plan) keys;
   settled = subst (λ (x : Plan). IsSettledOf x end.settled) (sym plan) settled;
   strategy = strategy ∙ chosen ∙ ap (λ (x : Plan). strategy_by s.planning x last) (sym plan);
   account = subst (λ (x : Strategy). IsAccount x.explore x.abort s.workers (account_of end)) (sym strategy) account;
+  checked = checked;
 }
+
+-- no journal is asked for
+unasked : {E : Type 0} (r : Result BatchEnd E) (s : Settings) → is_checked s.check ≡ false → IfOk r (λ end. IsTrue (is_checked s.check) → IsChecked (account_of end))
+unasked (Err e) s off = tt
+unasked (Ok end) s off = λ on. absurd (true≢false (sym on ∙ off))
+
+-- one was, and it was checked
+asked : {E : Type 0} (r : Result BatchEnd E) (s : Settings) → IfOk r (λ end. IsChecked (account_of end)) → IfOk r (λ end. IsTrue (is_checked s.check) → IsChecked (account_of end))
+asked (Err e) s checked = tt
+asked (Ok end) s checked = λ on. checked
+
+one_worker : {E : Type 0} (r : Result BatchEnd E) (q : Strategy) (workers : ℕ) → workers ≡ 1 → IfOk r (λ end. IsAccount q.explore q.abort 1 (account_of end)) → IfOk r (λ end. IsAccount q.explore q.abort workers (account_of end))
+one_worker r q workers one account = subst (λ n. IfOk r (λ end. IsAccount q.explore q.abort n (account_of end))) (sym one) account
+
+-- the strategy that is given has lazy abort
+lazy_given : (planning : Planning) (p : Plan) (last : Last) → is_lazy planning ≡ true → (strategy_by planning p last).abort ≡ Lazy
+lazy_given (Fixed q) p last lazy = by_abort q.abort lazy
+  where
+    by_abort : (a : Abort) → is_late a ≡ true → a ≡ Lazy
+    by_abort Lazy is = refl
+    by_abort Eager is = absurd (true≢false (sym is))
+lazy_given Auto p last lazy = absurd (true≢false (sym lazy))
+
+pub run_checked-requires-clause-lazy : goal.run_checked-requires-clause-lazy
+run_checked-requires-clause-lazy g c κs within =
+    ap (λ (q : Strategy). q.abort) c.strategy_for-strategy.ensures ∙ lazy_given c.args.settings.now.planning c.in_ok-plan.plan c.args.last (c.requires.settings.unchecked (sym c.is_on.ensures ∙ c.if-is_on.true)).3
+
+pub returns-then-is_on-clause-state : goal.returns-then-is_on-clause-state
+returns-then-is_on-clause-state g c =
+    on_ok_weaker c.run_checked.result (λ state. state ∙ state_at-fold c.args.batch.now c.in_ok-plan.plan (contents c.args.engine.now) c.in_ok-plan.ensures.events) c.run_checked.ensures.state
+
+pub returns-then-is_on-clause-ran : goal.returns-then-is_on-clause-ran
+returns-then-is_on-clause-ran g c =
+    ends_are c.run_checked.result c.args.settings.now c.args.last c.args.engine.now c.args.batch.now c.in_ok-plan.plan c.strategy_for-strategy.result
+    c.run_checked.ensures.plan c.run_checked.ensures.strategy c.run_checked.ensures.fates c.run_checked.ensures.settled
+    (one_worker c.run_checked.result c.strategy_for-strategy.result c.args.settings.now.workers (c.requires.settings.unchecked (sym c.is_on.ensures ∙ c.if-is_on.true)).2 c.run_checked.ensures.account)
+    (asked c.run_checked.result c.args.settings.now c.run_checked.ensures.checked)
+    c.in_ok-plan.ensures.events (record { valid = c.in_ok-plan.ensures.valid; events = c.in_ok-plan.ensures.events; bases = c.in_ok-plan.ensures.bases })
+    c.in_ok-plan.ensures.keys c.strategy_for-strategy.ensures
 
 pub returns-clause-ran : goal.returns-clause-ran
 returns-clause-ran g c =
     ends_are c.run_batch.result c.args.settings.now c.args.last c.args.engine.now c.args.batch.now c.in_ok-plan.plan c.strategy_for-strategy.result
-    c.run_batch.ensures.plan c.run_batch.ensures.strategy c.run_batch.ensures.fates c.run_batch.ensures.settled c.run_batch.ensures.account
+    c.run_batch.ensures.plan c.run_batch.ensures.strategy c.run_batch.ensures.fates c.run_batch.ensures.settled c.run_batch.ensures.account (unasked c.run_batch.result c.args.settings.now (sym c.is_on.ensures ∙ c.if-is_on.false))
     c.in_ok-plan.ensures.events (record { valid = c.in_ok-plan.ensures.valid; events = c.in_ok-plan.ensures.events; bases = c.in_ok-plan.ensures.bases })
     c.in_ok-plan.ensures.keys c.strategy_for-strategy.ensures

@@ -1,22 +1,18 @@
 use Rattle.std.proofs.Common.{inl, inr, refl, ap, sym, ◌∙◌, arith, lit≤}
-use Rattle.morph_base.specs.declared.key.Layout.{Layout}
-use Rattle.morph_base.specs.Flat.{contents}
-use Rattle.morph_base.specs.States.{after_all}
 use Rattle.run_text.specs.declared.tally.Tally.{Tally}
-use Rattle.morph_cli.proofs.Watches.{audit_is, if_posted, may_publish, shown_more, watch_still}
+use Rattle.morph_cli.proofs.Takings.{error_same, few_batches, never_read, between_same, ends_taken, told_taken, between_taken, shown_taken, watch_taken}
+use Rattle.morph_cli.proofs.Watches.{if_posted}
 use Rattle.event_reader.specs.declared.limits.TheConstants.{INPUT_BYTES}
 use Rattle.event_reader.specs.Accepted.{Ended, RefusedAt}
-use Rattle.morph_engine.specs.Accounts.{account_of}
-use Rattle.morph_engine.specs.Fates.{settled_fates}
-use Rattle.morph_cli.specs.declared.fault.Fault.TheVariants.{Write, OutOfMemory}
+use Rattle.morph_cli.specs.declared.fault.Fault.TheVariants.{Write}
 use Rattle.morph_cli.specs.Faults.{fault_of}
 use Rattle.run_text.specs.Notes.{noted, closing_notes}
 use Rattle.morph_cli.specs.Outputs.{outputs_of}
 use Rattle.morph_cli.specs.Runs.{layout_of}
 use Rattle.run_text.specs.Text.{refused_text}
-use Rattle.morph_cli.proofs.Between.{closing_of, closing_last, course_of, error_is, no_write, between_start, between_batch, has_room, ends_fault, told_fault, ends_in_batch, told_cut_in_batch}
-use Rattle.morph_cli.proofs.Ending.{ends_memory, ends_complete, ends_refused, ends_cut, told_short, told_at_end, told_cut_at_end}
-use Rattle.morph_cli.proofs.Noting.{told_note, noted_so, audited_so, risen_in_part}
+use Rattle.morph_cli.proofs.Between.{closing_of, closing_last, course_of, error_is, between_start, has_room, ends_fault, told_fault}
+use Rattle.morph_cli.proofs.Ending.{ends_complete, ends_refused, ends_cut, told_at_end, told_cut_at_end}
+use Rattle.morph_cli.proofs.Noting.{noted_so, risen_in_part}
 use Rattle.morph_cli.proofs.Turns.{cut_text}
 use Rattle.morph_cli.proofs.run.run_batches.Goals as goal
 
@@ -30,7 +26,7 @@ batches-init g c =
         count = shown.count ∙ sym (ap (λ (t : Tally). t.batches) c.requires.tally);
         state = shown.state ∙ sym c.requires.opening;
       }) c.requires.shown;
-      watch = c.requires.watch;
+      watch = c.requires.watch.0;
       run = between_start (course_of g.A.EventApp.event_of (g.A.EventApp.table_count c.args.job.now.app) (g.A.EventApp.name_of c.args.job.now.app) c.args.job.now.app c.args.job.now.settings INPUT_BYTES (g.S.Source.left c.args.source.now)
           (outputs_of (g.K.Sink.written c.args.sink.now) (g.N.Sink.written c.args.notes.now)))
           c.args.progress.now.reader c.args.progress.now.engine c.args.tally.now c.args.progress.now.out c.args.progress.now.last (layout_of (g.A.EventApp.table_count c.args.job.now.app) c.args.job.now.settings.size) c.requires.reader c.requires.layout
@@ -53,106 +49,39 @@ returns-in_err-batch-clause-told g c =
 
 -- ---- a batch
 
-pub returns-in_err-ran-in-Batch-clause-ends : goal.returns-in_err-ran-in-Batch-clause-ends
-returns-in_err-ran-in-Batch-clause-ends g c =
-    ends_memory (g.S.Source.left c.next_batch.new.source)
-    (error_is c.from_residual-in_err-ran-in-Batch.result OutOfMemory c.from_residual-in_err-ran-in-Batch.ensures.1) c.batches.invariant.run.goes
+pub take_batch-requires-clause-room : goal.take_batch-requires-clause-room
+take_batch-requires-clause-room g c κs outlives a valid sound = has_room a c.batches.invariant.run (lit≤ tt) valid sound
 
-pub returns-in_err-ran-in-Batch-clause-told : goal.returns-in_err-ran-in-Batch-clause-told
-returns-in_err-ran-in-Batch-clause-told g c =
-    told_short OutOfMemory (error_is c.from_residual-in_err-ran-in-Batch.result OutOfMemory c.from_residual-in_err-ran-in-Batch.ensures.1) no_write c.batches.invariant.run.goes
+pub take_batch-requires-clause-few : goal.take_batch-requires-clause-few
+take_batch-requires-clause-few g c κs outlives = few_batches c.batches.invariant.run (lit≤ tt)
 
-pub count-progress-requires-clause-plan : goal.count-progress-requires-clause-plan
-count-progress-requires-clause-plan g c = c.in_ok-ran-in-Batch.ensures.ran.made.valid.plan
-
-pub count-progress-requires-clause-room : goal.count-progress-requires-clause-room
-count-progress-requires-clause-room g c =
-    has_room (account_of c.in_ok-ran-in-Batch.ran.end) c.batches.invariant.run (lit≤ tt) c.in_ok-ran-in-Batch.ensures.ran.made.valid.plan
-    c.in_ok-ran-in-Batch.ensures.ran.account
-
-pub tell_batch-requires-clause-plan : goal.tell_batch-requires-clause-plan
-tell_batch-requires-clause-plan g c = c.in_ok-ran-in-Batch.ensures.ran.made.valid.plan
-
-pub returns-in_err-tell_batch-in-Batch-clause-ends : goal.returns-in_err-tell_batch-in-Batch-clause-ends
-returns-in_err-tell_batch-in-Batch-clause-ends g c =
+pub returns-in_err-take_batch-in-Batch-clause-ends : goal.returns-in_err-take_batch-in-Batch-clause-ends
+returns-in_err-take_batch-in-Batch-clause-ends g c =
     let valid = rw c.in-Batch.is at c.in_ok-batch.ensures.valid in
     let answers = rw c.in-Batch.is at c.in_ok-batch.ensures.answers in
-    ends_in_batch (g.S.Source.left c.next_batch.new.source) (outputs_of (g.K.Sink.written c.tell_batch.new.sink) (g.N.Sink.written c.tell_batch.new.notes)) c.next_batch.new.self c.in-Batch.batch
-    (settled_fates c.in_ok-ran-in-Batch.ran.end.plan c.in_ok-ran-in-Batch.ran.end.settled) (told_note c.args.job.now.settings c.count-progress.new.tally.batches c.in_ok-ran-in-Batch.ran.audit (account_of c.in_ok-ran-in-Batch.ran.end))
-    (error_is c.from_residual-in_err-tell_batch-in-Batch.result Write c.from_residual-in_err-tell_batch-in-Batch.ensures.1)
-    c.batches.invariant.run answers valid.0 c.in_ok-ran-in-Batch.ensures.ran.fates_are c.in_err-tell_batch-in-Batch.ensures.told
+    ends_taken (g.S.Source.left c.next_batch.new.source) c.next_batch.new.self _ _ c.batches.invariant.run refl refl c.batches.invariant.shown c.batches.invariant.watch answers valid.0
+    _ _ _ _ _ c.in_err-take_batch-in-Batch.field-0.0 (error_is c.from_residual-in_err-take_batch-in-Batch.result c.in_err-take_batch-in-Batch.field-0.0 c.from_residual-in_err-take_batch-in-Batch.ensures.1)
+    c.in_err-take_batch-in-Batch.ensures.takes
 
-pub returns-in_err-tell_batch-in-Batch-clause-told : goal.returns-in_err-tell_batch-in-Batch-clause-told
-returns-in_err-tell_batch-in-Batch-clause-told g c =
+pub returns-in_err-take_batch-in-Batch-clause-told : goal.returns-in_err-take_batch-in-Batch-clause-told
+returns-in_err-take_batch-in-Batch-clause-told g c =
     let valid = rw c.in-Batch.is at c.in_ok-batch.ensures.valid in
     let answers = rw c.in-Batch.is at c.in_ok-batch.ensures.answers in
-    told_cut_in_batch (g.S.Source.left c.next_batch.new.source) (outputs_of (g.K.Sink.written c.tell_batch.new.sink) (g.N.Sink.written c.tell_batch.new.notes)) c.next_batch.new.self c.in-Batch.batch
-    (settled_fates c.in_ok-ran-in-Batch.ran.end.plan c.in_ok-ran-in-Batch.ran.end.settled) (account_of c.in_ok-ran-in-Batch.ran.end) c.in_ok-ran-in-Batch.ran.audit
-    (error_is c.from_residual-in_err-tell_batch-in-Batch.result Write c.from_residual-in_err-tell_batch-in-Batch.ensures.1)
-    c.batches.invariant.run answers valid.0 c.in_ok-ran-in-Batch.ensures.ran.fates_are c.count-progress.ensures.adds c.in_ok-ran-in-Batch.ensures.ran.account
-    c.in_ok-ran-in-Batch.ensures.ran.made c.in_ok-ran-in-Batch.ensures.ran.strategy
-    (audit_is _ _ _ c.args.job.now.settings c.batches.progress.watching c.in_ok-ran-in-Batch.ran.audit c.batches.invariant.shown c.batches.invariant.watch
-    (ap (λ (l : Layout). l.size) c.batches.invariant.run.layout) c.in_ok-ran-in-Batch.ensures.audit)
-    c.in_err-tell_batch-in-Batch.ensures.told
+    told_taken (g.S.Source.left c.next_batch.new.source) c.next_batch.new.self _ _ c.batches.invariant.run refl refl c.batches.invariant.shown c.batches.invariant.watch answers valid.0
+    _ _ _ _ _ c.in_err-take_batch-in-Batch.field-0.0 (error_is c.from_residual-in_err-take_batch-in-Batch.result c.in_err-take_batch-in-Batch.field-0.0 c.from_residual-in_err-take_batch-in-Batch.ensures.1)
+    c.in_err-take_batch-in-Batch.ensures.takes
 
-pub returns-in_err-tell_batch-in-Batch-clause-write : goal.returns-in_err-tell_batch-in-Batch-clause-write
-returns-in_err-tell_batch-in-Batch-clause-write g c is =
-    risen_in_part (audited_so c.args.job.now.settings c.in_ok-ran-in-Batch.ran.audit (audit_is _ _ _ c.args.job.now.settings c.batches.progress.watching c.in_ok-ran-in-Batch.ran.audit c.batches.invariant.shown c.batches.invariant.watch
-    (ap (λ (l : Layout). l.size) c.batches.invariant.run.layout) c.in_ok-ran-in-Batch.ensures.audit).unwatched) (g.K.Sink.faults c.args.sink.now) (g.K.Sink.faults c.batches.sink) (g.K.Sink.faults c.tell_batch.new.sink) (g.N.Sink.faults c.args.notes.now) (g.N.Sink.faults c.batches.notes) (g.N.Sink.faults c.tell_batch.new.notes)
-    c.batches.invariant.sink_faults c.in_err-tell_batch-in-Batch.ensures.sink_faults c.batches.invariant.notes_faults c.in_err-tell_batch-in-Batch.ensures.notes_faults c.in_err-tell_batch-in-Batch.ensures.cause
+pub returns-in_err-take_batch-in-Batch-clause-read : goal.returns-in_err-take_batch-in-Batch-clause-read
+returns-in_err-take_batch-in-Batch-clause-read g c is =
+    absurd (never_read _ _ _ _ _ _ _ _ _ _ _ _ c.in_err-take_batch-in-Batch.field-0.0 (error_is c.from_residual-in_err-take_batch-in-Batch.result c.in_err-take_batch-in-Batch.field-0.0 c.from_residual-in_err-take_batch-in-Batch.ensures.1) is
+    c.in_err-take_batch-in-Batch.ensures.takes)
 
--- ---- its publishing
-
-pub publish-requires-clause-keys : goal.publish-requires-clause-keys
-publish-requires-clause-keys g c =
-    (may_publish _ _ _ c.batches.progress.watching c.run_watched.new.watching c.in_ok-ran-in-Batch.ran.end.plan c.batches.invariant.shown c.in_ok-ran-in-Batch.ensures.watching
-    c.in_ok-ran-in-Batch.ensures.ran.keys c.in_ok-ran-in-Batch.ensures.ran.made.bases
-    (has_room (account_of c.in_ok-ran-in-Batch.ran.end) c.batches.invariant.run (lit≤ tt) c.in_ok-ran-in-Batch.ensures.ran.made.valid.plan c.in_ok-ran-in-Batch.ensures.ran.account).batches).0
-
-pub publish-requires-clause-bases : goal.publish-requires-clause-bases
-publish-requires-clause-bases g c =
-    (may_publish _ _ _ c.batches.progress.watching c.run_watched.new.watching c.in_ok-ran-in-Batch.ran.end.plan c.batches.invariant.shown c.in_ok-ran-in-Batch.ensures.watching
-    c.in_ok-ran-in-Batch.ensures.ran.keys c.in_ok-ran-in-Batch.ensures.ran.made.bases
-    (has_room (account_of c.in_ok-ran-in-Batch.ran.end) c.batches.invariant.run (lit≤ tt) c.in_ok-ran-in-Batch.ensures.ran.made.valid.plan c.in_ok-ran-in-Batch.ensures.ran.account).batches).1
-
-pub publish-requires-clause-room : goal.publish-requires-clause-room
-publish-requires-clause-room g c =
-    (may_publish _ _ _ c.batches.progress.watching c.run_watched.new.watching c.in_ok-ran-in-Batch.ran.end.plan c.batches.invariant.shown c.in_ok-ran-in-Batch.ensures.watching
-    c.in_ok-ran-in-Batch.ensures.ran.keys c.in_ok-ran-in-Batch.ensures.ran.made.bases
-    (has_room (account_of c.in_ok-ran-in-Batch.ran.end) c.batches.invariant.run (lit≤ tt) c.in_ok-ran-in-Batch.ensures.ran.made.valid.plan c.in_ok-ran-in-Batch.ensures.ran.account).batches).2
-
-pub returns-in_err-publish-in-Batch-clause-ends : goal.returns-in_err-publish-in-Batch-clause-ends
-returns-in_err-publish-in-Batch-clause-ends g c =
-    let valid = rw c.in-Batch.is at c.in_ok-batch.ensures.valid in
-    let answers = rw c.in-Batch.is at c.in_ok-batch.ensures.answers in
-    let shows = rw c.in-Batch.is at c.in_ok-batch.ensures.shows in
-    let counted = rw c.in-Batch.is at c.in_ok-batch.ensures.counted in
-    let live = rw c.in-Batch.is at c.in_ok-batch.ensures.goes_on in
-    ends_memory (g.S.Source.left c.next_batch.new.source)
-    (error_is c.from_residual-in_err-publish-in-Batch.result OutOfMemory c.from_residual-in_err-publish-in-Batch.ensures.1)
-    (between_batch {left' = g.S.Source.left c.next_batch.new.source} {r' = c.next_batch.new.self} {out' = c.tell_batch.new.out} {last' = c.count-progress.result} c.in-Batch.batch (settled_fates c.in_ok-ran-in-Batch.ran.end.plan c.in_ok-ran-in-Batch.ran.end.settled) (account_of c.in_ok-ran-in-Batch.ran.end) c.in_ok-ran-in-Batch.ran.audit
-    c.batches.invariant.run answers shows valid.0 counted c.in_ok-batch.ensures.bound
-    c.in_ok-batch.ensures.same c.in_ok-batch.ensures.unended live c.in_ok-ran-in-Batch.ensures.layout
-    c.in_ok-ran-in-Batch.ensures.state c.in_ok-ran-in-Batch.ensures.ran.fates_are c.in_ok-tell_batch-in-Batch.ensures.told c.in_ok-tell_batch-in-Batch.ensures.empty
-    (audit_is _ _ _ c.args.job.now.settings c.batches.progress.watching c.in_ok-ran-in-Batch.ran.audit c.batches.invariant.shown c.batches.invariant.watch
-    (ap (λ (l : Layout). l.size) c.batches.invariant.run.layout) c.in_ok-ran-in-Batch.ensures.audit)
-    c.count-progress.ensures.adds c.in_ok-ran-in-Batch.ensures.ran.account c.in_ok-ran-in-Batch.ensures.ran.made c.in_ok-ran-in-Batch.ensures.ran.strategy c.count-progress.ensures.last).goes
-
-pub returns-in_err-publish-in-Batch-clause-told : goal.returns-in_err-publish-in-Batch-clause-told
-returns-in_err-publish-in-Batch-clause-told g c =
-    let valid = rw c.in-Batch.is at c.in_ok-batch.ensures.valid in
-    let answers = rw c.in-Batch.is at c.in_ok-batch.ensures.answers in
-    let shows = rw c.in-Batch.is at c.in_ok-batch.ensures.shows in
-    let counted = rw c.in-Batch.is at c.in_ok-batch.ensures.counted in
-    let live = rw c.in-Batch.is at c.in_ok-batch.ensures.goes_on in
-    told_short OutOfMemory (error_is c.from_residual-in_err-publish-in-Batch.result OutOfMemory c.from_residual-in_err-publish-in-Batch.ensures.1) no_write
-    (between_batch {left' = g.S.Source.left c.next_batch.new.source} {r' = c.next_batch.new.self} {out' = c.tell_batch.new.out} {last' = c.count-progress.result} c.in-Batch.batch (settled_fates c.in_ok-ran-in-Batch.ran.end.plan c.in_ok-ran-in-Batch.ran.end.settled) (account_of c.in_ok-ran-in-Batch.ran.end) c.in_ok-ran-in-Batch.ran.audit
-    c.batches.invariant.run answers shows valid.0 counted c.in_ok-batch.ensures.bound
-    c.in_ok-batch.ensures.same c.in_ok-batch.ensures.unended live c.in_ok-ran-in-Batch.ensures.layout
-    c.in_ok-ran-in-Batch.ensures.state c.in_ok-ran-in-Batch.ensures.ran.fates_are c.in_ok-tell_batch-in-Batch.ensures.told c.in_ok-tell_batch-in-Batch.ensures.empty
-    (audit_is _ _ _ c.args.job.now.settings c.batches.progress.watching c.in_ok-ran-in-Batch.ran.audit c.batches.invariant.shown c.batches.invariant.watch
-    (ap (λ (l : Layout). l.size) c.batches.invariant.run.layout) c.in_ok-ran-in-Batch.ensures.audit)
-    c.count-progress.ensures.adds c.in_ok-ran-in-Batch.ensures.ran.account c.in_ok-ran-in-Batch.ensures.ran.made c.in_ok-ran-in-Batch.ensures.ran.strategy c.count-progress.ensures.last).goes
+pub returns-in_err-take_batch-in-Batch-clause-write : goal.returns-in_err-take_batch-in-Batch-clause-write
+returns-in_err-take_batch-in-Batch-clause-write g c is =
+    risen_in_part (λ on. on) (g.K.Sink.faults c.args.sink.now) (g.K.Sink.faults c.batches.sink) (g.K.Sink.faults c.take_batch.new.sink) (g.N.Sink.faults c.args.notes.now) (g.N.Sink.faults c.batches.notes) (g.N.Sink.faults c.take_batch.new.notes)
+    c.batches.invariant.sink_faults c.in_err-take_batch-in-Batch.ensures.sink_faults c.batches.invariant.notes_faults c.in_err-take_batch-in-Batch.ensures.notes_faults
+    (c.in_err-take_batch-in-Batch.ensures.cause (error_same c.in_err-take_batch-in-Batch.field-0.0 Write
+    (sym (error_is c.from_residual-in_err-take_batch-in-Batch.result c.in_err-take_batch-in-Batch.field-0.0 c.from_residual-in_err-take_batch-in-Batch.ensures.1) ∙ is)))
 
 pub batches-preserved : goal.batches-preserved
 batches-preserved g c =
@@ -162,22 +91,14 @@ batches-preserved g c =
     let counted = rw c.in-Batch.is at c.in_ok-batch.ensures.counted in
     let live = rw c.in-Batch.is at c.in_ok-batch.ensures.goes_on in
     record {
-      run = between_batch c.in-Batch.batch (settled_fates c.in_ok-ran-in-Batch.ran.end.plan c.in_ok-ran-in-Batch.ran.end.settled) (account_of c.in_ok-ran-in-Batch.ran.end) c.in_ok-ran-in-Batch.ran.audit
-          c.batches.invariant.run answers shows valid.0 counted c.in_ok-batch.ensures.bound
-          c.in_ok-batch.ensures.same c.in_ok-batch.ensures.unended live c.in_ok-ran-in-Batch.ensures.layout
-          c.in_ok-ran-in-Batch.ensures.state c.in_ok-ran-in-Batch.ensures.ran.fates_are c.in_ok-tell_batch-in-Batch.ensures.told c.in_ok-tell_batch-in-Batch.ensures.empty
-          (audit_is _ _ _ c.args.job.now.settings c.batches.progress.watching c.in_ok-ran-in-Batch.ran.audit c.batches.invariant.shown c.batches.invariant.watch
-          (ap (λ (l : Layout). l.size) c.batches.invariant.run.layout) c.in_ok-ran-in-Batch.ensures.audit)
-          c.count-progress.ensures.adds c.in_ok-ran-in-Batch.ensures.ran.account c.in_ok-ran-in-Batch.ensures.ran.made c.in_ok-ran-in-Batch.ensures.ran.strategy c.count-progress.ensures.last;
-      shown = shown_more _ _ _ c.batches.progress.watching c.run_watched.new.watching c.publish.new.watching c.in_ok-ran-in-Batch.ran.end.plan
-          c.run_watched.new.engine.layout c.count-progress.new.tally.batches (contents c.run_watched.new.engine) c.batches.invariant.shown c.in_ok-ran-in-Batch.ensures.watching c.in_ok-publish-in-Batch.ensures.published
-          c.in_ok-ran-in-Batch.ensures.layout c.count-progress.ensures.adds.batches
-          (c.in_ok-ran-in-Batch.ensures.state ∙ ap (after_all (contents c.batches.progress.engine)) (sym c.in_ok-ran-in-Batch.ensures.ran.made.events));
-      watch = watch_still c.batches.progress.watching c.run_watched.new.watching c.publish.new.watching c.in_ok-ran-in-Batch.ran.end.plan
-          c.in_ok-ran-in-Batch.ensures.watching c.in_ok-publish-in-Batch.ensures.published c.batches.invariant.watch;
+      run = between_same c.in_ok-take_batch-in-Batch.ensures.reader
+          (between_taken (g.S.Source.left c.next_batch.new.source) c.next_batch.new.self _ _ c.batches.invariant.run refl refl c.batches.invariant.shown c.batches.invariant.watch answers valid.0 _ _ _ _ _ _ _ c.in_ok-take_batch-in-Batch.ensures.takes shows counted c.in_ok-batch.ensures.bound c.in_ok-batch.ensures.same c.in_ok-batch.ensures.unended live
+          c.in_ok-take_batch-in-Batch.ensures.layout c.in_ok-take_batch-in-Batch.ensures.empty);
+      shown = shown_taken (g.S.Source.left c.next_batch.new.source) c.next_batch.new.self _ _ c.batches.invariant.run refl refl c.batches.invariant.shown c.batches.invariant.watch answers valid.0 _ _ _ _ _ _ c.in_ok-take_batch-in-Batch.ensures.takes c.in_ok-take_batch-in-Batch.ensures.layout;
+      watch = watch_taken (g.S.Source.left c.next_batch.new.source) c.next_batch.new.self _ _ c.batches.invariant.run refl refl c.batches.invariant.shown c.batches.invariant.watch answers valid.0 _ _ _ _ _ _ c.in_ok-take_batch-in-Batch.ensures.takes;
       source_faults = omega (arith, c.batches.invariant.source_faults, c.in_ok-batch.ensures.never_falls);
-      sink_faults = omega (arith, c.batches.invariant.sink_faults, c.in_ok-tell_batch-in-Batch.ensures.sink_faults);
-      notes_faults = omega (arith, c.batches.invariant.notes_faults, c.in_ok-tell_batch-in-Batch.ensures.notes_faults);
+      sink_faults = omega (arith, c.batches.invariant.sink_faults, c.in_ok-take_batch-in-Batch.ensures.sink_faults);
+      notes_faults = omega (arith, c.batches.invariant.notes_faults, c.in_ok-take_batch-in-Batch.ensures.notes_faults);
     }
 
 -- ---- the end

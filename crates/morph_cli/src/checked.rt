@@ -1,0 +1,65 @@
+//! Runs whose journals are checked.
+ghost use Rattle.std.specs.Prelude.{◌≡◌, IfOk, OnOk};
+ghost use Rattle.morph_base.specs.declared.strategy.Abort.TheVariants.{Lazy};
+ghost use Rattle.morph_base.specs.Flat.{contents};
+ghost use Rattle.morph_base.specs.Graphs.{IsValidPlan};
+ghost use Rattle.morph_base.specs.Outcomes.{fates};
+ghost use Rattle.morph_base.specs.Plans.{HasBases, IsPlan, IsSettledOf, PlanKeysIn, event_count, state_at, transactions};
+ghost use Rattle.morph_engine.specs.Accounts.{IsAccount, account_of};
+ghost use Rattle.morph_engine.specs.Fates.{settled_fates};
+ghost use Rattle.morph_engine.specs.Runs.{IsKept, journal_room};
+ghost use Rattle.morph_cli.specs.Tallies.{IsChecked};
+
+use crate::job::Host;
+use morph_base::{OutOfMemory, Plan, Strategy};
+use morph_engine::{BatchEnd, Engine};
+use run_checker::{Checked, check};
+use run_text::is_cut;
+use std::alloc::Global;
+use std::thread::Threads;
+
+/// Runs a plan by one worker who keeps a journal, and checks it. Where memory is refused to check it the engine has run
+/// the batch all the same.
+pub fn run_checked<R: Threads + Sync, G>(
+    host: &Host<'_, R, G>,
+    engine: &mut Engine,
+    plan: Plan,
+    strategy: &Strategy,
+) -> Result<BatchEnd, OutOfMemory>
+    requires plan { IsValidPlan plan }
+    requires bases { HasBases plan (contents engine.old) }
+    requires keys { PlanKeysIn plan engine.old.layout }
+    requires lazy { strategy.now.abort ≡ Lazy }
+    ensures state { OnOk result
+        (contents engine.new ≡ state_at plan (contents engine.old) (event_count plan)) }
+    ensures layout { engine.new.layout ≡ engine.old.layout }
+    ensures plan { IfOk result (λ end. end.plan ≡ plan) }
+    ensures strategy { IfOk result (λ end. end.strategy ≡ strategy.now) }
+    ensures settled { IfOk result (λ end. IsSettledOf plan end.settled) }
+    ensures fates { IfOk result (λ end. settled_fates plan end.settled
+        ≡ fates (contents engine.old) (transactions plan)) }
+    ensures account { IfOk result
+        (λ end. IsAccount strategy.now.explore strategy.now.abort 1 (account_of end)) }
+    ensures checked { IfOk result (λ end. IsChecked (account_of end)) }
+{
+    let end = engine.run_kept(host.rt, host.alloc, plan, strategy)?;
+    confirm(host.alloc, &end)?;
+    Ok(end)
+}
+
+/// Checks the journal of a run, where it is not cut off. The machine takes it, and it settles what was settled.
+fn confirm(alloc: Global, end: &BatchEnd) -> Result<(), OutOfMemory>
+    requires plan { IsPlan end.now.plan }
+    requires settled { IsSettledOf end.now.plan end.now.settled }
+    requires kept { IsKept end.now.plan Lazy (journal_room end.now.plan) end.now.closed }
+    ensures checked { OnOk result (IsChecked (account_of end.now)) }
+{
+    let journal = end.closed.journal();
+    if is_cut(&end.plan, journal) {
+        return Ok(());
+    }
+    match check(alloc, &end.plan, 1, journal, &end.settled)? {
+        Checked::Yes => Ok(()),
+        _ => unreachable!(),
+    }
+}

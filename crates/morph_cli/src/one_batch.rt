@@ -1,0 +1,67 @@
+ghost use Rattle.std.specs.Prelude.{◌≡◌, ◌+◌, ◌^◌, ◌<◌, ◌≤◌, ◌⊎◌, [], IfSome, IsErrOf, IsSome, IsTrue, OnOk};
+ghost use Rattle.morph_base.specs.Flat.{contents};
+ghost use Rattle.morph_base.specs.Plans.{IsPlan};
+ghost use Rattle.morph_base.specs.Transactions.{IsBatch, BatchKeysIn};
+ghost use Rattle.morph_engine.specs.Accounts.{Account};
+ghost use Rattle.morph_io.specs.Told.{HasRisen};
+ghost use Rattle.run_text.specs.Counts.{HasRoom};
+ghost use Rattle.run_text.specs.Settings.{AreInRange};
+ghost use Rattle.morph_cli.specs.Batches.{IsShown, TakesBatch};
+ghost use Rattle.morph_cli.specs.Outputs.{has_notes, outputs_of};
+ghost use Rattle.morph_cli.specs.Tallies.{IsSound};
+
+use crate::fault::Fault;
+use crate::job::Job;
+use crate::progress::Progress;
+use crate::tell::tell_counted;
+use crate::watching::{publish, run_watched};
+use event_reader::EventApp;
+use morph_base::Batch;
+use morph_io::Sink;
+use run_text::Tally;
+use std::sync::Wait;
+use std::thread::Threads;
+use worker_gate::Gate;
+
+/// Runs a batch, tells and counts it, and publishes it where the balances are watched.
+pub fn take_batch<R: Threads + Wait + Sync, A: EventApp, K: Sink, N: Sink, G: Gate>(
+    job: &Job<'_, A, R, G>,
+    progress: &mut Progress<A>,
+    batch: Batch,
+    sink: &mut K,
+    notes: &mut N,
+    tally: &mut Tally,
+) -> Result<(), Fault>
+    requires settings { AreInRange job.now.settings }
+    requires batch { IsBatch batch }
+    requires keys { BatchKeysIn progress.old.engine.layout batch }
+    requires empty { progress.old.out ≡ [] }
+    requires room { (a : Account) → IsPlan a.plan → IsSound job.now.settings.workers a
+        → HasRoom tally.old a }
+    requires few { tally.old.batches + 1 < 2 ^ 64 }
+    requires shown { IfSome progress.old.watching (IsShown progress.old.engine.layout
+        tally.old.batches (contents progress.old.engine)) }
+    requires watch { IsSome progress.old.watching → IsTrue job.now.settings.watch }
+    ensures takes { TakesBatch result job.now.settings progress.old.last
+        progress.old.engine progress.new.engine progress.old.watching progress.new.watching
+        batch tally.old tally.new progress.new.last
+        (outputs_of (K.written sink.old) (N.written notes.old))
+        (outputs_of (K.written sink.new) (N.written notes.new)) }
+    ensures reader { progress.new.reader ≡ progress.old.reader }
+    ensures layout { progress.new.engine.layout ≡ progress.old.engine.layout }
+    ensures empty { OnOk result (progress.new.out ≡ []) }
+    ensures sink_faults { K.faults sink.old ≤ K.faults sink.new }
+    ensures notes_faults { N.faults notes.old ≤ N.faults notes.new }
+    ensures cause { IsErrOf result Fault.Write → HasRisen (K.faults sink.old) (K.faults sink.new)
+        ⊎ (IsTrue (has_notes job.now.settings)
+        × HasRisen (N.faults notes.old) (N.faults notes.new)) }
+{
+    let (host, settings) = (job.host, &job.settings);
+    let last = progress.last;
+    let watching = &mut progress.watching;
+    let engine = &mut progress.engine;
+    let ran = run_watched(host, watching, engine, &batch, settings, last)?;
+    progress.last = tell_counted(&mut progress.out, sink, notes, settings, tally, &ran)?;
+    publish(host.rt, host.alloc, &mut progress.watching, &ran.end)?;
+    Ok(())
+}

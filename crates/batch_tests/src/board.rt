@@ -222,7 +222,7 @@ fn a_failure_is_spread(rt: HostRuntime) -> Result<(), Fail> {
         state: OpState::Spread,
         by: 0,
     };
-    assert_eq!(rt; spread.pack(), 90_159_953_477_732);
+    assert_eq!(rt; spread.pack(), 1_442_559_255_642_212);
     let twice = (Spreaded::Done, Spreaded::Not { word: spread });
     assert_eq!(rt; withdraw(&board, &mut root, &plan), Some(twice));
     let open = Rolled::Not {

@@ -62,7 +62,7 @@ fn a_deposit_is_settled(rt: HostRuntime) -> Result<(), Fail> {
         state: OpState::Settled,
         by: 1,
     };
-    assert_eq!(rt; word.pack(), 388_127_604_605_028);
+    assert_eq!(rt; word.pack(), 6_210_041_673_678_948);
     let not = SettleAnswer::Not { at: 0, word };
     assert_eq!(rt;
         settle(&board, &mut root, &plan, 0),

@@ -30,8 +30,8 @@ numbered-none : (n : ℕ) → AreNumbered n []
 unfolding AreNumbered
 numbered-none n = tt
 
-module _ {App : Type 0} (event_of : App → ℕ → Meaning) (layout : Layout) where
-  pub ahead_nothing : (a : Stand App) (before : List Sent) (n : ℕ) → PlansAhead event_of layout a before n None a before n
+module _ {App : Type 0} (event_of : App → ℕ → Meaning) (layout : Layout) (high : ℕ) where
+  pub ahead_nothing : (a : Stand App) (before : List Sent) (n : ℕ) → PlansAhead event_of layout high a before n None a before n
   ahead_nothing a before n = record {
     more = [];
     sent_is = sym (append-nil before);
@@ -41,19 +41,19 @@ module _ {App : Type 0} (event_of : App → ℕ → Meaning) (layout : Layout) w
     number_is = omega arith;
   }
 
-  pub ahead_more : {a b c : Stand App} {before middle after : List Sent} {n m k : ℕ} (x : Sent) → PlansAhead event_of layout a before n None b middle m →
-      Plans event_of b (x.plan ∷ []) None c → IsReady layout x.plan → after ≡ middle ++ x ∷ [] → x.number ≡ m + 1 → k ≡ m + 1 → PlansAhead event_of layout a before n None c after k
+  pub ahead_more : {a b c : Stand App} {before middle after : List Sent} {n m k : ℕ} (x : Sent) → PlansAhead event_of layout high a before n None b middle m →
+      Plans event_of b (x.plan ∷ []) None c → IsReady layout high x.plan → after ≡ middle ++ x ∷ [] → x.number ≡ m + 1 → k ≡ m + 1 → PlansAhead event_of layout high a before n None c after k
   ahead_more {a} {b} {c} {before} {middle} {after} {n} {m} {k} x p q ready is number next = record {
     more = p.more ++ x ∷ [];
     sent_is = is ∙ ap (λ l. l ++ x ∷ []) p.sent_is ∙ append_assoc before p.more (x ∷ []);
     plans = subst (λ (l : List Plan). Plans event_of a l None c) (sym (map-append (λ (y : Sent). y.plan) p.more (x ∷ []))) (plans_both event_of (plans_of p.more) (x.plan ∷ []) p.plans q);
-    ready = All-push (λ (y : Sent). IsReady layout y.plan) p.more x p.ready ready;
+    ready = All-push (λ (y : Sent). IsReady layout high y.plan) p.more x p.ready ready;
     numbered = numbered-append n p.more (x ∷ []) p.numbered (numbered-one (n + length p.more) x (number ∙ ap (λ i. i + 1) p.number_is));
     number_is = let l = length-append p.more (x ∷ []) in let i = p.number_is in omega (arith, l, i, next);
   }
 
-  pub ahead_stop : {a b c : Stand App} {before after : List Sent} {n m : ℕ} (tail : Tail) → PlansAhead event_of layout a before n None b after m → Stops event_of tail b c →
-      PlansAhead event_of layout a before n (Some tail) c after m
+  pub ahead_stop : {a b c : Stand App} {before after : List Sent} {n m : ℕ} (tail : Tail) → PlansAhead event_of layout high a before n None b after m → Stops event_of tail b c →
+      PlansAhead event_of layout high a before n (Some tail) c after m
   ahead_stop {a} {b} {c} tail p stops = record {
     more = p.more;
     sent_is = p.sent_is;

@@ -4,3 +4,4 @@ pub mod Ahead
 pub mod Rounds
 pub mod Verdicts
 pub mod Courses
+pub mod Bounds

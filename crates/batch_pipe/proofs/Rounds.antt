@@ -2,7 +2,7 @@
 use Rattle.std.proofs.Common.{◌≡◌, ◌⊎◌, inl, inr, ℕ, zero, suc, ◌+◌, ◌*◌, ◌-◌, ◌<◌, ◌≤◌, Bool, true, false, List, [], ◌∷◌, ◌++◌, length, take, map, Option, Some, None, Result, Ok, Err, refl, ap, sym, subst, ◌∙◌, arith, append-nil, append_assoc}
 use Rattle.std.specs.Prelude.{All, IsSome, IfSome, IfNone, IsTrue, ◌≢◌, ◌↔◌, is_some, not}
 use Rattle.std.proofs.lemmas.List.{length-append, map-append, append_cancel_left}
-use Rattle.std.proofs.lemmas.List.Elements.{All-tail}
+use Rattle.std.proofs.lemmas.List.Elements.{All-nil, All-cons, All-head, All-tail}
 use Rattle.morph_base.specs.declared.key.Layout.{Layout}
 use Rattle.std.specs.Prelude.{sum_by}
 use Rattle.std.proofs.Math.ListN.{length-map}
@@ -74,10 +74,10 @@ module _ {App : Type 0} (event_of : App → ℕ → Meaning) (layout : Layout) (
       (after ∙ sent ∙ ap (λ l. l ++ more) (sym before ∙ ap (λ l. received0 ++ l) known ∙ sym (append_assoc received0 popped known1) ∙ ap (λ l. l ++ known1) (sym received))
       ∙ append_assoc received1 known1 more)
 
-  pub round_is : {a b : PipeView App} {left left1 left2 : Option (List ℕ)} {r1 : ReaderView App} {n1 next : ℕ} {stop : Option Tail} {all : Bool}
+  pub round_is : {high high' : ℕ} {a b : PipeView App} {left left1 left2 : Option (List ℕ)} {r1 : ReaderView App} {n1 next : ℕ} {stop : Option Tail} {all : Bool}
       {sent0 sent1 received0 received1 known1 : List Sent} {places0 places1 : List (Option Ran)} (free : ℕ) (first : Option Sent) →
-      PlansAhead event_of layout (stand a.reader left) [] a.sent None (stand r1 left1) (one_or_none first) n1 →
-      PlansAhead event_of layout (stand r1 left1) sent0 n1 stop (stand b.reader left2) sent1 b.sent →
+      PlansAhead event_of layout high (stand a.reader left) [] a.sent None (stand r1 left1) (one_or_none first) n1 →
+      PlansAhead event_of layout high' (stand r1 left1) sent0 n1 stop (stand b.reader left2) sent1 b.sent →
       RunsWaiting m (desk_at a places0 0) (one_or_none first) a.waiting all (desk_at b places1 next) received0 received1 known1 →
       somes places0 ≡ [] → b.rans ≡ somes places1 → received0 ++ a.waiting ≡ sent0 → received1 ++ b.waiting ≡ sent1 →
       AreNumbered (number_before a) a.waiting → length a.waiting ≤ a.sent → a.ahead ≤ free + length a.waiting → length (one_or_none first) ≡ 1 - length a.waiting →
@@ -187,6 +187,10 @@ module _ {App : Type 0} (event_of : App → ℕ → Meaning) (layout : Layout) (
       (subst (λ n. AreNumbered n b.waiting) at back, omega (arith, l0, l1, l2, q.sent_is, few))
 
 -- of what holds of all, the part at the back
+pub all_front : {T : Type 0} (P : T → Type 0) (xs ys : List T) → All P (xs ++ ys) → All P xs
+all_front P [] ys h = All-nil P
+all_front P (x ∷ xs) ys h = All-cons P x xs (All-head P x (xs ++ ys) h) (all_front P xs ys (All-tail P x (xs ++ ys) h))
+
 pub all_back : {T : Type 0} (P : T → Type 0) (xs ys : List T) → All P (xs ++ ys) → All P ys
 all_back P [] ys h = h
 all_back P (x ∷ xs) ys h = all_back P xs ys (All-tail P x (xs ++ ys) h)

@@ -1,9 +1,10 @@
 -- Plans that are made of the batches that a reader gives.
 use Rattle.std.specs.Prelude.{false, ◌≡◌, ℕ, ◌+◌, ◌≤◌, List, [], ◌∷◌, ◌++◌, length, map, All, Option, Some, None, Result, Ok, Err, IsTrue}
 use Rattle.morph_base.specs.declared.key.Layout.{Layout}
+use Rattle.morph_base.specs.declared.limits.TheConstants.{FIRST_MAX}
 use Rattle.morph_base.specs.declared.plan.Plan.{Plan}
 use Rattle.morph_base.specs.Transactions.{Transaction, by_time}
-use Rattle.morph_base.specs.Plans.{PlanKeysIn, transactions}
+use Rattle.morph_base.specs.Plans.{PlanKeysIn, high_of, transactions}
 use Rattle.morph_base.specs.Graphs.{IsValidPlan}
 use Rattle.event_reader.specs.Steps.{Meaning}
 use Rattle.event_reader.specs.declared.answers.Next.{Next}
@@ -25,10 +26,11 @@ answer_of (Refused line cause) = Ok (RefusedLine line cause)
 answer_of (Fault fault) = Err fault
 answer_of RunMemory = Err OutOfMemory
 
--- a plan that can be run on a state of the layout once its bases are filled in
-pub record IsReady (layout : Layout) (p : Plan) : Type 0 where
+-- a plan that can be run on a state of the layout with no value above its own greatest one, once its bases are filled in
+pub record IsReady (layout : Layout) (high : ℕ) (p : Plan) : Type 0 where
   pub valid : IsValidPlan p
   pub keys : PlanKeysIn p layout
+  pub high_is : high_of p ≡ high
 
 -- plans of these batches, in order
 abbrev pub ArePlansOf : List (List Transaction) → List Plan → Type 0
@@ -67,18 +69,18 @@ module _ {App : Type 0} (event_of : App → ℕ → Meaning) where
     pub stops : MayStop tail middle b
 
   -- and they were sent behind those that were sent before, numbered on
-  pub record PlansAhead (layout : Layout) (a : Stand App) (before : List Sent) (number : ℕ) (tail : Option Tail) (b : Stand App) (after : List Sent) (number' : ℕ) : Type 0 where
+  pub record PlansAhead (layout : Layout) (high : ℕ) (a : Stand App) (before : List Sent) (number : ℕ) (tail : Option Tail) (b : Stand App) (after : List Sent) (number' : ℕ) : Type 0 where
     pub more : List Sent
     pub sent_is : after ≡ before ++ more
     pub plans : Plans a (plans_of more) tail b
-    pub ready : All (λ (x : Sent). IsReady layout x.plan) more
+    pub ready : All (λ (x : Sent). IsReady layout high x.plan) more
     pub numbered : AreNumbered number more
     pub number_is : number' ≡ number + length more
 
   -- a planner read and planned so far, and sent what it planned over its ring; then it met the tail, if there is one
   abbrev pub HasPlanned : (table_count : App → ℕ) → Planner App → Option (List ℕ) → Option Tail → Planner App → Option (List ℕ) → Type 0
   HasPlanned table_count a left tail b left' =
-      PlansAhead (layout_by table_count a.reader) (stand a.reader left) (sent a.ring) a.sent tail (stand b.reader left') (sent b.ring) b.sent
+      PlansAhead (layout_by table_count a.reader) FIRST_MAX (stand a.reader left) (sent a.ring) a.sent tail (stand b.reader left') (sent b.ring) b.sent
 
 -- a planner may go on, for which each number of a plan is at most that of a line
 pub record CanPlan {App : Type 0} (p : Planner App) : Type 0 where

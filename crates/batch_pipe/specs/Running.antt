@@ -2,10 +2,10 @@
 use Rattle.std.specs.Prelude.{◌≡◌, ℕ, ◌+◌, ◌<◌, ◌≤◌, Bool, true, false, if◌then◌else◌, List, [], ◌∷◌, ◌++◌, length, drop, All, Option, Some, None}
 use Rattle.morph_base.specs.declared.plan.Plan.{Plan}
 use Rattle.morph_base.specs.declared.strategy.Strategy.{Strategy}
-use Rattle.morph_base.specs.Flat.{contents}
-use Rattle.morph_base.specs.States.{State, after_all}
+use Rattle.morph_base.specs.Flat.{Kept, contents}
+use Rattle.morph_base.specs.States.{State, IsUpTo, after_all}
 use Rattle.morph_base.specs.Outcomes.{fates}
-use Rattle.morph_base.specs.Plans.{HasBases, IsSettledOf, transactions}
+use Rattle.morph_base.specs.Plans.{HasBases, IsSettledOf, PlanKeysIn, high_of, transactions}
 use Rattle.morph_base.specs.Graphs.{IsValidPlan}
 use Rattle.morph_engine.specs.Accounts.{IsAccount, account_of}
 use Rattle.morph_engine.specs.Ends.{IsEnd}
@@ -116,10 +116,19 @@ pub record RunsWaiting (m : Manner) (a : Desk) (first known : List Sent) (all : 
   pub whole : all ≡ true → (lost ≡ []) × (known' ≡ [])
   pub refused : all ≡ false → length lost ≡ 1
 
--- a runner may run what waits: no place is taken, and there is one for each plan
+-- a plan that an engine can run once its bases are filled in
+pub record IsRunnable (engine : Kept) (p : Plan) : Type 0 where
+  pub valid : IsValidPlan p
+  pub keys : PlanKeysIn p engine.layout
+  pub small : IsUpTo (high_of p) (contents engine)
+
+-- a runner may run what waits: its plans have one greatest value, which no value of the state is above; no place is taken, and there is
+-- one for each plan
 pub record CanRun (first : List Sent) (r : Runner) : Type 0 where
-  pub first_ready : All (λ (x : Sent). IsReady r.engine.layout x.plan) first
-  pub ready : All (λ (x : Sent). IsReady r.engine.layout x.plan) (known_items r.ring)
+  pub high : ℕ
+  pub small : IsUpTo high (contents r.engine)
+  pub first_ready : All (λ (x : Sent). IsReady r.engine.layout high x.plan) first
+  pub ready : All (λ (x : Sent). IsReady r.engine.layout high x.plan) (known_items r.ring)
   pub empty : somes r.rans.items ≡ []
   pub some : 1 ≤ length r.rans.items
   pub few : length r.rans.items ≤ 2

@@ -1,4 +1,5 @@
 ghost use Rattle.std.specs.Prelude.{◌≡◌, ◌≢◌, ℕ, ◌+◌, ◌<◌, ◌≤◌, [], ◌∷◌, length, false, None, Some, Ok, IfOk, IfErr, IfNone, IfSome, IsErrOf, IsTrue};
+ghost use Rattle.morph_base.specs.declared.limits.TheConstants.{FIRST_MAX};
 ghost use Rattle.morph_io.specs.Told.{HasRisen};
 ghost use Rattle.event_reader.specs.Limits.{input_bytes};
 ghost use Rattle.event_reader.specs.declared.fault.ReaderFault.TheVariants.{ReadFault};
@@ -34,7 +35,7 @@ fn read_plan<A: EventApp, S: Source>(
     requires live { IsTrue reader.old.live }
     ensures plan { IfOk result (λ plan. Plans A.event_of
         (stand reader.old (S.left source.old)) (plan ∷ []) None (stand reader.new (S.left source.new))) }
-    ensures ready { IfOk result (IsReady (layout_by A.table_count reader.old)) }
+    ensures ready { IfOk result (IsReady (layout_by A.table_count reader.old) FIRST_MAX) }
     ensures live { IfOk result (λ plan. IsTrue reader.new.live) }
     ensures counted { IfOk result (λ plan. reader.old.lines.number < reader.new.lines.number) }
     ensures tail { IfErr result (λ tail. Stops A.event_of tail
@@ -68,7 +69,7 @@ pub(crate) fn read_first<A: EventApp, S: Source>(
 ) -> Result<Option<Sent>, Tail>
     requires able { IsTrue asked → CanPlan planner.old }
     ensures plans { IfOk result (λ first. PlansAhead A.event_of
-        (layout_by A.table_count planner.old.reader)
+        (layout_by A.table_count planner.old.reader) FIRST_MAX
         (stand planner.old.reader (S.left source.old)) [] planner.old.sent
         None (stand planner.new.reader (S.left source.new)) (one_or_none first) planner.new.sent) }
     ensures stops { IfErr result (λ tail. Stops A.event_of tail

@@ -4,8 +4,8 @@ ghost use Rattle.morph_base.specs.Flat.{contents};
 ghost use Rattle.morph_base.specs.States.{after_all};
 ghost use Rattle.morph_base.specs.Plans.{IsPlan, IsSettledOf, transactions};
 ghost use Rattle.morph_engine.specs.Fates.{settled_fates};
-ghost use Rattle.batch_pipe.specs.Planning.{IsReady};
-ghost use Rattle.batch_pipe.specs.Running.{IsRun, Runs, HasRun, HasPlace, CanRun, IsRefused, came_of, desk, manner, one_or_none};
+ghost use Rattle.batch_pipe.specs.Running.{IsRun, Runs, HasRun, HasPlace, IsRunnable};
+ghost use Rattle.batch_pipe.specs.Running.{CanRun, IsRefused, came_of, desk, manner, one_or_none};
 ghost use Rattle.decision_model.specs.Choices.{last_of};
 
 use crate::items::{Picker, Ran, Sent};
@@ -64,7 +64,7 @@ fn run_one<R: Threads + Sync, G: Gate>(
     last: &mut Last,
     sent: Sent,
 ) -> Result<Ran, OutOfMemory>
-    requires ready { IsReady engine.old.layout sent.plan }
+    requires ready { IsRunnable engine.old sent.plan }
     requires some { 1 ≤ host.now.workers }
     requires few { host.now.workers ≤ most_workers }
     ensures run { IfOk result (IsRun (manner host.now.pick host.now.workers)
@@ -95,7 +95,7 @@ fn run_into<R: Threads + Sync, G: Gate>(
     place: &mut usize,
     sent: Sent,
 ) -> bool
-    requires ready { IsReady runner.old.engine.layout sent.plan }
+    requires ready { IsRunnable runner.old.engine sent.plan }
     requires place { HasPlace runner.old place.old }
     requires some { 1 ≤ host.now.workers }
     requires few { host.now.workers ≤ most_workers }
@@ -122,7 +122,7 @@ fn run_first<R: Threads + Sync, G: Gate>(
     place: &mut usize,
     first: Option<Sent>,
 ) -> bool
-    requires ready { IfSome first (λ sent. IsReady runner.old.engine.layout sent.plan) }
+    requires ready { IfSome first (λ sent. IsRunnable runner.old.engine sent.plan) }
     requires place { HasPlace runner.old place.old }
     requires some { 1 ≤ host.now.workers }
     requires few { host.now.workers ≤ most_workers }

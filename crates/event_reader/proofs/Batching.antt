@@ -6,7 +6,8 @@ use Rattle.std.proofs.lemmas.Bool.{true≢false}
 use Rattle.std.proofs.lemmas.Bool.Decides.{nat_tests}
 use Rattle.std.proofs.lemmas.List.Elements.{All-nil}
 use Rattle.morph_base.specs.declared.key.Layout.{Layout}
-use Rattle.morph_base.specs.Transactions.{Transaction, IsTransaction, HasKeysIn}
+use Rattle.morph_base.specs.Transactions.{Transaction, IsTransaction, HasKeysIn, HasHigh}
+use Rattle.morph_base.specs.declared.limits.TheConstants.{FIRST_MAX, MAX}
 use Rattle.morph_io.specs.Told.{ahead, ahead_nil, ahead_ahead}
 use Rattle.event_reader.specs.Limits.{longest_line}
 use Rattle.event_reader.specs.declared.cause.Cause.{Cause}
@@ -237,8 +238,9 @@ reads_from m closed v left batch none = rw none (reads_nothing m closed v left)
 pub nothing_sound : (layout : Layout) (batch : List Transaction) → batch ≡ [] → IsSound layout batch
 unfolding IsDistinct
 nothing_sound layout batch none = rw none record {
-  valid = record { few = omega arith; valid = All-nil IsTransaction; times = tt };
+  valid = record { few = omega arith; valid = All-nil IsTransaction; times = tt; alike = All-nil (HasHigh MAX) };
   keys = All-nil (HasKeysIn layout);
+  limits = All-nil (HasHigh FIRST_MAX);
 }
 
 -- it has read some bytes

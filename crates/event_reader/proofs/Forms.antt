@@ -7,7 +7,7 @@ use Rattle.std.proofs.lemmas.List.{length-replicate, length-map, take_all, get_o
 use Rattle.std.proofs.lemmas.List.Elements.{All-nil, All-cons, All-head, All-tail, All-append, All-weaker, All-from_get_or}
 use Rattle.morph_base.specs.declared.key.Layout.{Layout}
 use Rattle.morph_base.proofs.ShapeLaws.{all_of}
-use Rattle.morph_base.specs.Transactions.{Transaction, IsTransaction, HasKeysIn}
+use Rattle.morph_base.specs.Transactions.{Transaction}
 use Rattle.event_reader.specs.declared.cause.Cause.{Cause}
 use Rattle.event_reader.specs.declared.cause.Cause.TheVariants.{Form as NoForm, Range as OutOfRange, Same}
 use Rattle.event_reader.specs.declared.ranges.Range.{Range}
@@ -17,7 +17,7 @@ use Rattle.event_reader.specs.Limits.{greatest_number, line_words}
 use Rattle.event_reader.specs.Numbers.{is_in, are_in, numbers_in, cut_value, AreCutNumbers}
 use Rattle.event_reader.specs.PlainLines.{plain_line}
 use Rattle.event_reader.specs.Ranges.{ids}
-use Rattle.event_reader.specs.Reader.{IsOfWords}
+use Rattle.event_reader.specs.Reader.{IsOfWords, IsEventOf}
 use Rattle.event_reader.proofs.NumberLists.{numbers_are_in, numbers_causes, numbers_are, numbers_out, are_in_at, are_in_end, in_at}
 use Rattle.event_reader.proofs.PlainLines.{IsSmall, numbers_plain, plain_event}
 
@@ -203,7 +203,7 @@ read_causes form words cause is = by_test (has_form form words) is
 -- a kind of event line is sound for a layout where each event that it says of numbers that fit is valid, with its keys in
 -- the layout, and else two keys are the same that have to differ
 pub record IsSound (layout : Layout) (kind : Kind) : Type 0 where
-  pub valid : (ns : List ℕ) (e : Transaction) → Fits kind.form ns → kind.says ns ≡ Ok e → IsTransaction e × HasKeysIn layout e
+  pub valid : (ns : List ℕ) (e : Transaction) → Fits kind.form ns → kind.says ns ≡ Ok e → IsEventOf layout e
   pub causes : (ns : List ℕ) (cause : Cause) → kind.says ns ≡ Err cause → Same ≡ cause
 
 abbrev pub AreSound : Layout → List Kind → Type 0
@@ -220,22 +220,22 @@ unless_err false t cause is = absurd (cc)
 
 -- so each event of their lines is valid, and there are no other causes than form, range and same
 said_valid : (layout : Layout) (kind : Kind) (words : List (List ℕ)) (e : Transaction) → IsSound layout kind → said_in kind words ≡ Ok e
-    → IsTransaction e × HasKeysIn layout e
+    → IsEventOf layout e
 said_valid layout kind words e sound is = by_read (numbers_by kind.form words) refl is
   where
-    by_read : (r : Result (List ℕ) Cause) → numbers_by kind.form words ≡ r → said kind.says r ≡ Ok e → IsTransaction e × HasKeysIn layout e
+    by_read : (r : Result (List ℕ) Cause) → numbers_by kind.form words ≡ r → said kind.says r ≡ Ok e → IsEventOf layout e
     by_read (Ok ns) found is = sound.valid ns e (read_fits kind.form words ns found) is
     by_read (Err cause) found is = absurd (cc)
 
 pub events_valid : (layout : Layout) (kinds : List Kind) → AreSound layout kinds → (words : List (List ℕ)) (e : Transaction) → event_by kinds words ≡ Ok e
-    → IsTransaction e × HasKeysIn layout e
+    → IsEventOf layout e
 events_valid layout [] sound words e is = absurd (cc)
 events_valid layout (kind ∷ kinds) sound words e is =
     by_letter (has_letter kind.form words) is (said_valid layout kind words e sound.0) (events_valid layout kinds sound.1 words e)
   where
     by_letter : (here : Bool) → (if here then said_in kind words else event_by kinds words) ≡ Ok e
-        → (said_in kind words ≡ Ok e → IsTransaction e × HasKeysIn layout e) → (event_by kinds words ≡ Ok e → IsTransaction e × HasKeysIn layout e)
-        → IsTransaction e × HasKeysIn layout e
+        → (said_in kind words ≡ Ok e → IsEventOf layout e) → (event_by kinds words ≡ Ok e → IsEventOf layout e)
+        → IsEventOf layout e
     by_letter true is first others = first is
     by_letter false is first others = others is
 

@@ -1,5 +1,5 @@
 -- What a line does, by its tests in their order.
-use Rattle.std.proofs.Common.{◌≡◌, ℕ, ◌+◌, ◌<◌, ◌≤◌, Bool, true, false, nat_le, if◌then◌else◌, List, [], ◌∷◌, ◌++◌, length, map, refl, sym, ◌∙◌, ap, arith, length-append, Result, Ok, Err}
+use Rattle.std.proofs.Common.{All, ◌≡◌, ℕ, ◌+◌, ◌<◌, ◌≤◌, Bool, true, false, nat_le, if◌then◌else◌, List, [], ◌∷◌, ◌++◌, length, map, refl, sym, ◌∙◌, ap, arith, length-append, Result, Ok, Err}
 use Rattle.std.specs.Prelude.{nat_lt, nat_eq, ◌==◌, ◌||◌}
 use Rattle.std.specs.List.{IsDistinct, AllByRecursion}
 use Rattle.std.proofs.lemmas.Bool.Decides.{nat_tests}
@@ -7,9 +7,11 @@ use Rattle.std.proofs.lemmas.List.{map_push}
 use Rattle.std.proofs.lemmas.List.Elements.{All-push}
 use Rattle.std.proofs.lemmas.List.Sorted.{IsPermutation-to_front, IsPermutation-sym}
 use Rattle.std.proofs.lemmas.Map.Keys.{IsDistinct-cons, IsDistinct-IsPermutation}
-use Rattle.morph_base.specs.declared.limits.TheConstants.{EVENTS}
+use Rattle.morph_base.specs.declared.limits.TheConstants.{FIRST_MAX, EVENTS}
 use Rattle.morph_base.specs.declared.key.Layout.{Layout}
-use Rattle.morph_base.specs.Transactions.{Transaction, time, IsTransaction, HasKeysIn}
+use Rattle.morph_base.specs.Transactions.{Transaction, time, IsTransaction, HasKeysIn, HasHigh}
+use Rattle.morph_base.proofs.BoundLaws.{alike_all}
+use Rattle.event_reader.specs.Reader.{IsEventOf}
 use Rattle.event_reader.specs.Limits.{longest_line}
 use Rattle.event_reader.specs.declared.cause.Cause.{Cause}
 use Rattle.event_reader.specs.declared.cause.Cause.TheVariants.{Late, Twice, Full}
@@ -105,17 +107,21 @@ distinct_more batch e fresh distinct =
 
 -- a batch with one event more stays sound
 pub sound_more : (layout : Layout) (closed : ℕ) (batch : List Transaction) (e : Transaction) (batch' : List Transaction) → IsSound layout batch
-    → IsTransaction e → HasKeysIn layout e → joining closed batch e ≡ Adds e → batch' ≡ batch ++ e ∷ [] → IsSound layout batch'
-sound_more layout closed batch e batch' h valid keys joins more =
+    → IsEventOf layout e → joining closed batch e ≡ Adds e → batch' ≡ batch ++ e ∷ [] → IsSound layout batch'
+sound_more layout closed batch e batch' h event joins more =
     let when = joins_when e (nat_le e.ts closed) (has_time batch e.ts) (nat_le EVENTS (length batch)) joins in
     let few : length batch < EVENTS = grind (arith, nat_tests, when.1) in
+    let valid : All IsTransaction (batch ++ e ∷ []) = All-push IsTransaction batch e h.valid.valid event.0 in
+    let limits : All (HasHigh FIRST_MAX) (batch ++ e ∷ []) = All-push (HasHigh FIRST_MAX) batch e h.limits event.2 in
     rw more record {
       valid = record {
         few = omega (arith, length-append batch (e ∷ []));
-        valid = All-push IsTransaction batch e h.valid.valid valid;
+        valid = valid;
         times = distinct_more batch e when.0 h.valid.times;
+        alike = alike_all FIRST_MAX (batch ++ e ∷ []) valid limits;
       };
-      keys = All-push (HasKeysIn layout) batch e h.keys keys;
+      keys = All-push (HasKeysIn layout) batch e h.keys event.1;
+      limits = limits;
     }
 
 -- a list that is not empty has an item

@@ -11,7 +11,8 @@ use Rattle.std.proofs.lemmas.Str.Parse.{digit_at}
 use Rattle.std.specs.Char.{is_ascii_digit}
 use Rattle.morph_base.specs.declared.operation.Func.TheVariants.{Add}
 use Rattle.morph_base.specs.Operations.{IsShaped, InLayout, reads}
-use Rattle.morph_base.specs.Transactions.{Transaction, IsTransaction, HasKeysIn}
+use Rattle.morph_base.specs.Transactions.{Transaction}
+use Rattle.morph_base.specs.declared.limits.TheConstants.{FIRST_MAX}
 use Rattle.morph_base.proofs.ShapeLaws.{all_of, op_of-shaped}
 use Rattle.event_reader.specs.Limits.{greatest_number, generated_events}
 use Rattle.event_reader.specs.declared.cause.Cause.{Cause}
@@ -22,7 +23,7 @@ use Rattle.event_reader.specs.Generated.{IsEventLine}
 use Rattle.event_reader.specs.Numbers.{is_number, value_of, number_of}
 use Rattle.event_reader.specs.Words.{is_space, is_word, parts_of, words_of}
 use Rattle.event_reader.specs.Steps.{said_by, is_ignored, is_punctuation}
-use Rattle.event_reader.specs.Reader.{IsOfWords}
+use Rattle.event_reader.specs.Reader.{IsOfWords, IsEventOf}
 use Rattle.event_reader.specs.Counter.{count_at, count_by, count_event, count_drawn}
 
 -- a number that a word says is not too great
@@ -38,7 +39,7 @@ says_small word ts is = by_tests (is_number word) (nat_le (value_of word) greate
         omega (arith, same, bound)
 
 count_is_valid : (size ts : ℕ) → 0 < ts → ts ≤ greatest_number → 0 < size
-    → IsTransaction (count_at ts) × HasKeysIn (record { tables = 1; size = size }) (count_at ts)
+    → IsEventOf (record { tables = 1; size = size }) (count_at ts)
 unfolding IsDistinct
 count_is_valid size ts start end some = (
   record {
@@ -53,29 +54,30 @@ count_is_valid size ts start end some = (
     all_of (InLayout (record { tables = 1; size = size })) (record { table = 0; id = 0 } ∷ []) (record { table = omega arith; id = some }, tt),
     tt,
   ),
+  all_of (λ op. op.high ≡ FIRST_MAX) (count_at ts).ops (refl, tt),
 )
 
 -- every event is valid
 pub count_valid : (size : ℕ) (words : List (List ℕ)) (e : Transaction) → count_event size words ≡ Ok e
-    → IsTransaction e × HasKeysIn (record { tables = 1; size = size }) e
+    → IsEventOf (record { tables = 1; size = size }) e
 count_valid size words e is = by_count (length words == 2) (length words == 1) is
   where
     by_test : (ts : ℕ) (t : Bool) → (ts == 0 || size == 0) ≡ t → ts ≤ greatest_number → (if t then Err Range else Ok (count_at ts)) ≡ Ok e
-        → IsTransaction e × HasKeysIn (record { tables = 1; size = size }) e
+        → IsEventOf (record { tables = 1; size = size }) e
     by_test ts true is small said = absurd (cc)
     by_test ts false is small said =
         let same : count_at ts ≡ e = cc in
-        subst (λ f. IsTransaction f × HasKeysIn (record { tables = 1; size = size }) f) same
+        subst (λ f. IsEventOf (record { tables = 1; size = size }) f) same
         (count_is_valid size ts (grind (arith, nat_tests, is)) small (grind (arith, nat_tests, is)))
 
     by_number : (n : Number) → number_of (slice_index_or words 0 []) ≡ n → count_by size n ≡ Ok e
-        → IsTransaction e × HasKeysIn (record { tables = 1; size = size }) e
+        → IsEventOf (record { tables = 1; size = size }) e
     by_number NotNumber is said = absurd (cc)
     by_number TooGreat is said = absurd (cc)
     by_number (Value ts) is said = by_test ts (ts == 0 || size == 0) refl (says_small (slice_index_or words 0 []) ts is) said
 
     by_count : (two one : Bool) → (if two then Err Same else (if one then count_by size (number_of (slice_index_or words 0 [])) else Err Form)) ≡ Ok e
-        → IsTransaction e × HasKeysIn (record { tables = 1; size = size }) e
+        → IsEventOf (record { tables = 1; size = size }) e
     by_count true one said = absurd (cc)
     by_count false false said = absurd (cc)
     by_count false true said = by_number (number_of (slice_index_or words 0 [])) refl said

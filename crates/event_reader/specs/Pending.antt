@@ -2,7 +2,8 @@
 use Rattle.std.specs.Prelude.{◌≡◌, ℕ, ◌+◌, ◌<◌, ◌≤◌, List, [], ◌∷◌, ◌++◌, length, map, Option, Some, None}
 use Rattle.std.specs.List.{All}
 use Rattle.morph_base.specs.declared.key.Layout.{Layout}
-use Rattle.morph_base.specs.Transactions.{Transaction, IsBatchOf, HasKeysIn, transaction_of}
+use Rattle.morph_base.specs.declared.limits.TheConstants.{FIRST_MAX}
+use Rattle.morph_base.specs.Transactions.{Transaction, IsBatchOf, HasKeysIn, HasHigh, transaction_of}
 use Rattle.event_reader.specs.declared.cause.Cause.{Cause}
 use Rattle.event_reader.specs.declared.pending.Pending.{Pending}
 use Rattle.event_reader.specs.declared.pending.LineEffect.{LineEffect}
@@ -21,10 +22,11 @@ pub record Notes (closed : ℕ) (pending : Pending) : Type 0 where
   pub times : (t : ℕ) → is_among pending.times t ≡ has_time (batch_of pending) t
   pub latest : pending.latest ≡ latest_with (batch_of pending) closed
 
--- events that are a valid batch, with their keys in the layout
+-- events that are a valid batch, with their keys in the layout, and with the greatest value of version 1
 pub record IsSound (layout : Layout) (batch : List Transaction) : Type 0 where
   pub valid : IsBatchOf batch
   pub keys : All (HasKeysIn layout) batch
+  pub limits : All (HasHigh FIRST_MAX) batch
 
 -- one event more
 pub record HasMore (closed : ℕ) (old : Pending) (e : Transaction) (new : Pending) : Type 0 where

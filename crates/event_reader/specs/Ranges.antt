@@ -1,6 +1,6 @@
 -- The ranges of the numbers that the lines of several applications have.
 use Rattle.std.specs.Prelude.{ℕ, ◌-◌}
-use Rattle.morph_base.specs.declared.limits.TheConstants.{MAX}
+use Rattle.morph_base.specs.declared.limits.TheConstants.{FIRST_MAX}
 use Rattle.morph_base.specs.Limits.{latest_time}
 use Rattle.event_reader.specs.declared.ranges.Range.{Range}
 
@@ -9,7 +9,7 @@ abbrev pub times : Range
 times = record { least = 1; greatest = latest_time }
 
 abbrev pub amounts : Range
-amounts = record { least = 0; greatest = MAX }
+amounts = record { least = 0; greatest = FIRST_MAX }
 
 -- an id where each table has `size` of them. Where it has none, 1 - 0 is above 0 - 1, which is 0, and no number is one
 abbrev pub ids : (size : ℕ) → Range

@@ -1,7 +1,8 @@
 -- What contracts see of a reader, and what its answers say.
-use Rattle.std.specs.Prelude.{◌≡◌, ℕ, ◌+◌, ◌-◌, ◌<◌, ◌≤◌, Bool, true, false, if◌then◌else◌, List, [], ◌++◌, length, Option, option_map, IfSome, Result, Ok, Err}
+use Rattle.std.specs.Prelude.{All, ◌≡◌, ℕ, ◌+◌, ◌-◌, ◌<◌, ◌≤◌, Bool, true, false, if◌then◌else◌, List, [], ◌++◌, length, Option, option_map, IfSome, Result, Ok, Err}
 use Rattle.morph_base.specs.declared.key.Layout.{Layout}
-use Rattle.morph_base.specs.Transactions.{Transaction, IsTransaction, HasKeysIn, IsBatch, BatchKeysIn, transactions_of, transaction_of}
+use Rattle.morph_base.specs.declared.limits.TheConstants.{FIRST_MAX}
+use Rattle.morph_base.specs.Transactions.{Transaction, IsTransaction, HasKeysIn, HasHigh, IsBatch, BatchKeysIn, transactions_of, transaction_of}
 use Rattle.morph_base.specs.declared.event.Event.{Event}
 use Rattle.morph_io.specs.Told.{ahead}
 use Rattle.event_reader.specs.Limits.{longest_line}
@@ -32,11 +33,15 @@ IsOfWords Range = Unit {0}
 IsOfWords Same = Unit {0}
 IsOfWords _ = ⊥
 
--- every event that an application's words say is valid, and has its keys in the application's tables
+-- an event of version 1: valid, with its keys in the layout, and with the greatest value of that version
+abbrev pub IsEventOf : Layout → Transaction → Type 0
+IsEventOf layout e = IsTransaction e × HasKeysIn layout e × HasHigh FIRST_MAX e
+
+-- every event that an application's words say is one of its tables
 abbrev pub GivesValid : {App : Type 0} → (table_count : App → ℕ) → (App → ℕ → Meaning) → Type 0
 GivesValid {App} table_count event_of =
     (app : App) (size : ℕ) (words : List (List ℕ)) (e : Transaction) → event_of app size words ≡ Ok e
-    → IsTransaction e × HasKeysIn (record { tables = table_count app; size = size }) e
+    → IsEventOf (record { tables = table_count app; size = size }) e
 
 -- a reader of lines: the bytes that it took and gave no line of yet, the line that it gave last, how many lines it gave,
 -- how many bytes it took, the limit of these, whether the source came to its end, and whether it may be asked again
@@ -154,9 +159,9 @@ abbrev pub ShowsNext : {App : Type 0} → (App → ℕ → Meaning) → ReaderVi
 ShowsNext event_of before answer after got =
     ShowsBatch (event_of before.app before.size) before.closed before.lines answer after.closed after.lines got
 
--- a batch that is given has an event and is valid, with its keys in the layout
+-- a batch that is given has an event and is valid, with its keys in the layout, and with the greatest value of version 1
 abbrev pub IsValidNext : Layout → Next → Type 0
-IsValidNext layout (Batch batch) = (0 < length batch.events.items) × IsBatch batch × BatchKeysIn layout batch
+IsValidNext layout (Batch batch) = (0 < length batch.events.items) × IsBatch batch × BatchKeysIn layout batch × All (HasHigh FIRST_MAX) (transactions_of batch)
 IsValidNext layout _ = Unit {0}
 
 -- the number of events that an answer gives

@@ -1,7 +1,7 @@
 ghost use Rattle.std.specs.Prelude.{◌≡◌};
 ghost use Rattle.event_reader.specs.Numbers.{is_in};
 
-use morph_base::{LATEST, MAX};
+use morph_base::{FIRST_MAX, LATEST};
 
 /// The numbers that may stand in one place of a line: those from `least` to `greatest`, and none where `least` is the
 /// greater of the two.
@@ -20,7 +20,7 @@ pub const TIMES: Range = Range {
 /// The range of an amount.
 pub const AMOUNTS: Range = Range {
     least: 0,
-    greatest: MAX,
+    greatest: FIRST_MAX,
 };
 
 /// The range that no number is in.

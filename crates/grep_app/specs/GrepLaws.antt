@@ -5,18 +5,18 @@ use Rattle.std.specs.List.{All, AllByRecursion, IsDistinct, list_any}
 use Rattle.std.proofs.lemmas.Bool.{not-false}
 use Rattle.std.proofs.lemmas.List.{length-drop, length-map}
 use Rattle.std.proofs.lemmas.List.Elements.{All-nil, All-cons, All-map}
-use Rattle.morph_base.specs.declared.limits.TheConstants.{MAX, PARAMS}
+use Rattle.morph_base.specs.declared.limits.TheConstants.{FIRST_MAX, PARAMS}
 use Rattle.morph_base.specs.Limits.{latest_time}
 use Rattle.morph_base.specs.declared.key.Key.{Key}
 use Rattle.morph_base.specs.declared.key.Layout.{Layout}
 use Rattle.morph_base.specs.declared.operation.Func.TheVariants.{Keep, Sum, Set}
 use Rattle.morph_base.specs.declared.operation.Op.{Op}
 use Rattle.morph_base.specs.Operations.{IsShaped, InLayout, reads, same_key, op_of}
-use Rattle.morph_base.specs.Transactions.{Transaction, IsTransaction, HasKeysIn}
+use Rattle.morph_base.specs.Transactions.{Transaction}
 use Rattle.morph_base.proofs.ShapeLaws.{all_of, op_of-shaped, reads-op_of}
 use Rattle.event_reader.specs.declared.cause.Cause.{Cause}
 use Rattle.event_reader.specs.Ranges.{times, ids, amounts}
-use Rattle.event_reader.specs.Reader.{IsOfWords}
+use Rattle.event_reader.specs.Reader.{IsOfWords, IsEventOf}
 use Rattle.event_reader.proofs.Forms.{Fits, IsInRange, IsSound, place, count_of, rest_in, both, neither, unless_ok, unless_err, events_valid, events_causes}
 use Rattle.grep_app.specs.Grep.{cell, are_distinct, setting, setting_of, keep, gathering, gather_of, settings, sums, grep_kinds, grep_event}
 
@@ -57,8 +57,8 @@ kept_keys [] = refl
 kept_keys (cell ∷ cells) = ap (λ keys. cell ∷ keys) (kept_keys cells)
 
 -- a line that sets a cell is valid where its numbers are in range
-setting_is_valid : (size ts k v : ℕ) → 0 < ts → ts ≤ latest_time → k < size → v ≤ MAX
-    → IsTransaction (setting ts k v) × HasKeysIn (grep_layout size) (setting ts k v)
+setting_is_valid : (size ts k v : ℕ) → 0 < ts → ts ≤ latest_time → k < size → v ≤ FIRST_MAX
+    → IsEventOf (grep_layout size) (setting ts k v)
 unfolding IsDistinct
 setting_is_valid size ts k v start end inside small = (
   record {
@@ -71,12 +71,13 @@ setting_is_valid size ts k v start end inside small = (
   },
   All-cons (ReadsIn size) (op_of Set (cell k) [] v) []
       (All-cons (InLayout (grep_layout size)) (cell k) [] (cell_in size k inside) (All-nil (InLayout (grep_layout size)))) (All-nil (ReadsIn size)),
+  all_of (λ op. op.high ≡ FIRST_MAX) (setting ts k v).ops (refl, tt),
 )
 
 -- so is one that sums cells that differ
-gathering_is_valid : (size ts limit : ℕ) (target : Key) (cells : List Key) → 0 < ts → ts ≤ latest_time → limit ≤ MAX → 0 < length cells → length cells ≤ PARAMS
+gathering_is_valid : (size ts limit : ℕ) (target : Key) (cells : List Key) → 0 < ts → ts ≤ latest_time → limit ≤ FIRST_MAX → 0 < length cells → length cells ≤ PARAMS
     → InLayout (grep_layout size) target → All (InLayout (grep_layout size)) cells → are_distinct (target ∷ cells) ≡ true
-    → IsTransaction (gathering ts limit target cells) × HasKeysIn (grep_layout size) (gathering ts limit target cells)
+    → IsEventOf (grep_layout size) (gathering ts limit target cells)
 gathering_is_valid size ts limit target cells start end small some few inside all apart = (
   record {
     after_start = start;
@@ -90,6 +91,8 @@ gathering_is_valid size ts limit target cells start end small some few inside al
   All-cons (ReadsIn size) (op_of Sum target cells limit) (map keep cells) (sum_in size target cells limit inside all)
       (All-map (ReadsIn size) keep cells
       (λ k d here. All-cons (InLayout (grep_layout size)) (get_or cells k d) [] (all k d here) (All-nil (InLayout (grep_layout size))))),
+  All-cons (λ (op : Op). op.high ≡ FIRST_MAX) (op_of Sum target cells limit) (map keep cells) refl
+      (All-map (λ (op : Op). op.high ≡ FIRST_MAX) keep cells (λ k d here. refl)),
 )
 
 -- ids in range name cells of the layout
@@ -100,13 +103,13 @@ cells_in size cells inside =
 
 -- numbers in the places of a line that sets a cell
 setting_numbers : (size : ℕ) (ns : List ℕ) (e : Transaction) → Fits (settings size).form ns → setting_of ns ≡ Ok e
-    → IsTransaction e × HasKeysIn (grep_layout size) e
+    → IsEventOf (grep_layout size) e
 setting_numbers size ns e fits is =
     let ts = place (settings size).form ns 0 times fits (omega arith) refl in
     let k = place (settings size).form ns 1 (ids size) fits (omega arith) refl in
     let v = place (settings size).form ns 2 amounts fits (omega arith) refl in
     let same : setting (slice_index ns 0) (slice_index ns 1) (slice_index ns 2) ≡ e = cc in
-    subst (λ t. IsTransaction t × HasKeysIn (grep_layout size) t) same
+    subst (λ t. IsEventOf (grep_layout size) t) same
     (setting_is_valid size _ _ _ ts.0 ts.1 (omega (arith, k.0, k.1)) v.1)
 
 setting_sound : (size : ℕ) → IsSound (grep_layout size) (settings size)
@@ -117,7 +120,7 @@ setting_sound size = record {
 
 -- numbers in the places of a line that sums
 gather_numbers : (size : ℕ) (ns : List ℕ) (e : Transaction) → Fits (sums size).form ns → gather_of ns ≡ Ok e
-    → IsTransaction e × HasKeysIn (grep_layout size) e
+    → IsEventOf (grep_layout size) e
 gather_numbers size ns e fits is =
     let ts = place (sums size).form ns 0 times fits (omega arith) refl in
     let k = place (sums size).form ns 1 (ids size) fits (omega arith) refl in
@@ -125,7 +128,7 @@ gather_numbers size ns e fits is =
     let counts = count_of (sums size).form (length ns) fits.count in
     let many : length (map cell (drop 3 ns)) ≡ length ns - 3 = omega (arith, length-map (drop 3 ns) cell, length-drop 3 ns) in
     let parts = unless_ok (not (are_distinct (cell (slice_index ns 1) ∷ map cell (drop 3 ns)))) _ e is in
-    subst (λ t. IsTransaction t × HasKeysIn (grep_layout size) t) parts.1
+    subst (λ t. IsEventOf (grep_layout size) t) parts.1
     (gathering_is_valid size (slice_index ns 0) (slice_index ns 2) (cell (slice_index ns 1)) (map cell (drop 3 ns)) ts.0 ts.1 limit.1
     (omega (arith, many, counts.0)) (omega (arith, many, counts.1)) (cell_in size (slice_index ns 1) (omega (arith, k.0, k.1)))
     (cells_in size (drop 3 ns) (rest_in (sums size).form ns fits)) (not-false (are_distinct (cell (slice_index ns 1) ∷ map cell (drop 3 ns))) parts.0))
@@ -136,7 +139,7 @@ gather_sound size = record {
   causes = λ ns cause is. unless_err (not (are_distinct (cell (slice_index ns 1) ∷ map cell (drop 3 ns)))) _ cause is;
 }
 
-pub grep_is_valid : (size : ℕ) (words : List (List ℕ)) (e : Transaction) → grep_event size words ≡ Ok e → IsTransaction e × HasKeysIn (record { tables = 1; size = size }) e
+pub grep_is_valid : (size : ℕ) (words : List (List ℕ)) (e : Transaction) → grep_event size words ≡ Ok e → IsEventOf (record { tables = 1; size = size }) e
 grep_is_valid size words e is = events_valid (grep_layout size) (grep_kinds size) (setting_sound size, (gather_sound size, tt)) words e is
 
 pub grep_causes : (size : ℕ) (words : List (List ℕ)) (cause : Cause) → grep_event size words ≡ Err cause → IsOfWords cause

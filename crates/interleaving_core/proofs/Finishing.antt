@@ -1,5 +1,5 @@
 -- The end of an attempt: the operation shows what its function makes of what was fetched.
-use Rattle.std.proofs.Common.{◌≡◌, ℕ, ◌+◌, ◌<◌, ◌≤◌, true, false, List, length, get_or, refl, sym, ap, ◌∙◌, subst, inl, inr, arith, Option, Some, None, le_trans}
+use Rattle.std.proofs.Common.{◌≡◌, ℕ, ◌+◌, ◌<◌, ◌≤◌, true, false, List, length, get_or, refl, sym, ap, ◌∙◌, subst, inl, inr, arith, Option, Some, None, le_trans, le_refl}
 use Rattle.std.proofs.lemmas.Bool.{false≢true}
 use Rattle.std.proofs.lemmas.List.Elements.{All-from_get_or, Contains-push_cases}
 use Rattle.std.proofs.lemmas.Option.{same_Some}
@@ -9,7 +9,7 @@ use Rattle.morph_base.specs.declared.word.OpWord.{OpWord}
 use Rattle.morph_base.specs.Functions.{value_of}
 use Rattle.morph_base.specs.Plans.{high_of, IsPlan, op_count, op_at, origin_at}
 use Rattle.morph_base.specs.Words.{is_idle, is_settled}
-use Rattle.morph_base.proofs.BoundLaws.{value_of-within, high_of-small, high_of-all}
+use Rattle.morph_base.proofs.BoundLaws.{value_of-within, high_of-small, op_under}
 use Rattle.interleaving_core.specs.declared.entry.Record.{Record}
 use Rattle.interleaving_core.specs.declared.entry.Held.{Held}
 use Rattle.interleaving_core.specs.declared.entry.Entry.{Entry}
@@ -137,7 +137,8 @@ module _ (p : Plan) (cap : ℕ) (valid : IsPlan p) (small_cap : cap < most_attem
     word_small : w.value ≤ high_of p
     word_small =
         ended-small (high_of p) v.attempt xs (value_of (op_at p o).op xs)
-        (λ x is. value_of-within (high_of p) (op_at p o).op xs x is (valid.numbering.shaped o may.goes_from.in_range) (high_of-all p) (All-from_get_or (λ y. y ≤ high_of p) xs 0 values_small))
+        (λ x is. value_of-within (high_of p) (op_at p o).op xs x is (valid.numbering.shaped o may.goes_from.in_range) (op_under p valid (high_of p) (le_refl (high_of p)) o may.goes_from.in_range).1
+        (All-from_get_or (λ y. y ≤ high_of p) xs 0 values_small))
         (values_small 0 (let all = may.all_fetched in omega arith))
 
     -- all places were fetched in this attempt

@@ -2,17 +2,17 @@
 use Rattle.std.proofs.Common.{◌≡◌, ℕ, ◌<◌, ◌≤◌, false, ◌||◌, List, [], ◌∷◌, refl, subst, arith, Ok, Err}
 use Rattle.std.specs.Prelude.{◌==◌, slice_index}
 use Rattle.std.specs.List.{All, IsDistinct}
-use Rattle.morph_base.specs.declared.limits.TheConstants.{MAX}
+use Rattle.morph_base.specs.declared.limits.TheConstants.{FIRST_MAX}
 use Rattle.morph_base.specs.Limits.{latest_time}
 use Rattle.morph_base.specs.declared.key.Layout.{Layout}
 use Rattle.morph_base.specs.declared.operation.Func.TheVariants.{Add, Sub, MoveIn}
 use Rattle.morph_base.specs.declared.operation.Op.{Op}
 use Rattle.morph_base.specs.Operations.{IsShaped, InLayout, reads}
-use Rattle.morph_base.specs.Transactions.{Transaction, IsTransaction, HasKeysIn}
+use Rattle.morph_base.specs.Transactions.{Transaction}
 use Rattle.morph_base.proofs.ShapeLaws.{all_of, op_of-shaped}
 use Rattle.event_reader.specs.declared.cause.Cause.{Cause}
 use Rattle.event_reader.specs.Ranges.{times, ids, amounts}
-use Rattle.event_reader.specs.Reader.{IsOfWords}
+use Rattle.event_reader.specs.Reader.{IsOfWords, IsEventOf}
 use Rattle.event_reader.proofs.Forms.{Fits, IsSound, place, neither, unless_ok, unless_err, events_valid, events_causes}
 use Rattle.ledger_app.specs.Ledger.{account, asset, deposit, moving, deposit_of, transfer_of, deposits, transfers, ledger_kinds, ledger_event}
 
@@ -31,8 +31,8 @@ abbrev ReadsIn : (size : ℕ) → Op → Type 0
 ReadsIn size op = All (InLayout (ledger_layout size)) (reads op)
 
 -- a deposit is valid where its numbers are in range
-deposit_is_valid : (size ts acct ast a b : ℕ) → 0 < ts → ts ≤ latest_time → acct < size → ast < size → a ≤ MAX → b ≤ MAX
-    → IsTransaction (deposit ts acct ast a b) × HasKeysIn (ledger_layout size) (deposit ts acct ast a b)
+deposit_is_valid : (size ts acct ast a b : ℕ) → 0 < ts → ts ≤ latest_time → acct < size → ast < size → a ≤ FIRST_MAX → b ≤ FIRST_MAX
+    → IsEventOf (ledger_layout size) (deposit ts acct ast a b)
 unfolding IsDistinct
 deposit_is_valid size ts acct ast a b start end inside inside' small small' = (
   record {
@@ -50,12 +50,13 @@ deposit_is_valid size ts acct ast a b start end inside inside' small small' = (
     all_of (InLayout (ledger_layout size)) (account acct ∷ []) (account_in size acct inside, tt),
     (all_of (InLayout (ledger_layout size)) (asset ast ∷ []) (asset_in size ast inside', tt), tt),
   ),
+  all_of (λ op. op.high ≡ FIRST_MAX) (deposit ts acct ast a b).ops (refl, (refl, tt)),
 )
 
 -- so is a transfer whose accounts and assets differ
-transfer_is_valid : (size ts src dst asrc adst a b : ℕ) → 0 < ts → ts ≤ latest_time → src < size → dst < size → asrc < size → adst < size → a ≤ MAX → b ≤ MAX
+transfer_is_valid : (size ts src dst asrc adst a b : ℕ) → 0 < ts → ts ≤ latest_time → src < size → dst < size → asrc < size → adst < size → a ≤ FIRST_MAX → b ≤ FIRST_MAX
     → (src == dst) ≡ false → (asrc == adst) ≡ false
-    → IsTransaction (moving ts src dst asrc adst a b) × HasKeysIn (ledger_layout size) (moving ts src dst asrc adst a b)
+    → IsEventOf (ledger_layout size) (moving ts src dst asrc adst a b)
 unfolding IsDistinct
 transfer_is_valid size ts src dst asrc adst a b start end i1 i2 i3 i4 small small' differ differ' = (
   record {
@@ -85,11 +86,12 @@ transfer_is_valid size ts src dst asrc adst a b start end i1 i2 i3 i4 small smal
       ),
     ),
   ),
+  all_of (λ op. op.high ≡ FIRST_MAX) (moving ts src dst asrc adst a b).ops (refl, (refl, (refl, (refl, tt)))),
 )
 
 -- numbers in the places of a deposit
 deposit_numbers : (size : ℕ) (ns : List ℕ) (e : Transaction) → Fits (deposits size).form ns → deposit_of ns ≡ Ok e
-    → IsTransaction e × HasKeysIn (ledger_layout size) e
+    → IsEventOf (ledger_layout size) e
 deposit_numbers size ns e fits is =
     let ts = place (deposits size).form ns 0 times fits (omega arith) refl in
     let acct = place (deposits size).form ns 1 (ids size) fits (omega arith) refl in
@@ -97,7 +99,7 @@ deposit_numbers size ns e fits is =
     let a = place (deposits size).form ns 3 amounts fits (omega arith) refl in
     let b = place (deposits size).form ns 4 amounts fits (omega arith) refl in
     let same : deposit (slice_index ns 0) (slice_index ns 1) (slice_index ns 2) (slice_index ns 3) (slice_index ns 4) ≡ e = cc in
-    subst (λ t. IsTransaction t × HasKeysIn (ledger_layout size) t) same
+    subst (λ t. IsEventOf (ledger_layout size) t) same
     (deposit_is_valid size _ _ _ _ _ ts.0 ts.1 (omega (arith, acct.0, acct.1)) (omega (arith, ast.0, ast.1)) a.1 b.1)
 
 deposit_sound : (size : ℕ) → IsSound (ledger_layout size) (deposits size)
@@ -108,7 +110,7 @@ deposit_sound size = record {
 
 -- numbers in the places of a transfer
 transfer_numbers : (size : ℕ) (ns : List ℕ) (e : Transaction) → Fits (transfers size).form ns → transfer_of ns ≡ Ok e
-    → IsTransaction e × HasKeysIn (ledger_layout size) e
+    → IsEventOf (ledger_layout size) e
 transfer_numbers size ns e fits is =
     let parts = unless_ok (slice_index ns 1 == slice_index ns 2 || slice_index ns 3 == slice_index ns 4) _ e is in
     let differ = neither (slice_index ns 1 == slice_index ns 2) (slice_index ns 3 == slice_index ns 4) parts.0 in
@@ -119,7 +121,7 @@ transfer_numbers size ns e fits is =
     let adst = place (transfers size).form ns 4 (ids size) fits (omega arith) refl in
     let a = place (transfers size).form ns 5 amounts fits (omega arith) refl in
     let b = place (transfers size).form ns 6 amounts fits (omega arith) refl in
-    subst (λ t. IsTransaction t × HasKeysIn (ledger_layout size) t) parts.1
+    subst (λ t. IsEventOf (ledger_layout size) t) parts.1
     (transfer_is_valid size _ _ _ _ _ _ _ ts.0 ts.1 (omega (arith, src.0, src.1)) (omega (arith, dst.0, dst.1)) (omega (arith, asrc.0, asrc.1)) (omega (arith, adst.0, adst.1)) a.1 b.1 differ.0 differ.1)
 
 transfer_sound : (size : ℕ) → IsSound (ledger_layout size) (transfers size)
@@ -128,7 +130,7 @@ transfer_sound size = record {
   causes = λ ns cause is. unless_err (slice_index ns 1 == slice_index ns 2 || slice_index ns 3 == slice_index ns 4) _ cause is;
 }
 
-pub ledger_is_valid : (size : ℕ) (words : List (List ℕ)) (e : Transaction) → ledger_event size words ≡ Ok e → IsTransaction e × HasKeysIn (record { tables = 2; size = size }) e
+pub ledger_is_valid : (size : ℕ) (words : List (List ℕ)) (e : Transaction) → ledger_event size words ≡ Ok e → IsEventOf (record { tables = 2; size = size }) e
 ledger_is_valid size words e is =
     events_valid (ledger_layout size) (ledger_kinds size) (deposit_sound size, (transfer_sound size, tt)) words e is
 

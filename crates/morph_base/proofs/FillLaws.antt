@@ -120,7 +120,7 @@ module _ (s : State) (p : Plan) where
 
   high-filled : high_of (filled_plan s p) ≡ high_of p
   unfolding high_of
-  high-filled = refl
+  high-filled = ap (λ ops. (ops 0).high) op-filled
 
   source-filled : (i : ℕ) (key : Key) (origin : Origin) → IsSourceIn p i key origin → IsSourceIn (filled_plan s p) i key (fill (s key) origin)
   source-filled i key origin is = subst₃ (λ m targets events. IsSource m targets events i key (fill (s key) origin)) (sym op_count-filled) (sym target-filled) (sym event_of-filled) (in_p origin is)
@@ -158,6 +158,7 @@ module _ (s : State) (p : Plan) where
     pub filled_is_plan : IsPlan (filled_plan s p)
     filled_is_plan = record {
       numbering = numbering-filled valid.numbering;
+      alike = λ o lt. ap (λ ops. (ops o).high) op-filled ∙ valid.alike o (in_plan o lt) ∙ sym high-filled;
       places = λ o lt. length-origins-filled o ∙ valid.places o (in_plan o lt);
       unused = λ o j lt past few.
           let beyond : length (keys_of p o) ≤ j = subst (λ ks. length ks ≤ j) (keys_of-filled o) past in

@@ -1,5 +1,5 @@
 -- The transactions of a plan against its numbered operations, and the state after one more event.
-use Rattle.std.proofs.Common.{◌≡◌, ℕ, suc, ◌+◌, ◌-◌, ◌<◌, ◌≤◌, List, [], ◌∷◌, ◌++◌, length, take, drop, get_or, sym, ap, ◌∙◌, inl, inr, arith, unwrap_or, add-sub_of_le}
+use Rattle.std.proofs.Common.{◌≡◌, ℕ, suc, ◌+◌, ◌-◌, ◌<◌, ◌≤◌, List, [], ◌∷◌, ◌++◌, length, take, drop, get_or, sym, ap, ◌∙◌, subst, inl, inr, arith, unwrap_or, add-sub_of_le, All}
 use Rattle.std.proofs.Math.Seq.{take-suc, take_all}
 use Rattle.std.proofs.lemmas.List.{length-take, length-drop, length-map, get_or-map, get_or-take, get_or-drop}
 use Rattle.std.proofs.lemmas.Bool.{cases_lt}
@@ -7,6 +7,7 @@ use Rattle.morph_base.specs.declared.key.Key.{Key}
 use Rattle.morph_base.specs.declared.operation.Op.{Op}
 use Rattle.morph_base.specs.declared.plan.PlanOp.{PlanOp}
 use Rattle.morph_base.specs.declared.plan.Plan.{Plan}
+use Rattle.morph_base.specs.Transactions.{Transaction}
 use Rattle.morph_base.specs.States.{State, answer, with_answers, after, after_all}
 use Rattle.morph_base.specs.Plans.{IsPlan, event_count, op_count, event_at, op_at, event_of, target, InEvent, no_op, no_plan_op, no_event, transaction_in, transactions, transaction_at, state_at}
 use Rattle.morph_base.proofs.StateLaws.{ChangesNone, with_answers-first, after-none, after_all-nil, after_all-push}
@@ -82,6 +83,20 @@ module _ (p : Plan) (valid : IsPlan p) where
 
 pub length-transactions : (p : Plan) → length (transactions p) ≡ event_count p
 length-transactions p = length-map p.events.items (transaction_in p.ops.items)
+
+-- what holds of all operations of all transactions holds of each operation
+pub op_of_all : (P : Op → Type 0) (p : Plan) → IsPlan p → All (λ (e : Transaction). All P e.ops) (transactions p) → (o : ℕ) → o < op_count p → P (op_at p o).op
+op_of_all P p valid all o lt =
+    let i : ℕ = event_of p o in
+    let home = valid.numbering.placed o lt in
+    let from = home.1.from in
+    let below = home.1.below in
+    let inside : i < length (transactions p) = (let len = length-transactions p in let event = home.0 in omega arith) in
+    let its : All P (transaction_at p i).ops =
+    subst (λ (e : Transaction). All P e.ops) (get_or-map (transaction_in p.ops.items) p.events.items i no_event (transaction_at p i) home.0) (all i (transaction_at p i) inside) in
+    let place : ℕ = o - (event_at p i).first in
+    let within : place < length (transaction_at p i).ops = (let len = length-transaction p valid i home.0 in omega arith) in
+    subst P (op_at_place p valid i o no_op home.0 home.1) (its place no_op within)
 
 pub state_at-zero : (p : Plan) (s : State) → state_at p s 0 ≡ s
 unfolding state_at

@@ -1,4 +1,4 @@
--- Limits that the definitions own: the constants of the code are checked against them. MAX, READS, PARAMS, EVENT_OPS and EVENTS
+-- Limits that the definitions own: the constants of the code are checked against them. MAX, FIRST_MAX, READS, PARAMS, EVENT_OPS and EVENTS
 -- stand in src/limits.rt alone, one constant each for code and definitions, so that each can be raised in one place.
 use Rattle.std.specs.Prelude.{ℕ}
 

@@ -1,10 +1,9 @@
 -- A plan: what its numbers name, when it is valid, what it comes to by the fold, and what a `Settled` of it is.
 use Rattle.std.specs.Prelude.{◌≡◌, ℕ, ◌+◌, ◌≤◌, ◌<◌, Bool, List, [], ◌∷◌, length, take, drop, map, replicate, All, Option, Some, None, if◌then◌else◌, unwrap_or, slice_index, slice_index_or}
-use Rattle.morph_base.specs.declared.limits.TheConstants.{MAX, READS, PARAMS}
+use Rattle.morph_base.specs.declared.limits.TheConstants.{READS}
 use Rattle.morph_base.specs.declared.key.Key.{Key}
 use Rattle.morph_base.specs.declared.key.Layout.{Layout}
 use Rattle.morph_base.specs.declared.operation.Op.{Op}
-use Rattle.morph_base.specs.declared.operation.Func.TheVariants.{Keep}
 use Rattle.morph_base.specs.declared.event.Batch.{Batch}
 use Rattle.morph_base.specs.declared.plan.Origin.{Origin}
 use Rattle.morph_base.specs.declared.plan.Origin.TheVariants.{Base, Op as Written}
@@ -13,6 +12,7 @@ use Rattle.morph_base.specs.declared.plan.PlanEvent.{PlanEvent}
 use Rattle.morph_base.specs.declared.plan.Plan.{Plan}
 use Rattle.morph_base.specs.declared.plan.Settled.{Settled}
 use Rattle.morph_base.specs.Operations.{reads, same_key, no_key, InLayout}
+pub use Rattle.morph_base.specs.Operations.{no_op}
 use Rattle.morph_base.specs.Transactions.{Transaction, transactions_of, by_time}
 use Rattle.morph_base.specs.States.{State, after_all, commits}
 use Rattle.morph_base.specs.Limits.{most_workers}
@@ -20,9 +20,6 @@ use Rattle.morph_base.specs.Numbering.{IsNumbering, IsWithin}
 use Rattle.morph_base.specs.Sources.{IsSource, IsLastWriter, IsUnwritten}
 
 -- what stands past the end of a list
-abbrev pub no_op : Op
-no_op = record { key = no_key; params = replicate PARAMS no_key; n_params = 0; func = Keep; c = 0 }
-
 abbrev pub no_plan_op : PlanOp
 no_plan_op = record { op = no_op; event = 0; origins = replicate READS (Base 0); level = 0 }
 
@@ -53,9 +50,9 @@ module _ (p : Plan) where
   abbrev pub target : ℕ → Key
   target o = (op_at o).op.key
 
-  -- the greatest value of the plan: no value of it is above
+  -- the greatest value of the plan, which is that of its operations: no value of it is above
   unfoldable pub high_of : ℕ
-  high_of = MAX
+  high_of = (op_at 0).op.high
 
   -- the keys that it reads, and at each place the key and where the value comes from
   abbrev pub keys_of : ℕ → List Key
@@ -115,10 +112,11 @@ opening_of (q ∷ qs) key = unwrap_or (base_in (reads q.op) q.origins key) (open
 abbrev pub opening : Plan → State
 opening p = opening_of p.ops.items
 
--- a valid plan: well numbered, each place with its source, each base value the same for the same key and not above the
--- greatest value of the plan
+-- a valid plan: well numbered, its operations all with its greatest value, each place with its source, each base value the same for
+-- the same key and not above that greatest value
 pub record IsPlan (p : Plan) : Type 0 where
   pub numbering : IsNumbering (event_count p) (op_count p) (λ i. (event_at p i).ts) (λ i. (event_at p i).first) (λ i. (event_at p i).count) (event_of p) (λ o. (op_at p o).op)
+  pub alike : (o : ℕ) → o < op_count p → (op_at p o).op.high ≡ high_of p
   pub places : (o : ℕ) → o < op_count p → length (op_at p o).origins ≡ READS
   pub unused : (o j : ℕ) → o < op_count p → length (keys_of p o) ≤ j → j < READS → origin_at p o j ≡ Base 0
   pub sources : (o j : ℕ) → o < op_count p → j < length (keys_of p o) → IsSourceIn p (event_of p o) (key_at p o j) (origin_at p o j)

@@ -1,5 +1,5 @@
 -- The state, the state after an event, and the fold of a batch in timestamp order.
-use Rattle.std.specs.Prelude.{◌≡◌, ℕ, zero, suc, Bool, true, ◌&&◌, if◌then◌else◌, List, [], ◌∷◌, map, take, Option, is_some, unwrap_or}
+use Rattle.std.specs.Prelude.{◌≡◌, ◌≤◌, ℕ, zero, suc, Bool, true, ◌&&◌, if◌then◌else◌, List, [], ◌∷◌, map, take, Option, is_some, unwrap_or}
 use Rattle.morph_base.specs.declared.key.Key.{Key}
 use Rattle.morph_base.specs.declared.operation.Op.{Op}
 use Rattle.morph_base.specs.declared.event.Batch.{Batch}
@@ -10,6 +10,10 @@ use Rattle.morph_base.specs.Transactions.{Transaction, transactions_of, by_time}
 -- a value for each key; a stored state has 0 at the keys outside its layout
 abbrev pub State : Type 0
 State = Key → ℕ
+
+-- no key has a value above the bound
+abbrev pub IsUpTo : (bound : ℕ) → State → Type 0
+IsUpTo bound s = (key : Key) → s key ≤ bound
 
 -- the state at the start
 abbrev pub opening_state : State

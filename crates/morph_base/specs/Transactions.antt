@@ -1,15 +1,15 @@
 -- Events as transactions: plain records, without the room of their lists.
-use Rattle.std.specs.Prelude.{ℕ, ◌≤◌, ◌<◌, nat_le, if◌then◌else◌, List, [], ◌∷◌, length, map, All}
+use Rattle.std.specs.Prelude.{◌≡◌, ℕ, ◌≤◌, ◌<◌, nat_le, if◌then◌else◌, List, [], ◌∷◌, length, map, All}
 use Rattle.std.specs.List.{IsDistinct}
 use Rattle.std.specs.Prelude.{nat_eq}
-use Rattle.morph_base.specs.declared.limits.TheConstants.{EVENT_OPS, EVENTS}
+use Rattle.morph_base.specs.declared.limits.TheConstants.{MAX, EVENT_OPS, EVENTS}
 use Rattle.morph_base.specs.Limits.{latest_time}
 use Rattle.morph_base.specs.declared.key.Key.{Key}
 use Rattle.morph_base.specs.declared.key.Layout.{Layout}
 use Rattle.morph_base.specs.declared.operation.Op.{Op}
 use Rattle.morph_base.specs.declared.event.Event.{Event}
 use Rattle.morph_base.specs.declared.event.Batch.{Batch}
-use Rattle.morph_base.specs.Operations.{IsShaped, InLayout, reads, same_key}
+use Rattle.morph_base.specs.Operations.{high_in, IsShaped, InLayout, reads, same_key}
 
 -- operations that are done together at one time
 pub record Transaction : Type 0 where
@@ -43,11 +43,21 @@ pub record IsTransaction (e : Transaction) : Type 0 where
 abbrev pub HasKeysIn : Layout → Transaction → Type 0
 HasKeysIn layout e = All (λ op. All (InLayout layout) (reads op)) e.ops
 
--- at most EVENTS valid transactions of different times
+-- its operations all have this greatest value
+abbrev pub HasHigh : ℕ → Transaction → Type 0
+HasHigh high e = All (λ op. op.high ≡ high) e.ops
+
+-- the greatest value of some transactions: that of the first operation of the first, and MAX where there is none
+abbrev pub high_of_all : List Transaction → ℕ
+high_of_all [] = MAX
+high_of_all (e ∷ es) = high_in e.ops
+
+-- at most EVENTS valid transactions of different times, whose operations all have one greatest value
 pub record IsBatchOf (es : List Transaction) : Type 0 where
   pub few : length es ≤ EVENTS
   pub valid : All IsTransaction es
   pub times : IsDistinct nat_eq (map time es)
+  pub alike : All (HasHigh (high_of_all es)) es
 
 abbrev pub IsBatch : Batch → Type 0
 IsBatch batch = IsBatchOf (transactions_of batch)

@@ -13,7 +13,7 @@ mod tests;
 /// The new value of an operation's target, or `None` where the operation fails, as [`Func`] says for each function.
 ///
 /// `xs` has the value of the target and then those of the parameters, each at most [`MAX`], and the operation has a
-/// valid shape.
+/// valid shape. Where each is at most the operation's greatest value, so is the answer.
 #[tactic(auto, unfolding(crate::specs::Functions::value_of))]
 pub fn eval(op: &Op, xs: &[u64]) -> Option<u64>
     requires shaped { IsShaped op.now }
@@ -21,14 +21,22 @@ pub fn eval(op: &Op, xs: &[u64]) -> Option<u64>
     requires values { All (λ x. x ≤ MAX) xs.now }
     ensures value { result ≡ value_of op.now xs.now }
     ensures small { IfSome result (λ v. v ≤ MAX) }
+    ensures within { All (λ x. x ≤ op.now.high) xs.now → IfSome result (λ v. v ≤ op.now.high) }
 {
     let x = xs[0];
     let c = op.c;
+    let least = c + op.low;
     match op.func {
         Func::Keep => Some(x),
-        Func::Add => at_most(MAX, x + c),
-        Func::Sub => x.checked_sub(c),
-        Func::MoveIn => { if xs[1] < c { None } else { at_most(MAX, x + c) } }
+        Func::Add => at_most(op.high, x + c),
+        Func::Sub => { if x < least { None } else { Some(x - c) } }
+        Func::MoveIn => {
+            if xs[1] < least {
+                None
+            } else {
+                at_most(op.high, x + c)
+            }
+        }
         Func::Sum => at_most(c, total(&xs[1..])),
         Func::Blend => Some(if x == 0 { c } else { (x + c) / 2 }),
         Func::Set => Some(c),
@@ -36,7 +44,7 @@ pub fn eval(op: &Op, xs: &[u64]) -> Option<u64>
             if xs[1] == c {
                 Some(x)
             } else {
-                at_most(MAX, x + 1)
+                at_most(op.high, x + 1)
             }
         }
         Func::Charge => at_most(c, x.saturating_add(toll(xs[1], xs[2]))),

@@ -44,7 +44,7 @@ mod word;
 pub use evaluation::{eval, evaluate};
 pub use event::{Batch, Event};
 pub use key::{Key, Layout};
-pub use limits::{EVENT_OPS, EVENTS, LATEST, MAX, PARAMS, READS, WORKERS};
+pub use limits::{EVENT_OPS, EVENTS, FIRST_MAX, LATEST, MAX, PARAMS, READS, WORKERS};
 pub use list::List;
 pub use memory::OutOfMemory;
 pub use operation::{Func, Op};

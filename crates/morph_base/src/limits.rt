@@ -2,8 +2,11 @@
 //! and events that there may be are constants that code and definitions share: raise them here. The others are
 //! checked against the definitions, which have numbers of their own.
 
-/// The greatest value that a key can hold, and the greatest constant of an operation: 10^12.
-pub const MAX: u64 = 1_000_000_000_000;
+/// The greatest value that a key can hold, and the greatest constant of an operation: 10^13, that of version 2.
+pub const MAX: u64 = 10_000_000_000_000;
+
+/// The greatest value of version 1: 10^12.
+pub const FIRST_MAX: u64 = 1_000_000_000_000;
 
 /// The most places that an operation reads: its target and its parameters.
 pub const READS: usize = 4;

@@ -1,22 +1,23 @@
 ghost use Rattle.std.specs.Prelude.{◌≡◌, ◌≤◌, ◌↔◌, ◌∷◌, length, IsTrue};
-ghost use Rattle.morph_base.specs.Operations.{IsShaped, reads, op_of, least_params, most_params};
+ghost use Rattle.morph_base.specs.declared.limits.TheConstants.{FIRST_MAX, MAX};
+ghost use Rattle.morph_base.specs.Operations.{IsShaped, IsLimit, reads, op_of, limited_to, least_params, most_params};
 
 use crate::key::Key;
-use crate::limits::{MAX, PARAMS};
+use crate::limits::{FIRST_MAX, PARAMS};
 
 /// How an operation computes the new value of its target.
 ///
 /// It reads x, the target's value, and p1, p2 and so on, the values of its parameters, all before its event; c is its
-/// constant.
+/// constant, low its floor, and high the greatest value.
 #[derive(Clone, Copy, Debug, PartialEq, Eq, Hash)]
 pub enum Func {
     /// x. It has no parameter and never fails.
     Keep,
-    /// x + c. It fails above [`MAX`](crate::MAX).
+    /// x + c. It fails above high.
     Add,
-    /// x - c. It fails where x is below c.
+    /// x - c. It fails where x is below c + low.
     Sub,
-    /// x + c, with one parameter. It fails where p1 is below c, or above [`MAX`](crate::MAX).
+    /// x + c, with one parameter. It fails where p1 is below c + low, or above high.
     MoveIn,
     /// The sum of its parameters, which are one to [`PARAMS`](crate::PARAMS). It fails above c.
     Sum,
@@ -24,7 +25,7 @@ pub enum Func {
     Blend,
     /// c. It never fails.
     Set,
-    /// x where p1 is c, else x + 1, with one parameter. It fails above [`MAX`](crate::MAX).
+    /// x where p1 is c, else x + 1, with one parameter. It fails above high.
     Enter,
     /// x and the toll, with two parameters: p1 is the average speed of a segment in hundredths of a mile per hour,
     /// p2 its count of entries. The toll is 2 * (p2 - 50)^2 where p1 is below 4000 and p2 above 50, else 0, as in
@@ -48,8 +49,9 @@ impl Func {
 
 /// One change of one key, by a function of the values before its event.
 ///
-/// It has a valid shape where the number of its parameters is its function's, `c` is at most [`MAX`](crate::MAX), and
-/// the places of `params` from `n_params` on hold the key of table 0 and id 0.
+/// It has a valid shape where the number of its parameters is its function's, `c` and `low` are at most `high`, `high`
+/// is [`FIRST_MAX`](crate::FIRST_MAX) or [`MAX`](crate::MAX), and the places of `params` from `n_params` on hold the
+/// key of table 0 and id 0.
 #[derive(Clone, Copy, Debug, PartialEq, Eq)]
 pub struct Op {
     /// The target, whose value changes.
@@ -60,19 +62,27 @@ pub struct Op {
     pub func: Func,
     /// The constant of its function.
     pub c: u64,
+    /// The floor: what must stay where it takes from a value, or moves in what another takes.
+    pub low: u64,
+    /// The greatest value, which is that of its input's version.
+    pub high: u64,
 }
 
 impl Op {
-    /// An operation with these parameters, in the first places.
+    /// An operation of version 1 with these parameters, in the first places, and no floor.
     ///
-    /// It has a valid shape where its function takes as many parameters and `c` is at most [`MAX`](crate::MAX).
+    /// It has a valid shape where its function takes as many parameters and `c` is at most
+    /// [`FIRST_MAX`](crate::FIRST_MAX).
     pub fn new(func: Func, key: Key, params: &[Key], c: u64) -> Self
         requires few { length params.now ≤ PARAMS }
         ensures parts { result ≡ op_of func key params.now c }
         ensures reads { reads result ≡ key ∷ params.now }
         ensures shaped { least_params func ≤ length params.now
-            → length params.now ≤ most_params func → c ≤ MAX
+            → length params.now ≤ most_params func → c ≤ FIRST_MAX
             → IsShaped result }
+        ensures widest { least_params func ≤ length params.now
+            → length params.now ≤ most_params func → c ≤ MAX
+            → IsShaped (limited_to 0 MAX result) }
     {
         let mut places = [Key { table: 0, id: 0 }; PARAMS];
         places[..params.len()].copy_from_slice(params);
@@ -82,6 +92,20 @@ impl Op {
             n_params: params.len() as u8,
             func,
             c,
+            low: 0,
+            high: FIRST_MAX,
         }
+    }
+
+    /// The operation with this floor and this greatest value.
+    ///
+    /// It has a valid shape where it has as many parameters as its function takes, `low` and its constant are at most
+    /// `high`, and that is the greatest value of a version.
+    pub fn limited(self, low: u64, high: u64) -> Self
+        ensures parts { result ≡ limited_to low high self }
+        ensures shaped { IsShaped (limited_to 0 MAX self) → low ≤ high → self.c ≤ high
+            → IsLimit high → IsShaped result }
+    {
+        Op { low, high, ..self }
     }
 }

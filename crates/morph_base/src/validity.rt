@@ -1,12 +1,12 @@
 //! Whether a batch that was put together by hand is valid, and has its keys in a layout.
 ghost use Rattle.std.specs.Prelude.{◌≡◌, ◌<◌, ◌≤◌, ◌↔◌, length, take, drop, map, All, IsTrue, nat_eq};
 ghost use Rattle.std.specs.List.{IsDistinct, list_any};
-ghost use Rattle.morph_base.specs.Operations.{IsShaped, InLayout, reads, no_key, same_key};
-ghost use Rattle.morph_base.specs.Transactions.{IsTransaction, IsBatch, BatchKeysIn, HasKeysIn, transaction_of};
+ghost use Rattle.morph_base.specs.Operations.{IsLimit, IsShaped, InLayout, reads, no_key, same_key};
+ghost use Rattle.morph_base.specs.Transactions.{IsTransaction, IsBatch, HasHigh, high_of_all, BatchKeysIn, HasKeysIn, transaction_of};
 
 use crate::event::{Batch, Event};
 use crate::key::{Key, Layout};
-use crate::limits::{EVENT_OPS, EVENTS, LATEST, MAX, READS};
+use crate::limits::{EVENT_OPS, EVENTS, FIRST_MAX, LATEST, MAX, READS};
 use crate::operation::Op;
 
 #[cfg(test)]
@@ -23,7 +23,7 @@ impl Batch {
         if events.len() > EVENTS {
             return false;
         }
-        are_transactions(events) && times_differ(events)
+        are_valid(events) && times_differ(events)
     }
 
     /// Whether all keys that its operations read or change are in the layout.
@@ -34,11 +34,49 @@ impl Batch {
     }
 }
 
+/// Whether all events are valid, and their operations have one greatest value.
+fn are_valid(events: &[Event]) -> bool
+    ensures { let high = high_of_all (map transaction_of events.now) in
+        IsTrue result ↔ (All (λ e. IsTransaction (transaction_of e)) events.now
+        × All (λ e. HasHigh high (transaction_of e)) events.now) }
+{
+    are_transactions(events) && are_alike(events)
+}
+
 /// Whether all events are valid.
 fn are_transactions(events: &[Event]) -> bool
     ensures { IsTrue result ↔ All (λ e. IsTransaction (transaction_of e)) events.now }
 {
     events.iter().all(|event| is_transaction(event))
+}
+
+/// Whether the operations of all events have one greatest value.
+fn are_alike(events: &[Event]) -> bool
+    ensures { let high = high_of_all (map transaction_of events.now) in
+        IsTrue result ↔ All (λ e. HasHigh high (transaction_of e)) events.now }
+{
+    let high = high_of(events);
+    events.iter().all(|event| has_high(event, high))
+}
+
+/// The greatest value of the first operation, or that of all where there is none.
+fn high_of(events: &[Event]) -> u64
+    ensures { result ≡ high_of_all (map transaction_of events.now) }
+{
+    match events {
+        [] => MAX,
+        [event, ..] => match event.ops.as_slice() {
+            [] => MAX,
+            [op, ..] => op.high,
+        },
+    }
+}
+
+/// Whether all operations of an event have this greatest value.
+fn has_high(event: &Event, high: u64) -> bool
+    ensures { IsTrue result ↔ HasHigh high (transaction_of event.now) }
+{
+    event.ops.as_slice().iter().all(|op| op.high == high)
 }
 
 /// Whether an event is valid.
@@ -58,10 +96,17 @@ fn is_transaction(event: &Event) -> bool
 fn is_shaped(op: &Op) -> bool
     ensures { IsTrue result ↔ IsShaped op.now }
 {
-    if op.c > MAX || op.n_params as usize >= READS {
+    if !is_within_limits(op) || op.n_params as usize >= READS {
         return false;
     }
     op.func.takes(op.n_params as usize) && is_blank_after_params(op)
+}
+
+/// Whether the greatest value of an operation is that of a version, and its constant and its floor are within it.
+fn is_within_limits(op: &Op) -> bool
+    ensures { IsTrue result ↔ ((op.now.c ≤ op.now.high) × (op.now.low ≤ op.now.high) × IsLimit op.now.high) }
+{
+    (op.high == FIRST_MAX || op.high == MAX) && op.c <= op.high && op.low <= op.high
 }
 
 /// Whether the places after the parameters of an operation hold no key.

@@ -246,6 +246,11 @@ mod tests {
         assert_eq!(rt; aborted.pack(), 6_491_516_650_389_604);
         assert_eq!(rt; settled.pack(), 6_210_041_673_678_948);
         assert_eq!(rt; spread.pack(), 1_442_559_255_642_212);
+        let greatest = OpWord {
+            value: MAX,
+            ..executed
+        };
+        assert_eq!(rt; greatest.pack(), 0x0003_1918_4e72_a000);
         assert_eq!(rt; OpWord::unpack(0x0000_1000_0000_0000), Some(blocked));
         assert_eq!(rt; OpWord::unpack(0x0003_1000_0000_0028), Some(executed));
         assert_eq!(rt; OpWord::unpack(0x0017_1000_0000_0064), Some(aborted));
@@ -259,7 +264,7 @@ mod tests {
             0x0000_0000_0000_0000,
             0x0000_9000_0000_0000,
             0x0000_1000_0000_0001,
-            0x0003_10e8_d4a5_1001,
+            0x0003_1918_4e72_a001,
             0x0008_1000_0000_0000,
             0x0002_1000_0000_0000,
             0x0112_1000_0000_0000,
@@ -268,6 +273,6 @@ mod tests {
         ] {
             assert_eq!(rt; OpWord::unpack(n), None, "at {n}");
         }
-        assert!(rt; OpWord::unpack(0x0003_10e8_d4a5_1000).is_some());
+        assert!(rt; OpWord::unpack(0x0003_1918_4e72_a000).is_some());
     }
 }

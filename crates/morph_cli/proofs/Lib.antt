@@ -14,3 +14,4 @@ pub mod Takings
 pub mod Starting
 pub mod Piping
 pub mod Tails
+pub mod Bounds

@@ -1,7 +1,7 @@
 ghost use Rattle.std.specs.Prelude.{◌≡◌, false, IfOk, OnOk, OnErr};
 ghost use Rattle.morph_base.specs.Flat.{contents};
-ghost use Rattle.morph_base.specs.Transactions.{IsBatch, BatchKeysIn};
-ghost use Rattle.morph_base.specs.States.{fold_batch};
+ghost use Rattle.morph_base.specs.Transactions.{IsBatch, BatchKeysIn, high_of_all, transactions_of};
+ghost use Rattle.morph_base.specs.States.{IsUpTo, fold_batch};
 ghost use Rattle.run_text.specs.Checks.{is_checked};
 ghost use Rattle.run_text.specs.Settings.{AreInRange};
 ghost use Rattle.morph_cli.specs.Batches.{IsEndOf};
@@ -17,8 +17,8 @@ use std::thread::Threads;
 use worker_gate::Gate;
 
 /// Makes the plan of a batch and runs it on the engine, with the workers of the settings and the strategy that they ask
-/// for. Where its journal is to be checked it is kept and checked. Where memory is refused the engine stays, but where it
-/// is refused to check a journal.
+/// for. No value of the state may be above the greatest value of the batch. Where its journal is to be checked it is
+/// kept and checked. Where memory is refused the engine stays, but where it is refused to check a journal.
 pub fn run_batch<R: Threads + Sync, G: Gate>(
     host: &Host<'_, R, G>,
     engine: &mut Engine,
@@ -29,6 +29,7 @@ pub fn run_batch<R: Threads + Sync, G: Gate>(
     requires settings { AreInRange settings.now }
     requires batch { IsBatch batch.now }
     requires keys { BatchKeysIn engine.old.layout batch.now }
+    requires small { IsUpTo (high_of_all (transactions_of batch.now)) (contents engine.old) }
     ensures layout { engine.new.layout ≡ engine.old.layout }
     ensures state { OnOk result (contents engine.new ≡ fold_batch batch.now (contents engine.old)) }
     ensures ran { IfOk result (IsEndOf settings.now last engine.old batch.now) }

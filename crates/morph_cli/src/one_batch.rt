@@ -1,7 +1,8 @@
 ghost use Rattle.std.specs.Prelude.{◌≡◌, ◌+◌, ◌^◌, ◌<◌, ◌≤◌, ◌⊎◌, [], IfSome, IsErrOf, IsSome, IsTrue, OnOk};
 ghost use Rattle.morph_base.specs.Flat.{contents};
 ghost use Rattle.morph_base.specs.Plans.{IsPlan};
-ghost use Rattle.morph_base.specs.Transactions.{IsBatch, BatchKeysIn};
+ghost use Rattle.morph_base.specs.States.{IsUpTo};
+ghost use Rattle.morph_base.specs.Transactions.{IsBatch, BatchKeysIn, high_of_all, transactions_of};
 ghost use Rattle.morph_engine.specs.Accounts.{Account};
 ghost use Rattle.morph_io.specs.Told.{HasRisen};
 ghost use Rattle.run_text.specs.Counts.{HasRoom};
@@ -35,6 +36,7 @@ pub fn take_batch<R: Threads + Wait + Sync, A: EventApp, K: Sink, N: Sink, G: Ga
     requires settings { AreInRange job.now.settings }
     requires batch { IsBatch batch }
     requires keys { BatchKeysIn progress.old.engine.layout batch }
+    requires small { IsUpTo (high_of_all (transactions_of batch)) (contents progress.old.engine) }
     requires empty { progress.old.out ≡ [] }
     requires room { (a : Account) → IsPlan a.plan → IsSound job.now.settings.workers a
         → HasRoom tally.old a }

@@ -2,8 +2,8 @@ ghost use Rattle.std.specs.Prelude.{◌≡◌, ◌+◌, ◌^◌, ◌<◌, ◌≤
 ghost use Rattle.std.specs.Thread.{IsSync};
 ghost use Rattle.morph_base.specs.Flat.{contents};
 ghost use Rattle.morph_base.specs.Plans.{IsPlan, HasBases, PlanKeysIn, IsSettledOf};
-ghost use Rattle.morph_base.specs.States.{fold_batch};
-ghost use Rattle.morph_base.specs.Transactions.{IsBatch, BatchKeysIn};
+ghost use Rattle.morph_base.specs.States.{IsUpTo, fold_batch};
+ghost use Rattle.morph_base.specs.Transactions.{IsBatch, BatchKeysIn, high_of_all, transactions_of};
 ghost use Rattle.run_text.specs.Checks.{is_checked};
 ghost use Rattle.run_text.specs.Settings.{AreInRange};
 ghost use Rattle.snapshot_reader.specs.Batches.{after_plans};
@@ -136,6 +136,7 @@ pub fn run_watched<R: Threads + Sync, G: Gate>(
     requires settings { AreInRange settings.now }
     requires batch { IsBatch batch.now }
     requires keys { BatchKeysIn engine.old.layout batch.now }
+    requires small { IsUpTo (high_of_all (transactions_of batch.now)) (contents engine.old) }
     ensures layout { engine.new.layout ≡ engine.old.layout }
     ensures state { OnOk result (contents engine.new ≡ fold_batch batch.now (contents engine.old)) }
     ensures ran { IfOk result (λ ran. IsEndOf settings.now last engine.old batch.now ran.end) }
@@ -149,7 +150,8 @@ pub fn run_watched<R: Threads + Sync, G: Gate>(
         watching,
         &mut ||
             requires { IsSync R.row × IsSync G.row × AreInRange settings.now × IsBatch batch.now
-                × BatchKeysIn engine.now.layout batch.now }
+                × BatchKeysIn engine.now.layout batch.now
+                × IsUpTo (high_of_all (transactions_of batch.now)) (contents engine.now) }
         { run_batch(host, engine, batch, settings, last) },
     );
     Ok(Watched { end: end?, audit })

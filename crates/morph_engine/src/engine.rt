@@ -2,10 +2,10 @@ ghost use Rattle.std.specs.Prelude.{◌≡◌, ℕ, ◌≤◌, IfOk, OnOk, OnErr
 ghost use Rattle.morph_base.specs.Limits.{most_workers};
 ghost use Rattle.morph_base.specs.declared.key.Layout.{Layout};
 ghost use Rattle.morph_base.specs.Flat.{contents};
-ghost use Rattle.morph_base.specs.States.{opening_state};
-ghost use Rattle.morph_base.specs.Transactions.{IsBatch, BatchKeysIn};
+ghost use Rattle.morph_base.specs.States.{opening_state, IsUpTo};
+ghost use Rattle.morph_base.specs.Transactions.{IsBatch, BatchKeysIn, high_of_all, transactions_of};
 ghost use Rattle.morph_base.specs.Outcomes.{fates};
-ghost use Rattle.morph_base.specs.Plans.{HasBases, IsPlanOf, IsSettledOf, PlanKeysIn, event_count, state_at, transactions};
+ghost use Rattle.morph_base.specs.Plans.{HasBases, IsPlanOf, IsSettledOf, PlanKeysIn, event_count, high_of, state_at, transactions};
 ghost use Rattle.morph_base.specs.Graphs.{IsValidPlan};
 ghost use Rattle.morph_engine.specs.Accounts.{IsAccount, account_of};
 ghost use Rattle.morph_engine.specs.Caps.{cap_for};
@@ -101,9 +101,12 @@ impl Engine {
     }
 
     /// The plan of a valid batch, all of whose keys are in the layout, from the present state.
+    ///
+    /// No value of the state may be above the greatest value of the batch.
     pub fn plan(&self, alloc: Global, batch: &Batch) -> Result<Plan, OutOfMemory>
         requires batch { IsBatch batch.now }
         requires keys { BatchKeysIn self.now.layout batch.now }
+        requires small { IsUpTo (high_of_all (transactions_of batch.now)) (contents self.now) }
         ensures valid { IfOk result IsValidPlan }
         ensures events { IfOk result (IsPlanOf batch.now) }
         ensures bases { IfOk result (λ plan. HasBases plan (contents self.now)) }
@@ -117,10 +120,11 @@ impl Engine {
     /// Fills the bases of a plan in from the present state, whatever state they were of before; everything else of the
     /// plan stays.
     ///
-    /// It may be run then, until another batch is run.
+    /// It may be run then, until another batch is run. No value of the state may be above the greatest value of the plan.
     pub fn rebase(&self, plan: &mut Plan)
         requires plan { IsValidPlan plan.old }
         requires keys { PlanKeysIn plan.old self.now.layout }
+        requires small { IsUpTo (high_of plan.old) (contents self.now) }
         ensures valid { IsValidPlan plan.new }
         ensures transactions { transactions plan.new ≡ transactions plan.old }
         ensures bases { HasBases plan.new (contents self.now) }

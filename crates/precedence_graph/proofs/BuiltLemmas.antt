@@ -15,7 +15,7 @@ use Rattle.morph_base.specs.Operations.{no_key}
 use Rattle.morph_base.specs.Transactions.{Transaction}
 use Rattle.morph_base.specs.Numbering.{IsNumbering}
 use Rattle.morph_base.specs.Sources.{IsSource}
-use Rattle.morph_base.specs.Plans.{no_op, no_plan_op, no_event, event_count, op_count, event_at, op_at, event_of, target, keys_of, key_at, origin_at, transaction_in, transactions, IsSourceIn}
+use Rattle.morph_base.specs.Plans.{no_op, no_plan_op, no_event, event_count, op_count, event_at, op_at, event_of, target, keys_of, key_at, origin_at, transaction_in, transactions, IsSourceIn, high_of}
 use Rattle.txn_splitter.specs.declared.txns.Txns.{Txns}
 use Rattle.txn_splitter.specs.Txns.{IsTxns, no_txn, transaction_among, txn_count, txn_op_count, txn_at, txn_op_at, txn_of, txn_target, txn_transactions}
 use Rattle.precedence_graph.specs.Planned.{padded, txn_event, ArePlanned, AreEventsPlanned}
@@ -112,6 +112,12 @@ module _ (x : Txns) (is : IsTxns x) (p : Plan) (done : ArePlanned x (txn_op_coun
       subst (λ (m : ℕ). IsSource m (target p) (event_of p) (event_of p o) key origin) ops_same
       (subst (λ (t : ℕ → Key). IsSource (txn_op_count x) t (event_of p) (event_of p o) key origin) (fun_ext (λ t. ap (λ op. op.key) (op_same t)))
       (subst (λ (e : ℕ → ℕ). IsSource (txn_op_count x) (txn_target x) e (e o) key origin) (fun_ext event_of_same) source))
+
+  pub alike_is : (o : ℕ) → o < op_count p → (op_at p o).op.high ≡ high_of p
+  unfolding high_of
+  alike_is o lt =
+      let in_x : o < txn_op_count x = omega (arith, ops_same) in
+      sym (ap (λ (op : Op). op.high) (op_same o)) ∙ is.alike o no_op in_x ∙ ap (λ (op : Op). op.high) (op_same 0)
 
   pub sources_is : (o j : ℕ) → o < txn_op_count x → j < length (keys_of p o) → IsSourceIn p (event_of p o) (key_at p o j) (origin_at p o j)
   sources_is o j lt inside =

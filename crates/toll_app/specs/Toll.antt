@@ -1,6 +1,6 @@
 -- What the words of a line of Toll Processing say.
 use Rattle.std.specs.Prelude.{ℕ, ◌+◌, ◌*◌, ◌==◌, codes, if◌then◌else◌, min, List, [], ◌∷◌, slice_index, Result, Ok}
-use Rattle.morph_base.specs.declared.limits.TheConstants.{MAX}
+use Rattle.morph_base.specs.declared.limits.TheConstants.{FIRST_MAX}
 use Rattle.morph_base.specs.declared.key.Key.{Key}
 use Rattle.morph_base.specs.declared.operation.Func.TheVariants.{Blend, Set, Enter, Charge}
 use Rattle.morph_base.specs.Operations.{op_of}
@@ -34,7 +34,7 @@ bill_of vehicle = key 3 vehicle
 -- the ranges of a segment, and of a speed in miles per hour. A segment's leaves room for one more among the values, where
 -- vehicles' places are kept
 abbrev pub segments : (size : ℕ) → Range
-segments size = ids (min size MAX)
+segments size = ids (min size FIRST_MAX)
 
 abbrev pub miles : Range
 miles = record { least = 0; greatest = 100 }

@@ -2,18 +2,18 @@
 use Rattle.std.proofs.Common.{◌≡◌, ℕ, ◌+◌, ◌*◌, ◌<◌, ◌≤◌, List, [], ◌∷◌, refl, subst, arith, Ok, Err}
 use Rattle.std.specs.Prelude.{slice_index}
 use Rattle.std.specs.List.{All, IsDistinct}
-use Rattle.morph_base.specs.declared.limits.TheConstants.{MAX}
+use Rattle.morph_base.specs.declared.limits.TheConstants.{FIRST_MAX}
 use Rattle.morph_base.specs.Limits.{latest_time}
 use Rattle.morph_base.specs.declared.key.Key.{Key}
 use Rattle.morph_base.specs.declared.key.Layout.{Layout}
 use Rattle.morph_base.specs.declared.operation.Func.TheVariants.{Blend, Set, Enter, Charge}
 use Rattle.morph_base.specs.declared.operation.Op.{Op}
 use Rattle.morph_base.specs.Operations.{IsShaped, InLayout, reads}
-use Rattle.morph_base.specs.Transactions.{Transaction, IsTransaction, HasKeysIn}
+use Rattle.morph_base.specs.Transactions.{Transaction}
 use Rattle.morph_base.proofs.ShapeLaws.{all_of, op_of-shaped}
 use Rattle.event_reader.specs.declared.cause.Cause.{Cause}
 use Rattle.event_reader.specs.Ranges.{times, ids}
-use Rattle.event_reader.specs.Reader.{IsOfWords}
+use Rattle.event_reader.specs.Reader.{IsOfWords, IsEventOf}
 use Rattle.event_reader.proofs.Forms.{Fits, IsSound, place, events_valid, events_causes}
 use Rattle.toll_app.specs.Toll.{key, speed_of, place_of, count_of, bill_of, segments, miles, report, report_of, reports, toll_kinds, toll_event}
 
@@ -32,8 +32,8 @@ abbrev ReadsIn : (size : ℕ) → Op → Type 0
 ReadsIn size op = All (IsIn size) (reads op)
 
 -- a report is valid where its numbers are in range
-report_is_valid : (size ts vehicle segment speed : ℕ) → 0 < ts → ts ≤ latest_time → vehicle < size → segment < size → segment < MAX → speed ≤ 100
-    → IsTransaction (report ts vehicle segment speed) × HasKeysIn (toll_layout size) (report ts vehicle segment speed)
+report_is_valid : (size ts vehicle segment speed : ℕ) → 0 < ts → ts ≤ latest_time → vehicle < size → segment < size → segment < FIRST_MAX → speed ≤ 100
+    → IsEventOf (toll_layout size) (report ts vehicle segment speed)
 unfolding IsDistinct
 report_is_valid size ts vehicle segment speed start end inside inside' small slow =
     let average = key_in size 0 segment (omega arith) inside' in
@@ -67,17 +67,18 @@ report_is_valid size ts vehicle segment speed start end inside inside' small slo
           ),
         ),
       ),
+      all_of (λ op. op.high ≡ FIRST_MAX) (report ts vehicle segment speed).ops (refl, (refl, (refl, (refl, tt)))),
     )
 
 report_numbers : (size : ℕ) (ns : List ℕ) (e : Transaction) → Fits (reports size).form ns → report_of ns ≡ Ok e
-    → IsTransaction e × HasKeysIn (toll_layout size) e
+    → IsEventOf (toll_layout size) e
 report_numbers size ns e fits is =
     let ts = place (reports size).form ns 0 times fits (omega arith) refl in
     let vehicle = place (reports size).form ns 1 (ids size) fits (omega arith) refl in
     let segment = place (reports size).form ns 2 (segments size) fits (omega arith) refl in
     let speed = place (reports size).form ns 3 miles fits (omega arith) refl in
     let same : report (slice_index ns 0) (slice_index ns 1) (slice_index ns 2) (slice_index ns 3) ≡ e = cc in
-    subst (λ t. IsTransaction t × HasKeysIn (toll_layout size) t) same
+    subst (λ t. IsEventOf (toll_layout size) t) same
     (report_is_valid size _ _ _ _ ts.0 ts.1 (omega (arith, vehicle.0, vehicle.1)) (omega (arith, segment.0, segment.1)) (omega (arith, segment.0, segment.1)) speed.1)
 
 report_sound : (size : ℕ) → IsSound (toll_layout size) (reports size)
@@ -86,7 +87,7 @@ report_sound size = record {
   causes = λ ns cause is. absurd (cc);
 }
 
-pub toll_is_valid : (size : ℕ) (words : List (List ℕ)) (e : Transaction) → toll_event size words ≡ Ok e → IsTransaction e × HasKeysIn (record { tables = 4; size = size }) e
+pub toll_is_valid : (size : ℕ) (words : List (List ℕ)) (e : Transaction) → toll_event size words ≡ Ok e → IsEventOf (record { tables = 4; size = size }) e
 toll_is_valid size words e is = events_valid (toll_layout size) (toll_kinds size) (report_sound size, tt) words e is
 
 pub toll_causes : (size : ℕ) (words : List (List ℕ)) (cause : Cause) → toll_event size words ≡ Err cause → IsOfWords cause

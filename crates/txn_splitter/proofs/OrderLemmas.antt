@@ -10,7 +10,8 @@ use Rattle.std.proofs.lemmas.Map.Keys.{IsDistinct-IsPermutation, apart_from_dist
 use Rattle.morph_base.specs.declared.limits.TheConstants.{EVENTS}
 use Rattle.std.specs.Borrow.{Bor}
 use Rattle.morph_base.specs.declared.event.Event.{Event}
-use Rattle.morph_base.specs.Transactions.{Transaction, IsTransaction, IsBatchOf, transaction_of, time, by_time}
+use Rattle.morph_base.specs.declared.operation.Op.{Op}
+use Rattle.morph_base.specs.Transactions.{high_of_all, Transaction, IsTransaction, IsBatchOf, transaction_of, time, by_time}
 use Rattle.morph_base.proofs.TimeLaws.{by_time-permutes, by_time-rises}
 
 module _ (ts : List Transaction) (is : IsBatchOf ts) where
@@ -19,6 +20,9 @@ module _ (ts : List Transaction) (is : IsBatchOf ts) where
 
   pub order_valid : All IsTransaction (by_time ts)
   order_valid = All-permutation IsTransaction ts (by_time ts) (by_time-permutes ts) is.valid
+
+  pub order_alike : All (λ (e : Transaction). All (λ (op : Op). op.high ≡ high_of_all ts) e.ops) (by_time ts)
+  order_alike = All-permutation (λ (e : Transaction). All (λ (op : Op). op.high ≡ high_of_all ts) e.ops) ts (by_time ts) (by_time-permutes ts) is.alike
 
   order_apart : IsDistinct nat_eq (map time (by_time ts))
   order_apart =

@@ -1,12 +1,14 @@
 -- A split of some transactions, one transaction more.
 use Rattle.std.proofs.Common.{◌≡◌, ℕ, ◌+◌, ◌-◌, ◌<◌, ◌≤◌, List, [], ◌∷◌, ◌++◌, length, get_or, take, drop, map, replicate, refl, sym, ap, subst, ◌∙◌, inl, inr, arith}
+use Rattle.std.specs.Prelude.{All}
 use Rattle.std.specs.List.{IsDistinct}
+use Rattle.std.proofs.lemmas.List.Elements.{All-nil, All-weaker, All-head}
 use Rattle.std.proofs.lemmas.Bool.{cases_lt, cases_order}
 use Rattle.std.proofs.lemmas.List.{length-map, length-append, length-drop, length-replicate, length_push, map_push, get_or-map, get_or_push, get_or_append_left, get_or-append_right, get_or-replicate, take_all, drop_at, drop-append-le, take-append-le}
 use Rattle.std.proofs.lemmas.Map.Keys.{apart_from_distinct}
 use Rattle.morph_base.specs.declared.limits.TheConstants.{EVENT_OPS, EVENTS, LATEST}
 use Rattle.morph_base.specs.declared.operation.Op.{Op}
-use Rattle.morph_base.specs.Operations.{IsShaped, same_key, no_key}
+use Rattle.morph_base.specs.Operations.{high_in, IsShaped, same_key, no_key}
 use Rattle.morph_base.specs.Numbering.{IsNumbering, IsWithin}
 use Rattle.morph_base.specs.Transactions.{Transaction, IsTransaction}
 use Rattle.morph_base.specs.Plans.{no_op}
@@ -215,8 +217,8 @@ module _ (es : List Transaction) (x x' : Txns) (t : Transaction) (so_far : IsSpl
       (λ o u from below from' below' keys. let same = distinct_keys t.ops valid.distinct (o - m) (u - m) (omega arith) (omega arith) (ap (λ (q : Op). q.key) (sym (op_is o from)) ∙ keys ∙ ap (λ (q : Op). q.key) (op_is u from')) in omega arith)
       (λ o from below. subst IsShaped (sym (op_is o from)) (valid.shaped (o - m) no_op (omega arith)))
 
-  pub split_more : length es < EVENTS → IsTransaction t → (d : Transaction) → ((i : ℕ) → i < length es → (get_or es i d).ts < t.ts) → IsSplitOf (es ++ t ∷ []) x'
-  split_more few valid d before =
+  pub split_more : All (λ (op : Op). op.high ≡ high_in x'.ops.items) x'.ops.items → length es < EVENTS → IsTransaction t → (d : Transaction) → ((i : ℕ) → i < length es → (get_or es i d).ts < t.ts) → IsSplitOf (es ++ t ∷ []) x'
+  split_more alike few valid d before =
       let old : List Transaction = map (transaction_among x'.ops.items) x.events.items in
       let whole : (ops : List Op) → ops ≡ t.ops → record { ts = t.ts; ops = ops } ≡ t = λ ops e. ap (λ ops. record { ts = t.ts; ops = ops }) e in
       record {
@@ -224,6 +226,7 @@ module _ (es : List Transaction) (x x' : Txns) (t : Transaction) (so_far : IsSpl
           numbering = subst (λ n. IsNumbering n (txn_op_count x') (λ i. (txn_at x' i).ts) (λ i. (txn_at x' i).first) (λ i. (txn_at x' i).count) (txn_of x') (txn_op_at x')) (sym (ap length events_are ∙ length_push x.events.items new_event))
               (subst (λ m. IsNumbering (txn_count x + 1) m (λ i. (txn_at x' i).ts) (λ i. (txn_at x' i).first) (λ i. (txn_at x' i).count) (txn_of x') (txn_op_at x')) (sym (ap length ops_are ∙ length-append x.ops.items t.ops)) (numbering_is few valid d before));
           events_of = ap length numbers_are ∙ length-append x.event_of.items (replicate (length t.ops) (txn_count x)) ∙ omega (arith, so_far.txns.events_of, length-replicate (length t.ops) (txn_count x), ap length ops_are, length-append x.ops.items t.ops);
+          alike = alike;
         };
         transactions = ap (map (transaction_among x'.ops.items)) events_are ∙ map_push (transaction_among x'.ops.items) x.events.items new_event
             ∙ ap (λ ts. ts ++ transaction_among x'.ops.items new_event ∷ []) (ap (λ ops. map (transaction_among ops) x.events.items) ops_are ∙ map-agree (transaction_among (x.ops.items ++ t.ops)) (transaction_among x.ops.items) x.events.items no_txn (same_among x so_far.txns t.ops) ∙ so_far.transactions)
@@ -249,6 +252,12 @@ split_none x events ops numbers =
           shaped = λ o lt. absurd (omega arith);
         };
         events_of = ap length numbers ∙ sym no_ops;
+        alike = subst (λ ops. All (λ (op : Op). op.high ≡ high_in ops) ops) (sym ops) (All-nil (λ (op : Op). op.high ≡ high_in []));
       };
       transactions = ap (map (transaction_among x.ops.items)) events;
     }
+
+-- where all operations have the greatest value of a batch, they have that of the first of them
+pub alike_first : (high : ℕ) (ops : List Op) → All (λ (op : Op). op.high ≡ high) ops → All (λ (op : Op). op.high ≡ high_in ops) ops
+alike_first high [] all = All-nil (λ (op : Op). op.high ≡ high_in [])
+alike_first high (op ∷ ops) all = All-weaker (λ (o : Op). o.high ≡ high) (λ (o : Op). o.high ≡ op.high) (λ o is. is ∙ sym (All-head (λ (o : Op). o.high ≡ high) op ops all)) (op ∷ ops) all

@@ -1,9 +1,10 @@
 -- A batch cut into numbered transactions: what its numbers name, when it is valid, and when it is that of a batch.
-use Rattle.std.specs.Prelude.{◌≡◌, ℕ, List, length, take, drop, map, slice_index, slice_index_or}
+use Rattle.std.specs.Prelude.{◌≡◌, ℕ, List, All, length, take, drop, map, slice_index, slice_index_or}
 use Rattle.morph_base.specs.declared.key.Key.{Key}
 use Rattle.morph_base.specs.declared.operation.Op.{Op}
 use Rattle.morph_base.specs.declared.event.Batch.{Batch}
 use Rattle.morph_base.specs.Transactions.{Transaction, transactions_of, by_time}
+use Rattle.morph_base.specs.Operations.{high_in}
 use Rattle.morph_base.specs.Numbering.{IsNumbering}
 use Rattle.morph_base.specs.Plans.{no_op}
 use Rattle.txn_splitter.specs.declared.txns.TxnEvent.{TxnEvent}
@@ -45,6 +46,8 @@ module _ (x : Txns) where
 pub record IsTxns (x : Txns) : Type 0 where
   pub numbering : IsNumbering (txn_count x) (txn_op_count x) (λ i. (txn_at x i).ts) (λ i. (txn_at x i).first) (λ i. (txn_at x i).count) (txn_of x) (txn_op_at x)
   pub events_of : length x.event_of.items ≡ txn_op_count x
+  -- all operations have one greatest value
+  pub alike : All (λ op. op.high ≡ high_in x.ops.items) x.ops.items
 
 -- they are these transactions, in this order, and nothing else: each operation is one of an event's
 pub record IsSplitOf (es : List Transaction) (x : Txns) : Type 0 where

@@ -1,6 +1,6 @@
 ghost use Rattle.std.specs.Prelude.{◌≡◌, ◌≤◌, ◌++◌, length, replicate, All, IfOk, OnOk, sum_by};
 ghost use Rattle.morph_base.specs.declared.limits.TheConstants.{EVENT_OPS, EVENTS};
-ghost use Rattle.morph_base.specs.Transactions.{IsBatch};
+ghost use Rattle.morph_base.specs.Transactions.{IsBatch, high_of_all, transactions_of};
 ghost use Rattle.txn_splitter.specs.Txns.{IsTxns, IsTxnsOf};
 
 use crate::txns::{TxnEvent, Txns};
@@ -14,6 +14,8 @@ pub fn split(alloc: Global, batch: &Batch) -> Result<Txns, OutOfMemory>
     // They are the batch's transactions, numbered, with nothing added and nothing dropped.
     ensures of { IfOk result (IsTxnsOf batch.now) }
     ensures valid { IfOk result IsTxns }
+    ensures high { IfOk result (λ txns.
+        All (λ op. op.high ≡ high_of_all (transactions_of batch.now)) txns.ops.items) }
 {
     let order = batch.by_time(alloc)?;
     let mut events = List::with_room(alloc, order.len())?;

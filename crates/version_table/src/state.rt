@@ -1,9 +1,9 @@
 ghost use Rattle.std.specs.Prelude.{◌≡◌, ◌<◌, ◌≤◌, ◌↔◌, nat_le, count_by, IfOk, IsTrue};
 ghost use Rattle.morph_base.specs.declared.limits.TheConstants.{MAX};
 ghost use Rattle.morph_base.specs.Operations.{InLayout};
-ghost use Rattle.morph_base.specs.States.{opening_state};
+ghost use Rattle.morph_base.specs.States.{opening_state, IsUpTo};
 ghost use Rattle.morph_base.specs.Flat.{contents};
-ghost use Rattle.morph_base.specs.Plans.{IsPlan, HasBases, PlanKeysIn, IsSettledOf, event_count, event_at, state_at, filled_plan};
+ghost use Rattle.morph_base.specs.Plans.{IsPlan, high_of, HasBases, PlanKeysIn, IsSettledOf, event_count, event_at, state_at, filled_plan};
 
 use crate::filling::fill;
 use morph_base::{Key, Layout, OutOfMemory, Plan, PlanOp, Settled, Values};
@@ -20,16 +20,15 @@ pub struct State {
 }
 
 impl Model for State {
-    ghost use Rattle.std.specs.Prelude.{◌≤◌};
     ghost use Rattle.morph_base.specs.declared.limits.TheConstants.{MAX};
-    ghost use Rattle.morph_base.specs.declared.key.Key.{Key};
     ghost use Rattle.morph_base.specs.Flat.{Kept, contents};
+    ghost use Rattle.morph_base.specs.States.{IsUpTo};
 
     ghost Value = { Kept };
 
     ghost view = { λ state. state.values };
 
-    ghost invariant = { λ state. (key : Key) → contents state.values key ≤ MAX };
+    ghost invariant = { λ state. IsUpTo MAX (contents state.values) };
 }
 
 impl State {
@@ -66,6 +65,7 @@ impl State {
     pub fn bases(&self, plan: &mut Plan)
         requires plan { IsPlan plan.old }
         requires keys { PlanKeysIn plan.old self.now.layout }
+        requires small { IsUpTo (high_of plan.old) (contents self.now) }
         ensures filled { plan.new ≡ filled_plan (contents self.now) plan.old }
         ensures plan { IsPlan plan.new }
         ensures bases { HasBases plan.new (contents self.now) }

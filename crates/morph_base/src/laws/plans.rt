@@ -78,11 +78,14 @@ pub fn levels_rise()
 {}
 
 /// Values stay at most [`MAX`](crate::MAX): the answer of an operation of valid shape on values, and each key of a
-/// state after transactions or a batch. Where a plan is at hand they stay at most its greatest value, which is at
-/// most that: each key of a state after its events, the state that its bases tell, and the value of each operation.
+/// state after transactions or a batch. The answer stays at most the operation's own greatest value too. Where a plan
+/// is at hand they stay at most its greatest value, which is at most that: each key of a state after its events, the
+/// state that its bases tell, and the value of each operation.
 pub fn values_stay_small()
     ensures answers { (op : Op) (xs : List ℕ) (v : ℕ) → value_of op xs ≡ Some v → IsShaped op
         → All (λ x. x ≤ MAX) xs → v ≤ MAX }
+    ensures within { (op : Op) (xs : List ℕ) (v : ℕ) → value_of op xs ≡ Some v → IsShaped op
+        → All (λ x. x ≤ op.high) xs → v ≤ op.high }
     ensures folds { (s : State) (es : List Transaction) (key : Key) → All IsTransaction es
         → ((k : Key) → s k ≤ MAX)
         → after_all s es key ≤ MAX }

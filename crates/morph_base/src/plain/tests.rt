@@ -1,7 +1,7 @@
 //! The fold of batches as three applications make them, from all values 0: a ledger of accounts and assets, sums over
 //! cells, and tolls for the vehicles of a segment.
 use super::fold;
-use crate::limits::MAX;
+use crate::limits::FIRST_MAX;
 use crate::{Batch, Event, Func, Key, Layout, List, Op, OutOfMemory, Outcome, Values};
 use std::alloc::Global;
 use std::process::Abort;
@@ -255,9 +255,9 @@ fn ledger_batches(rt: HostRuntime) -> Result<(), Fail> {
         Worked {
             name: "nothing goes above the greatest value",
             layout: LEDGER,
-            entries: &[paid(1, (MAX, 0)), paid(2, (1, 0))],
-            fates: &[(1, &[MAX, 0]), (2, &[])],
-            kept: &[(0, 0, MAX)],
+            entries: &[paid(1, (FIRST_MAX, 0)), paid(2, (1, 0))],
+            fates: &[(1, &[FIRST_MAX, 0]), (2, &[])],
+            kept: &[(0, 0, FIRST_MAX)],
         },
     ];
     Ok(check_all(&rt, rt.alloc(), &batches)?)

@@ -47,3 +47,37 @@ fn batches_put_together_by_hand(rt: HostRuntime) -> Result<(), Fail> {
     }
     Ok(())
 }
+
+/// Whether two events, each with one operation of these limits (constant, floor, greatest value), are a valid batch.
+fn valid_within(alloc: Global, limits: [[u64; 3]; 2]) -> Result<bool, OutOfMemory> {
+    let mut events = List::with_room(alloc, 2)?;
+    for (i, [c, low, high]) in limits.into_iter().enumerate() {
+        let op = Op::new(Func::Sub, Key::of(0, 0), &[], c).limited(low, high);
+        let ops = List::from_slice(alloc, &[op])?;
+        events.push(Event {
+            ts: i as u64 + 1,
+            ops,
+        })?;
+    }
+    Ok(Batch { events }.is_valid())
+}
+
+#[test]
+fn limits_of_a_batch(rt: HostRuntime) -> Result<(), Fail> {
+    let first = [FIRST_MAX, FIRST_MAX, FIRST_MAX];
+    let second = [MAX, MAX, MAX];
+    let rows: [([u64; 3], [u64; 3], bool); 7] = [
+        (first, first, true),
+        (second, second, true),
+        (first, second, false),
+        (second, first, false),
+        (first, [0, FIRST_MAX + 1, FIRST_MAX], false),
+        (second, [MAX + 1, 0, MAX], false),
+        ([0, 0, 100], [0, 0, 100], false),
+    ];
+    for (one, other, want) in rows {
+        let valid = valid_within(rt.alloc(), [one, other])?;
+        assert_eq!(rt; valid, want, "{one:?} and {other:?}");
+    }
+    Ok(())
+}

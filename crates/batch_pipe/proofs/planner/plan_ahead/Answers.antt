@@ -1,6 +1,7 @@
 use Rattle.std.proofs.Common.{List, Some, refl, ap, sym, subst, ◌∙◌, ◌+◌, [], ◌∷◌, ◌++◌, length, arith}
 use Rattle.std.proofs.lemmas.List.{length-append}
 use Rattle.morph_base.specs.declared.key.Layout.{Layout}
+use Rattle.morph_base.specs.declared.limits.TheConstants.{FIRST_MAX}
 use Rattle.rtrb.specs.Ring.{sent}
 use Rattle.batch_pipe.specs.declared.items.Sent.{Sent}
 use Rattle.batch_pipe.specs.Reading.{stand}
@@ -12,7 +13,7 @@ pub planning-init : goal.planning-init
 planning-init g c =
     let p = c.args.planner.now in
     record {
-      plans = ahead_nothing g.A.EventApp.event_of (layout_by g.A.EventApp.table_count p.reader) (stand p.reader (g.S.Source.left c.args.source.now)) (sent p.ring) p.sent;
+      plans = ahead_nothing g.A.EventApp.event_of (layout_by g.A.EventApp.table_count p.reader) FIRST_MAX (stand p.reader (g.S.Source.left c.args.source.now)) (sent p.ring) p.sent;
       ring = ((refl, refl, refl, refl), refl);
       enough = omega arith;
       able = c.requires.able;
@@ -30,8 +31,8 @@ planning-preserved g c =
     let pushed = c.push_reserved.ensures in
     let now_same = c.in-Ok.ensures.same in
     record {
-      plans = ahead_more g.A.EventApp.event_of layout x i.plans c.in-Ok.ensures.plan
-          (subst (λ (l : Layout). IsReady l c.in-Ok.plan) (same_layout g.A.EventApp.table_count p.reader c.planning.planner.reader i.same) c.in-Ok.ensures.ready)
+      plans = ahead_more g.A.EventApp.event_of layout FIRST_MAX x i.plans c.in-Ok.ensures.plan
+          (subst (λ (l : Layout). IsReady l FIRST_MAX c.in-Ok.plan) (same_layout g.A.EventApp.table_count p.reader c.planning.planner.reader i.same) c.in-Ok.ensures.ready)
           (pushed.sent.0 ∙ ap (λ l. l ++ x ∷ []) looked.1) refl refl;
       ring = same_producer p.ring c.is_full.new.self c.push_reserved.new.self
           (same_producer p.ring c.planning.planner.ring c.is_full.new.self i.ring looked.0) pushed.ring;
@@ -50,6 +51,6 @@ returns-in-Err-clause-plans g c =
     let p = c.args.planner.now in
     let layout : Layout = layout_by g.A.EventApp.table_count p.reader in
     let looked = c.is_full.ensures.looked in
-    subst (λ (l : List Sent). PlansAhead g.A.EventApp.event_of layout (stand p.reader (g.S.Source.left c.args.source.now)) (sent p.ring) p.sent
+    subst (λ (l : List Sent). PlansAhead g.A.EventApp.event_of layout FIRST_MAX (stand p.reader (g.S.Source.left c.args.source.now)) (sent p.ring) p.sent
     (Some c.in-Err.tail) (stand c.read_plan.new.reader (g.S.Source.left c.read_plan.new.source)) l c.planning.planner.sent) (sym looked.1)
-    (ahead_stop g.A.EventApp.event_of layout c.in-Err.tail c.planning.invariant.plans c.in-Err.ensures.tail)
+    (ahead_stop g.A.EventApp.event_of layout FIRST_MAX c.in-Err.tail c.planning.invariant.plans c.in-Err.ensures.tail)

@@ -1,19 +1,27 @@
 use Rattle.std.proofs.Common.{◌≡◌, ◌++◌, [], ◌∷◌, List, length, refl, ap, sym, subst, ◌∙◌, arith, append-nil, append_assoc}
+use Rattle.std.specs.Prelude.{All}
 use Rattle.std.proofs.lemmas.List.{length-append}
+use Rattle.std.proofs.lemmas.List.Elements.{All-append, All-weaker}
 use Rattle.morph_base.specs.declared.key.Layout.{Layout}
 use Rattle.morph_base.specs.Flat.{contents}
+use Rattle.morph_base.specs.States.{IsUpTo}
 use Rattle.rtrb.specs.Ring.{known_items, received}
 use Rattle.batch_pipe.specs.declared.items.Sent.{Sent}
 use Rattle.batch_pipe.specs.Planning.{IsReady}
-use Rattle.batch_pipe.specs.Running.{Runs, Desk, Manner, desk, manner, one_or_none}
+use Rattle.batch_pipe.specs.Running.{IsRunnable, Runs, Desk, Manner, desk, manner, one_or_none}
 use Rattle.batch_pipe.proofs.Desks.{runs_stay, runs_as, runs_both, all_middle, empty_is}
 use Rattle.batch_pipe.proofs.Ahead.{same_consumer, same_ring}
-use Rattle.batch_pipe.proofs.Rounds.{some_is}
+use Rattle.batch_pipe.proofs.Bounds.{runnable, state_after-within}
+use Rattle.batch_pipe.proofs.Rounds.{all_front, some_is}
 use Rattle.batch_pipe.proofs.runner.run_waiting.Goals as goal
 
 pub run_first-requires-clause-ready : goal.run_first-requires-clause-ready
 run_first-requires-clause-ready g c κs within =
-    some_is c.args.first (λ (x : Sent). IsReady c.args.runner.now.engine.layout x.plan) c.requires.waiting.first_ready
+    let w = c.requires.waiting in
+    let engine = c.args.runner.now.engine in
+    some_is c.args.first (λ (x : Sent). IsRunnable engine x.plan)
+    (All-weaker (λ (x : Sent). IsReady engine.layout w.high x.plan) (λ (x : Sent). IsRunnable engine x.plan) (λ x ready. runnable engine.layout w.high engine x.plan refl ready w.small)
+    (one_or_none c.args.first) w.first_ready)
 
 pub returns-then-not-run_first : goal.returns-then-not-run_first
 returns-then-not-run_first g c =
@@ -67,10 +75,16 @@ pop_known-sent-requires g c =
 pub run_into-requires-clause-ready : goal.run_into-requires-clause-ready
 run_into-requires-clause-ready g c κs within =
     let i = c.loop.invariant in
-    let pop = c.pop_known-sent.ensures in
-    subst (λ (l : Layout). IsReady l c.pop_known-sent.result.plan) (sym i.layout)
-    (all_middle (λ (x : Sent). IsReady c.args.runner.now.engine.layout x.plan) (known_items c.args.runner.now.ring) i.popped (known_items c.pop_known-sent.new.self) c.pop_known-sent.result
-    c.requires.waiting.ready (i.known_is ∙ ap (λ l. i.popped ++ l) pop.received.1))
+    let w = c.requires.waiting in
+    let old = c.args.runner.now in
+    let layout : Layout = old.engine.layout in
+    let Ready : Sent → Type 0 = λ x. IsReady layout w.high x.plan in
+    let front = All-append Ready (one_or_none c.args.first) i.popped w.first_ready (all_front Ready i.popped (known_items c.loop.runner.ring) (subst (All Ready) i.known_is w.ready)) in
+    let small : IsUpTo w.high (contents c.loop.runner.engine) = rw i.run.state_is (state_after-within layout w.high (contents old.engine) (one_or_none c.args.first ++ i.popped) front w.small) in
+    runnable layout w.high c.loop.runner.engine c.pop_known-sent.result.plan i.layout
+    (all_middle Ready (known_items old.ring) i.popped (known_items c.pop_known-sent.new.self) c.pop_known-sent.result
+    w.ready (i.known_is ∙ ap (λ l. i.popped ++ l) c.pop_known-sent.ensures.received.1))
+    small
 
 pub run_into-requires-clause-place : goal.run_into-requires-clause-place
 run_into-requires-clause-place g c κs within =

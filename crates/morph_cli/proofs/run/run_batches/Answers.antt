@@ -14,6 +14,10 @@ use Rattle.morph_cli.proofs.Between.{closing_of, closing_last, course_of, error_
 use Rattle.morph_cli.proofs.Ending.{ends_complete, ends_refused, ends_cut, told_at_end, told_cut_at_end}
 use Rattle.morph_cli.proofs.Noting.{noted_so, risen_in_part}
 use Rattle.morph_cli.proofs.Turns.{cut_text}
+use Rattle.morph_base.specs.declared.limits.TheConstants.{FIRST_MAX}
+use Rattle.morph_base.specs.Flat.{contents}
+use Rattle.morph_base.proofs.BoundLaws.{fold_batch-within}
+use Rattle.morph_cli.proofs.Bounds.{opens_small, batch_small}
 use Rattle.morph_cli.proofs.run.run_batches.Goals as goal
 
 -- ---- between two batches
@@ -27,6 +31,7 @@ batches-init g c =
         state = shown.state ∙ sym c.requires.opening;
       }) c.requires.shown;
       watch = c.requires.watch.0;
+      small = opens_small FIRST_MAX _ c.requires.opening;
       run = between_start (course_of g.A.EventApp.event_of (g.A.EventApp.table_count c.args.job.now.app) (g.A.EventApp.name_of c.args.job.now.app) c.args.job.now.app c.args.job.now.settings INPUT_BYTES (g.S.Source.left c.args.source.now)
           (outputs_of (g.K.Sink.written c.args.sink.now) (g.N.Sink.written c.args.notes.now)))
           c.args.progress.now.reader c.args.progress.now.engine c.args.tally.now c.args.progress.now.out c.args.progress.now.last (layout_of (g.A.EventApp.table_count c.args.job.now.app) c.args.job.now.settings.size) c.requires.reader c.requires.layout
@@ -48,6 +53,11 @@ returns-in_err-batch-clause-told g c =
     (error_is c.from_residual.result (fault_of c.in_err-batch.field-0.0) c.from_residual.ensures.1) c.batches.invariant.run
 
 -- ---- a batch
+
+pub take_batch-requires-clause-small : goal.take_batch-requires-clause-small
+take_batch-requires-clause-small g c κs outlives =
+    let valid = rw c.in-Batch.is at c.in_ok-batch.ensures.valid in
+    batch_small FIRST_MAX c.in-Batch.batch (contents c.batches.progress.engine) valid.0 valid.1 valid.3 c.batches.invariant.small
 
 pub take_batch-requires-clause-room : goal.take_batch-requires-clause-room
 take_batch-requires-clause-room g c κs outlives a valid sound = has_room a c.batches.invariant.run (lit≤ tt) valid sound
@@ -96,6 +106,7 @@ batches-preserved g c =
           c.in_ok-take_batch-in-Batch.ensures.layout c.in_ok-take_batch-in-Batch.ensures.empty);
       shown = shown_taken (g.S.Source.left c.next_batch.new.source) c.next_batch.new.self _ _ c.batches.invariant.run refl refl c.batches.invariant.shown c.batches.invariant.watch answers valid.0 _ _ _ _ _ _ c.in_ok-take_batch-in-Batch.ensures.takes c.in_ok-take_batch-in-Batch.ensures.layout;
       watch = watch_taken (g.S.Source.left c.next_batch.new.source) c.next_batch.new.self _ _ c.batches.invariant.run refl refl c.batches.invariant.shown c.batches.invariant.watch answers valid.0 _ _ _ _ _ _ c.in_ok-take_batch-in-Batch.ensures.takes;
+      small = rw c.in_ok-take_batch-in-Batch.ensures.takes.0.state (fold_batch-within FIRST_MAX c.in-Batch.batch (contents c.batches.progress.engine) valid.1 valid.3 c.batches.invariant.small);
       source_faults = omega (arith, c.batches.invariant.source_faults, c.in_ok-batch.ensures.never_falls);
       sink_faults = omega (arith, c.batches.invariant.sink_faults, c.in_ok-take_batch-in-Batch.ensures.sink_faults);
       notes_faults = omega (arith, c.batches.invariant.notes_faults, c.in_ok-take_batch-in-Batch.ensures.notes_faults);

@@ -54,7 +54,7 @@ returns-in-None g c =
       leads = leads_joined (g.A.EventApp.event_of c.args.app.now c.args.size) _ (batch_of c.args.self.now) _ c.requires.short e (batch_of c.join.new.self)
           (sym c.if-is_ignored_line.ensures) (sym c.if-is_punctuation_line.ensures) is joined.joins joined.events;
       notes = joined.notes;
-      sound = sound_more _ c.args.closed (batch_of c.args.self.now) e (batch_of c.join.new.self) c.requires.sound valid.0 valid.1 joined.joins joined.events;
+      sound = sound_more _ c.args.closed (batch_of c.args.self.now) e (batch_of c.join.new.self) c.requires.sound valid joined.joins joined.events;
       more = rw joined.events (omega (arith, length-append (batch_of c.args.self.now) (e ∷ [])));
     }
 

@@ -1,6 +1,6 @@
 use Rattle.std.proofs.Common.{◌≡◌, ◌∙◌, ◌-◌, ◌++◌, ℕ, List, length, drop, replicate, ap}
 use Rattle.std.proofs.lemmas.List.{drop-replicate}
-use Rattle.morph_base.specs.declared.limits.TheConstants.{PARAMS}
+use Rattle.morph_base.specs.declared.limits.TheConstants.{FIRST_MAX, PARAMS}
 use Rattle.morph_base.specs.declared.key.Key.{Key}
 use Rattle.morph_base.specs.declared.operation.Func.{Func}
 use Rattle.morph_base.specs.declared.operation.Op.{Op}
@@ -14,7 +14,7 @@ filled params front same =
     ap (λ l. l ++ drop (length params) (replicate PARAMS no_key)) same ∙ ap (λ l. params ++ l) (drop-replicate (length params) PARAMS no_key)
 
 abbrev with_places : Func → Key → (n c : ℕ) → List Key → Op
-with_places func key n c places = record { key = key; params = places; n_params = n; func = func; c = c }
+with_places func key n c places = record { key = key; params = places; n_params = n; func = func; c = c; low = 0; high = FIRST_MAX }
 
 pub returns-clause-parts : goal.returns-clause-parts
 returns-clause-parts c =

@@ -1,7 +1,7 @@
-use Rattle.std.proofs.Common.{ap, sym, subst, ◌∙◌}
+use Rattle.std.proofs.Common.{◌≤◌, ap, sym, subst, ◌∙◌}
 use Rattle.morph_base.specs.declared.plan.Plan.{Plan}
-use Rattle.morph_base.specs.Flat.{contents}
-use Rattle.morph_base.specs.Plans.{PlanKeysIn, transactions}
+use Rattle.morph_base.specs.Flat.{Kept, contents}
+use Rattle.morph_base.specs.Plans.{PlanKeysIn, high_of, transactions}
 use Rattle.morph_base.specs.Graphs.{IsGraph}
 use Rattle.morph_base.proofs.FillLaws.{transactions-filled, keys_in-filled}
 use Rattle.morph_base.proofs.GraphFillLaws.{graph-filled}
@@ -20,3 +20,6 @@ returns-clause-keys c =
 
 pub returns-clause-transactions : goal.returns-clause-transactions
 returns-clause-transactions c = ap transactions c.bases.ensures.filled ∙ transactions-filled (contents c.self.inside.state) c.args.plan.now
+
+pub bases-requires-clause-small : goal.bases-requires-clause-small
+bases-requires-clause-small c = λ key. subst (λ (s : Kept). contents s key ≤ high_of c.args.plan.now) (sym c.self.view_is) (c.requires.small key)

@@ -1,5 +1,5 @@
-use Rattle.std.proofs.Common.{◌≡◌, ◌≤◌, List, All, ap, sym, subst, length, get_or, le_trans}
-use Rattle.morph_base.specs.declared.limits.TheConstants.{MAX, READS}
+use Rattle.std.proofs.Common.{◌≡◌, ◌≤◌, List, All, ap, sym, subst, length, get_or}
+use Rattle.morph_base.specs.declared.limits.TheConstants.{READS}
 use Rattle.morph_base.specs.declared.key.Key.{Key}
 use Rattle.morph_base.specs.declared.plan.Plan.{Plan}
 use Rattle.morph_base.specs.declared.plan.PlanOp.{PlanOp}
@@ -7,7 +7,6 @@ use Rattle.morph_base.specs.Operations.{IsShaped, InLayout, reads}
 use Rattle.morph_base.specs.Flat.{contents}
 use Rattle.morph_base.specs.States.{State}
 use Rattle.morph_base.specs.Plans.{IsPlan, high_of, HasBases, filled_plan, filled, no_plan_op}
-use Rattle.morph_base.proofs.BoundLaws.{high_of-all}
 use Rattle.morph_base.proofs.FillLaws.{filled_is_plan, has_bases-filled}
 use Rattle.version_table.proofs.Filled.{changed_front-holds, changed_more, changed_all}
 use Rattle.version_table.proofs.state.State.bases.Goals as goal
@@ -53,6 +52,5 @@ returns c =
     ap (with_ops c.args.plan.now)
     (changed_all (filled s) c.args.plan.now.ops.items c.as_mut_slice-op-items.result.now c.loop-op.op-items c.loop-op.op-index
     c.as_mut_slice-op-items.ensures.items c.loop-op.invariant c.loop-op-test.false) in
-    let small : (key : Key) → s key ≤ MAX = rw c.self.view_is at c.self.invariant in
-    let both = filled_is c.args.plan.now s _ whole c.requires.plan (λ key. le_trans (small key) (high_of-all c.args.plan.now)) in
+    let both = filled_is c.args.plan.now s _ whole c.requires.plan c.requires.small in
     record { filled = whole; plan = both.0; bases = both.1 }

@@ -1,17 +1,19 @@
 -- Plans that are sent one after another.
-use Rattle.std.proofs.Common.{◌≡◌, ℕ, ◌+◌, List, [], ◌∷◌, ◌++◌, length, Some, None, refl, ap, sym, subst, ◌∙◌, arith, append-nil, append_assoc}
+use Rattle.std.proofs.Common.{◌≡◌, ℕ, ◌+◌, ◌<◌, zero-lt-suc, Bool, true, false, List, [], ◌∷◌, ◌++◌, length, Some, None, refl, ap, sym, subst, ◌∙◌, arith, append-nil, append_assoc}
+use Rattle.std.specs.Prelude.{All}
 use Rattle.std.proofs.lemmas.List.{length-append, map-append}
-use Rattle.std.proofs.lemmas.List.Elements.{All-push}
+use Rattle.std.proofs.lemmas.List.Elements.{All-nil, All-push}
 use Rattle.morph_base.specs.declared.key.Layout.{Layout}
 use Rattle.morph_base.specs.declared.plan.Plan.{Plan}
-use Rattle.event_reader.specs.Reader.{ReaderView}
+use Rattle.event_reader.specs.Reader.{ReaderView, KeepsVersion, SameReader}
+use Rattle.event_reader.specs.Versions.{greatest_of}
 use Rattle.event_reader.specs.Steps.{Meaning}
 use Rattle.batch_pipe.specs.declared.items.Sent.{Sent}
 use Rattle.batch_pipe.specs.declared.tail.Tail.{Tail}
 use Rattle.rtrb.specs.declared.producer.Producer.{Producer}
 use Rattle.rtrb.specs.declared.consumer.Consumer.{Consumer}
 use Rattle.rtrb.specs.Ring.{SameProducer, SameConsumer}
-use Rattle.batch_pipe.specs.Reading.{Stand, SameReader}
+use Rattle.batch_pipe.specs.Reading.{Stand}
 use Rattle.batch_pipe.specs.Planning.{IsReady, AreNumbered, Plans, PlansAhead, Stops, layout_by, plans_of}
 use Rattle.batch_pipe.proofs.Givings.{plans_nothing, plans_both, plans_stop}
 
@@ -26,12 +28,12 @@ pub numbered-one : (n : ℕ) (x : Sent) → x.number ≡ n + 1 → AreNumbered n
 unfolding AreNumbered
 numbered-one n x is = (is, tt)
 
-numbered-none : (n : ℕ) → AreNumbered n []
+pub numbered-none : (n : ℕ) → AreNumbered n []
 unfolding AreNumbered
 numbered-none n = tt
 
 module _ {App : Type 0} (event_of : App → ℕ → Meaning) (layout : Layout) (high : ℕ) where
-  pub ahead_nothing : (a : Stand App) (before : List Sent) (n : ℕ) → PlansAhead event_of layout high a before n None a before n
+  abbrev pub ahead_nothing : (a : Stand App) (before : List Sent) (n : ℕ) → PlansAhead event_of layout high a before n None a before n
   ahead_nothing a before n = record {
     more = [];
     sent_is = sym (append-nil before);
@@ -41,24 +43,30 @@ module _ {App : Type 0} (event_of : App → ℕ → Meaning) (layout : Layout) (
     number_is = omega arith;
   }
 
-  pub ahead_more : {a b c : Stand App} {before middle after : List Sent} {n m k : ℕ} (x : Sent) → PlansAhead event_of layout high a before n None b middle m →
-      Plans event_of b (x.plan ∷ []) None c → IsReady layout high x.plan → after ≡ middle ++ x ∷ [] → x.number ≡ m + 1 → k ≡ m + 1 → PlansAhead event_of layout high a before n None c after k
-  ahead_more {a} {b} {c} {before} {middle} {after} {n} {m} {k} x p q ready is number next = record {
+  -- plans that are ready with one greatest value are so with another, which is it where there is a plan
+  pub ready_as : (high' : ℕ) (xs : List Sent) → (0 < length xs → high' ≡ high) → All (λ (x : Sent). IsReady layout high x.plan) xs → All (λ (x : Sent). IsReady layout high' x.plan) xs
+  ready_as high' [] is ready = All-nil (λ (x : Sent). IsReady layout high' x.plan)
+  ready_as high' (x ∷ xs) is ready = subst (λ n. All (λ (y : Sent). IsReady layout n y.plan) (x ∷ xs)) (sym (is (zero-lt-suc (length xs)))) ready
+
+  pub ahead_more : {a b c : Stand App} {before middle after : List Sent} {n m k : ℕ} (high' : ℕ) (x : Sent) (p : PlansAhead event_of layout high a before n None b middle m) →
+      Plans event_of b (x.plan ∷ []) None c → (0 < length p.more → high' ≡ high) → IsReady layout high' x.plan → after ≡ middle ++ x ∷ [] → x.number ≡ m + 1 → k ≡ m + 1 →
+      PlansAhead event_of layout high' a before n None c after k
+  ahead_more {a} {b} {c} {before} {middle} {after} {n} {m} {k} high' x p q same ready is number next = record {
     more = p.more ++ x ∷ [];
     sent_is = is ∙ ap (λ l. l ++ x ∷ []) p.sent_is ∙ append_assoc before p.more (x ∷ []);
     plans = subst (λ (l : List Plan). Plans event_of a l None c) (sym (map-append (λ (y : Sent). y.plan) p.more (x ∷ []))) (plans_both event_of (plans_of p.more) (x.plan ∷ []) p.plans q);
-    ready = All-push (λ (y : Sent). IsReady layout high y.plan) p.more x p.ready ready;
+    ready = All-push (λ (y : Sent). IsReady layout high' y.plan) p.more x (ready_as high' p.more same p.ready) ready;
     numbered = numbered-append n p.more (x ∷ []) p.numbered (numbered-one (n + length p.more) x (number ∙ ap (λ i. i + 1) p.number_is));
     number_is = let l = length-append p.more (x ∷ []) in let i = p.number_is in omega (arith, l, i, next);
   }
 
-  pub ahead_stop : {a b c : Stand App} {before after : List Sent} {n m : ℕ} (tail : Tail) → PlansAhead event_of layout high a before n None b after m → Stops event_of tail b c →
-      PlansAhead event_of layout high a before n (Some tail) c after m
-  ahead_stop {a} {b} {c} tail p stops = record {
+  pub ahead_stop : {a b c : Stand App} {before after : List Sent} {n m : ℕ} (high' : ℕ) (tail : Tail) (p : PlansAhead event_of layout high a before n None b after m) → Stops event_of tail b c →
+      (0 < length p.more → high' ≡ high) → PlansAhead event_of layout high' a before n (Some tail) c after m
+  ahead_stop {a} {b} {c} high' tail p stops same = record {
     more = p.more;
     sent_is = p.sent_is;
     plans = plans_stop event_of (plans_of p.more) tail p.plans stops;
-    ready = p.ready;
+    ready = ready_as high' p.more same p.ready;
     numbered = p.numbered;
     number_is = p.number_is;
   }
@@ -78,3 +86,22 @@ same_layout table_count a b same =
 
 pub same_ring : {T A P : Type 0} (a b : Consumer T A P) → b ≡ a → SameConsumer a b
 same_ring {T} {A} {P} a b e = subst (λ (c : Consumer T A P). SameConsumer a c) (sym e) ((refl, refl, refl, refl), refl)
+
+-- what waited is ready when the halves begin: where a batch was read first nothing waited, and else the reader is as it was
+pub waits_ready : {App : Type 0} (event_of : App → ℕ → Meaning) (layout : Layout) (r0 r1 : ReaderView App) (waiting : List Sent) (asked : Bool) → (asked ≡ true → length waiting ≡ 0) → (asked ≡ false → r1 ≡ r0)
+    → All (λ (x : Sent). IsReady layout (greatest_of r0.past.version) x.plan) waiting → All (λ (x : Sent). IsReady layout (greatest_of r1.past.version) x.plan) waiting
+waits_ready {App} event_of layout r0 r1 waiting asked none idle ready =
+    ready_as event_of layout (greatest_of r0.past.version) (greatest_of r1.past.version) waiting (by_asked asked refl) ready
+  where
+    by_asked : (t : Bool) → asked ≡ t → 0 < length waiting → greatest_of r1.past.version ≡ greatest_of r0.past.version
+    by_asked true is some = absurd (let empty = none is in omega (arith, some, empty))
+    by_asked false is some = ap (λ (r : ReaderView App). greatest_of r.past.version) (idle is)
+
+-- where a plan waited the halves keep the version: a line was read before, or nothing is read
+pub halves_keep : {App : Type 0} (r1 r2 : ReaderView App) (planning : Bool) → (planning ≡ true → 0 < r1.lines.number) → KeepsVersion r1 r2 → (planning ≡ false → r2 ≡ r1)
+    → greatest_of r2.past.version ≡ greatest_of r1.past.version
+halves_keep {App} r1 r2 planning some keeps idle = by_planning planning refl
+  where
+    by_planning : (t : Bool) → planning ≡ t → greatest_of r2.past.version ≡ greatest_of r1.past.version
+    by_planning true is = ap greatest_of (keeps.stays (some is))
+    by_planning false is = ap (λ (r : ReaderView App). greatest_of r.past.version) (idle is)

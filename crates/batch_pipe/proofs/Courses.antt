@@ -10,7 +10,7 @@ use Rattle.morph_base.specs.declared.plan.Plan.{Plan}
 use Rattle.morph_base.specs.Flat.{Kept, contents}
 use Rattle.morph_base.specs.States.{State}
 use Rattle.morph_io.specs.Told.{ahead, ahead_ahead}
-use Rattle.event_reader.specs.Accepted.{Accepted, Ending, Ended, RefusedAt, CutOff, accepted_from, closed_batches}
+use Rattle.event_reader.specs.Accepted.{Accepted, Ending, Ended, RefusedAt, CutOff, accepted_first, closed_batches}
 use Rattle.event_reader.specs.Reader.{ReaderView, new_reader, accepted_by, accepted_after, AnswersNext, Takes}
 use Rattle.event_reader.specs.Lines.{front}
 use Rattle.event_reader.specs.Steps.{Meaning}
@@ -236,7 +236,7 @@ module _ {App : Type 0} (event_of : App → ℕ → Meaning) (m : Manner) where
         let first = p.plans.gives.shows in
         let last = stops.shows in
         let shown = first.shows (stops.asked refl) last.got in
-        let all_is : accepted_from (event_of app size) 0 0 [] (front (first.got ++ last.got)) ≡ with_batches p.plans.batches (record { batches = []; ending = CutOff }) =
+        let all_is : accepted_first (event_of app size) 0 [] (front (first.got ++ last.got)) ≡ with_batches p.plans.batches (record { batches = []; ending = CutOff }) =
         ap (λ r. accepted_after event_of r (front (r.lines.kept ++ first.got ++ last.got))) (sym new) ∙ shown ∙ ap (with_batches p.plans.batches) last.shows in
         record {
           got = first.got ++ last.got;

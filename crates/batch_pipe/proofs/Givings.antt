@@ -12,12 +12,13 @@ use Rattle.event_reader.specs.Lines.{front}
 use Rattle.event_reader.specs.Steps.{Meaning}
 use Rattle.event_reader.specs.Accepted.{Accepted, with_batch}
 use Rattle.event_reader.specs.declared.answers.Next.TheVariants.{Batch}
-use Rattle.event_reader.specs.Reader.{accepted_by, accepted_after, accepted_next, AnswersNext, ShowsNext, Takes}
-use Rattle.batch_pipe.specs.Reading.{Stand, Gives, SameReader, with_batches}
+use Rattle.event_reader.specs.Reader.{accepted_by, accepted_after, accepted_next, AnswersNext, ShowsNext, Takes, SameReader}
+use Rattle.batch_pipe.specs.Reading.{Stand, Gives, with_batches}
 use Rattle.batch_pipe.specs.declared.tail.Tail.{Tail}
 use Rattle.batch_pipe.specs.Planning.{Plans, Stops}
 use Rattle.morph_base.specs.declared.plan.Plan.{Plan}
 use Rattle.morph_base.specs.Plans.{transactions}
+use Rattle.event_reader.proofs.Opening.{keeps_same, same_both}
 use Rattle.morph_base.specs.Transactions.{by_time}
 use Rattle.std.proofs.lemmas.List.{map-append}
 
@@ -54,7 +55,7 @@ module _ {App : Type 0} (event_of : App → ℕ → Meaning) where
     counted = omega arith;
     bound = λ few. few;
     unended = λ e. e;
-    same = (refl, refl, refl);
+    same = (refl, refl, refl, keeps_same a.reader);
   }
 
   pub gives_both : {a b c : Stand App} (xs ys : List (List Transaction)) → Gives event_of a xs b → Gives event_of b ys c → Gives event_of a (xs ++ ys) c
@@ -75,7 +76,7 @@ module _ {App : Type 0} (event_of : App → ℕ → Meaning) where
     counted = let s = sum_by-append (λ (batch : List Transaction). length batch) xs ys in let l = p.counted in let r = q.counted in omega (arith, s, l, r);
     bound = λ few. q.bound (p.bound few);
     unended = λ e. p.unended (q.unended e);
-    same = (q.same.0 ∙ p.same.0, q.same.1 ∙ p.same.1, q.same.2 ∙ p.same.2);
+    same = same_both a.reader b.reader c.reader p.same q.same;
   }
 
   pub gives_one : (a b : Stand App) (batch : TheBatch) → AnswersNext (accepted_by event_of a.reader a.left) (Ok (Batch batch)) (accepted_by event_of b.reader b.left) →
@@ -96,7 +97,7 @@ module _ {App : Type 0} (event_of : App → ℕ → Meaning) where
           taken = shows.taken;
           shows = λ e more.
               shows.shows e more
-              ∙ ap (λ m. with_batch es (accepted_next m b.reader.closed b.reader.lines (front (b.reader.lines.kept ++ more)))) (sym meaning_is)
+              ∙ ap (λ m. with_batch es (accepted_next m b.reader.past b.reader.lines (front (b.reader.lines.kept ++ more)))) (sym meaning_is)
               ∙ with_batch-one es (accepted_after event_of b.reader (front (b.reader.lines.kept ++ more))) few;
         };
         some = All-push (λ (batch : List Transaction). 0 < length batch) [] es (λ k d lt. absurd (omega arith)) few;

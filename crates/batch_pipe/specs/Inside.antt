@@ -1,8 +1,8 @@
 -- What a pipe keeps true.
 use Rattle.std.specs.Prelude.{◌≡◌, ℕ, ◌+◌, ◌-◌, ◌≤◌, List, ◌++◌, length, All, None}
-use Rattle.morph_base.specs.declared.limits.TheConstants.{FIRST_MAX}
 use Rattle.morph_base.specs.Flat.{contents}
 use Rattle.morph_base.specs.States.{IsUpTo}
+use Rattle.event_reader.specs.Versions.{greatest_of}
 use Rattle.rtrb.specs.Ring.{sent, received, known_items, known_free, producer_capacity, IsPair}
 use Rattle.batch_pipe.specs.declared.items.Sent.{Sent}
 use Rattle.batch_pipe.specs.declared.pipe.Pipe.TheInside.{Inside}
@@ -40,8 +40,8 @@ module _ {A : Type 0} where
     pub capacity : producer_capacity p.planner.ring ≡ places_in p
     pub some : 1 ≤ places_in p
     pub few : places_in p ≤ 2
-    pub small : IsUpTo FIRST_MAX (contents p.runner.engine)
-    pub ready : All (λ (x : Sent). IsReady p.runner.engine.layout FIRST_MAX x.plan) (waiting_in p)
+    pub small : IsUpTo (greatest_of p.planner.reader.past.version) (contents p.runner.engine)
+    pub ready : All (λ (x : Sent). IsReady p.runner.engine.layout (greatest_of p.planner.reader.past.version) x.plan) (waiting_in p)
     pub numbered : AreNumbered (p.planner.sent - length (waiting_in p)) (waiting_in p)
     pub number : length (waiting_in p) ≤ p.planner.sent
     pub layout : p.runner.engine.layout ≡ layout_by table_count p.planner.reader

@@ -1,23 +1,23 @@
 -- Plans that are made of the batches that a reader gives.
 use Rattle.std.specs.Prelude.{false, ◌≡◌, ℕ, ◌+◌, ◌≤◌, List, [], ◌∷◌, ◌++◌, length, map, All, Option, Some, None, Result, Ok, Err, IsTrue}
 use Rattle.morph_base.specs.declared.key.Layout.{Layout}
-use Rattle.morph_base.specs.declared.limits.TheConstants.{FIRST_MAX}
 use Rattle.morph_base.specs.declared.plan.Plan.{Plan}
 use Rattle.morph_base.specs.Transactions.{Transaction, by_time}
 use Rattle.morph_base.specs.Plans.{PlanKeysIn, high_of, transactions}
 use Rattle.morph_base.specs.Graphs.{IsValidPlan}
 use Rattle.event_reader.specs.Steps.{Meaning}
+use Rattle.event_reader.specs.Versions.{greatest_of}
 use Rattle.event_reader.specs.declared.answers.Next.{Next}
 use Rattle.event_reader.specs.declared.answers.Next.TheVariants.{End as NoBatch, Refused as RefusedLine}
 use Rattle.event_reader.specs.declared.fault.ReaderFault.{ReaderFault}
 use Rattle.event_reader.specs.declared.fault.ReaderFault.TheVariants.{OutOfMemory, ReadFault}
-use Rattle.event_reader.specs.Reader.{ReaderView, accepted_by, AnswersNext, ShowsNext, Takes}
+use Rattle.event_reader.specs.Reader.{ReaderView, accepted_by, AnswersNext, ShowsNext, Takes, SameReader}
 use Rattle.rtrb.specs.Ring.{sent, known_free}
 use Rattle.batch_pipe.specs.declared.items.Sent.{Sent}
 use Rattle.batch_pipe.specs.declared.planner.Planner.{Planner}
 use Rattle.batch_pipe.specs.declared.tail.Tail.{Tail}
 use Rattle.batch_pipe.specs.declared.tail.Tail.TheVariants.{End, Refused, Fault, RunMemory}
-use Rattle.batch_pipe.specs.Reading.{Stand, stand, Gives, SameReader}
+use Rattle.batch_pipe.specs.Reading.{Stand, stand, Gives}
 
 -- the answer of a reader that a tail tells; want of memory says nothing
 abbrev pub answer_of : Tail → Result Next ReaderFault
@@ -80,7 +80,7 @@ module _ {App : Type 0} (event_of : App → ℕ → Meaning) where
   -- a planner read and planned so far, and sent what it planned over its ring; then it met the tail, if there is one
   abbrev pub HasPlanned : (table_count : App → ℕ) → Planner App → Option (List ℕ) → Option Tail → Planner App → Option (List ℕ) → Type 0
   HasPlanned table_count a left tail b left' =
-      PlansAhead (layout_by table_count a.reader) FIRST_MAX (stand a.reader left) (sent a.ring) a.sent tail (stand b.reader left') (sent b.ring) b.sent
+      PlansAhead (layout_by table_count a.reader) (greatest_of b.reader.past.version) (stand a.reader left) (sent a.ring) a.sent tail (stand b.reader left') (sent b.ring) b.sent
 
 -- a planner may go on, for which each number of a plan is at most that of a line
 pub record CanPlan {App : Type 0} (p : Planner App) : Type 0 where

@@ -4,7 +4,7 @@ use Rattle.morph_base.specs.Transactions.{Transaction}
 use Rattle.event_reader.specs.Lines.{front}
 use Rattle.event_reader.specs.Steps.{Meaning}
 use Rattle.event_reader.specs.Accepted.{Accepted}
-use Rattle.event_reader.specs.Reader.{ReaderView, accepted_by, accepted_after, Takes}
+use Rattle.event_reader.specs.Reader.{ReaderView, SameReader, accepted_by, accepted_after, Takes}
 
 -- batches put in front of others
 abbrev pub with_batches : List (List Transaction) → Accepted → Accepted
@@ -17,10 +17,6 @@ pub record Stand (App : Type 0) : Type 0 where
 
 abbrev pub stand : {App : Type 0} → ReaderView App → Option (List ℕ) → Stand App
 stand reader left = record { reader = reader; left = left }
-
--- a reader of the same application, with as many ids in each table and the same limit
-abbrev pub SameReader : {App : Type 0} → ReaderView App → ReaderView App → Type 0
-SameReader a b = (b.app ≡ a.app) × (b.size ≡ a.size) × (b.lines.limit ≡ a.lines.limit)
 
 module _ {App : Type 0} (event_of : App → ℕ → Meaning) where
   -- what the bytes taken show, whatever follows them: they have these batches, if the source did not come to its end

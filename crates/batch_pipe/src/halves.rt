@@ -4,7 +4,7 @@ ghost use Rattle.morph_base.specs.Limits.{most_workers};
 ghost use Rattle.morph_io.specs.Told.{HasRisen};
 ghost use Rattle.event_reader.specs.declared.fault.ReaderFault.TheVariants.{ReadFault};
 ghost use Rattle.rtrb.specs.Ring.{SameProducer};
-ghost use Rattle.batch_pipe.specs.Reading.{SameReader};
+ghost use Rattle.event_reader.specs.Reader.{SameReader};
 ghost use Rattle.batch_pipe.specs.Planning.{HasPlanned, HasFilled, CanPlan, IsIdle};
 ghost use Rattle.batch_pipe.specs.Running.{CanRun, HasRun, manner, one_or_none};
 

@@ -1,10 +1,10 @@
 ghost use Rattle.std.specs.Prelude.{◌≡◌, ◌+◌, ◌<◌, ◌≤◌, ◌↔◌, [], ◌∷◌, ◌++◌, length, replicate, slice_set, slice_index_or, Option, None, Some, IfOk, IfNone, IfSome, IsTrue};
 ghost use Rattle.morph_base.specs.Limits.{most_workers};
-ghost use Rattle.morph_base.specs.declared.limits.TheConstants.{FIRST_MAX};
 ghost use Rattle.morph_base.specs.Flat.{contents};
 ghost use Rattle.morph_base.specs.States.{IsUpTo};
 ghost use Rattle.morph_io.specs.Told.{HasRisen};
 ghost use Rattle.event_reader.specs.Limits.{input_bytes};
+ghost use Rattle.event_reader.specs.Versions.{greatest_of};
 ghost use Rattle.event_reader.specs.declared.fault.ReaderFault.TheVariants.{ReadFault};
 ghost use Rattle.rtrb.specs.Ring.{sent, received, known_items, known_free, producer_capacity, IsPair, SameProducer, SameConsumer};
 ghost use Rattle.batch_pipe.specs.declared.items.Ran.{Ran};
@@ -113,7 +113,7 @@ fn asks_first(planning: bool, waiting: usize) -> bool
 impl<A: EventApp> Pipe<A> {
     /// A pipe of one plan or two that wait while another is run, over a reader and an engine for the same application.
     ///
-    /// No value of the engine's state may be above the greatest value of what the reader gives.
+    /// No value of the engine's state may be above the greatest value of the reader's version.
     pub fn new(
         alloc: Global,
         reader: BatchReader<A>,
@@ -126,7 +126,7 @@ impl<A: EventApp> Pipe<A> {
         requires few { ahead ≤ 2 }
         requires live { IsTrue reader.live }
         requires layout { engine.layout ≡ layout_by A.table_count reader }
-        requires small { IsUpTo FIRST_MAX (contents engine) }
+        requires small { IsUpTo (greatest_of reader.past.version) (contents engine) }
         ensures { IfOk result (λ pipe. pipe ≡ new_pipe reader engine ahead) }
     {
         let (producer, consumer) = RingBuffer::new(alloc, ahead as usize)?;

@@ -1,10 +1,11 @@
 ghost use Rattle.std.specs.Prelude.{◌≡◌, ◌≢◌, ℕ, ◌+◌, ◌<◌, ◌≤◌, [], ◌∷◌, length, false, None, Some, Ok, IfOk, IfErr, IfNone, IfSome, IsErrOf, IsTrue};
-ghost use Rattle.morph_base.specs.declared.limits.TheConstants.{FIRST_MAX};
 ghost use Rattle.morph_io.specs.Told.{HasRisen};
 ghost use Rattle.event_reader.specs.Limits.{input_bytes};
+ghost use Rattle.event_reader.specs.Versions.{greatest_of};
 ghost use Rattle.event_reader.specs.declared.fault.ReaderFault.TheVariants.{ReadFault};
 ghost use Rattle.rtrb.specs.Ring.{SameProducer};
-ghost use Rattle.batch_pipe.specs.Reading.{stand, SameReader};
+ghost use Rattle.batch_pipe.specs.Reading.{stand};
+ghost use Rattle.event_reader.specs.Reader.{SameReader};
 ghost use Rattle.batch_pipe.specs.Planning.{IsReady, Plans, Stops, PlansAhead, HasPlanned, HasFilled, CanPlan, IsIdle, layout_by};
 ghost use Rattle.batch_pipe.specs.Running.{one_or_none};
 
@@ -35,7 +36,8 @@ fn read_plan<A: EventApp, S: Source>(
     requires live { IsTrue reader.old.live }
     ensures plan { IfOk result (λ plan. Plans A.event_of
         (stand reader.old (S.left source.old)) (plan ∷ []) None (stand reader.new (S.left source.new))) }
-    ensures ready { IfOk result (IsReady (layout_by A.table_count reader.old) FIRST_MAX) }
+    ensures ready { IfOk result (IsReady (layout_by A.table_count reader.old)
+        (greatest_of reader.new.past.version)) }
     ensures live { IfOk result (λ plan. IsTrue reader.new.live) }
     ensures counted { IfOk result (λ plan. reader.old.lines.number < reader.new.lines.number) }
     ensures tail { IfErr result (λ tail. Stops A.event_of tail
@@ -69,7 +71,8 @@ pub(crate) fn read_first<A: EventApp, S: Source>(
 ) -> Result<Option<Sent>, Tail>
     requires able { IsTrue asked → CanPlan planner.old }
     ensures plans { IfOk result (λ first. PlansAhead A.event_of
-        (layout_by A.table_count planner.old.reader) FIRST_MAX
+        (layout_by A.table_count planner.old.reader)
+        (greatest_of planner.new.reader.past.version)
         (stand planner.old.reader (S.left source.old)) [] planner.old.sent
         None (stand planner.new.reader (S.left source.new)) (one_or_none first) planner.new.sent) }
     ensures stops { IfErr result (λ tail. Stops A.event_of tail

@@ -14,8 +14,10 @@ use Rattle.event_reader.specs.declared.answers.LineNext.{LineNext}
 use Rattle.event_reader.specs.declared.answers.LineNext.TheVariants.{Line}
 use Rattle.event_reader.specs.declared.fault.ReaderFault.{ReaderFault}
 use Rattle.event_reader.specs.Lines.{is_line_feed, behind_last_feed, decided_lines, Reading, front, with_line}
+use Rattle.event_reader.specs.declared.past.Past.{Past}
+use Rattle.event_reader.specs.declared.version.Version.{Version}
 use Rattle.event_reader.specs.Steps.{Meaning}
-use Rattle.event_reader.specs.Accepted.{accepted_from}
+use Rattle.event_reader.specs.Accepted.{accepted_behind}
 use Rattle.event_reader.specs.Reader.{LinesView, reading_of}
 use Rattle.event_reader.specs.Asking.{AsksOnce, Asks, no_read, one_more, AsksForLine, AsksBatch, not_yet, once_more, AsksForBatch}
 use Rattle.event_reader.proofs.Cutting.{line_at}
@@ -74,21 +76,21 @@ behind_whole used bytes whole =
     fold-append (λ behind b. if is_line_feed b then [] else behind ++ b ∷ []) [] used bytes
     ∙ ap (λ behind. fold (λ behind b. if is_line_feed b then [] else behind ++ b ∷ []) behind bytes) whole
 
-module _ {S : Type 0} (left_of : S → Option (List ℕ)) (reads : S → ℕ → Result ℕ ReadFailed → S → Type 0) (m : Meaning) (closed : ℕ) (before : LinesView) (source₀ : S) where
+module _ {S : Type 0} (left_of : S → Option (List ℕ)) (reads : S → ℕ → Result ℕ ReadFailed → S → Type 0) (m : Meaning) (past : Past) (before : LinesView) (source₀ : S) where
   abbrev Chain : List ℕ → Bool → S → Type 0
-  Chain got last source = AsksBatch left_of reads m closed before source₀ got last source
+  Chain got last source = AsksBatch left_of reads m past before source₀ got last source
 
   -- what it has read, by which reads, and what it keeps of it
-  pub record AskedTo (batch : List Transaction) (now : LinesView) (source : S) : Type 0 where
-    pub has_read : Reads m closed before (left_of source₀) batch now (left_of source)
-    pub asked : AsksBatch left_of reads m closed before source₀ has_read.got now.ended source
+  pub record AskedTo (v : Version) (batch : List Transaction) (now : LinesView) (source : S) : Type 0 where
+    pub has_read : Reads m past before (left_of source₀) v batch now (left_of source)
+    pub asked : AsksBatch left_of reads m past before source₀ has_read.got now.ended source
     pub room : before.limit - before.taken - length has_read.got ≡ now.limit - now.taken
     pub behind : now.ended ≡ false → (used : List ℕ) × (before.kept ++ has_read.got ≡ used ++ now.kept) × (behind_last_feed used ≡ [])
 
-  pub asked_from : (batch : List Transaction) → batch ≡ [] → AskedTo batch before source₀
+  pub asked_from : (batch : List Transaction) → batch ≡ [] → AskedTo past.version batch before source₀
   unfolding reads_nothing
   asked_from batch none = rw none record {
-    has_read = reads_nothing m closed before (left_of source₀);
+    has_read = reads_nothing m past before (left_of source₀);
     asked = not_yet;
     room = omega arith;
     behind = λ unended. ([], append-nil before.kept, refl);
@@ -106,18 +108,18 @@ module _ {S : Type 0} (left_of : S → Option (List ℕ)) (reads : S → ℕ →
       → AsksOnce left_of reads n r source bytes last source' → AsksOnce left_of reads n' r' source bytes last source'
   same_once n n' r r' source bytes last source' e f h = rw (e, f) at h
 
-  follows : (batch : List Transaction) (now : LinesView) (source : S) (h : AskedTo batch now source) (kept : List ℕ) (room : ℕ) (last : Bool) (source' : S)
+  follows : (v : Version) (batch : List Transaction) (now : LinesView) (source : S) (h : AskedTo v batch now source) (kept : List ℕ) (room : ℕ) (last : Bool) (source' : S)
       → Asks left_of reads now.kept (now.limit - now.taken) now.ended source kept room last source'
       → Follows h.has_read.got now kept room last source'
-  follows batch now source h _ _ _ _ no_read = record {
+  follows v batch now source h _ _ _ _ no_read = record {
     more = [];
     is = sym (append-nil now.kept);
     left = ap (λ got. before.limit - before.taken - length got) (append-nil h.has_read.got) ∙ h.room;
     unended = λ e. e;
     chain = subst (λ got. Chain got now.ended source) (sym (append-nil h.has_read.got)) h.asked;
   }
-  follows batch now source h _ _ _ _ (one_more kept bytes room last s s' asks none once) =
-      let f = follows batch now source h kept room false s asks in
+  follows v batch now source h _ _ _ _ (one_more kept bytes room last s s' asks none once) =
+      let f = follows v batch now source h kept room false s asks in
       let unended = f.unended refl in
       let open_front : front (now.kept ++ f.more) ≡ record { lines = []; cut = true }
       = ap (λ lines. record { lines = lines; cut = true }) (ap decided_lines (sym f.is) ∙ none) in
@@ -136,46 +138,46 @@ module _ {S : Type 0} (left_of : S → Option (List ℕ)) (reads : S → ℕ →
         unended = λ _. unended;
         chain = subst (λ got. Chain got last s') (append_assoc h.has_read.got f.more bytes)
             (once_more (h.has_read.got ++ f.more) bytes last s s' f.chain
-            (shows_failed m closed before (left_of source₀) batch now (left_of source) f.more h.has_read unended open_front)
+            (shows_failed m past before (left_of source₀) v batch now (left_of source) f.more h.has_read unended open_front)
             (same_once (length kept) (length (behind_last_feed (before.kept ++ (h.has_read.got ++ f.more)))) room
             (before.limit - before.taken - length (h.has_read.got ++ f.more)) s bytes last s' (ap length (sym tail)) (sym f.left) once));
       }
 
   -- after a line's reads
-  line_chain : (batch : List Transaction) (now : LinesView) (source : S) (h : AskedTo batch now source) (answer : Result LineNext ReaderFault) (next : LinesView) (source' : S)
+  line_chain : (v : Version) (batch : List Transaction) (now : LinesView) (source : S) (h : AskedTo v batch now source) (answer : Result LineNext ReaderFault) (next : LinesView) (source' : S)
       → (a : AsksForLine left_of reads now source answer next source')
       → (before.limit - before.taken - length (h.has_read.got ++ a.got) ≡ a.room) × Chain (h.has_read.got ++ a.got) a.last source'
-  line_chain batch now source h answer next source' a =
-      let f = follows batch now source h (now.kept ++ a.got) a.room a.last source' a.asks in
+  line_chain v batch now source h answer next source' a =
+      let f = follows v batch now source h (now.kept ++ a.got) a.room a.last source' a.asks in
       let same : f.more ≡ a.got = append_cancel_left now.kept f.more a.got (sym f.is) in (
         ap (λ more. before.limit - before.taken - length (h.has_read.got ++ more)) (sym same) ∙ f.left,
         subst (λ more. Chain (h.has_read.got ++ more) a.last source') same f.chain,
       )
 
   -- the reads of a call that ends with a line's
-  pub asked_all : {A : Type 0} (batch : List Transaction) (now : LinesView) (source : S) (h : AskedTo batch now source) (line : Result LineNext ReaderFault) (next : LinesView) (source' : S)
+  pub asked_all : {A : Type 0} (v : Version) (batch : List Transaction) (now : LinesView) (source : S) (h : AskedTo v batch now source) (line : Result LineNext ReaderFault) (next : LinesView) (source' : S)
       → (a : AsksForLine left_of reads now source line next source') → (answer : Result A ReaderFault) → IfOk answer (λ _. a.last ≡ next.ended)
-      → AsksForBatch {A = A} left_of reads m closed before source₀ answer next source'
-  asked_all batch now source h line next source' a answer ends = record {
+      → AsksForBatch {A = A} left_of reads m past before source₀ answer next source'
+  asked_all v batch now source h line next source' a answer ends = record {
     got = h.has_read.got ++ a.got;
     taken = h.has_read.taken ∙ ap (ahead h.has_read.got) a.taken ∙ ahead_ahead h.has_read.got a.got (left_of source');
     last = a.last;
-    asks = (line_chain batch now source h line next source' a).1;
+    asks = (line_chain v batch now source h line next source' a).1;
     ends = ends;
   }
 
   -- after a line that leads on
-  pub asked_next : (batch batch' : List Transaction) (now : LinesView) (source : S) (h : AskedTo batch now source) (next : LinesView) (source' : S)
+  pub asked_next : (v v' : Version) (batch batch' : List Transaction) (now : LinesView) (source : S) (h : AskedTo v batch now source) (next : LinesView) (source' : S)
       → (a : AsksForLine left_of reads now source (Ok Line) next source')
       → reading_of now (left_of source) ≡ option_map (with_line next.line) (reading_of next (left_of source'))
       → (next.ended ≡ false → now.ended ≡ false) → next.number ≡ now.number + 1
-      → ((n : ℕ) (r : Reading) → accepted_from m n closed batch (with_line next.line r) ≡ accepted_from m (n + 1) closed batch' r)
-      → AskedTo batch' next source'
+      → ((r : Reading) → accepted_behind m v now.number past.closed batch (with_line next.line r) ≡ accepted_behind m v' (now.number + 1) past.closed batch' r)
+      → AskedTo v' batch' next source'
   unfolding reads_more reads_as reads_line
-  asked_next batch batch' now source h next source' a told unended counts leads =
-      let chain = line_chain batch now source h (Ok Line) next source' a in
+  asked_next v v' batch batch' now source h next source' a told unended counts leads =
+      let chain = line_chain v batch now source h (Ok Line) next source' a in
       record {
-        has_read = reads_more m closed before (left_of source₀) batch now (left_of source) next (left_of source') batch' h.has_read told
+        has_read = reads_more m past before (left_of source₀) v batch now (left_of source) next (left_of source') v' batch' h.has_read told
             (record { got = a.got; taken = a.taken; shows = a.shows }) unended counts leads;
         asked = subst (λ last. Chain (h.has_read.got ++ a.got) last source') a.ends.0 chain.1;
         room = chain.0 ∙ a.ends.1;

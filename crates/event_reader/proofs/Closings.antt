@@ -4,7 +4,7 @@ use Rattle.std.specs.Prelude.{filter}
 use Rattle.std.specs.List.{slice_split}
 use Rattle.morph_base.specs.Transactions.{Transaction}
 use Rattle.event_reader.specs.declared.cause.Cause.{Cause}
-use Rattle.event_reader.specs.Steps.{Meaning, Step, Ignored, Closes, Adds, Refuses, latest_with, is_punctuation, step_of}
+use Rattle.event_reader.specs.Steps.{Saying, Step, Ignored, Closes, Adds, Refuses, latest_with, is_punctuation, step_of}
 use Rattle.event_reader.specs.Accepted.{Accepted, Ending, Ended, RefusedAt, CutOff, led_by, accepted_lines}
 use Rattle.event_reader.specs.LineEvents.{events_said, has_event, before_last, closed_said}
 use Rattle.event_reader.proofs.Comings.{Comes, passed_over, marks, joins, comes}
@@ -22,7 +22,7 @@ before_map f [] = refl
 before_map f (x ∷ []) = refl
 before_map f (x ∷ y ∷ ys) = before_more (f x) (f y) (map f ys) ∙ ap (λ l. f x ∷ l) (before_map f (y ∷ ys)) ∙ ap (map f) (sym (before_more x y ys))
 
-module _ (m : Meaning) where
+module _ (m : Saying) where
   -- the events in front of each punctuation, with more in front of the first
   abbrev closed_with : List Transaction → List (List ℕ) → List (List Transaction)
   closed_with batch lines = filter has_event (before_last (onto m batch (parts m lines)))
@@ -119,10 +119,10 @@ module _ (m : Meaning) where
       (λ c e. (let same : n + 1 ≡ n + 1 + 1 + k = cc in omega (arith, same)))
       (λ closed' batch'. refused_from (n + 1) closed' batch' lines cut k cause) (is ∙ ap (λ k. RefusedAt k cause) at)
 
-  pub refused_are_said : (closed : ℕ) (lines : List (List ℕ)) (cut : Bool) (k : ℕ) (cause : Cause)
-      → (accepted_lines m 0 closed [] lines cut).ending ≡ RefusedAt k cause
-      → (accepted_lines m 0 closed [] lines cut).batches ≡ closed_said m (take (k - 1) lines)
-  refused_are_said closed lines cut k cause is =
-      let some = later 0 closed [] lines cut k cause is in
-      let at : k ≡ 0 + 1 + (k - 1) = omega (arith, some) in
-      refused_from 0 closed [] lines cut (k - 1) cause (is ∙ ap (λ k. RefusedAt k cause) at) ∙ closed_none (take (k - 1) lines)
+  pub refused_are_said : (n closed : ℕ) (lines : List (List ℕ)) (cut : Bool) (k : ℕ) (cause : Cause)
+      → (accepted_lines m n closed [] lines cut).ending ≡ RefusedAt k cause
+      → (n < k) × ((accepted_lines m n closed [] lines cut).batches ≡ closed_said m (take (k - 1 - n) lines))
+  refused_are_said n closed lines cut k cause is =
+      let some = later n closed [] lines cut k cause is in
+      let at : k ≡ n + 1 + (k - 1 - n) = omega (arith, some) in
+      (some, refused_from n closed [] lines cut (k - 1 - n) cause (is ∙ ap (λ k. RefusedAt k cause) at) ∙ closed_none (take (k - 1 - n) lines))

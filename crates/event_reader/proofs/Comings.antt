@@ -8,16 +8,16 @@ use Rattle.event_reader.specs.Limits.{longest_line}
 use Rattle.event_reader.specs.declared.cause.Cause.{Cause}
 use Rattle.event_reader.specs.declared.cause.Cause.TheVariants.{Long, Late, Twice, Full}
 use Rattle.event_reader.specs.Words.{words_of}
-use Rattle.event_reader.specs.Steps.{Meaning, Step, Ignored, Closes, Adds, Refuses, has_time, event_step, said_by, is_ignored, is_punctuation, step_of}
+use Rattle.event_reader.specs.Steps.{Saying, Step, Ignored, Closes, Adds, Refuses, has_time, event_step, said_by, is_ignored, is_punctuation, step_of}
 
 -- a line that is not too long, not ignored and no punctuation, and what its words say
-pub record SaysWords (m : Meaning) (line : List ℕ) (said : Result Transaction Cause) : Type 0 where
+pub record SaysWords (m : Saying) (line : List ℕ) (said : Result Transaction Cause) : Type 0 where
   pub short : length line ≤ longest_line
   pub counts : is_ignored line ≡ false
   pub no_mark : is_punctuation line ≡ false
   pub says : said_by m (words_of line) ≡ said
 
-pub data Comes (m : Meaning) (closed : ℕ) (batch : List Transaction) (line : List ℕ) : Step → Type 0 where
+pub data Comes (m : Saying) (closed : ℕ) (batch : List Transaction) (line : List ℕ) : Step → Type 0 where
   is_long : longest_line < length line → Comes m closed batch line (Refuses Long)
   passed_over : length line ≤ longest_line → is_ignored line ≡ true → Comes m closed batch line Ignored
   marks : length line ≤ longest_line → is_ignored line ≡ false → is_punctuation line ≡ true → Comes m closed batch line Closes
@@ -27,7 +27,7 @@ pub data Comes (m : Meaning) (closed : ℕ) (batch : List Transaction) (line : L
   is_full : (e : Transaction) → SaysWords m line (Ok e) → closed < e.ts → has_time batch e.ts ≡ false → EVENTS ≤ length batch → Comes m closed batch line (Refuses Full)
   joins : (e : Transaction) → SaysWords m line (Ok e) → closed < e.ts → has_time batch e.ts ≡ false → length batch < EVENTS → Comes m closed batch line (Adds e)
 
-module _ (m : Meaning) (closed : ℕ) (batch : List Transaction) (line : List ℕ) where
+module _ (m : Saying) (closed : ℕ) (batch : List Transaction) (line : List ℕ) where
   comes_event : (e : Transaction) → SaysWords m line (Ok e) → (late twice full : Bool)
       → nat_le e.ts closed ≡ late → has_time batch e.ts ≡ twice → nat_le EVENTS (length batch) ≡ full
       → Comes m closed batch line (if late then Refuses Late else (if twice then Refuses Twice else (if full then Refuses Full else Adds e)))

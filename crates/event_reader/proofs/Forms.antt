@@ -10,6 +10,7 @@ use Rattle.morph_base.proofs.ShapeLaws.{all_of}
 use Rattle.morph_base.specs.Transactions.{Transaction}
 use Rattle.event_reader.specs.declared.cause.Cause.{Cause}
 use Rattle.event_reader.specs.declared.cause.Cause.TheVariants.{Form as NoForm, Range as OutOfRange, Same}
+use Rattle.event_reader.specs.declared.version.Version.{Version}
 use Rattle.event_reader.specs.declared.ranges.Range.{Range}
 use Rattle.event_reader.specs.Forms.{Form, IsForm, Kind, ranges_of, has_count, has_letter, has_form, numbers_by, said, said_in, unless, event_by}
 use Rattle.event_reader.specs.Generated.{IsEventLine}
@@ -202,13 +203,13 @@ read_causes form words cause is = by_test (has_form form words) is
 
 -- a kind of event line is sound for a layout where each event that it says of numbers that fit is valid, with its keys in
 -- the layout, and else two keys are the same that have to differ
-pub record IsSound (layout : Layout) (kind : Kind) : Type 0 where
-  pub valid : (ns : List ℕ) (e : Transaction) → Fits kind.form ns → kind.says ns ≡ Ok e → IsEventOf layout e
+pub record IsSound (version : Version) (layout : Layout) (kind : Kind) : Type 0 where
+  pub valid : (ns : List ℕ) (e : Transaction) → Fits kind.form ns → kind.says ns ≡ Ok e → IsEventOf version layout e
   pub causes : (ns : List ℕ) (cause : Cause) → kind.says ns ≡ Err cause → Same ≡ cause
 
-abbrev pub AreSound : Layout → List Kind → Type 0
-AreSound layout [] = Unit {0}
-AreSound layout (kind ∷ kinds) = IsSound layout kind × AreSound layout kinds
+abbrev pub AreSound : Version → Layout → List Kind → Type 0
+AreSound version layout [] = Unit {0}
+AreSound version layout (kind ∷ kinds) = IsSound version layout kind × AreSound version layout kinds
 
 pub unless_ok : (same : Bool) (t e : Transaction) → unless same t ≡ Ok e → (same ≡ false) × (t ≡ e)
 unless_ok true t e is = absurd (cc)
@@ -219,38 +220,38 @@ unless_err true t cause is = cc
 unless_err false t cause is = absurd (cc)
 
 -- so each event of their lines is valid, and there are no other causes than form, range and same
-said_valid : (layout : Layout) (kind : Kind) (words : List (List ℕ)) (e : Transaction) → IsSound layout kind → said_in kind words ≡ Ok e
-    → IsEventOf layout e
-said_valid layout kind words e sound is = by_read (numbers_by kind.form words) refl is
+said_valid : (version : Version) (layout : Layout) (kind : Kind) (words : List (List ℕ)) (e : Transaction) → IsSound version layout kind → said_in kind words ≡ Ok e
+    → IsEventOf version layout e
+said_valid version layout kind words e sound is = by_read (numbers_by kind.form words) refl is
   where
-    by_read : (r : Result (List ℕ) Cause) → numbers_by kind.form words ≡ r → said kind.says r ≡ Ok e → IsEventOf layout e
+    by_read : (r : Result (List ℕ) Cause) → numbers_by kind.form words ≡ r → said kind.says r ≡ Ok e → IsEventOf version layout e
     by_read (Ok ns) found is = sound.valid ns e (read_fits kind.form words ns found) is
     by_read (Err cause) found is = absurd (cc)
 
-pub events_valid : (layout : Layout) (kinds : List Kind) → AreSound layout kinds → (words : List (List ℕ)) (e : Transaction) → event_by kinds words ≡ Ok e
-    → IsEventOf layout e
-events_valid layout [] sound words e is = absurd (cc)
-events_valid layout (kind ∷ kinds) sound words e is =
-    by_letter (has_letter kind.form words) is (said_valid layout kind words e sound.0) (events_valid layout kinds sound.1 words e)
+pub events_valid : (version : Version) (layout : Layout) (kinds : List Kind) → AreSound version layout kinds → (words : List (List ℕ)) (e : Transaction) → event_by kinds words ≡ Ok e
+    → IsEventOf version layout e
+events_valid version layout [] sound words e is = absurd (cc)
+events_valid version layout (kind ∷ kinds) sound words e is =
+    by_letter (has_letter kind.form words) is (said_valid version layout kind words e sound.0) (events_valid version layout kinds sound.1 words e)
   where
     by_letter : (here : Bool) → (if here then said_in kind words else event_by kinds words) ≡ Ok e
-        → (said_in kind words ≡ Ok e → IsEventOf layout e) → (event_by kinds words ≡ Ok e → IsEventOf layout e)
-        → IsEventOf layout e
+        → (said_in kind words ≡ Ok e → IsEventOf version layout e) → (event_by kinds words ≡ Ok e → IsEventOf version layout e)
+        → IsEventOf version layout e
     by_letter true is first others = first is
     by_letter false is first others = others is
 
-said_causes : (layout : Layout) (kind : Kind) (words : List (List ℕ)) (cause : Cause) → IsSound layout kind → said_in kind words ≡ Err cause → IsOfWords cause
-said_causes layout kind words cause sound is = by_read (numbers_by kind.form words) refl is
+said_causes : (version : Version) (layout : Layout) (kind : Kind) (words : List (List ℕ)) (cause : Cause) → IsSound version layout kind → said_in kind words ≡ Err cause → IsOfWords cause
+said_causes version layout kind words cause sound is = by_read (numbers_by kind.form words) refl is
   where
     by_read : (r : Result (List ℕ) Cause) → numbers_by kind.form words ≡ r → said kind.says r ≡ Err cause → IsOfWords cause
     by_read (Ok ns) found is = subst IsOfWords (sound.causes ns cause is) tt
     by_read (Err c) found is = read_causes kind.form words cause (let same : c ≡ cause = cc in found ∙ ap refused same)
 
-pub events_causes : (layout : Layout) (kinds : List Kind) → AreSound layout kinds → (words : List (List ℕ)) (cause : Cause) → event_by kinds words ≡ Err cause
+pub events_causes : (version : Version) (layout : Layout) (kinds : List Kind) → AreSound version layout kinds → (words : List (List ℕ)) (cause : Cause) → event_by kinds words ≡ Err cause
     → IsOfWords cause
-events_causes layout [] sound words cause is = let same : NoForm ≡ cause = cc in subst IsOfWords same tt
-events_causes layout (kind ∷ kinds) sound words cause is =
-    by_letter (has_letter kind.form words) is (said_causes layout kind words cause sound.0) (events_causes layout kinds sound.1 words cause)
+events_causes version layout [] sound words cause is = let same : NoForm ≡ cause = cc in subst IsOfWords same tt
+events_causes version layout (kind ∷ kinds) sound words cause is =
+    by_letter (has_letter kind.form words) is (said_causes version layout kind words cause sound.0) (events_causes version layout kinds sound.1 words cause)
   where
     by_letter : (here : Bool) → (if here then said_in kind words else event_by kinds words) ≡ Err cause
         → (said_in kind words ≡ Err cause → IsOfWords cause) → (event_by kinds words ≡ Err cause → IsOfWords cause) → IsOfWords cause

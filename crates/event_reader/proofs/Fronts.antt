@@ -11,8 +11,11 @@ use Rattle.event_reader.specs.Limits.{longest_line, deciding_bytes}
 use Rattle.event_reader.specs.declared.cause.Cause.{Cause}
 use Rattle.event_reader.specs.declared.cause.Cause.TheVariants.{Long}
 use Rattle.event_reader.specs.Lines.{is_line_feed, pieces, last_if, without_cr, lines_of, decided_lines, within}
-use Rattle.event_reader.specs.Steps.{Meaning, Step, Ignored, Closes, Adds, Refuses, latest_with, step_of}
-use Rattle.event_reader.specs.Accepted.{Accepted, Ending, Ended, RefusedAt, CutOff, with_batch, led_by, accepted_lines, accepted_from, accepted, accepted_within, closed_batches}
+use Rattle.event_reader.specs.declared.version.Version.TheVariants.{One, Two}
+use Rattle.event_reader.specs.Versions.{is_version_line, has_version_line}
+use Rattle.event_reader.specs.VersionLaws.{long_plain}
+use Rattle.event_reader.specs.Steps.{Saying, Meaning, Step, Ignored, Closes, Adds, Refuses, latest_with, step_of}
+use Rattle.event_reader.specs.Accepted.{Accepted, Ending, Ended, RefusedAt, CutOff, with_batch, led_by, accepted_lines, accepted_first, accepted, accepted_within, closed_batches}
 use Rattle.event_reader.specs.Reader.{new_reader, accepted_by}
 use Rattle.event_reader.proofs.Cutting.{some_piece, first_if, length-without_cr}
 
@@ -85,7 +88,7 @@ front_led Closes n closed batch some all h = front_with batch (some (latest_with
 front_led (Adds e) n closed batch some all h = h closed (batch ++ e ∷ [])
 front_led (Refuses cause) n closed batch some all h = same_front (record { batches = []; ending = RefusedAt (n + 1) cause })
 
-front_lines : (m : Meaning) (n closed : ℕ) (batch : List Transaction) (lines lines' : List (List ℕ)) → Extends lines lines'
+front_lines : (m : Saying) (n closed : ℕ) (batch : List Transaction) (lines lines' : List (List ℕ)) → Extends lines lines'
     → IsFrontOf (accepted_lines m n closed batch lines true) (accepted_lines m n closed batch lines' false)
 unfolding accepted_lines step_of
 front_lines m n closed batch _ _ (nothing lines') = record {
@@ -100,11 +103,32 @@ front_lines m n closed batch _ _ (long line line' lines' is is') =
     let too_long' : nat_lt longest_line (length line') ≡ true = grind (arith, nat_tests) in
     rw (too_long, too_long') (same_front (record { batches = []; ending = RefusedAt (n + 1) Long }))
 
+-- so it is from the first line on
+abbrev cut_lines : Meaning → List (List ℕ) → Accepted
+cut_lines m lines = accepted_first m 0 [] (record { lines = lines; cut = true })
+
+abbrev whole_lines : Meaning → List (List ℕ) → Accepted
+whole_lines m lines = accepted_first m 0 [] (record { lines = lines; cut = false })
+
+first_front : (m : Meaning) (lines lines' : List (List ℕ)) → Extends lines lines' → IsFrontOf (cut_lines m lines) (whole_lines m lines')
+unfolding accepted_lines
+first_front m _ _ (nothing lines') = record {
+  more = (whole_lines m lines').batches;
+  batches = refl;
+  refused = λ line cause is. absurd (cc);
+}
+first_front m _ _ (one line lines lines' h) = by_test (is_version_line line) refl
+  where
+    by_test : (t : Bool) → is_version_line line ≡ t → IsFrontOf (cut_lines m (line ∷ lines)) (whole_lines m (line ∷ lines'))
+    by_test true is = rw is (front_lines (m Two) 1 0 [] lines lines' h)
+    by_test false is = rw is (front_lines (m One) 0 0 [] (line ∷ lines) (line ∷ lines') (one line lines lines' h))
+first_front m _ _ (long line line' lines' is is') =
+    rw (long_plain line is, long_plain line' is') (front_lines (m One) 0 0 [] (line ∷ []) (line' ∷ lines') (long line line' lines' is is'))
+
 -- what a front of an input decides is the first of what the input has
-pub front_is_first : (m : Meaning) (bytes rest : List ℕ)
-    → IsFrontOf (accepted_lines m 0 0 [] (decided_lines bytes) true) (accepted m (bytes ++ rest))
+pub front_is_first : (m : Meaning) (bytes rest : List ℕ) → IsFrontOf (cut_lines m (decided_lines bytes)) (accepted m (bytes ++ rest))
 front_is_first m bytes rest =
-    front_lines m 0 0 [] (decided_lines bytes) (lines_of (bytes ++ rest)) (extends_from (pieces bytes) (pieces (bytes ++ rest)) (pieces_go_on bytes rest))
+    first_front m (decided_lines bytes) (lines_of (bytes ++ rest)) (extends_from (pieces bytes) (pieces (bytes ++ rest)) (pieces_go_on bytes rest))
 
 -- a batch more leaves the ending
 ending_with : (P : Ending → Type 0) (batch : List Transaction) (all : Accepted) → P all.ending → P (with_batch batch all).ending
@@ -120,24 +144,38 @@ ending_led P (Adds e) n closed batch after h refused = h closed (batch ++ e ∷ 
 ending_led P (Refuses cause) n closed batch after h refused = refused cause
 
 -- lines that are cut off do not end the input, and others are not cut off
-cut_ending : (m : Meaning) (n closed : ℕ) (batch : List Transaction) (lines : List (List ℕ)) → (accepted_lines m n closed batch lines true).ending ≡ Ended → ⊥
+cut_ending : (m : Saying) (n closed : ℕ) (batch : List Transaction) (lines : List (List ℕ)) → (accepted_lines m n closed batch lines true).ending ≡ Ended → ⊥
 unfolding accepted_lines
 cut_ending m n closed batch [] = λ is. absurd (cc)
 cut_ending m n closed batch (line ∷ lines) =
     ending_led (λ e. e ≡ Ended → ⊥) (step_of m closed batch line) n closed batch _ (λ closed' batch'. cut_ending m (n + 1) closed' batch' lines)
     (λ cause is. absurd (cc))
 
-whole_ending : (m : Meaning) (n closed : ℕ) (batch : List Transaction) (lines : List (List ℕ)) → (accepted_lines m n closed batch lines false).ending ≡ CutOff → ⊥
+whole_ending : (m : Saying) (n closed : ℕ) (batch : List Transaction) (lines : List (List ℕ)) → (accepted_lines m n closed batch lines false).ending ≡ CutOff → ⊥
 unfolding accepted_lines
 whole_ending m n closed batch [] = ending_with (λ e. e ≡ CutOff → ⊥) batch (record { batches = []; ending = Ended }) (λ is. absurd (cc))
 whole_ending m n closed batch (line ∷ lines) =
     ending_led (λ e. e ≡ CutOff → ⊥) (step_of m closed batch line) n closed batch _ (λ closed' batch'. whole_ending m (n + 1) closed' batch' lines)
     (λ cause is. absurd (cc))
 
+cut_ending_first : (m : Meaning) (lines : List (List ℕ)) → (cut_lines m lines).ending ≡ Ended → ⊥
+cut_ending_first m lines = by_test (has_version_line lines) refl
+  where
+    by_test : (t : Bool) → has_version_line lines ≡ t → (cut_lines m lines).ending ≡ Ended → ⊥
+    by_test true is = rw is (cut_ending (m Two) 1 0 [] (drop 1 lines))
+    by_test false is = rw is (cut_ending (m One) 0 0 [] lines)
+
+whole_ending_first : (m : Meaning) (lines : List (List ℕ)) → (whole_lines m lines).ending ≡ CutOff → ⊥
+whole_ending_first m lines = by_test (has_version_line lines) refl
+  where
+    by_test : (t : Bool) → has_version_line lines ≡ t → (whole_lines m lines).ending ≡ CutOff → ⊥
+    by_test true is = rw is (whole_ending (m Two) 1 0 [] (drop 1 lines))
+    by_test false is = rw is (whole_ending (m One) 0 0 [] lines)
+
 -- what is read within a limit: all of a shorter input, and of another what its first bytes decide
 pub data ReadsWithin (m : Meaning) (limit : ℕ) (input : List ℕ) : Type 0 where
   all_of_it : length input ≤ limit → accepted_within m limit input ≡ accepted m input → ReadsWithin m limit input
-  front_of_it : limit < length input → accepted_within m limit input ≡ accepted_lines m 0 0 [] (decided_lines (take limit input)) true → ReadsWithin m limit input
+  front_of_it : limit < length input → accepted_within m limit input ≡ cut_lines m (decided_lines (take limit input)) → ReadsWithin m limit input
 
 pub reads_within : (m : Meaning) (limit : ℕ) (input : List ℕ) → ReadsWithin m limit input
 unfolding within
@@ -151,7 +189,7 @@ pub within_is_first : (m : Meaning) (limit : ℕ) (input : List ℕ) → IsFront
 within_is_first m limit input = elim (reads_within m limit input) [
   | all_of_it few is ↦ rw is (same_front (accepted m input))
   | front_of_it many is ↦ rw is
-      (subst (λ bytes. IsFrontOf (accepted_lines m 0 0 [] (decided_lines (take limit input)) true) (accepted m bytes)) (take-append-drop limit input)
+      (subst (λ bytes. IsFrontOf (cut_lines m (decided_lines (take limit input))) (accepted m bytes)) (take-append-drop limit input)
       (front_is_first m (take limit input) (drop limit input)))
 ]
 
@@ -160,7 +198,7 @@ pub within_ended : (m : Meaning) (limit : ℕ) (input : List ℕ) → (accepted_
     → (length input ≤ limit) × (accepted m input ≡ accepted_within m limit input)
 within_ended m limit input ended = elim (reads_within m limit input) [
   | all_of_it few is ↦ (few, sym is)
-  | front_of_it many is ↦ absurd (cut_ending m 0 0 [] (decided_lines (take limit input)) (ap (λ a. a.ending) (sym is) ∙ ended))
+  | front_of_it many is ↦ absurd (cut_ending_first m (decided_lines (take limit input)) (ap (λ a. a.ending) (sym is) ∙ ended))
 ]
 
 -- where it refuses a line, that line is the first that is refused
@@ -172,7 +210,7 @@ within_refused m limit input line cause is = (within_is_first m limit input).ref
 pub within_cut : (m : Meaning) (limit : ℕ) (input : List ℕ) → (accepted_within m limit input).ending ≡ CutOff
     → (limit < length input) × ((accepted_within m limit input).batches ≡ closed_batches m (take limit input))
 within_cut m limit input cut = elim (reads_within m limit input) [
-  | all_of_it few is ↦ absurd (whole_ending m 0 0 [] (lines_of input) (ap (λ a. a.ending) (sym is) ∙ cut))
+  | all_of_it few is ↦ absurd (whole_ending_first m (lines_of input) (ap (λ a. a.ending) (sym is) ∙ cut))
   | front_of_it many is ↦ (many, ap (λ a. a.batches) is)
 ]
 
@@ -182,4 +220,4 @@ pub new_reader_accepts : {App : Type 0} (event_of : App → ℕ → Meaning) (ap
 unfolding ahead
 new_reader_accepts event_of app size limit input =
     let room : 0 + (limit - 0) ≡ limit = omega arith in
-    ap (λ n. Some (accepted_from (event_of app size) 0 0 [] (within n input))) room
+    ap (λ n. Some (accepted_first (event_of app size) 0 [] (within n input))) room

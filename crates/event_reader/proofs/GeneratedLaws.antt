@@ -12,7 +12,9 @@ use Rattle.event_reader.specs.Accepted.{Accepted, Ended, with_batch, accepted, a
 use Rattle.event_reader.specs.Generated.{Drawn, IsEventLine}
 use Rattle.event_reader.specs.GeneratedText.{with_end, generated_from, generated_text}
 use Rattle.event_reader.specs.Lines.{is_line_feed, lines_of, without_cr, last_if, whole, with_line, within}
-use Rattle.event_reader.specs.Steps.{Meaning, Adds, latest_with, has_time, joining}
+use Rattle.event_reader.specs.declared.version.Version.TheVariants.{One}
+use Rattle.event_reader.specs.Versions.{has_version_line}
+use Rattle.event_reader.specs.Steps.{Saying, Meaning, Adds, latest_with, has_time, joining}
 use Rattle.event_reader.proofs.Cutting.{line_at}
 use Rattle.event_reader.proofs.Stepping.{leads_joined, leads_closed}
 
@@ -64,14 +66,14 @@ joins j closed batch e h time =
     let room : nat_le EVENTS (length batch) ≡ false = (let few : length batch < EVENTS = omega (arith, h.few) in grind (arith, nat_tests)) in
     rw (not_late, once, room) refl
 
-after_line : (m : Meaning) (j n closed : ℕ) (batch : List Transaction) (line rest : List ℕ) → (h : IsEventLine m (j + 1) line) → IsBefore j closed batch
+after_line : (m : Saying) (j n closed : ℕ) (batch : List Transaction) (line rest : List ℕ) → (h : IsEventLine m (j + 1) line) → IsBefore j closed batch
     → accepted_from m n closed batch (whole (line ++ 10 ∷ rest)) ≡ accepted_from m (n + 1) closed (batch ++ h.event ∷ []) (whole rest)
 after_line m j n closed batch line rest h before =
     ap (accepted_from m n closed batch) (first_line line rest h.printable)
     ∙ leads_joined m closed batch line (omega (arith, h.short)) h.event (batch ++ h.event ∷ []) h.counts h.no_mark h.says (joins j closed batch h.event before h.time) refl n (whole rest)
 
 -- a punctuation closes the batch
-after_mark : (m : Meaning) (n closed : ℕ) (batch : List Transaction) (rest : List ℕ)
+after_mark : (m : Saying) (n closed : ℕ) (batch : List Transaction) (rest : List ℕ)
     → accepted_from m n closed batch (whole (80 ∷ 10 ∷ rest)) ≡ with_batch batch (accepted_from m (n + 1) (latest_with batch closed) [] (whole rest))
 after_mark m n closed batch rest =
     ap (accepted_from m n closed batch) (first_line (80 ∷ []) rest (All-cons (λ b. 32 ≤ b) 80 [] (omega arith) (All-nil (λ b. 32 ≤ b))))
@@ -91,12 +93,12 @@ one_more (e ∷ batch) all n events h is = record {
 }
 
 -- where no line is left the input ends
-nothing_left : (m : Meaning) (n closed : ℕ) (batch : List Transaction) → IsWhole (accepted_from m n closed batch (whole [])) (length batch)
+nothing_left : (m : Saying) (n closed : ℕ) (batch : List Transaction) → IsWhole (accepted_from m n closed batch (whole [])) (length batch)
 unfolding accepted_lines last_if
 nothing_left m n closed batch = one_more batch (record { batches = []; ending = Ended }) 0 (length batch) (record { ends = refl; counted = refl }) (omega arith)
 
 -- the event's line with its end, and then the lines of `count` events
-after_event : (m : Meaning) (j n closed count : ℕ) (batch : List Transaction) (line rest : List ℕ) → IsEventLine m (j + 1) line → IsBefore j closed batch
+after_event : (m : Saying) (j n closed count : ℕ) (batch : List Transaction) (line rest : List ℕ) → IsEventLine m (j + 1) line → IsBefore j closed batch
     → ((n' closed' : ℕ) (batch' : List Transaction) → IsBefore (j + 1) closed' batch' → IsWhole (accepted_from m n' closed' batch' (whole rest)) (length batch' + count))
     → IsWhole (accepted_from m n closed batch (whole (with_end (j + 1) line ++ rest))) (length batch + (count + 1))
 after_event m j n closed count batch line rest h before after = by_mark ((j + 1) % generated_batch == 0) refl
@@ -126,7 +128,10 @@ after_event m j n closed count batch line rest h before after = by_mark ((j + 1)
         let total : length longer + count ≡ length batch + (count + 1) = omega (arith, one) in
         subst (λ all. IsWhole all (length batch + (count + 1))) (sym leads) (subst (λ k. IsWhole (accepted_from m (n + 1) closed longer (whole rest)) k) total next)
 
-module _ (m : Meaning) (drawn : ℕ → ℕ → Drawn) (each : (i state : ℕ) → 0 < i → i ≤ generated_events → IsEventLine m i (drawn i state).line) where
+module _ (meaning : Meaning) (drawn : ℕ → ℕ → Drawn) (each : (i state : ℕ) → 0 < i → i ≤ generated_events → IsEventLine (meaning One) i (drawn i state).line) where
+  abbrev m : Saying
+  m = meaning One
+
   whole_from : (count j state n closed : ℕ) (batch : List Transaction) → j + count ≤ generated_events → IsBefore j closed batch
       → IsWhole (accepted_from m n closed batch (whole (generated_from drawn count (j + 1) state))) (length batch + count)
   unfolding generated_from
@@ -141,13 +146,26 @@ module _ (m : Meaning) (drawn : ℕ → ℕ → Drawn) (each : (i state : ℕ) �
       let total : length batch + (count + 1) ≡ length batch + suc count = omega arith in
       subst (λ k. IsWhole (accepted_from m n closed batch (whole (with_end (j + 1) d.line ++ rest))) k) total all
 
-  generated_is_whole : (seed events : ℕ) → events ≤ generated_events → IsWhole (accepted m (generated_text drawn seed events)) (0 + events)
-  generated_is_whole seed events few = whole_from events 0 seed 0 0 [] (omega arith) (record { latest = omega arith; few = omega arith })
+  -- the first line is an event's, and not the version line
+  no_version_text : (count state : ℕ) → has_version_line (lines_of (generated_from drawn count 1 state)) ≡ false
+  unfolding generated_from last_if
+  no_version_text zero state = refl
+  no_version_text (suc count) state =
+      let d : Drawn = drawn 1 state in
+      let h = each 1 state (omega arith) (omega arith) in
+      let rest : List ℕ = generated_from drawn count 2 d.state in
+      let marks : List ℕ = if 1 % generated_batch == 0 then 80 ∷ 10 ∷ [] else [] in
+      ap (λ text. has_version_line (lines_of text)) (append_assoc d.line (10 ∷ marks) rest)
+      ∙ ap (λ r. has_version_line r.lines) (first_line d.line (marks ++ rest) h.printable) ∙ h.no_version
 
-  pub generated_ends : (seed events : ℕ) → events ≤ generated_events → (accepted m (generated_text drawn seed events)).ending ≡ Ended
+  generated_is_whole : (seed events : ℕ) → events ≤ generated_events → IsWhole (accepted meaning (generated_text drawn seed events)) (0 + events)
+  generated_is_whole seed events few =
+      rw (no_version_text events seed) (whole_from events 0 seed 0 0 [] (omega arith) (record { latest = omega arith; few = omega arith }))
+
+  pub generated_ends : (seed events : ℕ) → events ≤ generated_events → (accepted meaning (generated_text drawn seed events)).ending ≡ Ended
   generated_ends seed events few = (generated_is_whole seed events few).ends
 
-  pub generated_counted : (seed events : ℕ) → events ≤ generated_events → sum_by (λ batch. length batch) (accepted m (generated_text drawn seed events)).batches ≡ events
+  pub generated_counted : (seed events : ℕ) → events ≤ generated_events → sum_by (λ batch. length batch) (accepted meaning (generated_text drawn seed events)).batches ≡ events
   generated_counted seed events few = omega (arith, (generated_is_whole seed events few).counted)
 
   -- a line with its end, and the whole text, are short
@@ -171,7 +189,7 @@ module _ (m : Meaning) (drawn : ℕ → ℕ → Drawn) (each : (i state : ℕ) �
   generated_is_short seed events few = omega (arith, length-generated_from events 1 seed (omega arith) (omega arith))
 
   pub generated_within : (seed events : ℕ) → events ≤ generated_events
-      → accepted_within m input_bytes (generated_text drawn seed events) ≡ accepted m (generated_text drawn seed events)
+      → accepted_within meaning input_bytes (generated_text drawn seed events) ≡ accepted meaning (generated_text drawn seed events)
   unfolding within
   generated_within seed events few =
       let short = generated_is_short seed events few in

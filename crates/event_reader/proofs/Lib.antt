@@ -22,3 +22,6 @@ pub mod Drawing
 pub mod GeneratedLaws
 pub mod GivingText
 pub mod Closings
+pub mod Numbering
+pub mod FirstLines
+pub mod Opening

@@ -13,10 +13,11 @@ use Rattle.std.proofs.lemmas.Str.Parse.{digit_at}
 use Rattle.morph_base.specs.Transactions.{Transaction}
 use Rattle.event_reader.specs.Limits.{greatest_number, line_words}
 use Rattle.event_reader.specs.declared.ranges.Range.{Range}
+use Rattle.event_reader.specs.Versions.{is_version_line}
 use Rattle.event_reader.specs.Generated.{IsEventLine}
 use Rattle.event_reader.specs.Numbers.{is_number, value_of, are_in, numbers_in}
 use Rattle.event_reader.specs.PlainLines.{spaced, plain_line}
-use Rattle.event_reader.specs.Steps.{Meaning, said_by, is_ignored, is_punctuation}
+use Rattle.event_reader.specs.Steps.{Saying, said_by, is_ignored, is_punctuation}
 use Rattle.event_reader.specs.Words.{is_space, is_word, parts_of, words_of}
 
 -- a number that a word can say
@@ -128,12 +129,12 @@ spaced_bytes (n ∷ ns) small =
     let rest = spaced_bytes ns (All-tail IsSmall n ns small) in
     All-cons (λ b. 32 ≤ b) 32 (decimal n ++ spaced ns) (omega arith) (All-append (λ b. 32 ≤ b) (decimal n) (spaced ns) digits rest)
 
-length-spaced : (ns : List ℕ) → All IsSmall ns → length (spaced ns) ≤ 14 * length ns
+length-spaced : (ns : List ℕ) → All IsSmall ns → length (spaced ns) ≤ 15 * length ns
 unfolding spaced
 length-spaced [] small = omega arith
 length-spaced (n ∷ ns) small =
     let here = All-head IsSmall n ns small in
-    let digits = length-decimal-le 13 n (omega arith) (omega arith) (omega arith) in
+    let digits = length-decimal-le 14 n (omega arith) (omega arith) (omega arith) in
     omega (arith, length-append (decimal n) (spaced ns), digits, length-spaced ns (All-tail IsSmall n ns small))
 
 counts_plain : (letter : ℕ) (ns : List ℕ) → 35 < letter → is_ignored (plain_line letter ns) ≡ false
@@ -151,8 +152,13 @@ unfolding spaced
 no_mark_plain letter [] some = absurd (omega arith)
 no_mark_plain letter (n ∷ ns) some = no_and (letter == 80)
 
+no_version_plain : (letter : ℕ) (ns : List ℕ) → 0 < length ns → is_version_line (plain_line letter ns) ≡ false
+unfolding spaced
+no_version_plain letter [] some = absurd (omega arith)
+no_version_plain letter (n ∷ ns) some = no_and (letter == 109)
+
 -- a plain line whose words are an event at a time is a line of it
-pub plain_event : (meaning : Meaning) (i letter : ℕ) (ns : List ℕ) (e : Transaction) → 35 < letter → 0 < length ns → length ns < line_words → All IsSmall ns
+pub plain_event : (meaning : Saying) (i letter : ℕ) (ns : List ℕ) (e : Transaction) → 35 < letter → 0 < length ns → length ns < line_words → All IsSmall ns
     → meaning ((letter ∷ []) ∷ map decimal ns) ≡ Ok e → e.ts ≡ i → IsEventLine meaning i (plain_line letter ns)
 plain_event meaning i letter ns e visible some few small says time =
     let words = words_plain letter ns (omega arith) few small in record {
@@ -162,5 +168,6 @@ plain_event meaning i letter ns e visible some few small says time =
       printable = All-cons (λ b. 32 ≤ b) letter (spaced ns) (omega arith) (spaced_bytes ns small);
       counts = counts_plain letter ns (omega arith);
       no_mark = no_mark_plain letter ns some;
+      no_version = no_version_plain letter ns some;
       short = omega (arith, length-spaced ns small);
     }

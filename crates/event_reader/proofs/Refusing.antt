@@ -11,7 +11,7 @@ use Rattle.event_reader.specs.Limits.{longest_line}
 use Rattle.event_reader.specs.declared.cause.Cause.{Cause}
 use Rattle.event_reader.specs.declared.cause.Cause.TheVariants.{Long, Form, Range, Same, Late, Twice, Full}
 use Rattle.event_reader.specs.Words.{words_of}
-use Rattle.event_reader.specs.Steps.{Meaning, Step, Ignored, Closes, Adds, Refuses, latest_with, has_time, said_by, is_ignored, is_punctuation, step_of}
+use Rattle.event_reader.specs.Steps.{Saying, Step, Ignored, Closes, Adds, Refuses, latest_with, has_time, said_by, is_ignored, is_punctuation, step_of}
 use Rattle.event_reader.specs.Accepted.{Accepted, Ended, RefusedAt, with_batch, at_last, led_by, accepted_lines}
 use Rattle.event_reader.specs.Reader.{IsOfWords}
 use Rattle.event_reader.specs.LineEvents.{event_said, events_said}
@@ -20,7 +20,7 @@ use Rattle.event_reader.proofs.Comings.{SaysWords, Comes, is_long, passed_over, 
 use Rattle.event_reader.proofs.Sayings.{none_ignored, none_marked, says_event, ignored_no_mark}
 
 -- events of lines one after another
-said_append : (m : Meaning) (front back : List (List ℕ)) → events_said m (front ++ back) ≡ events_said m front ++ events_said m back
+said_append : (m : Saying) (front back : List (List ℕ)) → events_said m (front ++ back) ≡ events_said m front ++ events_said m back
 said_append m [] back = refl
 said_append m (line ∷ front) back = by_said (event_said m line) (said_append m front back)
   where
@@ -39,16 +39,16 @@ open_unmarked lines line unmarked =
     fold-append (λ open_since line. if is_punctuation line then [] else open_since ++ line ∷ []) [] lines (line ∷ []) ∙ rw unmarked refl
 
 -- what a reader has noted after lines
-pub record Stands (m : Meaning) (lines : List (List ℕ)) (closed : ℕ) (batch : List Transaction) : Type 0 where
+pub record Stands (m : Saying) (lines : List (List ℕ)) (closed : ℕ) (batch : List Transaction) : Type 0 where
   pub time : closed ≡ closed_time m lines
   pub events : batch ≡ unfinished m lines
   pub parts : closed_lines lines ++ open_lines lines ≡ lines
 
-stands_first : (m : Meaning) → Stands m [] 0 []
+stands_first : (m : Saying) → Stands m [] 0 []
 stands_first m = record { time = refl; events = refl; parts = refl }
 
 -- with a line more
-stands_unmarked : (m : Meaning) (lines : List (List ℕ)) (closed : ℕ) (batch : List Transaction) (line : List ℕ) (o : Option Transaction) → Stands m lines closed batch
+stands_unmarked : (m : Saying) (lines : List (List ℕ)) (closed : ℕ) (batch : List Transaction) (line : List ℕ) (o : Option Transaction) → Stands m lines closed batch
     → is_punctuation line ≡ false → event_said m line ≡ o → Stands m (lines ++ line ∷ []) closed (batch ++ cons_option o [])
 stands_unmarked m lines closed batch line o h unmarked says = record {
   time = h.time ∙ ap (λ ls. latest_with (events_said m ls) 0) (sym same);
@@ -73,7 +73,7 @@ stands_unmarked m lines closed batch line o h unmarked says = record {
     same : closed_lines (lines ++ line ∷ []) ≡ closed_lines lines
     same = ap (λ n. take n (lines ++ line ∷ [])) size ∙ take-append-le (length lines - length (open_lines lines)) lines (line ∷ []) few
 
-stands_marked : (m : Meaning) (lines : List (List ℕ)) (closed : ℕ) (batch : List Transaction) (line : List ℕ) → Stands m lines closed batch
+stands_marked : (m : Saying) (lines : List (List ℕ)) (closed : ℕ) (batch : List Transaction) (line : List ℕ) → Stands m lines closed batch
     → is_punctuation line ≡ true → Stands m (lines ++ line ∷ []) (latest_with batch closed) []
 stands_marked m lines closed batch line h marked = record {
   time = ap (λ es. latest_with es closed) h.events ∙ ap (latest_with (unfinished m lines)) h.time
@@ -101,15 +101,15 @@ stands_marked m lines closed batch line h marked = record {
 same_event : (o : Option Transaction) (e f : Transaction) → o ≡ Some e → o ≡ Some f → e ≡ f
 same_event o e f is is' = cc
 
-not_said : (m : Meaning) (line : List ℕ) (e : Transaction) → event_said m line ≡ None → event_said m line ≡ Some e → ⊥
+not_said : (m : Saying) (line : List ℕ) (e : Transaction) → event_said m line ≡ None → event_said m line ≡ Some e → ⊥
 not_said m line e is is' = absurd (cc)
 
 -- where the words say no event
-says_nothing : (m : Meaning) (line : List ℕ) (cause : Cause) → SaysWords m line (Err cause) → event_said m line ≡ None
+says_nothing : (m : Saying) (line : List ℕ) (cause : Cause) → SaysWords m line (Err cause) → event_said m line ≡ None
 says_nothing m line cause says = rw (says.counts, says.no_mark, says.says) refl
 
 -- the cause that words say is one of theirs
-of_words : (m : Meaning) → HasWordCauses m → (words : Option (List (List ℕ))) (cause : Cause) → said_by m words ≡ Err cause → IsOfWords cause
+of_words : (m : Saying) → HasWordCauses m → (words : Option (List (List ℕ))) (cause : Cause) → said_by m words ≡ Err cause → IsOfWords cause
 of_words m h None cause is = form_is cause is
   where
     form_is : (cause : Cause) → said_by m None ≡ Err cause → IsOfWords cause
@@ -123,17 +123,17 @@ of_words m h None cause is = form_is cause is
 of_words m h (Some words) cause is = h words cause is
 
 -- what a step says of the causes that apply
-abbrev Judges : Meaning → List (List ℕ) → List ℕ → Step → Type 0
+abbrev Judges : Saying → List (List ℕ) → List ℕ → Step → Type 0
 Judges m before line (Refuses cause) = IsLeastCause m before line cause
 Judges m before line _ = NoneApplies m before line
 
-abbrev no_event : Meaning → List ℕ → Type 0
+abbrev no_event : Saying → List ℕ → Type 0
 no_event m line = (e : Transaction) → event_said m line ≡ Some e → ⊥
 
 words_differ : (said : Result Transaction Cause) (e : Transaction) (cause : Cause) → said ≡ Ok e → said ≡ Err cause → ⊥
 words_differ said e cause is is' = absurd (cc)
 
-module _ (m : Meaning) (words : HasWordCauses m) (before : List (List ℕ)) (closed : ℕ) (batch : List Transaction) (h : Stands m before closed batch) (line : List ℕ) where
+module _ (m : Saying) (words : HasWordCauses m) (before : List (List ℕ)) (closed : ℕ) (batch : List Transaction) (h : Stands m before closed batch) (line : List ℕ) where
   late_not : (e : Transaction) → event_said m line ≡ Some e → closed < e.ts → Applies m before line Late → ⊥
   late_not e is later (f, is', late) =
       let same : e.ts ≡ f.ts = ap (λ t. t.ts) (same_event (event_said m line) e f is is') in
@@ -228,13 +228,13 @@ module _ (m : Meaning) (words : HasWordCauses m) (before : List (List ℕ)) (clo
   }
 
 -- where a step leads, by what it is
-StandsAfter : Meaning → List (List ℕ) → (closed : ℕ) → List Transaction → Step → Type 0
+StandsAfter : Saying → List (List ℕ) → (closed : ℕ) → List Transaction → Step → Type 0
 StandsAfter m lines closed batch Ignored = Stands m lines closed batch
 StandsAfter m lines closed batch Closes = Stands m lines (latest_with batch closed) []
 StandsAfter m lines closed batch (Adds e) = Stands m lines closed (batch ++ e ∷ [])
 StandsAfter m lines closed batch (Refuses cause) = Unit {0}
 
-stands_after : (m : Meaning) (before : List (List ℕ)) (closed : ℕ) (batch : List Transaction) (line : List ℕ) (step : Step) → Stands m before closed batch
+stands_after : (m : Saying) (before : List (List ℕ)) (closed : ℕ) (batch : List Transaction) (line : List ℕ) (step : Step) → Stands m before closed batch
     → Comes m closed batch line step → StandsAfter m (before ++ line ∷ []) closed batch step
 unfolding StandsAfter
 stands_after m before closed batch line _ h (passed_over short ignored) =
@@ -278,7 +278,7 @@ refused_at n k c cause is = (cc, cc)
 heads : (x y : List ℕ) (xs ys : List (List ℕ)) → x ∷ xs ≡ y ∷ ys → (x ≡ y) × (xs ≡ ys)
 heads x y xs ys is = (cc, cc)
 
-module _ (m : Meaning) (words : HasWordCauses m) (all : List (List ℕ)) (cut : Bool) where
+module _ (m : Saying) (words : HasWordCauses m) (all : List (List ℕ)) (cut : Bool) where
   -- the line behind the first n
   at_place : (n : ℕ) (line : List ℕ) (lines : List (List ℕ)) → drop n all ≡ line ∷ lines → (n < length all) × (get_or all n [] ≡ line) × (drop (n + 1) all ≡ lines)
   at_place n line lines is = by_length (cases_lt n (length all))

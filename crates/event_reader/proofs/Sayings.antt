@@ -4,7 +4,7 @@ use Rattle.std.specs.Prelude.{◌==◌, ◌||◌, filter, flat_map}
 use Rattle.std.specs.List.{slice_split, onto_first, cons_option}
 use Rattle.std.proofs.lemmas.Bool.Decides.{nat_tests}
 use Rattle.morph_base.specs.Transactions.{Transaction}
-use Rattle.event_reader.specs.Steps.{Meaning, Step, Ignored, Closes, Adds, Refuses, latest_with, is_ignored, is_punctuation, step_of}
+use Rattle.event_reader.specs.Steps.{Saying, Step, Ignored, Closes, Adds, Refuses, latest_with, is_ignored, is_punctuation, step_of}
 use Rattle.event_reader.specs.Accepted.{Accepted, Ended, with_batch, led_by, accepted_lines}
 use Rattle.event_reader.specs.LineEvents.{event_said, events_said, has_event, batches_said}
 use Rattle.event_reader.proofs.Comings.{SaysWords, Comes, passed_over, marks, joins, comes}
@@ -22,7 +22,7 @@ or_true : (a : Bool) → (a || true) ≡ true
 or_true true = refl
 or_true false = refl
 
-module _ (m : Meaning) where
+module _ (m : Saying) where
   -- what a line says, by what it is
   pub none_ignored : (line : List ℕ) → is_ignored line ≡ true → event_said m line ≡ None
   none_ignored line ignored = rw ignored refl

@@ -7,22 +7,24 @@ use Rattle.std.proofs.lemmas.List.{map_push}
 use Rattle.std.proofs.lemmas.List.Elements.{All-push}
 use Rattle.std.proofs.lemmas.List.Sorted.{IsPermutation-to_front, IsPermutation-sym}
 use Rattle.std.proofs.lemmas.Map.Keys.{IsDistinct-cons, IsDistinct-IsPermutation}
-use Rattle.morph_base.specs.declared.limits.TheConstants.{FIRST_MAX, EVENTS}
+use Rattle.morph_base.specs.declared.limits.TheConstants.{EVENTS}
 use Rattle.morph_base.specs.declared.key.Layout.{Layout}
 use Rattle.morph_base.specs.Transactions.{Transaction, time, IsTransaction, HasKeysIn, HasHigh}
 use Rattle.morph_base.proofs.BoundLaws.{alike_all}
+use Rattle.event_reader.specs.declared.version.Version.{Version}
 use Rattle.event_reader.specs.Reader.{IsEventOf}
+use Rattle.event_reader.specs.Versions.{greatest_of}
 use Rattle.event_reader.specs.Limits.{longest_line}
 use Rattle.event_reader.specs.declared.cause.Cause.{Cause}
 use Rattle.event_reader.specs.declared.cause.Cause.TheVariants.{Late, Twice, Full}
 use Rattle.event_reader.specs.Lines.{Reading, with_line}
 use Rattle.event_reader.specs.Words.{words_of}
-use Rattle.event_reader.specs.Steps.{Meaning, Step, Ignored, Closes, Adds, Refuses, latest_with, has_time, joining, event_step, said_by, is_ignored, is_punctuation, step_of}
+use Rattle.event_reader.specs.Steps.{Saying, Step, Ignored, Closes, Adds, Refuses, latest_with, has_time, joining, event_step, said_by, is_ignored, is_punctuation, step_of}
 use Rattle.event_reader.specs.Accepted.{RefusedAt, accepted_from, with_batch}
 use Rattle.event_reader.specs.Pending.{IsSound}
 use Rattle.event_reader.proofs.Batching.{leads}
 
-module _ (m : Meaning) (closed : ℕ) (batch : List Transaction) (line : List ℕ) (short : length line ≤ longest_line) where
+module _ (m : Saying) (closed : ℕ) (batch : List Transaction) (line : List ℕ) (short : length line ≤ longest_line) where
   is_short : nat_lt longest_line (length line) ≡ false
   is_short = grind (arith, nat_tests)
 
@@ -106,19 +108,19 @@ distinct_more batch e fresh distinct =
     (IsPermutation-sym _ _ (IsPermutation-to_front (map time batch) e.ts)) apart)
 
 -- a batch with one event more stays sound
-pub sound_more : (layout : Layout) (closed : ℕ) (batch : List Transaction) (e : Transaction) (batch' : List Transaction) → IsSound layout batch
-    → IsEventOf layout e → joining closed batch e ≡ Adds e → batch' ≡ batch ++ e ∷ [] → IsSound layout batch'
-sound_more layout closed batch e batch' h event joins more =
+pub sound_more : (version : Version) (layout : Layout) (closed : ℕ) (batch : List Transaction) (e : Transaction) (batch' : List Transaction) → IsSound version layout batch
+    → IsEventOf version layout e → joining closed batch e ≡ Adds e → batch' ≡ batch ++ e ∷ [] → IsSound version layout batch'
+sound_more version layout closed batch e batch' h event joins more =
     let when = joins_when e (nat_le e.ts closed) (has_time batch e.ts) (nat_le EVENTS (length batch)) joins in
     let few : length batch < EVENTS = grind (arith, nat_tests, when.1) in
     let valid : All IsTransaction (batch ++ e ∷ []) = All-push IsTransaction batch e h.valid.valid event.0 in
-    let limits : All (HasHigh FIRST_MAX) (batch ++ e ∷ []) = All-push (HasHigh FIRST_MAX) batch e h.limits event.2 in
+    let limits : All (HasHigh (greatest_of version)) (batch ++ e ∷ []) = All-push (HasHigh (greatest_of version)) batch e h.limits event.2 in
     rw more record {
       valid = record {
         few = omega (arith, length-append batch (e ∷ []));
         valid = valid;
         times = distinct_more batch e when.0 h.valid.times;
-        alike = alike_all FIRST_MAX (batch ++ e ∷ []) valid limits;
+        alike = alike_all (greatest_of version) (batch ++ e ∷ []) valid limits;
       };
       keys = All-push (HasKeysIn layout) batch e h.keys event.1;
       limits = limits;

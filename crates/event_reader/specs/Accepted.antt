@@ -1,9 +1,12 @@
 -- The batches that an input has, up to its first refused line.
-use Rattle.std.specs.Prelude.{ℕ, ◌+◌, Bool, true, false, List, [], ◌∷◌, ◌++◌}
+use Rattle.std.specs.Prelude.{ℕ, ◌+◌, ◌==◌, Bool, true, false, if◌then◌else◌, List, [], ◌∷◌, ◌++◌}
 use Rattle.morph_base.specs.Transactions.{Transaction}
 use Rattle.event_reader.specs.declared.cause.Cause.{Cause}
-use Rattle.event_reader.specs.Lines.{Reading, whole, front, within}
-use Rattle.event_reader.specs.Steps.{Meaning, Step, Ignored, Closes, Adds, Refuses, latest_with, step_of}
+use Rattle.event_reader.specs.declared.version.Version.{Version}
+use Rattle.event_reader.specs.declared.version.Version.TheVariants.{One, Two}
+use Rattle.event_reader.specs.Lines.{Reading, whole, front, within, behind_first}
+use Rattle.event_reader.specs.Steps.{Saying, Meaning, Step, Ignored, Closes, Adds, Refuses, latest_with, step_of}
+use Rattle.event_reader.specs.Versions.{has_version_line}
 
 -- how the batches end: the input ends, a line is refused, or the lines are cut off with none refused
 pub data Ending : Type 0 where
@@ -32,27 +35,37 @@ led_by Closes number closed batch after = with_batch batch (after (latest_with b
 led_by (Adds e) number closed batch after = after closed (batch ++ e ∷ [])
 led_by (Refuses cause) number closed batch after = record { batches = []; ending = RefusedAt (number + 1) cause }
 
--- the batches of lines, where `number` lines stand before them, `closed` is the greatest timestamp of the batches
+-- the batches of lines of one version, where `number` lines stand before them, `closed` is the greatest timestamp of the batches
 -- closed before, and `batch` has the events of the unfinished batch
-unfoldable pub accepted_lines : Meaning → (number closed : ℕ) → List Transaction → List (List ℕ) → (cut : Bool) → Accepted
-accepted_lines meaning number closed batch [] cut = at_last cut batch
-accepted_lines meaning number closed batch (line ∷ lines) cut =
-    led_by (step_of meaning closed batch line) number closed batch
-    (λ closed' batch'. accepted_lines meaning (number + 1) closed' batch' lines cut)
+unfoldable pub accepted_lines : Saying → (number closed : ℕ) → List Transaction → List (List ℕ) → (cut : Bool) → Accepted
+accepted_lines saying number closed batch [] cut = at_last cut batch
+accepted_lines saying number closed batch (line ∷ lines) cut =
+    led_by (step_of saying closed batch line) number closed batch
+    (λ closed' batch'. accepted_lines saying (number + 1) closed' batch' lines cut)
 
-abbrev pub accepted_from : Meaning → (number closed : ℕ) → List Transaction → Reading → Accepted
-accepted_from meaning number closed batch reading = accepted_lines meaning number closed batch reading.lines reading.cut
+abbrev pub accepted_from : Saying → (number closed : ℕ) → List Transaction → Reading → Accepted
+accepted_from saying number closed batch reading = accepted_lines saying number closed batch reading.lines reading.cut
+
+-- the batches of an input's lines from the first on: the version line is ignored, and all others are lines of its version
+abbrev pub accepted_first : Meaning → (closed : ℕ) → List Transaction → Reading → Accepted
+accepted_first meaning closed batch reading =
+    if has_version_line reading.lines then accepted_from (meaning Two) 1 closed batch (behind_first reading) else accepted_from (meaning One) 0 closed batch reading
+
+-- the batches of lines that stand behind so many of an input of this version; before the first line its version is not known
+abbrev pub accepted_behind : Meaning → Version → (number closed : ℕ) → List Transaction → Reading → Accepted
+accepted_behind meaning version number closed batch reading =
+    if number == 0 then accepted_first meaning closed batch reading else accepted_from (meaning version) number closed batch reading
 
 -- the batches that are closed before the first refused line of an input, in order, with that line's number and cause if
 -- there is one. Where there is none the end of the input closes the last batch
 abbrev pub accepted : Meaning → List ℕ → Accepted
-accepted meaning input = accepted_from meaning 0 0 [] (whole input)
+accepted meaning input = accepted_first meaning 0 [] (whole input)
 
 -- the batches that are closed by a punctuation whose line stands, with its LF, within a front of an input
 abbrev pub closed_batches : Meaning → List ℕ → List (List Transaction)
-closed_batches meaning bytes = (accepted_from meaning 0 0 [] (front bytes)).batches
+closed_batches meaning bytes = (accepted_first meaning 0 [] (front bytes)).batches
 
 -- the batches of an input of which at most `limit` bytes are read. It ends in `CutOff` exactly where the input has more
 -- bytes than that, and none of the lines that are decided by the first `limit` of them is refused
 abbrev pub accepted_within : Meaning → (limit : ℕ) → List ℕ → Accepted
-accepted_within meaning limit input = accepted_from meaning 0 0 [] (within limit input)
+accepted_within meaning limit input = accepted_first meaning 0 [] (within limit input)

@@ -4,6 +4,7 @@ use Rattle.morph_io.specs.Told.{ahead}
 use Rattle.morph_io.specs.declared.source.ReadFailed.{ReadFailed}
 use Rattle.event_reader.specs.Limits.{buffer_bytes}
 use Rattle.event_reader.specs.Lines.{behind_last_feed, decided_lines, front}
+use Rattle.event_reader.specs.declared.past.Past.{Past}
 use Rattle.event_reader.specs.Steps.{Meaning}
 use Rattle.event_reader.specs.Accepted.{CutOff}
 use Rattle.event_reader.specs.declared.answers.LineNext.{LineNext}
@@ -61,22 +62,22 @@ pub record AsksForLine {S : Type 0} (left_of : S → Option (List ℕ)) (reads :
 
 -- reads one after another for a batch: each one only where the bytes got until then show no closed batch and no refused
 -- line, and none came that was the last. The reader keeps what stands behind the last LF
-pub data AsksBatch {S : Type 0} (left_of : S → Option (List ℕ)) (reads : S → ℕ → Result ℕ ReadFailed → S → Type 0) (meaning : Meaning) (closed : ℕ) (before : LinesView) (source₀ : S) : (got : List ℕ) (last : Bool) (source : S) → Type 0 where
-  not_yet : AsksBatch left_of reads meaning closed before source₀ [] before.ended source₀
-  once_more : (got bytes : List ℕ) (last : Bool) (source source' : S) → AsksBatch left_of reads meaning closed before source₀ got false source
-      → accepted_next meaning closed before (front (before.kept ++ got)) ≡ record { batches = []; ending = CutOff }
+pub data AsksBatch {S : Type 0} (left_of : S → Option (List ℕ)) (reads : S → ℕ → Result ℕ ReadFailed → S → Type 0) (meaning : Meaning) (past : Past) (before : LinesView) (source₀ : S) : (got : List ℕ) (last : Bool) (source : S) → Type 0 where
+  not_yet : AsksBatch left_of reads meaning past before source₀ [] before.ended source₀
+  once_more : (got bytes : List ℕ) (last : Bool) (source source' : S) → AsksBatch left_of reads meaning past before source₀ got false source
+      → accepted_next meaning past before (front (before.kept ++ got)) ≡ record { batches = []; ending = CutOff }
       → AsksOnce left_of reads (length (behind_last_feed (before.kept ++ got))) (before.limit - before.taken - length got) source bytes last source'
-      → AsksBatch left_of reads meaning closed before source₀ (got ++ bytes) last source'
+      → AsksBatch left_of reads meaning past before source₀ (got ++ bytes) last source'
 
 -- the reads for a batch, of which the last came to the end of the input exactly where the reader says so
-pub record AsksForBatch {S A : Type 0} (left_of : S → Option (List ℕ)) (reads : S → ℕ → Result ℕ ReadFailed → S → Type 0) (meaning : Meaning) (closed : ℕ) (before : LinesView) (source : S) (answer : Result A ReaderFault) (after : LinesView) (source' : S) : Type 0 where
+pub record AsksForBatch {S A : Type 0} (left_of : S → Option (List ℕ)) (reads : S → ℕ → Result ℕ ReadFailed → S → Type 0) (meaning : Meaning) (past : Past) (before : LinesView) (source : S) (answer : Result A ReaderFault) (after : LinesView) (source' : S) : Type 0 where
   pub got : List ℕ
   pub taken : left_of source ≡ ahead got (left_of source')
   pub last : Bool
-  pub asks : AsksBatch left_of reads meaning closed before source got last source'
+  pub asks : AsksBatch left_of reads meaning past before source got last source'
   pub ends : IfOk answer (λ _. last ≡ after.ended)
 
 -- the same of a reader of batches
 abbrev pub AsksForNext : {S App A : Type 0} → (S → Option (List ℕ)) → (S → ℕ → Result ℕ ReadFailed → S → Type 0) → (App → ℕ → Meaning) → ReaderView App → S → Result A ReaderFault → ReaderView App → S → Type 0
 AsksForNext left_of reads event_of before source answer after source' =
-    AsksForBatch left_of reads (event_of before.app before.size) before.closed before.lines source answer after.lines source'
+    AsksForBatch left_of reads (event_of before.app before.size) before.past before.lines source answer after.lines source'

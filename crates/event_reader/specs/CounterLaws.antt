@@ -1,6 +1,6 @@
 -- The events of the tests' application are valid, and so are the lines that it writes.
 use Rattle.std.proofs.Common.{◌≡◌, ℕ, ◌^◌, ◌<◌, ◌≤◌, Bool, true, false, if◌then◌else◌, List, [], ◌∷◌, length, refl, ◌∙◌, ap, subst, arith, Some, Ok, Err}
-use Rattle.std.specs.Prelude.{◌==◌, ◌||◌, decimal, nat_le, slice_index, slice_index_or}
+use Rattle.std.specs.Prelude.{◌==◌, ◌||◌, decimal, nat_le, nat_lt, slice_index, slice_index_or}
 use Rattle.std.specs.List.{All, IsDistinct, list_all}
 use Rattle.std.proofs.lemmas.Bool.Decides.{nat_tests}
 use Rattle.std.proofs.lemmas.Fmt.{decimal_is_IsNumeral, decimal_nonempty, first_decimal, length-decimal-le}
@@ -12,75 +12,69 @@ use Rattle.std.specs.Char.{is_ascii_digit}
 use Rattle.morph_base.specs.declared.operation.Func.TheVariants.{Add}
 use Rattle.morph_base.specs.Operations.{IsShaped, InLayout, reads}
 use Rattle.morph_base.specs.Transactions.{Transaction}
-use Rattle.morph_base.specs.declared.limits.TheConstants.{FIRST_MAX}
-use Rattle.morph_base.proofs.ShapeLaws.{all_of, op_of-shaped}
+use Rattle.morph_base.specs.Limits.{latest_time}
+use Rattle.morph_base.proofs.ShapeLaws.{all_of}
 use Rattle.event_reader.specs.Limits.{greatest_number, generated_events}
 use Rattle.event_reader.specs.declared.cause.Cause.{Cause}
 use Rattle.event_reader.specs.declared.cause.Cause.TheVariants.{Form, Range, Same}
 use Rattle.event_reader.specs.declared.number.Number.{Number}
 use Rattle.event_reader.specs.declared.number.Number.TheVariants.{Value, TooGreat, NotNumber}
+use Rattle.event_reader.specs.declared.version.Version.{Version}
+use Rattle.event_reader.specs.declared.version.Version.TheVariants.{One}
+use Rattle.event_reader.specs.Versions.{greatest_of, is_version_line}
+use Rattle.event_reader.specs.VersionLaws.{first_at_most, op_in-shaped}
 use Rattle.event_reader.specs.Generated.{IsEventLine}
-use Rattle.event_reader.specs.Numbers.{is_number, value_of, number_of}
+use Rattle.event_reader.specs.Numbers.{is_number, number_of}
 use Rattle.event_reader.specs.Words.{is_space, is_word, parts_of, words_of}
 use Rattle.event_reader.specs.Steps.{said_by, is_ignored, is_punctuation}
 use Rattle.event_reader.specs.Reader.{IsOfWords, IsEventOf}
 use Rattle.event_reader.specs.Counter.{count_at, count_by, count_event, count_drawn}
 
--- a number that a word says is not too great
-says_small : (word : List ℕ) (ts : ℕ) → number_of word ≡ Value ts → ts ≤ greatest_number
-says_small word ts is = by_tests (is_number word) (nat_le (value_of word) greatest_number) refl is
-  where
-    by_tests : (t u : Bool) → nat_le (value_of word) greatest_number ≡ u → (if t then (if u then Value (value_of word) else TooGreat) else NotNumber) ≡ Value ts → ts ≤ greatest_number
-    by_tests false u small is = absurd (cc)
-    by_tests true false small is = absurd (cc)
-    by_tests true true small is =
-        let same : value_of word ≡ ts = cc in
-        let bound : value_of word ≤ greatest_number = grind (arith, nat_tests, small) in
-        omega (arith, same, bound)
-
-count_is_valid : (size ts : ℕ) → 0 < ts → ts ≤ greatest_number → 0 < size
-    → IsEventOf (record { tables = 1; size = size }) (count_at ts)
+count_is_valid : (version : Version) (size ts : ℕ) → 0 < ts → ts ≤ latest_time → 0 < size
+    → IsEventOf version (record { tables = 1; size = size }) (count_at version ts)
 unfolding IsDistinct
-count_is_valid size ts start end some = (
+count_is_valid version size ts start end some = (
   record {
     after_start = start;
     latest = end;
     some = omega arith;
     few = omega arith;
-    shaped = all_of IsShaped (count_at ts).ops (op_of-shaped Add (record { table = 0; id = 0 }) [] 1 (omega arith) (omega arith) (omega arith), tt);
+    shaped = all_of IsShaped (count_at version ts).ops (
+      op_in-shaped version Add (record { table = 0; id = 0 }) [] 1 (omega arith) (omega arith) (let most = first_at_most version in omega (arith, most)),
+      tt,
+    );
     distinct = (tt, tt);
   },
-  all_of (λ op. All (InLayout (record { tables = 1; size = size })) (reads op)) (count_at ts).ops (
+  all_of (λ op. All (InLayout (record { tables = 1; size = size })) (reads op)) (count_at version ts).ops (
     all_of (InLayout (record { tables = 1; size = size })) (record { table = 0; id = 0 } ∷ []) (record { table = omega arith; id = some }, tt),
     tt,
   ),
-  all_of (λ op. op.high ≡ FIRST_MAX) (count_at ts).ops (refl, tt),
+  all_of (λ op. op.high ≡ greatest_of version) (count_at version ts).ops (refl, tt),
 )
 
 -- every event is valid
-pub count_valid : (size : ℕ) (words : List (List ℕ)) (e : Transaction) → count_event size words ≡ Ok e
-    → IsEventOf (record { tables = 1; size = size }) e
-count_valid size words e is = by_count (length words == 2) (length words == 1) is
+pub count_valid : (size : ℕ) (version : Version) (words : List (List ℕ)) (e : Transaction) → count_event size version words ≡ Ok e
+    → IsEventOf version (record { tables = 1; size = size }) e
+count_valid size version words e is = by_count (length words == 2) (length words == 1) is
   where
-    by_test : (ts : ℕ) (t : Bool) → (ts == 0 || size == 0) ≡ t → ts ≤ greatest_number → (if t then Err Range else Ok (count_at ts)) ≡ Ok e
-        → IsEventOf (record { tables = 1; size = size }) e
-    by_test ts true is small said = absurd (cc)
-    by_test ts false is small said =
-        let same : count_at ts ≡ e = cc in
-        subst (λ f. IsEventOf (record { tables = 1; size = size }) f) same
-        (count_is_valid size ts (grind (arith, nat_tests, is)) small (grind (arith, nat_tests, is)))
+    by_test : (ts : ℕ) (t : Bool) → (ts == 0 || (nat_lt latest_time ts || size == 0)) ≡ t → (if t then Err Range else Ok (count_at version ts)) ≡ Ok e
+        → IsEventOf version (record { tables = 1; size = size }) e
+    by_test ts true is said = absurd (cc)
+    by_test ts false is said =
+        let same : count_at version ts ≡ e = cc in
+        subst (λ f. IsEventOf version (record { tables = 1; size = size }) f) same
+        (count_is_valid version size ts (grind (arith, nat_tests, is)) (grind (arith, nat_tests, is)) (grind (arith, nat_tests, is)))
 
-    by_number : (n : Number) → number_of (slice_index_or words 0 []) ≡ n → count_by size n ≡ Ok e
-        → IsEventOf (record { tables = 1; size = size }) e
-    by_number NotNumber is said = absurd (cc)
-    by_number TooGreat is said = absurd (cc)
-    by_number (Value ts) is said = by_test ts (ts == 0 || size == 0) refl (says_small (slice_index_or words 0 []) ts is) said
+    by_number : (n : Number) → count_by version size n ≡ Ok e → IsEventOf version (record { tables = 1; size = size }) e
+    by_number NotNumber said = absurd (cc)
+    by_number TooGreat said = absurd (cc)
+    by_number (Value ts) said = by_test ts (ts == 0 || (nat_lt latest_time ts || size == 0)) refl said
 
-    by_count : (two one : Bool) → (if two then Err Same else (if one then count_by size (number_of (slice_index_or words 0 [])) else Err Form)) ≡ Ok e
-        → IsEventOf (record { tables = 1; size = size }) e
+    by_count : (two one : Bool) → (if two then Err Same else (if one then count_by version size (number_of (slice_index_or words 0 [])) else Err Form)) ≡ Ok e
+        → IsEventOf version (record { tables = 1; size = size }) e
     by_count true one said = absurd (cc)
     by_count false false said = absurd (cc)
-    by_count false true said = by_number (number_of (slice_index_or words 0 [])) refl said
+    by_count false true said = by_number (number_of (slice_index_or words 0 [])) said
 
 -- the causes are form, range and same
 is_form : (cause : Cause) → Form ≡ cause → IsOfWords cause
@@ -92,19 +86,19 @@ is_range cause is = subst IsOfWords is tt
 is_same : (cause : Cause) → Same ≡ cause → IsOfWords cause
 is_same cause is = subst IsOfWords is tt
 
-pub count_causes : (size : ℕ) (words : List (List ℕ)) (cause : Cause) → count_event size words ≡ Err cause → IsOfWords cause
-count_causes size words cause is = by_count (length words == 2) (length words == 1) is
+pub count_causes : (size : ℕ) (version : Version) (words : List (List ℕ)) (cause : Cause) → count_event size version words ≡ Err cause → IsOfWords cause
+count_causes size version words cause is = by_count (length words == 2) (length words == 1) is
   where
-    by_test : (ts : ℕ) (t : Bool) → (if t then Err Range else Ok (count_at ts)) ≡ Err cause → IsOfWords cause
+    by_test : (ts : ℕ) (t : Bool) → (if t then Err Range else Ok (count_at version ts)) ≡ Err cause → IsOfWords cause
     by_test ts true said = is_range cause (cc)
     by_test ts false said = absurd (cc)
 
-    by_number : (n : Number) → count_by size n ≡ Err cause → IsOfWords cause
+    by_number : (n : Number) → count_by version size n ≡ Err cause → IsOfWords cause
     by_number NotNumber said = is_form cause (cc)
     by_number TooGreat said = is_range cause (cc)
-    by_number (Value ts) said = by_test ts (ts == 0 || size == 0) said
+    by_number (Value ts) said = by_test ts (ts == 0 || (nat_lt latest_time ts || size == 0)) said
 
-    by_count : (two one : Bool) → (if two then Err Same else (if one then count_by size (number_of (slice_index_or words 0 [])) else Err Form)) ≡ Err cause
+    by_count : (two one : Bool) → (if two then Err Same else (if one then count_by version size (number_of (slice_index_or words 0 [])) else Err Form)) ≡ Err cause
         → IsOfWords cause
     by_count true one said = is_same cause (cc)
     by_count false false said = is_form cause (cc)
@@ -167,24 +161,32 @@ no_mark_decimal (b ∷ bytes) digits =
     let other : (b == 80) ≡ false = grind (arith, nat_tests, first.1) in
     rw other refl
 
+no_version_decimal : (bytes : List ℕ) → All (λ b. (48 ≤ b) × (b ≤ 57)) bytes → is_version_line bytes ≡ false
+no_version_decimal [] digits = refl
+no_version_decimal (b ∷ bytes) digits =
+    let first = All-head (λ b. (48 ≤ b) × (b ≤ 57)) b bytes digits in
+    let other : (b == 109) ≡ false = grind (arith, nat_tests, first.1) in
+    rw other refl
+
 printable : (b : ℕ) → (48 ≤ b) × (b ≤ 57) → 32 ≤ b
 printable b digit = omega (arith, digit.0)
 
 -- each line that it writes is an event's
-pub count_generates : (size i state : ℕ) → 0 < size → 0 < i → i ≤ generated_events → IsEventLine (count_event size) i (count_drawn i state).line
+pub count_generates : (size i state : ℕ) → 0 < size → 0 < i → i ≤ generated_events → IsEventLine (count_event size One) i (count_drawn i state).line
 count_generates size i state some start last =
     let small : i ≤ greatest_number = omega arith in
     let fits : i < 2 ^ 64 = omega arith in
     let long = decimal_nonempty i fits in
-    let later : (i == 0 || size == 0) ≡ false = grind (arith, nat_tests) in
+    let later : (i == 0 || (nat_lt latest_time i || size == 0)) ≡ false = grind (arith, nat_tests) in
     let digits = digits_of i small in
     let short = length-decimal-le 13 i (omega arith) (omega arith) (omega arith) in
     record {
-      event = count_at i;
-      says = ap (said_by (count_event size)) (words_of_decimal i small) ∙ ap (count_by size) (decimal_says i start small) ∙ rw later refl;
+      event = count_at One i;
+      says = ap (said_by (count_event size One)) (words_of_decimal i small) ∙ ap (count_by One size) (decimal_says i start small) ∙ rw later refl;
       time = refl;
       printable = All-weaker (λ b. (48 ≤ b) × (b ≤ 57)) (λ b. 32 ≤ b) printable (decimal i) digits;
       counts = counts_decimal (decimal i) digits long;
       no_mark = no_mark_decimal (decimal i) digits;
+      no_version = no_version_decimal (decimal i) digits;
       short = omega (arith, short);
     }

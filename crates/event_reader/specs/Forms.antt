@@ -8,7 +8,7 @@ use Rattle.event_reader.specs.declared.cause.Cause.TheVariants.{Form as NoForm, 
 use Rattle.event_reader.specs.declared.ranges.Range.{Range}
 use Rattle.event_reader.specs.Numbers.{numbers_in}
 use Rattle.event_reader.specs.Ranges.{nothing}
-use Rattle.event_reader.specs.Steps.{Meaning}
+use Rattle.event_reader.specs.Steps.{Saying}
 
 -- a form of line: its letter, the ranges of the numbers that each of its lines has, the range of those that may follow
 -- them, and the least and the most count of these
@@ -86,10 +86,10 @@ abbrev pub unless : (same : Bool) → Transaction → Result Transaction Cause
 unless same e = if same then Err Same else Ok e
 
 -- what words say as a line of the kind
-abbrev pub said_in : Kind → Meaning
+abbrev pub said_in : Kind → Saying
 said_in kind words = said kind.says (numbers_by kind.form words)
 
 -- what words say by the kind whose letter they have; where there is none the cause is form
-abbrev pub event_by : List Kind → Meaning
+abbrev pub event_by : List Kind → Saying
 event_by [] words = Err NoForm
 event_by (kind ∷ kinds) words = if has_letter kind.form words then said_in kind words else event_by kinds words

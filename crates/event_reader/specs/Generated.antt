@@ -3,7 +3,9 @@ use Rattle.std.specs.Prelude.{◌≡◌, ℕ, ◌<◌, ◌≤◌, false, List, l
 use Rattle.std.specs.List.{All}
 use Rattle.morph_base.specs.Transactions.{Transaction}
 use Rattle.event_reader.specs.Limits.{generated_events, generated_ids, generated_bytes}
-use Rattle.event_reader.specs.Steps.{Meaning, said_by, is_ignored, is_punctuation}
+use Rattle.event_reader.specs.declared.version.Version.TheVariants.{One}
+use Rattle.event_reader.specs.Steps.{Saying, Meaning, said_by, is_ignored, is_punctuation}
+use Rattle.event_reader.specs.Versions.{is_version_line}
 use Rattle.event_reader.specs.Words.{words_of}
 
 -- a line, without its LF, and the state of the draws after it
@@ -11,18 +13,19 @@ pub record Drawn : Type 0 where
   pub line : List ℕ
   pub state : ℕ
 
--- a short line that is neither ignored nor a punctuation, without LF and CR, whose words are an event at time i
-pub record IsEventLine (meaning : Meaning) (i : ℕ) (line : List ℕ) : Type 0 where
+-- a short line that is neither ignored nor a punctuation nor the version line, without LF and CR, whose words are an event at time i
+pub record IsEventLine (saying : Saying) (i : ℕ) (line : List ℕ) : Type 0 where
   pub event : Transaction
-  pub says : said_by meaning (words_of line) ≡ Ok event
+  pub says : said_by saying (words_of line) ≡ Ok event
   pub time : event.ts ≡ i
   pub printable : All (λ b. 32 ≤ b) line
   pub counts : is_ignored line ≡ false
   pub no_mark : is_punctuation line ≡ false
+  pub no_version : is_version_line line ≡ false
   pub short : length line ≤ generated_bytes
 
--- each line that an application's generator writes is an event's, at the time of its number
+-- each line that an application's generator writes is an event's in version 1, at the time of its number
 abbrev pub GeneratesEvents : {App : Type 0} → (App → ℕ → Meaning) → (App → (size i state : ℕ) → Drawn) → Type 0
 GeneratesEvents {App} event_of generated =
     (app : App) (size i state : ℕ) → 0 < size → size ≤ generated_ids → 0 < i → i ≤ generated_events
-    → IsEventLine (event_of app size) i (generated app size i state).line
+    → IsEventLine (event_of app size One) i (generated app size i state).line

@@ -24,3 +24,5 @@ pub mod GeneratedText
 pub mod Generating
 pub mod Counter
 pub mod CounterLaws
+pub mod Versions
+pub mod VersionLaws

@@ -15,15 +15,15 @@ buffer_bytes = 4096
 
 -- the most words of an event line
 abbrev pub line_words : ℕ
-line_words = 8
+line_words = 9
 
 -- the most bytes of the printed name of a table
 abbrev pub name_bytes : ℕ
 name_bytes = 16
 
--- the greatest number that a word of a line can say: 10^12
+-- the greatest number that a word of a line can say: 10^13
 abbrev pub greatest_number : ℕ
-greatest_number = 1000000000000
+greatest_number = 10000000000000
 
 -- the most bytes of an input: 2^30
 abbrev pub input_bytes : ℕ

@@ -3,7 +3,7 @@ use Rattle.std.specs.Prelude.{ℕ, ◌-◌, ◌<◌, ◌||◌, nat_le, filter, f
 use Rattle.std.specs.List.{All, slice_split}
 use Rattle.morph_base.specs.Transactions.{Transaction}
 use Rattle.event_reader.specs.declared.cause.Cause.{Cause}
-use Rattle.event_reader.specs.Steps.{Meaning, said_by, is_ignored, is_punctuation}
+use Rattle.event_reader.specs.Steps.{Saying, said_by, is_ignored, is_punctuation}
 use Rattle.event_reader.specs.Words.{words_of}
 
 abbrev pub event_if : Result Transaction Cause → Option Transaction
@@ -11,18 +11,18 @@ event_if (Ok e) = Some e
 event_if (Err _) = None
 
 -- the event that a line says; an ignored line and a punctuation say none
-abbrev pub event_said : Meaning → List ℕ → Option Transaction
+abbrev pub event_said : Saying → List ℕ → Option Transaction
 event_said meaning line = if is_ignored line || is_punctuation line then None else event_if (said_by meaning (words_of line))
 
 -- the events that lines say, in order
-abbrev pub events_said : Meaning → List (List ℕ) → List Transaction
+abbrev pub events_said : Saying → List (List ℕ) → List Transaction
 events_said meaning lines = filter_map (event_said meaning) lines
 
 abbrev pub has_event : List Transaction → Bool
 has_event batch = nat_le 1 (length batch)
 
 -- the events between punctuations, where there are any
-abbrev pub batches_said : Meaning → List (List ℕ) → List (List Transaction)
+abbrev pub batches_said : Saying → List (List ℕ) → List (List Transaction)
 batches_said meaning lines = filter has_event (map (events_said meaning) (slice_split is_punctuation lines))
 
 -- every event of a batch comes before every one of a later batch
@@ -34,5 +34,5 @@ abbrev pub before_last : {X : Type 0} → List X → List X
 before_last xs = take (length xs - 1) xs
 
 -- the events in front of each punctuation, where there are any: those of the batches that lines close
-abbrev pub closed_said : Meaning → List (List ℕ) → List (List Transaction)
+abbrev pub closed_said : Saying → List (List ℕ) → List (List Transaction)
 closed_said meaning lines = filter has_event (map (events_said meaning) (before_last (slice_split is_punctuation lines)))

@@ -1,5 +1,5 @@
 -- How bytes are cut into lines.
-use Rattle.std.specs.Prelude.{◌≡◌, ℕ, ◌-◌, ◌<◌, Bool, true, false, ◌==◌, nat_le, fold, if◌then◌else◌, List, [], ◌∷◌, ◌++◌, length, take, map, slice_index}
+use Rattle.std.specs.Prelude.{◌≡◌, ℕ, ◌-◌, ◌<◌, Bool, true, false, ◌==◌, nat_le, fold, if◌then◌else◌, List, [], ◌∷◌, ◌++◌, length, take, drop, map, slice_index}
 use Rattle.std.specs.List.{slice_split}
 use Rattle.event_reader.specs.Limits.{longest_line, deciding_bytes}
 
@@ -53,6 +53,10 @@ within room input = if nat_le (length input) room then whole input else front (t
 -- a line more, in front of the others
 abbrev pub with_line : List ℕ → Reading → Reading
 with_line line reading = record { lines = line ∷ reading.lines; cut = reading.cut }
+
+-- what comes behind the first line
+abbrev pub behind_first : Reading → Reading
+behind_first reading = record { lines = drop 1 reading.lines; cut = reading.cut }
 
 -- there is a first line, and it is too long
 abbrev pub IsLongFirst : List (List ℕ) → Type 0

@@ -2,15 +2,16 @@
 use Rattle.std.specs.Prelude.{◌≡◌, ℕ, ◌+◌, ◌<◌, ◌≤◌, List, [], ◌∷◌, ◌++◌, length, map, Option, Some, None}
 use Rattle.std.specs.List.{All}
 use Rattle.morph_base.specs.declared.key.Layout.{Layout}
-use Rattle.morph_base.specs.declared.limits.TheConstants.{FIRST_MAX}
 use Rattle.morph_base.specs.Transactions.{Transaction, IsBatchOf, HasKeysIn, HasHigh, transaction_of}
 use Rattle.event_reader.specs.declared.cause.Cause.{Cause}
 use Rattle.event_reader.specs.declared.pending.Pending.{Pending}
 use Rattle.event_reader.specs.declared.pending.LineEffect.{LineEffect}
 use Rattle.event_reader.specs.declared.pending.LineEffect.TheVariants.{GoesOn, Closes as ClosesBatch, Refuses as RefusesLine}
+use Rattle.event_reader.specs.declared.version.Version.{Version}
+use Rattle.event_reader.specs.Versions.{greatest_of}
 use Rattle.event_reader.specs.Times.{is_among}
 use Rattle.event_reader.specs.Lines.{Reading, with_line}
-use Rattle.event_reader.specs.Steps.{Meaning, Adds, Refuses, latest_with, has_time, joining}
+use Rattle.event_reader.specs.Steps.{Saying, Adds, Refuses, latest_with, has_time, joining}
 use Rattle.event_reader.specs.Accepted.{RefusedAt, accepted_from, with_batch}
 
 -- its events
@@ -22,11 +23,11 @@ pub record Notes (closed : ℕ) (pending : Pending) : Type 0 where
   pub times : (t : ℕ) → is_among pending.times t ≡ has_time (batch_of pending) t
   pub latest : pending.latest ≡ latest_with (batch_of pending) closed
 
--- events that are a valid batch, with their keys in the layout, and with the greatest value of version 1
-pub record IsSound (layout : Layout) (batch : List Transaction) : Type 0 where
+-- events that are a valid batch, with their keys in the layout, and with the greatest value of the version
+pub record IsSound (version : Version) (layout : Layout) (batch : List Transaction) : Type 0 where
   pub valid : IsBatchOf batch
   pub keys : All (HasKeysIn layout) batch
-  pub limits : All (HasHigh FIRST_MAX) batch
+  pub limits : All (HasHigh (greatest_of version)) batch
 
 -- one event more
 pub record HasMore (closed : ℕ) (old : Pending) (e : Transaction) (new : Pending) : Type 0 where
@@ -40,21 +41,21 @@ Joins closed old e new None = HasMore closed old e new
 Joins closed old e new (Some cause) = joining closed (batch_of old) e ≡ Refuses cause
 
 -- after the line the batch goes on, with at most one event more
-pub record GoesOnAfter (meaning : Meaning) (layout : Layout) (closed : ℕ) (old : Pending) (line : List ℕ) (new : Pending) : Type 0 where
-  pub leads : (n : ℕ) (r : Reading) → accepted_from meaning n closed (batch_of old) (with_line line r) ≡ accepted_from meaning (n + 1) closed (batch_of new) r
+pub record GoesOnAfter (saying : Saying) (version : Version) (layout : Layout) (closed : ℕ) (old : Pending) (line : List ℕ) (new : Pending) : Type 0 where
+  pub leads : (n : ℕ) (r : Reading) → accepted_from saying n closed (batch_of old) (with_line line r) ≡ accepted_from saying (n + 1) closed (batch_of new) r
   pub notes : Notes closed new
-  pub sound : IsSound layout (batch_of new)
+  pub sound : IsSound version layout (batch_of new)
   pub more : length (batch_of new) ≤ length (batch_of old) + 1
 
 -- the line closes the batch, which has an event
-pub record ClosedBy (meaning : Meaning) (closed : ℕ) (old : Pending) (line : List ℕ) (new : Pending) : Type 0 where
-  pub leads : (n : ℕ) (r : Reading) → accepted_from meaning n closed (batch_of old) (with_line line r) ≡ with_batch (batch_of old) (accepted_from meaning (n + 1) old.latest [] r)
+pub record ClosedBy (saying : Saying) (closed : ℕ) (old : Pending) (line : List ℕ) (new : Pending) : Type 0 where
+  pub leads : (n : ℕ) (r : Reading) → accepted_from saying n closed (batch_of old) (with_line line r) ≡ with_batch (batch_of old) (accepted_from saying (n + 1) old.latest [] r)
   pub same : new ≡ old
   pub some : 0 < length old.events.items
 
 -- what a line does
-abbrev pub TakesLine : Meaning → Layout → (closed : ℕ) → (old : Pending) → (line : List ℕ) → (new : Pending) → LineEffect → Type 0
-TakesLine meaning layout closed old line new GoesOn = GoesOnAfter meaning layout closed old line new
-TakesLine meaning layout closed old line new ClosesBatch = ClosedBy meaning closed old line new
-TakesLine meaning layout closed old line new (RefusesLine cause) =
-    (n : ℕ) (r : Reading) → accepted_from meaning n closed (batch_of old) (with_line line r) ≡ record { batches = []; ending = RefusedAt (n + 1) cause }
+abbrev pub TakesLine : Saying → Version → Layout → (closed : ℕ) → (old : Pending) → (line : List ℕ) → (new : Pending) → LineEffect → Type 0
+TakesLine saying version layout closed old line new GoesOn = GoesOnAfter saying version layout closed old line new
+TakesLine saying version layout closed old line new ClosesBatch = ClosedBy saying closed old line new
+TakesLine saying version layout closed old line new (RefusesLine cause) =
+    (n : ℕ) (r : Reading) → accepted_from saying n closed (batch_of old) (with_line line r) ≡ record { batches = []; ending = RefusedAt (n + 1) cause }

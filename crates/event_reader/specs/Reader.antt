@@ -1,7 +1,6 @@
 -- What contracts see of a reader, and what its answers say.
 use Rattle.std.specs.Prelude.{All, ◌≡◌, ℕ, ◌+◌, ◌-◌, ◌<◌, ◌≤◌, Bool, true, false, if◌then◌else◌, List, [], ◌++◌, length, Option, option_map, IfSome, Result, Ok, Err}
 use Rattle.morph_base.specs.declared.key.Layout.{Layout}
-use Rattle.morph_base.specs.declared.limits.TheConstants.{FIRST_MAX}
 use Rattle.morph_base.specs.Transactions.{Transaction, IsTransaction, HasKeysIn, HasHigh, IsBatch, BatchKeysIn, transactions_of, transaction_of}
 use Rattle.morph_base.specs.declared.event.Event.{Event}
 use Rattle.morph_io.specs.Told.{ahead}
@@ -17,8 +16,12 @@ use Rattle.event_reader.specs.declared.answers.LineNext.TheVariants.{Line, Long,
 use Rattle.event_reader.specs.declared.answers.Next.{Next}
 use Rattle.event_reader.specs.declared.answers.Next.TheVariants.{Batch, End, Refused}
 use Rattle.event_reader.specs.Lines.{Reading, front, within, with_line, IsLongFirst}
+use Rattle.event_reader.specs.declared.past.Past.{Past}
+use Rattle.event_reader.specs.declared.version.Version.{Version}
+use Rattle.event_reader.specs.declared.version.Version.TheVariants.{One}
+use Rattle.event_reader.specs.Versions.{greatest_of, version_of}
 use Rattle.event_reader.specs.Steps.{Meaning}
-use Rattle.event_reader.specs.Accepted.{Accepted, Ended, RefusedAt, CutOff, accepted_from, with_batch}
+use Rattle.event_reader.specs.Accepted.{Accepted, Ended, RefusedAt, CutOff, accepted_behind, with_batch}
 
 -- an application's answer for the words of a line is what they say; want of memory alone is free
 abbrev pub GivesEvent : Result Transaction Cause → Result Event LineFault → Type 0
@@ -33,15 +36,15 @@ IsOfWords Range = Unit {0}
 IsOfWords Same = Unit {0}
 IsOfWords _ = ⊥
 
--- an event of version 1: valid, with its keys in the layout, and with the greatest value of that version
-abbrev pub IsEventOf : Layout → Transaction → Type 0
-IsEventOf layout e = IsTransaction e × HasKeysIn layout e × HasHigh FIRST_MAX e
+-- an event of an input of the version: valid, with its keys in the layout, and with the greatest value of the version
+abbrev pub IsEventOf : Version → Layout → Transaction → Type 0
+IsEventOf version layout e = IsTransaction e × HasKeysIn layout e × HasHigh (greatest_of version) e
 
--- every event that an application's words say is one of its tables
+-- every event that an application's words say is one of its tables and of the version
 abbrev pub GivesValid : {App : Type 0} → (table_count : App → ℕ) → (App → ℕ → Meaning) → Type 0
 GivesValid {App} table_count event_of =
-    (app : App) (size : ℕ) (words : List (List ℕ)) (e : Transaction) → event_of app size words ≡ Ok e
-    → IsEventOf (record { tables = table_count app; size = size }) e
+    (app : App) (size : ℕ) (version : Version) (words : List (List ℕ)) (e : Transaction) → event_of app size version words ≡ Ok e
+    → IsEventOf version (record { tables = table_count app; size = size }) e
 
 -- a reader of lines: the bytes that it took and gave no line of yet, the line that it gave last, how many lines it gave,
 -- how many bytes it took, the limit of these, whether the source came to its end, and whether it may be asked again
@@ -105,34 +108,38 @@ lines_given (Ok Line) = 1
 lines_given (Ok Long) = 1
 lines_given _ = 0
 
--- a reader of batches: the application, the number of ids in each of its tables, the greatest timestamp of the batches
--- closed so far, the reader of lines, and whether it may be asked again
+-- a reader of batches: the application, the number of ids in each of its tables, what was read before, the reader of lines,
+-- and whether it may be asked again
 pub record ReaderView (App : Type 0) : Type 0 where
   pub app : App
   pub size : ℕ
-  pub closed : ℕ
+  pub past : Past
   pub lines : LinesView
   pub live : Bool
 
+-- nothing was read before
+abbrev pub no_past : Past
+no_past = record { version = One; closed = 0 }
+
 -- a new reader of batches
 abbrev pub new_reader : {App : Type 0} → App → (size limit : ℕ) → ReaderView App
-new_reader app size limit = record { app = app; size = size; closed = 0; lines = new_lines limit; live = true }
+new_reader app size limit = record { app = app; size = size; past = no_past; lines = new_lines limit; live = true }
 
--- the batches of a reading that comes after what a reader of lines has given, where `closed` is the greatest timestamp of
--- the batches closed before and no event is pending
-abbrev pub accepted_next : Meaning → (closed : ℕ) → LinesView → Reading → Accepted
-accepted_next meaning closed v reading = accepted_from meaning v.number closed [] reading
+-- the batches of a reading that comes after what a reader of lines has given and after what was read before, where no
+-- event is pending
+abbrev pub accepted_next : Meaning → Past → LinesView → Reading → Accepted
+accepted_next meaning past v reading = accepted_behind meaning past.version v.number past.closed [] reading
 
 -- the batches that are still to be given, where the source tells its bytes
-abbrev pub accepted_at : Meaning → (closed : ℕ) → LinesView → Option (List ℕ) → Option Accepted
-accepted_at meaning closed v left = option_map (accepted_next meaning closed v) (reading_of v left)
+abbrev pub accepted_at : Meaning → Past → LinesView → Option (List ℕ) → Option Accepted
+accepted_at meaning past v left = option_map (accepted_next meaning past v) (reading_of v left)
 
 -- the same of a reader of batches
 abbrev pub accepted_after : {App : Type 0} → (App → ℕ → Meaning) → ReaderView App → Reading → Accepted
-accepted_after event_of v reading = accepted_next (event_of v.app v.size) v.closed v.lines reading
+accepted_after event_of v reading = accepted_next (event_of v.app v.size) v.past v.lines reading
 
 abbrev pub accepted_by : {App : Type 0} → (App → ℕ → Meaning) → ReaderView App → Option (List ℕ) → Option Accepted
-accepted_by event_of v left = accepted_at (event_of v.app v.size) v.closed v.lines left
+accepted_by event_of v left = accepted_at (event_of v.app v.size) v.past v.lines left
 
 -- an answer of a reader of batches, by what it had to give before and what it has to give after
 abbrev pub AnswersNext : Option Accepted → Result Next ReaderFault → Option Accepted → Type 0
@@ -145,24 +152,38 @@ AnswersNext before (Err _) after = Unit {0}
 -- what the bytes taken show, whatever follows them: where a batch was given they have the punctuation that closes it,
 -- if the source did not come to its end; where the source failed they have no punctuation that closes a batch, and no
 -- refused line
-abbrev pub ShowsBatch : Meaning → (closed : ℕ) → LinesView → Result Next ReaderFault → (closed' : ℕ) → LinesView → List ℕ → Type 0
-ShowsBatch meaning closed before (Ok (Batch batch)) closed' after got =
+abbrev pub ShowsBatch : Meaning → Past → LinesView → Result Next ReaderFault → Past → LinesView → List ℕ → Type 0
+ShowsBatch meaning past before (Ok (Batch batch)) past' after got =
     after.ended ≡ false → (more : List ℕ)
-    → accepted_next meaning closed before (front (before.kept ++ got ++ more))
-    ≡ with_batch (transactions_of batch) (accepted_next meaning closed' after (front (after.kept ++ more)))
-ShowsBatch meaning closed before (Err ReadFault) closed' after got =
-    accepted_next meaning closed before (front (before.kept ++ got)) ≡ record { batches = []; ending = CutOff }
-ShowsBatch meaning closed before _ closed' after got = Unit {0}
+    → accepted_next meaning past before (front (before.kept ++ got ++ more))
+    ≡ with_batch (transactions_of batch) (accepted_next meaning past' after (front (after.kept ++ more)))
+ShowsBatch meaning past before (Err ReadFault) past' after got =
+    accepted_next meaning past before (front (before.kept ++ got)) ≡ record { batches = []; ending = CutOff }
+ShowsBatch meaning past before _ past' after got = Unit {0}
 
 -- the same of a reader of batches
 abbrev pub ShowsNext : {App : Type 0} → (App → ℕ → Meaning) → ReaderView App → Result Next ReaderFault → ReaderView App → List ℕ → Type 0
 ShowsNext event_of before answer after got =
-    ShowsBatch (event_of before.app before.size) before.closed before.lines answer after.closed after.lines got
+    ShowsBatch (event_of before.app before.size) before.past before.lines answer after.past after.lines got
 
--- a batch that is given has an event and is valid, with its keys in the layout, and with the greatest value of version 1
-abbrev pub IsValidNext : Layout → Next → Type 0
-IsValidNext layout (Batch batch) = (0 < length batch.events.items) × IsBatch batch × BatchKeysIn layout batch × All (HasHigh FIRST_MAX) (transactions_of batch)
-IsValidNext layout _ = Unit {0}
+-- a batch that is given has an event and is valid, with its keys in the layout, and with the greatest value of the version
+abbrev pub IsValidNext : Version → Layout → Next → Type 0
+IsValidNext version layout (Batch batch) = (0 < length batch.events.items) × IsBatch batch × BatchKeysIn layout batch × All (HasHigh (greatest_of version)) (transactions_of batch)
+IsValidNext version layout _ = Unit {0}
+
+-- the version is that of the first line, once that was given; before it is 1
+abbrev pub KnowsVersion : (before : ℕ) → (told : Option Reading) → (number : ℕ) → Version → Type 0
+KnowsVersion before told number version = before ≡ 0 → 0 < number → IfSome told (λ reading. version ≡ version_of reading.lines)
+
+-- the version of an input stays, once its first line was given, and its greatest value never falls
+pub record KeepsVersion {App : Type 0} (before after : ReaderView App) : Type 0 where
+  pub numbered : before.lines.number ≤ after.lines.number
+  pub stays : 0 < before.lines.number → after.past.version ≡ before.past.version
+  pub rises : greatest_of before.past.version ≤ greatest_of after.past.version
+
+-- a reader of the same application and input, with as many ids in each table and the same limit
+abbrev pub SameReader : {App : Type 0} → ReaderView App → ReaderView App → Type 0
+SameReader before after = (after.app ≡ before.app) × (after.size ≡ before.size) × (after.lines.limit ≡ before.lines.limit) × KeepsVersion before after
 
 -- the number of events that an answer gives
 abbrev pub event_count : Next → ℕ

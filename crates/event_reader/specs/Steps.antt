@@ -6,12 +6,17 @@ use Rattle.morph_base.specs.declared.limits.TheConstants.{EVENTS}
 use Rattle.morph_base.specs.Transactions.{Transaction}
 use Rattle.event_reader.specs.Limits.{longest_line}
 use Rattle.event_reader.specs.declared.cause.Cause.{Cause}
+use Rattle.event_reader.specs.declared.version.Version.{Version}
 use Rattle.event_reader.specs.declared.cause.Cause.TheVariants.{Long, Form, Late, Twice, Full}
 use Rattle.event_reader.specs.Words.{words_of}
 
 -- what an application makes of the words of a line: its event, or the first of the causes form, range and same
+abbrev pub Saying : Type 0
+Saying = List (List ℕ) → Result Transaction Cause
+
+-- the same in an input of each version
 abbrev pub Meaning : Type 0
-Meaning = List (List ℕ) → Result Transaction Cause
+Meaning = Version → Saying
 
 -- what a line does: nothing, close the batch, add an event to it, or end the reading
 pub data Step : Type 0 where
@@ -39,9 +44,9 @@ abbrev pub event_step : (closed : ℕ) → List Transaction → Result Transacti
 event_step closed batch (Ok e) = joining closed batch e
 event_step closed batch (Err cause) = Refuses cause
 
-abbrev pub said_by : Meaning → Option (List (List ℕ)) → Result Transaction Cause
-said_by meaning (Some words) = meaning words
-said_by meaning None = Err Form
+abbrev pub said_by : Saying → Option (List (List ℕ)) → Result Transaction Cause
+said_by saying (Some words) = saying words
+said_by saying None = Err Form
 
 -- an empty line, or a comment: its first byte is `#`
 abbrev pub is_ignored : List ℕ → Bool
@@ -53,7 +58,7 @@ is_punctuation line = bytes_eq line (80 ∷ [])
 
 -- what a line does, where `closed` is the greatest timestamp of the batches closed before it, and `batch` has the events
 -- of the unfinished batch, in order of arrival
-unfoldable pub step_of : Meaning → (closed : ℕ) → List Transaction → List ℕ → Step
-step_of meaning closed batch line =
+unfoldable pub step_of : Saying → (closed : ℕ) → List Transaction → List ℕ → Step
+step_of saying closed batch line =
     if nat_lt longest_line (length line) then Refuses Long else (if is_ignored line then Ignored
-    else (if is_punctuation line then Closes else event_step closed batch (said_by meaning (words_of line))))
+    else (if is_punctuation line then Closes else event_step closed batch (said_by saying (words_of line))))

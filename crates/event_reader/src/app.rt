@@ -2,11 +2,13 @@ ghost use Rattle.std.specs.Prelude.{◌≡◌, ℕ, ◌<◌, ◌≤◌, List, []
 ghost use Rattle.morph_base.specs.Transactions.{Transaction};
 ghost use Rattle.event_reader.specs.Limits.{name_bytes, generated_events, generated_ids};
 ghost use Rattle.event_reader.specs.declared.cause.Cause.{Cause};
+ghost use Rattle.event_reader.specs.declared.version.Version.{Version};
 ghost use Rattle.event_reader.specs.Reader.{GivesEvent, GivesValid, IsOfWords};
 ghost use Rattle.event_reader.specs.Generated.{Drawn, GeneratesEvents};
 
 use crate::cause::LineFault;
 use crate::draws::Draws;
+use crate::version::Version;
 use crate::words::Words;
 use morph_base::Event;
 use morph_io::LineBuf;
@@ -20,9 +22,9 @@ pub trait EventApp {
     /// The printed name of a table.
     ghost name_of: { Self → ℕ → List ℕ };
 
-    /// What the words of a line say where each table has so many ids: an event, or the first of the causes form,
-    /// range and same that applies.
-    ghost event_of: { Self → ℕ → List (List ℕ) → Result Transaction Cause };
+    /// What the words of a line say where each table has so many ids, in an input of each version: an event, or the
+    /// first of the causes form, range and same that applies.
+    ghost event_of: { Self → ℕ → Version → List (List ℕ) → Result Transaction Cause };
 
     /// What the generator writes as the line of event i, where each table has so many ids, from a state of its draws:
     /// the line without its LF, and the state after it.
@@ -38,9 +40,15 @@ pub trait EventApp {
         ensures name { result.now ≡ name_of self.now table }
         ensures short { length result.now ≤ name_bytes };
 
-    /// Reads the words of an event line, where each table has `size` ids.
-    fn read_event(&self, alloc: Global, words: &Words<'_>, size: u32) -> Result<Event, LineFault>
-        ensures { GivesEvent (event_of self.now size words.now) result };
+    /// Reads the words of an event line of an input of this version, where each table has `size` ids.
+    fn read_event(
+        &self,
+        alloc: Global,
+        words: &Words<'_>,
+        size: u32,
+        version: Version,
+    ) -> Result<Event, LineFault>
+        ensures { GivesEvent (event_of self.now size version words.now) result };
 
     /// Writes the line of event `i` without its LF into an empty buffer, by draws in their order, where each table has
     /// `size` ids.
@@ -53,13 +61,13 @@ pub trait EventApp {
         ensures line { line.new ≡ (generated self.now size i draws.old).line }
         ensures state { draws.new ≡ (generated self.now size i draws.old).state };
 
-    /// Each event is valid, and its keys are in the tables.
+    /// Each event is valid, its keys are in the tables, and its greatest value is that of the version.
     ghost gives_valid: { GivesValid table_count event_of };
 
     /// Words have no other causes than form, range and same.
-    ghost causes: { (app : Self) (size : ℕ) (words : List (List ℕ)) (cause : Cause)
-        → event_of app size words ≡ Result.Err cause → IsOfWords cause };
+    ghost causes: { (app : Self) (size : ℕ) (version : Version) (words : List (List ℕ)) (cause : Cause)
+        → event_of app size version words ≡ Result.Err cause → IsOfWords cause };
 
-    /// Each line that is generated is an event's, at the time of its number.
+    /// Each line that is generated is an event's in version 1, at the time of its number.
     ghost generates: { GeneratesEvents event_of generated };
 }

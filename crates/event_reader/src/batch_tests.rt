@@ -2,7 +2,9 @@ ghost use Rattle.std.specs.Prelude.{◌<◌, ◌≤◌};
 ghost use Rattle.event_reader.specs.Limits.{input_bytes};
 
 use crate::counter::Counter;
-use crate::{BatchReader, Cause, GenSource, INPUT_BYTES, LineNext, Lines, Next, ReaderFault};
+use crate::{
+    BatchReader, Cause, GenSource, INPUT_BYTES, LineNext, Lines, Next, ReaderFault, Version,
+};
 use morph_base::{EVENTS, List, OutOfMemory};
 use morph_io::{MemSource, Source};
 use std::alloc::{AllocError, Global};
@@ -72,7 +74,13 @@ fn read_text(
 
 #[test]
 fn batches_and_refusals_come_in_pieces_of_every_size(rt: HostRuntime) -> Result<(), Fail> {
-    let rows: [(&[u8], &[usize], End); 14] = [
+    let rows: [(&[u8], &[usize], End); 20] = [
+        (b"morph 2\n1\nP\n2\n", &[1, 1], End::Ended),
+        (b"morph 2\r\n1\n", &[1], End::Ended),
+        (b"morph 2", &[], End::Ended),
+        (b"morph 2\n0\n", &[], End::Refused(2, Cause::Range)),
+        (b"#\nmorph 2\n", &[], End::Refused(2, Cause::Same)),
+        (b"morph 2 \n", &[], End::Refused(1, Cause::Form)),
         (b"", &[], End::Ended),
         (b"1\nP\nP\n3\n2", &[1, 2], End::Ended),
         (b"#x\r\n\r\n1\r\nP\r\n2\r", &[1, 1], End::Ended),
@@ -94,6 +102,33 @@ fn batches_and_refusals_come_in_pieces_of_every_size(rt: HostRuntime) -> Result<
             assert_eq!(rt; outcome.sizes.as_slice(), sizes, "{text:?} by {piece}");
             assert_eq!(rt; outcome.end, end, "{text:?} by {piece}");
         }
+    }
+    Ok(())
+}
+
+/// The version is told once the first line was read, and the events have its greatest value.
+#[test]
+fn the_first_line_tells_the_version(rt: HostRuntime) -> Result<(), Fail> {
+    let alloc = rt.alloc();
+    let rows: [(&[u8], Version, u64); 3] = [
+        (b"1\nP\n", Version::One, 1_000_000_000_000),
+        (b"morph 2\n1\nP\n", Version::Two, 10_000_000_000_000),
+        (b"#morph 2\n1\nP\n", Version::One, 1_000_000_000_000),
+    ];
+    for (text, version, high) in rows {
+        let mut source = MemSource::new(List::from_slice(alloc, text)?, 3, List::new(alloc));
+        let mut reader = BatchReader::new(alloc, Counter, 1, INPUT_BYTES)?;
+        assert_eq!(rt; reader.version(), Version::One, "before {text:?}");
+        let Ok(Next::Batch(batch)) = reader.next_batch(alloc, &mut source) else {
+            return Err("no batch".into());
+        };
+        let events = batch.events.as_slice();
+        let alike = events.iter().all(|event| event
+            .ops
+            .as_slice()
+            .iter()
+            .all(|op| op.high == high));
+        assert_eq!(rt; (reader.version(), alike), (version, true), "at {text:?}");
     }
     Ok(())
 }

@@ -1,37 +1,55 @@
-ghost use Rattle.std.specs.Prelude.{◌≡◌, ℕ, ◌+◌, ◌≤◌, [], IsTrue, IfOk, IsErrOf, false};
+ghost use Rattle.std.specs.Prelude.{◌≡◌, ◌↔◌, ℕ, ◌+◌, ◌<◌, ◌≤◌, true, [], IsTrue, IfOk, IsErrOf, false};
 ghost use Rattle.morph_io.specs.Told.{IsAtEnd, HasRisen};
-ghost use Rattle.event_reader.specs.Reader.{accepted_at, AnswersNext, ShowsBatch, Takes, IsValidNext, event_count, goes_on};
+ghost use Rattle.event_reader.specs.declared.version.Version.TheVariants.{One};
+ghost use Rattle.event_reader.specs.Reader.{accepted_at, reading_of, AnswersNext, KnowsVersion, ShowsBatch};
+ghost use Rattle.event_reader.specs.Reader.{Takes, IsValidNext, event_count, goes_on};
 ghost use Rattle.event_reader.specs.Asking.{AsksForBatch};
+ghost use Rattle.event_reader.specs.Versions.{is_version_line};
 
 use crate::answers::{LineNext, Next};
 use crate::app::EventApp;
 use crate::cause::Cause;
 use crate::fault::ReaderFault;
 use crate::lines::Lines;
+use crate::past::Past;
 use crate::pending::{LineEffect, Pending};
+use crate::version::{Version, is_version};
 use morph_base::{Batch, OutOfMemory};
 use morph_io::Source;
 use std::alloc::Global;
 use std::marker::Model;
 
-/// Reads the next batch of an application whose tables have `size` ids each, after batches whose greatest timestamp is
-/// `closed`, which becomes that of the batch too where one is given.
+/// Whether the line that was given last is the version line: the first, and `morph 2`.
+fn says_version(lines: &Lines) -> bool
+    ensures { IsTrue result ↔ ((lines.now.number ≡ 1)
+        × (is_version_line lines.now.line ≡ true)) }
+{
+    lines.number() == 1 && is_version(lines.line())
+}
+
+/// Reads the next batch of an application whose tables have `size` ids each. What was read before becomes that with the
+/// version line, and with the timestamps of the batch where one is given.
 fn read_batch<A: EventApp, S: Source>(
     alloc: Global,
     app: &A,
     size: u32,
-    closed: &mut u64,
+    past: &mut Past,
     lines: &mut Lines,
     source: &mut S,
 ) -> Result<Next, ReaderFault>
     requires live { IsTrue lines.old.live }
+    requires opens { lines.old.number ≡ 0 → past.old.version ≡ One }
     ensures answers { let meaning = A.event_of app.now size in
-        AnswersNext (accepted_at meaning closed.old lines.old (S.left source.old)) result
-        (accepted_at meaning closed.new lines.new (S.left source.new)) }
+        AnswersNext (accepted_at meaning past.old lines.old (S.left source.old)) result
+        (accepted_at meaning past.new lines.new (S.left source.new)) }
     ensures shows { Takes (S.left source.old) (S.left source.new)
-        (ShowsBatch (A.event_of app.now size) closed.old lines.old result closed.new lines.new) }
-    ensures valid { IfOk result
-        (IsValidNext (record { tables = A.table_count app.now; size = size })) }
+        (ShowsBatch (A.event_of app.now size) past.old lines.old result past.new lines.new) }
+    ensures valid { IfOk result (IsValidNext past.new.version
+        (record { tables = A.table_count app.now; size = size })) }
+    ensures version { KnowsVersion lines.old.number (reading_of lines.old (S.left source.old))
+        lines.new.number past.new.version }
+    ensures stays { 0 < lines.old.number → past.new.version ≡ past.old.version }
+    ensures opens { lines.new.number ≡ 0 → past.new.version ≡ One }
     ensures counted { IfOk result (λ next. lines.old.number + event_count next ≤ lines.new.number) }
     ensures bound { lines.new.number ≤ lines.new.limit + 1 }
     ensures limit { lines.new.limit ≡ lines.old.limit }
@@ -48,9 +66,9 @@ fn read_batch<A: EventApp, S: Source>(
     ensures cause { IsErrOf result ReaderFault.ReadFault
         → HasRisen (S.faults source.old) (S.faults source.new) }
     ensures asks { AsksForBatch S.left S.reads (A.event_of app.now size)
-        closed.old lines.old source.old result lines.new source.new }
+        past.old lines.old source.old result lines.new source.new }
 {
-    let mut pending = Pending::new(alloc, *closed);
+    let mut pending = Pending::new(alloc, past.closed);
     'lines: loop {
         match lines.next_line(source)? {
             LineNext::Long => {
@@ -61,17 +79,21 @@ fn read_batch<A: EventApp, S: Source>(
             }
             LineNext::End if pending.events.is_empty() => return Ok(Next::End),
             LineNext::End => {
-                *closed = pending.latest;
+                past.closed = pending.latest;
                 return Ok(Next::Batch(Batch {
                     events: pending.events,
                 }));
             }
             LineNext::Line => {}
         }
-        match pending.take_line(alloc, app, size, *closed, lines.line())? {
+        if says_version(lines) {
+            past.version = Version::Two;
+            continue 'lines;
+        }
+        match pending.take_line(alloc, app, size, *past, lines.line())? {
             LineEffect::GoesOn => {}
             LineEffect::Closes => {
-                *closed = pending.latest;
+                past.closed = pending.latest;
                 return Ok(Next::Batch(Batch {
                     events: pending.events,
                 }));
@@ -91,9 +113,8 @@ fn read_batch<A: EventApp, S: Source>(
 pub struct BatchReader<A> {
     app: A,
     size: u32,
+    past: Past,
     lines: Lines,
-    /// The greatest timestamp of the closed batches.
-    closed: u64,
     live: bool,
 }
 
@@ -107,7 +128,7 @@ impl<A> Model for BatchReader<A> {
     ghost view = { λ reader. record {
       app = reader.app;
       size = reader.size;
-      closed = reader.closed;
+      past = reader.past;
       lines = reader.lines;
       live = reader.live;
     } };
@@ -118,7 +139,7 @@ impl<A> Model for BatchReader<A> {
 impl<A: EventApp> BatchReader<A> {
     ghost use Rattle.event_reader.specs.Limits.{input_bytes};
     ghost use Rattle.event_reader.specs.Asking.{AsksForNext};
-    ghost use Rattle.event_reader.specs.Reader.{ReaderView, new_reader, accepted_by, ShowsNext};
+    ghost use Rattle.event_reader.specs.Reader.{ReaderView, SameReader, new_reader, accepted_by, ShowsNext};
 
     /// A reader for an application whose tables have `size` ids each, of an input of at most `limit` bytes.
     pub fn new(alloc: Global, app: A, size: u32, limit: u64) -> Result<Self, OutOfMemory>
@@ -132,7 +153,10 @@ impl<A: EventApp> BatchReader<A> {
             lines: Lines::new(alloc, limit)?,
             app,
             size,
-            closed: 0,
+            past: Past {
+                version: Version::One,
+                closed: 0,
+            },
             live: true,
         })
     }
@@ -146,9 +170,16 @@ impl<A: EventApp> BatchReader<A> {
         self.live
     }
 
+    /// The version of the input, by its first line; before that was read it is 1.
+    pub fn version(&self) -> Version
+        ensures { result ≡ self.now.past.version }
+    {
+        self.past.version
+    }
+
     /// Reads the next batch.
     ///
-    /// A [`Next::Batch`] has an event at least and is valid. The answer is [`Next::End`] exactly at the end of the
+    /// A [`Next::Batch`] has an event at least, is valid, and has the greatest value of the version. The answer is [`Next::End`] exactly at the end of the
     /// input with no event pending, and [`Next::Refused`] exactly at the first refused line.
     /// [`ReaderFault::ReadFault`] comes only where the source's count of faults rose in this call, and
     /// [`ReaderFault::TooLong`] exactly where as many bytes as the limit were taken, none of their lines is refused,
@@ -163,14 +194,15 @@ impl<A: EventApp> BatchReader<A> {
             (accepted_by A.event_of self.new (S.left source.new)) }
         ensures shows { Takes (S.left source.old) (S.left source.new)
             (ShowsNext A.event_of self.old result self.new) }
-        ensures valid { IfOk result (IsValidNext
+        ensures valid { IfOk result (IsValidNext self.new.past.version
             (record { tables = A.table_count self.old.app; size = self.old.size })) }
+        ensures version { KnowsVersion self.old.lines.number
+            (reading_of self.old.lines (S.left source.old)) self.new.lines.number
+            self.new.past.version }
         ensures counted { IfOk result
             (λ next. self.old.lines.number + event_count next ≤ self.new.lines.number) }
         ensures bound { self.new.lines.number ≤ self.new.lines.limit + 1 }
-        ensures same { (self.new.app ≡ self.old.app) × (self.new.size ≡ self.old.size)
-            × (self.new.lines.limit ≡ self.old.lines.limit) }
-        ensures numbered { self.old.lines.number ≤ self.new.lines.number }
+        ensures same { SameReader self.old self.new }
         ensures at_end { self.old.lines.ended ≡ false → IsTrue self.new.lines.ended
             → IsAtEnd (S.left source.new) }
         ensures idle { IsTrue self.old.lines.ended → source.new ≡ source.old }
@@ -193,7 +225,7 @@ impl<A: EventApp> BatchReader<A> {
             alloc,
             &self.app,
             self.size,
-            &mut self.closed,
+            &mut self.past,
             &mut self.lines,
             source,
         )?;

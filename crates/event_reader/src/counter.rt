@@ -1,5 +1,5 @@
-use crate::{Cause, Draws, EventApp, LineFault, Number, Words, read_number};
-use morph_base::{Event, Func, Key, List, Op};
+use crate::{Cause, Draws, EventApp, LineFault, Number, Version, Words, read_number};
+use morph_base::{Event, Func, Key, LATEST, List};
 use morph_io::LineBuf;
 use std::alloc::Global;
 
@@ -18,13 +18,13 @@ impl EventApp for Counter {
 
     ghost name_of = { λ _ _. codes "counter" };
 
-    ghost event_of = { λ _ size words. count_event size words };
+    ghost event_of = { λ _ size version words. count_event size version words };
 
     ghost generated = { λ _ _ i state. count_drawn i state };
 
-    ghost gives_valid = { λ _ size words e. count_valid size words e };
+    ghost gives_valid = { λ _ size version words e. count_valid size version words e };
 
-    ghost causes = { λ _ size words cause. count_causes size words cause };
+    ghost causes = { λ _ size version words cause. count_causes size version words cause };
 
     ghost generates = { λ _ size i state some _ start last. count_generates size i state some start
         last };
@@ -37,7 +37,13 @@ impl EventApp for Counter {
         "counter"
     }
 
-    fn read_event(&self, alloc: Global, words: &Words<'_>, size: u32) -> Result<Event, LineFault> {
+    fn read_event(
+        &self,
+        alloc: Global,
+        words: &Words<'_>,
+        size: u32,
+        version: Version,
+    ) -> Result<Event, LineFault> {
         if words.count() == 2 {
             return Err(LineFault::Refused(Cause::Same));
         }
@@ -46,9 +52,9 @@ impl EventApp for Counter {
         }
         match read_number(words.word(0)) {
             Number::NotNumber => Err(LineFault::Refused(Cause::Form)),
-            Number::Value(ts) if ts > 0 && size > 0 => {
+            Number::Value(ts) if ts > 0 && ts <= LATEST && size > 0 => {
                 let mut ops = List::with_room(alloc, 1)?;
-                ops.add(Op::new(Func::Add, Key::of(0, 0), &[], 1));
+                ops.add(version.op(Func::Add, Key::of(0, 0), &[], 1));
                 Ok(Event { ts, ops })
             }
             _ => Err(LineFault::Refused(Cause::Range)),

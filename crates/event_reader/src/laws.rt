@@ -5,10 +5,11 @@ ghost use Rattle.morph_base.specs.Transactions.{time};
 ghost use Rattle.event_reader.specs.declared.cause.Cause.{Cause};
 ghost use Rattle.event_reader.specs.Lines.{Reading, lines_of};
 ghost use Rattle.event_reader.specs.Steps.{Meaning};
+ghost use Rattle.event_reader.specs.Versions.{lines_read, version_of};
 ghost use Rattle.event_reader.specs.LineEvents.{IsBefore, batches_said, closed_said, events_said};
-ghost use Rattle.event_reader.specs.FirstRefused.{HasWordCauses, IsFirstRefused};
+ghost use Rattle.event_reader.specs.FirstRefused.{HasCauses, IsFirstRefusedIn};
 ghost use Rattle.event_reader.specs.Limits.{generated_events, generated_ids, input_bytes};
-ghost use Rattle.event_reader.specs.Accepted.{Ended, RefusedAt, CutOff, accepted, accepted_from, accepted_within};
+ghost use Rattle.event_reader.specs.Accepted.{Ended, RefusedAt, CutOff, accepted, accepted_first, accepted_within};
 ghost use Rattle.event_reader.specs.GeneratedText.{generated_text};
 
 use crate::app::EventApp;
@@ -44,34 +45,38 @@ pub fn generated_text_is_accepted<A: EventApp>()
 /// before: those of the unfinished batch are left out.
 pub fn batches_stand_between_punctuations()
     ensures between { (meaning : Meaning) (input : List ℕ) → (accepted meaning input).ending ≡ Ended
-        → (accepted meaning input).batches ≡ batches_said meaning (lines_of input) }
+        → (accepted meaning input).batches
+        ≡ batches_said (meaning (version_of (lines_of input))) (lines_read (lines_of input)) }
     ensures joined { (meaning : Meaning) (input : List ℕ) → (accepted meaning input).ending ≡ Ended
         → flat_map (λ batch. batch) (accepted meaning input).batches
-        ≡ events_said meaning (lines_of input) }
+        ≡ events_said (meaning (version_of (lines_of input))) (lines_read (lines_of input)) }
     ensures refused { (meaning : Meaning) (reading : Reading) (line : ℕ) (cause : Cause)
-        → (accepted_from meaning 0 0 [] reading).ending ≡ RefusedAt line cause
-        → (accepted_from meaning 0 0 [] reading).batches
-        ≡ closed_said meaning (take (line - 1) reading.lines) }
+        → (accepted_first meaning 0 [] reading).ending ≡ RefusedAt line cause
+        → (accepted_first meaning 0 [] reading).batches
+        ≡ closed_said (meaning (version_of reading.lines))
+        (lines_read (take (line - 1) reading.lines)) }
     ensures cut { (meaning : Meaning) (reading : Reading)
-        → (accepted_from meaning 0 0 [] reading).ending ≡ CutOff
-        → (accepted_from meaning 0 0 [] reading).batches ≡ closed_said meaning reading.lines }
+        → (accepted_first meaning 0 [] reading).ending ≡ CutOff
+        → (accepted_first meaning 0 [] reading).batches
+        ≡ closed_said (meaning (version_of reading.lines)) (lines_read reading.lines) }
 {}
 
 /// Every event of a batch comes before every one of a later batch, and the events of a batch have different
 /// timestamps, of whatever lines are read.
 pub fn timestamps_rise_from_batch_to_batch()
     ensures later { (meaning : Meaning) (reading : Reading)
-        → AllPairs IsBefore (accepted_from meaning 0 0 [] reading).batches }
+        → AllPairs IsBefore (accepted_first meaning 0 [] reading).batches }
     ensures apart { (meaning : Meaning) (reading : Reading)
         → All (λ batch. IsDistinct nat_eq (map time batch))
-        (accepted_from meaning 0 0 [] reading).batches }
+        (accepted_first meaning 0 [] reading).batches }
 {}
 
 /// A line is refused exactly where it is the first to which a cause applies, and its cause is the least that does, in
-/// the order long, form, range, same, late, twice, full.
+/// the order long, form, range, same, late, twice, full. The version line is not refused, and all others are lines of
+/// its version.
 pub fn the_first_line_with_a_cause_is_refused()
     ensures { (meaning : Meaning) (reading : Reading) (line : ℕ) (cause : Cause)
-        → HasWordCauses meaning
-        → ((accepted_from meaning 0 0 [] reading).ending ≡ RefusedAt line cause
-        ↔ IsFirstRefused meaning reading.lines line cause) }
+        → HasCauses meaning
+        → ((accepted_first meaning 0 [] reading).ending ≡ RefusedAt line cause
+        ↔ IsFirstRefusedIn meaning reading.lines line cause) }
 {}

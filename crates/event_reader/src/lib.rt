@@ -3,7 +3,8 @@
 //! An [`EventApp`] is an application: its tables, and what the words of its event lines say. A [`BatchReader`] cuts
 //! the bytes of a source into [`Lines`] and a line into [`Words`], asks the application what these say, and gives the
 //! events between two punctuations as a batch, or the first line that is refused, with its [`Cause`]. What it gives
-//! does not depend on the pieces in which the source gives its bytes. A caller asks until the answer is no batch:
+//! does not depend on the pieces in which the source gives its bytes. The first line tells the [`Version`] of an input,
+//! which is 2 where it is `morph 2`. A caller asks until the answer is no batch:
 //!
 //! ```text
 //! let mut reader = BatchReader::new(alloc, Ledger, 10_000, INPUT_BYTES)?;
@@ -43,12 +44,14 @@ mod limits;
 mod lines;
 mod number;
 mod numbers;
+mod past;
 mod pending;
 mod plain;
 mod ranges;
 #[cfg(test)]
 mod tests;
 mod times;
+mod version;
 mod words;
 
 pub use answers::{LineNext, Next};
@@ -67,5 +70,6 @@ pub use lines::Lines;
 pub use number::{Number, read_number};
 pub use numbers::Numbers;
 pub use plain::write_line;
-pub use ranges::{AMOUNTS, NOTHING, Range, TIMES};
+pub use ranges::{NOTHING, Range, TIMES};
+pub use version::Version;
 pub use words::Words;

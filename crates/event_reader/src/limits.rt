@@ -8,13 +8,13 @@ pub const LONGEST_LINE: usize = 1_000;
 pub const DECIDING_BYTES: usize = 1_002;
 
 /// The most words of an event line.
-pub const LINE_WORDS: usize = 8;
+pub const LINE_WORDS: usize = 9;
 
 /// The most bytes of the printed name of a table.
 pub const NAME_BYTES: usize = 16;
 
-/// The greatest number that a word of a line can say: 10^12.
-pub const GREATEST_NUMBER: u64 = 1_000_000_000_000;
+/// The greatest number that a word of a line can say: 10^13.
+pub const GREATEST_NUMBER: u64 = 10_000_000_000_000;
 
 /// The most bytes of an input: 2^30.
 pub const INPUT_BYTES: u64 = 1_073_741_824;

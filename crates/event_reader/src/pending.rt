@@ -5,6 +5,7 @@ ghost use Rattle.event_reader.specs.Limits.{longest_line};
 
 use crate::app::EventApp;
 use crate::cause::{Cause, LineFault};
+use crate::past::Past;
 use crate::times::Times;
 use crate::words::Words;
 use morph_base::{EVENTS, Event, List, OutOfMemory};
@@ -78,22 +79,22 @@ impl Pending {
         Ok(None)
     }
 
-    /// Takes a line that is not too long, after batches whose greatest timestamp is `closed`.
+    /// Takes a line that is not too long and not the version line.
     pub(crate) fn take_line<A: EventApp>(
         &mut self,
         alloc: Global,
         app: &A,
         size: u32,
-        closed: u64,
+        past: Past,
         line: &[u8],
     ) -> Result<LineEffect, OutOfMemory>
         requires short { length line.now ≤ longest_line }
-        requires notes { Notes closed self.old }
-        requires sound { IsSound (record { tables = A.table_count app.now; size = size })
-            (batch_of self.old) }
+        requires notes { Notes past.closed self.old }
+        requires sound { IsSound past.version
+            (record { tables = A.table_count app.now; size = size }) (batch_of self.old) }
         ensures { IfOk result
-            (TakesLine (A.event_of app.now size)
-            (record { tables = A.table_count app.now; size = size }) closed self.old line.now
+            (TakesLine (A.event_of app.now size past.version) past.version
+            (record { tables = A.table_count app.now; size = size }) past.closed self.old line.now
             self.new) }
     {
         if is_ignored_line(line) {
@@ -108,12 +109,12 @@ impl Pending {
         let Some(words) = Words::split(line) else {
             return Ok(LineEffect::Refuses(Cause::Form));
         };
-        let event = match app.read_event(alloc, &words, size) {
+        let event = match app.read_event(alloc, &words, size, past.version) {
             Ok(event) => event,
             Err(LineFault::Refused(cause)) => return Ok(LineEffect::Refuses(cause)),
             Err(LineFault::OutOfMemory) => return Err(OutOfMemory),
         };
-        match self.join(closed, event)? {
+        match self.join(past.closed, event)? {
             None => Ok(LineEffect::GoesOn),
             Some(cause) => Ok(LineEffect::Refuses(cause)),
         }

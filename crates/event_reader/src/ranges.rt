@@ -1,7 +1,8 @@
 ghost use Rattle.std.specs.Prelude.{◌≡◌};
 ghost use Rattle.event_reader.specs.Numbers.{is_in};
 
-use morph_base::{FIRST_MAX, LATEST};
+use crate::version::Version;
+use morph_base::LATEST;
 
 /// The numbers that may stand in one place of a line: those from `least` to `greatest`, and none where `least` is the
 /// greater of the two.
@@ -17,12 +18,6 @@ pub const TIMES: Range = Range {
     greatest: LATEST,
 };
 
-/// The range of an amount.
-pub const AMOUNTS: Range = Range {
-    least: 0,
-    greatest: FIRST_MAX,
-};
-
 /// The range that no number is in.
 pub const NOTHING: Range = Range {
     least: 1,
@@ -30,7 +25,17 @@ pub const NOTHING: Range = Range {
 };
 
 impl Range {
-    ghost use Rattle.event_reader.specs.Ranges.{ids};
+    ghost use Rattle.event_reader.specs.Ranges.{amounts, ids};
+
+    /// The range of an amount in an input of a version.
+    pub fn amounts(version: Version) -> Range
+        ensures { result ≡ amounts version }
+    {
+        Range {
+            least: 0,
+            greatest: version.greatest(),
+        }
+    }
 
     /// The range of an id where a table has `size` of them. No number is in it where a table has none.
     pub fn ids(size: u32) -> Range

@@ -5,11 +5,12 @@ use std::test::Fail;
 
 #[test]
 fn words_say_numbers(rt: HostRuntime) {
-    let rows: [(&[u8], Number); 13] = [
+    let rows: [(&[u8], Number); 14] = [
         (b"0", Number::Value(0)),
         (b"7", Number::Value(7)),
         (b"1000000000000", Number::Value(1_000_000_000_000)),
-        (b"1000000000001", Number::TooGreat),
+        (b"10000000000000", Number::Value(10_000_000_000_000)),
+        (b"10000000000001", Number::TooGreat),
         (b"99999999999999999999999999", Number::TooGreat),
         (b"", Number::NotNumber),
         (b"00", Number::NotNumber),
@@ -27,11 +28,12 @@ fn words_say_numbers(rt: HostRuntime) {
 
 #[test]
 fn lines_are_cut_at_single_spaces(rt: HostRuntime) {
-    let rows: [(&[u8], Option<usize>); 9] = [
+    let rows: [(&[u8], Option<usize>); 10] = [
         (b"P", Some(1)),
         (b"D 1 0 0 1 1", Some(6)),
         (b"1 2 3 4 5 6 7 8", Some(8)),
-        (b"1 2 3 4 5 6 7 8 9", None),
+        (b"1 2 3 4 5 6 7 8 9", Some(9)),
+        (b"1 2 3 4 5 6 7 8 9 10", None),
         (b"", None),
         (b" ", None),
         (b" 1", None),

@@ -5,9 +5,11 @@ use Rattle.std.proofs.lemmas.List.{drop_more, drop_all, take_all}
 use Rattle.morph_base.specs.declared.key.Key.{Key}
 use Rattle.morph_base.specs.declared.operation.Func.TheVariants.{Sum}
 use Rattle.morph_base.specs.declared.operation.Op.{Op}
-use Rattle.morph_base.specs.Operations.{same_key, op_of}
+use Rattle.morph_base.specs.Operations.{same_key}
 use Rattle.morph_base.specs.Transactions.{Transaction}
 use Rattle.event_reader.specs.declared.cause.Cause.TheVariants.{Same}
+use Rattle.event_reader.specs.declared.version.Version.{Version}
+use Rattle.event_reader.specs.Versions.{op_in}
 use Rattle.grep_app.specs.Grep.{are_distinct, keep, gather, gathering}
 
 pub distinct_at : (keys : List Key) (i : ℕ) (d : Key) → i < length keys
@@ -33,9 +35,9 @@ distinct_step keys i d found again inside is now =
     distinct_at keys i d inside ∙ ap (λ b. not b && are_distinct (drop (i + 1) keys)) same
 
 -- where one of the cells is the target or comes twice, the line is refused
-pub refused_again : (ts limit : ℕ) (target : Key) (cells : List Key) (again : Bool) → again ≡ list_any (same_key target) cells → again ≡ true
-    → gather ts limit target cells ≡ Err Same
-refused_again ts limit target cells again is here =
+pub refused_again : (version : Version) (ts limit : ℕ) (target : Key) (cells : List Key) (again : Bool) → again ≡ list_any (same_key target) cells → again ≡ true
+    → gather version ts limit target cells ≡ Err Same
+refused_again version ts limit target cells again is here =
     let apart : are_distinct (target ∷ cells) ≡ false = distinct_cons target cells ∙ ap (λ b. not b && are_distinct cells) (sym is ∙ here) in
     rw apart refl
 
@@ -44,16 +46,16 @@ pub told_apart : (target : Key) (cells : List Key) (again apart : Bool) → agai
 told_apart target cells again apart is none distinct =
     distinct_cons target cells ∙ ap (λ b. not b && are_distinct cells) (sym is ∙ none) ∙ sym distinct
 
-pub refused_twice : (ts limit : ℕ) (target : Key) (cells : List Key) (again apart : Bool) → again ≡ list_any (same_key target) cells → again ≡ false
-    → apart ≡ are_distinct cells → apart ≡ false → gather ts limit target cells ≡ Err Same
-refused_twice ts limit target cells again apart is none distinct twice =
+pub refused_twice : (version : Version) (ts limit : ℕ) (target : Key) (cells : List Key) (again apart : Bool) → again ≡ list_any (same_key target) cells → again ≡ false
+    → apart ≡ are_distinct cells → apart ≡ false → gather version ts limit target cells ≡ Err Same
+refused_twice version ts limit target cells again apart is none distinct twice =
     let equal : are_distinct (target ∷ cells) ≡ false = told_apart target cells again apart is none distinct ∙ twice in
     rw equal refl
 
 -- else it says the sum
-pub gathered : (ts limit : ℕ) (target : Key) (cells : List Key) (again apart : Bool) → again ≡ list_any (same_key target) cells → again ≡ false
-    → apart ≡ are_distinct cells → apart ≡ true → gather ts limit target cells ≡ Ok (gathering ts limit target cells)
-gathered ts limit target cells again apart is none distinct all =
+pub gathered : (version : Version) (ts limit : ℕ) (target : Key) (cells : List Key) (again apart : Bool) → again ≡ list_any (same_key target) cells → again ≡ false
+    → apart ≡ are_distinct cells → apart ≡ true → gather version ts limit target cells ≡ Ok (gathering version ts limit target cells)
+gathered version ts limit target cells again apart is none distinct all =
     let equal : are_distinct (target ∷ cells) ≡ true = told_apart target cells again apart is none distinct ∙ all in
     rw equal refl
 
@@ -61,8 +63,8 @@ abbrev made : (ts : ℕ) → List Op → Transaction
 made ts ops = record { ts = ts; ops = ops }
 
 -- the operations of the sum are made once all cells are kept
-pub gathered_ops : (ts limit : ℕ) (target : Key) (cells : List Key) (i : ℕ) (ops : List Op) → length cells ≤ i
-    → ops ≡ op_of Sum target cells limit ∷ map keep (take i cells) → gathering ts limit target cells ≡ record { ts = ts; ops = ops }
-gathered_ops ts limit target cells i ops past is =
-    let all : ops ≡ op_of Sum target cells limit ∷ map keep cells = is ∙ ap (λ ks. op_of Sum target cells limit ∷ map keep ks) (take_all i cells past) in
+pub gathered_ops : (version : Version) (ts limit : ℕ) (target : Key) (cells : List Key) (i : ℕ) (ops : List Op) → length cells ≤ i
+    → ops ≡ op_in version Sum target cells limit ∷ map (keep version) (take i cells) → gathering version ts limit target cells ≡ record { ts = ts; ops = ops }
+gathered_ops version ts limit target cells i ops past is =
+    let all : ops ≡ op_in version Sum target cells limit ∷ map (keep version) cells = is ∙ ap (λ ks. op_in version Sum target cells limit ∷ map (keep version) ks) (take_all i cells past) in
     ap (made ts) (sym all)

@@ -11,6 +11,7 @@ use Rattle.event_reader.specs.Forms.{IsForm}
 use Rattle.event_reader.specs.Limits.{generated_events, generated_ids}
 use Rattle.event_reader.specs.declared.cause.Cause.{Cause}
 use Rattle.event_reader.specs.Draws.{after_draws, draw_at}
+use Rattle.event_reader.specs.declared.version.Version.TheVariants.{One}
 use Rattle.event_reader.specs.Generated.{Drawn, IsEventLine}
 use Rattle.event_reader.specs.Numbers.{are_in}
 use Rattle.event_reader.specs.PlainLines.{plain_line}
@@ -25,25 +26,25 @@ abbrev ok : Transaction → Result Transaction Cause
 ok e = Ok e
 
 -- the line that sets a cell
-setting_form : (size : ℕ) → size ≤ generated_ids → IsForm (settings size).form
+setting_form : (size : ℕ) → size ≤ generated_ids → IsForm (settings One size).form
 setting_form size few =
-    is_form (settings size).form (omega arith) (omega arith) (omega arith, (omega arith, (omega arith, tt))) (omega arith)
+    is_form (settings One size).form (omega arith) (omega arith) (omega arith, (omega arith, (omega arith, tt))) (omega arith)
 
-setting_fits : (size i k v : ℕ) → 0 < i → i ≤ generated_events → k < size → v < 1000 → Fits (settings size).form (i ∷ k ∷ v ∷ [])
+setting_fits : (size i k v : ℕ) → 0 < i → i ≤ generated_events → k < size → v < 1000 → Fits (settings One size).form (i ∷ k ∷ v ∷ [])
 unfolding are_in
 setting_fits size i k v start last inside small = record {
   count = refl;
   inside = rw (
     in_range times i (omega arith) (omega arith),
     in_range (ids size) k (omega arith) (omega arith),
-    in_range amounts v (omega arith) (omega arith),
+    in_range (amounts One) v (omega arith) (omega arith),
   ) refl;
 }
 
 setting_line : (size i k v : ℕ) → size ≤ generated_ids → 0 < i → i ≤ generated_events → k < size → v < 1000
-    → IsEventLine (grep_event size) i (plain_line 87 (i ∷ k ∷ v ∷ []))
+    → IsEventLine (grep_event size One) i (plain_line 87 (i ∷ k ∷ v ∷ []))
 setting_line size i k v few start last inside small =
-    kind_line (grep_kinds size) (settings size) i (i ∷ k ∷ v ∷ []) (setting i k v) (setting_form size few)
+    kind_line (grep_kinds One size) (settings One size) i (i ∷ k ∷ v ∷ []) (setting One i k v) (setting_form size few)
     (setting_fits size i k v start last inside small) (omega arith) (omega arith) refl refl refl
 
 -- of numbers below twice the size, two that are less than the size apart differ modulo the size
@@ -88,9 +89,9 @@ unfolding are_distinct
 four_apart k a b c h1 h2 h3 h4 h5 h6 = rw (h1, h2, h3, h4, h5, h6) refl
 
 -- the line that sums cells: its numbers are in their ranges, and say the sum where the cells differ
-sum_is_form : (size : ℕ) → size ≤ generated_ids → IsForm (sums size).form
+sum_is_form : (size : ℕ) → size ≤ generated_ids → IsForm (sums One size).form
 sum_is_form size few =
-    is_form (sums size).form (omega arith) (omega arith) (omega arith, (omega arith, (omega arith, tt))) (omega arith)
+    is_form (sums One size).form (omega arith) (omega arith) (omega arith, (omega arith, (omega arith, tt))) (omega arith)
 
 ids_in : (size many : ℕ) (cells : List ℕ) → All (λ c. c < size) cells → are_in (replicate many (ids size)) cells ≡ true
 unfolding are_in
@@ -101,7 +102,7 @@ ids_in size (suc many) (c ∷ cells) inside =
     rw (in_range (ids size) c (omega arith) (omega arith), ids_in size many cells (All-tail (λ c. c < size) c cells inside)) refl
 
 sum_fits : (size i k limit : ℕ) (cells : List ℕ) → 0 < i → i ≤ generated_events → k < size → limit < 4000 → All (λ c. c < size) cells
-    → 0 < length cells → length cells ≤ most_cells → Fits (sums size).form (i ∷ k ∷ limit ∷ cells)
+    → 0 < length cells → length cells ≤ most_cells → Fits (sums One size).form (i ∷ k ∷ limit ∷ cells)
 unfolding are_in
 sum_fits size i k limit cells start last inside small all some few =
     let least : nat_le 4 (length (i ∷ k ∷ limit ∷ cells)) ≡ true = grind (arith, nat_tests) in
@@ -110,13 +111,13 @@ sum_fits size i k limit cells start last inside small all some few =
       inside = rw (
         in_range times i (omega arith) (omega arith),
         in_range (ids size) k (omega arith) (omega arith),
-        in_range amounts limit (omega arith) (omega arith),
+        in_range (amounts One) limit (omega arith) (omega arith),
         ids_in size (length (i ∷ k ∷ limit ∷ cells) - 3) cells all,
       ) refl;
     }
 
 sum_line : (size i k many limit : ℕ) → 3 < size → size ≤ generated_ids → 0 < i → i ≤ generated_events → k < size → many < 3 → limit < 4000
-    → IsEventLine (grep_event size) i (plain_line 71 (summed size i k (many + 1) limit))
+    → IsEventLine (grep_event size One) i (plain_line 71 (summed size i k (many + 1) limit))
 sum_line size i k many limit four few start last inside some small = by_many many some
   where
     a : ℕ
@@ -144,13 +145,13 @@ sum_line size i k many limit four few start last inside some small = by_many man
     later n m less near = unlike size k n m inside less (omega arith)
 
     line : (cells : List ℕ) → 0 < length cells → length cells ≤ most_cells → All (λ c. c < size) cells → are_distinct (cell k ∷ map cell cells) ≡ true
-        → IsEventLine (grep_event size) i (plain_line 71 (i ∷ k ∷ limit ∷ cells))
+        → IsEventLine (grep_event size One) i (plain_line 71 (i ∷ k ∷ limit ∷ cells))
     line cells one three all differ =
-        let says : gather i limit (cell k) (map cell cells) ≡ ok (gathering i limit (cell k) (map cell cells)) = rw differ refl in
-        kind_line (grep_kinds size) (sums size) i (i ∷ k ∷ limit ∷ cells) (gathering i limit (cell k) (map cell cells)) (sum_is_form size few)
+        let says : gather One i limit (cell k) (map cell cells) ≡ ok (gathering One i limit (cell k) (map cell cells)) = rw differ refl in
+        kind_line (grep_kinds One size) (sums One size) i (i ∷ k ∷ limit ∷ cells) (gathering One i limit (cell k) (map cell cells)) (sum_is_form size few)
         (sum_fits size i k limit cells start last inside small all one three) (omega arith) (omega arith) refl says refl
 
-    by_many : (n : ℕ) → n < 3 → IsEventLine (grep_event size) i (plain_line 71 (summed size i k (n + 1) limit))
+    by_many : (n : ℕ) → n < 3 → IsEventLine (grep_event size One) i (plain_line 71 (summed size i k (n + 1) limit))
     by_many zero below = line (a ∷ []) (omega arith) (omega arith) (all_one 1) (two_apart k a (first 1 (omega arith) (omega arith)))
     by_many (suc zero) below =
         line (a ∷ b ∷ []) (omega arith) (omega arith) all_two
@@ -162,16 +163,16 @@ sum_line size i k many limit four few start last inside some small = by_many man
     by_many (suc (suc (suc n))) below = absurd (omega arith)
 
 pub grep_generates : (size i state : ℕ) → 0 < size → size ≤ generated_ids → 0 < i → i ≤ generated_events
-    → IsEventLine (grep_event size) i (grep_drawn size i state).line
+    → IsEventLine (grep_event size One) i (grep_drawn size i state).line
 grep_generates size i state some few start last = by_choice (draw_at state 1 2 == 0) (nat_lt size 4) refl
   where
     after : ℕ
     after = after_draws state 1
 
-    setting_at : IsEventLine (grep_event size) i (plain_line 87 (drawn_setting size i after))
+    setting_at : IsEventLine (grep_event size One) i (plain_line 87 (drawn_setting size i after))
     setting_at = setting_line size i _ _ few start last (draw_below after 1 size some) (draw_below after 2 1000 (omega arith))
 
-    sum_at : 3 < size → IsEventLine (grep_event size) i (plain_line 71 (drawn_sum size i after))
+    sum_at : 3 < size → IsEventLine (grep_event size One) i (plain_line 71 (drawn_sum size i after))
     sum_at four =
         sum_line size i (draw_at after 1 size) (draw_at after 2 3) (draw_at after 3 4000) four few start last (draw_below after 1 size some)
         (draw_below after 2 3 (omega arith)) (draw_below after 3 4000 (omega arith))
@@ -181,7 +182,7 @@ grep_generates size i state some few start last = by_choice (draw_at state 1 2 =
         if set then record { line = plain_line 87 (drawn_setting size i after); state = after_draws state 3 }
         else record { line = plain_line 71 (drawn_sum size i after); state = after_draws state 4 }
 
-    by_choice : (first small : Bool) → nat_lt size 4 ≡ small → IsEventLine (grep_event size) i (chosen (first || small)).line
+    by_choice : (first small : Bool) → nat_lt size 4 ≡ small → IsEventLine (grep_event size One) i (chosen (first || small)).line
     by_choice true small is = setting_at
     by_choice false true is = setting_at
     by_choice false false is = let four : 3 < size = grind (arith, nat_tests) in sum_at four

@@ -1,19 +1,22 @@
 -- Every event of GrepSum is valid, and its refusals are form, range and same.
-use Rattle.std.proofs.Common.{◌≡◌, ℕ, ◌-◌, ◌<◌, ◌≤◌, Bool, true, false, not, List, [], ◌∷◌, length, map, drop, get_or, refl, sym, ap, subst, arith, Ok, Err}
+use Rattle.std.proofs.Common.{◌≡◌, ℕ, ◌-◌, ◌<◌, ◌≤◌, Bool, true, false, not, List, [], ◌∷◌, length, map, drop, get_or, refl, sym, ap, subst, arith, zero-le, Ok, Err}
 use Rattle.std.specs.Prelude.{slice_index}
 use Rattle.std.specs.List.{All, AllByRecursion, IsDistinct, list_any}
 use Rattle.std.proofs.lemmas.Bool.{not-false}
 use Rattle.std.proofs.lemmas.List.{length-drop, length-map}
 use Rattle.std.proofs.lemmas.List.Elements.{All-nil, All-cons, All-map}
-use Rattle.morph_base.specs.declared.limits.TheConstants.{FIRST_MAX, PARAMS}
+use Rattle.morph_base.specs.declared.limits.TheConstants.{PARAMS}
 use Rattle.morph_base.specs.Limits.{latest_time}
 use Rattle.morph_base.specs.declared.key.Key.{Key}
 use Rattle.morph_base.specs.declared.key.Layout.{Layout}
 use Rattle.morph_base.specs.declared.operation.Func.TheVariants.{Keep, Sum, Set}
 use Rattle.morph_base.specs.declared.operation.Op.{Op}
-use Rattle.morph_base.specs.Operations.{IsShaped, InLayout, reads, same_key, op_of}
+use Rattle.morph_base.specs.Operations.{IsShaped, InLayout, reads, same_key}
 use Rattle.morph_base.specs.Transactions.{Transaction}
-use Rattle.morph_base.proofs.ShapeLaws.{all_of, op_of-shaped, reads-op_of}
+use Rattle.morph_base.proofs.ShapeLaws.{all_of, reads-op_of}
+use Rattle.event_reader.specs.declared.version.Version.{Version}
+use Rattle.event_reader.specs.Versions.{greatest_of, op_in}
+use Rattle.event_reader.specs.VersionLaws.{op_in-shaped}
 use Rattle.event_reader.specs.declared.cause.Cause.{Cause}
 use Rattle.event_reader.specs.Ranges.{times, ids, amounts}
 use Rattle.event_reader.specs.Reader.{IsOfWords, IsEventOf}
@@ -47,52 +50,52 @@ differ (key ∷ keys) is = by_test (list_any (same_key key) keys) refl (both (no
     by_test false e none distinct = (none_same (same_key key) keys e, distinct)
 
 -- the keys of a sum are in the layout
-sum_in : (size : ℕ) (target : Key) (cells : List Key) (limit : ℕ) → InLayout (grep_layout size) target → All (InLayout (grep_layout size)) cells
-    → ReadsIn size (op_of Sum target cells limit)
-sum_in size target cells limit inside all =
+sum_in : (version : Version) (size : ℕ) (target : Key) (cells : List Key) (limit : ℕ) → InLayout (grep_layout size) target → All (InLayout (grep_layout size)) cells
+    → ReadsIn size (op_in version Sum target cells limit)
+sum_in version size target cells limit inside all =
     subst (All (InLayout (grep_layout size))) (sym (reads-op_of Sum target cells limit)) (All-cons (InLayout (grep_layout size)) target cells inside all)
 
-kept_keys : (cells : List Key) → map (λ op. op.key) (map keep cells) ≡ cells
-kept_keys [] = refl
-kept_keys (cell ∷ cells) = ap (λ keys. cell ∷ keys) (kept_keys cells)
+kept_keys : (version : Version) (cells : List Key) → map (λ op. op.key) (map (keep version) cells) ≡ cells
+kept_keys version [] = refl
+kept_keys version (cell ∷ cells) = ap (λ keys. cell ∷ keys) (kept_keys version cells)
 
 -- a line that sets a cell is valid where its numbers are in range
-setting_is_valid : (size ts k v : ℕ) → 0 < ts → ts ≤ latest_time → k < size → v ≤ FIRST_MAX
-    → IsEventOf (grep_layout size) (setting ts k v)
+setting_is_valid : (version : Version) (size ts k v : ℕ) → 0 < ts → ts ≤ latest_time → k < size → v ≤ greatest_of version
+    → IsEventOf version (grep_layout size) (setting version ts k v)
 unfolding IsDistinct
-setting_is_valid size ts k v start end inside small = (
+setting_is_valid version size ts k v start end inside small = (
   record {
     after_start = start;
     latest = end;
     some = omega arith;
     few = omega arith;
-    shaped = all_of IsShaped (setting ts k v).ops (op_of-shaped Set (cell k) [] v (omega arith) (omega arith) small, tt);
+    shaped = all_of IsShaped (setting version ts k v).ops (op_in-shaped version Set (cell k) [] v (omega arith) (omega arith) small, tt);
     distinct = (tt, tt);
   },
-  All-cons (ReadsIn size) (op_of Set (cell k) [] v) []
+  All-cons (ReadsIn size) (op_in version Set (cell k) [] v) []
       (All-cons (InLayout (grep_layout size)) (cell k) [] (cell_in size k inside) (All-nil (InLayout (grep_layout size)))) (All-nil (ReadsIn size)),
-  all_of (λ op. op.high ≡ FIRST_MAX) (setting ts k v).ops (refl, tt),
+  all_of (λ op. op.high ≡ greatest_of version) (setting version ts k v).ops (refl, tt),
 )
 
 -- so is one that sums cells that differ
-gathering_is_valid : (size ts limit : ℕ) (target : Key) (cells : List Key) → 0 < ts → ts ≤ latest_time → limit ≤ FIRST_MAX → 0 < length cells → length cells ≤ PARAMS
+gathering_is_valid : (version : Version) (size ts limit : ℕ) (target : Key) (cells : List Key) → 0 < ts → ts ≤ latest_time → limit ≤ greatest_of version → 0 < length cells → length cells ≤ PARAMS
     → InLayout (grep_layout size) target → All (InLayout (grep_layout size)) cells → are_distinct (target ∷ cells) ≡ true
-    → IsEventOf (grep_layout size) (gathering ts limit target cells)
-gathering_is_valid size ts limit target cells start end small some few inside all apart = (
+    → IsEventOf version (grep_layout size) (gathering version ts limit target cells)
+gathering_is_valid version size ts limit target cells start end small some few inside all apart = (
   record {
     after_start = start;
     latest = end;
     some = omega arith;
-    few = omega (arith, length-map cells keep);
-    shaped = All-cons IsShaped (op_of Sum target cells limit) (map keep cells) (op_of-shaped Sum target cells limit some few small)
-        (All-map IsShaped keep cells (λ k d here. op_of-shaped Keep (get_or cells k d) [] 0 (omega arith) (omega arith) (omega arith)));
-    distinct = subst (IsDistinct same_key) (ap (λ keys. target ∷ keys) (sym (kept_keys cells))) (differ (target ∷ cells) apart);
+    few = omega (arith, length-map cells (keep version));
+    shaped = All-cons IsShaped (op_in version Sum target cells limit) (map (keep version) cells) (op_in-shaped version Sum target cells limit some few small)
+        (All-map IsShaped (keep version) cells (λ k d here. op_in-shaped version Keep (get_or cells k d) [] 0 (omega arith) (omega arith) zero-le));
+    distinct = subst (IsDistinct same_key) (ap (λ keys. target ∷ keys) (sym (kept_keys version cells))) (differ (target ∷ cells) apart);
   },
-  All-cons (ReadsIn size) (op_of Sum target cells limit) (map keep cells) (sum_in size target cells limit inside all)
-      (All-map (ReadsIn size) keep cells
+  All-cons (ReadsIn size) (op_in version Sum target cells limit) (map (keep version) cells) (sum_in version size target cells limit inside all)
+      (All-map (ReadsIn size) (keep version) cells
       (λ k d here. All-cons (InLayout (grep_layout size)) (get_or cells k d) [] (all k d here) (All-nil (InLayout (grep_layout size))))),
-  All-cons (λ (op : Op). op.high ≡ FIRST_MAX) (op_of Sum target cells limit) (map keep cells) refl
-      (All-map (λ (op : Op). op.high ≡ FIRST_MAX) keep cells (λ k d here. refl)),
+  All-cons (λ (op : Op). op.high ≡ greatest_of version) (op_in version Sum target cells limit) (map (keep version) cells) refl
+      (All-map (λ (op : Op). op.high ≡ greatest_of version) (keep version) cells (λ k d here. refl)),
 )
 
 -- ids in range name cells of the layout
@@ -102,45 +105,45 @@ cells_in size cells inside =
     (λ i d here. let bounds = inside i d here in cell_in size (get_or cells i d) (omega (arith, bounds.0, bounds.1)))
 
 -- numbers in the places of a line that sets a cell
-setting_numbers : (size : ℕ) (ns : List ℕ) (e : Transaction) → Fits (settings size).form ns → setting_of ns ≡ Ok e
-    → IsEventOf (grep_layout size) e
-setting_numbers size ns e fits is =
-    let ts = place (settings size).form ns 0 times fits (omega arith) refl in
-    let k = place (settings size).form ns 1 (ids size) fits (omega arith) refl in
-    let v = place (settings size).form ns 2 amounts fits (omega arith) refl in
-    let same : setting (slice_index ns 0) (slice_index ns 1) (slice_index ns 2) ≡ e = cc in
-    subst (λ t. IsEventOf (grep_layout size) t) same
-    (setting_is_valid size _ _ _ ts.0 ts.1 (omega (arith, k.0, k.1)) v.1)
+setting_numbers : (version : Version) (size : ℕ) (ns : List ℕ) (e : Transaction) → Fits (settings version size).form ns → setting_of version ns ≡ Ok e
+    → IsEventOf version (grep_layout size) e
+setting_numbers version size ns e fits is =
+    let ts = place (settings version size).form ns 0 times fits (omega arith) refl in
+    let k = place (settings version size).form ns 1 (ids size) fits (omega arith) refl in
+    let v = place (settings version size).form ns 2 (amounts version) fits (omega arith) refl in
+    let same : setting version (slice_index ns 0) (slice_index ns 1) (slice_index ns 2) ≡ e = cc in
+    subst (λ t. IsEventOf version (grep_layout size) t) same
+    (setting_is_valid version size _ _ _ ts.0 ts.1 (omega (arith, k.0, k.1)) v.1)
 
-setting_sound : (size : ℕ) → IsSound (grep_layout size) (settings size)
-setting_sound size = record {
-  valid = λ ns e fits is. setting_numbers size ns e fits is;
+setting_sound : (version : Version) (size : ℕ) → IsSound version (grep_layout size) (settings version size)
+setting_sound version size = record {
+  valid = λ ns e fits is. setting_numbers version size ns e fits is;
   causes = λ ns cause is. absurd (cc);
 }
 
 -- numbers in the places of a line that sums
-gather_numbers : (size : ℕ) (ns : List ℕ) (e : Transaction) → Fits (sums size).form ns → gather_of ns ≡ Ok e
-    → IsEventOf (grep_layout size) e
-gather_numbers size ns e fits is =
-    let ts = place (sums size).form ns 0 times fits (omega arith) refl in
-    let k = place (sums size).form ns 1 (ids size) fits (omega arith) refl in
-    let limit = place (sums size).form ns 2 amounts fits (omega arith) refl in
-    let counts = count_of (sums size).form (length ns) fits.count in
+gather_numbers : (version : Version) (size : ℕ) (ns : List ℕ) (e : Transaction) → Fits (sums version size).form ns → gather_of version ns ≡ Ok e
+    → IsEventOf version (grep_layout size) e
+gather_numbers version size ns e fits is =
+    let ts = place (sums version size).form ns 0 times fits (omega arith) refl in
+    let k = place (sums version size).form ns 1 (ids size) fits (omega arith) refl in
+    let limit = place (sums version size).form ns 2 (amounts version) fits (omega arith) refl in
+    let counts = count_of (sums version size).form (length ns) fits.count in
     let many : length (map cell (drop 3 ns)) ≡ length ns - 3 = omega (arith, length-map (drop 3 ns) cell, length-drop 3 ns) in
     let parts = unless_ok (not (are_distinct (cell (slice_index ns 1) ∷ map cell (drop 3 ns)))) _ e is in
-    subst (λ t. IsEventOf (grep_layout size) t) parts.1
-    (gathering_is_valid size (slice_index ns 0) (slice_index ns 2) (cell (slice_index ns 1)) (map cell (drop 3 ns)) ts.0 ts.1 limit.1
+    subst (λ t. IsEventOf version (grep_layout size) t) parts.1
+    (gathering_is_valid version size (slice_index ns 0) (slice_index ns 2) (cell (slice_index ns 1)) (map cell (drop 3 ns)) ts.0 ts.1 limit.1
     (omega (arith, many, counts.0)) (omega (arith, many, counts.1)) (cell_in size (slice_index ns 1) (omega (arith, k.0, k.1)))
-    (cells_in size (drop 3 ns) (rest_in (sums size).form ns fits)) (not-false (are_distinct (cell (slice_index ns 1) ∷ map cell (drop 3 ns))) parts.0))
+    (cells_in size (drop 3 ns) (rest_in (sums version size).form ns fits)) (not-false (are_distinct (cell (slice_index ns 1) ∷ map cell (drop 3 ns))) parts.0))
 
-gather_sound : (size : ℕ) → IsSound (grep_layout size) (sums size)
-gather_sound size = record {
-  valid = λ ns e fits is. gather_numbers size ns e fits is;
+gather_sound : (version : Version) (size : ℕ) → IsSound version (grep_layout size) (sums version size)
+gather_sound version size = record {
+  valid = λ ns e fits is. gather_numbers version size ns e fits is;
   causes = λ ns cause is. unless_err (not (are_distinct (cell (slice_index ns 1) ∷ map cell (drop 3 ns)))) _ cause is;
 }
 
-pub grep_is_valid : (size : ℕ) (words : List (List ℕ)) (e : Transaction) → grep_event size words ≡ Ok e → IsEventOf (record { tables = 1; size = size }) e
-grep_is_valid size words e is = events_valid (grep_layout size) (grep_kinds size) (setting_sound size, (gather_sound size, tt)) words e is
+pub grep_is_valid : (size : ℕ) (version : Version) (words : List (List ℕ)) (e : Transaction) → grep_event size version words ≡ Ok e → IsEventOf version (record { tables = 1; size = size }) e
+grep_is_valid size version words e is = events_valid version (grep_layout size) (grep_kinds version size) (setting_sound version size, (gather_sound version size, tt)) words e is
 
-pub grep_causes : (size : ℕ) (words : List (List ℕ)) (cause : Cause) → grep_event size words ≡ Err cause → IsOfWords cause
-grep_causes size words cause is = events_causes (grep_layout size) (grep_kinds size) (setting_sound size, (gather_sound size, tt)) words cause is
+pub grep_causes : (size : ℕ) (version : Version) (words : List (List ℕ)) (cause : Cause) → grep_event size version words ≡ Err cause → IsOfWords cause
+grep_causes size version words cause is = events_causes version (grep_layout size) (grep_kinds version size) (setting_sound version size, (gather_sound version size, tt)) words cause is

@@ -7,8 +7,8 @@ ghost use Rattle.event_reader.specs.Reader.{GivesEvent};
 ghost use Rattle.grep_app.specs.Grep.{cell, are_distinct, settings, gather, sums, grep_event};
 
 use crate::generating::{write_setting, write_sum};
-use event_reader::{AMOUNTS, Cause, Draws, EventApp, Form, LineFault, Range, TIMES, Words};
-use morph_base::{Event, Func, Key, List, Op, PARAMS};
+use event_reader::{Cause, Draws, EventApp, Form, LineFault, Range, TIMES, Version, Words};
+use morph_base::{Event, Func, Key, List, PARAMS};
 use morph_io::LineBuf;
 use std::alloc::Global;
 
@@ -53,34 +53,36 @@ fn are_distinct(keys: &[Key]) -> bool
 }
 
 /// Reads the words of a line that sets a cell.
-fn set(alloc: Global, words: &Words<'_>, size: u32) -> Result<Event, LineFault>
-    ensures { GivesEvent (said_in (settings size) words.now) result }
+fn set(alloc: Global, words: &Words<'_>, size: u32, version: Version) -> Result<Event, LineFault>
+    ensures { GivesEvent (said_in (settings version size) words.now) result }
 {
-    let numbers = words.read(&Form::new(b'W', &[TIMES, Range::ids(size), AMOUNTS]))?;
+    let places = [TIMES, Range::ids(size), Range::amounts(version)];
+    let numbers = words.read(&Form::new(b'W', &places))?;
     let [ts, k, v] = numbers.first();
     let mut ops = List::with_room(alloc, 1)?;
-    ops.add(Op::new(Func::Set, cell(k), &[], v));
+    ops.add(version.op(Func::Set, cell(k), &[], v));
     Ok(Event { ts, ops })
 }
 
 /// The event that puts the sum of some cells into another, where it is at most the limit, and keeps those cells.
 fn gather(
     alloc: Global,
+    version: Version,
     ts: u64,
     limit: u64,
     target: Key,
     cells: &[Key],
 ) -> Result<Event, LineFault>
     requires { length cells.now ≤ PARAMS }
-    ensures { GivesEvent (gather ts limit target cells.now) result }
+    ensures { GivesEvent (gather version ts limit target cells.now) result }
 {
     if has(cells, target) || !are_distinct(cells) {
         return Err(LineFault::Refused(Cause::Same));
     }
     let mut ops = List::with_room(alloc, cells.len() + 1)?;
-    ops.add(Op::new(Func::Sum, target, cells, limit));
+    ops.add(version.op(Func::Sum, target, cells, limit));
     for cell in cells {
-        ops.add(Op::new(Func::Keep, *cell, &[], 0));
+        ops.add(version.op(Func::Keep, *cell, &[], 0));
     }
     Ok(Event { ts, ops })
 }
@@ -99,17 +101,17 @@ fn cells_of(ids: &[u64]) -> [Key; PARAMS]
 }
 
 /// Reads the words of a line that sums cells.
-fn sum(alloc: Global, words: &Words<'_>, size: u32) -> Result<Event, LineFault>
-    ensures { GivesEvent (said_in (sums size) words.now) result }
+fn sum(alloc: Global, words: &Words<'_>, size: u32, version: Version) -> Result<Event, LineFault>
+    ensures { GivesEvent (said_in (sums version size) words.now) result }
 {
     let ids = Range::ids(size);
-    let places = [TIMES, ids, AMOUNTS];
+    let places = [TIMES, ids, Range::amounts(version)];
     let form = Form::new(b'G', &places).with_more(ids, 1, MOST_CELLS);
     let numbers = words.read(&form)?;
     let [ts, k, limit] = numbers.first();
     let others = numbers.rest();
     let cells = cells_of(others);
-    gather(alloc, ts, limit, cell(k), &cells[..others.len()])
+    gather(alloc, version, ts, limit, cell(k), &cells[..others.len()])
 }
 
 impl EventApp for Grep {
@@ -121,13 +123,13 @@ impl EventApp for Grep {
 
     ghost name_of = { λ _ _. codes "cell" };
 
-    ghost event_of = { λ _ size words. grep_event size words };
+    ghost event_of = { λ _ size version words. grep_event size version words };
 
     ghost generated = { λ _ size i state. grep_drawn size i state };
 
-    ghost gives_valid = { λ _ size words e. grep_is_valid size words e };
+    ghost gives_valid = { λ _ size version words e. grep_is_valid size version words e };
 
-    ghost causes = { λ _ size words cause. grep_causes size words cause };
+    ghost causes = { λ _ size version words cause. grep_causes size version words cause };
 
     ghost generates = { λ _ size i state some few start last. grep_generates size i state some
         few start last };
@@ -140,10 +142,16 @@ impl EventApp for Grep {
         "cell"
     }
 
-    fn read_event(&self, alloc: Global, words: &Words<'_>, size: u32) -> Result<Event, LineFault> {
+    fn read_event(
+        &self,
+        alloc: Global,
+        words: &Words<'_>,
+        size: u32,
+        version: Version,
+    ) -> Result<Event, LineFault> {
         match words.letter() {
-            Some(b'W') => set(alloc, words, size),
-            Some(b'G') => sum(alloc, words, size),
+            Some(b'W') => set(alloc, words, size, version),
+            Some(b'G') => sum(alloc, words, size, version),
             _ => Err(LineFault::Refused(Cause::Form)),
         }
     }

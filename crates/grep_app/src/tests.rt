@@ -1,5 +1,5 @@
 use crate::{CELLS, Grep};
-use event_reader::{Cause, Draws, EventApp, LineFault, Words};
+use event_reader::{Cause, Draws, EventApp, LineFault, Version, Words};
 use morph_base::{Event, Func, Key, Op};
 use morph_io::LineBuf;
 use std::alloc::Global;
@@ -13,10 +13,10 @@ fn keep(id: u32) -> Op {
     Op::new(Func::Keep, cell(id), &[], 0)
 }
 
-/// What a line says where there are 10 cells.
-fn read(alloc: Global, line: &[u8]) -> Result<Event, LineFault> {
+/// What a line says in an input of this version where there are 10 cells.
+fn read(alloc: Global, line: &[u8], version: Version) -> Result<Event, LineFault> {
     match Words::split(line) {
-        Some(words) => Grep.read_event(alloc, &words, 10),
+        Some(words) => Grep.read_event(alloc, &words, 10, version),
         None => Err(LineFault::Refused(Cause::Form)),
     }
 }
@@ -43,11 +43,37 @@ fn lines_say_their_operations(rt: HostRuntime) -> Result<(), Fail> {
         (b"G 1000000000000 9 0 1 0 8", 1_000_000_000_000, &three),
     ];
     for (line, ts, ops) in rows {
-        let Ok(event) = read(rt.alloc(), line) else {
+        let Ok(event) = read(rt.alloc(), line, Version::One) else {
             return Err("refused".into());
         };
         assert_eq!(rt; event.ts, ts, "at {line:?}");
         assert_eq!(rt; event.ops.as_slice(), ops, "at {line:?}");
+    }
+    Ok(())
+}
+
+/// In version 2 a value and a limit may be up to 10^13.
+#[test]
+fn values_are_greater_in_version_2(rt: HostRuntime) -> Result<(), Fail> {
+    let high = Version::Two.greatest();
+    let set = [Op::new(Func::Set, cell(9), &[], high).limited(0, high)];
+    let sum = [
+        Op::new(Func::Sum, cell(0), &[cell(1)], high).limited(0, high),
+        keep(1).limited(0, high),
+    ];
+    let rows: [(&[u8], &[Op]); 2] = [
+        (b"W 1 9 10000000000000", &set),
+        (b"G 2 0 10000000000000 1", &sum),
+    ];
+    for (line, ops) in rows {
+        let Ok(event) = read(rt.alloc(), line, Version::Two) else {
+            return Err("refused".into());
+        };
+        assert_eq!(rt; event.ops.as_slice(), ops, "at {line:?}");
+        let Err(fault) = read(rt.alloc(), line, Version::One) else {
+            return Err("taken".into());
+        };
+        assert_eq!(rt; fault, LineFault::Refused(Cause::Range), "at {line:?}");
     }
     Ok(())
 }
@@ -75,7 +101,7 @@ fn causes_come_in_their_order(rt: HostRuntime) -> Result<(), Fail> {
         (b"G 1 0 10 1 2 2", Cause::Same),
     ];
     for (line, cause) in rows {
-        let Err(fault) = read(rt.alloc(), line) else {
+        let Err(fault) = read(rt.alloc(), line, Version::One) else {
             return Err("taken".into());
         };
         assert_eq!(rt; fault, LineFault::Refused(cause), "at {line:?}");

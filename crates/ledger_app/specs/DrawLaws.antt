@@ -9,6 +9,7 @@ use Rattle.event_reader.specs.Limits.{generated_events, generated_ids}
 use Rattle.morph_base.specs.Transactions.{Transaction}
 use Rattle.event_reader.specs.declared.cause.Cause.{Cause}
 use Rattle.event_reader.specs.Draws.{after_draws, draw_at}
+use Rattle.event_reader.specs.declared.version.Version.TheVariants.{One}
 use Rattle.event_reader.specs.Generated.{Drawn, IsEventLine}
 use Rattle.event_reader.specs.Numbers.{are_in}
 use Rattle.event_reader.specs.PlainLines.{plain_line}
@@ -23,12 +24,12 @@ abbrev ok : Transaction → Result Transaction Cause
 ok e = Ok e
 
 -- the line of a deposit
-deposit_form : (size : ℕ) → size ≤ generated_ids → IsForm (deposits size).form
+deposit_form : (size : ℕ) → size ≤ generated_ids → IsForm (deposits One size).form
 deposit_form size few =
-    is_form (deposits size).form (omega arith) (omega arith) (omega arith, (omega arith, (omega arith, (omega arith, (omega arith, tt))))) (omega arith)
+    is_form (deposits One size).form (omega arith) (omega arith) (omega arith, (omega arith, (omega arith, (omega arith, (omega arith, tt))))) (omega arith)
 
 deposit_fits : (size i acct ast a b : ℕ) → 0 < i → i ≤ generated_events → acct < size → ast < size → a < drawn_amounts → b < drawn_amounts
-    → Fits (deposits size).form (i ∷ acct ∷ ast ∷ a ∷ b ∷ [])
+    → Fits (deposits One size).form (i ∷ acct ∷ ast ∷ a ∷ b ∷ [])
 unfolding are_in
 deposit_fits size i acct ast a b start last in1 in2 small small' = record {
   count = refl;
@@ -36,15 +37,15 @@ deposit_fits size i acct ast a b start last in1 in2 small small' = record {
     in_range times i (omega arith) (omega arith),
     in_range (ids size) acct (omega arith) (omega arith),
     in_range (ids size) ast (omega arith) (omega arith),
-    in_range amounts a (omega arith) (omega arith),
-    in_range amounts b (omega arith) (omega arith),
+    in_range (amounts One) a (omega arith) (omega arith),
+    in_range (amounts One) b (omega arith) (omega arith),
   ) refl;
 }
 
 deposit_line : (size i acct ast a b : ℕ) → size ≤ generated_ids → 0 < i → i ≤ generated_events → acct < size → ast < size → a < drawn_amounts → b < drawn_amounts
-    → IsEventLine (ledger_event size) i (plain_line 68 (i ∷ acct ∷ ast ∷ a ∷ b ∷ []))
+    → IsEventLine (ledger_event size One) i (plain_line 68 (i ∷ acct ∷ ast ∷ a ∷ b ∷ []))
 deposit_line size i acct ast a b few start last in1 in2 small small' =
-    kind_line (ledger_kinds size) (deposits size) i (i ∷ acct ∷ ast ∷ a ∷ b ∷ []) (deposit i acct ast a b)
+    kind_line (ledger_kinds One size) (deposits One size) i (i ∷ acct ∷ ast ∷ a ∷ b ∷ []) (deposit One i acct ast a b)
     (deposit_form size few) (deposit_fits size i acct ast a b start last in1 in2 small small') (omega arith) (omega arith) refl refl refl
 
 -- two ids that are brought apart differ
@@ -68,12 +69,12 @@ apart_differs size first second two inside = by_test (first == second) refl
     by_test false differ = differ
 
 -- the line of a transfer
-transfer_form : (size : ℕ) → size ≤ generated_ids → IsForm (transfers size).form
+transfer_form : (size : ℕ) → size ≤ generated_ids → IsForm (transfers One size).form
 transfer_form size few =
-    is_form (transfers size).form (omega arith) (omega arith) (omega arith, (omega arith, (omega arith, (omega arith, (omega arith, (omega arith, (omega arith, tt))))))) (omega arith)
+    is_form (transfers One size).form (omega arith) (omega arith) (omega arith, (omega arith, (omega arith, (omega arith, (omega arith, (omega arith, (omega arith, tt))))))) (omega arith)
 
 transfer_fits : (size i src dst asrc adst a b : ℕ) → 0 < i → i ≤ generated_events → src < size → dst < size → asrc < size → adst < size → a < drawn_amounts → b < drawn_amounts
-    → Fits (transfers size).form (i ∷ src ∷ dst ∷ asrc ∷ adst ∷ a ∷ b ∷ [])
+    → Fits (transfers One size).form (i ∷ src ∷ dst ∷ asrc ∷ adst ∷ a ∷ b ∷ [])
 unfolding are_in
 transfer_fits size i src dst asrc adst a b start last in1 in2 in3 in4 small small' = record {
   count = refl;
@@ -83,30 +84,30 @@ transfer_fits size i src dst asrc adst a b start last in1 in2 in3 in4 small smal
     in_range (ids size) dst (omega arith) (omega arith),
     in_range (ids size) asrc (omega arith) (omega arith),
     in_range (ids size) adst (omega arith) (omega arith),
-    in_range amounts a (omega arith) (omega arith),
-    in_range amounts b (omega arith) (omega arith),
+    in_range (amounts One) a (omega arith) (omega arith),
+    in_range (amounts One) b (omega arith) (omega arith),
   ) refl;
 }
 
 transfer_line : (size i src dst asrc adst a b : ℕ) → size ≤ generated_ids → 0 < i → i ≤ generated_events → src < size → dst < size → asrc < size → adst < size → a < drawn_amounts → b < drawn_amounts
-    → (src == dst) ≡ false → (asrc == adst) ≡ false → IsEventLine (ledger_event size) i (plain_line 88 (i ∷ src ∷ dst ∷ asrc ∷ adst ∷ a ∷ b ∷ []))
+    → (src == dst) ≡ false → (asrc == adst) ≡ false → IsEventLine (ledger_event size One) i (plain_line 88 (i ∷ src ∷ dst ∷ asrc ∷ adst ∷ a ∷ b ∷ []))
 transfer_line size i src dst asrc adst a b few start last in1 in2 in3 in4 small small' differ differ' =
-    let apart : transfer i src dst asrc adst a b ≡ ok (moving i src dst asrc adst a b) = rw (differ, differ') refl in
-    kind_line (ledger_kinds size) (transfers size) i (i ∷ src ∷ dst ∷ asrc ∷ adst ∷ a ∷ b ∷ []) (moving i src dst asrc adst a b)
+    let apart : transfer One i src dst asrc adst a b 0 ≡ ok (moving One i src dst asrc adst a b 0) = rw (differ, differ') refl in
+    kind_line (ledger_kinds One size) (transfers One size) i (i ∷ src ∷ dst ∷ asrc ∷ adst ∷ a ∷ b ∷ []) (moving One i src dst asrc adst a b 0)
     (transfer_form size few) (transfer_fits size i src dst asrc adst a b start last in1 in2 in3 in4 small small') (omega arith) (omega arith) refl apart refl
 
 pub ledger_generates : (size i state : ℕ) → 0 < size → size ≤ generated_ids → 0 < i → i ≤ generated_events
-    → IsEventLine (ledger_event size) i (ledger_drawn size i state).line
+    → IsEventLine (ledger_event size One) i (ledger_drawn size i state).line
 ledger_generates size i state some few start last = by_choice (nat_lt (draw_at state 1 4) 2) (nat_lt size 2) refl
   where
     after : ℕ
     after = after_draws state 1
 
-    deposit_at : IsEventLine (ledger_event size) i (plain_line 68 (drawn_deposit size i after))
+    deposit_at : IsEventLine (ledger_event size One) i (plain_line 68 (drawn_deposit size i after))
     deposit_at = deposit_line size i _ _ _ _ few start last (draw_below after 1 size some) (draw_below after 2 size some)
         (draw_below after 3 drawn_amounts (omega arith)) (draw_below after 4 drawn_amounts (omega arith))
 
-    transfer_at : 1 < size → IsEventLine (ledger_event size) i (plain_line 88 (drawn_transfer size i after))
+    transfer_at : 1 < size → IsEventLine (ledger_event size One) i (plain_line 88 (drawn_transfer size i after))
     transfer_at two =
         let src = draw_below after 1 size some in
         let dst = draw_below after 2 size some in
@@ -121,7 +122,7 @@ ledger_generates size i state some few start last = by_choice (nat_lt (draw_at s
         if one then record { line = plain_line 68 (drawn_deposit size i after); state = after_draws state 5 }
         else record { line = plain_line 88 (drawn_transfer size i after); state = after_draws state 7 }
 
-    by_choice : (low one : Bool) → nat_lt size 2 ≡ one → IsEventLine (ledger_event size) i (chosen (low || one)).line
+    by_choice : (low one : Bool) → nat_lt size 2 ≡ one → IsEventLine (ledger_event size One) i (chosen (low || one)).line
     by_choice true one is = deposit_at
     by_choice false true is = deposit_at
     by_choice false false is = let two : 1 < size = grind (arith, nat_tests) in transfer_at two

@@ -4,12 +4,15 @@ use Rattle.morph_base.specs.declared.key.Key.{Key}
 use Rattle.morph_base.specs.declared.operation.Func.{Func}
 use Rattle.morph_base.specs.declared.operation.Func.TheVariants.{Add, Sub, MoveIn}
 use Rattle.morph_base.specs.declared.operation.Op.{Op}
-use Rattle.morph_base.specs.Operations.{op_of}
+use Rattle.morph_base.specs.Operations.{limited_to, op_of}
 use Rattle.morph_base.specs.Transactions.{Transaction}
 use Rattle.event_reader.specs.declared.cause.Cause.{Cause}
-use Rattle.event_reader.specs.Forms.{Kind, form_of, unless, event_by}
+use Rattle.event_reader.specs.declared.version.Version.{Version}
+use Rattle.event_reader.specs.declared.version.Version.TheVariants.{One, Two}
+use Rattle.event_reader.specs.Forms.{Form, Kind, form_of, unless, event_by}
 use Rattle.event_reader.specs.Ranges.{times, ids, amounts}
 use Rattle.event_reader.specs.Steps.{Meaning}
+use Rattle.event_reader.specs.Versions.{greatest_of}
 
 -- the keys of an account and of an asset
 abbrev pub key : (table id : ℕ) → Key
@@ -21,45 +24,62 @@ account id = key 0 id
 abbrev pub asset : ℕ → Key
 asset id = key 1 id
 
--- an operation that reads its target alone, and one that takes from another key
-abbrev pub change : Func → Key → (c : ℕ) → Op
-change func key c = op_of func key [] c
+-- an operation that reads its target alone, and one that takes from another key; so much has to stay where it is taken from
+abbrev pub change : Version → Func → Key → (c floor : ℕ) → Op
+change version func key c floor = limited_to floor (greatest_of version) (op_of func key [] c)
 
-abbrev pub move_in : (key from : Key) → (c : ℕ) → Op
-move_in key from c = op_of MoveIn key (from ∷ []) c
+abbrev pub move_in : Version → (key from : Key) → (c floor : ℕ) → Op
+move_in version key from c floor = limited_to floor (greatest_of version) (op_of MoveIn key (from ∷ []) c)
 
 -- `D ts acct asset a b`: a is added to the account, b to the asset
-abbrev pub deposit : (ts acct ast a b : ℕ) → Transaction
-deposit ts acct ast a b = record { ts = ts; ops = change Add (account acct) a ∷ change Add (asset ast) b ∷ [] }
+abbrev pub deposit : Version → (ts acct ast a b : ℕ) → Transaction
+deposit version ts acct ast a b = record { ts = ts; ops = change version Add (account acct) a 0 ∷ change version Add (asset ast) b 0 ∷ [] }
 
--- `X ts src dst asrc adst a b`: a goes from account src to account dst, b from asset asrc to asset adst, and the two of
--- each kind have to differ
-abbrev pub moving : (ts src dst asrc adst a b : ℕ) → Transaction
-moving ts src dst asrc adst a b = record {
+-- `X ts src dst asrc adst a b [f]`: a goes from account src to account dst, where f has to stay on account src, and b from asset
+-- asrc to asset adst; the two of each kind have to differ
+abbrev pub moving : Version → (ts src dst asrc adst a b f : ℕ) → Transaction
+moving version ts src dst asrc adst a b f = record {
   ts = ts;
-  ops = change Sub (account src) a ∷ change Sub (asset asrc) b ∷ move_in (account dst) (account src) a ∷ move_in (asset adst) (asset asrc) b ∷ [];
+  ops = change version Sub (account src) a f ∷ change version Sub (asset asrc) b 0 ∷ move_in version (account dst) (account src) a f
+      ∷ move_in version (asset adst) (asset asrc) b 0 ∷ [];
 }
 
-abbrev pub transfer : (ts src dst asrc adst a b : ℕ) → Result Transaction Cause
-transfer ts src dst asrc adst a b = unless (src == dst || asrc == adst) (moving ts src dst asrc adst a b)
+abbrev pub transfer : Version → (ts src dst asrc adst a b f : ℕ) → Result Transaction Cause
+transfer version ts src dst asrc adst a b f = unless (src == dst || asrc == adst) (moving version ts src dst asrc adst a b f)
 
--- what the numbers of a line say, in their places
-abbrev pub deposit_of : List ℕ → Result Transaction Cause
-deposit_of ns = Ok (deposit (slice_index ns 0) (slice_index ns 1) (slice_index ns 2) (slice_index ns 3) (slice_index ns 4))
+-- what the numbers of a line say, in their places; where no f is given it is 0
+abbrev pub deposit_of : Version → List ℕ → Result Transaction Cause
+deposit_of version ns = Ok (deposit version (slice_index ns 0) (slice_index ns 1) (slice_index ns 2) (slice_index ns 3) (slice_index ns 4))
 
-abbrev pub transfer_of : List ℕ → Result Transaction Cause
-transfer_of ns = transfer (slice_index ns 0) (slice_index ns 1) (slice_index ns 2) (slice_index ns 3) (slice_index ns 4) (slice_index ns 5) (slice_index ns 6)
+abbrev pub transfer_of : Version → List ℕ → Result Transaction Cause
+transfer_of version ns =
+    transfer version (slice_index ns 0) (slice_index ns 1) (slice_index ns 2) (slice_index ns 3) (slice_index ns 4) (slice_index ns 5) (slice_index ns 6) (slice_index ns 7)
 
--- the kinds of event lines: a deposit begins with D and has five numbers, a transfer with X and seven
-abbrev pub deposits : (size : ℕ) → Kind
-deposits size = record { form = form_of 68 (times ∷ ids size ∷ ids size ∷ amounts ∷ amounts ∷ []); says = deposit_of }
+-- whether a transfer of the version may name what has to stay
+abbrev pub most_floors : Version → ℕ
+most_floors One = 0
+most_floors Two = 1
 
-abbrev pub transfers : (size : ℕ) → Kind
-transfers size = record { form = form_of 88 (times ∷ ids size ∷ ids size ∷ ids size ∷ ids size ∷ amounts ∷ amounts ∷ []); says = transfer_of }
+-- the kinds of event lines: a deposit begins with D and has five numbers, a transfer with X and seven, and in version 2 one more where
+-- it has a floor
+abbrev pub deposits : Version → (size : ℕ) → Kind
+deposits version size = record { form = form_of 68 (times ∷ ids size ∷ ids size ∷ amounts version ∷ amounts version ∷ []); says = deposit_of version }
 
-abbrev pub ledger_kinds : (size : ℕ) → List Kind
-ledger_kinds size = deposits size ∷ transfers size ∷ []
+abbrev pub transfer_form : Version → (size : ℕ) → Form
+transfer_form version size = record {
+  letter = 88;
+  places = times ∷ ids size ∷ ids size ∷ ids size ∷ ids size ∷ amounts version ∷ amounts version ∷ [];
+  more = amounts version;
+  least = 0;
+  most = most_floors version;
+}
 
--- what the words of a line say
+abbrev pub transfers : Version → (size : ℕ) → Kind
+transfers version size = record { form = transfer_form version size; says = transfer_of version }
+
+abbrev pub ledger_kinds : Version → (size : ℕ) → List Kind
+ledger_kinds version size = deposits version size ∷ transfers version size ∷ []
+
+-- what the words of a line say in an input of each version
 abbrev pub ledger_event : (size : ℕ) → Meaning
-ledger_event size = event_by (ledger_kinds size)
+ledger_event size version = event_by (ledger_kinds version size)

@@ -1,10 +1,10 @@
-ghost use Rattle.std.specs.Prelude.{◌≡◌, ◌^◌, ◌<◌, codes, if◌then◌else◌, ◌==◌};
+ghost use Rattle.std.specs.Prelude.{◌≡◌, ◌^◌, ◌<◌, slice_index, codes, if◌then◌else◌, ◌==◌};
 ghost use Rattle.event_reader.specs.Forms.{said_in};
 ghost use Rattle.event_reader.specs.Reader.{GivesEvent};
-ghost use Rattle.ledger_app.specs.Ledger.{key, deposits, transfers, ledger_event};
+ghost use Rattle.ledger_app.specs.Ledger.{key, deposits, transfers, most_floors, ledger_event};
 
 use crate::generating::{write_deposit, write_transfer};
-use event_reader::{AMOUNTS, Cause, Draws, EventApp, Form, LineFault, Range, TIMES, Words};
+use event_reader::{Cause, Draws, EventApp, Form, LineFault, Range, TIMES, Version, Words};
 use morph_base::{Event, Func, Key, List, Op};
 use morph_io::LineBuf;
 use std::alloc::Global;
@@ -31,36 +31,69 @@ fn key(table: u8, id: u64) -> Key
 }
 
 /// Reads the words of a deposit.
-fn deposit(alloc: Global, words: &Words<'_>, size: u32) -> Result<Event, LineFault>
-    ensures { GivesEvent (said_in (deposits size) words.now) result }
+fn deposit(
+    alloc: Global,
+    words: &Words<'_>,
+    size: u32,
+    version: Version,
+) -> Result<Event, LineFault>
+    ensures { GivesEvent (said_in (deposits version size) words.now) result }
 {
-    let ids = Range::ids(size);
-    let numbers = words.read(&Form::new(b'D', &[TIMES, ids, ids, AMOUNTS, AMOUNTS]))?;
+    let (ids, amounts) = (Range::ids(size), Range::amounts(version));
+    let numbers = words.read(&Form::new(b'D', &[TIMES, ids, ids, amounts, amounts]))?;
     let [ts, account, asset, a, b] = numbers.first();
     let mut ops = List::with_room(alloc, 2)?;
-    ops.add(Op::new(Func::Add, key(ACCOUNTS, account), &[], a));
-    ops.add(Op::new(Func::Add, key(ASSETS, asset), &[], b));
+    ops.add(version.op(Func::Add, key(ACCOUNTS, account), &[], a));
+    ops.add(version.op(Func::Add, key(ASSETS, asset), &[], b));
     Ok(Event { ts, ops })
 }
 
-/// Reads the words of a transfer.
-fn transfer(alloc: Global, words: &Words<'_>, size: u32) -> Result<Event, LineFault>
-    ensures { GivesEvent (said_in (transfers size) words.now) result }
+/// How many numbers a transfer may have behind those that each has: what has to stay on the account, in version 2.
+fn most_floors(version: Version) -> usize
+    ensures { result ≡ most_floors version }
 {
-    let ids = Range::ids(size);
-    let places = [TIMES, ids, ids, ids, ids, AMOUNTS, AMOUNTS];
-    let numbers = words.read(&Form::new(b'X', &places))?;
+    match version {
+        Version::One => 0,
+        Version::Two => 1,
+    }
+}
+
+/// The first of these numbers, and 0 where there is none.
+fn first_or_none(numbers: &[u64]) -> u64
+    ensures { result ≡ slice_index numbers.now 0 }
+{
+    match numbers {
+        [] => 0,
+        [first, ..] => *first,
+    }
+}
+
+/// Reads the words of a transfer.
+fn transfer(
+    alloc: Global,
+    words: &Words<'_>,
+    size: u32,
+    version: Version,
+) -> Result<Event, LineFault>
+    ensures { GivesEvent (said_in (transfers version size) words.now) result }
+{
+    let (ids, amounts) = (Range::ids(size), Range::amounts(version));
+    let places = [TIMES, ids, ids, ids, ids, amounts, amounts];
+    let form = Form::new(b'X', &places).with_more(amounts, 0, most_floors(version));
+    let numbers = words.read(&form)?;
     let [ts, src, dst, asrc, adst, a, b] = numbers.first();
+    let floor = first_or_none(numbers.rest());
     if src == dst || asrc == adst {
         return Err(LineFault::Refused(Cause::Same));
     }
     let (src, dst) = (key(ACCOUNTS, src), key(ACCOUNTS, dst));
     let (asrc, adst) = (key(ASSETS, asrc), key(ASSETS, adst));
     let mut ops = List::with_room(alloc, 4)?;
-    ops.add(Op::new(Func::Sub, src, &[], a));
-    ops.add(Op::new(Func::Sub, asrc, &[], b));
-    ops.add(Op::new(Func::MoveIn, dst, &[src], a));
-    ops.add(Op::new(Func::MoveIn, adst, &[asrc], b));
+    let high = version.greatest();
+    ops.add(Op::new(Func::Sub, src, &[], a).limited(floor, high));
+    ops.add(version.op(Func::Sub, asrc, &[], b));
+    ops.add(Op::new(Func::MoveIn, dst, &[src], a).limited(floor, high));
+    ops.add(version.op(Func::MoveIn, adst, &[asrc], b));
     Ok(Event { ts, ops })
 }
 
@@ -73,13 +106,13 @@ impl EventApp for Ledger {
 
     ghost name_of = { λ _ table. if table == 0 then codes "acct" else codes "asset" };
 
-    ghost event_of = { λ _ size words. ledger_event size words };
+    ghost event_of = { λ _ size version words. ledger_event size version words };
 
     ghost generated = { λ _ size i state. ledger_drawn size i state };
 
-    ghost gives_valid = { λ _ size words e. ledger_is_valid size words e };
+    ghost gives_valid = { λ _ size version words e. ledger_is_valid size version words e };
 
-    ghost causes = { λ _ size words cause. ledger_causes size words cause };
+    ghost causes = { λ _ size version words cause. ledger_causes size version words cause };
 
     ghost generates = { λ _ size i state some few start last. ledger_generates size i state some
         few start last };
@@ -92,10 +125,16 @@ impl EventApp for Ledger {
         if table == ACCOUNTS { "acct" } else { "asset" }
     }
 
-    fn read_event(&self, alloc: Global, words: &Words<'_>, size: u32) -> Result<Event, LineFault> {
+    fn read_event(
+        &self,
+        alloc: Global,
+        words: &Words<'_>,
+        size: u32,
+        version: Version,
+    ) -> Result<Event, LineFault> {
         match words.letter() {
-            Some(b'D') => deposit(alloc, words, size),
-            Some(b'X') => transfer(alloc, words, size),
+            Some(b'D') => deposit(alloc, words, size, version),
+            Some(b'X') => transfer(alloc, words, size, version),
             _ => Err(LineFault::Refused(Cause::Form)),
         }
     }

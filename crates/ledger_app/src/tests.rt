@@ -3,9 +3,10 @@ ghost use Rattle.event_reader.specs.Limits.{input_bytes};
 
 use crate::{ACCOUNTS, ASSETS, Ledger};
 use event_reader::{
-    BatchReader, Cause, Draws, EventApp, GenSource, INPUT_BYTES, Next, ReaderFault, Words,
+    BatchReader, Cause, Draws, EventApp, GenSource, INPUT_BYTES, LineFault, Next, ReaderFault,
+    Version, Words,
 };
-use morph_base::{Func, Key, List, Op, OutOfMemory};
+use morph_base::{Event, Func, Key, List, Op, OutOfMemory};
 use morph_io::{LineBuf, MemSource, Source};
 use std::alloc::{AllocError, Global};
 use std::test::Fail;
@@ -82,7 +83,17 @@ fn read_all(
 
 #[test]
 fn causes_come_in_their_order(rt: HostRuntime) -> Result<(), Fail> {
-    let rows: [(&[u8], &[usize], End); 18] = [
+    let rows: [(&[u8], &[usize], End); 24] = [
+        (b"morph 2\nD 1 0 0 10000000000000 0\n", &[1], End::Ended),
+        (b"morph 2\r\nX 1 0 1 0 1 1 1 0\nP\n", &[1], End::Ended),
+        (b"#\nmorph 2\n", &[], End::Refused(2, Cause::Form)),
+        (b"morph 2 \n", &[], End::Refused(1, Cause::Form)),
+        (
+            b"morph 2\nD 1 0 0 1 1\nP\nmorph 2\n",
+            &[1],
+            End::Refused(4, Cause::Form),
+        ),
+        (b"morph 2", &[], End::Ended),
         (
             b"D 1 0 0 1000000000001 0\n",
             &[],
@@ -317,50 +328,72 @@ fn pieces_change_nothing_and_a_front_is_an_input(rt: HostRuntime) -> Result<(), 
     Ok(())
 }
 
+/// What a line says in an input of this version.
+fn read(alloc: Global, line: &[u8], version: Version) -> Result<Event, LineFault> {
+    match Words::split(line) {
+        Some(words) => Ledger.read_event(alloc, &words, 10_000, version),
+        None => Err(LineFault::Refused(Cause::Form)),
+    }
+}
+
 #[test]
 fn words_give_the_operations_of_their_line(rt: HostRuntime) -> Result<(), Fail> {
-    let no_key = Key { table: 0, id: 0 };
-    let account = |id| Key {
-        table: ACCOUNTS,
-        id,
+    let (one, two) = (Version::One, Version::Two);
+    let account = |id| Key::of(ACCOUNTS, id);
+    let asset = |id| Key::of(ASSETS, id);
+    let moved = |version: Version, a, floor| {
+        [
+            Op::new(Func::Sub, account(1), &[], a).limited(floor, version.greatest()),
+            Op::new(Func::Sub, asset(3), &[], 5).limited(0, version.greatest()),
+            Op::new(Func::MoveIn, account(2), &[account(1)], a).limited(floor, version.greatest()),
+            Op::new(Func::MoveIn, asset(4), &[asset(3)], 5).limited(0, version.greatest()),
+        ]
     };
-    let asset = |id| Key { table: ASSETS, id };
-    let op = |key, func, c| Op {
-        key,
-        params: [no_key; 3],
-        n_params: 0,
-        func,
-        c,
-    };
-    let from = |key, other, c| Op {
-        key,
-        params: [other, no_key, no_key],
-        n_params: 1,
-        func: Func::MoveIn,
-        c,
-    };
-    let words = Words::split(b"D 1 0 7 100 5").ok_or("no words")?;
-    let Ok(event) = Ledger.read_event(rt.alloc(), &words, 10_000) else {
-        return Err("refused".into());
-    };
-    let ops = [op(account(0), Func::Add, 100), op(asset(7), Func::Add, 5)];
-    assert_eq!(rt; event.ts, 1);
-    assert_eq!(rt; event.ops.as_slice(), ops.as_slice());
-    let words = Words::split(b"X 4 1 2 3 4 60 5").ok_or("no words")?;
-    let Ok(event) = Ledger.read_event(rt.alloc(), &words, 10_000) else {
-        return Err("refused".into());
-    };
-    let ops = [
-        op(account(1), Func::Sub, 60),
-        op(asset(3), Func::Sub, 5),
-        from(account(2), account(1), 60),
-        from(asset(4), asset(3), 5),
+    let deposited = [
+        Op::new(Func::Add, account(0), &[], 100),
+        Op::new(Func::Add, asset(7), &[], 5),
     ];
-    assert_eq!(rt; event.ts, 4);
-    assert_eq!(rt; event.ops.as_slice(), ops.as_slice());
+    let first = moved(one, 60, 0);
+    let (second, floored) = (moved(two, 10_000_000_000_000, 0), moved(two, 60, 7));
+    let rows: [(&[u8], Version, u64, &[Op]); 4] = [
+        (b"D 1 0 7 100 5", one, 1, &deposited),
+        (b"X 4 1 2 3 4 60 5", one, 4, &first),
+        (b"X 4 1 2 3 4 10000000000000 5", two, 4, &second),
+        (b"X 5 1 2 3 4 60 5 7", two, 5, &floored),
+    ];
+    for (line, version, ts, ops) in rows {
+        let Ok(event) = read(rt.alloc(), line, version) else {
+            return Err("refused".into());
+        };
+        assert_eq!(rt; event.ts, ts, "at {line:?}");
+        assert_eq!(rt; event.ops.as_slice(), ops, "at {line:?}");
+    }
     assert_eq!(rt; Ledger.tables(), 2);
     assert_eq!(rt; Ledger.table_name(ACCOUNTS), "acct");
     assert_eq!(rt; Ledger.table_name(ASSETS), "asset");
+    Ok(())
+}
+
+/// A number above the greatest of its version, a number too many, and a timestamp, which has one range in both.
+#[test]
+fn a_line_is_read_by_its_version(rt: HostRuntime) -> Result<(), Fail> {
+    let (one, two) = (Version::One, Version::Two);
+    let rows: [(&[u8], Version, Cause); 8] = [
+        (b"D 1 0 0 10000000000000 0", one, Cause::Range),
+        (b"D 1 0 0 10000000000001 0", two, Cause::Range),
+        (b"X 1 0 1 0 1 1 1 0", one, Cause::Form),
+        (b"X 1 0 1 0 1 1 1 10000000000001", two, Cause::Range),
+        (b"X 1 0 1 0 1 1 1 x", two, Cause::Form),
+        (b"X 1 0 1 0 1 1 1 0 0", two, Cause::Form),
+        (b"D 1000000000001 0 0 1 1", two, Cause::Range),
+        (b"X 1 0 0 0 1 1 1 1", two, Cause::Same),
+    ];
+    for (line, version, cause) in rows {
+        let Err(fault) = read(rt.alloc(), line, version) else {
+            return Err("taken".into());
+        };
+        assert_eq!(rt; fault, LineFault::Refused(cause), "at {line:?}");
+    }
     Ok(())
 }
 

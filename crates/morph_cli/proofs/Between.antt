@@ -94,7 +94,7 @@ reads_only NoMemory is = absurd (cc)
 module _ {App : Type 0} where
   pub record Between (c : Course App) (left : Option (List ℕ)) (new : Outputs) (r : ReaderView App) (values : Kept) (tally : Tally) (out : List ℕ) (last : Last) : Type 0 where
     pub goes : Goes c (accepted_by c.event_of r left) new (contents values) tally
-    pub takes : TakesOn (meaning_in c) c.input left r.closed r.lines goes.done
+    pub takes : TakesOn (meaning_in c) c.input left r.past r.lines goes.done
     pub layout : values.layout ≡ c.telling.layout
     pub app_is : r.app ≡ c.app
     pub size_is : r.size ≡ c.size
@@ -120,7 +120,7 @@ module _ {App : Type 0} where
       let facts : NewFacts c r = subst (NewFacts c) (sym new) (refl, refl, refl, refl, refl) in
       record {
         goes = goes_start c (accepted_by c.event_of r c.input) (contents values) tally (given_new c r new) opening none;
-        takes = subst (λ v. TakesOn (meaning_in c) c.input c.input v.closed v.lines []) (sym new) (takes_start (meaning_in c) c.limit c.input);
+        takes = subst (λ v. TakesOn (meaning_in c) c.input c.input v.past v.lines []) (sym new) (takes_start (meaning_in c) c.limit c.input);
         layout = layout_is ∙ tables_are;
         app_is = facts.0;
         size_is = facts.1;
@@ -180,8 +180,8 @@ module _ {App : Type 0} where
       state fates_are written empty seen adds sound made chosen last_told = record {
         goes = goes_batch c _ (accepted_by c.event_of r' left') new newer (contents values) (contents values') tally tally' (transactions_of batch) told a audit b.goes (simp length-map some) answers
             state fates_are written seen adds sound made (chosen ∙ ap (strategy_by c.settings.planning a.plan) b.last_is) (some_fates (contents values) batch told fates_are some);
-        takes = takes_batch (meaning_in c) c.input left left' r.closed r'.closed r.lines r'.lines b.goes.done batch b.takes (simp length-map some) unended
-            (subst (λ m. Takes left left' (ShowsBatch m r.closed r.lines (Ok (Batch batch)) r'.closed r'.lines)) (meaning_is c r b.app_is b.size_is) shows);
+        takes = takes_batch (meaning_in c) c.input left left' r.past r'.past r.lines r'.lines b.goes.done batch b.takes (simp length-map some) unended
+            (subst (λ m. Takes left left' (ShowsBatch m r.past r.lines (Ok (Batch batch)) r'.past r'.lines)) (meaning_is c r b.app_is b.size_is) shows);
         layout = layout_is ∙ b.layout;
         app_is = same.0 ∙ b.app_is;
         size_is = same.1 ∙ b.size_is;
@@ -210,8 +210,8 @@ module _ {App : Type 0} where
       by_fault : (e : ReaderFault) → AnswersNext (accepted_by c.event_of r left) (Err e) (accepted_by c.event_of r' left') →
           Takes left left' (ShowsNext c.event_of r (Err e) r') → (IsErrOf {T = Next} (Err e) ReadFault → r.lines.ended ≡ false) → Ends c left' (Err (fault_of e)) new
       by_fault ReadFault answers shows asked =
-          ends_read c _ new (contents values) tally left left' r.closed r.lines b.goes b.takes (asked refl)
-          (subst (λ m. Takes left left' (ShowsBatch m r.closed r.lines (Err ReadFault) r'.closed r'.lines)) (meaning_is c r b.app_is b.size_is) shows)
+          ends_read c _ new (contents values) tally left left' r.past r.lines b.goes b.takes (asked refl)
+          (subst (λ m. Takes left left' (ShowsBatch m r.past r.lines (Err ReadFault) r'.past r'.lines)) (meaning_is c r b.app_is b.size_is) shows)
       by_fault LongInput answers shows asked = ends_long c _ new (contents values) tally left' b.goes answers
       by_fault NoMemory answers shows asked = ends_memory left' refl b.goes
 

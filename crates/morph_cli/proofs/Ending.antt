@@ -10,6 +10,7 @@ use Rattle.event_reader.specs.declared.cause.Cause.{Cause}
 use Rattle.event_reader.specs.Steps.{Meaning}
 use Rattle.event_reader.specs.Lines.{front, within}
 use Rattle.event_reader.specs.Accepted.{Accepted, Ending, Ended, RefusedAt, CutOff, with_batch, accepted_within}
+use Rattle.event_reader.specs.declared.past.Past.{Past}
 use Rattle.event_reader.specs.Reader.{LinesView, new_reader, accepted_by, accepted_after, accepted_next, Takes}
 use Rattle.morph_engine.specs.Accounts.{Account}
 use Rattle.run_text.specs.Checks.{is_checked}
@@ -226,13 +227,13 @@ module _ {App : Type 0} where
       (ap (λ (o : Outputs). o.sink) written) in (line, cause, d.0, d.1))
 
   -- reading failed
-  pub ends_read : (c : Course App) (now : Option Accepted) (new : Outputs) (s : State) (tally : Tally) (left left' : Option (List ℕ)) (closed : ℕ) (lines : LinesView) →
-      (goes : Goes c now new s tally) → TakesOn (meaning_in c) c.input left closed lines goes.done → lines.ended ≡ false →
-      Takes left left' (λ got. accepted_next (meaning_in c) closed lines (front (lines.kept ++ got)) ≡ record { batches = []; ending = CutOff }) → Ends c left' (Err Read) new
-  ends_read c now new s tally left left' closed lines goes takes unended took =
+  pub ends_read : (c : Course App) (now : Option Accepted) (new : Outputs) (s : State) (tally : Tally) (left left' : Option (List ℕ)) (past : Past) (lines : LinesView) →
+      (goes : Goes c now new s tally) → TakesOn (meaning_in c) c.input left past lines goes.done → lines.ended ≡ false →
+      Takes left left' (λ got. accepted_next (meaning_in c) past lines (front (lines.kept ++ got)) ≡ record { batches = []; ending = CutOff }) → Ends c left' (Err Read) new
+  ends_read c now new s tally left left' past lines goes takes unended took =
       over_input c (λ input. EndsSo (meaning_in c) c.telling c.limit input left' c.old.sink (Err Read) new.sink) (λ input is.
-      takes_failed c.telling (meaning_in c) input left left' c.old.sink new.sink closed lines goes.done
-      (subst (λ told. TakesOn (meaning_in c) told left closed lines goes.done) is takes) unended took goes.runs.appended)
+      takes_failed c.telling (meaning_in c) input left left' c.old.sink new.sink past lines goes.done
+      (subst (λ told. TakesOn (meaning_in c) told left past lines goes.done) is takes) unended took goes.runs.appended)
 
   -- the input is too long
   pub ends_long : (c : Course App) (now : Option Accepted) (new : Outputs) (s : State) (tally : Tally) (left' : Option (List ℕ)) →

@@ -17,7 +17,7 @@ use Rattle.decision_model.specs.declared.counts.Last.{Last}
 use Rattle.morph_engine.specs.Accounts.{account_of}
 use Rattle.morph_engine.specs.Fates.{settled_fates}
 use Rattle.event_reader.specs.Accepted.{Accepted, with_batch}
-use Rattle.event_reader.specs.Reader.{new_reader, accepted_by, accepted_after, accepted_next, Takes, ShowsBatch}
+use Rattle.event_reader.specs.Reader.{new_reader, accepted_by, accepted_after, accepted_next, Takes, ShowsBatch, SameReader}
 use Rattle.batch_pipe.specs.declared.items.Sent.{Sent}
 use Rattle.batch_pipe.specs.declared.items.Ran.{Ran}
 use Rattle.batch_pipe.specs.declared.tail.Tail.{Tail}
@@ -29,7 +29,7 @@ use Rattle.morph_io.specs.Told.{HasRisen}
 use Rattle.std.proofs.lemmas.Bool.{cases_lt}
 use Rattle.morph_cli.specs.Faults.{fault_of}
 use Rattle.event_reader.specs.Lines.{front as front_lines}
-use Rattle.batch_pipe.specs.Reading.{Stand, stand, SameReader, Gives, with_batches}
+use Rattle.batch_pipe.specs.Reading.{Stand, stand, Gives, with_batches}
 use Rattle.batch_pipe.specs.Planning.{Stops, MayStop, ArePlansOf, plans_of}
 use Rattle.batch_pipe.specs.Running.{Manner, IsRun, AreRun, picked, state_after, came_of, last_after as pipe_last}
 use Rattle.batch_pipe.specs.Waiting.{PipeView, IsGoing, IsRound, new_pipe, or_else}
@@ -501,7 +501,7 @@ module _ {App : Type 0} where
 
   -- the source failed behind the batches that were told
   pub takes_over : (c : Course App) (tail : Tail) (middle at : Stand App) (new : Outputs) (s : State) (tally : Tally) (o : IsOverAt c tail middle at new s tally) →
-      TakesOn (meaning_in c) c.input middle.left middle.reader.closed middle.reader.lines o.goes.done
+      TakesOn (meaning_in c) c.input middle.left middle.reader.past middle.reader.lines o.goes.done
   takes_over c tail middle at new s tally o =
       let taken = o.read.shows in
       record {
@@ -511,17 +511,17 @@ module _ {App : Type 0} where
       }
     where
       meaning_along : (c : Course App) (middle : Stand App) → SameReader (new_reader c.app c.size c.limit) middle.reader → (more : List ℕ) →
-          accepted_after c.event_of middle.reader (front_lines (middle.reader.lines.kept ++ more)) ≡ accepted_next (meaning_in c) middle.reader.closed middle.reader.lines (front_lines (middle.reader.lines.kept ++ more))
+          accepted_after c.event_of middle.reader (front_lines (middle.reader.lines.kept ++ more)) ≡ accepted_next (meaning_in c) middle.reader.past middle.reader.lines (front_lines (middle.reader.lines.kept ++ more))
       meaning_along c middle same more =
-          ap (λ m. accepted_next m middle.reader.closed middle.reader.lines (front_lines (middle.reader.lines.kept ++ more))) (meaning_is c middle.reader same.0 same.1)
+          ap (λ m. accepted_next m middle.reader.past middle.reader.lines (front_lines (middle.reader.lines.kept ++ more))) (meaning_is c middle.reader same.0 same.1)
 
   pub ends_unread : {x : Result Finish Fault} (c : Course App) (middle : Stand App) (at : Stand App) (new : Outputs) (s : State) (tally : Tally) → x ≡ Err Read →
       IsOverAt c (Unread ReadFault) middle at new s tally → Ends c at.left x new
   ends_unread {x} c middle at new s tally failed o =
       subst (λ y. Ends c at.left y new) (sym failed)
-      (ends_read c (accepted_by c.event_of middle.reader middle.left) new s tally middle.left at.left middle.reader.closed middle.reader.lines o.goes
+      (ends_read c (accepted_by c.event_of middle.reader middle.left) new s tally middle.left at.left middle.reader.past middle.reader.lines o.goes
       (takes_over c (Unread ReadFault) middle at new s tally o) (o.stops.asked refl)
-      (subst (λ m. Takes middle.left at.left (ShowsBatch m middle.reader.closed middle.reader.lines (Err ReadFault) at.reader.closed at.reader.lines)) (meaning_is c middle.reader o.read.same.0 o.read.same.1) o.stops.shows))
+      (subst (λ m. Takes middle.left at.left (ShowsBatch m middle.reader.past middle.reader.lines (Err ReadFault) at.reader.past at.reader.lines)) (meaning_is c middle.reader o.read.same.0 o.read.same.1) o.stops.shows))
 
   -- ---- the ends of a run
 

@@ -3,7 +3,7 @@ ghost use Rattle.std.specs.Prelude.{◌≡◌, false, ◌<◌, ◌+◌, ◌*◌,
 ghost use Rattle.event_reader.specs.Accepted.{accepted_within};
 ghost use Rattle.event_reader.specs.declared.limits.TheConstants.{INPUT_BYTES};
 ghost use Rattle.event_reader.specs.Reader.{new_reader};
-ghost use Rattle.morph_base.specs.declared.limits.TheConstants.{FIRST_MAX};
+ghost use Rattle.event_reader.specs.Versions.{greatest_of};
 ghost use Rattle.morph_base.specs.declared.plan.Plan.{Plan};
 ghost use Rattle.morph_base.specs.Flat.{contents};
 ghost use Rattle.morph_base.specs.Plans.{IsPlan, IsSettledOf};
@@ -61,7 +61,8 @@ impl<A: EventApp> Ahead<A> {
         requires live { IsTrue opening.reader.live }
         requires layout { opening.engine.layout
             ≡ layout_of (A.table_count opening.reader.app) opening.reader.size }
-        requires small { IsUpTo FIRST_MAX (contents opening.engine) }
+        requires small { IsUpTo (greatest_of opening.reader.past.version)
+            (contents opening.engine) }
         ensures pipe { IfOk result
             (λ new. new.pipe ≡ new_pipe opening.reader opening.engine ahead) }
         ensures out { IfOk result (λ new. new.out ≡ opening.out) }

@@ -3,6 +3,7 @@ use Rattle.std.proofs.Common.{ℕ, ◌<◌, ◌≤◌, [], ◌∷◌, min, refl,
 use Rattle.event_reader.specs.Forms.{IsForm}
 use Rattle.event_reader.specs.Limits.{generated_events, generated_ids}
 use Rattle.event_reader.specs.Draws.{draw_at}
+use Rattle.event_reader.specs.declared.version.Version.TheVariants.{One}
 use Rattle.event_reader.specs.Generated.{IsEventLine}
 use Rattle.event_reader.specs.Numbers.{are_in}
 use Rattle.event_reader.specs.PlainLines.{plain_line}
@@ -14,12 +15,12 @@ use Rattle.toll_app.specs.Toll.{segments, miles, report, reports, toll_kinds, to
 use Rattle.toll_app.specs.TollDraws.{toll_drawn}
 
 -- the line of a report
-report_form : (size : ℕ) → size ≤ generated_ids → IsForm (reports size).form
+report_form : (size : ℕ) → size ≤ generated_ids → IsForm (reports One size).form
 report_form size few =
-    is_form (reports size).form (omega arith) (omega arith) (omega arith, (omega arith, (omega arith, (omega arith, tt)))) (omega arith)
+    is_form (reports One size).form (omega arith) (omega arith) (omega arith, (omega arith, (omega arith, (omega arith, tt)))) (omega arith)
 
 report_fits : (size i vehicle segment speed : ℕ) → size ≤ generated_ids → 0 < i → i ≤ generated_events → vehicle < size → segment < min size 100 → speed ≤ 100
-    → Fits (reports size).form (i ∷ vehicle ∷ segment ∷ speed ∷ [])
+    → Fits (reports One size).form (i ∷ vehicle ∷ segment ∷ speed ∷ [])
 unfolding are_in
 report_fits size i vehicle segment speed few start last inside inside' slow = record {
   count = refl;
@@ -32,13 +33,13 @@ report_fits size i vehicle segment speed few start last inside inside' slow = re
 }
 
 report_line : (size i vehicle segment speed : ℕ) → size ≤ generated_ids → 0 < i → i ≤ generated_events → vehicle < size → segment < min size 100 → speed ≤ 100
-    → IsEventLine (toll_event size) i (plain_line 84 (i ∷ vehicle ∷ segment ∷ speed ∷ []))
+    → IsEventLine (toll_event size One) i (plain_line 84 (i ∷ vehicle ∷ segment ∷ speed ∷ []))
 report_line size i vehicle segment speed few start last inside inside' slow =
-    kind_line (toll_kinds size) (reports size) i (i ∷ vehicle ∷ segment ∷ speed ∷ []) (report i vehicle segment speed) (report_form size few)
+    kind_line (toll_kinds One size) (reports One size) i (i ∷ vehicle ∷ segment ∷ speed ∷ []) (report One i vehicle segment speed) (report_form size few)
     (report_fits size i vehicle segment speed few start last inside inside' slow) (omega arith) (omega arith) refl refl refl
 
 pub toll_generates : (size i state : ℕ) → 0 < size → size ≤ generated_ids → 0 < i → i ≤ generated_events
-    → IsEventLine (toll_event size) i (toll_drawn size i state).line
+    → IsEventLine (toll_event size One) i (toll_drawn size i state).line
 toll_generates size i state some few start last =
     let slow : draw_at state 3 101 ≤ 100 = omega (arith, draw_below state 3 101 (omega arith)) in
     report_line size i _ _ _ few start last (draw_below state 1 size some) (draw_below state 2 (min size 100) (omega arith)) slow

@@ -3,13 +3,14 @@ use Rattle.std.specs.Prelude.{ℕ, ◌+◌, ◌*◌, ◌==◌, codes, if◌then�
 use Rattle.morph_base.specs.declared.limits.TheConstants.{FIRST_MAX}
 use Rattle.morph_base.specs.declared.key.Key.{Key}
 use Rattle.morph_base.specs.declared.operation.Func.TheVariants.{Blend, Set, Enter, Charge}
-use Rattle.morph_base.specs.Operations.{op_of}
 use Rattle.morph_base.specs.Transactions.{Transaction}
 use Rattle.event_reader.specs.declared.cause.Cause.{Cause}
 use Rattle.event_reader.specs.declared.ranges.Range.{Range}
+use Rattle.event_reader.specs.declared.version.Version.{Version}
 use Rattle.event_reader.specs.Forms.{Kind, form_of, event_by}
 use Rattle.event_reader.specs.Ranges.{times, ids}
 use Rattle.event_reader.specs.Steps.{Meaning}
+use Rattle.event_reader.specs.Versions.{op_in}
 
 -- the printed names of the tables
 abbrev pub table_name : ℕ → List ℕ
@@ -42,27 +43,27 @@ miles = record { least = 0; greatest = 100 }
 -- `T ts vehicle segment speed`: the segment's average takes in the speed, in hundredths; the vehicle's place is one more
 -- than the segment; the segment's count rises unless the vehicle was there; and the toll of the segment, by its average and
 -- its count before, is added to the vehicle's bill, which is at most 1,000,000
-abbrev pub report : (ts vehicle segment speed : ℕ) → Transaction
-report ts vehicle segment speed = record {
+abbrev pub report : Version → (ts vehicle segment speed : ℕ) → Transaction
+report version ts vehicle segment speed = record {
   ts = ts;
-  ops = op_of Blend (speed_of segment) [] (100 * speed)
-      ∷ op_of Set (place_of vehicle) [] (segment + 1)
-      ∷ op_of Enter (count_of segment) (place_of vehicle ∷ []) (segment + 1)
-      ∷ op_of Charge (bill_of vehicle) (speed_of segment ∷ count_of segment ∷ []) 1000000
+  ops = op_in version Blend (speed_of segment) [] (100 * speed)
+      ∷ op_in version Set (place_of vehicle) [] (segment + 1)
+      ∷ op_in version Enter (count_of segment) (place_of vehicle ∷ []) (segment + 1)
+      ∷ op_in version Charge (bill_of vehicle) (speed_of segment ∷ count_of segment ∷ []) 1000000
       ∷ [];
 }
 
 -- what the numbers of a line say, in their places
-abbrev pub report_of : List ℕ → Result Transaction Cause
-report_of ns = Ok (report (slice_index ns 0) (slice_index ns 1) (slice_index ns 2) (slice_index ns 3))
+abbrev pub report_of : Version → List ℕ → Result Transaction Cause
+report_of version ns = Ok (report version (slice_index ns 0) (slice_index ns 1) (slice_index ns 2) (slice_index ns 3))
 
 -- the only kind of event line: a report begins with T and has four numbers
-abbrev pub reports : (size : ℕ) → Kind
-reports size = record { form = form_of 84 (times ∷ ids size ∷ segments size ∷ miles ∷ []); says = report_of }
+abbrev pub reports : Version → (size : ℕ) → Kind
+reports version size = record { form = form_of 84 (times ∷ ids size ∷ segments size ∷ miles ∷ []); says = report_of version }
 
-abbrev pub toll_kinds : (size : ℕ) → List Kind
-toll_kinds size = reports size ∷ []
+abbrev pub toll_kinds : Version → (size : ℕ) → List Kind
+toll_kinds version size = reports version size ∷ []
 
--- what the words of a line say
+-- what the words of a line say in an input of each version
 abbrev pub toll_event : (size : ℕ) → Meaning
-toll_event size = event_by (toll_kinds size)
+toll_event size version = event_by (toll_kinds version size)

@@ -1,5 +1,5 @@
 use crate::{BILLS, COUNTS, PLACES, SPEEDS, Toll};
-use event_reader::{Cause, Draws, EventApp, LineFault, Words};
+use event_reader::{Cause, Draws, EventApp, LineFault, Version, Words};
 use morph_base::{Event, Func, Key, Op};
 use morph_io::LineBuf;
 use std::alloc::Global;
@@ -9,10 +9,10 @@ fn key(table: u8, id: u32) -> Key {
     Key { table, id }
 }
 
-/// What a line says where there are 10 vehicles and 10 segments.
-fn read(alloc: Global, line: &[u8]) -> Result<Event, LineFault> {
+/// What a line says in an input of this version where there are 10 vehicles and 10 segments.
+fn read(alloc: Global, line: &[u8], version: Version) -> Result<Event, LineFault> {
     match Words::split(line) {
-        Some(words) => Toll.read_event(alloc, &words, 10),
+        Some(words) => Toll.read_event(alloc, &words, 10, version),
         None => Err(LineFault::Refused(Cause::Form)),
     }
 }
@@ -47,7 +47,7 @@ fn reports_say_their_operations(rt: HostRuntime) -> Result<(), Fail> {
         ),
     ];
     for (line, ts, ops) in rows {
-        let Ok(event) = read(rt.alloc(), line) else {
+        let Ok(event) = read(rt.alloc(), line, Version::One) else {
             return Err("refused".into());
         };
         assert_eq!(rt; event.ts, ts, "at {line:?}");
@@ -80,7 +80,7 @@ fn causes_come_in_their_order(rt: HostRuntime) -> Result<(), Fail> {
         (b"T 1 0 0 101", Cause::Range),
     ];
     for (line, cause) in rows {
-        let Err(fault) = read(rt.alloc(), line) else {
+        let Err(fault) = read(rt.alloc(), line, Version::One) else {
             return Err("taken".into());
         };
         assert_eq!(rt; fault, LineFault::Refused(cause), "at {line:?}");
@@ -91,7 +91,7 @@ fn causes_come_in_their_order(rt: HostRuntime) -> Result<(), Fail> {
 #[test]
 fn a_table_without_ids_has_no_line(rt: HostRuntime) -> Result<(), Fail> {
     let words = Words::split(b"T 1 0 0 10").ok_or("no words")?;
-    let Err(fault) = Toll.read_event(rt.alloc(), &words, 0) else {
+    let Err(fault) = Toll.read_event(rt.alloc(), &words, 0, Version::One) else {
         return Err("taken".into());
     };
     assert_eq!(rt; fault, LineFault::Refused(Cause::Range));

@@ -4,8 +4,8 @@ ghost use Rattle.event_reader.specs.Reader.{GivesEvent};
 ghost use Rattle.toll_app.specs.Toll.{key, segments, table_name, reports, toll_event};
 
 use crate::generating::write_report;
-use event_reader::{Cause, Draws, EventApp, Form, LineFault, Range, TIMES, Words};
-use morph_base::{Event, Func, Key, List, Op};
+use event_reader::{Cause, Draws, EventApp, Form, LineFault, Range, TIMES, Version, Words};
+use morph_base::{Event, Func, Key, List};
 use morph_io::LineBuf;
 use std::alloc::Global;
 
@@ -54,8 +54,8 @@ fn key(table: u8, id: u64) -> Key
 }
 
 /// Reads the words of a report.
-fn report(alloc: Global, words: &Words<'_>, size: u32) -> Result<Event, LineFault>
-    ensures { GivesEvent (said_in (reports size) words.now) result }
+fn report(alloc: Global, words: &Words<'_>, size: u32, version: Version) -> Result<Event, LineFault>
+    ensures { GivesEvent (said_in (reports version size) words.now) result }
 {
     let places = [TIMES, Range::ids(size), segments(size), MILES];
     let numbers = words.read(&Form::new(b'T', &places))?;
@@ -63,10 +63,10 @@ fn report(alloc: Global, words: &Words<'_>, size: u32) -> Result<Event, LineFaul
     let (average, count) = (key(SPEEDS, segment), key(COUNTS, segment));
     let (place, bill) = (key(PLACES, vehicle), key(BILLS, vehicle));
     let mut ops = List::with_room(alloc, 4)?;
-    ops.add(Op::new(Func::Blend, average, &[], 100 * speed));
-    ops.add(Op::new(Func::Set, place, &[], segment + 1));
-    ops.add(Op::new(Func::Enter, count, &[place], segment + 1));
-    ops.add(Op::new(Func::Charge, bill, &[average, count], GREATEST_BILL));
+    ops.add(version.op(Func::Blend, average, &[], 100 * speed));
+    ops.add(version.op(Func::Set, place, &[], segment + 1));
+    ops.add(version.op(Func::Enter, count, &[place], segment + 1));
+    ops.add(version.op(Func::Charge, bill, &[average, count], GREATEST_BILL));
     Ok(Event { ts, ops })
 }
 
@@ -79,13 +79,13 @@ impl EventApp for Toll {
 
     ghost name_of = { λ _ table. table_name table };
 
-    ghost event_of = { λ _ size words. toll_event size words };
+    ghost event_of = { λ _ size version words. toll_event size version words };
 
     ghost generated = { λ _ size i state. toll_drawn size i state };
 
-    ghost gives_valid = { λ _ size words e. toll_is_valid size words e };
+    ghost gives_valid = { λ _ size version words e. toll_is_valid size version words e };
 
-    ghost causes = { λ _ size words cause. toll_causes size words cause };
+    ghost causes = { λ _ size version words cause. toll_causes size version words cause };
 
     ghost generates = { λ _ size i state some few start last. toll_generates size i state some
         few start last };
@@ -103,9 +103,15 @@ impl EventApp for Toll {
         }
     }
 
-    fn read_event(&self, alloc: Global, words: &Words<'_>, size: u32) -> Result<Event, LineFault> {
+    fn read_event(
+        &self,
+        alloc: Global,
+        words: &Words<'_>,
+        size: u32,
+        version: Version,
+    ) -> Result<Event, LineFault> {
         match words.letter() {
-            Some(b'T') => report(alloc, words, size),
+            Some(b'T') => report(alloc, words, size, version),
             _ => Err(LineFault::Refused(Cause::Form)),
         }
     }

@@ -28,6 +28,12 @@ fn events_commit_or_abort(rt: HostRuntime) -> Result<(), Fail> {
                 0,
                 b"1 C 1000000000000 0\n2 A\nacct 0 1000000000000\ncommitted 1 aborted 1\n",
             ),
+            // what has to stay is there, and then it is not
+            (
+                b"morph 2\nD 1 0 0 100 5\nX 2 0 1 0 1 60 1 40\nX 3 0 1 0 1 1 1 40\n",
+                0,
+                b"1 C 100 5\n2 C 40 4 60 1\n3 A\nacct 0 40\nacct 1 60\nasset 0 4\nasset 1 1\ncommitted 2 aborted 1\n",
+            ),
             // what a batch does not touch stays as the one before left it
             (
                 b"D 1 0 0 100 5\nP\nD 2 1 1 1 1\n",
@@ -83,6 +89,15 @@ fn lines_are_refused(rt: HostRuntime) -> Result<(), Fail> {
             (b"D 007 0 0 1 1\n", 3, form),
             (b"D 1  0 0 1 1\n", 3, form),
             (b"T 1 0 0 10\n", 3, form),
+            (b"D 1 0 0 10000000000000 0\n", 3, range),
+            (b"X 1 0 1 0 1 1 1 0\n", 3, form),
+            (b"#\nmorph 2\n", 3, b"refused line 2: form\n"),
+            (b"morph 2 \n", 3, form),
+            (
+                b"morph 2\nD 1 0 0 10000000000001 0\n",
+                3,
+                b"refused line 2: range\n",
+            ),
         ],
     )
 }
@@ -99,6 +114,7 @@ fn comments_and_last_lines(rt: HostRuntime) -> Result<(), Fail> {
                 b"1 C 1 1\nacct 0 1\nasset 0 1\ncommitted 1 aborted 0\n",
             ),
             (b"#x\r\n\r\nD 1 0 0 1", 3, b"refused line 3: form\n"),
+            (b"morph 2", 0, b"committed 0 aborted 0\n"),
         ],
     )
 }

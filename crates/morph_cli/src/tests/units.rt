@@ -104,6 +104,35 @@ fn no_strategy_changes_the_answer(rt: HostRuntime) -> Result<(), Fail> {
     Ok(())
 }
 
+/// Values up to 10^13, of which the second transfer finds too little.
+const GREATER: &[u8] =
+    b"morph 2\r\nD 1 0 0 10000000000000 5\nX 2 0 1 0 1 1 1 9999999999999\nX 3 0 1 0 1 1 1 9999999999999\n";
+
+const GREATER_TEXT: &[u8] =
+    b"1 C 10000000000000 5\n2 C 9999999999999 4 1 1\n3 A\nacct 0 9999999999999\nacct 1 1\nasset 0 4\nasset 1 1\ncommitted 2 aborted 1\n";
+
+#[test]
+fn version_2_has_greater_values_and_a_floor(rt: HostRuntime) -> Result<(), Fail> {
+    for way in WAYS {
+        for (unit, ahead) in [
+            (b"unit=op".as_slice(), b"ahead=0".as_slice()),
+            (b"unit=chain", b"ahead=2"),
+        ] {
+            let words = [
+                b"app=ledger".as_slice(),
+                b"workers=2",
+                unit,
+                ahead,
+                way.explore_word,
+                way.abort_word,
+            ];
+            let ran = run_words(&rt, rt.alloc(), &words, GREATER)?;
+            assert_eq!(rt; (ran.status, ran.sink.bytes()), (0, GREATER_TEXT));
+        }
+    }
+    Ok(())
+}
+
 /// The second event asks for too much of an asset, and its other operations hear of that at once.
 #[test]
 fn a_failure_is_spread_at_once(rt: HostRuntime) -> Result<(), Fail> {

@@ -1,7 +1,8 @@
 use Rattle.std.proofs.Common.{List, Some, refl, ap, sym, subst, ◌∙◌, ◌+◌, [], ◌∷◌, ◌++◌, length, arith}
 use Rattle.std.proofs.lemmas.List.{length-append}
 use Rattle.morph_base.specs.declared.key.Layout.{Layout}
-use Rattle.morph_base.specs.declared.limits.TheConstants.{FIRST_MAX}
+use Rattle.event_reader.specs.Versions.{greatest_of}
+use Rattle.event_reader.proofs.Opening.{keeps_same, same_both}
 use Rattle.rtrb.specs.Ring.{sent}
 use Rattle.batch_pipe.specs.declared.items.Sent.{Sent}
 use Rattle.batch_pipe.specs.Reading.{stand}
@@ -13,11 +14,11 @@ pub planning-init : goal.planning-init
 planning-init g c =
     let p = c.args.planner.now in
     record {
-      plans = ahead_nothing g.A.EventApp.event_of (layout_by g.A.EventApp.table_count p.reader) FIRST_MAX (stand p.reader (g.S.Source.left c.args.source.now)) (sent p.ring) p.sent;
+      plans = ahead_nothing g.A.EventApp.event_of (layout_by g.A.EventApp.table_count p.reader) (greatest_of p.reader.past.version) (stand p.reader (g.S.Source.left c.args.source.now)) (sent p.ring) p.sent;
       ring = ((refl, refl, refl, refl), refl);
       enough = omega arith;
       able = c.requires.able;
-      same = (refl, refl, refl);
+      same = (refl, refl, refl, keeps_same p.reader);
       never_falls = omega arith;
     }
 
@@ -31,8 +32,9 @@ planning-preserved g c =
     let pushed = c.push_reserved.ensures in
     let now_same = c.in-Ok.ensures.same in
     record {
-      plans = ahead_more g.A.EventApp.event_of layout FIRST_MAX x i.plans c.in-Ok.ensures.plan
-          (subst (λ (l : Layout). IsReady l FIRST_MAX c.in-Ok.plan) (same_layout g.A.EventApp.table_count p.reader c.planning.planner.reader i.same) c.in-Ok.ensures.ready)
+      plans = ahead_more g.A.EventApp.event_of layout _ (greatest_of c.read_plan.new.reader.past.version) x i.plans c.in-Ok.ensures.plan
+          (λ some. ap greatest_of (now_same.3.stays (omega (arith, some, i.plans.number_is, i.able.counted))))
+          (subst (λ (l : Layout). IsReady l (greatest_of c.read_plan.new.reader.past.version) c.in-Ok.plan) (same_layout g.A.EventApp.table_count p.reader c.planning.planner.reader i.same) c.in-Ok.ensures.ready)
           (pushed.sent.0 ∙ ap (λ l. l ++ x ∷ []) looked.1) refl refl;
       ring = same_producer p.ring c.is_full.new.self c.push_reserved.new.self
           (same_producer p.ring c.planning.planner.ring c.is_full.new.self i.ring looked.0) pushed.ring;
@@ -42,7 +44,7 @@ planning-preserved g c =
           let both = length-append (sent c.is_full.new.self) (x ∷ []) in
           omega (arith, i.enough, looked.2, pushed.sent.1, before, after, both);
       able = record { live = c.in-Ok.ensures.live; counted = omega (arith, i.able.counted, c.in-Ok.ensures.counted) };
-      same = (now_same.0 ∙ i.same.0, now_same.1 ∙ i.same.1, now_same.2 ∙ i.same.2);
+      same = same_both p.reader c.planning.planner.reader c.read_plan.new.reader i.same now_same;
       never_falls = omega (arith, i.never_falls, c.in-Ok.ensures.never_falls);
     }
 
@@ -51,6 +53,8 @@ returns-in-Err-clause-plans g c =
     let p = c.args.planner.now in
     let layout : Layout = layout_by g.A.EventApp.table_count p.reader in
     let looked = c.is_full.ensures.looked in
-    subst (λ (l : List Sent). PlansAhead g.A.EventApp.event_of layout FIRST_MAX (stand p.reader (g.S.Source.left c.args.source.now)) (sent p.ring) p.sent
+    let i = c.planning.invariant in
+    subst (λ (l : List Sent). PlansAhead g.A.EventApp.event_of layout (greatest_of c.read_plan.new.reader.past.version) (stand p.reader (g.S.Source.left c.args.source.now)) (sent p.ring) p.sent
     (Some c.in-Err.tail) (stand c.read_plan.new.reader (g.S.Source.left c.read_plan.new.source)) l c.planning.planner.sent) (sym looked.1)
-    (ahead_stop g.A.EventApp.event_of layout FIRST_MAX c.in-Err.tail c.planning.invariant.plans c.in-Err.ensures.tail)
+    (ahead_stop g.A.EventApp.event_of layout _ (greatest_of c.read_plan.new.reader.past.version) c.in-Err.tail i.plans c.in-Err.ensures.tail
+    (λ some. ap greatest_of (c.in-Err.ensures.same.3.stays (omega (arith, some, i.plans.number_is, i.able.counted)))))

@@ -1,4 +1,5 @@
 use Rattle.std.proofs.Common.{◌+◌, ◌*◌, ap, ◌∙◌, min}
+use Rattle.event_reader.specs.Limits.{greatest_number}
 use Rattle.event_reader.proofs.Digits.{all_digits_more, value_more}
 use Rattle.event_reader.proofs.number.read_number.Goals as goal
 
@@ -6,6 +7,6 @@ pub digits-preserved : goal.digits-preserved
 digits-preserved c = record {
   digits = all_digits_more c.args.word.now c.digits.byte-index c.digits-test.true c.if-byte-lt48.false c.if-byte-gt57.false c.digits.invariant.digits;
   value = c.min-value.ensures
-      ∙ ap (λ d. min (10 * c.digits.value + d) 1000000000001) c.from.ensures
-      ∙ value_more c.args.word.now c.digits.byte-index c.digits.value 1000000000001 c.digits-test.true c.if-byte-lt48.false c.if-byte-gt57.false c.digits.invariant.value;
+      ∙ ap (λ d. min (10 * c.digits.value + d) (greatest_number + 1)) c.from.ensures
+      ∙ value_more c.args.word.now c.digits.byte-index c.digits.value (greatest_number + 1) c.digits-test.true c.if-byte-lt48.false c.if-byte-gt57.false c.digits.invariant.value;
 }

@@ -2,12 +2,7 @@ use Rattle.event_reader.specs.declared.limits.TheConstants.{INPUT_BYTES}
 use Rattle.morph_cli.specs.declared.fault.Fault.TheVariants.{OutOfMemory}
 use Rattle.morph_cli.specs.Outputs.{outputs_of}
 use Rattle.morph_cli.proofs.Between.{course_of, error_is, ends_at_once, told_at_once}
-use Rattle.morph_base.specs.declared.limits.TheConstants.{FIRST_MAX}
-use Rattle.morph_cli.proofs.Bounds.{opens_small}
 use Rattle.morph_cli.proofs.run.run.Goals as goal
-
-pub new-ahead-requires-clause-small : goal.new-ahead-requires-clause-small
-new-ahead-requires-clause-small g c κs outlives = opens_small FIRST_MAX _ c.in_ok-opening.ensures.opening
 
 -- memory is refused before the first batch, for the run or for its pipe
 

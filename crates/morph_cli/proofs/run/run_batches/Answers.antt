@@ -1,4 +1,4 @@
-use Rattle.std.proofs.Common.{inl, inr, refl, ap, sym, ◌∙◌, arith, lit≤}
+use Rattle.std.proofs.Common.{inl, inr, refl, ap, sym, ◌∙◌, arith, le_trans, lit≤}
 use Rattle.run_text.specs.declared.tally.Tally.{Tally}
 use Rattle.morph_cli.proofs.Takings.{error_same, few_batches, never_read, between_same, ends_taken, told_taken, between_taken, shown_taken, watch_taken}
 use Rattle.morph_cli.proofs.Watches.{if_posted}
@@ -14,7 +14,7 @@ use Rattle.morph_cli.proofs.Between.{closing_of, closing_last, course_of, error_
 use Rattle.morph_cli.proofs.Ending.{ends_complete, ends_refused, ends_cut, told_at_end, told_cut_at_end}
 use Rattle.morph_cli.proofs.Noting.{noted_so, risen_in_part}
 use Rattle.morph_cli.proofs.Turns.{cut_text}
-use Rattle.morph_base.specs.declared.limits.TheConstants.{FIRST_MAX}
+use Rattle.event_reader.specs.Versions.{greatest_of}
 use Rattle.morph_base.specs.Flat.{contents}
 use Rattle.morph_base.proofs.BoundLaws.{fold_batch-within}
 use Rattle.morph_cli.proofs.Bounds.{opens_small, batch_small}
@@ -31,7 +31,7 @@ batches-init g c =
         state = shown.state ∙ sym c.requires.opening;
       }) c.requires.shown;
       watch = c.requires.watch.0;
-      small = opens_small FIRST_MAX _ c.requires.opening;
+      small = opens_small (greatest_of c.args.progress.now.reader.past.version) _ c.requires.opening;
       run = between_start (course_of g.A.EventApp.event_of (g.A.EventApp.table_count c.args.job.now.app) (g.A.EventApp.name_of c.args.job.now.app) c.args.job.now.app c.args.job.now.settings INPUT_BYTES (g.S.Source.left c.args.source.now)
           (outputs_of (g.K.Sink.written c.args.sink.now) (g.N.Sink.written c.args.notes.now)))
           c.args.progress.now.reader c.args.progress.now.engine c.args.tally.now c.args.progress.now.out c.args.progress.now.last (layout_of (g.A.EventApp.table_count c.args.job.now.app) c.args.job.now.settings.size) c.requires.reader c.requires.layout
@@ -57,7 +57,7 @@ returns-in_err-batch-clause-told g c =
 pub take_batch-requires-clause-small : goal.take_batch-requires-clause-small
 take_batch-requires-clause-small g c κs outlives =
     let valid = rw c.in-Batch.is at c.in_ok-batch.ensures.valid in
-    batch_small FIRST_MAX c.in-Batch.batch (contents c.batches.progress.engine) valid.0 valid.1 valid.3 c.batches.invariant.small
+    batch_small (greatest_of c.next_batch.new.self.past.version) c.in-Batch.batch (contents c.batches.progress.engine) valid.0 valid.1 valid.3 (λ key. le_trans (c.batches.invariant.small key) c.in_ok-batch.ensures.same.3.rises)
 
 pub take_batch-requires-clause-room : goal.take_batch-requires-clause-room
 take_batch-requires-clause-room g c κs outlives a valid sound = has_room a c.batches.invariant.run (lit≤ tt) valid sound
@@ -102,11 +102,13 @@ batches-preserved g c =
     let live = rw c.in-Batch.is at c.in_ok-batch.ensures.goes_on in
     record {
       run = between_same c.in_ok-take_batch-in-Batch.ensures.reader
-          (between_taken (g.S.Source.left c.next_batch.new.source) c.next_batch.new.self _ _ c.batches.invariant.run refl refl c.batches.invariant.shown c.batches.invariant.watch answers valid.0 _ _ _ _ _ _ _ c.in_ok-take_batch-in-Batch.ensures.takes shows counted c.in_ok-batch.ensures.bound c.in_ok-batch.ensures.same c.in_ok-batch.ensures.unended live
+          (between_taken (g.S.Source.left c.next_batch.new.source) c.next_batch.new.self _ _ c.batches.invariant.run refl refl c.batches.invariant.shown c.batches.invariant.watch answers valid.0 _ _ _ _ _ _ _ c.in_ok-take_batch-in-Batch.ensures.takes shows counted c.in_ok-batch.ensures.bound (c.in_ok-batch.ensures.same.0, c.in_ok-batch.ensures.same.1, c.in_ok-batch.ensures.same.2) c.in_ok-batch.ensures.unended live
           c.in_ok-take_batch-in-Batch.ensures.layout c.in_ok-take_batch-in-Batch.ensures.empty);
       shown = shown_taken (g.S.Source.left c.next_batch.new.source) c.next_batch.new.self _ _ c.batches.invariant.run refl refl c.batches.invariant.shown c.batches.invariant.watch answers valid.0 _ _ _ _ _ _ c.in_ok-take_batch-in-Batch.ensures.takes c.in_ok-take_batch-in-Batch.ensures.layout;
       watch = watch_taken (g.S.Source.left c.next_batch.new.source) c.next_batch.new.self _ _ c.batches.invariant.run refl refl c.batches.invariant.shown c.batches.invariant.watch answers valid.0 _ _ _ _ _ _ c.in_ok-take_batch-in-Batch.ensures.takes;
-      small = rw c.in_ok-take_batch-in-Batch.ensures.takes.0.state (fold_batch-within FIRST_MAX c.in-Batch.batch (contents c.batches.progress.engine) valid.1 valid.3 c.batches.invariant.small);
+      small = rw (c.in_ok-take_batch-in-Batch.ensures.takes.0.state, c.in_ok-take_batch-in-Batch.ensures.reader)
+          (fold_batch-within (greatest_of c.next_batch.new.self.past.version) c.in-Batch.batch (contents c.batches.progress.engine) valid.1 valid.3
+          (λ key. le_trans (c.batches.invariant.small key) c.in_ok-batch.ensures.same.3.rises));
       source_faults = omega (arith, c.batches.invariant.source_faults, c.in_ok-batch.ensures.never_falls);
       sink_faults = omega (arith, c.batches.invariant.sink_faults, c.in_ok-take_batch-in-Batch.ensures.sink_faults);
       notes_faults = omega (arith, c.batches.invariant.notes_faults, c.in_ok-take_batch-in-Batch.ensures.notes_faults);

@@ -1,7 +1,7 @@
 use Rattle.std.proofs.Common.{◌+◌, ◌-◌, ◌≤◌}
 use Rattle.event_reader.specs.declared.limits.TheConstants.{INPUT_BYTES}
 use Rattle.std.specs.Prelude.{IfSome, IsSome, IsTrue}
-use Rattle.morph_base.specs.declared.limits.TheConstants.{FIRST_MAX}
+use Rattle.event_reader.specs.Versions.{greatest_of}
 use Rattle.morph_base.specs.Flat.{contents}
 use Rattle.morph_base.specs.States.{IsUpTo}
 use Rattle.morph_cli.specs.Batches.{IsShown}
@@ -14,7 +14,7 @@ invariant-batches g l = record {
   run : Between (course_of g.A.EventApp.event_of (g.A.EventApp.table_count l.job.app) (g.A.EventApp.name_of l.job.app) l.job.app l.job.settings INPUT_BYTES (g.S.Source.left l.initial.source)
       (outputs_of (g.K.Sink.written l.initial.sink) (g.N.Sink.written l.initial.notes)))
       (g.S.Source.left l.source) (outputs_of (g.K.Sink.written l.sink) (g.N.Sink.written l.notes)) l.progress.reader l.progress.engine l.tally l.progress.out l.progress.last;
-  small : IsUpTo FIRST_MAX (contents l.progress.engine);
+  small : IsUpTo (greatest_of l.progress.reader.past.version) (contents l.progress.engine);
   shown : IfSome l.progress.watching (IsShown l.progress.engine.layout l.tally.batches (contents l.progress.engine));
   watch : IsSome l.progress.watching → IsTrue l.job.settings.watch;
   source_faults : g.S.Source.faults l.initial.source ≤ g.S.Source.faults l.source;

@@ -1,8 +1,9 @@
-use Rattle.std.proofs.Common.{◌≡◌, ℕ, ◌+◌, ◌≤◌, [], ◌++◌, List, length, true, false, Option, Some, None, refl, ap, sym, subst, ◌∙◌, arith, inl, inr, ◌⊎◌}
+use Rattle.std.proofs.Common.{◌≡◌, ℕ, ◌+◌, ◌<◌, ◌≤◌, le_trans, [], ◌++◌, List, length, true, false, Option, Some, None, refl, ap, sym, subst, ◌∙◌, arith, inl, inr, ◌⊎◌}
 use Rattle.std.specs.Prelude.{All, IsTrue}
+use Rattle.std.proofs.lemmas.List.{length-append}
 use Rattle.std.proofs.lemmas.List.Elements.{All-append}
 use Rattle.morph_base.specs.declared.key.Layout.{Layout}
-use Rattle.morph_base.specs.declared.limits.TheConstants.{FIRST_MAX}
+use Rattle.event_reader.specs.Versions.{greatest_of}
 use Rattle.morph_base.specs.Flat.{contents}
 use Rattle.event_reader.specs.Reader.{ReaderView}
 use Rattle.rtrb.specs.Ring.{sent, received, known_items, known_free, producer_capacity}
@@ -12,7 +13,7 @@ use Rattle.batch_pipe.specs.Planning.{IsReady, PlansAhead, CanPlan, layout_by}
 use Rattle.batch_pipe.specs.Running.{Manner, manner, somes, one_or_none}
 use Rattle.batch_pipe.specs.Waiting.{PipeView, IsGoing, IsRound}
 use Rattle.batch_pipe.specs.Inside.{view_of}
-use Rattle.batch_pipe.proofs.Ahead.{same_layout}
+use Rattle.batch_pipe.proofs.Ahead.{same_layout, ready_as, waits_ready, halves_keep}
 use Rattle.batch_pipe.proofs.Bounds.{state_after-within}
 use Rattle.batch_pipe.proofs.Desks.{empty_is}
 use Rattle.batch_pipe.proofs.Rounds.{round_is, round_stopped, next_numbered, all_back, all_front, planning_is, not_planning, untold, some_waits, one_first, bool_cases, waiting_is, if_none, open_after, given, not_asked}
@@ -69,6 +70,7 @@ pub run_halves-stop-requires-clause-waiting : goal.run_halves-stop-requires-clau
 run_halves-stop-requires-clause-waiting g c κs within =
     let p = c.self.inside in
     let i = c.self.invariant in
+    let high = greatest_of c.read_first.new.planner.reader.past.version in
     let a : PipeView g.row.A.Denot = view_of p in
     let layout : Layout = layout_by g.A.EventApp.table_count p.planner.reader in
     let f = c.in-Ok.ensures.plans in
@@ -77,11 +79,12 @@ run_halves-stop-requires-clause-waiting g c κs within =
     let one = one_first a c.in-Ok.first c.asks_first-asked.result c.is_none-planning.result c.cached_slots.result going c.cached_slots.ensures c.is_none-planning.ensures c.asks_first-asked.ensures
     c.in-Ok.ensures.asked (λ e. ap given (c.in-Ok.ensures.idle e).0) in
     record {
-      high = FIRST_MAX;
-      small = i.small;
-      first_ready = subst (λ (l : Layout). All (λ (x : Sent). IsReady l FIRST_MAX x.plan) first) (sym i.layout)
-          (subst (All (λ (x : Sent). IsReady layout FIRST_MAX x.plan)) (sym f.sent_is) f.ready);
-      ready = i.ready;
+      high = high;
+      small = λ key. le_trans (i.small key) c.in-Ok.ensures.same.3.rises;
+      first_ready = subst (λ (l : Layout). All (λ (x : Sent). IsReady l high x.plan) first) (sym i.layout)
+          (subst (All (λ (x : Sent). IsReady layout high x.plan)) (sym f.sent_is) f.ready);
+      ready = waits_ready g.A.EventApp.event_of p.runner.engine.layout p.planner.reader c.read_first.new.planner.reader a.waiting c.asks_first-asked.result
+          (λ e. (let met = c.asks_first-asked.ensures.0 e in let many = c.cached_slots.ensures in omega (arith, met.1, many))) (λ e. (c.in-Ok.ensures.idle e).1) i.ready;
       empty = ap (λ (v : PipeView g.row.A.Denot). v.rans) c.self.view_is ∙ c.requires.none;
       some = i.some;
       few = i.few;
@@ -114,7 +117,7 @@ returns-clause-round g c =
     let r = h.runs.runs in
     let q = c.read_first.new.planner in
     let layout_is : layout_by g.A.EventApp.table_count q.reader ≡ layout = same_layout g.A.EventApp.table_count p.planner.reader q.reader f.same in
-    let plans = subst (λ (l : Layout). PlansAhead g.A.EventApp.event_of l FIRST_MAX (stand q.reader (g.S.Source.left c.read_first.new.source)) (sent q.ring) q.sent
+    let plans = subst (λ (l : Layout). PlansAhead g.A.EventApp.event_of l (greatest_of n.planner.reader.past.version) (stand q.reader (g.S.Source.left c.read_first.new.source)) (sent q.ring) q.sent
     c.run_halves-stop.result.0 (stand n.planner.reader (g.S.Source.left n.source)) (sent n.planner.ring) n.planner.sent) layout_is h.plans in
     let tails = c.is_none-planning.ensures in
     let first : Option Sent = c.in-Ok.first in
@@ -167,19 +170,32 @@ invariant_of-self-2 g c =
     let tables_are : layout_by g.A.EventApp.table_count n.planner.reader ≡ layout = same_layout g.A.EventApp.table_count old.reader n.planner.reader h.same ∙ first_layout in
     let layout_is : n.runner.engine.layout ≡ layout = h.runs.layout ∙ i.layout in
     let known : List Sent = known_items n.runner.ring in
-    let Old : Sent → Type 0 = λ x. IsReady p.runner.engine.layout FIRST_MAX x.plan in
-    let Ready : Sent → Type 0 = λ x. IsReady layout FIRST_MAX x.plan in
-    let waited : All Old (r.popped ++ known) = subst (All Old) r.known_is i.ready in
-    let popped' : All Ready r.popped = subst (λ (l : Layout). All (λ (x : Sent). IsReady l FIRST_MAX x.plan) r.popped) i.layout (all_front Old r.popped known waited) in
+    let then : ℕ = greatest_of old.reader.past.version in
+    let now : ℕ = greatest_of n.planner.reader.past.version in
+    let Old : Sent → Type 0 = λ x. IsReady p.runner.engine.layout then x.plan in
+    let Ready : Sent → Type 0 = λ x. IsReady layout then x.plan in
+    let waited : All Old (r.popped ++ known) = subst (All Old) r.known_is
+    (waits_ready g.A.EventApp.event_of p.runner.engine.layout p.planner.reader old.reader a.waiting c.asks_first-asked.result
+    (λ e. (let met = c.asks_first-asked.ensures.0 e in let many = c.cached_slots.ensures in omega (arith, met.1, many))) (λ e. (f.idle e).1) i.ready) in
+    let popped' : All Ready r.popped = subst (λ (l : Layout). All (λ (x : Sent). IsReady l then x.plan) r.popped) i.layout (all_front Old r.popped known waited) in
     let first' : All Ready (one_or_none c.in-Ok.first) = subst (All Ready) (sym f.plans.sent_is) f.plans.ready in
     let runs' : All Ready r.runs = all_front Ready r.runs r.lost (subst (All Ready) r.parts (All-append Ready (one_or_none c.in-Ok.first) r.popped first' popped')) in
-    let back' = subst (λ (l : Layout). All (λ (x : Sent). IsReady l FIRST_MAX x.plan) known) i.layout (all_back Old r.popped known waited) in
-    let more' = subst (λ (l : Layout). All (λ (x : Sent). IsReady l FIRST_MAX x.plan) h.plans.more) first_layout h.plans.ready in
+    let back' : All (λ (x : Sent). IsReady layout now x.plan) known =
+    ready_as g.A.EventApp.event_of layout then now known (λ some.
+    halves_keep old.reader n.planner.reader c.is_none-planning.result
+    (λ planning.
+    let able = i.able (untold p.tail c.is_none-planning.result c.is_none-planning.ensures planning) in
+    let parts = ap length r.known_is in
+    let both = length-append r.popped known in
+    omega (arith, some, parts, both, i.number, able.counted, f.same.3.numbered))
+    h.same.3 (λ off. (h.idle off).2))
+    (subst (λ (l : Layout). All (λ (x : Sent). IsReady l then x.plan) known) i.layout (all_back Old r.popped known waited)) in
+    let more' = subst (λ (l : Layout). All (λ (x : Sent). IsReady l now x.plan) h.plans.more) first_layout h.plans.ready in
     let before = i.fifo ∙ ap (λ r. sent r) (sym f.ring) in
     let after = ap (λ l. l ++ known_items c.bring_together.new.consumer) (sym bt.receiving.1) ∙ bt.fifo ∙ bt.sending.1 in
     let waits : b.waiting ≡ known ++ h.plans.more = waiting_is g.A.EventApp.event_of layout m (received p.runner.ring) (received n.runner.ring) a.waiting b.waiting known
     (sent old.ring) (sent n.planner.ring) r.popped h.plans.more before after h.plans.sent_is r.known_is r.received_is in
-    let ready' = subst (All Ready) (sym waits) (All-append Ready known h.plans.more back' more') in
+    let ready' = subst (All (λ (x : Sent). IsReady layout now x.plan)) (sym waits) (All-append (λ (x : Sent). IsReady layout now x.plan) known h.plans.more back' more') in
     record {
       pair = bt.pair;
       fifo = bt.fifo;
@@ -188,8 +204,8 @@ invariant_of-self-2 g c =
       capacity = capacity ∙ sym many;
       some = omega (arith, many, i.some);
       few = omega (arith, many, i.few);
-      small = rw r.run.state_is (state_after-within layout FIRST_MAX (contents p.runner.engine) r.runs runs' i.small);
-      ready = subst (λ (l : Layout). All (λ (x : Sent). IsReady l FIRST_MAX x.plan) b.waiting) (sym layout_is) ready';
+      small = λ key. le_trans (rw r.run.state_is (state_after-within layout then (contents p.runner.engine) r.runs runs' (λ k. le_trans (i.small k) f.same.3.rises) key)) h.same.3.rises;
+      ready = subst (λ (l : Layout). All (λ (x : Sent). IsReady l now x.plan) b.waiting) (sym layout_is) ready';
       numbered = next.0;
       number = next.1;
       layout = layout_is ∙ sym tables_are;

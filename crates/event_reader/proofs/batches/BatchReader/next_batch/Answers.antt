@@ -8,7 +8,7 @@ pub returns-then-not-live-clause-answers : goal.returns-then-not-live-clause-ans
 returns-then-not-live-clause-answers g c =
     let live = rw (← c.self.view_is) at c.requires.live in
     let done = c.self.invariant.done live (sym c.live.ensures.live ∙ c.if-not-live.true) in
-    rw (← c.self.view_is) (ended_told _ _ c.self.inside.lines _ done.0 done.1)
+    rw (← c.self.view_is) (ended_told (g.A.EventApp.event_of c.self.inside.app c.self.inside.size) c.self.inside.past c.self.inside.lines _ done.0 done.1)
 
 pub returns-then-not-live-clause-shows : goal.returns-then-not-live-clause-shows
 returns-then-not-live-clause-shows g c = record { got = []; taken = sym (ahead_nil _); shows = tt }

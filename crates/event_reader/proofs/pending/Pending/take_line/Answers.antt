@@ -33,28 +33,29 @@ returns-then-is_punctuation_line g c = record {
 
 pub returns-in_default : goal.returns-in_default
 returns-in_default g c =
-    leads_refused (g.A.EventApp.event_of c.args.app.now c.args.size) _ (batch_of c.args.self.now) _ c.requires.short Form
+    leads_refused (g.A.EventApp.event_of c.args.app.now c.args.size c.args.past.version) _ (batch_of c.args.self.now) _ c.requires.short Form
     (sym c.if-is_ignored_line.ensures) (sym c.if-is_punctuation_line.ensures)
-    (ap (said_by (g.A.EventApp.event_of c.args.app.now c.args.size)) (sym c.in_default.ensures))
+    (ap (said_by (g.A.EventApp.event_of c.args.app.now c.args.size c.args.past.version)) (sym c.in_default.ensures))
 
 pub returns-in-Err-Refused : goal.returns-in-Err-Refused
 returns-in-Err-Refused g c =
     let said = rw c.in-Err-Refused.field-0-is at c.in-Err-Refused.ensures in
-    leads_refused (g.A.EventApp.event_of c.args.app.now c.args.size) _ (batch_of c.args.self.now) _ c.requires.short c.in-Err-Refused.cause
+    rw c.in-Err-Refused.cause-is
+    (leads_refused (g.A.EventApp.event_of c.args.app.now c.args.size c.args.past.version) _ (batch_of c.args.self.now) _ c.requires.short c.in-Err-Refused.cause
     (sym c.if-is_ignored_line.ensures) (sym c.if-is_punctuation_line.ensures)
-    (ap (said_by (g.A.EventApp.event_of c.args.app.now c.args.size)) (sym c.in-Some.ensures) ∙ said)
+    (ap (said_by (g.A.EventApp.event_of c.args.app.now c.args.size c.args.past.version)) (sym c.in-Some.ensures) ∙ said))
 
 pub returns-in-None : goal.returns-in-None
 returns-in-None g c =
     let e = transaction_of c.in-Ok.event in
     let joined = rw c.in-None.is at c.in_ok-join.ensures in
-    let is = ap (said_by (g.A.EventApp.event_of c.args.app.now c.args.size)) (sym c.in-Some.ensures) ∙ c.in-Ok.ensures in
-    let valid = g.met.A.EventApp.gives_valid c.args.app.now c.args.size c.in-Some.words e c.in-Ok.ensures in
+    let is = ap (said_by (g.A.EventApp.event_of c.args.app.now c.args.size c.args.past.version)) (sym c.in-Some.ensures) ∙ c.in-Ok.ensures in
+    let valid = g.met.A.EventApp.gives_valid c.args.app.now c.args.size c.args.past.version c.in-Some.words e c.in-Ok.ensures in
     record {
-      leads = leads_joined (g.A.EventApp.event_of c.args.app.now c.args.size) _ (batch_of c.args.self.now) _ c.requires.short e (batch_of c.join.new.self)
+      leads = leads_joined (g.A.EventApp.event_of c.args.app.now c.args.size c.args.past.version) _ (batch_of c.args.self.now) _ c.requires.short e (batch_of c.join.new.self)
           (sym c.if-is_ignored_line.ensures) (sym c.if-is_punctuation_line.ensures) is joined.joins joined.events;
       notes = joined.notes;
-      sound = sound_more _ c.args.closed (batch_of c.args.self.now) e (batch_of c.join.new.self) c.requires.sound valid joined.joins joined.events;
+      sound = sound_more c.args.past.version _ c.args.past.closed (batch_of c.args.self.now) e (batch_of c.join.new.self) c.requires.sound valid joined.joins joined.events;
       more = rw joined.events (omega (arith, length-append (batch_of c.args.self.now) (e ∷ [])));
     }
 
@@ -62,6 +63,6 @@ pub returns-in-Some-2 : goal.returns-in-Some-2
 returns-in-Some-2 g c =
     let e = transaction_of c.in-Ok.event in
     let joined = rw c.in-Some-2.is at c.in_ok-join.ensures in
-    let is = ap (said_by (g.A.EventApp.event_of c.args.app.now c.args.size)) (sym c.in-Some.ensures) ∙ c.in-Ok.ensures in
-    leads_not_joined (g.A.EventApp.event_of c.args.app.now c.args.size) _ (batch_of c.args.self.now) _ c.requires.short e c.in-Some-2.cause
+    let is = ap (said_by (g.A.EventApp.event_of c.args.app.now c.args.size c.args.past.version)) (sym c.in-Some.ensures) ∙ c.in-Ok.ensures in
+    leads_not_joined (g.A.EventApp.event_of c.args.app.now c.args.size c.args.past.version) _ (batch_of c.args.self.now) _ c.requires.short e c.in-Some-2.cause
     (sym c.if-is_ignored_line.ensures) (sym c.if-is_punctuation_line.ensures) is joined

@@ -336,22 +336,25 @@ fn read(alloc: Global, line: &[u8], version: Version) -> Result<Event, LineFault
     }
 }
 
+/// The operations of a transfer of `a` from account 1 to 2, where `floor` has to stay, and of 5 from asset 3 to 4.
+fn moved(version: Version, a: u64, floor: u64) -> [Op; 4] {
+    let (src, dst) = (Key::of(ACCOUNTS, 1), Key::of(ACCOUNTS, 2));
+    let (asrc, adst) = (Key::of(ASSETS, 3), Key::of(ASSETS, 4));
+    let high = version.greatest();
+    [
+        Op::new(Func::Sub, src, &[], a).limited(floor, high),
+        Op::new(Func::Sub, asrc, &[], 5).limited(0, high),
+        Op::new(Func::MoveIn, dst, &[src], a).limited(floor, high),
+        Op::new(Func::MoveIn, adst, &[asrc], 5).limited(0, high),
+    ]
+}
+
 #[test]
 fn words_give_the_operations_of_their_line(rt: HostRuntime) -> Result<(), Fail> {
     let (one, two) = (Version::One, Version::Two);
-    let account = |id| Key::of(ACCOUNTS, id);
-    let asset = |id| Key::of(ASSETS, id);
-    let moved = |version: Version, a, floor| {
-        [
-            Op::new(Func::Sub, account(1), &[], a).limited(floor, version.greatest()),
-            Op::new(Func::Sub, asset(3), &[], 5).limited(0, version.greatest()),
-            Op::new(Func::MoveIn, account(2), &[account(1)], a).limited(floor, version.greatest()),
-            Op::new(Func::MoveIn, asset(4), &[asset(3)], 5).limited(0, version.greatest()),
-        ]
-    };
     let deposited = [
-        Op::new(Func::Add, account(0), &[], 100),
-        Op::new(Func::Add, asset(7), &[], 5),
+        Op::new(Func::Add, Key::of(ACCOUNTS, 0), &[], 100),
+        Op::new(Func::Add, Key::of(ASSETS, 7), &[], 5),
     ];
     let first = moved(one, 60, 0);
     let (second, floored) = (moved(two, 10_000_000_000_000, 0), moved(two, 60, 7));

@@ -2,6 +2,7 @@
 ghost use Rattle.std.specs.Prelude.{◌≡◌};
 ghost use Rattle.morph_base.specs.Flat.{contents};
 ghost use Rattle.morph_base.specs.Plans.{IsPlan, HasBases, IsSettledOf};
+ghost use Rattle.morph_base.specs.States.{opening_state};
 
 use crate::finishing::completed;
 use crate::four_events::{ACCOUNTS, ASSETS, LAYOUT, plan};
@@ -65,9 +66,10 @@ fn values(alloc: Global, state: &State) -> Result<Vec<Option<u64>>, OutOfMemory>
     Ok(values)
 }
 
-/// The versions of account 0 while the four events are settled; then the state is brought up to date.
+/// The versions of account 0 while the four events are settled on a new state, which is then brought up to date.
 fn settle_in(rt: &impl Abort, alloc: Global, state: &mut State) -> Result<Vec<Option<u64>>, Fail>
-    requires { state.old.layout ≡ LAYOUT }
+    requires layout { state.old.layout ≡ LAYOUT }
+    requires opening { contents state.old ≡ opening_state }
 {
     let mut plan = plan(rt, alloc)?;
     state.bases(&mut plan);

@@ -20,7 +20,7 @@ use Rattle.event_reader.specs.declared.past.Past.{Past}
 use Rattle.event_reader.specs.declared.version.Version.{Version}
 use Rattle.event_reader.specs.declared.version.Version.TheVariants.{One, Two}
 use Rattle.event_reader.specs.Versions.{greatest_of, is_version_line, has_version_line}
-use Rattle.event_reader.specs.Steps.{Saying, Meaning, Step, step_of}
+use Rattle.event_reader.specs.Steps.{Rules, Meaning, rules_of, Step, step_of}
 use Rattle.event_reader.specs.Accepted.{Accepted, Ended, RefusedAt, CutOff, with_batch, at_last, led_by, accepted_lines, accepted_from, accepted_behind}
 use Rattle.event_reader.specs.Pending.{IsSound}
 use Rattle.event_reader.specs.VersionLaws.{long_plain}
@@ -96,13 +96,13 @@ reads_line meaning past before left F now left' next left'' h told takes unended
     regroup a b c d = simp append_assoc
 
 -- where a line leads
-pub leads : (m : Saying) (n closed : ℕ) (batch : List Transaction) (line : List ℕ) (step : Step) → step_of m closed batch line ≡ step → (r : Reading)
+pub leads : (m : Rules) (n closed : ℕ) (batch : List Transaction) (line : List ℕ) (step : Step) → step_of m closed batch line ≡ step → (r : Reading)
     → accepted_from m n closed batch (with_line line r) ≡ led_by step n closed batch (λ closed' batch'. accepted_from m (n + 1) closed' batch' r)
 unfolding accepted_lines
 leads m n closed batch line step is r = ap (λ s. led_by s n closed batch (λ closed' batch'. accepted_from m (n + 1) closed' batch' r)) is
 
 -- a line that is too long is refused
-long_refused : (m : Saying) (n closed : ℕ) (batch : List Transaction) (r : Reading) → IsLongFirst r.lines
+long_refused : (m : Rules) (n closed : ℕ) (batch : List Transaction) (r : Reading) → IsLongFirst r.lines
     → accepted_from m n closed batch r ≡ record { batches = []; ending = RefusedAt (n + 1) Long }
 unfolding step_of accepted_lines
 long_refused m n closed batch r (line, more, is, long) =
@@ -118,8 +118,8 @@ behind_long : (m : Meaning) (v : Version) (n closed : ℕ) (batch : List Transac
     → accepted_behind m v n closed batch r ≡ record { batches = []; ending = RefusedAt (n + 1) Long }
 behind_long m v zero closed batch r (line, more, is, long) =
     let plain : has_version_line r.lines ≡ false = ap has_version_line is ∙ long_plain line long in
-    rw plain (long_refused (m One) 0 closed batch r (line, more, is, long))
-behind_long m v (suc n) closed batch r long = rw (not_first n) (long_refused (m v) (suc n) closed batch r long)
+    rw plain (long_refused (rules_of m One) 0 closed batch r (line, more, is, long))
+behind_long m v (suc n) closed batch r long = rw (not_first n) (long_refused (rules_of m v) (suc n) closed batch r long)
 
 -- where no line is left
 behind_none : (m : Meaning) (v : Version) (n closed : ℕ) (batch : List Transaction) (cut : Bool)
@@ -129,7 +129,7 @@ behind_none m v zero closed batch cut = refl
 behind_none m v (suc n) closed batch cut = rw (not_first n) refl
 
 -- behind a line more
-behind_next : (m : Meaning) (v : Version) (n closed : ℕ) (batch : List Transaction) (r : Reading) → accepted_behind m v (n + 1) closed batch r ≡ accepted_from (m v) (n + 1) closed batch r
+behind_next : (m : Meaning) (v : Version) (n closed : ℕ) (batch : List Transaction) (r : Reading) → accepted_behind m v (n + 1) closed batch r ≡ accepted_from (rules_of m v) (n + 1) closed batch r
 behind_next m v n closed batch r = (let more : (n + 1 == 0) ≡ false = grind (arith, nat_tests) in rw more refl)
 
 -- the version line
@@ -139,22 +139,22 @@ behind_version m v n closed batch line first is r = rw (first, is) refl
 
 -- every other line
 module _ (m : Meaning) (v : Version) (n closed : ℕ) (batch : List Transaction) (line : List ℕ) (opens : n ≡ 0 → v ≡ One) (plain : n ≡ 0 → is_version_line line ≡ false) where
-  behind_line : (r : Reading) → accepted_behind m v n closed batch (with_line line r) ≡ accepted_from (m v) n closed batch (with_line line r)
+  behind_line : (r : Reading) → accepted_behind m v n closed batch (with_line line r) ≡ accepted_from (rules_of m v) n closed batch (with_line line r)
   behind_line r = by_number n opens plain
     where
-      by_number : (k : ℕ) → (k ≡ 0 → v ≡ One) → (k ≡ 0 → is_version_line line ≡ false) → accepted_behind m v k closed batch (with_line line r) ≡ accepted_from (m v) k closed batch (with_line line r)
-      by_number zero opened other = (let no = other refl in rw no (ap (λ w. accepted_from (m w) 0 closed batch (with_line line r)) (sym (opened refl))))
+      by_number : (k : ℕ) → (k ≡ 0 → v ≡ One) → (k ≡ 0 → is_version_line line ≡ false) → accepted_behind m v k closed batch (with_line line r) ≡ accepted_from (rules_of m v) k closed batch (with_line line r)
+      by_number zero opened other = (let no = other refl in rw no (ap (λ w. accepted_from (rules_of m w) 0 closed batch (with_line line r)) (sym (opened refl))))
       by_number (suc k) opened other = rw (not_first k) refl
 
-  pub goes_behind : (batch' : List Transaction) → ((k : ℕ) (r : Reading) → accepted_from (m v) k closed batch (with_line line r) ≡ accepted_from (m v) (k + 1) closed batch' r) → (r : Reading)
+  pub goes_behind : (batch' : List Transaction) → ((k : ℕ) (r : Reading) → accepted_from (rules_of m v) k closed batch (with_line line r) ≡ accepted_from (rules_of m v) (k + 1) closed batch' r) → (r : Reading)
       → accepted_behind m v n closed batch (with_line line r) ≡ accepted_behind m v (n + 1) closed batch' r
   goes_behind batch' leads r = behind_line r ∙ leads n r ∙ sym (behind_next m v n closed batch' r)
 
-  pub closes_behind : (closed' : ℕ) → ((k : ℕ) (r : Reading) → accepted_from (m v) k closed batch (with_line line r) ≡ with_batch batch (accepted_from (m v) (k + 1) closed' [] r)) → (r : Reading)
+  pub closes_behind : (closed' : ℕ) → ((k : ℕ) (r : Reading) → accepted_from (rules_of m v) k closed batch (with_line line r) ≡ with_batch batch (accepted_from (rules_of m v) (k + 1) closed' [] r)) → (r : Reading)
       → accepted_behind m v n closed batch (with_line line r) ≡ with_batch batch (accepted_behind m v (n + 1) closed' [] r)
   closes_behind closed' leads r = behind_line r ∙ leads n r ∙ ap (with_batch batch) (sym (behind_next m v n closed' [] r))
 
-  pub refuses_behind : (cause : Cause) → ((k : ℕ) (r : Reading) → accepted_from (m v) k closed batch (with_line line r) ≡ record { batches = []; ending = RefusedAt (k + 1) cause }) → (r : Reading)
+  pub refuses_behind : (cause : Cause) → ((k : ℕ) (r : Reading) → accepted_from (rules_of m v) k closed batch (with_line line r) ≡ record { batches = []; ending = RefusedAt (k + 1) cause }) → (r : Reading)
       → accepted_behind m v n closed batch (with_line line r) ≡ record { batches = []; ending = RefusedAt (n + 1) cause }
   refuses_behind cause leads r = behind_line r ∙ leads n r
 

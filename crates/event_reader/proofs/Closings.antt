@@ -4,7 +4,7 @@ use Rattle.std.specs.Prelude.{filter}
 use Rattle.std.specs.List.{slice_split}
 use Rattle.morph_base.specs.Transactions.{Transaction}
 use Rattle.event_reader.specs.declared.cause.Cause.{Cause}
-use Rattle.event_reader.specs.Steps.{Saying, Step, Ignored, Closes, Adds, Refuses, latest_with, is_punctuation, step_of}
+use Rattle.event_reader.specs.Steps.{Rules, Step, Ignored, Closes, Adds, Refuses, latest_with, is_punctuation, step_of}
 use Rattle.event_reader.specs.Accepted.{Accepted, Ending, Ended, RefusedAt, CutOff, led_by, accepted_lines}
 use Rattle.event_reader.specs.LineEvents.{events_said, has_event, before_last, closed_said}
 use Rattle.event_reader.proofs.Comings.{Comes, passed_over, marks, joins, comes}
@@ -22,13 +22,13 @@ before_map f [] = refl
 before_map f (x ∷ []) = refl
 before_map f (x ∷ y ∷ ys) = before_more (f x) (f y) (map f ys) ∙ ap (λ l. f x ∷ l) (before_map f (y ∷ ys)) ∙ ap (map f) (sym (before_more x y ys))
 
-module _ (m : Saying) where
+module _ (m : Rules) where
   -- the events in front of each punctuation, with more in front of the first
   abbrev closed_with : List Transaction → List (List ℕ) → List (List Transaction)
   closed_with batch lines = filter has_event (before_last (onto m batch (parts m lines)))
 
-  closed_none : (lines : List (List ℕ)) → closed_with [] lines ≡ closed_said m lines
-  closed_none lines = ap (λ ps. filter has_event (before_last ps)) (onto_none m lines) ∙ ap (filter has_event) (before_map (events_said m) (slice_split is_punctuation lines))
+  closed_none : (lines : List (List ℕ)) → closed_with [] lines ≡ closed_said m.says lines
+  closed_none lines = ap (λ ps. filter has_event (before_last ps)) (onto_none m lines) ∙ ap (filter has_event) (before_map (events_said m.says) (slice_split is_punctuation lines))
 
   closed_marked : (batch : List Transaction) (line : List ℕ) (lines : List (List ℕ)) → is_punctuation line ≡ true
       → closed_with batch (line ∷ lines) ≡ filter has_event (batch ∷ before_last (parts m lines))
@@ -36,9 +36,9 @@ module _ (m : Saying) where
       let some = some_part m lines in
       ap (λ ps. filter has_event (before_last (onto m batch ps))) (parts_marked m line lines marked)
       ∙ ap (λ b. filter has_event (before_last (b ∷ parts m lines))) (append-nil batch)
-      ∙ ap (λ ps. filter has_event (before_last (batch ∷ map (events_said m) ps))) some.2
-      ∙ ap (filter has_event) (before_more batch (events_said m some.0) (map (events_said m) some.1))
-      ∙ ap (λ ps. filter has_event (batch ∷ before_last (map (events_said m) ps))) (sym some.2)
+      ∙ ap (λ ps. filter has_event (before_last (batch ∷ map (events_said m.says) ps))) some.2
+      ∙ ap (filter has_event) (before_more batch (events_said m.says some.0) (map (events_said m.says) some.1))
+      ∙ ap (λ ps. filter has_event (batch ∷ before_last (map (events_said m.says) ps))) (sym some.2)
 
   -- where a line leads, where the ending is one of what comes after it
   led_closed : (ending : Ending) (closed : ℕ) (batch : List Transaction) (line : List ℕ) (lines : List (List ℕ)) (step : Step) → Comes m closed batch line step
@@ -73,7 +73,7 @@ module _ (m : Saying) where
       (λ closed' batch'. cut_from (n + 1) closed' batch' lines cut) is
 
   pub cut_are_said : (n closed : ℕ) (lines : List (List ℕ)) (cut : Bool) → (accepted_lines m n closed [] lines cut).ending ≡ CutOff
-      → (accepted_lines m n closed [] lines cut).batches ≡ closed_said m lines
+      → (accepted_lines m n closed [] lines cut).batches ≡ closed_said m.says lines
   cut_are_said n closed lines cut is = cut_from n closed [] lines cut is ∙ closed_none lines
 
   -- a line that is refused comes behind those before
@@ -121,7 +121,7 @@ module _ (m : Saying) where
 
   pub refused_are_said : (n closed : ℕ) (lines : List (List ℕ)) (cut : Bool) (k : ℕ) (cause : Cause)
       → (accepted_lines m n closed [] lines cut).ending ≡ RefusedAt k cause
-      → (n < k) × ((accepted_lines m n closed [] lines cut).batches ≡ closed_said m (take (k - 1 - n) lines))
+      → (n < k) × ((accepted_lines m n closed [] lines cut).batches ≡ closed_said m.says (take (k - 1 - n) lines))
   refused_are_said n closed lines cut k cause is =
       let some = later n closed [] lines cut k cause is in
       let at : k ≡ n + 1 + (k - 1 - n) = omega (arith, some) in

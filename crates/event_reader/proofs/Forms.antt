@@ -159,6 +159,12 @@ module _ (form made : Form) (words : List (List ℕ)) (answer : Result (List ℕ
       (All-weaker (IsInRange form.more) (λ id. id < 2 ^ 32) (λ id at. omega (arith, at.1, last)) (drop (length form.places) ns)
       (rest_in form ns (read_fits form words ns read_by)))
 
+  -- those behind them are as many as may follow
+  pub rest_few : (rest : List ℕ) → rest ≡ drop (length form.places) ns → length rest ≤ form.most
+  rest_few rest is =
+      let counts = count_of form (length ns) (read_fits form words ns read_by).count in
+      omega (arith, ap length is, length-drop (length form.places) ns, counts.1)
+
   -- they are all, where no more can follow
   pub first_all : form.most ≡ 0 → ns ≡ first
   first_all none =
@@ -202,10 +208,10 @@ read_causes form words cause is = by_test (has_form form words) is
     by_test false is = let same : NoForm ≡ cause = cc in subst IsOfWords same tt
 
 -- a kind of event line is sound for a layout where each event that it says of numbers that fit is valid, with its keys in
--- the layout, and else two keys are the same that have to differ
+-- the layout, and else the cause is one of words
 pub record IsSound (version : Version) (layout : Layout) (kind : Kind) : Type 0 where
   pub valid : (ns : List ℕ) (e : Transaction) → Fits kind.form ns → kind.says ns ≡ Ok e → IsEventOf version layout e
-  pub causes : (ns : List ℕ) (cause : Cause) → kind.says ns ≡ Err cause → Same ≡ cause
+  pub causes : (ns : List ℕ) (cause : Cause) → kind.says ns ≡ Err cause → IsOfWords cause
 
 abbrev pub AreSound : Version → Layout → List Kind → Type 0
 AreSound version layout [] = Unit {0}
@@ -244,7 +250,7 @@ said_causes : (version : Version) (layout : Layout) (kind : Kind) (words : List 
 said_causes version layout kind words cause sound is = by_read (numbers_by kind.form words) refl is
   where
     by_read : (r : Result (List ℕ) Cause) → numbers_by kind.form words ≡ r → said kind.says r ≡ Err cause → IsOfWords cause
-    by_read (Ok ns) found is = subst IsOfWords (sound.causes ns cause is) tt
+    by_read (Ok ns) found is = sound.causes ns cause is
     by_read (Err c) found is = read_causes kind.form words cause (let same : c ≡ cause = cc in found ∙ ap refused same)
 
 pub events_causes : (version : Version) (layout : Layout) (kinds : List Kind) → AreSound version layout kinds → (words : List (List ℕ)) (cause : Cause) → event_by kinds words ≡ Err cause

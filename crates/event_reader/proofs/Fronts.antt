@@ -14,7 +14,7 @@ use Rattle.event_reader.specs.Lines.{is_line_feed, pieces, last_if, without_cr, 
 use Rattle.event_reader.specs.declared.version.Version.TheVariants.{One, Two}
 use Rattle.event_reader.specs.Versions.{is_version_line, has_version_line}
 use Rattle.event_reader.specs.VersionLaws.{long_plain}
-use Rattle.event_reader.specs.Steps.{Saying, Meaning, Step, Ignored, Closes, Adds, Refuses, latest_with, step_of}
+use Rattle.event_reader.specs.Steps.{Rules, Meaning, rules_of, Step, Ignored, Closes, Adds, Refuses, latest_with, step_of}
 use Rattle.event_reader.specs.Accepted.{Accepted, Ending, Ended, RefusedAt, CutOff, with_batch, led_by, accepted_lines, accepted_first, accepted, accepted_within, closed_batches}
 use Rattle.event_reader.specs.Reader.{new_reader, accepted_by}
 use Rattle.event_reader.proofs.Cutting.{some_piece, first_if, length-without_cr}
@@ -88,7 +88,7 @@ front_led Closes n closed batch some all h = front_with batch (some (latest_with
 front_led (Adds e) n closed batch some all h = h closed (batch ++ e ∷ [])
 front_led (Refuses cause) n closed batch some all h = same_front (record { batches = []; ending = RefusedAt (n + 1) cause })
 
-front_lines : (m : Saying) (n closed : ℕ) (batch : List Transaction) (lines lines' : List (List ℕ)) → Extends lines lines'
+front_lines : (m : Rules) (n closed : ℕ) (batch : List Transaction) (lines lines' : List (List ℕ)) → Extends lines lines'
     → IsFrontOf (accepted_lines m n closed batch lines true) (accepted_lines m n closed batch lines' false)
 unfolding accepted_lines step_of
 front_lines m n closed batch _ _ (nothing lines') = record {
@@ -120,10 +120,10 @@ first_front m _ _ (nothing lines') = record {
 first_front m _ _ (one line lines lines' h) = by_test (is_version_line line) refl
   where
     by_test : (t : Bool) → is_version_line line ≡ t → IsFrontOf (cut_lines m (line ∷ lines)) (whole_lines m (line ∷ lines'))
-    by_test true is = rw is (front_lines (m Two) 1 0 [] lines lines' h)
-    by_test false is = rw is (front_lines (m One) 0 0 [] (line ∷ lines) (line ∷ lines') (one line lines lines' h))
+    by_test true is = rw is (front_lines (rules_of m Two) 1 0 [] lines lines' h)
+    by_test false is = rw is (front_lines (rules_of m One) 0 0 [] (line ∷ lines) (line ∷ lines') (one line lines lines' h))
 first_front m _ _ (long line line' lines' is is') =
-    rw (long_plain line is, long_plain line' is') (front_lines (m One) 0 0 [] (line ∷ []) (line' ∷ lines') (long line line' lines' is is'))
+    rw (long_plain line is, long_plain line' is') (front_lines (rules_of m One) 0 0 [] (line ∷ []) (line' ∷ lines') (long line line' lines' is is'))
 
 -- what a front of an input decides is the first of what the input has
 pub front_is_first : (m : Meaning) (bytes rest : List ℕ) → IsFrontOf (cut_lines m (decided_lines bytes)) (accepted m (bytes ++ rest))
@@ -144,14 +144,14 @@ ending_led P (Adds e) n closed batch after h refused = h closed (batch ++ e ∷ 
 ending_led P (Refuses cause) n closed batch after h refused = refused cause
 
 -- lines that are cut off do not end the input, and others are not cut off
-cut_ending : (m : Saying) (n closed : ℕ) (batch : List Transaction) (lines : List (List ℕ)) → (accepted_lines m n closed batch lines true).ending ≡ Ended → ⊥
+cut_ending : (m : Rules) (n closed : ℕ) (batch : List Transaction) (lines : List (List ℕ)) → (accepted_lines m n closed batch lines true).ending ≡ Ended → ⊥
 unfolding accepted_lines
 cut_ending m n closed batch [] = λ is. absurd (cc)
 cut_ending m n closed batch (line ∷ lines) =
     ending_led (λ e. e ≡ Ended → ⊥) (step_of m closed batch line) n closed batch _ (λ closed' batch'. cut_ending m (n + 1) closed' batch' lines)
     (λ cause is. absurd (cc))
 
-whole_ending : (m : Saying) (n closed : ℕ) (batch : List Transaction) (lines : List (List ℕ)) → (accepted_lines m n closed batch lines false).ending ≡ CutOff → ⊥
+whole_ending : (m : Rules) (n closed : ℕ) (batch : List Transaction) (lines : List (List ℕ)) → (accepted_lines m n closed batch lines false).ending ≡ CutOff → ⊥
 unfolding accepted_lines
 whole_ending m n closed batch [] = ending_with (λ e. e ≡ CutOff → ⊥) batch (record { batches = []; ending = Ended }) (λ is. absurd (cc))
 whole_ending m n closed batch (line ∷ lines) =
@@ -162,15 +162,15 @@ cut_ending_first : (m : Meaning) (lines : List (List ℕ)) → (cut_lines m line
 cut_ending_first m lines = by_test (has_version_line lines) refl
   where
     by_test : (t : Bool) → has_version_line lines ≡ t → (cut_lines m lines).ending ≡ Ended → ⊥
-    by_test true is = rw is (cut_ending (m Two) 1 0 [] (drop 1 lines))
-    by_test false is = rw is (cut_ending (m One) 0 0 [] lines)
+    by_test true is = rw is (cut_ending (rules_of m Two) 1 0 [] (drop 1 lines))
+    by_test false is = rw is (cut_ending (rules_of m One) 0 0 [] lines)
 
 whole_ending_first : (m : Meaning) (lines : List (List ℕ)) → (whole_lines m lines).ending ≡ CutOff → ⊥
 whole_ending_first m lines = by_test (has_version_line lines) refl
   where
     by_test : (t : Bool) → has_version_line lines ≡ t → (whole_lines m lines).ending ≡ CutOff → ⊥
-    by_test true is = rw is (whole_ending (m Two) 1 0 [] (drop 1 lines))
-    by_test false is = rw is (whole_ending (m One) 0 0 [] lines)
+    by_test true is = rw is (whole_ending (rules_of m Two) 1 0 [] (drop 1 lines))
+    by_test false is = rw is (whole_ending (rules_of m One) 0 0 [] lines)
 
 -- what is read within a limit: all of a shorter input, and of another what its first bytes decide
 pub data ReadsWithin (m : Meaning) (limit : ℕ) (input : List ℕ) : Type 0 where

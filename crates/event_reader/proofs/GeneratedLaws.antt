@@ -5,7 +5,6 @@ use Rattle.std.specs.List.{All, sum_by}
 use Rattle.std.proofs.lemmas.Bool.Decides.{nat_tests}
 use Rattle.std.proofs.lemmas.List.Elements.{All-nil, All-cons, All-get_or, All-weaker}
 use Rattle.std.proofs.lemmas.List.Sums.{fold-append, sum_by-cons}
-use Rattle.morph_base.specs.declared.limits.TheConstants.{EVENTS}
 use Rattle.morph_base.specs.Transactions.{Transaction}
 use Rattle.event_reader.specs.Limits.{generated_events, generated_batch, generated_bytes, input_bytes}
 use Rattle.event_reader.specs.Accepted.{Accepted, Ended, with_batch, accepted, accepted_from, accepted_lines, accepted_within}
@@ -14,7 +13,7 @@ use Rattle.event_reader.specs.GeneratedText.{with_end, generated_from, generated
 use Rattle.event_reader.specs.Lines.{is_line_feed, lines_of, without_cr, last_if, whole, with_line, within}
 use Rattle.event_reader.specs.declared.version.Version.TheVariants.{One}
 use Rattle.event_reader.specs.Versions.{has_version_line}
-use Rattle.event_reader.specs.Steps.{Saying, Meaning, Adds, latest_with, has_time, joining}
+use Rattle.event_reader.specs.Steps.{Rules, Meaning, rules_of, Adds, latest_with, has_time, joining}
 use Rattle.event_reader.proofs.Cutting.{line_at}
 use Rattle.event_reader.proofs.Stepping.{leads_joined, leads_closed}
 
@@ -58,22 +57,22 @@ record IsBefore (j closed : ℕ) (batch : List Transaction) : Type 0 where
   few : length batch ≤ j % generated_batch
 
 -- the event joins the batch
-joins : (j closed : ℕ) (batch : List Transaction) (e : Transaction) → IsBefore j closed batch → e.ts ≡ j + 1 → joining closed batch e ≡ Adds e
-joins j closed batch e h time =
+joins : (most j closed : ℕ) (batch : List Transaction) (e : Transaction) → generated_batch ≤ most → IsBefore j closed batch → e.ts ≡ j + 1 → joining most closed batch e ≡ Adds e
+joins most j closed batch e many h time =
     let first = closed_le_latest batch closed in
     let not_late : nat_le e.ts closed ≡ false = (let latest = h.latest in grind (arith, nat_tests)) in
     let once = new_time batch closed e.ts (omega (arith, h.latest)) in
-    let room : nat_le EVENTS (length batch) ≡ false = (let few : length batch < EVENTS = omega (arith, h.few) in grind (arith, nat_tests)) in
+    let room : nat_le most (length batch) ≡ false = (let few : length batch < most = omega (arith, many, h.few) in grind (arith, nat_tests)) in
     rw (not_late, once, room) refl
 
-after_line : (m : Saying) (j n closed : ℕ) (batch : List Transaction) (line rest : List ℕ) → (h : IsEventLine m (j + 1) line) → IsBefore j closed batch
+after_line : (m : Rules) → generated_batch ≤ m.most → (j n closed : ℕ) (batch : List Transaction) (line rest : List ℕ) → (h : IsEventLine m.says (j + 1) line) → IsBefore j closed batch
     → accepted_from m n closed batch (whole (line ++ 10 ∷ rest)) ≡ accepted_from m (n + 1) closed (batch ++ h.event ∷ []) (whole rest)
-after_line m j n closed batch line rest h before =
+after_line m many j n closed batch line rest h before =
     ap (accepted_from m n closed batch) (first_line line rest h.printable)
-    ∙ leads_joined m closed batch line (omega (arith, h.short)) h.event (batch ++ h.event ∷ []) h.counts h.no_mark h.says (joins j closed batch h.event before h.time) refl n (whole rest)
+    ∙ leads_joined m closed batch line (omega (arith, h.short)) h.event (batch ++ h.event ∷ []) h.counts h.no_mark h.says (joins m.most j closed batch h.event many before h.time) refl n (whole rest)
 
 -- a punctuation closes the batch
-after_mark : (m : Saying) (n closed : ℕ) (batch : List Transaction) (rest : List ℕ)
+after_mark : (m : Rules) (n closed : ℕ) (batch : List Transaction) (rest : List ℕ)
     → accepted_from m n closed batch (whole (80 ∷ 10 ∷ rest)) ≡ with_batch batch (accepted_from m (n + 1) (latest_with batch closed) [] (whole rest))
 after_mark m n closed batch rest =
     ap (accepted_from m n closed batch) (first_line (80 ∷ []) rest (All-cons (λ b. 32 ≤ b) 80 [] (omega arith) (All-nil (λ b. 32 ≤ b))))
@@ -93,15 +92,15 @@ one_more (e ∷ batch) all n events h is = record {
 }
 
 -- where no line is left the input ends
-nothing_left : (m : Saying) (n closed : ℕ) (batch : List Transaction) → IsWhole (accepted_from m n closed batch (whole [])) (length batch)
+nothing_left : (m : Rules) (n closed : ℕ) (batch : List Transaction) → IsWhole (accepted_from m n closed batch (whole [])) (length batch)
 unfolding accepted_lines last_if
 nothing_left m n closed batch = one_more batch (record { batches = []; ending = Ended }) 0 (length batch) (record { ends = refl; counted = refl }) (omega arith)
 
 -- the event's line with its end, and then the lines of `count` events
-after_event : (m : Saying) (j n closed count : ℕ) (batch : List Transaction) (line rest : List ℕ) → IsEventLine m (j + 1) line → IsBefore j closed batch
+after_event : (m : Rules) → generated_batch ≤ m.most → (j n closed count : ℕ) (batch : List Transaction) (line rest : List ℕ) → IsEventLine m.says (j + 1) line → IsBefore j closed batch
     → ((n' closed' : ℕ) (batch' : List Transaction) → IsBefore (j + 1) closed' batch' → IsWhole (accepted_from m n' closed' batch' (whole rest)) (length batch' + count))
     → IsWhole (accepted_from m n closed batch (whole (with_end (j + 1) line ++ rest))) (length batch + (count + 1))
-after_event m j n closed count batch line rest h before after = by_mark ((j + 1) % generated_batch == 0) refl
+after_event m many j n closed count batch line rest h before after = by_mark ((j + 1) % generated_batch == 0) refl
   where
     longer : List Transaction
     longer = batch ++ h.event ∷ []
@@ -117,20 +116,20 @@ after_event m j n closed count batch line rest h before after = by_mark ((j + 1)
     by_mark true is =
         let leads =
         ap (λ text. accepted_from m n closed batch (whole text)) (append_assoc line (10 ∷ 80 ∷ 10 ∷ []) rest)
-        ∙ after_line m j n closed batch line (80 ∷ 10 ∷ rest) h before ∙ after_mark m (n + 1) closed longer rest in
+        ∙ after_line m many j n closed batch line (80 ∷ 10 ∷ rest) h before ∙ after_mark m (n + 1) closed longer rest in
         let next = after (n + 1 + 1) (latest_with longer closed) [] (record { latest = latest; few = omega arith }) in
         subst (λ all. IsWhole all (length batch + (count + 1))) (sym leads) (one_more longer _ (0 + count) (length batch + (count + 1)) next (omega (arith, one)))
     by_mark false is =
         let goes_on : (j + 1) % generated_batch ≢ 0 = grind (arith, nat_tests) in
         let leads =
-        ap (λ text. accepted_from m n closed batch (whole text)) (append_assoc line (10 ∷ []) rest) ∙ after_line m j n closed batch line rest h before in
+        ap (λ text. accepted_from m n closed batch (whole text)) (append_assoc line (10 ∷ []) rest) ∙ after_line m many j n closed batch line rest h before in
         let next = after (n + 1) closed longer (record { latest = latest; few = omega (arith, one, before.few) }) in
         let total : length longer + count ≡ length batch + (count + 1) = omega (arith, one) in
         subst (λ all. IsWhole all (length batch + (count + 1))) (sym leads) (subst (λ k. IsWhole (accepted_from m (n + 1) closed longer (whole rest)) k) total next)
 
 module _ (meaning : Meaning) (drawn : ℕ → ℕ → Drawn) (each : (i state : ℕ) → 0 < i → i ≤ generated_events → IsEventLine (meaning One) i (drawn i state).line) where
-  abbrev m : Saying
-  m = meaning One
+  abbrev m : Rules
+  m = rules_of meaning One
 
   whole_from : (count j state n closed : ℕ) (batch : List Transaction) → j + count ≤ generated_events → IsBefore j closed batch
       → IsWhole (accepted_from m n closed batch (whole (generated_from drawn count (j + 1) state))) (length batch + count)
@@ -141,7 +140,7 @@ module _ (meaning : Meaning) (drawn : ℕ → ℕ → Drawn) (each : (i state : 
   whole_from (suc count) j state n closed batch few before =
       let d : Drawn = drawn (j + 1) state in
       let rest : List ℕ = generated_from drawn count (j + 1 + 1) d.state in
-      let all = after_event m j n closed count batch d.line rest (each (j + 1) state (omega arith) (omega arith)) before
+      let all = after_event m (omega arith) j n closed count batch d.line rest (each (j + 1) state (omega arith) (omega arith)) before
       (λ n' closed' batch' before'. whole_from count (j + 1) d.state n' closed' batch' (omega arith) before') in
       let total : length batch + (count + 1) ≡ length batch + suc count = omega arith in
       subst (λ k. IsWhole (accepted_from m n closed batch (whole (with_end (j + 1) d.line ++ rest))) k) total all

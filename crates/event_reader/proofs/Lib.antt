@@ -25,3 +25,5 @@ pub mod Closings
 pub mod Numbering
 pub mod FirstLines
 pub mod Opening
+pub mod LineKeys
+pub mod Heads

@@ -2,7 +2,7 @@
 use Rattle.std.proofs.Common.{◌≡◌, ℕ, ◌+◌, ◌-◌, Bool, true, false, List, [], ◌∷◌, ◌++◌, refl, sym, ap, ◌∙◌, arith}
 use Rattle.morph_base.specs.Transactions.{Transaction}
 use Rattle.event_reader.specs.declared.cause.Cause.{Cause}
-use Rattle.event_reader.specs.Steps.{Saying, Step, Ignored, Closes, Adds, Refuses, latest_with, step_of}
+use Rattle.event_reader.specs.Steps.{Rules, Step, Ignored, Closes, Adds, Refuses, latest_with, step_of}
 use Rattle.event_reader.specs.Accepted.{Accepted, Ending, Ended, RefusedAt, CutOff, led_by, accepted_lines}
 use Rattle.event_reader.proofs.Refusing.{same_ending}
 
@@ -20,7 +20,7 @@ led_later Closes n closed batch after after' h =
 led_later (Adds e) n closed batch after after' h = h closed (batch ++ e ∷ [])
 led_later (Refuses cause) n closed batch after after' h = refl
 
-pub ends_later : (m : Saying) (n closed : ℕ) (batch : List Transaction) (lines : List (List ℕ)) (cut : Bool)
+pub ends_later : (m : Rules) (n closed : ℕ) (batch : List Transaction) (lines : List (List ℕ)) (cut : Bool)
     → (accepted_lines m (n + 1) closed batch lines cut).ending ≡ one_later (accepted_lines m n closed batch lines cut).ending
 unfolding accepted_lines
 ends_later m n closed batch [] true = refl

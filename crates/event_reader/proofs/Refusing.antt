@@ -5,13 +5,12 @@ use Rattle.std.specs.List.{cons_option}
 use Rattle.std.proofs.lemmas.Bool.{cases_lt, true≢false}
 use Rattle.std.proofs.lemmas.List.{drop_all, drop_more, take_more, take_all, take-append-le, length-drop}
 use Rattle.std.proofs.lemmas.List.Sums.{fold-append}
-use Rattle.morph_base.specs.declared.limits.TheConstants.{EVENTS}
 use Rattle.morph_base.specs.Transactions.{Transaction}
 use Rattle.event_reader.specs.Limits.{longest_line}
 use Rattle.event_reader.specs.declared.cause.Cause.{Cause}
 use Rattle.event_reader.specs.declared.cause.Cause.TheVariants.{Long, Form, Range, Same, Late, Twice, Full}
 use Rattle.event_reader.specs.Words.{words_of}
-use Rattle.event_reader.specs.Steps.{Saying, Step, Ignored, Closes, Adds, Refuses, latest_with, has_time, said_by, is_ignored, is_punctuation, step_of}
+use Rattle.event_reader.specs.Steps.{Rules, Step, Ignored, Closes, Adds, Refuses, latest_with, has_time, said_by, is_ignored, is_punctuation, step_of}
 use Rattle.event_reader.specs.Accepted.{Accepted, Ended, RefusedAt, with_batch, at_last, led_by, accepted_lines}
 use Rattle.event_reader.specs.Reader.{IsOfWords}
 use Rattle.event_reader.specs.LineEvents.{event_said, events_said}
@@ -20,12 +19,12 @@ use Rattle.event_reader.proofs.Comings.{SaysWords, Comes, is_long, passed_over, 
 use Rattle.event_reader.proofs.Sayings.{none_ignored, none_marked, says_event, ignored_no_mark}
 
 -- events of lines one after another
-said_append : (m : Saying) (front back : List (List ℕ)) → events_said m (front ++ back) ≡ events_said m front ++ events_said m back
+said_append : (m : Rules) (front back : List (List ℕ)) → events_said m.says (front ++ back) ≡ events_said m.says front ++ events_said m.says back
 said_append m [] back = refl
-said_append m (line ∷ front) back = by_said (event_said m line) (said_append m front back)
+said_append m (line ∷ front) back = by_said (event_said m.says line) (said_append m front back)
   where
-    by_said : (o : Option Transaction) → events_said m (front ++ back) ≡ events_said m front ++ events_said m back
-        → cons_option o (events_said m (front ++ back)) ≡ cons_option o (events_said m front) ++ events_said m back
+    by_said : (o : Option Transaction) → events_said m.says (front ++ back) ≡ events_said m.says front ++ events_said m.says back
+        → cons_option o (events_said m.says (front ++ back)) ≡ cons_option o (events_said m.says front) ++ events_said m.says back
     by_said None h = h
     by_said (Some e) h = ap (λ es. e ∷ es) h
 
@@ -39,21 +38,21 @@ open_unmarked lines line unmarked =
     fold-append (λ open_since line. if is_punctuation line then [] else open_since ++ line ∷ []) [] lines (line ∷ []) ∙ rw unmarked refl
 
 -- what a reader has noted after lines
-pub record Stands (m : Saying) (lines : List (List ℕ)) (closed : ℕ) (batch : List Transaction) : Type 0 where
-  pub time : closed ≡ closed_time m lines
-  pub events : batch ≡ unfinished m lines
+pub record Stands (m : Rules) (lines : List (List ℕ)) (closed : ℕ) (batch : List Transaction) : Type 0 where
+  pub time : closed ≡ closed_time m.says lines
+  pub events : batch ≡ unfinished m.says lines
   pub parts : closed_lines lines ++ open_lines lines ≡ lines
 
-stands_first : (m : Saying) → Stands m [] 0 []
+stands_first : (m : Rules) → Stands m [] 0 []
 stands_first m = record { time = refl; events = refl; parts = refl }
 
 -- with a line more
-stands_unmarked : (m : Saying) (lines : List (List ℕ)) (closed : ℕ) (batch : List Transaction) (line : List ℕ) (o : Option Transaction) → Stands m lines closed batch
-    → is_punctuation line ≡ false → event_said m line ≡ o → Stands m (lines ++ line ∷ []) closed (batch ++ cons_option o [])
+stands_unmarked : (m : Rules) (lines : List (List ℕ)) (closed : ℕ) (batch : List Transaction) (line : List ℕ) (o : Option Transaction) → Stands m lines closed batch
+    → is_punctuation line ≡ false → event_said m.says line ≡ o → Stands m (lines ++ line ∷ []) closed (batch ++ cons_option o [])
 stands_unmarked m lines closed batch line o h unmarked says = record {
-  time = h.time ∙ ap (λ ls. latest_with (events_said m ls) 0) (sym same);
-  events = ap (λ es. es ++ cons_option o []) h.events ∙ ap (λ s. unfinished m lines ++ cons_option s []) (sym says)
-      ∙ sym (said_append m (open_lines lines) (line ∷ [])) ∙ ap (events_said m) (sym open_is);
+  time = h.time ∙ ap (λ ls. latest_with (events_said m.says ls) 0) (sym same);
+  events = ap (λ es. es ++ cons_option o []) h.events ∙ ap (λ s. unfinished m.says lines ++ cons_option s []) (sym says)
+      ∙ sym (said_append m (open_lines lines) (line ∷ [])) ∙ ap (events_said m.says) (sym open_is);
   parts = ap (λ ls. ls ++ open_lines (lines ++ line ∷ [])) same ∙ ap (λ ls. closed_lines lines ++ ls) open_is
       ∙ sym (append_assoc (closed_lines lines) (open_lines lines) (line ∷ [])) ∙ ap (λ ls. ls ++ line ∷ []) h.parts;
 }
@@ -73,14 +72,14 @@ stands_unmarked m lines closed batch line o h unmarked says = record {
     same : closed_lines (lines ++ line ∷ []) ≡ closed_lines lines
     same = ap (λ n. take n (lines ++ line ∷ [])) size ∙ take-append-le (length lines - length (open_lines lines)) lines (line ∷ []) few
 
-stands_marked : (m : Saying) (lines : List (List ℕ)) (closed : ℕ) (batch : List Transaction) (line : List ℕ) → Stands m lines closed batch
+stands_marked : (m : Rules) (lines : List (List ℕ)) (closed : ℕ) (batch : List Transaction) (line : List ℕ) → Stands m lines closed batch
     → is_punctuation line ≡ true → Stands m (lines ++ line ∷ []) (latest_with batch closed) []
 stands_marked m lines closed batch line h marked = record {
-  time = ap (λ es. latest_with es closed) h.events ∙ ap (latest_with (unfinished m lines)) h.time
-      ∙ sym (fold-append (λ latest e. max latest e.ts) 0 (events_said m (closed_lines lines)) (unfinished m lines))
+  time = ap (λ es. latest_with es closed) h.events ∙ ap (latest_with (unfinished m.says lines)) h.time
+      ∙ sym (fold-append (λ latest e. max latest e.ts) 0 (events_said m.says (closed_lines lines)) (unfinished m.says lines))
       ∙ ap (λ es. latest_with es 0) events
-      ∙ ap (λ ls. latest_with (events_said m ls) 0) (sym all);
-  events = ap (events_said m) (sym none);
+      ∙ ap (λ ls. latest_with (events_said m.says ls) 0) (sym all);
+  events = ap (events_said m.says) (sym none);
   parts = ap (λ ls. closed_lines (lines ++ line ∷ []) ++ ls) none ∙ append-nil (closed_lines (lines ++ line ∷ [])) ∙ all;
 }
   where
@@ -91,28 +90,28 @@ stands_marked m lines closed batch line h marked = record {
     all = take_all (length (lines ++ line ∷ []) - length (open_lines (lines ++ line ∷ []))) (lines ++ line ∷ [])
         (let zero : length (open_lines (lines ++ line ∷ [])) ≡ 0 = ap length none in omega arith)
 
-    events : events_said m (closed_lines lines) ++ unfinished m lines ≡ events_said m (lines ++ line ∷ [])
+    events : events_said m.says (closed_lines lines) ++ unfinished m.says lines ≡ events_said m.says (lines ++ line ∷ [])
     events =
-        sym (said_append m (closed_lines lines) (open_lines lines)) ∙ ap (events_said m) h.parts ∙ sym (append-nil (events_said m lines))
-        ∙ ap (λ o. events_said m lines ++ cons_option o []) (sym (none_marked m line marked))
+        sym (said_append m (closed_lines lines) (open_lines lines)) ∙ ap (events_said m.says) h.parts ∙ sym (append-nil (events_said m.says lines))
+        ∙ ap (λ o. events_said m.says lines ++ cons_option o []) (sym (none_marked m line marked))
         ∙ sym (said_append m lines (line ∷ []))
 
 -- two events that one line says are the same
 same_event : (o : Option Transaction) (e f : Transaction) → o ≡ Some e → o ≡ Some f → e ≡ f
 same_event o e f is is' = cc
 
-not_said : (m : Saying) (line : List ℕ) (e : Transaction) → event_said m line ≡ None → event_said m line ≡ Some e → ⊥
+not_said : (m : Rules) (line : List ℕ) (e : Transaction) → event_said m.says line ≡ None → event_said m.says line ≡ Some e → ⊥
 not_said m line e is is' = absurd (cc)
 
 -- where the words say no event
-says_nothing : (m : Saying) (line : List ℕ) (cause : Cause) → SaysWords m line (Err cause) → event_said m line ≡ None
+says_nothing : (m : Rules) (line : List ℕ) (cause : Cause) → SaysWords m line (Err cause) → event_said m.says line ≡ None
 says_nothing m line cause says = rw (says.counts, says.no_mark, says.says) refl
 
 -- the cause that words say is one of theirs
-of_words : (m : Saying) → HasWordCauses m → (words : Option (List (List ℕ))) (cause : Cause) → said_by m words ≡ Err cause → IsOfWords cause
+of_words : (m : Rules) → HasWordCauses m.says → (words : Option (List (List ℕ))) (cause : Cause) → said_by m.says words ≡ Err cause → IsOfWords cause
 of_words m h None cause is = form_is cause is
   where
-    form_is : (cause : Cause) → said_by m None ≡ Err cause → IsOfWords cause
+    form_is : (cause : Cause) → said_by m.says None ≡ Err cause → IsOfWords cause
     form_is Form is = tt
     form_is Range is = tt
     form_is Same is = tt
@@ -123,32 +122,32 @@ of_words m h None cause is = form_is cause is
 of_words m h (Some words) cause is = h words cause is
 
 -- what a step says of the causes that apply
-abbrev Judges : Saying → List (List ℕ) → List ℕ → Step → Type 0
+abbrev Judges : Rules → List (List ℕ) → List ℕ → Step → Type 0
 Judges m before line (Refuses cause) = IsLeastCause m before line cause
 Judges m before line _ = NoneApplies m before line
 
-abbrev no_event : Saying → List ℕ → Type 0
-no_event m line = (e : Transaction) → event_said m line ≡ Some e → ⊥
+abbrev no_event : Rules → List ℕ → Type 0
+no_event m line = (e : Transaction) → event_said m.says line ≡ Some e → ⊥
 
 words_differ : (said : Result Transaction Cause) (e : Transaction) (cause : Cause) → said ≡ Ok e → said ≡ Err cause → ⊥
 words_differ said e cause is is' = absurd (cc)
 
-module _ (m : Saying) (words : HasWordCauses m) (before : List (List ℕ)) (closed : ℕ) (batch : List Transaction) (h : Stands m before closed batch) (line : List ℕ) where
-  late_not : (e : Transaction) → event_said m line ≡ Some e → closed < e.ts → Applies m before line Late → ⊥
+module _ (m : Rules) (words : HasWordCauses m.says) (before : List (List ℕ)) (closed : ℕ) (batch : List Transaction) (h : Stands m before closed batch) (line : List ℕ) where
+  late_not : (e : Transaction) → event_said m.says line ≡ Some e → closed < e.ts → Applies m before line Late → ⊥
   late_not e is later (f, is', late) =
-      let same : e.ts ≡ f.ts = ap (λ t. t.ts) (same_event (event_said m line) e f is is') in
+      let same : e.ts ≡ f.ts = ap (λ t. t.ts) (same_event (event_said m.says line) e f is is') in
       omega (arith, h.time, same, late)
 
-  twice_not : (e : Transaction) → event_said m line ≡ Some e → has_time batch e.ts ≡ false → Applies m before line Twice → ⊥
+  twice_not : (e : Transaction) → event_said m.says line ≡ Some e → has_time batch e.ts ≡ false → Applies m before line Twice → ⊥
   twice_not e is fresh (f, is', twice) =
-      let same : e.ts ≡ f.ts = ap (λ t. t.ts) (same_event (event_said m line) e f is is') in
+      let same : e.ts ≡ f.ts = ap (λ t. t.ts) (same_event (event_said m.says line) e f is is') in
       true≢false (sym twice ∙ ap (λ es. has_time es f.ts) (sym h.events) ∙ ap (has_time batch) (sym same) ∙ fresh)
 
-  full_not : length batch < EVENTS → Applies m before line Full → ⊥
-  full_not few (f, is', full) = let same : length batch ≡ length (unfinished m before) = ap length h.events in omega (arith, same, full)
+  full_not : length batch < m.most → Applies m before line Full → ⊥
+  full_not few (f, is', full) = let same : length batch ≡ length (unfinished m.says before) = ap length h.events in omega (arith, same, full)
 
   -- no cause applies where none of them does
-  none_applies : length line ≤ longest_line → ((cause : Cause) → is_ignored line ≡ false → is_punctuation line ≡ false → said_by m (words_of line) ≡ Err cause → ⊥)
+  none_applies : length line ≤ longest_line → ((cause : Cause) → is_ignored line ≡ false → is_punctuation line ≡ false → said_by m.says (words_of line) ≡ Err cause → ⊥)
       → (Applies m before line Late → ⊥) → (Applies m before line Twice → ⊥) → (Applies m before line Full → ⊥) → NoneApplies m before line
   none_applies short silent late twice full Long long = omega (arith, long)
   none_applies short silent late twice full Form (i, p, w) = silent Form i p w
@@ -160,7 +159,7 @@ module _ (m : Saying) (words : HasWordCauses m) (before : List (List ℕ)) (clos
 
   -- a cause is the least where those before it do not apply
   least_by : (bound : ℕ) → bound ≤ 6 → length line ≤ longest_line
-      → ((cause : Cause) → said_by m (words_of line) ≡ Err cause → bound ≤ rank cause)
+      → ((cause : Cause) → said_by m.says (words_of line) ≡ Err cause → bound ≤ rank cause)
       → (Applies m before line Late → bound ≤ 4) → (Applies m before line Twice → bound ≤ 5)
       → (other : Cause) → Applies m before line other → bound ≤ rank other
   least_by bound top short silent late twice Long long = omega (arith, long)
@@ -189,7 +188,7 @@ module _ (m : Saying) (words : HasWordCauses m) (before : List (List ℕ)) (clos
   words_rank Twice of = absurd of
   words_rank Full of = absurd of
 
-  same_words : (cause other : Cause) → said_by m (words_of line) ≡ Err cause → said_by m (words_of line) ≡ Err other → rank cause ≤ rank other
+  same_words : (cause other : Cause) → said_by m.says (words_of line) ≡ Err cause → said_by m.says (words_of line) ≡ Err other → rank cause ≤ rank other
   same_words cause other is is' = let same : cause ≡ other = cc in let ranks : rank cause ≡ rank other = ap rank same in omega (arith, ranks)
 
   pub judges : (step : Step) → Comes m closed batch line step → Judges m before line step
@@ -222,19 +221,19 @@ module _ (m : Saying) (words : HasWordCauses m) (before : List (List ℕ)) (clos
         (λ is. absurd (late_not e (says_event m line e says) later is)) (λ is. omega arith);
   }
   judges _ (is_full e says later fresh full) = record {
-    applies = (e, says_event m line e says, let same : length batch ≡ length (unfinished m before) = ap length h.events in omega (arith, same, full));
+    applies = (e, says_event m line e says, let same : length batch ≡ length (unfinished m.says before) = ap length h.events in omega (arith, same, full));
     least = least_by 6 (omega arith) says.short (λ other w. absurd (words_differ _ e other says.says w))
         (λ is. absurd (late_not e (says_event m line e says) later is)) (λ is. absurd (twice_not e (says_event m line e says) fresh is));
   }
 
 -- where a step leads, by what it is
-StandsAfter : Saying → List (List ℕ) → (closed : ℕ) → List Transaction → Step → Type 0
+StandsAfter : Rules → List (List ℕ) → (closed : ℕ) → List Transaction → Step → Type 0
 StandsAfter m lines closed batch Ignored = Stands m lines closed batch
 StandsAfter m lines closed batch Closes = Stands m lines (latest_with batch closed) []
 StandsAfter m lines closed batch (Adds e) = Stands m lines closed (batch ++ e ∷ [])
 StandsAfter m lines closed batch (Refuses cause) = Unit {0}
 
-stands_after : (m : Saying) (before : List (List ℕ)) (closed : ℕ) (batch : List Transaction) (line : List ℕ) (step : Step) → Stands m before closed batch
+stands_after : (m : Rules) (before : List (List ℕ)) (closed : ℕ) (batch : List Transaction) (line : List ℕ) (step : Step) → Stands m before closed batch
     → Comes m closed batch line step → StandsAfter m (before ++ line ∷ []) closed batch step
 unfolding StandsAfter
 stands_after m before closed batch line _ h (passed_over short ignored) =
@@ -278,7 +277,7 @@ refused_at n k c cause is = (cc, cc)
 heads : (x y : List ℕ) (xs ys : List (List ℕ)) → x ∷ xs ≡ y ∷ ys → (x ≡ y) × (xs ≡ ys)
 heads x y xs ys is = (cc, cc)
 
-module _ (m : Saying) (words : HasWordCauses m) (all : List (List ℕ)) (cut : Bool) where
+module _ (m : Rules) (words : HasWordCauses m.says) (all : List (List ℕ)) (cut : Bool) where
   -- the line behind the first n
   at_place : (n : ℕ) (line : List ℕ) (lines : List (List ℕ)) → drop n all ≡ line ∷ lines → (n < length all) × (get_or all n [] ≡ line) × (drop (n + 1) all ≡ lines)
   at_place n line lines is = by_length (cases_lt n (length all))

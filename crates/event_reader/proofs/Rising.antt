@@ -5,7 +5,7 @@ use Rattle.std.specs.List.{All, AllPairs, IsDistinct}
 use Rattle.std.proofs.lemmas.List.Elements.{All-nil, All-cons, All-push, All-weaker}
 use Rattle.std.proofs.lemmas.List.Kept.{AllPairs-cons}
 use Rattle.morph_base.specs.Transactions.{Transaction, time}
-use Rattle.event_reader.specs.Steps.{Saying, Step, Ignored, Closes, Adds, Refuses, latest_with, step_of}
+use Rattle.event_reader.specs.Steps.{Rules, Step, Ignored, Closes, Adds, Refuses, latest_with, step_of}
 use Rattle.event_reader.specs.Accepted.{Accepted, Ended, with_batch, led_by, accepted_lines}
 use Rattle.event_reader.specs.LineEvents.{IsBefore}
 use Rattle.event_reader.proofs.Comings.{Comes, joins, comes}
@@ -41,7 +41,7 @@ rises_with : (closed : ℕ) (batch : List Transaction) (all : Accepted) → Goes
 rises_with closed [] all goes h = h
 rises_with closed (e ∷ es) all goes h = (goes.later, goes.distinct, h)
 
-led_rises : (m : Saying) (closed : ℕ) (batch : List Transaction) (line : List ℕ) (step : Step) → Comes m closed batch line step → Goes closed batch
+led_rises : (m : Rules) (closed : ℕ) (batch : List Transaction) (line : List ℕ) (step : Step) → Comes m closed batch line step → Goes closed batch
     → (n : ℕ) (after : ℕ → List Transaction → Accepted) → ((closed' : ℕ) (batch' : List Transaction) → Goes closed' batch' → Rises closed' (after closed' batch').batches)
     → Rises closed (led_by step n closed batch after).batches
 led_rises m closed batch line Ignored is goes n after h = h closed batch goes
@@ -51,7 +51,7 @@ led_rises m closed batch line (Adds e) (joins e' says later fresh few) goes n af
     h closed (batch ++ e ∷ []) (record { later = All-push (λ f. closed < f.ts) batch e goes.later later; distinct = distinct_more batch e fresh goes.distinct })
 led_rises m closed batch line (Refuses cause) is goes n after h = tt
 
-rises_lines : (m : Saying) (n closed : ℕ) (batch : List Transaction) (lines : List (List ℕ)) (cut : Bool) → Goes closed batch
+rises_lines : (m : Rules) (n closed : ℕ) (batch : List Transaction) (lines : List (List ℕ)) (cut : Bool) → Goes closed batch
     → Rises closed (accepted_lines m n closed batch lines cut).batches
 unfolding accepted_lines
 rises_lines m n closed batch [] true goes = tt
@@ -60,7 +60,7 @@ rises_lines m n closed batch (line ∷ lines) cut goes =
     led_rises m closed batch line (step_of m closed batch line) (comes m closed batch line) goes n _
     (λ closed' batch' goes'. rises_lines m (n + 1) closed' batch' lines cut goes')
 
-pub rises : (m : Saying) (n closed : ℕ) (lines : List (List ℕ)) (cut : Bool) → Rises closed (accepted_lines m n closed [] lines cut).batches
+pub rises : (m : Rules) (n closed : ℕ) (lines : List (List ℕ)) (cut : Bool) → Rises closed (accepted_lines m n closed [] lines cut).batches
 rises m n closed lines cut = rises_lines m n closed [] lines cut (goes_new closed)
 
 -- so every batch comes after what was closed, and after each earlier batch

@@ -4,7 +4,7 @@ use Rattle.std.specs.Prelude.{◌==◌, ◌||◌, filter, flat_map}
 use Rattle.std.specs.List.{slice_split, onto_first, cons_option}
 use Rattle.std.proofs.lemmas.Bool.Decides.{nat_tests}
 use Rattle.morph_base.specs.Transactions.{Transaction}
-use Rattle.event_reader.specs.Steps.{Saying, Step, Ignored, Closes, Adds, Refuses, latest_with, is_ignored, is_punctuation, step_of}
+use Rattle.event_reader.specs.Steps.{Rules, Step, Ignored, Closes, Adds, Refuses, latest_with, is_ignored, is_punctuation, step_of}
 use Rattle.event_reader.specs.Accepted.{Accepted, Ended, with_batch, led_by, accepted_lines}
 use Rattle.event_reader.specs.LineEvents.{event_said, events_said, has_event, batches_said}
 use Rattle.event_reader.proofs.Comings.{SaysWords, Comes, passed_over, marks, joins, comes}
@@ -22,20 +22,20 @@ or_true : (a : Bool) → (a || true) ≡ true
 or_true true = refl
 or_true false = refl
 
-module _ (m : Saying) where
+module _ (m : Rules) where
   -- what a line says, by what it is
-  pub none_ignored : (line : List ℕ) → is_ignored line ≡ true → event_said m line ≡ None
+  pub none_ignored : (line : List ℕ) → is_ignored line ≡ true → event_said m.says line ≡ None
   none_ignored line ignored = rw ignored refl
 
-  pub none_marked : (line : List ℕ) → is_punctuation line ≡ true → event_said m line ≡ None
+  pub none_marked : (line : List ℕ) → is_punctuation line ≡ true → event_said m.says line ≡ None
   none_marked line marked = rw (marked, or_true (is_ignored line)) refl
 
-  pub says_event : (line : List ℕ) (e : Transaction) → SaysWords m line (Ok e) → event_said m line ≡ Some e
+  pub says_event : (line : List ℕ) (e : Transaction) → SaysWords m line (Ok e) → event_said m.says line ≡ Some e
   says_event line e says = rw (says.counts, says.no_mark, says.says) refl
 
   -- the events between punctuations, with more in front of the first
   abbrev pub parts : List (List ℕ) → List (List Transaction)
-  parts lines = map (events_said m) (slice_split is_punctuation lines)
+  parts lines = map (events_said m.says) (slice_split is_punctuation lines)
 
   abbrev pub onto : List Transaction → List (List Transaction) → List (List Transaction)
   onto batch [] = batch ∷ []
@@ -54,24 +54,24 @@ module _ (m : Saying) where
   pub parts_marked : (line : List ℕ) (lines : List (List ℕ)) → is_punctuation line ≡ true → parts (line ∷ lines) ≡ [] ∷ parts lines
   parts_marked line lines marked = rw marked refl
 
-  pub parts_unmarked : (line : List ℕ) (lines : List (List ℕ)) (o : Option Transaction) → is_punctuation line ≡ false → event_said m line ≡ o
+  pub parts_unmarked : (line : List ℕ) (lines : List (List ℕ)) (o : Option Transaction) → is_punctuation line ≡ false → event_said m.says line ≡ o
       → parts (line ∷ lines) ≡ onto (cons_option o []) (parts lines)
   parts_unmarked line lines o unmarked says =
       let some = some_part lines in
-      ap (λ t. map (events_said m) (if t then [] ∷ slice_split is_punctuation lines else onto_first line (slice_split is_punctuation lines))) unmarked
-      ∙ ap (λ ps. map (events_said m) (onto_first line ps)) some.2
+      ap (λ t. map (events_said m.says) (if t then [] ∷ slice_split is_punctuation lines else onto_first line (slice_split is_punctuation lines))) unmarked
+      ∙ ap (λ ps. map (events_said m.says) (onto_first line ps)) some.2
       ∙ by_said o says some.0 some.1
-      ∙ ap (λ ps. onto (cons_option o []) (map (events_said m) ps)) (sym some.2)
+      ∙ ap (λ ps. onto (cons_option o []) (map (events_said m.says) ps)) (sym some.2)
     where
-      by_said : (o : Option Transaction) → event_said m line ≡ o → (part : List (List ℕ)) → (more : List (List (List ℕ)))
-          → map (events_said m) ((line ∷ part) ∷ more) ≡ onto (cons_option o []) (map (events_said m) (part ∷ more))
-      by_said None is part more = ap (λ o. cons_option o (events_said m part) ∷ map (events_said m) more) is
-      by_said (Some e) is part more = ap (λ o. cons_option o (events_said m part) ∷ map (events_said m) more) is
+      by_said : (o : Option Transaction) → event_said m.says line ≡ o → (part : List (List ℕ)) → (more : List (List (List ℕ)))
+          → map (events_said m.says) ((line ∷ part) ∷ more) ≡ onto (cons_option o []) (map (events_said m.says) (part ∷ more))
+      by_said None is part more = ap (λ o. cons_option o (events_said m.says part) ∷ map (events_said m.says) more) is
+      by_said (Some e) is part more = ap (λ o. cons_option o (events_said m.says part) ∷ map (events_said m.says) more) is
 
   pub onto_more : (batch events : List Transaction) (lines : List (List ℕ)) → onto batch (onto events (parts lines)) ≡ onto (batch ++ events) (parts lines)
   onto_more batch events lines =
       let some = some_part lines in
-      rw some.2 (ap (λ part. part ∷ map (events_said m) some.1) (sym (append_assoc batch events (events_said m some.0))))
+      rw some.2 (ap (λ part. part ∷ map (events_said m.says) some.1) (sym (append_assoc batch events (events_said m.says some.0))))
 
   pub onto_none : (lines : List (List ℕ)) → onto [] (parts lines) ≡ parts lines
   onto_none lines = let some = some_part lines in rw some.2 refl
@@ -120,7 +120,7 @@ module _ (m : Saying) where
       (λ closed' batch'. batches_from (n + 1) closed' batch' lines) ended
 
   pub batches_are_said : (n closed : ℕ) (lines : List (List ℕ)) → (accepted_lines m n closed [] lines false).ending ≡ Ended
-      → (accepted_lines m n closed [] lines false).batches ≡ batches_said m lines
+      → (accepted_lines m n closed [] lines false).batches ≡ batches_said m.says lines
   batches_are_said n closed lines ended = batches_from n closed [] lines ended ∙ ap (filter has_event) (onto_none lines)
 
   -- one after another they are all events
@@ -131,23 +131,23 @@ module _ (m : Saying) where
       let some : has_event (e ∷ es) ≡ true = grind (arith, nat_tests) in
       rw some (ap (λ bs. (e ∷ es) ++ bs) (joined_kept batches))
 
-  joined_parts : (lines : List (List ℕ)) → flat_map (λ batch. batch) (parts lines) ≡ events_said m lines
+  joined_parts : (lines : List (List ℕ)) → flat_map (λ batch. batch) (parts lines) ≡ events_said m.says lines
   joined_parts [] = refl
   joined_parts (line ∷ lines) = by_mark (is_punctuation line) refl (joined_parts lines)
     where
-      by_said : (o : Option Transaction) → flat_map (λ batch. batch) (parts lines) ≡ events_said m lines
-          → flat_map (λ batch. batch) (onto (cons_option o []) (parts lines)) ≡ cons_option o (events_said m lines)
+      by_said : (o : Option Transaction) → flat_map (λ batch. batch) (parts lines) ≡ events_said m.says lines
+          → flat_map (λ batch. batch) (onto (cons_option o []) (parts lines)) ≡ cons_option o (events_said m.says lines)
       by_said None h = ap (flat_map (λ batch. batch)) (onto_none lines) ∙ h
       by_said (Some e) h = let some = some_part lines in rw some.2 (rw some.2 at (ap (λ es. e ∷ es) h))
 
-      by_mark : (t : Bool) → is_punctuation line ≡ t → flat_map (λ batch. batch) (parts lines) ≡ events_said m lines
-          → flat_map (λ batch. batch) (parts (line ∷ lines)) ≡ events_said m (line ∷ lines)
+      by_mark : (t : Bool) → is_punctuation line ≡ t → flat_map (λ batch. batch) (parts lines) ≡ events_said m.says lines
+          → flat_map (λ batch. batch) (parts (line ∷ lines)) ≡ events_said m.says (line ∷ lines)
       by_mark true is h =
-          ap (flat_map (λ batch. batch)) (parts_marked line lines is) ∙ h ∙ ap (λ o. cons_option o (events_said m lines)) (sym (none_marked line is))
+          ap (flat_map (λ batch. batch)) (parts_marked line lines is) ∙ h ∙ ap (λ o. cons_option o (events_said m.says lines)) (sym (none_marked line is))
       by_mark false is h =
-          ap (flat_map (λ batch. batch)) (parts_unmarked line lines (event_said m line) is refl) ∙ by_said (event_said m line) h
+          ap (flat_map (λ batch. batch)) (parts_unmarked line lines (event_said m.says line) is refl) ∙ by_said (event_said m.says line) h
 
   pub joined_are_said : (n closed : ℕ) (lines : List (List ℕ)) → (accepted_lines m n closed [] lines false).ending ≡ Ended
-      → flat_map (λ batch. batch) (accepted_lines m n closed [] lines false).batches ≡ events_said m lines
+      → flat_map (λ batch. batch) (accepted_lines m n closed [] lines false).batches ≡ events_said m.says lines
   joined_are_said n closed lines ended =
       ap (flat_map (λ batch. batch)) (batches_are_said n closed lines ended) ∙ joined_kept (parts lines) ∙ joined_parts lines

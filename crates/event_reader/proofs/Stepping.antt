@@ -7,24 +7,24 @@ use Rattle.std.proofs.lemmas.List.{map_push}
 use Rattle.std.proofs.lemmas.List.Elements.{All-push}
 use Rattle.std.proofs.lemmas.List.Sorted.{IsPermutation-to_front, IsPermutation-sym}
 use Rattle.std.proofs.lemmas.Map.Keys.{IsDistinct-cons, IsDistinct-IsPermutation}
-use Rattle.morph_base.specs.declared.limits.TheConstants.{EVENTS}
 use Rattle.morph_base.specs.declared.key.Layout.{Layout}
 use Rattle.morph_base.specs.Transactions.{Transaction, time, IsTransaction, HasKeysIn, HasHigh}
 use Rattle.morph_base.proofs.BoundLaws.{alike_all}
 use Rattle.event_reader.specs.declared.version.Version.{Version}
 use Rattle.event_reader.specs.Reader.{IsEventOf}
-use Rattle.event_reader.specs.Versions.{greatest_of}
+use Rattle.event_reader.specs.Versions.{greatest_of, most_events}
+use Rattle.event_reader.specs.VersionLaws.{events_at_most}
 use Rattle.event_reader.specs.Limits.{longest_line}
 use Rattle.event_reader.specs.declared.cause.Cause.{Cause}
 use Rattle.event_reader.specs.declared.cause.Cause.TheVariants.{Late, Twice, Full}
 use Rattle.event_reader.specs.Lines.{Reading, with_line}
 use Rattle.event_reader.specs.Words.{words_of}
-use Rattle.event_reader.specs.Steps.{Saying, Step, Ignored, Closes, Adds, Refuses, latest_with, has_time, joining, event_step, said_by, is_ignored, is_punctuation, step_of}
+use Rattle.event_reader.specs.Steps.{Rules, Step, Ignored, Closes, Adds, Refuses, latest_with, has_time, joining, event_step, said_by, is_ignored, is_punctuation, step_of}
 use Rattle.event_reader.specs.Accepted.{RefusedAt, accepted_from, with_batch}
 use Rattle.event_reader.specs.Pending.{IsSound}
 use Rattle.event_reader.proofs.Batching.{leads}
 
-module _ (m : Saying) (closed : ℕ) (batch : List Transaction) (line : List ℕ) (short : length line ≤ longest_line) where
+module _ (m : Rules) (closed : ℕ) (batch : List Transaction) (line : List ℕ) (short : length line ≤ longest_line) where
   is_short : nat_lt longest_line (length line) ≡ false
   is_short = grind (arith, nat_tests)
 
@@ -36,10 +36,10 @@ module _ (m : Saying) (closed : ℕ) (batch : List Transaction) (line : List ℕ
   unfolding step_of
   step_closes taken closes = rw (is_short, taken, closes) refl
 
-  step_event : is_ignored line ≡ false → is_punctuation line ≡ false → (said : Result Transaction Cause) → said_by m (words_of line) ≡ said
-      → step_of m closed batch line ≡ event_step closed batch said
+  step_event : is_ignored line ≡ false → is_punctuation line ≡ false → (said : Result Transaction Cause) → said_by m.says (words_of line) ≡ said
+      → step_of m closed batch line ≡ event_step m.most closed batch said
   unfolding step_of
-  step_event taken event said is = rw (is_short, taken, event) (ap (event_step closed batch) is)
+  step_event taken event said is = rw (is_short, taken, event) (ap (event_step m.most closed batch) is)
 
   -- where it leads
   pub leads_ignored : is_ignored line ≡ true → (n : ℕ) (r : Reading) → accepted_from m n closed batch (with_line line r) ≡ accepted_from m (n + 1) closed batch r
@@ -55,23 +55,23 @@ module _ (m : Saying) (closed : ℕ) (batch : List Transaction) (line : List ℕ
       leads m n closed batch line Closes (step_closes taken closes) r
       ∙ ap (λ l. with_batch batch (accepted_from m (n + 1) l [] r)) (sym is)
 
-  pub leads_refused : (cause : Cause) → is_ignored line ≡ false → is_punctuation line ≡ false → said_by m (words_of line) ≡ Err cause → (n : ℕ) (r : Reading)
+  pub leads_refused : (cause : Cause) → is_ignored line ≡ false → is_punctuation line ≡ false → said_by m.says (words_of line) ≡ Err cause → (n : ℕ) (r : Reading)
       → accepted_from m n closed batch (with_line line r) ≡ record { batches = []; ending = RefusedAt (n + 1) cause }
   leads_refused cause taken event is n r = leads m n closed batch line (Refuses cause) (step_event taken event (Err cause) is) r
 
-  pub leads_event : (e : Transaction) (step : Step) → is_ignored line ≡ false → is_punctuation line ≡ false → said_by m (words_of line) ≡ Ok e
-      → joining closed batch e ≡ step → step_of m closed batch line ≡ step
+  pub leads_event : (e : Transaction) (step : Step) → is_ignored line ≡ false → is_punctuation line ≡ false → said_by m.says (words_of line) ≡ Ok e
+      → joining m.most closed batch e ≡ step → step_of m closed batch line ≡ step
   leads_event e step taken event is joins = step_event taken event (Ok e) is ∙ joins
 
-  pub leads_joined : (e : Transaction) (batch' : List Transaction) → is_ignored line ≡ false → is_punctuation line ≡ false → said_by m (words_of line) ≡ Ok e
-      → joining closed batch e ≡ Adds e → batch' ≡ batch ++ e ∷ [] → (n : ℕ) (r : Reading)
+  pub leads_joined : (e : Transaction) (batch' : List Transaction) → is_ignored line ≡ false → is_punctuation line ≡ false → said_by m.says (words_of line) ≡ Ok e
+      → joining m.most closed batch e ≡ Adds e → batch' ≡ batch ++ e ∷ [] → (n : ℕ) (r : Reading)
       → accepted_from m n closed batch (with_line line r) ≡ accepted_from m (n + 1) closed batch' r
   leads_joined e batch' taken event is joins more n r =
       leads m n closed batch line (Adds e) (leads_event e (Adds e) taken event is joins) r
       ∙ ap (λ b. accepted_from m (n + 1) closed b r) (sym more)
 
-  pub leads_not_joined : (e : Transaction) (cause : Cause) → is_ignored line ≡ false → is_punctuation line ≡ false → said_by m (words_of line) ≡ Ok e
-      → joining closed batch e ≡ Refuses cause → (n : ℕ) (r : Reading)
+  pub leads_not_joined : (e : Transaction) (cause : Cause) → is_ignored line ≡ false → is_punctuation line ≡ false → said_by m.says (words_of line) ≡ Ok e
+      → joining m.most closed batch e ≡ Refuses cause → (n : ℕ) (r : Reading)
       → accepted_from m n closed batch (with_line line r) ≡ record { batches = []; ending = RefusedAt (n + 1) cause }
   leads_not_joined e cause taken event is joins n r = leads m n closed batch line (Refuses cause) (leads_event e (Refuses cause) taken event is joins) r
 
@@ -109,15 +109,16 @@ distinct_more batch e fresh distinct =
 
 -- a batch with one event more stays sound
 pub sound_more : (version : Version) (layout : Layout) (closed : ℕ) (batch : List Transaction) (e : Transaction) (batch' : List Transaction) → IsSound version layout batch
-    → IsEventOf version layout e → joining closed batch e ≡ Adds e → batch' ≡ batch ++ e ∷ [] → IsSound version layout batch'
+    → IsEventOf version layout e → joining (most_events version) closed batch e ≡ Adds e → batch' ≡ batch ++ e ∷ [] → IsSound version layout batch'
 sound_more version layout closed batch e batch' h event joins more =
-    let when = joins_when e (nat_le e.ts closed) (has_time batch e.ts) (nat_le EVENTS (length batch)) joins in
-    let few : length batch < EVENTS = grind (arith, nat_tests, when.1) in
+    let when = joins_when e (nat_le e.ts closed) (has_time batch e.ts) (nat_le (most_events version) (length batch)) joins in
+    let few : length batch < most_events version = grind (arith, nat_tests, when.1) in
+    let most = events_at_most version in
     let valid : All IsTransaction (batch ++ e ∷ []) = All-push IsTransaction batch e h.valid.valid event.0 in
     let limits : All (HasHigh (greatest_of version)) (batch ++ e ∷ []) = All-push (HasHigh (greatest_of version)) batch e h.limits event.2 in
     rw more record {
       valid = record {
-        few = omega (arith, length-append batch (e ∷ []));
+        few = omega (arith, few, most, length-append batch (e ∷ []));
         valid = valid;
         times = distinct_more batch e when.0 h.valid.times;
         alike = alike_all (greatest_of version) (batch ++ e ∷ []) valid limits;

@@ -5,7 +5,7 @@ use Rattle.event_reader.specs.declared.cause.Cause.{Cause}
 use Rattle.event_reader.specs.declared.version.Version.{Version}
 use Rattle.event_reader.specs.declared.version.Version.TheVariants.{One, Two}
 use Rattle.event_reader.specs.Lines.{Reading, whole, front, within, behind_first}
-use Rattle.event_reader.specs.Steps.{Saying, Meaning, Step, Ignored, Closes, Adds, Refuses, latest_with, step_of}
+use Rattle.event_reader.specs.Steps.{Meaning, Rules, rules_of, Step, Ignored, Closes, Adds, Refuses, latest_with, step_of}
 use Rattle.event_reader.specs.Versions.{has_version_line}
 
 -- how the batches end: the input ends, a line is refused, or the lines are cut off with none refused
@@ -37,24 +37,24 @@ led_by (Refuses cause) number closed batch after = record { batches = []; ending
 
 -- the batches of lines of one version, where `number` lines stand before them, `closed` is the greatest timestamp of the batches
 -- closed before, and `batch` has the events of the unfinished batch
-unfoldable pub accepted_lines : Saying → (number closed : ℕ) → List Transaction → List (List ℕ) → (cut : Bool) → Accepted
-accepted_lines saying number closed batch [] cut = at_last cut batch
-accepted_lines saying number closed batch (line ∷ lines) cut =
-    led_by (step_of saying closed batch line) number closed batch
-    (λ closed' batch'. accepted_lines saying (number + 1) closed' batch' lines cut)
+unfoldable pub accepted_lines : Rules → (number closed : ℕ) → List Transaction → List (List ℕ) → (cut : Bool) → Accepted
+accepted_lines rules number closed batch [] cut = at_last cut batch
+accepted_lines rules number closed batch (line ∷ lines) cut =
+    led_by (step_of rules closed batch line) number closed batch
+    (λ closed' batch'. accepted_lines rules (number + 1) closed' batch' lines cut)
 
-abbrev pub accepted_from : Saying → (number closed : ℕ) → List Transaction → Reading → Accepted
-accepted_from saying number closed batch reading = accepted_lines saying number closed batch reading.lines reading.cut
+abbrev pub accepted_from : Rules → (number closed : ℕ) → List Transaction → Reading → Accepted
+accepted_from rules number closed batch reading = accepted_lines rules number closed batch reading.lines reading.cut
 
 -- the batches of an input's lines from the first on: the version line is ignored, and all others are lines of its version
 abbrev pub accepted_first : Meaning → (closed : ℕ) → List Transaction → Reading → Accepted
 accepted_first meaning closed batch reading =
-    if has_version_line reading.lines then accepted_from (meaning Two) 1 closed batch (behind_first reading) else accepted_from (meaning One) 0 closed batch reading
+    if has_version_line reading.lines then accepted_from (rules_of meaning Two) 1 closed batch (behind_first reading) else accepted_from (rules_of meaning One) 0 closed batch reading
 
 -- the batches of lines that stand behind so many of an input of this version; before the first line its version is not known
 abbrev pub accepted_behind : Meaning → Version → (number closed : ℕ) → List Transaction → Reading → Accepted
 accepted_behind meaning version number closed batch reading =
-    if number == 0 then accepted_first meaning closed batch reading else accepted_from (meaning version) number closed batch reading
+    if number == 0 then accepted_first meaning closed batch reading else accepted_from (rules_of meaning version) number closed batch reading
 
 -- the batches that are closed before the first refused line of an input, in order, with that line's number and cause if
 -- there is one. Where there is none the end of the input closes the last batch

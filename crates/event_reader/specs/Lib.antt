@@ -26,3 +26,4 @@ pub mod Counter
 pub mod CounterLaws
 pub mod Versions
 pub mod VersionLaws
+pub mod Keys

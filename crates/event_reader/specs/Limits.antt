@@ -15,7 +15,11 @@ buffer_bytes = 4096
 
 -- the most words of an event line
 abbrev pub line_words : ℕ
-line_words = 9
+line_words = 19
+
+-- the most events of a batch in version 1
+abbrev pub first_events : ℕ
+first_events = 10240
 
 -- the most bytes of the printed name of a table
 abbrev pub name_bytes : ℕ
@@ -41,4 +45,4 @@ abbrev pub generated_ids : ℕ
 generated_ids = 1000000
 
 abbrev pub generated_bytes : ℕ
-generated_bytes = 200
+generated_bytes = 300

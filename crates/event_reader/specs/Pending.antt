@@ -11,7 +11,7 @@ use Rattle.event_reader.specs.declared.version.Version.{Version}
 use Rattle.event_reader.specs.Versions.{greatest_of}
 use Rattle.event_reader.specs.Times.{is_among}
 use Rattle.event_reader.specs.Lines.{Reading, with_line}
-use Rattle.event_reader.specs.Steps.{Saying, Adds, Refuses, latest_with, has_time, joining}
+use Rattle.event_reader.specs.Steps.{Rules, Adds, Refuses, latest_with, has_time, joining}
 use Rattle.event_reader.specs.Accepted.{RefusedAt, accepted_from, with_batch}
 
 -- its events
@@ -30,32 +30,32 @@ pub record IsSound (version : Version) (layout : Layout) (batch : List Transacti
   pub limits : All (HasHigh (greatest_of version)) batch
 
 -- one event more
-pub record HasMore (closed : ℕ) (old : Pending) (e : Transaction) (new : Pending) : Type 0 where
-  pub joins : joining closed (batch_of old) e ≡ Adds e
+pub record HasMore (most closed : ℕ) (old : Pending) (e : Transaction) (new : Pending) : Type 0 where
+  pub joins : joining most closed (batch_of old) e ≡ Adds e
   pub events : batch_of new ≡ batch_of old ++ e ∷ []
   pub notes : Notes closed new
 
 -- an event joins the batch, or is refused
-abbrev pub Joins : (closed : ℕ) → (old : Pending) → Transaction → (new : Pending) → Option Cause → Type 0
-Joins closed old e new None = HasMore closed old e new
-Joins closed old e new (Some cause) = joining closed (batch_of old) e ≡ Refuses cause
+abbrev pub Joins : (most closed : ℕ) → (old : Pending) → Transaction → (new : Pending) → Option Cause → Type 0
+Joins most closed old e new None = HasMore most closed old e new
+Joins most closed old e new (Some cause) = joining most closed (batch_of old) e ≡ Refuses cause
 
 -- after the line the batch goes on, with at most one event more
-pub record GoesOnAfter (saying : Saying) (version : Version) (layout : Layout) (closed : ℕ) (old : Pending) (line : List ℕ) (new : Pending) : Type 0 where
-  pub leads : (n : ℕ) (r : Reading) → accepted_from saying n closed (batch_of old) (with_line line r) ≡ accepted_from saying (n + 1) closed (batch_of new) r
+pub record GoesOnAfter (rules : Rules) (version : Version) (layout : Layout) (closed : ℕ) (old : Pending) (line : List ℕ) (new : Pending) : Type 0 where
+  pub leads : (n : ℕ) (r : Reading) → accepted_from rules n closed (batch_of old) (with_line line r) ≡ accepted_from rules (n + 1) closed (batch_of new) r
   pub notes : Notes closed new
   pub sound : IsSound version layout (batch_of new)
   pub more : length (batch_of new) ≤ length (batch_of old) + 1
 
 -- the line closes the batch, which has an event
-pub record ClosedBy (saying : Saying) (closed : ℕ) (old : Pending) (line : List ℕ) (new : Pending) : Type 0 where
-  pub leads : (n : ℕ) (r : Reading) → accepted_from saying n closed (batch_of old) (with_line line r) ≡ with_batch (batch_of old) (accepted_from saying (n + 1) old.latest [] r)
+pub record ClosedBy (rules : Rules) (closed : ℕ) (old : Pending) (line : List ℕ) (new : Pending) : Type 0 where
+  pub leads : (n : ℕ) (r : Reading) → accepted_from rules n closed (batch_of old) (with_line line r) ≡ with_batch (batch_of old) (accepted_from rules (n + 1) old.latest [] r)
   pub same : new ≡ old
   pub some : 0 < length old.events.items
 
 -- what a line does
-abbrev pub TakesLine : Saying → Version → Layout → (closed : ℕ) → (old : Pending) → (line : List ℕ) → (new : Pending) → LineEffect → Type 0
-TakesLine saying version layout closed old line new GoesOn = GoesOnAfter saying version layout closed old line new
-TakesLine saying version layout closed old line new ClosesBatch = ClosedBy saying closed old line new
-TakesLine saying version layout closed old line new (RefusesLine cause) =
-    (n : ℕ) (r : Reading) → accepted_from saying n closed (batch_of old) (with_line line r) ≡ record { batches = []; ending = RefusedAt (n + 1) cause }
+abbrev pub TakesLine : Rules → Version → Layout → (closed : ℕ) → (old : Pending) → (line : List ℕ) → (new : Pending) → LineEffect → Type 0
+TakesLine rules version layout closed old line new GoesOn = GoesOnAfter rules version layout closed old line new
+TakesLine rules version layout closed old line new ClosesBatch = ClosedBy rules closed old line new
+TakesLine rules version layout closed old line new (RefusesLine cause) =
+    (n : ℕ) (r : Reading) → accepted_from rules n closed (batch_of old) (with_line line r) ≡ record { batches = []; ending = RefusedAt (n + 1) cause }

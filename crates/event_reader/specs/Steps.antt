@@ -2,12 +2,12 @@
 use Rattle.std.specs.Prelude.{ℕ, Bool, ◌||◌, ◌==◌, nat_le, nat_lt, max, fold, if◌then◌else◌, List, [], ◌∷◌, length, slice_index, Option, Some, None, Result, Ok, Err}
 use Rattle.std.specs.List.{list_any}
 use Rattle.std.specs.Str.{bytes_eq}
-use Rattle.morph_base.specs.declared.limits.TheConstants.{EVENTS}
 use Rattle.morph_base.specs.Transactions.{Transaction}
 use Rattle.event_reader.specs.Limits.{longest_line}
 use Rattle.event_reader.specs.declared.cause.Cause.{Cause}
 use Rattle.event_reader.specs.declared.version.Version.{Version}
 use Rattle.event_reader.specs.declared.cause.Cause.TheVariants.{Long, Form, Late, Twice, Full}
+use Rattle.event_reader.specs.Versions.{most_events}
 use Rattle.event_reader.specs.Words.{words_of}
 
 -- what an application makes of the words of a line: its event, or the first of the causes form, range and same
@@ -17,6 +17,14 @@ Saying = List (List ℕ) → Result Transaction Cause
 -- the same in an input of each version
 abbrev pub Meaning : Type 0
 Meaning = Version → Saying
+
+-- what lines of one version may be: what their words say, and the most events of a batch
+pub record Rules : Type 0 where
+  pub says : Saying
+  pub most : ℕ
+
+abbrev pub rules_of : Meaning → Version → Rules
+rules_of meaning version = record { says = meaning version; most = most_events version }
 
 -- what a line does: nothing, close the batch, add an event to it, or end the reading
 pub data Step : Type 0 where
@@ -34,15 +42,15 @@ abbrev pub has_time : List Transaction → ℕ → Bool
 has_time batch ts = list_any (λ e. e.ts == ts) batch
 
 -- what an event does: it is late, there twice, or one too many, or it joins the batch
-abbrev pub joining : (closed : ℕ) → List Transaction → Transaction → Step
-joining closed batch e =
+abbrev pub joining : (most closed : ℕ) → List Transaction → Transaction → Step
+joining most closed batch e =
     if nat_le e.ts closed then Refuses Late else (if has_time batch e.ts then Refuses Twice
-    else (if nat_le EVENTS (length batch) then Refuses Full else Adds e))
+    else (if nat_le most (length batch) then Refuses Full else Adds e))
 
 -- what an event line does: its words are no form, the application refuses them, or they are an event
-abbrev pub event_step : (closed : ℕ) → List Transaction → Result Transaction Cause → Step
-event_step closed batch (Ok e) = joining closed batch e
-event_step closed batch (Err cause) = Refuses cause
+abbrev pub event_step : (most closed : ℕ) → List Transaction → Result Transaction Cause → Step
+event_step most closed batch (Ok e) = joining most closed batch e
+event_step most closed batch (Err cause) = Refuses cause
 
 abbrev pub said_by : Saying → Option (List (List ℕ)) → Result Transaction Cause
 said_by saying (Some words) = saying words
@@ -58,7 +66,7 @@ is_punctuation line = bytes_eq line (80 ∷ [])
 
 -- what a line does, where `closed` is the greatest timestamp of the batches closed before it, and `batch` has the events
 -- of the unfinished batch, in order of arrival
-unfoldable pub step_of : Saying → (closed : ℕ) → List Transaction → List ℕ → Step
-step_of saying closed batch line =
+unfoldable pub step_of : Rules → (closed : ℕ) → List Transaction → List ℕ → Step
+step_of rules closed batch line =
     if nat_lt longest_line (length line) then Refuses Long else (if is_ignored line then Ignored
-    else (if is_punctuation line then Closes else event_step closed batch (said_by saying (words_of line))))
+    else (if is_punctuation line then Closes else event_step rules.most closed batch (said_by rules.says (words_of line))))

@@ -1,7 +1,7 @@
 -- The versions of an input, and the version line.
 use Rattle.std.proofs.Common.{◌≡◌, ℕ, ◌<◌, ◌≤◌, Bool, true, false, List, length, refl, ap, inl, inr, arith, zero-le}
 use Rattle.std.proofs.lemmas.Slice.Eq.{bytes_eq-Decides}
-use Rattle.morph_base.specs.declared.limits.TheConstants.{FIRST_MAX}
+use Rattle.morph_base.specs.declared.limits.TheConstants.{EVENTS, FIRST_MAX}
 use Rattle.morph_base.specs.declared.key.Key.{Key}
 use Rattle.morph_base.specs.declared.operation.Func.{Func}
 use Rattle.morph_base.specs.Operations.{IsLimit, IsShaped, least_params, most_params}
@@ -9,7 +9,7 @@ use Rattle.morph_base.proofs.ShapeLaws.{op_of-limited}
 use Rattle.event_reader.specs.declared.version.Version.{Version}
 use Rattle.event_reader.specs.declared.version.Version.TheVariants.{One, Two}
 use Rattle.event_reader.specs.Limits.{longest_line}
-use Rattle.event_reader.specs.Versions.{greatest_of, op_in, version_text, is_version_line}
+use Rattle.event_reader.specs.Versions.{greatest_of, most_events, op_in, version_text, is_version_line}
 
 pub limit_of : (version : Version) → IsLimit (greatest_of version)
 limit_of One = inl refl
@@ -19,6 +19,11 @@ limit_of Two = inr refl
 pub first_at_most : (version : Version) → FIRST_MAX ≤ greatest_of version
 first_at_most One = omega arith
 first_at_most Two = omega arith
+
+-- no batch has more events than that of all versions
+pub events_at_most : (version : Version) → most_events version ≤ EVENTS
+events_at_most One = omega arith
+events_at_most Two = omega arith
 
 -- an operation with as many parameters as its function takes, and a constant in the range of the version, has a valid shape
 pub op_in-shaped : (version : Version) (func : Func) (key : Key) (params : List Key) (c : ℕ) → least_params func ≤ length params → length params ≤ most_params func → c ≤ greatest_of version

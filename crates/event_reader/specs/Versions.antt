@@ -1,11 +1,12 @@
 -- The version of an input, by its first line.
 use Rattle.std.specs.Prelude.{ℕ, Bool, false, if◌then◌else◌, List, [], ◌∷◌, drop}
 use Rattle.std.specs.Str.{bytes_eq}
-use Rattle.morph_base.specs.declared.limits.TheConstants.{FIRST_MAX, MAX}
+use Rattle.morph_base.specs.declared.limits.TheConstants.{FIRST_MAX, MAX, EVENTS}
 use Rattle.morph_base.specs.declared.key.Key.{Key}
 use Rattle.morph_base.specs.declared.operation.Func.{Func}
 use Rattle.morph_base.specs.declared.operation.Op.{Op}
 use Rattle.morph_base.specs.Operations.{limited_to, op_of}
+use Rattle.event_reader.specs.Limits.{first_events}
 use Rattle.event_reader.specs.declared.version.Version.{Version}
 use Rattle.event_reader.specs.declared.version.Version.TheVariants.{One, Two}
 
@@ -13,6 +14,11 @@ use Rattle.event_reader.specs.declared.version.Version.TheVariants.{One, Two}
 abbrev pub greatest_of : Version → ℕ
 greatest_of One = FIRST_MAX
 greatest_of Two = MAX
+
+-- the most events of a batch of the version
+abbrev pub most_events : Version → ℕ
+most_events One = first_events
+most_events Two = EVENTS
 
 -- an operation of an input of the version, with no floor
 abbrev pub op_in : Version → Func → Key → (params : List Key) → (c : ℕ) → Op

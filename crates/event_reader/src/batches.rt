@@ -179,11 +179,11 @@ impl<A: EventApp> BatchReader<A> {
 
     /// Reads the next batch.
     ///
-    /// A [`Next::Batch`] has an event at least, is valid, and has the greatest value of the version. The answer is [`Next::End`] exactly at the end of the
-    /// input with no event pending, and [`Next::Refused`] exactly at the first refused line.
-    /// [`ReaderFault::ReadFault`] comes only where the source's count of faults rose in this call, and
-    /// [`ReaderFault::TooLong`] exactly where as many bytes as the limit were taken, none of their lines is refused,
-    /// and the source gave one more. After every other answer than a batch it may not be asked again.
+    /// A [`Next::Batch`] has an event at least, is valid, and has the greatest value of the version. The answer is
+    /// [`Next::End`] exactly at the end of the input with no event pending, and [`Next::Refused`] exactly at the
+    /// first refused line. [`ReaderFault::ReadFault`] comes only where the source's count of faults rose in this
+    /// call, and [`ReaderFault::TooLong`] exactly where as many bytes as the limit were taken, none of their lines is
+    /// refused, and the source gave one more. After every other answer than a batch it may not be asked again.
     pub fn next_batch<S: Source>(
         &mut self,
         alloc: Global,

@@ -39,6 +39,7 @@ mod draws;
 mod fault;
 mod form;
 mod gen_source;
+mod keys;
 pub mod laws;
 mod limits;
 mod lines;
@@ -62,6 +63,7 @@ pub use draws::Draws;
 pub use fault::ReaderFault;
 pub use form::Form;
 pub use gen_source::GenSource;
+pub use keys::{are_distinct, has_key, key_of, keys_of};
 pub use limits::{
     BUFFER_BYTES, DECIDING_BYTES, GENERATED_BATCH, GENERATED_BYTES, GENERATED_EVENTS,
     GENERATED_IDS, GREATEST_NUMBER, INPUT_BYTES, LINE_WORDS, LONGEST_LINE, NAME_BYTES,

@@ -8,7 +8,10 @@ pub const LONGEST_LINE: usize = 1_000;
 pub const DECIDING_BYTES: usize = 1_002;
 
 /// The most words of an event line.
-pub const LINE_WORDS: usize = 9;
+pub const LINE_WORDS: usize = 19;
+
+/// The most events of a batch in version 1.
+pub const FIRST_EVENTS: usize = 10_240;
 
 /// The most bytes of the printed name of a table.
 pub const NAME_BYTES: usize = 16;
@@ -32,4 +35,4 @@ pub const GENERATED_BATCH: u64 = 1_000;
 pub const GENERATED_IDS: u32 = 1_000_000;
 
 /// The most bytes of a generated line, its LF not counted.
-pub const GENERATED_BYTES: usize = 200;
+pub const GENERATED_BYTES: usize = 300;

@@ -1,14 +1,15 @@
 ghost use Rattle.std.specs.Prelude.{◌≡◌, ◌≤◌, [], length, IfOk};
 ghost use Rattle.morph_base.specs.Transactions.{transaction_of};
-ghost use Rattle.event_reader.specs.Steps.{is_ignored, is_punctuation};
+ghost use Rattle.event_reader.specs.Steps.{is_ignored, is_punctuation, rules_of};
 ghost use Rattle.event_reader.specs.Limits.{longest_line};
+ghost use Rattle.event_reader.specs.Versions.{most_events};
 
 use crate::app::EventApp;
 use crate::cause::{Cause, LineFault};
 use crate::past::Past;
 use crate::times::Times;
 use crate::words::Words;
-use morph_base::{EVENTS, Event, List, OutOfMemory};
+use morph_base::{Event, List, OutOfMemory};
 use std::alloc::Global;
 
 /// The unfinished batch of a reader.
@@ -61,17 +62,18 @@ impl Pending {
     }
 
     /// Adds an event, or answers the first of the causes late, twice and full that applies.
-    fn join(&mut self, closed: u64, event: Event) -> Result<Option<Cause>, OutOfMemory>
-        requires { Notes closed self.old }
-        ensures { IfOk result (Joins closed self.old (transaction_of event) self.new) }
+    fn join(&mut self, past: Past, event: Event) -> Result<Option<Cause>, OutOfMemory>
+        requires { Notes past.closed self.old }
+        ensures { IfOk result (Joins (most_events past.version) past.closed self.old
+            (transaction_of event) self.new) }
     {
-        if event.ts <= closed {
+        if event.ts <= past.closed {
             return Ok(Some(Cause::Late));
         }
         if !self.times.add(event.ts)? {
             return Ok(Some(Cause::Twice));
         }
-        if self.events.len() >= EVENTS {
+        if self.events.len() >= past.version.most_events() {
             return Ok(Some(Cause::Full));
         }
         self.latest = self.latest.max(event.ts);
@@ -93,7 +95,7 @@ impl Pending {
         requires sound { IsSound past.version
             (record { tables = A.table_count app.now; size = size }) (batch_of self.old) }
         ensures { IfOk result
-            (TakesLine (A.event_of app.now size past.version) past.version
+            (TakesLine (rules_of (A.event_of app.now size) past.version) past.version
             (record { tables = A.table_count app.now; size = size }) past.closed self.old line.now
             self.new) }
     {
@@ -114,7 +116,7 @@ impl Pending {
             Err(LineFault::Refused(cause)) => return Ok(LineEffect::Refuses(cause)),
             Err(LineFault::OutOfMemory) => return Err(OutOfMemory),
         };
-        match self.join(past.closed, event)? {
+        match self.join(past, event)? {
             None => Ok(LineEffect::GoesOn),
             Some(cause) => Ok(LineEffect::Refuses(cause)),
         }

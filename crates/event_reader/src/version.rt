@@ -1,8 +1,9 @@
 ghost use Rattle.std.specs.Prelude.{◌≡◌, ◌≤◌, length};
 ghost use Rattle.morph_base.specs.declared.limits.TheConstants.{PARAMS};
-ghost use Rattle.event_reader.specs.Versions.{greatest_of, is_version_line, op_in};
+ghost use Rattle.event_reader.specs.Versions.{greatest_of, is_version_line, most_events, op_in};
 
-use morph_base::{FIRST_MAX, Func, Key, MAX, Op};
+use crate::limits::FIRST_EVENTS;
+use morph_base::{EVENTS, FIRST_MAX, Func, Key, MAX, Op};
 
 /// The version of an input, by its first line.
 #[derive(Clone, Copy, Debug, PartialEq, Eq)]
@@ -21,6 +22,16 @@ impl Version {
         match self {
             Version::One => FIRST_MAX,
             Version::Two => MAX,
+        }
+    }
+
+    /// The most events of a batch of the version.
+    pub fn most_events(self) -> usize
+        ensures { result ≡ most_events self }
+    {
+        match self {
+            Version::One => FIRST_EVENTS,
+            Version::Two => EVENTS,
         }
     }
 

@@ -15,11 +15,12 @@ use Rattle.event_reader.specs.declared.version.Version.TheVariants.{One}
 use Rattle.event_reader.specs.Generated.{Drawn, IsEventLine}
 use Rattle.event_reader.specs.Numbers.{are_in}
 use Rattle.event_reader.specs.PlainLines.{plain_line}
+use Rattle.event_reader.specs.Keys.{are_distinct}
 use Rattle.event_reader.specs.Ranges.{times, ids, amounts}
 use Rattle.event_reader.proofs.Drawing.{draw_below}
 use Rattle.event_reader.proofs.NumberLists.{in_range}
 use Rattle.event_reader.proofs.Forms.{Fits, is_form, kind_line}
-use Rattle.grep_app.specs.Grep.{cell, are_distinct, most_cells, setting, gather, gathering, settings, sums, grep_kinds, grep_event}
+use Rattle.grep_app.specs.Grep.{cell, most_cells, setting, gather, gathering, settings, sums, grep_kinds, grep_event}
 use Rattle.grep_app.specs.GrepDraws.{summed, drawn_setting, drawn_sum, grep_drawn}
 
 abbrev ok : Transaction → Result Transaction Cause
@@ -102,11 +103,11 @@ ids_in size (suc many) (c ∷ cells) inside =
     rw (in_range (ids size) c (omega arith) (omega arith), ids_in size many cells (All-tail (λ c. c < size) c cells inside)) refl
 
 sum_fits : (size i k limit : ℕ) (cells : List ℕ) → 0 < i → i ≤ generated_events → k < size → limit < 4000 → All (λ c. c < size) cells
-    → 0 < length cells → length cells ≤ most_cells → Fits (sums One size).form (i ∷ k ∷ limit ∷ cells)
+    → 0 < length cells → length cells ≤ most_cells One → Fits (sums One size).form (i ∷ k ∷ limit ∷ cells)
 unfolding are_in
 sum_fits size i k limit cells start last inside small all some few =
     let least : nat_le 4 (length (i ∷ k ∷ limit ∷ cells)) ≡ true = grind (arith, nat_tests) in
-    let most : nat_le (length (i ∷ k ∷ limit ∷ cells)) (3 + most_cells) ≡ true = grind (arith, nat_tests) in record {
+    let most : nat_le (length (i ∷ k ∷ limit ∷ cells)) (3 + most_cells One) ≡ true = grind (arith, nat_tests) in record {
       count = rw (least, most) refl;
       inside = rw (
         in_range times i (omega arith) (omega arith),
@@ -144,7 +145,7 @@ sum_line size i k many limit four few start last inside some small = by_many man
     later : (n m : ℕ) → n < m → m < 4 → ((k + n) % size == (k + m) % size) ≡ false
     later n m less near = unlike size k n m inside less (omega arith)
 
-    line : (cells : List ℕ) → 0 < length cells → length cells ≤ most_cells → All (λ c. c < size) cells → are_distinct (cell k ∷ map cell cells) ≡ true
+    line : (cells : List ℕ) → 0 < length cells → length cells ≤ most_cells One → All (λ c. c < size) cells → are_distinct (cell k ∷ map cell cells) ≡ true
         → IsEventLine (grep_event size One) i (plain_line 71 (i ∷ k ∷ limit ∷ cells))
     line cells one three all differ =
         let says : gather One i limit (cell k) (map cell cells) ≡ ok (gathering One i limit (cell k) (map cell cells)) = rw differ refl in

@@ -1,12 +1,13 @@
 -- What the words of a line of GrepSum say.
-use Rattle.std.specs.Prelude.{ℕ, Bool, true, not, ◌&&◌, List, [], ◌∷◌, drop, map, slice_index, Result, Ok}
-use Rattle.std.specs.List.{list_any}
+use Rattle.std.specs.Prelude.{ℕ, not, List, [], ◌∷◌, drop, map, slice_index, Result, Ok}
 use Rattle.morph_base.specs.declared.key.Key.{Key}
 use Rattle.morph_base.specs.declared.operation.Func.TheVariants.{Keep, Sum, Set}
 use Rattle.morph_base.specs.declared.operation.Op.{Op}
-use Rattle.morph_base.specs.Operations.{same_key}
 use Rattle.morph_base.specs.Transactions.{Transaction}
 use Rattle.event_reader.specs.declared.cause.Cause.{Cause}
+use Rattle.morph_base.specs.declared.limits.TheConstants.{PARAMS}
+use Rattle.event_reader.specs.Keys.{key_of, are_distinct}
+use Rattle.event_reader.specs.declared.version.Version.TheVariants.{One, Two}
 use Rattle.event_reader.specs.Forms.{Form, Kind, form_of, unless, event_by}
 use Rattle.event_reader.specs.Ranges.{times, ids, amounts}
 use Rattle.event_reader.specs.Steps.{Meaning}
@@ -15,18 +16,13 @@ use Rattle.event_reader.specs.Versions.{op_in}
 
 -- the key of a cell
 abbrev pub cell : ℕ → Key
-cell id = record { table = 0; id = id }
-
--- whether no two keys are the same
-unfoldable pub are_distinct : List Key → Bool
-are_distinct [] = true
-are_distinct (key ∷ keys) = not (list_any (same_key key) keys) && are_distinct keys
+cell id = key_of 0 id
 
 -- `W ts k v`: cell k is set to v
 abbrev pub setting : Version → (ts k v : ℕ) → Transaction
 setting version ts k v = record { ts = ts; ops = op_in version Set (cell k) [] v ∷ [] }
 
--- `G ts k limit k1 [k2 [k3]]`: the sum of some cells, one to three of them, is put into cell k if it is at most the limit,
+-- `G ts k limit k1 [k2 ..]`: the sum of some cells, one to three of them and in version 2 one to seven, is put into cell k if it is at most the limit,
 -- and the cells stay. They all have to differ
 abbrev pub keep : Version → Key → Op
 keep version key = op_in version Keep key [] 0
@@ -45,8 +41,9 @@ abbrev pub gather_of : Version → List ℕ → Result Transaction Cause
 gather_of version ns = gather version (slice_index ns 0) (slice_index ns 2) (cell (slice_index ns 1)) (map cell (drop 3 ns))
 
 -- the most cells that one line sums
-abbrev pub most_cells : ℕ
-most_cells = 3
+abbrev pub most_cells : Version → ℕ
+most_cells One = 3
+most_cells Two = PARAMS
 
 -- the kinds of event lines: one that sets a cell begins with W and has three numbers, one that sums begins with G and has
 -- three numbers and behind them the cells that are summed
@@ -54,7 +51,7 @@ abbrev pub settings : Version → (size : ℕ) → Kind
 settings version size = record { form = form_of 87 (times ∷ ids size ∷ amounts version ∷ []); says = setting_of version }
 
 abbrev pub sum_form : Version → (size : ℕ) → Form
-sum_form version size = record { letter = 71; places = times ∷ ids size ∷ amounts version ∷ []; more = ids size; least = 1; most = most_cells }
+sum_form version size = record { letter = 71; places = times ∷ ids size ∷ amounts version ∷ []; more = ids size; least = 1; most = most_cells version }
 
 abbrev pub sums : Version → (size : ℕ) → Kind
 sums version size = record { form = sum_form version size; says = gather_of version }

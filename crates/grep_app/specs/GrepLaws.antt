@@ -1,7 +1,7 @@
 -- Every event of GrepSum is valid, and its refusals are form, range and same.
-use Rattle.std.proofs.Common.{◌≡◌, ℕ, ◌-◌, ◌<◌, ◌≤◌, Bool, true, false, not, List, [], ◌∷◌, length, map, drop, get_or, refl, sym, ap, subst, arith, zero-le, Ok, Err}
+use Rattle.std.proofs.Common.{◌≡◌, ℕ, ◌-◌, ◌<◌, ◌≤◌, true, not, List, [], ◌∷◌, length, map, drop, get_or, refl, sym, subst, arith, zero-le, Ok, Err}
 use Rattle.std.specs.Prelude.{slice_index}
-use Rattle.std.specs.List.{All, AllByRecursion, IsDistinct, list_any}
+use Rattle.std.specs.List.{All, IsDistinct}
 use Rattle.std.proofs.lemmas.Bool.{not-false}
 use Rattle.std.proofs.lemmas.List.{length-drop, length-map}
 use Rattle.std.proofs.lemmas.List.Elements.{All-nil, All-cons, All-map}
@@ -11,17 +11,20 @@ use Rattle.morph_base.specs.declared.key.Key.{Key}
 use Rattle.morph_base.specs.declared.key.Layout.{Layout}
 use Rattle.morph_base.specs.declared.operation.Func.TheVariants.{Keep, Sum, Set}
 use Rattle.morph_base.specs.declared.operation.Op.{Op}
-use Rattle.morph_base.specs.Operations.{IsShaped, InLayout, reads, same_key}
+use Rattle.morph_base.specs.Operations.{IsShaped, InLayout, reads}
 use Rattle.morph_base.specs.Transactions.{Transaction}
 use Rattle.morph_base.proofs.ShapeLaws.{all_of, reads-op_of}
 use Rattle.event_reader.specs.declared.version.Version.{Version}
+use Rattle.event_reader.specs.declared.version.Version.TheVariants.{One, Two}
 use Rattle.event_reader.specs.Versions.{greatest_of, op_in}
 use Rattle.event_reader.specs.VersionLaws.{op_in-shaped}
 use Rattle.event_reader.specs.declared.cause.Cause.{Cause}
+use Rattle.event_reader.specs.Keys.{are_distinct}
 use Rattle.event_reader.specs.Ranges.{times, ids, amounts}
 use Rattle.event_reader.specs.Reader.{IsOfWords, IsEventOf}
-use Rattle.event_reader.proofs.Forms.{Fits, IsInRange, IsSound, place, count_of, rest_in, both, neither, unless_ok, unless_err, events_valid, events_causes}
-use Rattle.grep_app.specs.Grep.{cell, are_distinct, setting, setting_of, keep, gathering, gather_of, settings, sums, grep_kinds, grep_event}
+use Rattle.event_reader.proofs.Heads.{IsOpOf, headed_valid}
+use Rattle.event_reader.proofs.Forms.{Fits, IsInRange, IsSound, place, count_of, rest_in, unless_ok, unless_err, events_valid, events_causes}
+use Rattle.grep_app.specs.Grep.{cell, setting, setting_of, keep, most_cells, gathering, gather_of, settings, sums, grep_kinds, grep_event}
 
 -- the layout of GrepSum
 abbrev grep_layout : (size : ℕ) → Layout
@@ -33,31 +36,6 @@ cell_in size id inside = record { table = omega arith; id = inside }
 -- the keys that an operation reads are in the layout
 abbrev ReadsIn : (size : ℕ) → Op → Type 0
 ReadsIn size op = All (InLayout (grep_layout size)) (reads op)
-
--- keys of which no two are the same differ
-none_same : (test : Key → Bool) (keys : List Key) → list_any test keys ≡ false → AllByRecursion (λ key. test key ≡ false) keys
-none_same test [] none = tt
-none_same test (key ∷ keys) none = ((neither (test key) (list_any test keys) none).0, none_same test keys (neither (test key) (list_any test keys) none).1)
-
-differ : (keys : List Key) → are_distinct keys ≡ true → IsDistinct same_key keys
-unfolding are_distinct IsDistinct
-differ [] is = tt
-differ (key ∷ keys) is = by_test (list_any (same_key key) keys) refl (both (not (list_any (same_key key) keys)) (are_distinct keys) is).0
-    (differ keys (both (not (list_any (same_key key) keys)) (are_distinct keys) is).1)
-  where
-    by_test : (again : Bool) → list_any (same_key key) keys ≡ again → not again ≡ true → IsDistinct same_key keys → IsDistinct same_key (key ∷ keys)
-    by_test true e none distinct = absurd (cc)
-    by_test false e none distinct = (none_same (same_key key) keys e, distinct)
-
--- the keys of a sum are in the layout
-sum_in : (version : Version) (size : ℕ) (target : Key) (cells : List Key) (limit : ℕ) → InLayout (grep_layout size) target → All (InLayout (grep_layout size)) cells
-    → ReadsIn size (op_in version Sum target cells limit)
-sum_in version size target cells limit inside all =
-    subst (All (InLayout (grep_layout size))) (sym (reads-op_of Sum target cells limit)) (All-cons (InLayout (grep_layout size)) target cells inside all)
-
-kept_keys : (version : Version) (cells : List Key) → map (λ op. op.key) (map (keep version) cells) ≡ cells
-kept_keys version [] = refl
-kept_keys version (cell ∷ cells) = ap (λ keys. cell ∷ keys) (kept_keys version cells)
 
 -- a line that sets a cell is valid where its numbers are in range
 setting_is_valid : (version : Version) (size ts k v : ℕ) → 0 < ts → ts ≤ latest_time → k < size → v ≤ greatest_of version
@@ -78,25 +56,27 @@ setting_is_valid version size ts k v start end inside small = (
 )
 
 -- so is one that sums cells that differ
+sum_op : (version : Version) (size limit : ℕ) (target : Key) (cells : List Key) → limit ≤ greatest_of version → 0 < length cells → length cells ≤ PARAMS → InLayout (grep_layout size) target
+    → All (InLayout (grep_layout size)) cells → IsOpOf version (grep_layout size) (op_in version Sum target cells limit)
+sum_op version size limit target cells small some few inside all = record {
+  shaped = op_in-shaped version Sum target cells limit some few small;
+  inside = subst (All (InLayout (grep_layout size))) (sym (reads-op_of Sum target cells limit)) (All-cons (InLayout (grep_layout size)) target cells inside all);
+  greatest = refl;
+}
+
+keep_op : (version : Version) (size : ℕ) (key : Key) → InLayout (grep_layout size) key → IsOpOf version (grep_layout size) (keep version key)
+keep_op version size key inside = record {
+  shaped = op_in-shaped version Keep key [] 0 (omega arith) (omega arith) zero-le;
+  inside = All-cons (InLayout (grep_layout size)) key [] inside (All-nil (InLayout (grep_layout size)));
+  greatest = refl;
+}
+
 gathering_is_valid : (version : Version) (size ts limit : ℕ) (target : Key) (cells : List Key) → 0 < ts → ts ≤ latest_time → limit ≤ greatest_of version → 0 < length cells → length cells ≤ PARAMS
     → InLayout (grep_layout size) target → All (InLayout (grep_layout size)) cells → are_distinct (target ∷ cells) ≡ true
     → IsEventOf version (grep_layout size) (gathering version ts limit target cells)
-gathering_is_valid version size ts limit target cells start end small some few inside all apart = (
-  record {
-    after_start = start;
-    latest = end;
-    some = omega arith;
-    few = omega (arith, length-map cells (keep version));
-    shaped = All-cons IsShaped (op_in version Sum target cells limit) (map (keep version) cells) (op_in-shaped version Sum target cells limit some few small)
-        (All-map IsShaped (keep version) cells (λ k d here. op_in-shaped version Keep (get_or cells k d) [] 0 (omega arith) (omega arith) zero-le));
-    distinct = subst (IsDistinct same_key) (ap (λ keys. target ∷ keys) (sym (kept_keys version cells))) (differ (target ∷ cells) apart);
-  },
-  All-cons (ReadsIn size) (op_in version Sum target cells limit) (map (keep version) cells) (sum_in version size target cells limit inside all)
-      (All-map (ReadsIn size) (keep version) cells
-      (λ k d here. All-cons (InLayout (grep_layout size)) (get_or cells k d) [] (all k d here) (All-nil (InLayout (grep_layout size))))),
-  All-cons (λ (op : Op). op.high ≡ greatest_of version) (op_in version Sum target cells limit) (map (keep version) cells) refl
-      (All-map (λ (op : Op). op.high ≡ greatest_of version) (keep version) cells (λ k d here. refl)),
-)
+gathering_is_valid version size ts limit target cells start end small some few inside all apart =
+    headed_valid version (grep_layout size) ts (op_in version Sum target cells limit) (keep version) cells start end (omega (arith, few)) (sum_op version size limit target cells small some few inside all)
+    (keep_op version size) (λ key. refl) all apart
 
 -- ids in range name cells of the layout
 cells_in : (size : ℕ) (cells : List ℕ) → All (IsInRange (ids size)) cells → All (InLayout (grep_layout size)) (map cell cells)
@@ -121,6 +101,11 @@ setting_sound version size = record {
   causes = λ ns cause is. absurd (cc);
 }
 
+-- a line sums at most as many cells as an operation has parameters
+pub cells_at_most : (version : Version) → most_cells version ≤ PARAMS
+cells_at_most One = omega arith
+cells_at_most Two = omega arith
+
 -- numbers in the places of a line that sums
 gather_numbers : (version : Version) (size : ℕ) (ns : List ℕ) (e : Transaction) → Fits (sums version size).form ns → gather_of version ns ≡ Ok e
     → IsEventOf version (grep_layout size) e
@@ -133,13 +118,13 @@ gather_numbers version size ns e fits is =
     let parts = unless_ok (not (are_distinct (cell (slice_index ns 1) ∷ map cell (drop 3 ns)))) _ e is in
     subst (λ t. IsEventOf version (grep_layout size) t) parts.1
     (gathering_is_valid version size (slice_index ns 0) (slice_index ns 2) (cell (slice_index ns 1)) (map cell (drop 3 ns)) ts.0 ts.1 limit.1
-    (omega (arith, many, counts.0)) (omega (arith, many, counts.1)) (cell_in size (slice_index ns 1) (omega (arith, k.0, k.1)))
+    (omega (arith, many, counts.0)) (let most = cells_at_most version in omega (arith, many, most, counts.1)) (cell_in size (slice_index ns 1) (omega (arith, k.0, k.1)))
     (cells_in size (drop 3 ns) (rest_in (sums version size).form ns fits)) (not-false (are_distinct (cell (slice_index ns 1) ∷ map cell (drop 3 ns))) parts.0))
 
 gather_sound : (version : Version) (size : ℕ) → IsSound version (grep_layout size) (sums version size)
 gather_sound version size = record {
   valid = λ ns e fits is. gather_numbers version size ns e fits is;
-  causes = λ ns cause is. unless_err (not (are_distinct (cell (slice_index ns 1) ∷ map cell (drop 3 ns)))) _ cause is;
+  causes = λ ns cause is. subst IsOfWords (unless_err (not (are_distinct (cell (slice_index ns 1) ∷ map cell (drop 3 ns)))) _ cause is) tt;
 }
 
 pub grep_is_valid : (size : ℕ) (version : Version) (words : List (List ℕ)) (e : Transaction) → grep_event size version words ≡ Ok e → IsEventOf version (record { tables = 1; size = size }) e

@@ -1,13 +1,14 @@
-ghost use Rattle.std.specs.Prelude.{◌≡◌, ◌^◌, ◌<◌, ◌≤◌, All, length, map, take, codes};
-ghost use Rattle.std.specs.List.{list_any};
+ghost use Rattle.std.specs.Prelude.{◌≡◌, ◌^◌, ◌<◌, ◌≤◌, length, codes};
 ghost use Rattle.morph_base.specs.declared.limits.TheConstants.{PARAMS};
-ghost use Rattle.morph_base.specs.Operations.{same_key};
 ghost use Rattle.event_reader.specs.Forms.{said_in};
 ghost use Rattle.event_reader.specs.Reader.{GivesEvent};
-ghost use Rattle.grep_app.specs.Grep.{cell, are_distinct, settings, gather, sums, grep_event};
+ghost use Rattle.grep_app.specs.Grep.{most_cells, settings, gather, sums, grep_event};
 
 use crate::generating::{write_setting, write_sum};
-use event_reader::{Cause, Draws, EventApp, Form, LineFault, Range, TIMES, Version, Words};
+use event_reader::{
+    Cause, Draws, EventApp, Form, LineFault, Range, TIMES, Version, Words, are_distinct, has_key,
+    key_of, keys_of,
+};
 use morph_base::{Event, Func, Key, List, PARAMS};
 use morph_io::LineBuf;
 use std::alloc::Global;
@@ -15,41 +16,18 @@ use std::alloc::Global;
 /// The number of the table of cells.
 pub const CELLS: u8 = 0;
 
-/// The most cells that one line sums.
-const MOST_CELLS: usize = 3;
-
 /// The application GrepSum.
 #[derive(Clone, Copy, Debug, PartialEq, Eq)]
 pub struct Grep;
 
-/// The key of a cell.
-fn cell(id: u64) -> Key
-    requires { id < 2 ^ 32 }
-    ensures { result ≡ cell id }
+/// The most cells that one line sums.
+fn most_cells(version: Version) -> usize
+    ensures { result ≡ most_cells version }
 {
-    Key {
-        table: CELLS,
-        id: id as u32,
+    match version {
+        Version::One => 3,
+        Version::Two => PARAMS,
     }
-}
-
-/// Whether one of the keys is this one.
-fn has(keys: &[Key], key: Key) -> bool
-    ensures { result ≡ list_any (same_key key) keys.now }
-{
-    keys.iter().any(|other| key == *other)
-}
-
-/// Whether no two of the keys are the same.
-fn are_distinct(keys: &[Key]) -> bool
-    ensures { result ≡ are_distinct keys.now }
-{
-    for (i, key) in keys.iter().enumerate() {
-        if has(&keys[i + 1..], *key) {
-            return false;
-        }
-    }
-    true
 }
 
 /// Reads the words of a line that sets a cell.
@@ -60,7 +38,7 @@ fn set(alloc: Global, words: &Words<'_>, size: u32, version: Version) -> Result<
     let numbers = words.read(&Form::new(b'W', &places))?;
     let [ts, k, v] = numbers.first();
     let mut ops = List::with_room(alloc, 1)?;
-    ops.add(version.op(Func::Set, cell(k), &[], v));
+    ops.add(version.op(Func::Set, key_of(CELLS, k), &[], v));
     Ok(Event { ts, ops })
 }
 
@@ -76,7 +54,7 @@ fn gather(
     requires { length cells.now ≤ PARAMS }
     ensures { GivesEvent (gather version ts limit target cells.now) result }
 {
-    if has(cells, target) || !are_distinct(cells) {
+    if has_key(cells, target) || !are_distinct(cells) {
         return Err(LineFault::Refused(Cause::Same));
     }
     let mut ops = List::with_room(alloc, cells.len() + 1)?;
@@ -87,31 +65,19 @@ fn gather(
     Ok(Event { ts, ops })
 }
 
-/// The keys of cells, of which there are at most [`PARAMS`], with cell 0 in the places behind them.
-fn cells_of(ids: &[u64]) -> [Key; PARAMS]
-    requires few { length ids.now ≤ PARAMS }
-    requires small { All (λ id. id < 2 ^ 32) ids.now }
-    ensures { take (length ids.now) result ≡ map cell ids.now }
-{
-    let mut cells = [cell(0); PARAMS];
-    for i in 0..ids.len() {
-        cells[i] = cell(ids[i]);
-    }
-    cells
-}
-
 /// Reads the words of a line that sums cells.
 fn sum(alloc: Global, words: &Words<'_>, size: u32, version: Version) -> Result<Event, LineFault>
     ensures { GivesEvent (said_in (sums version size) words.now) result }
 {
     let ids = Range::ids(size);
     let places = [TIMES, ids, Range::amounts(version)];
-    let form = Form::new(b'G', &places).with_more(ids, 1, MOST_CELLS);
+    let form = Form::new(b'G', &places).with_more(ids, 1, most_cells(version));
     let numbers = words.read(&form)?;
     let [ts, k, limit] = numbers.first();
     let others = numbers.rest();
-    let cells = cells_of(others);
-    gather(alloc, version, ts, limit, cell(k), &cells[..others.len()])
+    let cells: [Key; PARAMS] = keys_of(CELLS, others);
+    let target = key_of(CELLS, k);
+    gather(alloc, version, ts, limit, target, &cells[..others.len()])
 }
 
 impl EventApp for Grep {

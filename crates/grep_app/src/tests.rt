@@ -78,6 +78,42 @@ fn values_are_greater_in_version_2(rt: HostRuntime) -> Result<(), Fail> {
     Ok(())
 }
 
+/// In version 2 a line sums up to seven cells, in version 1 up to three.
+#[test]
+fn seven_cells_are_summed_in_version_2(rt: HostRuntime) -> Result<(), Fail> {
+    let high = Version::Two.greatest();
+    let others = [1, 2, 3, 4, 5, 6, 7].map(cell);
+    let kept = |id| keep(id).limited(0, high);
+    let sum = Op::new(Func::Sum, cell(0), &others, 10).limited(0, high);
+    let ops = [
+        sum,
+        kept(1),
+        kept(2),
+        kept(3),
+        kept(4),
+        kept(5),
+        kept(6),
+        kept(7),
+    ];
+    let Ok(event) = read(rt.alloc(), b"G 2 0 10 1 2 3 4 5 6 7", Version::Two) else {
+        return Err("refused".into());
+    };
+    assert_eq!(rt; event.ops.as_slice(), ops.as_slice());
+    let rows: [(&[u8], Version, Cause); 4] = [
+        (b"G 2 0 10 1 2 3 4", Version::One, Cause::Form),
+        (b"G 2 0 10 1 2 3 4 5 6 7 8", Version::Two, Cause::Form),
+        (b"G 2 0 10 1 2 3 4 5 6 1", Version::Two, Cause::Same),
+        (b"G 2 0 10 1 2 3 4 5 6 10", Version::Two, Cause::Range),
+    ];
+    for (line, version, cause) in rows {
+        let Err(fault) = read(rt.alloc(), line, version) else {
+            return Err("taken".into());
+        };
+        assert_eq!(rt; fault, LineFault::Refused(cause), "at {line:?}");
+    }
+    Ok(())
+}
+
 #[test]
 fn causes_come_in_their_order(rt: HostRuntime) -> Result<(), Fail> {
     let rows: [(&[u8], Cause); 18] = [

@@ -1,28 +1,28 @@
 -- What the words of a ledger's line say.
-use Rattle.std.specs.Prelude.{ℕ, ◌||◌, ◌==◌, List, [], ◌∷◌, slice_index, Result, Ok}
+use Rattle.std.specs.Prelude.{ℕ, ◌-◌, ◌*◌, not, ◌||◌, ◌==◌, nat_lt, if◌then◌else◌, List, [], ◌∷◌, length, map, drop, slice_index, Result, Ok, Err}
 use Rattle.morph_base.specs.declared.key.Key.{Key}
+use Rattle.morph_base.specs.declared.limits.TheConstants.{EVENT_OPS}
 use Rattle.morph_base.specs.declared.operation.Func.{Func}
 use Rattle.morph_base.specs.declared.operation.Func.TheVariants.{Add, Sub, MoveIn}
 use Rattle.morph_base.specs.declared.operation.Op.{Op}
 use Rattle.morph_base.specs.Operations.{limited_to, op_of}
 use Rattle.morph_base.specs.Transactions.{Transaction}
 use Rattle.event_reader.specs.declared.cause.Cause.{Cause}
+use Rattle.event_reader.specs.declared.cause.Cause.TheVariants.{Range}
 use Rattle.event_reader.specs.declared.version.Version.{Version}
 use Rattle.event_reader.specs.declared.version.Version.TheVariants.{One, Two}
 use Rattle.event_reader.specs.Forms.{Form, Kind, form_of, unless, event_by}
+use Rattle.event_reader.specs.Keys.{key_of, are_distinct}
 use Rattle.event_reader.specs.Ranges.{times, ids, amounts}
 use Rattle.event_reader.specs.Steps.{Meaning}
 use Rattle.event_reader.specs.Versions.{greatest_of}
 
 -- the keys of an account and of an asset
-abbrev pub key : (table id : ℕ) → Key
-key table id = record { table = table; id = id }
-
 abbrev pub account : ℕ → Key
-account id = key 0 id
+account id = key_of 0 id
 
 abbrev pub asset : ℕ → Key
-asset id = key 1 id
+asset id = key_of 1 id
 
 -- an operation that reads its target alone, and one that takes from another key; so much has to stay where it is taken from
 abbrev pub change : Version → Func → Key → (c floor : ℕ) → Op
@@ -47,6 +47,18 @@ moving version ts src dst asrc adst a b f = record {
 abbrev pub transfer : Version → (ts src dst asrc adst a b f : ℕ) → Result Transaction Cause
 transfer version ts src dst asrc adst a b f = unless (src == dst || asrc == adst) (moving version ts src dst asrc adst a b f)
 
+-- `M ts src a dst1 [dst2 ..]`, in version 2: a goes from account src to each of the accounts named, where all of that is no more than the
+-- greatest value, and all accounts differ
+abbrev pub receipt : Version → (src : Key) → (a : ℕ) → (dst : Key) → Op
+receipt version src a dst = move_in version dst src a 0
+
+abbrev pub paying : Version → (ts a : ℕ) → (src : Key) → (accounts : List Key) → Transaction
+paying version ts a src accounts = record { ts = ts; ops = change version Sub src (length accounts * a) 0 ∷ map (receipt version src a) accounts }
+
+abbrev pub payout : Version → (ts a : ℕ) → (src : Key) → (accounts : List Key) → Result Transaction Cause
+payout version ts a src accounts =
+    if nat_lt (greatest_of version) (length accounts * a) then Err Range else unless (not (are_distinct (src ∷ accounts))) (paying version ts a src accounts)
+
 -- what the numbers of a line say, in their places; where no f is given it is 0
 abbrev pub deposit_of : Version → List ℕ → Result Transaction Cause
 deposit_of version ns = Ok (deposit version (slice_index ns 0) (slice_index ns 1) (slice_index ns 2) (slice_index ns 3) (slice_index ns 4))
@@ -55,13 +67,20 @@ abbrev pub transfer_of : Version → List ℕ → Result Transaction Cause
 transfer_of version ns =
     transfer version (slice_index ns 0) (slice_index ns 1) (slice_index ns 2) (slice_index ns 3) (slice_index ns 4) (slice_index ns 5) (slice_index ns 6) (slice_index ns 7)
 
+abbrev pub payout_of : Version → List ℕ → Result Transaction Cause
+payout_of version ns = payout version (slice_index ns 0) (slice_index ns 2) (account (slice_index ns 1)) (map account (drop 3 ns))
+
+-- the most accounts that one payout names: with the one that pays, as many as an event has operations
+abbrev pub most_paid : ℕ
+most_paid = EVENT_OPS - 1
+
 -- whether a transfer of the version may name what has to stay
 abbrev pub most_floors : Version → ℕ
 most_floors One = 0
 most_floors Two = 1
 
 -- the kinds of event lines: a deposit begins with D and has five numbers, a transfer with X and seven, and in version 2 one more where
--- it has a floor
+-- it has a floor; a payout, which is of version 2 alone, begins with M and has three numbers and behind them the accounts paid
 abbrev pub deposits : Version → (size : ℕ) → Kind
 deposits version size = record { form = form_of 68 (times ∷ ids size ∷ ids size ∷ amounts version ∷ amounts version ∷ []); says = deposit_of version }
 
@@ -77,8 +96,15 @@ transfer_form version size = record {
 abbrev pub transfers : Version → (size : ℕ) → Kind
 transfers version size = record { form = transfer_form version size; says = transfer_of version }
 
+abbrev pub payout_form : Version → (size : ℕ) → Form
+payout_form version size = record { letter = 77; places = times ∷ ids size ∷ amounts version ∷ []; more = ids size; least = 1; most = most_paid }
+
+abbrev pub payouts : Version → (size : ℕ) → Kind
+payouts version size = record { form = payout_form version size; says = payout_of version }
+
 abbrev pub ledger_kinds : Version → (size : ℕ) → List Kind
-ledger_kinds version size = deposits version size ∷ transfers version size ∷ []
+ledger_kinds One size = deposits One size ∷ transfers One size ∷ []
+ledger_kinds Two size = deposits Two size ∷ transfers Two size ∷ payouts Two size ∷ []
 
 -- what the words of a line say in an input of each version
 abbrev pub ledger_event : (size : ℕ) → Meaning

@@ -1,9 +1,13 @@
 -- Every event of the ledger is valid, and its refusals are form, range and same.
-use Rattle.std.proofs.Common.{◌≡◌, ℕ, ◌<◌, ◌≤◌, false, ◌||◌, List, [], ◌∷◌, drop, refl, subst, arith, zero-le, Ok, Err}
-use Rattle.std.specs.Prelude.{◌==◌, slice_index}
+use Rattle.std.proofs.Common.{◌≡◌, ℕ, ◌*◌, ◌-◌, ◌<◌, ◌≤◌, Bool, true, false, not, ◌||◌, List, [], ◌∷◌, length, map, drop, get_or, refl, subst, arith, zero-le, Result, Ok, Err}
+use Rattle.std.specs.Prelude.{◌==◌, nat_lt, if◌then◌else◌, slice_index}
 use Rattle.std.specs.List.{All, IsDistinct}
-use Rattle.std.proofs.lemmas.List.{get_or-drop}
+use Rattle.std.proofs.lemmas.Bool.{not-false}
+use Rattle.std.proofs.lemmas.Bool.Decides.{nat_tests}
+use Rattle.std.proofs.lemmas.List.{get_or-drop, length-drop, length-map}
+use Rattle.std.proofs.lemmas.List.Elements.{All-map}
 use Rattle.morph_base.specs.Limits.{latest_time}
+use Rattle.morph_base.specs.declared.key.Key.{Key}
 use Rattle.morph_base.specs.declared.key.Layout.{Layout}
 use Rattle.morph_base.specs.declared.operation.Func.TheVariants.{Add, Sub, MoveIn}
 use Rattle.morph_base.specs.declared.operation.Op.{Op}
@@ -11,13 +15,17 @@ use Rattle.morph_base.specs.Operations.{IsShaped, InLayout, reads}
 use Rattle.morph_base.specs.Transactions.{Transaction}
 use Rattle.morph_base.proofs.ShapeLaws.{all_of, op_of-limited}
 use Rattle.event_reader.specs.declared.version.Version.{Version}
+use Rattle.event_reader.specs.declared.version.Version.TheVariants.{One, Two}
 use Rattle.event_reader.specs.Versions.{greatest_of}
 use Rattle.event_reader.specs.VersionLaws.{limit_of, op_in-shaped}
 use Rattle.event_reader.specs.declared.cause.Cause.{Cause}
+use Rattle.event_reader.specs.declared.cause.Cause.TheVariants.{Range}
+use Rattle.event_reader.specs.Keys.{are_distinct}
 use Rattle.event_reader.specs.Ranges.{times, ids, amounts}
 use Rattle.event_reader.specs.Reader.{IsOfWords, IsEventOf}
-use Rattle.event_reader.proofs.Forms.{Fits, IsInRange, IsSound, place, rest_in, neither, unless_ok, unless_err, events_valid, events_causes}
-use Rattle.ledger_app.specs.Ledger.{account, asset, deposit, moving, deposit_of, transfer_of, deposits, transfers, ledger_kinds, ledger_event}
+use Rattle.event_reader.proofs.Forms.{Fits, IsInRange, IsSound, AreSound, place, count_of, rest_in, neither, unless_ok, unless_err, events_valid, events_causes}
+use Rattle.event_reader.proofs.Heads.{IsOpOf, headed_valid}
+use Rattle.ledger_app.specs.Ledger.{account, asset, change, receipt, deposit, moving, paying, deposit_of, transfer_of, payout_of, most_paid, deposits, transfers, payouts, ledger_kinds, ledger_event}
 
 -- the layout of the ledger
 abbrev ledger_layout : (size : ℕ) → Layout
@@ -138,13 +146,77 @@ transfer_numbers version size ns e fits is =
 transfer_sound : (version : Version) (size : ℕ) → IsSound version (ledger_layout size) (transfers version size)
 transfer_sound version size = record {
   valid = λ ns e fits is. transfer_numbers version size ns e fits is;
-  causes = λ ns cause is. unless_err (slice_index ns 1 == slice_index ns 2 || slice_index ns 3 == slice_index ns 4) _ cause is;
+  causes = λ ns cause is. subst IsOfWords (unless_err (slice_index ns 1 == slice_index ns 2 || slice_index ns 3 == slice_index ns 4) _ cause is) tt;
 }
 
+-- so is a payout, where all of it is no more than the greatest value and the accounts differ
+pays_op : (version : Version) (size c : ℕ) (src : Key) → c ≤ greatest_of version → InLayout (ledger_layout size) src → IsOpOf version (ledger_layout size) (change version Sub src c 0)
+pays_op version size c src small inside = record {
+  shaped = op_in-shaped version Sub src [] c (omega arith) (omega arith) small;
+  inside = all_of (InLayout (ledger_layout size)) (src ∷ []) (inside, tt);
+  greatest = refl;
+}
+
+gets_op : (version : Version) (size a : ℕ) (src dst : Key) → a ≤ greatest_of version → InLayout (ledger_layout size) src → InLayout (ledger_layout size) dst
+    → IsOpOf version (ledger_layout size) (receipt version src a dst)
+gets_op version size a src dst small from inside = record {
+  shaped = op_in-shaped version MoveIn dst (src ∷ []) a (omega arith) (omega arith) small;
+  inside = all_of (InLayout (ledger_layout size)) (dst ∷ src ∷ []) (inside, (from, tt));
+  greatest = refl;
+}
+
+payout_is_valid : (version : Version) (size ts a : ℕ) (src : Key) (accounts : List Key) → 0 < ts → ts ≤ latest_time → a ≤ greatest_of version → length accounts * a ≤ greatest_of version → length accounts ≤ most_paid
+    → InLayout (ledger_layout size) src → All (InLayout (ledger_layout size)) accounts → are_distinct (src ∷ accounts) ≡ true
+    → IsEventOf version (ledger_layout size) (paying version ts a src accounts)
+payout_is_valid version size ts a src accounts start end small whole few inside all apart =
+    headed_valid version (ledger_layout size) ts (change version Sub src (length accounts * a) 0) (receipt version src a) accounts start end (omega (arith, few))
+    (pays_op version size (length accounts * a) src whole inside) (λ dst here. gets_op version size a src dst small inside here) (λ dst. refl) all apart
+
+-- ids in range name accounts of the layout
+accounts_in : (size : ℕ) (ns : List ℕ) → All (IsInRange (ids size)) ns → All (InLayout (ledger_layout size)) (map account ns)
+accounts_in size ns inside =
+    All-map (InLayout (ledger_layout size)) account ns
+    (λ i d here. let bounds = inside i d here in account_in size (get_or ns i d) (omega (arith, bounds.0, bounds.1)))
+
+-- what is refused where it is too much
+within_ok : (over : Bool) (r : Result Transaction Cause) (e : Transaction) → (if over then Err Range else r) ≡ Ok e → (over ≡ false) × (r ≡ Ok e)
+within_ok true r e is = absurd (cc)
+within_ok false r e is = (refl, is)
+
+within_err : (over : Bool) (r : Result Transaction Cause) (cause : Cause) → (if over then Err Range else r) ≡ Err cause → (r ≡ Err cause → IsOfWords cause) → IsOfWords cause
+within_err true r cause is other = let same : Range ≡ cause = cc in subst IsOfWords same tt
+within_err false r cause is other = other is
+
+-- numbers in the places of a payout
+payout_numbers : (version : Version) (size : ℕ) (ns : List ℕ) (e : Transaction) → Fits (payouts version size).form ns → payout_of version ns ≡ Ok e
+    → IsEventOf version (ledger_layout size) e
+payout_numbers version size ns e fits is =
+    let accounts : List Key = map account (drop 3 ns) in
+    let ts = place (payouts version size).form ns 0 times fits (omega arith) refl in
+    let src = place (payouts version size).form ns 1 (ids size) fits (omega arith) refl in
+    let a = place (payouts version size).form ns 2 (amounts version) fits (omega arith) refl in
+    let counts = count_of (payouts version size).form (length ns) fits.count in
+    let many : length accounts ≡ length ns - 3 = omega (arith, length-map (drop 3 ns) account, length-drop 3 ns) in
+    let whole = within_ok (nat_lt (greatest_of version) (length accounts * slice_index ns 2)) _ e is in
+    let parts = unless_ok (not (are_distinct (account (slice_index ns 1) ∷ accounts))) _ e whole.1 in
+    subst (λ t. IsEventOf version (ledger_layout size) t) parts.1
+    (payout_is_valid version size (slice_index ns 0) (slice_index ns 2) (account (slice_index ns 1)) accounts ts.0 ts.1 a.1 (grind (arith, nat_tests, whole.0))
+    (omega (arith, many, counts.1)) (account_in size (slice_index ns 1) (omega (arith, src.0, src.1)))
+    (accounts_in size (drop 3 ns) (rest_in (payouts version size).form ns fits)) (not-false (are_distinct (account (slice_index ns 1) ∷ accounts)) parts.0))
+
+payout_sound : (version : Version) (size : ℕ) → IsSound version (ledger_layout size) (payouts version size)
+payout_sound version size = record {
+  valid = λ ns e fits is. payout_numbers version size ns e fits is;
+  causes = λ ns cause is. within_err (nat_lt (greatest_of version) (length (map account (drop 3 ns)) * slice_index ns 2)) _ cause is
+      (λ other. subst IsOfWords (unless_err (not (are_distinct (account (slice_index ns 1) ∷ map account (drop 3 ns)))) _ cause other) tt);
+}
+
+kinds_sound : (version : Version) (size : ℕ) → AreSound version (ledger_layout size) (ledger_kinds version size)
+kinds_sound One size = (deposit_sound One size, (transfer_sound One size, tt))
+kinds_sound Two size = (deposit_sound Two size, (transfer_sound Two size, (payout_sound Two size, tt)))
+
 pub ledger_is_valid : (size : ℕ) (version : Version) (words : List (List ℕ)) (e : Transaction) → ledger_event size version words ≡ Ok e → IsEventOf version (record { tables = 2; size = size }) e
-ledger_is_valid size version words e is =
-    events_valid version (ledger_layout size) (ledger_kinds version size) (deposit_sound version size, (transfer_sound version size, tt)) words e is
+ledger_is_valid size version words e is = events_valid version (ledger_layout size) (ledger_kinds version size) (kinds_sound version size) words e is
 
 pub ledger_causes : (size : ℕ) (version : Version) (words : List (List ℕ)) (cause : Cause) → ledger_event size version words ≡ Err cause → IsOfWords cause
-ledger_causes size version words cause is =
-    events_causes version (ledger_layout size) (ledger_kinds version size) (deposit_sound version size, (transfer_sound version size, tt)) words cause is
+ledger_causes size version words cause is = events_causes version (ledger_layout size) (ledger_kinds version size) (kinds_sound version size) words cause is

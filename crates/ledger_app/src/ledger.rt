@@ -1,11 +1,15 @@
-ghost use Rattle.std.specs.Prelude.{◌≡◌, ◌^◌, ◌<◌, slice_index, codes, if◌then◌else◌, ◌==◌};
+ghost use Rattle.std.specs.Prelude.{◌≡◌, ◌≤◌, length, slice_index, codes, if◌then◌else◌, ◌==◌};
 ghost use Rattle.event_reader.specs.Forms.{said_in};
 ghost use Rattle.event_reader.specs.Reader.{GivesEvent};
-ghost use Rattle.ledger_app.specs.Ledger.{key, deposits, transfers, most_floors, ledger_event};
+ghost use Rattle.event_reader.specs.Versions.{greatest_of};
+ghost use Rattle.ledger_app.specs.Ledger.{deposits, transfers, most_floors, most_paid, payout, payouts, ledger_event};
 
 use crate::generating::{write_deposit, write_transfer};
-use event_reader::{Cause, Draws, EventApp, Form, LineFault, Range, TIMES, Version, Words};
-use morph_base::{Event, Func, Key, List, Op};
+use event_reader::{
+    Cause, Draws, EventApp, Form, LineFault, Range, TIMES, Version, Words, are_distinct, has_key,
+    key_of, keys_of,
+};
+use morph_base::{EVENT_OPS, Event, Func, Key, List, Op};
 use morph_io::LineBuf;
 use std::alloc::Global;
 
@@ -15,20 +19,12 @@ pub const ACCOUNTS: u8 = 0;
 /// The number of the table of assets.
 pub const ASSETS: u8 = 1;
 
+/// The most accounts that one payout names: with the one that pays, as many as an event has operations.
+const MOST_PAID: usize = EVENT_OPS - 1;
+
 /// The application Streaming Ledger.
 #[derive(Clone, Copy, Debug, PartialEq, Eq)]
 pub struct Ledger;
-
-/// The key of an id in a table.
-fn key(table: u8, id: u64) -> Key
-    requires { id < 2 ^ 32 }
-    ensures { result ≡ key table id }
-{
-    Key {
-        table,
-        id: id as u32,
-    }
-}
 
 /// Reads the words of a deposit.
 fn deposit(
@@ -43,8 +39,8 @@ fn deposit(
     let numbers = words.read(&Form::new(b'D', &[TIMES, ids, ids, amounts, amounts]))?;
     let [ts, account, asset, a, b] = numbers.first();
     let mut ops = List::with_room(alloc, 2)?;
-    ops.add(version.op(Func::Add, key(ACCOUNTS, account), &[], a));
-    ops.add(version.op(Func::Add, key(ASSETS, asset), &[], b));
+    ops.add(version.op(Func::Add, key_of(ACCOUNTS, account), &[], a));
+    ops.add(version.op(Func::Add, key_of(ASSETS, asset), &[], b));
     Ok(Event { ts, ops })
 }
 
@@ -86,8 +82,8 @@ fn transfer(
     if src == dst || asrc == adst {
         return Err(LineFault::Refused(Cause::Same));
     }
-    let (src, dst) = (key(ACCOUNTS, src), key(ACCOUNTS, dst));
-    let (asrc, adst) = (key(ASSETS, asrc), key(ASSETS, adst));
+    let (src, dst) = (key_of(ACCOUNTS, src), key_of(ACCOUNTS, dst));
+    let (asrc, adst) = (key_of(ASSETS, asrc), key_of(ASSETS, adst));
     let mut ops = List::with_room(alloc, 4)?;
     let high = version.greatest();
     ops.add(Op::new(Func::Sub, src, &[], a).limited(floor, high));
@@ -95,6 +91,49 @@ fn transfer(
     ops.add(Op::new(Func::MoveIn, dst, &[src], a).limited(floor, high));
     ops.add(version.op(Func::MoveIn, adst, &[asrc], b));
     Ok(Event { ts, ops })
+}
+
+/// The event that takes an amount from an account for each of some others, and moves it to them.
+fn pay_out(
+    alloc: Global,
+    version: Version,
+    ts: u64,
+    a: u64,
+    src: Key,
+    accounts: &[Key],
+) -> Result<Event, LineFault>
+    requires few { length accounts.now ≤ most_paid }
+    requires small { a ≤ greatest_of version }
+    ensures { GivesEvent (payout version ts a src accounts.now) result }
+{
+    let whole = accounts.len() as u64 * a;
+    if whole > version.greatest() {
+        return Err(LineFault::Refused(Cause::Range));
+    }
+    if has_key(accounts, src) || !are_distinct(accounts) {
+        return Err(LineFault::Refused(Cause::Same));
+    }
+    let mut ops = List::with_room(alloc, accounts.len() + 1)?;
+    ops.add(version.op(Func::Sub, src, &[], whole));
+    for account in accounts {
+        ops.add(version.op(Func::MoveIn, *account, &[src], a));
+    }
+    Ok(Event { ts, ops })
+}
+
+/// Reads the words of a payout.
+fn pay(alloc: Global, words: &Words<'_>, size: u32, version: Version) -> Result<Event, LineFault>
+    ensures { GivesEvent (said_in (payouts version size) words.now) result }
+{
+    let ids = Range::ids(size);
+    let places = [TIMES, ids, Range::amounts(version)];
+    let form = Form::new(b'M', &places).with_more(ids, 1, MOST_PAID);
+    let numbers = words.read(&form)?;
+    let [ts, src, a] = numbers.first();
+    let others = numbers.rest();
+    let accounts: [Key; MOST_PAID] = keys_of(ACCOUNTS, others);
+    let src = key_of(ACCOUNTS, src);
+    pay_out(alloc, version, ts, a, src, &accounts[..others.len()])
 }
 
 impl EventApp for Ledger {
@@ -132,9 +171,10 @@ impl EventApp for Ledger {
         size: u32,
         version: Version,
     ) -> Result<Event, LineFault> {
-        match words.letter() {
-            Some(b'D') => deposit(alloc, words, size, version),
-            Some(b'X') => transfer(alloc, words, size, version),
+        match (words.letter(), version) {
+            (Some(b'D'), _) => deposit(alloc, words, size, version),
+            (Some(b'X'), _) => transfer(alloc, words, size, version),
+            (Some(b'M'), Version::Two) => pay(alloc, words, size, version),
             _ => Err(LineFault::Refused(Cause::Form)),
         }
     }

@@ -377,11 +377,52 @@ fn words_give_the_operations_of_their_line(rt: HostRuntime) -> Result<(), Fail> 
     Ok(())
 }
 
+/// An amount is paid to each account that is named, and all of that comes from one.
+#[test]
+fn a_payout_pays_each_account(rt: HostRuntime) -> Result<(), Fail> {
+    let account = |id| Key::of(ACCOUNTS, id);
+    let high = Version::Two.greatest();
+    let paid = |id| Op::new(Func::MoveIn, account(id), &[account(9)], 30).limited(0, high);
+    let whole = Op::new(Func::Sub, account(9), &[], 90).limited(0, high);
+    let Ok(event) = read(rt.alloc(), b"M 2 9 30 1 3 2", Version::Two) else {
+        return Err("refused".into());
+    };
+    assert_eq!(rt; event.ts, 2);
+    assert_eq!(rt;
+        event.ops.as_slice(),
+        [whole, paid(1), paid(3), paid(2)].as_slice()
+    );
+    let widest = b"M 1 0 666666666666 1 2 3 4 5 6 7 8 9 10 11 12 13 14 15";
+    let Ok(event) = read(rt.alloc(), widest, Version::Two) else {
+        return Err("refused".into());
+    };
+    assert_eq!(rt; event.ops.len(), 16);
+    Ok(())
+}
+
 /// A number above the greatest of its version, a number too many, and a timestamp, which has one range in both.
 #[test]
 fn a_line_is_read_by_its_version(rt: HostRuntime) -> Result<(), Fail> {
     let (one, two) = (Version::One, Version::Two);
-    let rows: [(&[u8], Version, Cause); 8] = [
+    let rows: [(&[u8], Version, Cause); 18] = [
+        (b"M 1 0 5 1", one, Cause::Form),
+        (b"M 1 0 5", two, Cause::Form),
+        (
+            b"M 1 0 5 1 2 3 4 5 6 7 8 9 10 11 12 13 14 15 16",
+            two,
+            Cause::Form,
+        ),
+        (b"M 1 0 5 1 1", two, Cause::Same),
+        (b"M 1 1 5 2 1", two, Cause::Same),
+        (b"M 1 0 5000000000000 1 2 3", two, Cause::Range),
+        (b"M 1 0 5000000000000 1 1 2", two, Cause::Range),
+        (b"M 1 0 10000000000001 1", two, Cause::Range),
+        (b"M 1 0 5 10000", two, Cause::Range),
+        (
+            b"M 1 0 666666666667 1 2 3 4 5 6 7 8 9 10 11 12 13 14 15",
+            two,
+            Cause::Range,
+        ),
         (b"D 1 0 0 10000000000000 0", one, Cause::Range),
         (b"D 1 0 0 10000000000001 0", two, Cause::Range),
         (b"X 1 0 1 0 1 1 1 0", one, Cause::Form),

@@ -9,19 +9,19 @@ pub const MAX: u64 = 10_000_000_000_000;
 pub const FIRST_MAX: u64 = 1_000_000_000_000;
 
 /// The most places that an operation reads: its target and its parameters.
-pub const READS: usize = 4;
+pub const READS: usize = 8;
 
 /// The most parameters of an operation, one less than [`READS`].
-pub const PARAMS: usize = 3;
+pub const PARAMS: usize = 7;
 
 /// The greatest timestamp of an event: 10^12. The least is 1.
 pub const LATEST: u64 = 1_000_000_000_000;
 
 /// The most operations of an event.
-pub const EVENT_OPS: usize = 4;
+pub const EVENT_OPS: usize = 16;
 
 /// The most events of a batch.
-pub const EVENTS: usize = 10_240;
+pub const EVENTS: usize = 65_536;
 
 /// The most workers, which are numbered from 1.
 pub const WORKERS: u8 = 16;

@@ -2,7 +2,8 @@
 ghost use Rattle.std.specs.Prelude.{◌≡◌, ◌<◌, ◌≤◌, ◌↔◌, length, take, drop, map, All, IsTrue, nat_eq};
 ghost use Rattle.std.specs.List.{IsDistinct, list_any};
 ghost use Rattle.morph_base.specs.Operations.{IsLimit, IsShaped, InLayout, reads, no_key, same_key};
-ghost use Rattle.morph_base.specs.Transactions.{IsTransaction, IsBatch, HasHigh, high_of_all, BatchKeysIn, HasKeysIn, transaction_of};
+ghost use Rattle.morph_base.specs.Transactions.{IsTransaction, IsBatch, HasHigh, high_of_all};
+ghost use Rattle.morph_base.specs.Transactions.{BatchKeysIn, HasKeysIn, transaction_of};
 
 use crate::event::{Batch, Event};
 use crate::key::{Key, Layout};

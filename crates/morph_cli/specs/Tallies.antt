@@ -1,6 +1,7 @@
 -- What was done in a run: the accounts of the batches that were run, and the numbers that are told of them.
 use Rattle.std.specs.Prelude.{◌≡◌, ℕ, ◌+◌, ◌*◌, ◌<◌, ◌≤◌, ◌⊎◌, Bool, false, All, List, [], ◌∷◌, ◌++◌, count_by, length, slice_index, sum, sum_by, Option, IfSome, IsTrue}
 use Rattle.morph_base.specs.Limits.{most_workers}
+use Rattle.morph_base.specs.declared.limits.TheConstants.{EVENT_OPS}
 use Rattle.morph_base.specs.declared.plan.Plan.{Plan}
 use Rattle.morph_base.specs.declared.strategy.Abort.TheVariants.{Lazy}
 use Rattle.morph_base.specs.declared.strategy.Explore.{Explore}
@@ -136,7 +137,7 @@ pub record IsBalanced (planning : Planning) (workers : ℕ) (t : Tally) : Type 0
   pub inside : (w : ℕ) → workers < w → slice_index t.settled_by w ≡ 0
   pub evaluated : t.evaluated + t.spread ≤ 8 * t.ops
   pub rolled : t.spread + t.rolled ≤ 7 * t.ops
-  pub rest : slice_index t.settled_by 0 ≤ 4 * t.left
+  pub rest : slice_index t.settled_by 0 ≤ EVENT_OPS * t.left
   pub stolen : t.stolen ≤ t.handed
   pub alone : workers ≡ 1 → IsBalancedAlone t
   pub by : (s : Strategy) → planning ≡ Fixed s → IsBalancedBy s workers t

@@ -1,5 +1,6 @@
 //! Runs that read and plan batches ahead.
-ghost use Rattle.std.specs.Prelude.{◌≡◌, false, ◌<◌, ◌+◌, ◌*◌, ◌≤◌, ◌⊎◌, [], ◌++◌, length, None, option_map, IfOk, IfSome, IsErrOf, IsTrue, OnOk, OnErr};
+ghost use Rattle.std.specs.Prelude.{◌≡◌, false, ◌<◌, ◌+◌, ◌*◌, ◌≤◌, ◌⊎◌, [], ◌++◌, length};
+ghost use Rattle.std.specs.Prelude.{None, option_map, IfOk, IfSome, IsErrOf, IsTrue, OnOk, OnErr};
 ghost use Rattle.event_reader.specs.Accepted.{accepted_within};
 ghost use Rattle.event_reader.specs.declared.limits.TheConstants.{INPUT_BYTES};
 ghost use Rattle.event_reader.specs.Reader.{new_reader};

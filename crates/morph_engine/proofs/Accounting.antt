@@ -41,7 +41,7 @@ use Rattle.morph_engine.specs.Runs.{HasRun}
 use Rattle.morph_engine.proofs.Caps.{cap_small, attempts_few, rises_few}
 use Rattle.morph_engine.proofs.HandingOut.{one, weight_one}
 
-up_to_same : (n : ℕ) → n < 2000000 → up_to n ≡ n
+up_to_same : (n : ℕ) → n < 4294967296 → up_to n ≡ n
 up_to_same n small = omega arith
 
 explore_cases : (e : Explore) → (e ≡ Strata) ⊎ (e ≡ Steal)

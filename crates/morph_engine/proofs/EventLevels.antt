@@ -71,5 +71,5 @@ module _ (p : Plan) (valid : IsValidPlan p) where
   few_events = valid.plan.numbering.few
 
   -- and so few that their numbers, with those of the levels of operations, have 32 bits
-  pub small_event_levels : length p.event_levels.items ≤ 10240
+  pub small_event_levels : length p.event_levels.items ≤ EVENTS
   small_event_levels = let few = few_event_levels in let events = few_events in omega arith

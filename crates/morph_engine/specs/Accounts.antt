@@ -1,5 +1,6 @@
 -- What a batch counts: who settled its operations, and how the numbers go together.
 use Rattle.std.specs.Prelude.{◌≡◌, ℕ, ◌+◌, ◌*◌, ◌≤◌, ◌==◌, ◌&&◌, Bool, not, List, All, length, count_by, sum_by, slice_index}
+use Rattle.morph_base.specs.declared.limits.TheConstants.{EVENT_OPS}
 use Rattle.morph_base.specs.declared.plan.Plan.{Plan}
 use Rattle.morph_base.specs.declared.strategy.Abort.{Abort}
 use Rattle.morph_base.specs.declared.strategy.Abort.TheVariants.{Lazy}
@@ -67,7 +68,7 @@ pub record IsAccount (explore : Explore) (abort : Abort) (workers : ℕ) (a : Ac
   pub spread : abort ≡ Lazy → a.counts.spread ≡ 0
   pub rolled : a.counts.spread + a.counts.rolled ≤ cap_for abort * op_count a.plan
   pub committed : count_by (is_committed_by_worker a.plan a.by) (below (op_count a.plan)) ≤ a.counts.evaluated
-  pub rest : settled_by a.by 0 ≤ 4 * a.left
+  pub rest : settled_by a.by 0 ≤ EVENT_OPS * a.left
   pub stolen : a.stolen ≤ a.handed
   pub dealt : explore ≡ Steal → length (level_one a.plan) ≤ a.handed
   pub by_strata : explore ≡ Strata → a.handed ≡ 0

@@ -5,7 +5,8 @@ ghost use Rattle.morph_base.specs.Flat.{contents};
 ghost use Rattle.morph_base.specs.States.{opening_state, IsUpTo};
 ghost use Rattle.morph_base.specs.Transactions.{IsBatch, BatchKeysIn, high_of_all, transactions_of};
 ghost use Rattle.morph_base.specs.Outcomes.{fates};
-ghost use Rattle.morph_base.specs.Plans.{HasBases, IsPlanOf, IsSettledOf, PlanKeysIn, event_count, high_of, state_at, transactions};
+ghost use Rattle.morph_base.specs.Plans.{HasBases, IsPlanOf, IsSettledOf, PlanKeysIn, event_count};
+ghost use Rattle.morph_base.specs.Plans.{high_of, state_at, transactions};
 ghost use Rattle.morph_base.specs.Graphs.{IsValidPlan};
 ghost use Rattle.morph_engine.specs.Accounts.{IsAccount, account_of};
 ghost use Rattle.morph_engine.specs.Caps.{cap_for};
@@ -120,7 +121,8 @@ impl Engine {
     /// Fills the bases of a plan in from the present state, whatever state they were of before; everything else of the
     /// plan stays.
     ///
-    /// It may be run then, until another batch is run. No value of the state may be above the greatest value of the plan.
+    /// It may be run then, until another batch is run. No value of the state may be above the greatest value of the
+    /// plan.
     pub fn rebase(&self, plan: &mut Plan)
         requires plan { IsValidPlan plan.old }
         requires keys { PlanKeysIn plan.old self.now.layout }

@@ -1,7 +1,8 @@
 ghost use Rattle.std.specs.Prelude.{◌≡◌, ◌<◌, ◌≤◌, ◌^◌, map, count_by, length, true, false, MatchOption, IfSome};
 ghost use Rattle.std.specs.List.{list_all};
 ghost use Rattle.event_reader.specs.declared.limits.TheConstants.{GREATEST_NUMBER};
-ghost use Rattle.run_text.specs.Settings.{has_name, value_in, is_known, is_once, are_once, value_under, is_given, is_lazy, can_check, check_in, check_under};
+ghost use Rattle.run_text.specs.Settings.{has_name, value_in, is_known, is_once, are_once, value_under};
+ghost use Rattle.run_text.specs.Settings.{is_given, is_lazy, can_check, check_in, check_under};
 ghost use Rattle.run_text.specs.Settings.{app_in, app_under, number_in, number_under, switch_in, switch_under};
 ghost use Rattle.run_text.specs.Settings.{unit_in, unit_under, explore_in, explore_under, abort_in, abort_under};
 ghost use Rattle.run_text.specs.Settings.{auto_in, auto_under, strategy_of, planning_of, input_of};

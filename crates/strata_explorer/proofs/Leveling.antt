@@ -165,7 +165,7 @@ module _ (p : Plan) (valid : IsValidPlan p) where
       omega arith) in
       omega arith
 
-  pub small_levels : length p.op_levels.items ≤ 40960
+  pub small_levels : length p.op_levels.items ≤ EVENT_OPS * EVENTS
   small_levels = let few = few_levels in let small : op_count p ≤ EVENT_OPS * EVENTS = op_count-small p valid.plan in omega arith
 
   -- below an operation's level there is one of each level

@@ -3,7 +3,8 @@ ghost use Rattle.morph_base.specs.declared.limits.TheConstants.{MAX};
 ghost use Rattle.morph_base.specs.Operations.{InLayout};
 ghost use Rattle.morph_base.specs.States.{opening_state, IsUpTo};
 ghost use Rattle.morph_base.specs.Flat.{contents};
-ghost use Rattle.morph_base.specs.Plans.{IsPlan, high_of, HasBases, PlanKeysIn, IsSettledOf, event_count, event_at, state_at, filled_plan};
+ghost use Rattle.morph_base.specs.Plans.{IsPlan, high_of, HasBases, PlanKeysIn, IsSettledOf};
+ghost use Rattle.morph_base.specs.Plans.{event_count, event_at, state_at, filled_plan};
 
 use crate::filling::fill;
 use morph_base::{Key, Layout, OutOfMemory, Plan, PlanOp, Settled, Values};

@@ -17,6 +17,12 @@ fn cells_and_their_sums(rt: HostRuntime) -> Result<(), Fail> {
                 0,
                 b"1 C 6\n2 C 4\n3 C 10 6 4\n4 A\ncell 0 10\ncell 1 6\ncell 2 4\ncommitted 3 aborted 1\n",
             ),
+            (
+                b"morph 2\nW 1 1 5\nG 2 0 10 1 2 3 4 5 6 7\n",
+                0,
+                b"1 C 5\n2 C 5 5 0 0 0 0 0 0\ncell 0 5\ncell 1 5\ncommitted 2 aborted 0\n",
+            ),
+            (b"G 2 0 10 1 2 3 4\n", 3, b"refused line 1: form\n"),
         ],
     )
 }

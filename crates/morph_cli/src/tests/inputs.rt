@@ -34,6 +34,12 @@ fn events_commit_or_abort(rt: HostRuntime) -> Result<(), Fail> {
                 0,
                 b"1 C 100 5\n2 C 40 4 60 1\n3 A\nacct 0 40\nacct 1 60\nasset 0 4\nasset 1 1\ncommitted 2 aborted 1\n",
             ),
+            // one account pays three, and then has too little for two
+            (
+                b"morph 2\nD 1 0 0 100 0\nM 2 0 30 1 2 3\nM 3 0 10 1 2\n",
+                0,
+                b"1 C 100 0\n2 C 10 30 30 30\n3 A\nacct 0 10\nacct 1 30\nacct 2 30\nacct 3 30\ncommitted 2 aborted 1\n",
+            ),
             // what a batch does not touch stays as the one before left it
             (
                 b"D 1 0 0 100 5\nP\nD 2 1 1 1 1\n",
@@ -98,6 +104,13 @@ fn lines_are_refused(rt: HostRuntime) -> Result<(), Fail> {
                 3,
                 b"refused line 2: range\n",
             ),
+            (b"morph 2\nM 1 0 5 1 1\n", 3, b"refused line 2: same\n"),
+            (
+                b"morph 2\nM 1 0 5000000000000 1 2 3\n",
+                3,
+                b"refused line 2: range\n",
+            ),
+            (b"M 1 0 5 1\n", 3, form),
         ],
     )
 }
@@ -149,28 +162,51 @@ pub fn deposits(alloc: Global, count: u64) -> Result<List<u8>, OutOfMemory> {
     lines(alloc, count, &parts)
 }
 
-/// The text of 10,240 of them.
-fn deposited_text(alloc: Global) -> Result<List<u8>, OutOfMemory> {
+/// The text of so many of them, with `closing` behind the lines of the events.
+fn deposited_text(alloc: Global, count: u64, closing: &[u8]) -> Result<List<u8>, OutOfMemory> {
     let parts = [
         Part::Number,
         Part::Text(b" C "),
         Part::Number,
         Part::Text(b" 0"),
     ];
-    let mut text = lines(alloc, 10_240, &parts)?;
-    append(&mut text, b"acct 0 10240\ncommitted 10240 aborted 0\n")?;
+    let mut text = lines(alloc, count, &parts)?;
+    append(&mut text, closing)?;
     Ok(text)
 }
 
 #[test]
 fn a_batch_has_at_most_10240_events(rt: HostRuntime) -> Result<(), Fail> {
     let full = deposits(rt.alloc(), 10_240)?;
-    let text = deposited_text(rt.alloc())?;
+    let closing = b"acct 0 10240\ncommitted 10240 aborted 0\n";
+    let text = deposited_text(rt.alloc(), 10_240, closing)?;
     expect(&rt, LEDGER, &[(full.as_slice(), 0, text.as_slice())])?;
     let more = deposits(rt.alloc(), 10_241)?;
     expect(
         &rt,
         LEDGER,
         &[(more.as_slice(), 3, b"refused line 10241: full\n")],
+    )
+}
+
+/// The input of version 2 with so many deposits.
+fn second(alloc: Global, count: u64) -> Result<List<u8>, OutOfMemory> {
+    let mut input = List::new(alloc);
+    append(&mut input, b"morph 2\n")?;
+    append(&mut input, deposits(alloc, count)?.as_slice())?;
+    Ok(input)
+}
+
+#[test]
+fn a_batch_of_version_2_has_at_most_65536_events(rt: HostRuntime) -> Result<(), Fail> {
+    let full = second(rt.alloc(), 65_536)?;
+    let closing = b"acct 0 65536\ncommitted 65536 aborted 0\n";
+    let text = deposited_text(rt.alloc(), 65_536, closing)?;
+    expect(&rt, LEDGER, &[(full.as_slice(), 0, text.as_slice())])?;
+    let more = second(rt.alloc(), 65_537)?;
+    expect(
+        &rt,
+        LEDGER,
+        &[(more.as_slice(), 3, b"refused line 65538: full\n")],
     )
 }

@@ -23,26 +23,26 @@ made version size id amount most front form front_is is same greatest many =
     is ∙ ap (with_floors amount most) front_is ∙ ap (λ r. with_floors amount most (front_of r amount)) same ∙ ap (λ r. with_floors r most (front_of (ids size) r)) greatest
     ∙ ap (λ k. with_floors (amounts version) k (front_of (ids size) (amounts version))) many
 
-pub key-src-requires : goal.key-src-requires
-key-src-requires c =
+pub key_of-src-requires : goal.key_of-src-requires
+key_of-src-requires c =
     id_at (transfers c.args.version c.args.size).form c.with_more-form.result c.args.words.now c.read.result c.in_ok-numbers.numbers c.first.result
     (made c.args.version c.args.size c.ids-ids.result c.amounts-amounts.result c.most_floors.result c.new.result c.with_more-form.result c.new.ensures c.with_more-form.ensures c.ids-ids.ensures c.amounts-amounts.ensures c.most_floors.ensures) c.read.ensures c.in_ok-numbers.was c.first.ensures 1 c.args.size (omega arith) refl
     c.ranges.size.fits
 
-pub key-dst-requires : goal.key-dst-requires
-key-dst-requires c =
+pub key_of-dst-requires : goal.key_of-dst-requires
+key_of-dst-requires c =
     id_at (transfers c.args.version c.args.size).form c.with_more-form.result c.args.words.now c.read.result c.in_ok-numbers.numbers c.first.result
     (made c.args.version c.args.size c.ids-ids.result c.amounts-amounts.result c.most_floors.result c.new.result c.with_more-form.result c.new.ensures c.with_more-form.ensures c.ids-ids.ensures c.amounts-amounts.ensures c.most_floors.ensures) c.read.ensures c.in_ok-numbers.was c.first.ensures 2 c.args.size (omega arith) refl
     c.ranges.size.fits
 
-pub key-asrc-requires : goal.key-asrc-requires
-key-asrc-requires c =
+pub key_of-asrc-requires : goal.key_of-asrc-requires
+key_of-asrc-requires c =
     id_at (transfers c.args.version c.args.size).form c.with_more-form.result c.args.words.now c.read.result c.in_ok-numbers.numbers c.first.result
     (made c.args.version c.args.size c.ids-ids.result c.amounts-amounts.result c.most_floors.result c.new.result c.with_more-form.result c.new.ensures c.with_more-form.ensures c.ids-ids.ensures c.amounts-amounts.ensures c.most_floors.ensures) c.read.ensures c.in_ok-numbers.was c.first.ensures 3 c.args.size (omega arith) refl
     c.ranges.size.fits
 
-pub key-adst-requires : goal.key-adst-requires
-key-adst-requires c =
+pub key_of-adst-requires : goal.key_of-adst-requires
+key_of-adst-requires c =
     id_at (transfers c.args.version c.args.size).form c.with_more-form.result c.args.words.now c.read.result c.in_ok-numbers.numbers c.first.result
     (made c.args.version c.args.size c.ids-ids.result c.amounts-amounts.result c.most_floors.result c.new.result c.with_more-form.result c.new.ensures c.with_more-form.ensures c.ids-ids.ensures c.amounts-amounts.ensures c.most_floors.ensures) c.read.ensures c.in_ok-numbers.was c.first.ensures 4 c.args.size (omega arith) refl
     c.ranges.size.fits

@@ -2,7 +2,7 @@ use Rattle.std.proofs.Common.{map, sym, refl, ◌∙◌, ap, arith, length-appen
 use Rattle.std.proofs.lemmas.Bool.{false≢true}
 use Rattle.morph_base.specs.Transactions.{transaction_of}
 use Rattle.event_reader.specs.Pending.{batch_of}
-use Rattle.event_reader.specs.Steps.{said_by}
+use Rattle.event_reader.specs.Steps.{rules_of, said_by}
 use Rattle.event_reader.specs.declared.cause.Cause.TheVariants.{Form}
 use Rattle.event_reader.proofs.Stepping.{leads_ignored, leads_empty, leads_closed, leads_refused, leads_joined, leads_not_joined, sound_more, some_item}
 use Rattle.event_reader.proofs.pending.Pending.take_line.Goals as goal
@@ -33,7 +33,7 @@ returns-then-is_punctuation_line g c = record {
 
 pub returns-in_default : goal.returns-in_default
 returns-in_default g c =
-    leads_refused (g.A.EventApp.event_of c.args.app.now c.args.size c.args.past.version) _ (batch_of c.args.self.now) _ c.requires.short Form
+    leads_refused (rules_of (g.A.EventApp.event_of c.args.app.now c.args.size) c.args.past.version) _ (batch_of c.args.self.now) _ c.requires.short Form
     (sym c.if-is_ignored_line.ensures) (sym c.if-is_punctuation_line.ensures)
     (ap (said_by (g.A.EventApp.event_of c.args.app.now c.args.size c.args.past.version)) (sym c.in_default.ensures))
 
@@ -41,7 +41,7 @@ pub returns-in-Err-Refused : goal.returns-in-Err-Refused
 returns-in-Err-Refused g c =
     let said = rw c.in-Err-Refused.field-0-is at c.in-Err-Refused.ensures in
     rw c.in-Err-Refused.cause-is
-    (leads_refused (g.A.EventApp.event_of c.args.app.now c.args.size c.args.past.version) _ (batch_of c.args.self.now) _ c.requires.short c.in-Err-Refused.cause
+    (leads_refused (rules_of (g.A.EventApp.event_of c.args.app.now c.args.size) c.args.past.version) _ (batch_of c.args.self.now) _ c.requires.short c.in-Err-Refused.cause
     (sym c.if-is_ignored_line.ensures) (sym c.if-is_punctuation_line.ensures)
     (ap (said_by (g.A.EventApp.event_of c.args.app.now c.args.size c.args.past.version)) (sym c.in-Some.ensures) ∙ said))
 
@@ -52,7 +52,7 @@ returns-in-None g c =
     let is = ap (said_by (g.A.EventApp.event_of c.args.app.now c.args.size c.args.past.version)) (sym c.in-Some.ensures) ∙ c.in-Ok.ensures in
     let valid = g.met.A.EventApp.gives_valid c.args.app.now c.args.size c.args.past.version c.in-Some.words e c.in-Ok.ensures in
     record {
-      leads = leads_joined (g.A.EventApp.event_of c.args.app.now c.args.size c.args.past.version) _ (batch_of c.args.self.now) _ c.requires.short e (batch_of c.join.new.self)
+      leads = leads_joined (rules_of (g.A.EventApp.event_of c.args.app.now c.args.size) c.args.past.version) _ (batch_of c.args.self.now) _ c.requires.short e (batch_of c.join.new.self)
           (sym c.if-is_ignored_line.ensures) (sym c.if-is_punctuation_line.ensures) is joined.joins joined.events;
       notes = joined.notes;
       sound = sound_more c.args.past.version _ c.args.past.closed (batch_of c.args.self.now) e (batch_of c.join.new.self) c.requires.sound valid joined.joins joined.events;
@@ -64,5 +64,5 @@ returns-in-Some-2 g c =
     let e = transaction_of c.in-Ok.event in
     let joined = rw c.in-Some-2.is at c.in_ok-join.ensures in
     let is = ap (said_by (g.A.EventApp.event_of c.args.app.now c.args.size c.args.past.version)) (sym c.in-Some.ensures) ∙ c.in-Ok.ensures in
-    leads_not_joined (g.A.EventApp.event_of c.args.app.now c.args.size c.args.past.version) _ (batch_of c.args.self.now) _ c.requires.short e c.in-Some-2.cause
+    leads_not_joined (rules_of (g.A.EventApp.event_of c.args.app.now c.args.size) c.args.past.version) _ (batch_of c.args.self.now) _ c.requires.short e c.in-Some-2.cause
     (sym c.if-is_ignored_line.ensures) (sym c.if-is_punctuation_line.ensures) is joined

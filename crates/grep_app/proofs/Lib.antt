@@ -1,2 +1,0 @@
-pub mod Distinctness
-pub mod Cells

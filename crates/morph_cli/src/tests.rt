@@ -82,7 +82,7 @@ fn sink_of(
 ) -> Result<MemSink, OutOfMemory> {
     let fail = List::from_slice(alloc, fail)?;
     let stall = List::from_slice(alloc, stall)?;
-    MemSink::new(alloc, 1_000_000, piece.max(1), fail, stall)
+    MemSink::new(alloc, 1_100_000, piece.max(1), fail, stall)
 }
 
 /// Runs the program.

@@ -2,10 +2,11 @@ ghost use Rattle.std.specs.Prelude.{◌<◌, ◌≤◌};
 ghost use Rattle.event_reader.specs.Limits.{input_bytes};
 
 use crate::counter::Counter;
+use crate::limits::FIRST_EVENTS;
 use crate::{
     BatchReader, Cause, GenSource, INPUT_BYTES, LineNext, Lines, Next, ReaderFault, Version,
 };
-use morph_base::{EVENTS, List, OutOfMemory};
+use morph_base::{List, OutOfMemory};
 use morph_io::{MemSource, Source};
 use std::alloc::{AllocError, Global};
 use std::test::Fail;
@@ -198,9 +199,9 @@ fn events(alloc: Global, count: u64) -> Result<String, AllocError> {
 
 #[test]
 fn a_batch_has_at_most_as_many_events_as_there_may_be(rt: HostRuntime) -> Result<(), Fail> {
-    let most = EVENTS as u64;
+    let most = FIRST_EVENTS as u64;
     let rows: [(u64, &[usize], End); 2] = [
-        (most, &[EVENTS], End::Ended),
+        (most, &[FIRST_EVENTS], End::Ended),
         (most + 1, &[], End::Refused(most + 1, Cause::Full)),
     ];
     for (count, sizes, end) in rows {

@@ -31,9 +31,9 @@ fn lines_are_cut_at_single_spaces(rt: HostRuntime) {
     let rows: [(&[u8], Option<usize>); 10] = [
         (b"P", Some(1)),
         (b"D 1 0 0 1 1", Some(6)),
-        (b"1 2 3 4 5 6 7 8", Some(8)),
         (b"1 2 3 4 5 6 7 8 9", Some(9)),
-        (b"1 2 3 4 5 6 7 8 9 10", None),
+        (b"1 2 3 4 5 6 7 8 9 10 11 12 13 14 15 16 17 18 19", Some(19)),
+        (b"1 2 3 4 5 6 7 8 9 10 11 12 13 14 15 16 17 18 19 20", None),
         (b"", None),
         (b" ", None),
         (b" 1", None),

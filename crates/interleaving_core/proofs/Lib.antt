@@ -13,6 +13,7 @@ pub mod Machine
 pub mod Recorded
 pub mod Storing
 pub mod Shown
+pub mod Linked
 pub mod Places
 pub mod Bounds
 pub mod Stale

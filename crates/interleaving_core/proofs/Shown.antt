@@ -4,7 +4,8 @@ use Rattle.interleaving_core.specs.declared.entry.Entry.{Entry}
 use Rattle.morph_base.specs.declared.plan.Origin.{Origin}
 use Rattle.morph_base.specs.declared.plan.Origin.TheVariants.{Base, Op as Written}
 use Rattle.interleaving_core.specs.Core.{Core}
-use Rattle.interleaving_core.specs.Stored.{HasShownAnother, IsSettledOtherwise, HasVersionBesides}
+use Rattle.interleaving_core.specs.Entries.{HasShownAnother}
+use Rattle.interleaving_core.specs.Stored.{IsSettledOtherwise, HasVersionBesides}
 use Rattle.interleaving_core.proofs.Sources.{version_from_settled}
 
 pub besides_settled : (c : Core) (origin : Origin) (x : ℕ) → IsSettledOtherwise c origin x → HasVersionBesides c origin x

@@ -50,7 +50,7 @@ at_replicate (suc n) (suc i) x = at_replicate n i x
 
 -- all lists are as at the start
 pub start_core : (s : CoreState) (n r t d : ℕ) → s.words.items ≡ replicate n (blocked 1) → s.records.items ≡ replicate r None → s.claims.items ≡ replicate t None
-    → s.decisions.items ≡ replicate d None → s.published.items ≡ [] → s.settlings.items ≡ [] → core_of s ≡ start
+    → s.decisions.items ≡ replicate d None → s.published.entries.items ≡ [] → s.settlings.items ≡ [] → core_of s ≡ start
 start_core s n r t d words records claims decisions published settlings =
     same_core (core_of s) start (fun_ext (λ o. ap (λ xs. get_or xs o (blocked 1)) words ∙ at_replicate n o (blocked 1)))
     (fun_ext (λ o. fun_ext (λ j. ap (λ x. if nat_lt j READS then x else None) (ap (λ xs. get_or xs (o * READS + j) None) records ∙ at_replicate r (o * READS + j) None) ∙ none_else (nat_lt j READS) None)))
@@ -64,16 +64,17 @@ start_core s n r t d words records claims decisions published settlings =
 
 -- and there is room for all that steps need
 pub start_state : (p : Plan) (s : CoreState) → s.cap < most_attempts → s.words.items ≡ replicate (op_count p) (blocked 1) → s.records.items ≡ replicate (op_count p * READS) None
-    → s.claims.items ≡ replicate (WORKERS + 1) None → s.decisions.items ≡ replicate (event_count p) None → s.published.items ≡ [] → s.settlings.items ≡ []
-    → s.published.room ≡ op_count p * (s.cap + 1) → s.settlings.room ≡ op_count p → IsStateOf p s
-start_state p s small words records claims decisions published settlings entry_room settling_room = record {
+    → s.claims.items ≡ replicate (WORKERS + 1) None → s.decisions.items ≡ replicate (event_count p) None → s.published.entries.items ≡ [] → s.settlings.items ≡ []
+    → s.published.entries.room ≡ op_count p * (s.cap + 1) → length s.published.ends.items ≡ op_count p → s.settlings.room ≡ op_count p → IsStateOf p s
+start_state p s small words records claims decisions published settlings entry_room ends settling_room = record {
   small_cap = small;
   sizes = record {
     words = ap length words ∙ length-replicate (op_count p) (blocked 1);
     records = ap length records ∙ length-replicate {A = Option Record} (op_count p * READS) None;
     claims = ap length claims ∙ length-replicate {A = Option Claim} (WORKERS + 1) None;
     decisions = ap length decisions ∙ length-replicate {A = Option Bool} (event_count p) None;
-    entries = ap (λ es. length es + s.published.room) published ∙ ap (λ n. 0 + n) entry_room ∙ zero-add (op_count p * (s.cap + 1));
+    entries = ap (λ es. length es + s.published.entries.room) published ∙ ap (λ n. 0 + n) entry_room ∙ zero-add (op_count p * (s.cap + 1));
+    published = ends;
     settlings = ap (λ xs. length xs + s.settlings.room) settlings ∙ ap (λ n. 0 + n) settling_room ∙ zero-add (op_count p);
   };
   claims = λ t k is. absurd (none-some k (sym (ap (λ xs. get_or xs t None) claims ∙ at_replicate (WORKERS + 1) t None) ∙ is));
@@ -175,6 +176,7 @@ same_shape_trans a b c one two = record {
   claims = two.claims ∙ one.claims;
   decisions = two.decisions ∙ one.decisions;
   entries = two.entries ∙ one.entries;
+  published = two.published ∙ one.published;
   settlings = two.settlings ∙ one.settlings;
   fit = λ fits. two.fit (one.fit fits);
 }
@@ -189,6 +191,7 @@ state_again p s t state shape sound = record {
     claims = shape.claims ∙ state.sizes.claims;
     decisions = shape.decisions ∙ state.sizes.decisions;
     entries = shape.entries ∙ state.sizes.entries ∙ ap (λ n. op_count p * (n + 1)) (sym shape.cap);
+    published = shape.published ∙ state.sizes.published;
     settlings = shape.settlings ∙ state.sizes.settlings;
   };
   claims = shape.fit state.claims;
@@ -197,19 +200,19 @@ state_again p s t state shape sound = record {
 
 -- ---- room for what a step adds
 
-pub room_to_finish : (p : Plan) (s : CoreState) (o t : ℕ) → IsPlan p → IsStateOf p s → MayFinish p (core_of s) o t → 0 < s.published.room
+pub room_to_finish : (p : Plan) (s : CoreState) (o t : ℕ) → IsPlan p → IsStateOf p s → MayFinish p (core_of s) o t → 0 < s.published.entries.room
 room_to_finish p s o t valid state may =
     let next : IsSound p s.cap (finishing p (core_of s) o t) = finishing_keeps p s.cap valid state.small_cap (core_of s) state.sound o t may in
     let all = (few_attempts p s.cap valid (finishing p (core_of s) o t) next).all in
-    let more : length (s.published.items ++ entry_of o (end_of p (core_of s) o t) ∷ []) ≡ length s.published.items + 1 = length-append s.published.items _ in
+    let more : length (s.published.entries.items ++ entry_of o (end_of p (core_of s) o t) ∷ []) ≡ length s.published.entries.items + 1 = length-append s.published.entries.items _ in
     let sizes = state.sizes.entries in
     omega arith
 
-pub room_to_spread : (p : Plan) (s : CoreState) (o sibling : ℕ) → IsPlan p → IsStateOf p s → MaySpread p s.cap (core_of s) o sibling → 0 < s.published.room
+pub room_to_spread : (p : Plan) (s : CoreState) (o sibling : ℕ) → IsPlan p → IsStateOf p s → MaySpread p s.cap (core_of s) o sibling → 0 < s.published.entries.room
 room_to_spread p s o sibling valid state may =
     let next : IsSound p s.cap (spreading p (core_of s) o) = spreading_keeps p s.cap valid state.small_cap (core_of s) state.sound o sibling may in
     let all = (few_attempts p s.cap valid (spreading p (core_of s) o) next).all in
-    let more : length (s.published.items ++ entry_of o (spread_of p (core_of s) o) ∷ []) ≡ length s.published.items + 1 = length-append s.published.items _ in
+    let more : length (s.published.entries.items ++ entry_of o (spread_of p (core_of s) o) ∷ []) ≡ length s.published.entries.items + 1 = length-append s.published.entries.items _ in
     let sizes = state.sizes.entries in
     omega arith
 

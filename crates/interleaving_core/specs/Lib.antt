@@ -3,6 +3,7 @@ pub mod Steps
 pub mod Soundness
 pub mod Growth
 pub mod Schedules
+pub mod Entries
 pub mod Stored
 pub mod Sightings
 pub mod Counts

@@ -1,5 +1,5 @@
 -- What a `CoreState` stands for, and which of them are states of a plan.
-use Rattle.std.specs.Prelude.{◌≡◌, ◌≢◌, List, Contains, ℕ, ◌+◌, ◌*◌, ◌≤◌, ◌<◌, if◌then◌else◌, nat_lt, length, take, Option, Some, None, slice_index_or}
+use Rattle.std.specs.Prelude.{◌≡◌, ◌≢◌, ℕ, ◌+◌, ◌*◌, ◌≤◌, ◌<◌, if◌then◌else◌, nat_lt, length, take, Option, Some, None, slice_index_or}
 use Rattle.morph_base.specs.declared.limits.TheConstants.{READS}
 use Rattle.morph_base.specs.Limits.{most_attempts, most_workers}
 use Rattle.morph_base.specs.declared.plan.Origin.{Origin}
@@ -7,7 +7,6 @@ use Rattle.morph_base.specs.declared.plan.Origin.TheVariants.{Base, Op as Writte
 use Rattle.morph_base.specs.declared.plan.Plan.{Plan}
 use Rattle.morph_base.specs.Plans.{event_count, op_count}
 use Rattle.interleaving_core.specs.declared.claim.Claim.{Claim}
-use Rattle.interleaving_core.specs.declared.entry.Entry.{Entry}
 use Rattle.interleaving_core.specs.declared.entry.Held.{Held}
 use Rattle.interleaving_core.specs.declared.state.CoreState.{CoreState}
 use Rattle.morph_base.specs.Clean.{from}
@@ -27,7 +26,7 @@ core_of s =
       recorded = λ o j. if nat_lt j READS then slice_index_or s.records.items (o * READS + j) None else None;
       claim = λ t. held_of (slice_index_or s.claims.items t None);
       decision = λ i. slice_index_or s.decisions.items i None;
-      published = s.published.items;
+      published = s.published.entries.items;
       settlings = s.settlings.items;
     }
 
@@ -38,6 +37,10 @@ cap_of s = s.cap
 abbrev pub word_count : CoreState → ℕ
 word_count s = length s.words.items
 
+-- how many operations it keeps entries of
+abbrev pub published_count : CoreState → ℕ
+published_count s = length s.published.ends.items
+
 abbrev pub decision_count : CoreState → ℕ
 decision_count s = length s.decisions.items
 
@@ -47,7 +50,8 @@ pub record HasSizes (p : Plan) (s : CoreState) : Type 0 where
   pub records : length s.records.items ≡ op_count p * READS
   pub claims : length s.claims.items ≡ most_workers + 1
   pub decisions : length s.decisions.items ≡ event_count p
-  pub entries : length s.published.items + s.published.room ≡ op_count p * (s.cap + 1)
+  pub entries : length s.published.entries.items + s.published.entries.room ≡ op_count p * (s.cap + 1)
+  pub published : published_count s ≡ op_count p
   pub settlings : length s.settlings.items + s.settlings.room ≡ op_count p
 
 -- a claim has a value for each place that was fetched
@@ -72,7 +76,8 @@ pub record IsSameShape (old new : CoreState) : Type 0 where
   pub records : length new.records.items ≡ length old.records.items
   pub claims : length new.claims.items ≡ length old.claims.items
   pub decisions : length new.decisions.items ≡ length old.decisions.items
-  pub entries : length new.published.items + new.published.room ≡ length old.published.items + old.published.room
+  pub entries : length new.published.entries.items + new.published.entries.room ≡ length old.published.entries.items + old.published.entries.room
+  pub published : published_count new ≡ published_count old
   pub settlings : length new.settlings.items + new.settlings.room ≡ length old.settlings.items + old.settlings.room
   pub fit : AllFit old → AllFit new
 
@@ -80,13 +85,6 @@ pub record IsSameShape (old new : CoreState) : Type 0 where
 abbrev pub IsInside : ℕ → Origin → Type 0
 IsInside n (Base v) = Unit {0}
 IsInside n (Written s) = s < n
-
--- another value than x was shown for operation o
-pub record HasShownAnother (es : List Entry) (o x : ℕ) : Type 0 where
-  pub entry : Entry
-  pub inside : Contains es entry
-  pub op_is : entry.op ≡ o
-  pub differs : entry.value ≢ x
 
 module _ (c : Core) (origin : Origin) (x : ℕ) where
   -- the source is settled with another value than x

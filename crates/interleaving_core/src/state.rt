@@ -7,13 +7,15 @@ ghost use Rattle.interleaving_core.specs.Steps.{May, after};
 ghost use Rattle.interleaving_core.specs.Stored.{core_of, cap_of, word_count, decision_count, IsStateOf};
 
 use crate::claim::Claim;
-use crate::entry::{Entry, Record, Settling};
+use crate::entry::{Record, Settling};
 use crate::event::{CoreEvent, Step};
 use morph_base::{List, OpWord, OutOfMemory, Plan, READS, WORKERS};
+use published::Published;
 use std::alloc::Global;
 
 mod effects;
 mod guards;
+mod published;
 mod reads;
 mod steps;
 
@@ -34,7 +36,7 @@ pub struct CoreState {
     /// By worker, from 1 on.
     claims: List<Option<Claim>>,
     decisions: List<Option<bool>>,
-    published: List<Entry>,
+    published: Published,
     settlings: List<Settling>,
 }
 
@@ -57,7 +59,7 @@ impl CoreState {
             records: List::filled(alloc, ops * READS, None)?,
             claims: List::filled(alloc, WORKERS as usize + 1, None)?,
             decisions: List::filled(alloc, plan.events.len(), None)?,
-            published: List::with_room(alloc, ops * (cap as usize + 1))?,
+            published: Published::new(alloc, ops, ops * (cap as usize + 1))?,
             settlings: List::with_room(alloc, ops)?,
         })
     }

@@ -21,4 +21,5 @@ pub mod GuessLaws
 pub mod KnownLaws
 pub mod WordLaws
 pub mod ShapeLaws
+pub mod LinkLaws
 pub mod ValidLemmas

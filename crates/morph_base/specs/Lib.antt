@@ -14,3 +14,4 @@ pub mod Clean
 pub mod Guesses
 pub mod Known
 pub mod Words
+pub mod Links

@@ -9,7 +9,8 @@ use Rattle.morph_base.proofs.NumberLaws.{first_owned, within_event}
 use Rattle.txn_splitter.specs.declared.txns.Txns.{Txns}
 use Rattle.txn_splitter.specs.Txns.{IsTxns, txn_count, txn_op_count, txn_at, txn_of, txn_target}
 use Rattle.precedence_graph.specs.declared.writers.Writers.{Writers}
-use Rattle.precedence_graph.specs.Entries.{last_passing, source_before, changes}
+use Rattle.morph_base.specs.Links.{last_passing}
+use Rattle.precedence_graph.specs.Entries.{source_before, changes}
 use Rattle.precedence_graph.specs.Writers.{entered_count, source_in}
 use Rattle.precedence_graph.specs.Planned.{IsAmong}
 

@@ -3,7 +3,8 @@ use Rattle.std.specs.Prelude.{ℕ, length}
 use Rattle.morph_base.specs.declared.key.Key.{Key}
 use Rattle.morph_base.specs.declared.plan.Origin.{Origin}
 use Rattle.precedence_graph.specs.declared.writers.Writers.{Writers}
-use Rattle.precedence_graph.specs.Entries.{last_passing, source_before, changes}
+use Rattle.morph_base.specs.Links.{last_passing}
+use Rattle.precedence_graph.specs.Entries.{source_before, changes}
 
 -- how many operations were entered, and how many more there is room for
 abbrev pub entered_count : Writers → ℕ

@@ -1,6 +1,7 @@
 ghost use Rattle.std.specs.Prelude.{◌≡◌, ℕ, ◌+◌, ◌^◌, ◌<◌, length, IfOk, if◌then◌else◌};
 ghost use Rattle.morph_base.specs.Operations.{same_key};
-ghost use Rattle.precedence_graph.specs.Entries.{place_of, AreEnds, AreLinked};
+ghost use Rattle.morph_base.specs.Links.{AreEnds, AreLinked};
+ghost use Rattle.precedence_graph.specs.Entries.{place_of, place_among, before_in};
 
 use morph_base::{Key, List, Origin, OutOfMemory};
 use std::alloc::Global;
@@ -27,8 +28,10 @@ pub struct Writers {
     ends: List<u32>,
     entries: List<Entry>,
     ghost some: { 0 < length ends.items },
-    ghost ended: { AreEnds entries.items ends.items },
-    ghost linked: { AreLinked entries.items (length ends.items) },
+    ghost ended: { AreEnds (place_among entries.items (length ends.items))
+        (length entries.items) ends.items },
+    ghost linked: { AreLinked (place_among entries.items (length ends.items))
+        (length entries.items) (before_in entries.items) },
 }
 
 impl Writers {

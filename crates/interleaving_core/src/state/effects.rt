@@ -3,7 +3,7 @@ ghost use Rattle.std.specs.Prelude.{◌≡◌, ℕ, ◌+◌, ◌*◌, ◌<◌, �
 ghost use Rattle.morph_base.specs.declared.limits.TheConstants.{READS};
 ghost use Rattle.interleaving_core.specs.Core.{put};
 ghost use Rattle.interleaving_core.specs.declared.claim.Claim.{Claim};
-ghost use Rattle.interleaving_core.specs.Stored.{core_of, held_of, word_count, decision_count, Fits, IsSameShape};
+ghost use Rattle.interleaving_core.specs.Stored.{core_of, held_of, word_count, published_count, decision_count, Fits, IsSameShape};
 
 use super::CoreState;
 use crate::claim::Claim;
@@ -56,7 +56,8 @@ impl CoreState {
     }
 
     pub(super) fn publish(&mut self, entry: Entry)
-        requires { 0 < self.old.published.room }
+        requires room { 0 < self.old.published.entries.room }
+        requires op { entry.op < published_count self.old }
         ensures core { core_of self.new
             ≡ record (core_of self.old) { published = (core_of self.old).published ++ entry ∷ [] } }
         ensures shape { IsSameShape self.old self.new }

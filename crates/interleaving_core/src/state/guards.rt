@@ -6,7 +6,7 @@ ghost use Rattle.interleaving_core.specs.Steps.{May, MayReady, MayClaim, IsClaim
 ghost use Rattle.interleaving_core.specs.Stored.{core_of, cap_of, IsStateOf};
 
 use super::CoreState;
-use super::reads::{has_failed, is_worker, origin_of, places_of};
+use super::reads::{is_worker, origin_of, places_of};
 use crate::event::CoreEvent;
 use morph_base::{OpState, Plan};
 
@@ -85,7 +85,7 @@ impl CoreState {
         sibling != op
             && plan.ops.get(sibling as usize).event == plan.ops.get(op as usize).event
             && self.word(op).attempt < self.cap
-            && has_failed(self.published.as_slice(), sibling)
+            && self.published.has_failed(sibling)
     }
 
     fn may_roll_back(&self, plan: &Plan, op: u32, j: u8) -> bool

@@ -1,19 +1,18 @@
 //! What guards ask of a state and its plan.
-ghost use Rattle.std.specs.Prelude.{◌≡◌, ◌≢◌, ℕ, ◌+◌, ◌*◌, ◌<◌, ◌≤◌, ◌↔◌, ◌==◌, ◌&&◌, not, List, [], ◌∷◌, ◌++◌, length, take, Some, None, IsTrue, IsSome, IfSome};
-ghost use Rattle.std.specs.List.{list_any};
+ghost use Rattle.std.specs.Prelude.{◌≡◌, ◌≢◌, ℕ, ◌+◌, ◌*◌, ◌<◌, ◌≤◌, ◌↔◌, length, take, Some, None, IsTrue, IsSome, IfSome};
 ghost use Rattle.morph_base.specs.declared.limits.TheConstants.{READS, MAX, WORKERS};
 ghost use Rattle.morph_base.specs.declared.word.OpState.{OpState};
 ghost use Rattle.morph_base.specs.Plans.{IsPlan, op_count, event_count, op_at, event_of, origin_at};
 ghost use Rattle.morph_base.specs.Clean.{from, source, outcome};
 ghost use Rattle.morph_base.specs.Known.{IsKnown, AreKnown};
 ghost use Rattle.interleaving_core.specs.declared.claim.Claim.{Claim};
-ghost use Rattle.interleaving_core.specs.Core.{HasShown, IsSettledIn, value_in, IsSettledAs, IsVersion, fetched, places};
-ghost use Rattle.interleaving_core.specs.Steps.{AnswersOnSettled, FailsOnSettled, AllAnswer, OneFails, HasFailed, Agrees, RecordsAgree, IsWorker, IsClaimedBy, IsRecordedOtherwise};
-ghost use Rattle.interleaving_core.specs.Stored.{core_of, word_count, IsInside, HasShownAnother, IsSettledOtherwise, HasVersionBesides, AllFit, Fits, IsStateOf};
+ghost use Rattle.interleaving_core.specs.Core.{IsSettledIn, value_in, IsSettledAs, IsVersion, fetched, places};
+ghost use Rattle.interleaving_core.specs.Steps.{AnswersOnSettled, FailsOnSettled, AllAnswer, OneFails, Agrees, RecordsAgree, IsWorker, IsClaimedBy, IsRecordedOtherwise};
+ghost use Rattle.interleaving_core.specs.Stored.{core_of, word_count, published_count, IsInside, IsSettledOtherwise, HasVersionBesides, AllFit, Fits, IsStateOf};
 
 use super::CoreState;
 use crate::claim::Claim;
-use crate::entry::{Entry, Record};
+use crate::entry::Record;
 use morph_base::{OpState, Origin, Plan, READS, WORKERS, eval};
 
 /// How many places an operation reads.
@@ -43,27 +42,6 @@ pub(super) fn is_worker(by: u8) -> bool
     ensures { IsTrue result ↔ IsWorker by }
 {
     1 <= by && by <= WORKERS
-}
-
-/// Whether the value was shown for the operation.
-fn has_shown(entries: &[Entry], op: u32, value: u64) -> bool
-    ensures { IsTrue result ↔ HasShown entries.now op value }
-{
-    entries.iter().any(|e| e.op == op && e.value == value)
-}
-
-/// Whether another value than this one was shown for the operation.
-fn has_shown_another(entries: &[Entry], op: u32, value: u64) -> bool
-    ensures { IsTrue result ↔ HasShownAnother entries.now op value }
-{
-    entries.iter().any(|e| e.op == op && e.value != value)
-}
-
-/// Whether a failure of the operation was shown.
-pub(super) fn has_failed(entries: &[Entry], op: u32) -> bool
-    ensures { IsTrue result ↔ HasFailed entries.now op }
-{
-    entries.iter().any(|e| e.op == op && e.failed)
 }
 
 impl CoreState {
@@ -126,7 +104,8 @@ impl CoreState {
 
     /// Whether the value is a version of the source.
     pub(super) fn is_version(&self, origin: Origin, value: u64) -> bool
-        requires { IsInside (word_count self.now) origin }
+        requires word { IsInside (word_count self.now) origin }
+        requires published { IsInside (published_count self.now) origin }
         ensures { IsTrue result ↔ IsVersion (core_of self.now) origin value }
     {
         if self.is_settled_as(origin, value) {
@@ -134,7 +113,7 @@ impl CoreState {
         }
         match origin {
             Origin::Base(_) => false,
-            Origin::Op(op) => has_shown(self.published.as_slice(), op, value),
+            Origin::Op(op) => self.published.has_shown(op, value),
         }
     }
 
@@ -151,7 +130,8 @@ impl CoreState {
 
     /// Whether the source has a version that differs from the value.
     pub(super) fn has_version_besides(&self, origin: Origin, value: u64) -> bool
-        requires { IsInside (word_count self.now) origin }
+        requires word { IsInside (word_count self.now) origin }
+        requires published { IsInside (published_count self.now) origin }
         ensures { IsTrue result ↔ HasVersionBesides (core_of self.now) origin value }
     {
         if self.is_settled_otherwise(origin, value) {
@@ -159,7 +139,7 @@ impl CoreState {
         }
         match origin {
             Origin::Base(_) => false,
-            Origin::Op(op) => has_shown_another(self.published.as_slice(), op, value),
+            Origin::Op(op) => self.published.has_shown_another(op, value),
         }
     }
 

@@ -10,5 +10,5 @@ returns-then-is_settled_otherwise c =
 
 pub returns-in-Op : goal.returns-in-Op
 returns-in-Op c =
-    besides_op (core_of c.args.self.now) c.args.origin c.in-Op.op c.args.value c.has_shown_another.result c.as_slice.result.now c.in-Op.is c.as_slice.ensures
+    besides_op (core_of c.args.self.now) c.args.origin c.in-Op.op c.args.value c.has_shown_another.result c.args.self.now.published.entries.items c.in-Op.is refl
     c.has_shown_another.ensures (iff_false c.is_settled_otherwise.ensures c.if-is_settled_otherwise.false)

@@ -14,6 +14,7 @@ returns-clause-shape c = record {
   claims = ap length c.set.ensures.items ∙ length-set c.args.self.now.claims.items c.args.by c.args.claim;
   decisions = refl;
   entries = refl;
+  published = refl;
   settlings = refl;
   fit = claims_fit c.args.self.now c.set.new.self c.args.by c.args.claim c.requires.worker c.set.ensures.items c.requires.fits;
 }

@@ -1,8 +1,8 @@
 use Rattle.interleaving_core.proofs.Storing.{same_shape_trans, room_to_spread}
 use Rattle.interleaving_core.proofs.state.CoreState.spread.Goals as goal
 
-pub publish-requires : goal.publish-requires
-publish-requires c = room_to_spread c.args.plan.now c.args.self.now c.args.op c.args.sibling c.requires.plan c.requires.state c.requires.may
+pub publish-requires-clause-room : goal.publish-requires-clause-room
+publish-requires-clause-room c = room_to_spread c.args.plan.now c.args.self.now c.args.op c.args.sibling c.requires.plan c.requires.state c.requires.may
 
 pub returns-clause-shape : goal.returns-clause-shape
 returns-clause-shape c = same_shape_trans _ _ _ c.publish.ensures.shape c.put_word.ensures.shape

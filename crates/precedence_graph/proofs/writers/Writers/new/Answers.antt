@@ -1,7 +1,8 @@
 use Rattle.std.proofs.Common.{ℕ, ◌<◌, length, get_or, sym, ap, ◌∙◌, arith}
 use Rattle.std.proofs.lemmas.List.{length-replicate, get_or-replicate}
-use Rattle.precedence_graph.specs.Entries.{source_before, changes, is_at}
-use Rattle.precedence_graph.proofs.EntryLemmas.{last_passing-none}
+use Rattle.precedence_graph.specs.Entries.{source_before, changes}
+use Rattle.morph_base.proofs.LinkLaws.{last_passing-none}
+use Rattle.precedence_graph.proofs.EntryLemmas.{is_at}
 use Rattle.precedence_graph.proofs.writers.Writers.new.Goals as goal
 
 pub invariant_of-result-clause-some : goal.invariant_of-result-clause-some

@@ -1,8 +1,10 @@
 use Rattle.std.proofs.Common.{◌≡◌, ℕ, ◌+◌, ◌-◌, ◌<◌, false, true, length, sym, ap, ◌∙◌, add-one, arith}
 use Rattle.morph_base.specs.Operations.{same_key}
 use Rattle.precedence_graph.specs.declared.writers.Entry.{Entry}
-use Rattle.precedence_graph.specs.Entries.{last_passing, place_of, no_entry, source_before, changes, is_at}
-use Rattle.precedence_graph.proofs.EntryLemmas.{last_passing-none, last_passing-here, last_passing-skip, last_passing-le, walk, walk_at, before_is}
+use Rattle.morph_base.specs.Links.{last_passing}
+use Rattle.precedence_graph.specs.Entries.{place_of, no_entry, source_before, changes}
+use Rattle.morph_base.proofs.LinkLaws.{last_passing-none, last_passing-here, last_passing-skip, last_passing-le}
+use Rattle.precedence_graph.proofs.EntryLemmas.{is_at, walk, walk_at, before_is}
 use Rattle.precedence_graph.proofs.writers.Writers.source.Goals as goal
 
 pub loop-end-init : goal.loop-end-init

@@ -1,5 +1,6 @@
 use Rattle.std.proofs.Common.{◌≡◌, ℕ, ◌+◌, ◌≤◌, length}
-use Rattle.precedence_graph.specs.Entries.{last_passing, place_of, entry_at, changes}
+use Rattle.morph_base.specs.Links.{last_passing}
+use Rattle.precedence_graph.specs.Entries.{place_of, entry_at, changes}
 use Rattle.precedence_graph.proofs.writers.Writers.source.Given as goal
 
 abbrev pub invariant-loop-end : goal.invariant-loop-end

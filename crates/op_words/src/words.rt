@@ -5,7 +5,7 @@ ghost use Rattle.morph_base.specs.declared.word.TheConstants.{ATTEMPTS};
 ghost use Rattle.morph_base.specs.Plans.{IsPlan};
 ghost use Rattle.morph_base.specs.Words.{is_idle, is_settled, has_run as is_run};
 ghost use Rattle.interleaving_core.specs.declared.entry.Record.{Record};
-ghost use Rattle.interleaving_core.specs.Core.{record_value, blocked as blocked_at, ready as ready_at, claimed as claimed_at, spread as spread_at};
+ghost use Rattle.interleaving_core.specs.Core.{record_value, ready as ready_at, claimed as claimed_at, spread as spread_at};
 ghost use Rattle.interleaving_core.specs.Core.{settled as settled_at, settled_aborted as aborted_at};
 ghost use Rattle.op_words.specs.Layout.{packed_record, packed_decision, AreFirst};
 
@@ -27,7 +27,7 @@ pub(crate) fn first_words(alloc: Global, plan: &Plan, counters: u32) -> Result<V
     let level = ops + ops * READS + plan.events.len();
     let len = level + 1 + counters as usize;
     let mut words = Vec::with_capacity(alloc, len)?;
-    words.resize(ops, blocked(1).pack())?;
+    words.resize(ops, OpWord::blocked(1).pack())?;
     words.resize(level, 0)?;
     words.push(NO_LEVEL)?;
     words.resize(len, 0)?;
@@ -66,18 +66,6 @@ pub(crate) fn is_usable(word: OpWord, at_last: bool) -> bool
         word.state.is_settled()
     } else {
         !word.state.is_idle()
-    }
-}
-
-/// Blocked at an attempt.
-pub(crate) fn blocked(attempt: u8) -> OpWord
-    ensures { result ≡ blocked_at attempt }
-{
-    OpWord {
-        value: 0,
-        attempt,
-        state: OpState::Blocked,
-        by: 0,
     }
 }
 

@@ -12,7 +12,7 @@ ghost use Rattle.op_words.specs.Hands.{plan_of, cap_of, view_of, IsHandOf};
 use super::{Board, Hand};
 use crate::answers::Counts;
 use crate::rule::{Roll, Spread};
-use crate::words::{blocked, spread};
+use crate::words::spread;
 use crate::writing::note;
 use interleaving_core::CoreEvent;
 use morph_base::OpWord;
@@ -78,7 +78,7 @@ impl Board {
             (rolling_back op (word.attempt + 1) (view_of hand.old))
             (blocked_at (word.attempt + 1)) result }
     {
-        let (first, new) = (word.pack(), blocked(word.attempt + 1).pack());
+        let (first, new) = (word.pack(), OpWord::blocked(word.attempt + 1).pack());
         let found = self
             .table
             .shared

@@ -15,7 +15,7 @@ use super::{Board, Hand, Holding};
 use crate::answers::Counts;
 use crate::rule::{Claim, End, Give, Keep, Look, Make, Tell};
 use crate::trail::View;
-use crate::words::{blocked, claimed, pack_record, ready};
+use crate::words::{claimed, pack_record, ready};
 use crate::writing::note;
 use atomic_table::Seat;
 use interleaving_core::CoreEvent;
@@ -52,7 +52,7 @@ impl Board {
         ensures { Swapped self.now op hand.old hand.new (blocked_at attempt)
             (making op attempt (view_of hand.old)) (ready_at attempt) result }
     {
-        let (first, new) = (blocked(attempt).pack(), ready(attempt).pack());
+        let (first, new) = (OpWord::blocked(attempt).pack(), ready(attempt).pack());
         let found = self
             .table
             .shared
@@ -107,7 +107,7 @@ impl Board {
         ensures { Left self.now hand.old hand.new (giving_back op attempt (view_of hand.old))
             (left op (blocked_at attempt)) }
     {
-        let word = blocked(attempt).pack();
+        let word = OpWord::blocked(attempt).pack();
         self.table
             .shared
             .store::<Give>(&mut hand.seat, op as usize, word);

@@ -1,7 +1,7 @@
 -- Operations that were entered, walked from one at a place to the one before it, and one operation more.
-use Rattle.std.proofs.Common.{◌≡◌, ℕ, ◌+◌, ◌<◌, Bool, true, false, cond, eqb, List, [], ◌∷◌, ◌++◌, length, set, refl, sym, ap, subst, ◌∙◌, add-one, eq-eqb}
-use Rattle.std.proofs.lemmas.Bool.{eqb-true}
-use Rattle.std.proofs.lemmas.List.{get_or_append_left, get_or_push, length-set, length_push}
+use Rattle.std.proofs.Common.{◌≡◌, ℕ, ◌+◌, ◌<◌, ◌≤◌, Bool, true, false, cond, eqb, List, [], ◌∷◌, ◌++◌, length, set, refl, sym, ap, subst, ◌∙◌, add-one, eq-eqb, inl, inr, arith}
+use Rattle.std.proofs.lemmas.Bool.{cases_lt, eqb-true, eqb-false}
+use Rattle.std.proofs.lemmas.List.{get_or_append_left, get_or_past, get_or_push, length-set, length_push}
 use Rattle.morph_base.specs.declared.key.Key.{Key}
 use Rattle.morph_base.specs.declared.plan.Origin.TheVariants.{Op as Written}
 use Rattle.morph_base.specs.Links.{last_passing, AreEnds, AreLinked}
@@ -56,6 +56,21 @@ module _ (entries : List Entry) (e : Entry) where
       ap (λ n. source_before (last_passing (changes more key) n)) (length_push entries e)
       ∙ ap source_before (last_passing-next (entry_at entries) (entry_at more) (length entries) entry_stays (λ x. same_key x.key key) (same_key e.key key) (ap (λ x. same_key x.key key) entry_new))
       ∙ source_of_either (same_key e.key key) (length entries) (last_passing (changes entries key) (length entries))
+
+  -- a number of each operation: the new one has its own, and the others keep theirs
+  pub number_push : (f : Entry → ℕ) (o : ℕ) → f (entry_at more o) ≡ cond (eqb o (length entries)) (f e) (f (entry_at entries o))
+  number_push f o = by_test (eqb o (length entries)) refl
+    where
+      by_test : (b : Bool) → eqb o (length entries) ≡ b → f (entry_at more o) ≡ cond b (f e) (f (entry_at entries o))
+      by_test true same = ap f (ap (entry_at more) (eqb-true o (length entries) same) ∙ entry_new)
+      by_test false other =
+          elim (cases_lt o (length entries)) [
+            | inl less ↦ ap f (entry_stays o less)
+            | inr past ↦
+                let differs : o ≡ length entries → ⊥ = eqb-false o (length entries) other in
+                let beyond : length entries + 1 ≤ o = omega arith in
+                ap f (get_or_past more o no_entry (omega (arith, length_push entries e)) ∙ sym (get_or_past entries o no_entry past))
+          ]
 
   module _ (places : ℕ) where
     place_stays : (o : ℕ) → o < length entries → place_among more places o ≡ place_among entries places o

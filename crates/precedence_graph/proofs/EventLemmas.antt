@@ -13,13 +13,13 @@ use Rattle.morph_base.specs.Plans.{no_plan_op, no_event}
 use Rattle.morph_base.specs.Graphs.{greatest, level_of}
 use Rattle.txn_splitter.specs.declared.txns.TxnEvent.{TxnEvent}
 use Rattle.txn_splitter.specs.declared.txns.Txns.{Txns}
-use Rattle.txn_splitter.specs.Txns.{IsTxns, no_txn, txn_count, txn_at, txn_of}
-use Rattle.precedence_graph.specs.Planned.{IsOfEarlier, sources_of, planned, event_level_in, event_sources_of, members_of, txn_event, ArePlanned, AreEventsPlanned}
+use Rattle.txn_splitter.specs.Txns.{IsTxns, no_txn, txn_count, txn_op_count, txn_at, txn_of}
+use Rattle.precedence_graph.specs.Planned.{sources_of, planned, event_level_in, event_sources_of, members_of, txn_event, ArePlanned, AreEventsPlanned}
 use Rattle.precedence_graph.proofs.PlannedLemmas.{levels_low, levels_agree}
-use Rattle.precedence_graph.proofs.ReadyLemmas.{planned_earlier, All-part}
+use Rattle.precedence_graph.proofs.ReadyLemmas.{IsOfEarlier, planned_earlier, All-part}
 use Rattle.precedence_graph.proofs.WriterLemmas.{before_from_event}
 
-pub All-flat_map : {X Y : Type 0} (P : Y → Type 0) (h : X → List Y) (xs : List X) → All (λ x. All P (h x)) xs → All P (flat_map h xs)
+All-flat_map : {X Y : Type 0} (P : Y → Type 0) (h : X → List Y) (xs : List X) → All (λ x. All P (h x)) xs → All P (flat_map h xs)
 All-flat_map P h [] all = All-nil P
 All-flat_map P h (x ∷ xs) all =
     All-append P (h x) (flat_map h xs) (All-head (λ y. All P (h y)) x xs all) (All-flat_map P h xs (All-tail (λ y. All P (h y)) x xs all))
@@ -63,6 +63,17 @@ module _ (x : Txns) (is : IsTxns x) (ops : List PlanOp) (n : ℕ) (done : ArePla
   pub event_low : (i : ℕ) (events : List PlanEvent) → i < txn_count x → (txn_at x i).first + (txn_at x i).count ≤ n → length events ≡ i → All (λ e. e.level ≤ i) events → greatest (map (level_of (event_level_in ops events)) (event_sources_of (members_of x ops i))) ≤ i
   event_low i events lt end many low =
       levels_low i (event_level_in ops events) (λ s. (s < length ops) × ((planned ops s).event < i)) (event_sources_of (members_of x ops i)) (λ s h. let earlier : (planned ops s).event < i = h.1 in low (planned ops s).event no_event (omega arith)) (event_earlier i lt end)
+
+  -- where levels agree before its first operation, their greatest among its sources is the same
+  pub most_agree : (i : ℕ) → i < txn_count x → (txn_at x i).first + (txn_at x i).count ≤ n → n ≤ txn_op_count x → (f g : ℕ → ℕ) → ((s : ℕ) → s < (txn_at x i).first → f s ≡ g s)
+      → greatest (map (level_of f) (event_sources_of (members_of x ops i))) ≡ greatest (map (level_of g) (event_sources_of (members_of x ops i)))
+  most_agree i lt end few f g same =
+      let many : length ops ≡ n = done.many in
+      ap greatest (levels_agree f g (λ s. (s < length ops) × ((planned ops s).event < i)) (event_sources_of (members_of x ops i))
+      (λ s h. let inside : s < length ops = h.0 in
+      let earlier : (planned ops s).event < i = h.1 in
+      let event_is = (done.each s (omega arith)).event_is in
+      same s (before_from_event x is i lt s (omega arith) (omega arith))) (event_earlier i lt end))
 
   levels_stay : (i m : ℕ) (events more : List PlanEvent) → i ≤ m → i < txn_count x → (txn_at x i).first + (txn_at x i).count ≤ n → length events ≡ m → map (level_of (event_level_in ops (events ++ more))) (event_sources_of (members_of x ops i)) ≡ map (level_of (event_level_in ops events)) (event_sources_of (members_of x ops i))
   levels_stay i m events more le lt end many =

@@ -14,3 +14,4 @@ pub mod GraphLemmas
 pub mod LevelLemmas
 pub mod EntryLemmas
 pub mod PlanningLemmas
+pub mod EnteredLemmas

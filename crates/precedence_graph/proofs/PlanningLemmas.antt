@@ -1,31 +1,28 @@
--- An operation of an event, which is planned after those before it: its sources, and the levels of their events.
+-- An operation of an event, which is planned after those before it: its sources, and their levels.
 use Rattle.std.proofs.Common.{◌≡◌, ℕ, ◌+◌, ◌<◌, ◌≤◌, List, [], ◌∷◌, ◌++◌, cond, length, get_or, take, drop, map, sym, ap, subst, ◌∙◌, arith}
 use Rattle.std.specs.Prelude.{max, All, count_by}
-use Rattle.std.proofs.lemmas.List.{map-append, append-nil, drop-append-le, length-drop, get_or-drop, get_or_default, get_or_append_left}
+use Rattle.std.proofs.lemmas.List.{map-append, append-nil, drop-append-le}
 use Rattle.std.proofs.lemmas.Grind.{flat_map-append}
-use Rattle.std.proofs.lemmas.List.Elements.{All-map, All-weaker}
+use Rattle.std.proofs.lemmas.List.Elements.{All-map}
 use Rattle.std.proofs.lemmas.List.Sums.{sum_by_push}
 use Rattle.morph_base.specs.declared.key.Key.{Key}
 use Rattle.morph_base.specs.declared.operation.Op.{Op}
 use Rattle.morph_base.specs.declared.plan.Origin.{Origin}
 use Rattle.morph_base.specs.declared.plan.Origin.TheVariants.{Base}
 use Rattle.morph_base.specs.declared.plan.PlanOp.{PlanOp}
-use Rattle.morph_base.specs.declared.plan.PlanEvent.{PlanEvent}
 use Rattle.morph_base.specs.Operations.{reads}
 use Rattle.morph_base.specs.Numbering.{IsWithin}
 use Rattle.morph_base.specs.Sources.{IsSource}
-use Rattle.morph_base.specs.Plans.{no_plan_op, no_event}
+use Rattle.morph_base.specs.Plans.{no_plan_op}
 use Rattle.morph_base.specs.Graphs.{greatest, is_written, level_of}
 use Rattle.morph_base.proofs.LevelLaws.{greatest-append}
 use Rattle.txn_splitter.specs.declared.txns.Txns.{Txns}
 use Rattle.txn_splitter.specs.Txns.{IsTxns, txn_count, txn_op_count, txn_at, txn_op_at, txn_of, txn_target}
 use Rattle.precedence_graph.specs.declared.writers.Writers.{Writers}
-use Rattle.precedence_graph.specs.Writers.{source_in}
-use Rattle.precedence_graph.specs.Planned.{IsAmong, IsOfEarlier, HasWriters, padded, sources_of, planned, op_level_in, event_level_in, event_sources_of, targets_in, parameters_in, ArePlanned}
+use Rattle.precedence_graph.specs.Writers.{source_in, entered_level}
+use Rattle.precedence_graph.specs.Planned.{IsAmong, HasWriters, HasLevels, padded, sources_of, op_level_in, event_sources_of, targets_in, parameters_in, ArePlanned}
 use Rattle.precedence_graph.proofs.WriterLemmas.{among_first, source_at_event, base_zero}
 use Rattle.precedence_graph.proofs.PlannedLemmas.{IsAmong-more, take-padded, levels_low, levels_agree, planned_more}
-use Rattle.precedence_graph.proofs.ReadyLemmas.{source_earlier}
-use Rattle.precedence_graph.proofs.EventLemmas.{All-flat_map}
 
 module _ (x : Txns) (is : IsTxns x) (i : ℕ) (lt : i < txn_count x) (writers : Writers) (has : HasWriters x (txn_at x i).first writers) (o : ℕ) (within : IsWithin (txn_at x i).first (txn_at x i).count o) (ops : List PlanOp) (done : ArePlanned x o ops) where
   abbrev pub find : Key → Origin
@@ -37,14 +34,18 @@ module _ (x : Txns) (is : IsTxns x) (i : ℕ) (lt : i < txn_count x) (writers : 
   event_is : txn_of x o ≡ i
   event_is = (is.numbering.owned i o lt within).1
 
+  find_first : (keys : List Key) → All (IsAmong first) (map find keys)
+  find_first keys = All-map (IsAmong first) find keys (λ k d _. among_first first (txn_target x) (get_or keys k d) (find (get_or keys k d)) (has.source (get_or keys k d)))
+
   find_source : (key : Key) → IsSource (txn_op_count x) (txn_target x) (txn_of x) i key (find key)
   find_source key = source_at_event x is i lt key (find key) (has.source key)
 
   find_among : (key : Key) → IsAmong o (find key)
   find_among key = IsAmong-more first o (find key) within.from (among_first first (txn_target x) key (find key) (has.source key))
 
-  pub find_earlier : (key : Key) → IsOfEarlier ops i (find key)
-  find_earlier key = source_earlier x ops o done i key (find key) (find_source key) (find_among key)
+  -- the levels that sources were entered with are those that they are planned with
+  pub find_levels : HasLevels ops first writers → (keys : List Key) → greatest (map (level_of (entered_level writers)) (map find keys)) ≡ greatest (map (level_of (op_level_in ops)) (map find keys))
+  find_levels same keys = ap greatest (levels_agree (entered_level writers) (op_level_in ops) (λ s. s < first) (map find keys) same (find_first keys))
 
   pub find_low : (op : Op) → greatest (map (level_of (op_level_in ops)) (map find (reads op))) ≤ o
   find_low op =
@@ -72,32 +73,15 @@ module _ (x : Txns) (is : IsTxns x) (i : ℕ) (lt : i < txn_count x) (writers : 
     parameters_with =
         sum_by_push (λ p. count_by is_written (drop 1 (sources_of p))) ops q ∙ ap (λ xs. parameters_in ops + count_by is_written (drop 1 xs)) used_is
 
-    -- the levels of the events so far are read off as before
-    same_levels : (events : List PlanEvent) (sources : List Origin) → All (IsAmong (length ops)) sources → map (level_of (event_level_in (ops ++ q ∷ []) events)) sources ≡ map (level_of (event_level_in ops events)) sources
-    same_levels events sources among =
-        levels_agree (event_level_in (ops ++ q ∷ []) events) (event_level_in ops events) (λ s. s < length ops) sources
-        (λ s less. ap (λ (p : PlanOp). (get_or events p.event no_event).level) (get_or_append_left ops (q ∷ []) no_plan_op s less)) among
-
-    before_among : All (λ p. All (IsAmong (length ops)) (sources_of p)) (drop first ops)
-    before_among k d inside =
-        let many : length ops ≡ o = done.many in
-        let less : first + k < o = omega (arith, length-drop first ops) in
-        subst (λ p. All (IsAmong (length ops)) (sources_of p)) (sym (get_or-drop first ops k d ∙ get_or_default ops (first + k) d no_plan_op (omega arith)))
-        (All-weaker (IsAmong (first + k)) (IsAmong (length ops)) (λ origin. IsAmong-more (first + k) (length ops) origin (omega arith)) (sources_of (planned ops (first + k))) (done.each (first + k) less).among)
-
-    pub most_with : (events : List PlanEvent) → greatest (map (level_of (event_level_in (ops ++ q ∷ []) events)) (event_sources_of (drop first (ops ++ q ∷ []))))
-        ≡ max (greatest (map (level_of (event_level_in ops events)) (event_sources_of (drop first ops)))) (greatest (map (level_of (event_level_in ops events)) (map find (reads op))))
-    most_with events =
+    -- the greatest level among the sources of the event's operations so far
+    pub most_with : (level : Origin → ℕ) → greatest (map level (event_sources_of (drop first (ops ++ q ∷ []))))
+        ≡ max (greatest (map level (event_sources_of (drop first ops)))) (greatest (map level (map find (reads op))))
+    most_with level =
         let many : length ops ≡ o = done.many in
         let from : first ≤ o = within.from in
-        let new : Origin → ℕ = level_of (event_level_in (ops ++ q ∷ []) events) in
-        let old : Origin → ℕ = level_of (event_level_in ops events) in
         let before : List Origin = event_sources_of (drop first ops) in
         let found : List Origin = map find (reads op) in
-        let among : All (IsAmong (length ops)) found = subst (λ n. All (IsAmong n) found) (sym many) (All-map (IsAmong o) find (reads op) (λ k d _. find_among (get_or (reads op) k d))) in
-        ap (λ ps. greatest (map new (event_sources_of ps))) (drop-append-le first ops (q ∷ []) (omega arith))
-        ∙ ap (λ xs. greatest (map new xs)) (flat_map-append sources_of (drop first ops) (q ∷ []) ∙ ap (λ xs. before ++ xs) (append-nil (sources_of q) ∙ used_is))
-        ∙ ap greatest (map-append new before found)
-        ∙ ap (λ ls. greatest (ls ++ map new found)) (same_levels events before (All-flat_map (IsAmong (length ops)) sources_of (drop first ops) before_among))
-        ∙ ap (λ ls. greatest (map old before ++ ls)) (same_levels events found among)
-        ∙ greatest-append (map old before) (map old found)
+        ap (λ ps. greatest (map level (event_sources_of ps))) (drop-append-le first ops (q ∷ []) (omega arith))
+        ∙ ap (λ xs. greatest (map level xs)) (flat_map-append sources_of (drop first ops) (q ∷ []) ∙ ap (λ xs. before ++ xs) (append-nil (sources_of q) ∙ used_is))
+        ∙ ap greatest (map-append level before found)
+        ∙ greatest-append (map level before) (map level found)

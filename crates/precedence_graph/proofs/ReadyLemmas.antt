@@ -12,12 +12,13 @@ use Rattle.morph_base.specs.declared.plan.PlanOp.{PlanOp}
 use Rattle.morph_base.specs.Operations.{reads, no_key, IsShaped}
 use Rattle.morph_base.specs.Sources.{IsSource}
 use Rattle.morph_base.specs.Plans.{no_plan_op}
+use Rattle.morph_base.specs.Known.{IsKnown}
 use Rattle.morph_base.specs.Graphs.{level_of}
 use Rattle.morph_base.proofs.PlainLaws.{length-reads}
 use Rattle.txn_splitter.specs.declared.txns.Txns.{Txns}
 use Rattle.txn_splitter.specs.Txns.{IsTxns, txn_op_count, txn_of, txn_target}
 use Rattle.txn_splitter.proofs.TxnLemmas.{txn_ops_few}
-use Rattle.precedence_graph.specs.Planned.{IsAmong, IsOfEarlier, IsReady, padded, sources_of, planned, op_level_in, ArePlanned}
+use Rattle.precedence_graph.specs.Planned.{IsAmong, IsReady, padded, sources_of, planned, op_level_in, ArePlanned}
 use Rattle.precedence_graph.proofs.GreatestLemmas.{get_or-le-greatest}
 use Rattle.precedence_graph.proofs.PlannedLemmas.{take-padded, IsAmong-more}
 
@@ -56,9 +57,13 @@ module _ (x : Txns) (is : IsTxns x) (ops : List PlanOp) (done : ArePlanned x (tx
         lowest = lowest_reads o lt;
       }
 
+-- the source is a base or an operation of an event before event i
+abbrev pub IsOfEarlier : List PlanOp → ℕ → Origin → Type 0
+IsOfEarlier ops i = IsKnown (λ s. (s < length ops) × ((planned ops s).event < i))
+
 module _ (x : Txns) (ops : List PlanOp) (n : ℕ) (done : ArePlanned x n ops) where
   -- a source of event i among the planned operations is one of an earlier event
-  pub source_earlier : (i : ℕ) (key : Key) (origin : Origin) → IsSource (txn_op_count x) (txn_target x) (txn_of x) i key origin → IsAmong n origin → IsOfEarlier ops i origin
+  source_earlier : (i : ℕ) (key : Key) (origin : Origin) → IsSource (txn_op_count x) (txn_target x) (txn_of x) i key origin → IsAmong n origin → IsOfEarlier ops i origin
   source_earlier i key (Base v) source among = tt
   source_earlier i key (Written s) source among =
       let many : length ops ≡ n = done.many in

@@ -37,7 +37,7 @@ module _ (x : Txns) (is : IsTxns x) (i : ℕ) (lt : i < txn_count x) where
             absurd (omega arith)
       ]
 
-  event_from_before : (t : ℕ) → t < first_of → (t < txn_op_count x) × (txn_of x t < i)
+  pub event_from_before : (t : ℕ) → t < first_of → (t < txn_op_count x) × (txn_of x t < i)
   event_from_before t less =
       let mine = first_owned _ _ _ _ _ _ _ is.numbering i lt in
       let start : first_of < txn_op_count x = mine.0 in

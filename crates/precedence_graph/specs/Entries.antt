@@ -13,7 +13,7 @@ place_of key places = bit_and ((key.id * 256 + key.table) * MULTIPLIER % 2 ^ 64 
 
 -- what stands past the end of a list
 abbrev pub no_entry : Entry
-no_entry = record { key = no_key; before = 0 }
+no_entry = record { key = no_key; before = 0; level = 0; event_level = 0 }
 
 -- the source for 1 and the number of an operation, or for 0 where there is none
 abbrev pub source_before : ℕ → Origin

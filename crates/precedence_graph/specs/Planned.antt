@@ -17,7 +17,7 @@ use Rattle.txn_splitter.specs.declared.txns.Txns.{Txns}
 use Rattle.txn_splitter.specs.Txns.{txn_op_count, txn_at, txn_op_at, txn_of, txn_target}
 use Rattle.precedence_graph.specs.declared.edges.Written.{Written}
 use Rattle.precedence_graph.specs.declared.writers.Writers.{Writers}
-use Rattle.precedence_graph.specs.Writers.{entered_count, room_of, source_in}
+use Rattle.precedence_graph.specs.Writers.{entered_count, room_of, source_in, entered_level, entered_event_level}
 
 -- the source is a base or one of the first n operations
 abbrev pub IsAmong : ℕ → Origin → Type 0
@@ -48,15 +48,18 @@ pub record IsReady (n : ℕ) (q : PlanOp) : Type 0 where
   pub among : All (IsAmong n) (sources_of q)
   pub lowest : q.level ≤ 1 → All (IsAmong 0) (sources_of q)
 
--- the source is a base or an operation of an event before event i
-abbrev pub IsOfEarlier : List PlanOp → ℕ → Origin → Type 0
-IsOfEarlier ops i = IsKnown (λ s. (s < length ops) × ((planned ops s).event < i))
-
 -- the table has the last writers among the first n operations, and room for the others
 pub record HasWriters (x : Txns) (n : ℕ) (writers : Writers) : Type 0 where
   pub count : entered_count writers ≡ n
   pub room : n + room_of writers ≡ txn_op_count x
   pub source : (key : Key) → IsSource n (txn_target x) (λ _. 0) 1 key (source_in writers key)
+
+-- the first n operations were entered with their levels, and with those of their events
+abbrev pub HasLevels : List PlanOp → ℕ → Writers → Type 0
+HasLevels ops n writers = (o : ℕ) → o < n → entered_level writers o ≡ op_level_in ops o
+
+abbrev pub HasEventLevels : List PlanOp → List PlanEvent → ℕ → Writers → Type 0
+HasEventLevels ops events n writers = (o : ℕ) → o < n → entered_event_level writers o ≡ event_level_in ops events o
 
 -- operation o of the transactions is planned in `ops`: some function gives the source of each key for its event, 0 at a base,
 -- and it reads from operations before it

@@ -4,7 +4,7 @@ use Rattle.morph_base.specs.declared.key.Key.{Key}
 use Rattle.morph_base.specs.declared.plan.Origin.{Origin}
 use Rattle.precedence_graph.specs.declared.writers.Writers.{Writers}
 use Rattle.morph_base.specs.Links.{last_passing}
-use Rattle.precedence_graph.specs.Entries.{source_before, changes}
+use Rattle.precedence_graph.specs.Entries.{source_before, entry_at, changes}
 
 -- how many operations were entered, and how many more there is room for
 abbrev pub entered_count : Writers → ℕ
@@ -16,3 +16,10 @@ room_of w = w.entries.room
 -- the source that the table has for a key: the last operation entered that changes it, or a base
 abbrev pub source_in : Writers → Key → Origin
 source_in w key = source_before (last_passing (changes w.entries.items key) (entered_count w))
+
+-- the level that an operation was entered with, and that of its event
+abbrev pub entered_level : Writers → ℕ → ℕ
+entered_level w o = (entry_at w.entries.items o).level
+
+abbrev pub entered_event_level : Writers → ℕ → ℕ
+entered_event_level w o = (entry_at w.entries.items o).event_level

@@ -9,7 +9,6 @@ mod building;
 mod dependents;
 mod edges;
 mod level_lists;
-mod levels;
 mod links;
 mod planning;
 mod sources;

@@ -1,7 +1,8 @@
-ghost use Rattle.std.specs.Prelude.{◌≡◌, ◌+◌, ◌<◌, ◌≤◌, length, map, take, All, IfOk};
+ghost use Rattle.std.specs.Prelude.{◌≡◌, ◌+◌, ◌<◌, length, map, take, IfOk};
 ghost use Rattle.morph_base.specs.Graphs.{greatest, level_of};
 ghost use Rattle.txn_splitter.specs.Txns.{IsTxns, txn_count, txn_op_count, txn_at};
-ghost use Rattle.precedence_graph.specs.Planned.{HasWriters, IsWrittenOf, ArePlanned, AreEventsPlanned, event_level_in, event_sources_of, members_of};
+ghost use Rattle.precedence_graph.specs.Planned.{HasWriters, HasLevels, HasEventLevels, IsWrittenOf, ArePlanned, AreEventsPlanned, event_sources_of, members_of};
+ghost use Rattle.precedence_graph.specs.Writers.{entered_event_level};
 
 use crate::edges::Written;
 use crate::sources::sources;
@@ -37,7 +38,7 @@ pub fn plan_transactions(alloc: Global, txns: &Txns) -> Result<Planned, OutOfMem
         parameters: 0,
     };
     for i in 0..txns.events.len() {
-        let most = plan_event_ops(txns, i, &writers, events.as_slice(), &mut ops, &mut written);
+        let most = plan_event_ops(txns, i, &writers, &mut ops, &mut written);
         let TxnEvent { ts, first, count } = event_at(txns, i);
         let level = 1 + most;
         events.add(PlanEvent {
@@ -46,7 +47,7 @@ pub fn plan_transactions(alloc: Global, txns: &Txns) -> Result<Planned, OutOfMem
             count,
             level,
         });
-        enter_event(txns, i, &mut writers);
+        enter_event(txns, i, ops.as_slice(), events.as_slice(), &mut writers);
     }
     Ok(Planned {
         ops,
@@ -56,20 +57,18 @@ pub fn plan_transactions(alloc: Global, txns: &Txns) -> Result<Planned, OutOfMem
 }
 
 /// Plans the operations of event `i`, which read what the events before it wrote, and counts their reads of operations.
-/// Tells the greatest level of the events that they read from, 0 where there is none.
+/// Tells the greatest level of the events that they read from, as these were entered, 0 where there is none.
 fn plan_event_ops(
     txns: &Txns,
     i: usize,
     writers: &Writers,
-    events: &[PlanEvent],
     ops: &mut List<PlanOp>,
     written: &mut Written,
 ) -> u32
     requires txns { IsTxns txns.now }
     requires event { i < txn_count txns.now }
     requires writers { HasWriters txns.now (txn_at txns.now i).first writers.now }
-    requires before { length events.now ≡ i }
-    requires low { All (λ e. e.level ≤ i) events.now }
+    requires levels { HasLevels ops.old.items (txn_at txns.now i).first writers.now }
     requires room { length ops.old.items + ops.old.room ≡ txn_op_count txns.now }
     requires planned { ArePlanned txns.now (txn_at txns.now i).first ops.old.items }
     requires written { IsWrittenOf ops.old.items written.old }
@@ -77,16 +76,15 @@ fn plan_event_ops(
     ensures planned { ArePlanned txns.now
         ((txn_at txns.now i).first + (txn_at txns.now i).count) ops.new.items }
     ensures kept { take (txn_at txns.now i).first ops.new.items ≡ ops.old.items }
-    ensures level { result ≡ greatest (map (level_of (event_level_in ops.new.items events.now))
+    ensures level { result ≡ greatest (map (level_of (entered_event_level writers.now))
         (event_sources_of (members_of txns.now ops.new.items i))) }
-    ensures low { result ≤ i }
     ensures written { IsWrittenOf ops.new.items written.new }
 {
     let event = event_at(txns, i);
     let mut most: u32 = 0;
     for o in event.first..event.first + event.count {
         let op = txns.ops.get(o as usize);
-        let reads = sources(op, writers, ops.as_slice(), events);
+        let reads = sources(op, writers);
         let origins = reads.origins;
         ops.add(PlanOp {
             op: *op,
@@ -101,16 +99,27 @@ fn plan_event_ops(
     most
 }
 
-/// Enters the operations of event `i` as writers.
-fn enter_event(txns: &Txns, i: usize, writers: &mut Writers)
+/// Enters the operations of event `i` as writers, each with its level and that of the event.
+fn enter_event(txns: &Txns, i: usize, ops: &[PlanOp], events: &[PlanEvent], writers: &mut Writers)
     requires txns { IsTxns txns.now }
     requires event { i < txn_count txns.now }
+    requires planned { ArePlanned txns.now
+        ((txn_at txns.now i).first + (txn_at txns.now i).count) ops.now }
+    requires there { i < length events.now }
     requires writers { HasWriters txns.now (txn_at txns.now i).first writers.old }
-    ensures { HasWriters txns.now
+    requires levels { HasLevels ops.now (txn_at txns.now i).first writers.old }
+    requires event_levels { HasEventLevels ops.now events.now (txn_at txns.now i).first writers.old }
+    ensures writers { HasWriters txns.now
+        ((txn_at txns.now i).first + (txn_at txns.now i).count) writers.new }
+    ensures levels { HasLevels ops.now
+        ((txn_at txns.now i).first + (txn_at txns.now i).count) writers.new }
+    ensures event_levels { HasEventLevels ops.now events.now
         ((txn_at txns.now i).first + (txn_at txns.now i).count) writers.new }
 {
     let event = event_at(txns, i);
+    let level = events[i].level;
     for o in event.first..event.first + event.count {
-        writers.enter(txns.ops.get(o as usize).key);
+        let op = &ops[o as usize];
+        writers.enter(op.op.key, op.level, level);
     }
 }

@@ -1,15 +1,13 @@
 ghost use Rattle.std.specs.Prelude.{◌≡◌, ◌≤◌, length, drop, map, count_by, if◌then◌else◌};
-ghost use Rattle.morph_base.specs.declared.key.Key.{Key};
 ghost use Rattle.morph_base.specs.declared.limits.TheConstants.{PARAMS, READS};
 ghost use Rattle.morph_base.specs.Graphs.{greatest, is_written, level_of};
 ghost use Rattle.morph_base.specs.Operations.{reads, IsShaped};
-ghost use Rattle.precedence_graph.specs.Planned.{IsOfEarlier, padded, sources_of, op_level_in, event_level_in};
-ghost use Rattle.precedence_graph.specs.Writers.{source_in};
+ghost use Rattle.precedence_graph.specs.Planned.{padded, sources_of};
+ghost use Rattle.precedence_graph.specs.Writers.{source_in, entered_level, entered_event_level};
 
 use crate::edges::written_count;
-use crate::levels::{event_level_of, op_level_of};
 use crate::writers::Writers;
-use morph_base::{Op, Origin, PlanEvent, PlanOp, READS};
+use morph_base::{Op, Origin, PlanOp, READS};
 
 /// Where an operation reads from.
 #[derive(Clone, Copy, Debug, PartialEq, Eq)]
@@ -26,17 +24,15 @@ pub struct Reads {
     pub parameters: u32,
 }
 
-/// The sources of an operation, where `ops` has the operations before it and `events` the events before its own.
-pub fn sources(op: &Op, writers: &Writers, ops: &[PlanOp], events: &[PlanEvent]) -> Reads
-    requires shaped { IsShaped op.now }
-    requires earlier { (key : Key)
-        → IsOfEarlier ops.now (length events.now) (source_in writers.now key) }
+/// The sources of an operation, where the operations of the events before its own are entered.
+pub fn sources(op: &Op, writers: &Writers) -> Reads
+    requires { IsShaped op.now }
     ensures origins { result.origins ≡ padded (map (source_in writers.now) (reads op.now)) }
     ensures level { result.level
-        ≡ greatest (map (level_of (op_level_in ops.now))
+        ≡ greatest (map (level_of (entered_level writers.now))
         (map (source_in writers.now) (reads op.now))) }
     ensures event_level { result.event_level
-        ≡ greatest (map (level_of (event_level_in ops.now events.now))
+        ≡ greatest (map (level_of (entered_event_level writers.now))
         (map (source_in writers.now) (reads op.now))) }
     ensures target { result.target
         ≡ (if is_written (source_in writers.now op.now.key) then 1 else 0) }
@@ -46,22 +42,22 @@ pub fn sources(op: &Op, writers: &Writers, ops: &[PlanOp], events: &[PlanEvent])
 {
     let mut origins = [Origin::Base(0); READS];
     let target = writers.source(op.key);
-    origins[0] = target;
-    let mut level = op_level_of(target, ops);
-    let mut event_level = event_level_of(target, ops, events);
+    origins[0] = target.origin;
+    let mut level = target.level;
+    let mut event_level = target.event_level;
     let mut parameters: u32 = 0;
     for j in 0..op.n_params as usize {
-        let origin = writers.source(op.params[j]);
-        origins[j + 1] = origin;
-        level = level.max(op_level_of(origin, ops));
-        event_level = event_level.max(event_level_of(origin, ops, events));
-        parameters += written_count(origin);
+        let source = writers.source(op.params[j]);
+        origins[j + 1] = source.origin;
+        level = level.max(source.level);
+        event_level = event_level.max(source.event_level);
+        parameters += written_count(source.origin);
     }
     Reads {
         origins,
         level,
         event_level,
-        target: written_count(target),
+        target: written_count(target.origin),
         parameters,
     }
 }

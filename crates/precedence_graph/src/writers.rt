@@ -1,5 +1,6 @@
-ghost use Rattle.std.specs.Prelude.{◌≡◌, ℕ, ◌+◌, ◌^◌, ◌<◌, length, IfOk, if◌then◌else◌};
+ghost use Rattle.std.specs.Prelude.{◌≡◌, ℕ, ◌+◌, ◌^◌, ◌<◌, ◌==◌, length, IfOk, if◌then◌else◌};
 ghost use Rattle.morph_base.specs.Operations.{same_key};
+ghost use Rattle.morph_base.specs.Graphs.{level_of};
 ghost use Rattle.morph_base.specs.Links.{AreEnds, AreLinked};
 ghost use Rattle.precedence_graph.specs.Entries.{place_of, place_among, before_in};
 
@@ -17,6 +18,20 @@ struct Entry {
     /// The earlier operations at its place are numbered below this one, and the last of them is next to it; 0 where
     /// there is none.
     before: u32,
+    /// Its level.
+    level: u32,
+    /// The level of its event.
+    event_level: u32,
+}
+
+/// Where a read gets its value. The levels stand with it, so that none has to be read from the plan.
+#[derive(Clone, Copy, Debug, PartialEq, Eq)]
+pub struct Source {
+    pub origin: Origin,
+    /// The level of its operation, 0 for a base.
+    pub level: u32,
+    /// The level of its operation's event, 0 for a base.
+    pub event_level: u32,
 }
 
 /// For each key the last of the operations entered so far that changes it.
@@ -35,7 +50,7 @@ pub struct Writers {
 }
 
 impl Writers {
-    ghost use Rattle.precedence_graph.specs.Writers.{entered_count, room_of, source_in};
+    ghost use Rattle.precedence_graph.specs.Writers.{entered_count, room_of, source_in, entered_level, entered_event_level};
 
     /// No operation is entered, and there is room for `n`.
     pub fn new(alloc: Global, n: usize) -> Result<Self, OutOfMemory>
@@ -52,22 +67,34 @@ impl Writers {
     }
 
     /// Where a read of `key` gets its value: the last operation entered that changes it, or `Base(0)`.
-    pub fn source(&self, key: Key) -> Origin
-        ensures { result ≡ source_in self.now key }
+    pub fn source(&self, key: Key) -> Source
+        ensures origin { result.origin ≡ source_in self.now key }
+        ensures level { result.level
+            ≡ level_of (entered_level self.now) (source_in self.now key) }
+        ensures event_level { result.event_level
+            ≡ level_of (entered_event_level self.now) (source_in self.now key) }
     {
         let mut end = *self.ends.get(place_of(key, self.ends.len()));
         while end > 0 {
             let entry = self.entries.get(end as usize - 1);
             if entry.key == key {
-                return Origin::Op(end - 1);
+                return Source {
+                    origin: Origin::Op(end - 1),
+                    level: entry.level,
+                    event_level: entry.event_level,
+                };
             }
             end = entry.before;
         }
-        Origin::Base(0)
+        Source {
+            origin: Origin::Base(0),
+            level: 0,
+            event_level: 0,
+        }
     }
 
-    /// Enters the next operation, which changes `key`.
-    pub fn enter(&mut self, key: Key)
+    /// Enters the next operation, which changes `key`, with its level and that of its event.
+    pub fn enter(&mut self, key: Key, level: u32, event_level: u32)
         requires room { 0 < room_of self.old }
         requires few { entered_count self.old + 1 < 2 ^ 32 }
         ensures count { entered_count self.new ≡ entered_count self.old + 1 }
@@ -75,10 +102,22 @@ impl Writers {
         ensures source { (k : Key) → source_in self.new k
             ≡ (if same_key key k then Origin.Op (entered_count self.old) else
             source_in self.old k) }
+
+        // It has these levels, and each other operation those that it had.
+        ensures levels { (o : ℕ) → entered_level self.new o
+            ≡ (if o == entered_count self.old then level else entered_level self.old o) }
+        ensures event_levels { (o : ℕ) → entered_event_level self.new o
+            ≡ (if o == entered_count self.old then event_level else
+            entered_event_level self.old o) }
     {
         let place = place_of(key, self.ends.len());
         let before = *self.ends.get(place);
-        self.entries.add(Entry { key, before });
+        self.entries.add(Entry {
+            key,
+            before,
+            level,
+            event_level,
+        });
         self.ends.set(place, self.entries.len() as u32);
     }
 }

@@ -1,6 +1,6 @@
 use Rattle.std.proofs.Common.{◌≡◌, ◌+◌, ◌<◌, ◌≤◌, length}
 use Rattle.txn_splitter.specs.Txns.{txn_count, txn_op_count, txn_at}
-use Rattle.precedence_graph.specs.Planned.{HasWriters, IsWrittenOf, ArePlanned, AreEventsPlanned}
+use Rattle.precedence_graph.specs.Planned.{HasWriters, HasLevels, HasEventLevels, IsWrittenOf, ArePlanned, AreEventsPlanned}
 use Rattle.precedence_graph.proofs.planning.plan_transactions.Given as goal
 
 abbrev pub invariant-loop-i : goal.invariant-loop-i
@@ -13,4 +13,6 @@ invariant-loop-i l = record {
   events : AreEventsPlanned l.txns l.ops.items l.i l.events.items;
   written : IsWrittenOf l.ops.items l.written;
   writers : HasWriters l.txns (length l.ops.items) l.writers;
+  levels : HasLevels l.ops.items (length l.ops.items) l.writers;
+  event_levels : HasEventLevels l.ops.items l.events.items (length l.ops.items) l.writers;
 }

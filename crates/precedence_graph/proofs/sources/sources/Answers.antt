@@ -6,31 +6,30 @@ use Rattle.morph_base.specs.declared.limits.TheConstants.{PARAMS}
 use Rattle.morph_base.specs.declared.key.Key.{Key}
 use Rattle.morph_base.specs.declared.plan.Origin.{Origin}
 use Rattle.morph_base.specs.Graphs.{greatest, is_written, level_of}
-use Rattle.precedence_graph.specs.Planned.{op_level_in, event_level_in}
-use Rattle.precedence_graph.specs.Writers.{source_in}
+use Rattle.precedence_graph.specs.Writers.{source_in, entered_level, entered_event_level}
 use Rattle.precedence_graph.proofs.PlaceLemmas.{source_put, greatest-read_more}
 use Rattle.precedence_graph.proofs.sources.sources.Goals as goal
 
 pub loop-j-preserved : goal.loop-j-preserved
 loop-j-preserved c =
     let find : Key → Origin = source_in c.args.writers.now in
-    let of_op : Origin → ℕ = level_of (op_level_in c.args.ops.now) in
-    let of_event : Origin → ℕ = level_of (event_level_in c.args.ops.now c.args.events.now) in
+    let of_op : Origin → ℕ = level_of (entered_level c.args.writers.now) in
+    let of_event : Origin → ℕ = level_of (entered_event_level c.args.writers.now) in
     let key : Key = c.args.op.now.key in
     let params : List Key = c.args.op.now.params in
     let j : ℕ = c.loop-j.j in
-    let inside : j < length params = omega (arith, c.requires.shaped.held, c.loop-j-test.true) in
+    let inside : j < length params = omega (arith, c.requires.held, c.loop-j-test.true) in
     record {
-      origins = ap (λ os. slice_set os (j + 1) c.source-origin.result) c.loop-j.invariant.origins
-          ∙ source_put find params (find key) c.source-origin.result _ PARAMS j (omega (arith, c.requires.shaped.places, c.loop-j-test.true)) inside c.source-origin.ensures;
-      level = c.max-level.ensures ∙ ap (λ n. max n c.op_level_of.result) c.loop-j.invariant.level
-          ∙ ap (λ n. max (greatest (map of_op (map find (key ∷ take j params)))) n) (c.op_level_of.ensures ∙ ap of_op c.source-origin.ensures)
+      origins = ap (λ os. slice_set os (j + 1) c.source-source.result.origin) c.loop-j.invariant.origins
+          ∙ source_put find params (find key) c.source-source.result.origin _ PARAMS j (omega (arith, c.requires.places, c.loop-j-test.true)) inside c.source-source.ensures.origin;
+      level = c.max-level.ensures ∙ ap (λ n. max n c.source-source.result.level) c.loop-j.invariant.level
+          ∙ ap (λ n. max (greatest (map of_op (map find (key ∷ take j params)))) n) c.source-source.ensures.level
           ∙ sym (greatest-read_more of_op find key params j _ inside);
-      event_level = c.max-event_level.ensures ∙ ap (λ n. max n c.event_level_of.result) c.loop-j.invariant.event_level
-          ∙ ap (λ n. max (greatest (map of_event (map find (key ∷ take j params)))) n) (c.event_level_of.ensures ∙ ap of_event c.source-origin.ensures)
+      event_level = c.max-event_level.ensures ∙ ap (λ n. max n c.source-source.result.event_level) c.loop-j.invariant.event_level
+          ∙ ap (λ n. max (greatest (map of_event (map find (key ∷ take j params)))) n) c.source-source.ensures.event_level
           ∙ sym (greatest-read_more of_event find key params j _ inside);
       parameters = ap (λ n. n + c.written_count-parameters.result) c.loop-j.invariant.parameters
-          ∙ ap (λ n. count_by is_written (map find (take j params)) + n) (c.written_count-parameters.ensures.count ∙ ap (λ origin. cond (is_written origin) 1 0) c.source-origin.ensures)
+          ∙ ap (λ n. count_by is_written (map find (take j params)) + n) (c.written_count-parameters.ensures.count ∙ ap (λ origin. cond (is_written origin) 1 0) c.source-source.ensures.origin)
           ∙ sym (ap (count_by is_written) (map_more find params j _ inside) ∙ sum_by_push (λ origin. cond (is_written origin) 1 0) (map find (take j params)) (find (get_or params j _)));
       few = omega (arith, c.written_count-parameters.ensures.few);
     }

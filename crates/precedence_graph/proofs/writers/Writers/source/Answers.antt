@@ -2,7 +2,10 @@ use Rattle.std.proofs.Common.{◌≡◌, ℕ, ◌+◌, ◌-◌, ◌<◌, false, 
 use Rattle.morph_base.specs.Operations.{same_key}
 use Rattle.precedence_graph.specs.declared.writers.Entry.{Entry}
 use Rattle.morph_base.specs.Links.{last_passing}
-use Rattle.precedence_graph.specs.Entries.{place_of, no_entry, source_before, changes}
+use Rattle.morph_base.specs.Graphs.{level_of}
+use Rattle.morph_base.specs.declared.plan.Origin.TheVariants.{Base, Op as Written}
+use Rattle.precedence_graph.specs.Entries.{place_of, no_entry, source_before, entry_at, changes}
+use Rattle.precedence_graph.specs.Writers.{source_in, entered_level, entered_event_level}
 use Rattle.morph_base.proofs.LinkLaws.{last_passing-none, last_passing-here, last_passing-skip, last_passing-le}
 use Rattle.precedence_graph.proofs.EntryLemmas.{is_at, walk, walk_at, before_is}
 use Rattle.precedence_graph.proofs.writers.Writers.source.Goals as goal
@@ -28,8 +31,15 @@ returns-then-eq c =
     let w = c.args.self.now in
     let o : ℕ = c.loop-end.end - 1 in
     let end : c.loop-end.end ≡ o + 1 = omega (arith, c.loop-end-test.true) in
-    let passes : changes w.entries.items c.args.key o ≡ true = ap (λ (e : Entry). same_key e.key c.args.key) (sym (c.get-entry.ensures.at no_entry)) ∙ sym c.eq.ensures ∙ c.if-eq.true in
-    sym (ap source_before (c.loop-end.invariant.rest ∙ ap (last_passing (changes w.entries.items c.args.key)) end ∙ last_passing-here (changes w.entries.items c.args.key) o passes ∙ add-one o))
+    let entry : c.get-entry.result.now ≡ entry_at w.entries.items o = c.get-entry.ensures.at no_entry in
+    let passes : changes w.entries.items c.args.key o ≡ true = ap (λ (e : Entry). same_key e.key c.args.key) (sym entry) ∙ sym c.eq.ensures ∙ c.if-eq.true in
+    let is : Written o ≡ source_in w c.args.key =
+    sym (ap source_before (c.loop-end.invariant.rest ∙ ap (last_passing (changes w.entries.items c.args.key)) end ∙ last_passing-here (changes w.entries.items c.args.key) o passes ∙ add-one o)) in
+    record {
+      origin = is;
+      level = ap (λ (e : Entry). e.level) entry ∙ ap (level_of (entered_level w)) is;
+      event_level = ap (λ (e : Entry). e.event_level) entry ∙ ap (level_of (entered_event_level w)) is;
+    }
 
 pub loop-end-smaller : goal.loop-end-smaller
 loop-end-smaller c =
@@ -63,4 +73,6 @@ loop-end-preserved c =
 pub returns : goal.returns
 returns c =
     let w = c.args.self.now in
-    sym (ap source_before (c.loop-end.invariant.rest ∙ last_passing-none (changes w.entries.items c.args.key) c.loop-end.end (omega (arith, c.loop-end-test.false))))
+    let is : Base 0 ≡ source_in w c.args.key =
+    sym (ap source_before (c.loop-end.invariant.rest ∙ last_passing-none (changes w.entries.items c.args.key) c.loop-end.end (omega (arith, c.loop-end-test.false)))) in
+    record { origin = is; level = ap (level_of (entered_level w)) is; event_level = ap (level_of (entered_event_level w)) is }

@@ -1,5 +1,5 @@
 -- The state of a run stays within the greatest value of what its reader gives.
-use Rattle.std.proofs.Common.{◌≡◌, ℕ, ◌<◌, ◌≤◌, List, length, All, zero-le, le_refl, subst, sym}
+use Rattle.std.proofs.Common.{◌≡◌, ℕ, ◌<◌, length, All, zero-le, subst, sym}
 use Rattle.std.proofs.lemmas.List.{length-map}
 use Rattle.morph_base.specs.declared.event.Batch.{Batch}
 use Rattle.morph_base.specs.States.{State, IsUpTo, opening_state}

@@ -1,9 +1,8 @@
 -- What comes of checking the journal of a run.
-use Rattle.std.proofs.Common.{◌≡◌, ◌≢◌, inl, inr, ℕ, ◌<◌, ◌≤◌, eqb, true, false, List, length, refl, sym, ap, subst, ◌∙◌, arith, eq-eqb}
-use Rattle.std.proofs.lemmas.Bool.{cases_eq, true≢false}
+use Rattle.std.proofs.Common.{◌≡◌, ◌≢◌, ℕ, ◌<◌, ◌≤◌, true, false, List, length, sym, subst, ◌∙◌, arith, eq-eqb}
+use Rattle.std.proofs.lemmas.Bool.{true≢false}
 use Rattle.morph_base.specs.declared.plan.Plan.{Plan}
 use Rattle.morph_base.specs.declared.strategy.Abort.TheVariants.{Lazy}
-use Rattle.morph_base.specs.Limits.{most_attempts}
 use Rattle.morph_base.specs.Plans.{IsPlan}
 use Rattle.interleaving_core.specs.declared.event.CoreEvent.{CoreEvent}
 use Rattle.interleaving_core.specs.Core.{Core, start}
@@ -14,7 +13,7 @@ use Rattle.morph_engine.specs.Accounts.{Account}
 use Rattle.morph_engine.specs.Runs.{IsKept, journal_room}
 use Rattle.run_checker.specs.declared.checked.Checked.{Checked}
 use Rattle.run_checker.specs.declared.checked.Checked.TheVariants.{Yes}
-use Rattle.run_checker.specs.Answers.{AreFold, Answers, IsBorneOut, SettlesWholeFold}
+use Rattle.run_checker.specs.Answers.{AreFold, Answers, SettlesWholeFold}
 use Rattle.run_checker.proofs.Apart.{answers_agree}
 use Rattle.run_checker.proofs.Fold.{fold_yes, yes_fold}
 use Rattle.run_text.specs.Notes.{is_cut}

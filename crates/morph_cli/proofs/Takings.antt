@@ -1,11 +1,11 @@
 -- A batch that is taken between two others: what holds behind it, and how a run ends in it.
-use Rattle.std.proofs.Common.{◌≡◌, ◌⊎◌, inl, inr, ℕ, ◌+◌, ◌^◌, ◌<◌, ◌≤◌, true, false, List, [], ◌++◌, length, Option, Result, Ok, Err, refl, ap, sym, subst, ◌∙◌, arith}
+use Rattle.std.proofs.Common.{◌≡◌, inl, inr, ℕ, ◌+◌, ◌^◌, ◌<◌, ◌≤◌, true, false, List, [], length, Option, Result, Ok, Err, refl, ap, sym, subst, ◌∙◌, arith}
 use Rattle.std.specs.Prelude.{IfSome, IsErrOf, IsSome, IsTrue}
 use Rattle.std.proofs.Math.ListN.{length-map}
 use Rattle.morph_base.specs.declared.event.Batch.{Batch as TheBatch}
-use Rattle.morph_base.specs.Transactions.{transactions_of, by_time}
-use Rattle.morph_base.specs.Outcomes.{Fate, fates}
-use Rattle.morph_base.specs.States.{after_all}
+use Rattle.morph_base.specs.Transactions.{transactions_of}
+use Rattle.morph_base.specs.Outcomes.{Fate}
+use Rattle.morph_base.specs.States.{after_all, fold_batch}
 use Rattle.morph_base.specs.Flat.{Kept, contents}
 use Rattle.decision_model.specs.declared.counts.Last.{Last}
 use Rattle.morph_engine.specs.Accounts.{account_of}
@@ -20,7 +20,7 @@ use Rattle.snapshot_reader.specs.Steady.{Posted}
 use Rattle.morph_cli.specs.declared.fault.Fault.{Fault}
 use Rattle.morph_cli.specs.declared.fault.Fault.TheVariants.{Read, Write, OutOfMemory as NoMemory, TooLong}
 use Rattle.morph_cli.specs.declared.run.Finish.{Finish}
-use Rattle.morph_cli.specs.Batches.{IsShown, IsTaken, IsTakenWhole, TakesBatch, lines_of_batch, note_of_batch}
+use Rattle.morph_cli.specs.Batches.{IsShown, IsTaken, IsTakenWhole, TakesBatch, TellsBatch, also_posted, note_of_batch}
 use Rattle.morph_cli.specs.Outputs.{Outputs, with_both, IsCutIn}
 use Rattle.morph_cli.specs.Status.{status_of}
 use Rattle.morph_cli.specs.Strategies.{strategy_by}
@@ -47,14 +47,15 @@ few_batches b short =
     let number = b.number in
     omega (arith, events, batches, counted, number, short)
 
--- a write failed in it, or memory was refused behind it
-module _ {s : Settings} {last : Last} {before : Kept} {posted : Option Posted} {batch : TheBatch} {t t' : Tally} {old new : Outputs} {x : Result (Unit {0}) Fault} (last' : Last) (after : Kept) (posted' : Option Posted) where
-  pub takes_cut : x ≡ Err Write → (taken : IsTaken s last before posted batch t t') → IsCutIn old (lines_of_batch s taken.end) (note_of_batch s t'.batches taken.audit taken.end) new →
-      TakesBatch x s last before after posted posted' batch t t' last' old new
-  takes_cut failed taken cut = subst (λ y. TakesBatch y s last before after posted posted' batch t t' last' old new) (sym failed) (taken, cut)
-
-  pub takes_unpublished : x ≡ Err NoMemory → IsTakenWhole s last before after posted batch t t' old new → TakesBatch x s last before after posted posted' batch t t' last' old new
-  takes_unpublished failed whole = subst (λ y. TakesBatch y s last before after posted posted' batch t t' last' old new) (sym failed) (inr whole)
+-- a batch that was run, and then told so, was taken so
+module _ {s : Settings} {last : Last} {before : Kept} {posted posted'' : Option Posted} {batch : TheBatch} {t t' : Tally} (old new : Outputs) (last' : Last) (after : Kept) (posted' : Option Posted)
+    (taken : IsTaken s last before posted batch t t') (state : contents after ≡ fold_batch batch (contents before)) (same : posted'' ≡ posted) where
+  pub takes_told : (x : Result (Unit {0}) Fault) → TellsBatch x s taken.end taken.audit posted'' posted' t'.batches last' old new → TakesBatch x s last before after posted posted' batch t t' last' old new
+  takes_told (Ok done) tells = (record { taken = taken; state = state; written = tells.0 }, tells.1, tells.2 ∙ ap (also_posted taken.end.plan) same)
+  takes_told (Err Write) tells = (taken, tells)
+  takes_told (Err NoMemory) tells = inr (record { taken = taken; state = state; written = tells })
+  takes_told (Err Read) tells = absurd tells
+  takes_told (Err TooLong) tells = absurd tells
 
 -- the same holds of an equal reader
 pub between_same : {App : Type 0} {c : Course App} {left : Option (List ℕ)} {new : Outputs} {r r' : ReaderView App} {values : Kept} {tally : Tally} {out : List ℕ} {last : Last} →

@@ -80,6 +80,17 @@ pub record IsTakenWhole (s : Settings) (last : Last) (before after : Kept) (post
   pub state : contents after ≡ fold_batch batch (contents before)
   pub written : new ≡ with_both old (lines_of_batch s taken.end) (note_of_batch s t'.batches taken.audit taken.end)
 
+-- what a call did that tells a batch which was run, with its number: all of it, and it was published; or a write failed; or memory was
+-- refused to publish it
+abbrev pub TellsBatch : {T : Type 0} → Result T Fault → Settings → BatchEnd → Option Total → (posted posted' : Option Posted) → (number : ℕ) → (last : Last) → (old new : Outputs) → Type 0
+TellsBatch (Ok done) s end audit posted posted' number last old new =
+    (new ≡ with_both old (lines_of_batch s end) (note_of_batch s number audit end))
+    × (last ≡ last_of (settled_fates end.plan end.settled)) × (posted' ≡ also_posted end.plan posted)
+TellsBatch (Err Write) s end audit posted posted' number last old new = IsCutIn old (lines_of_batch s end) (note_of_batch s number audit end) new
+TellsBatch (Err NoMemory) s end audit posted posted' number last old new = new ≡ with_both old (lines_of_batch s end) (note_of_batch s number audit end)
+TellsBatch (Err Read) s end audit posted posted' number last old new = ⊥
+TellsBatch (Err TooLong) s end audit posted posted' number last old new = ⊥
+
 -- what a call did that takes a batch: all of it, and it was published; or a write failed; or memory was refused, to run it, where nothing was done,
 -- or to publish it
 abbrev pub TakesBatch : {T : Type 0} → Result T Fault → Settings → (last : Last) → (before after : Kept) → (posted posted' : Option Posted) → Batch → (t t' : Tally) → (last' : Last) → (old new : Outputs) → Type 0

@@ -1,8 +1,6 @@
-use Rattle.std.proofs.Common.{◌≡◌, ◌≤◌, List, length, sym, subst, ◌∙◌}
-use Rattle.interleaving_core.specs.declared.event.CoreEvent.{CoreEvent}
+use Rattle.std.proofs.Common.{sym, subst, ◌∙◌}
 use Rattle.morph_engine.specs.Accounts.{account_of}
 use Rattle.run_checker.specs.Answers.{Answers}
-use Rattle.run_checker.specs.declared.checked.Checked.{Checked}
 use Rattle.morph_cli.proofs.Checking.{answer_is, checked_cut, checked_yes}
 use Rattle.morph_cli.proofs.checked.confirm.Goals as goal
 

@@ -25,24 +25,26 @@ fn told(alloc: Global, events: &[(u64, &[u32])]) -> Result<(bool, bool), OutOfMe
     Ok((batch.is_valid(), batch.has_keys_in(layout)))
 }
 
+/// Events with their times and ids, and whether they are a valid batch and have keys in a layout of two ids.
+static BY_HAND: [(&str, &[(u64, &[u32])], (bool, bool)); 9] = [
+    ("no event", &[], (true, true)),
+    ("by falling time", &[(2, &[0]), (1, &[1, 0])], (true, true)),
+    ("the latest time", &[(LATEST, &[0])], (true, true)),
+    ("no time", &[(0, &[0])], (false, true)),
+    (
+        "after the latest time",
+        &[(LATEST + 1, &[0])],
+        (false, true),
+    ),
+    ("one time twice", &[(1, &[0]), (1, &[1])], (false, true)),
+    ("no operation", &[(1, &[])], (false, true)),
+    ("one target twice", &[(1, &[1, 0, 1])], (false, true)),
+    ("an id too many", &[(1, &[0, 2])], (true, false)),
+];
+
 #[test]
 fn batches_put_together_by_hand(rt: HostRuntime) -> Result<(), Fail> {
-    let rows: [(&str, &[(u64, &[u32])], (bool, bool)); 9] = [
-        ("no event", &[], (true, true)),
-        ("by falling time", &[(2, &[0]), (1, &[1, 0])], (true, true)),
-        ("the latest time", &[(LATEST, &[0])], (true, true)),
-        ("no time", &[(0, &[0])], (false, true)),
-        (
-            "after the latest time",
-            &[(LATEST + 1, &[0])],
-            (false, true),
-        ),
-        ("one time twice", &[(1, &[0]), (1, &[1])], (false, true)),
-        ("no operation", &[(1, &[])], (false, true)),
-        ("one target twice", &[(1, &[1, 0, 1])], (false, true)),
-        ("an id too many", &[(1, &[0, 2])], (true, false)),
-    ];
-    for (name, events, want) in rows {
+    for &(name, events, want) in &BY_HAND {
         assert_eq!(rt; told(rt.alloc(), events)?, want, "{name}");
     }
     Ok(())
@@ -62,22 +64,26 @@ fn valid_within(alloc: Global, limits: [[u64; 3]; 2]) -> Result<bool, OutOfMemor
     Ok(Batch { events }.is_valid())
 }
 
+/// Limits as the first version of the input gives them, and as the second does.
+const FIRST: [u64; 3] = [FIRST_MAX, FIRST_MAX, FIRST_MAX];
+
+const SECOND: [u64; 3] = [MAX, MAX, MAX];
+
+/// The limits of two events, and whether they are a valid batch.
+static LIMITS: [([[u64; 3]; 2], bool); 7] = [
+    ([FIRST, FIRST], true),
+    ([SECOND, SECOND], true),
+    ([FIRST, SECOND], false),
+    ([SECOND, FIRST], false),
+    ([FIRST, [0, FIRST_MAX + 1, FIRST_MAX]], false),
+    ([SECOND, [MAX + 1, 0, MAX]], false),
+    ([[0, 0, 100], [0, 0, 100]], false),
+];
+
 #[test]
 fn limits_of_a_batch(rt: HostRuntime) -> Result<(), Fail> {
-    let first = [FIRST_MAX, FIRST_MAX, FIRST_MAX];
-    let second = [MAX, MAX, MAX];
-    let rows: [([u64; 3], [u64; 3], bool); 7] = [
-        (first, first, true),
-        (second, second, true),
-        (first, second, false),
-        (second, first, false),
-        (first, [0, FIRST_MAX + 1, FIRST_MAX], false),
-        (second, [MAX + 1, 0, MAX], false),
-        ([0, 0, 100], [0, 0, 100], false),
-    ];
-    for (one, other, want) in rows {
-        let valid = valid_within(rt.alloc(), [one, other])?;
-        assert_eq!(rt; valid, want, "{one:?} and {other:?}");
+    for &(limits, want) in &LIMITS {
+        assert_eq!(rt; valid_within(rt.alloc(), limits)?, want, "{limits:?}");
     }
     Ok(())
 }

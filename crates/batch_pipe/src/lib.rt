@@ -17,8 +17,6 @@ mod pipe;
 mod planner;
 mod runner;
 mod tail;
-#[cfg(test)]
-mod tests;
 
 pub use items::{Picker, Ran, Sent};
 pub use pipe::Pipe;

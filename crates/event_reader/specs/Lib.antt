@@ -22,8 +22,6 @@ pub mod Ranges
 pub mod Forms
 pub mod GeneratedText
 pub mod Generating
-pub mod Counter
-pub mod CounterLaws
 pub mod Versions
 pub mod VersionLaws
 pub mod Keys

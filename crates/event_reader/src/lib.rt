@@ -28,12 +28,8 @@
 
 mod answers;
 mod app;
-#[cfg(test)]
-mod batch_tests;
 mod batches;
 mod cause;
-#[cfg(test)]
-mod counter;
 mod decision;
 mod draws;
 mod fault;
@@ -49,8 +45,6 @@ mod past;
 mod pending;
 mod plain;
 mod ranges;
-#[cfg(test)]
-mod tests;
 mod times;
 mod version;
 mod words;

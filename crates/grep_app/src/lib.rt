@@ -8,7 +8,5 @@
 
 mod generating;
 mod grep;
-#[cfg(test)]
-mod tests;
 
 pub use grep::{CELLS, Grep};

@@ -10,7 +10,5 @@
 
 mod generating;
 mod ledger;
-#[cfg(test)]
-mod tests;
 
 pub use ledger::{ACCOUNTS, ASSETS, Ledger};

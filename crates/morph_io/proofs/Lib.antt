@@ -1,4 +1,3 @@
-pub mod Moved
 pub mod Pieces
 pub mod Putting
 pub mod Repeating

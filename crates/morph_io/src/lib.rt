@@ -22,8 +22,6 @@
 //! Below stands `morph_base`, of which only `List` and `OutOfMemory` are used.
 #![tactic(auto)]
 
-#[cfg(test)]
-mod adapter_tests;
 mod calls;
 mod copying;
 mod line_buf;
@@ -36,8 +34,6 @@ mod sink;
 mod source;
 mod std_sink;
 mod std_source;
-#[cfg(test)]
-mod tests;
 
 pub use line_buf::{LINE_BYTES, LineBuf};
 pub use mem_sink::MemSink;

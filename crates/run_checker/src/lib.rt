@@ -29,8 +29,6 @@ mod fault;
 pub mod laws;
 mod reading;
 mod replaying;
-#[cfg(test)]
-mod tests;
 mod words;
 mod writing;
 

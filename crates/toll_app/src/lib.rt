@@ -7,8 +7,6 @@
 #![tactic(auto)]
 
 mod generating;
-#[cfg(test)]
-mod tests;
 mod toll;
 
 pub use toll::{BILLS, COUNTS, GREATEST_BILL, PLACES, SPEEDS, Toll};

@@ -1,0 +1,110 @@
+ghost use Rattle.std.specs.Prelude.{◌≡◌, ◌⊎◌, None, map, option_map, IsSome, IfSome, IfOk, OnErr, IsTrue};
+ghost use Rattle.std.specs.Process.{exit_status};
+ghost use Rattle.morph_io.specs.Told.{HasRisen};
+ghost use Rattle.morph_cli.specs.Apps.{input_of, left_by, meaning_of, telling_of};
+ghost use Rattle.event_reader.specs.Accepted.{accepted};
+ghost use Rattle.morph_cli.specs.Headline.{Headline, Completes, input_limit};
+ghost use Rattle.morph_cli.specs.Outputs.{has_notes, outputs_of};
+ghost use Rattle.morph_cli.specs.Tallies.{CallTold};
+ghost use Rattle.run_text.specs.declared.tally.Tally.{Tally};
+ghost use Rattle.run_text.specs.Settings.{settings_of};
+ghost use Rattle.morph_cli.specs.Status.{IsStatus, IsMadeStatus, EndsNotes};
+ghost use Rattle.morph_cli.specs.Words.{words_behind};
+
+use crate::ended::{note_of, status};
+use crate::fault::Fault;
+use crate::note::write_note;
+use crate::top_call::morph;
+use morph_base::{List, OutOfMemory};
+use morph_io::{Sink, Source};
+use std::alloc::Global;
+use std::process::ExitCode;
+use std::sync::Wait;
+use std::thread::Threads;
+use worker_gate::FreeGate;
+
+/// The words behind the program's name, as bytes.
+fn words_of(alloc: Global, args: &[String]) -> Result<List<List<u8>>, OutOfMemory>
+    ensures { IfOk result (λ words. map (λ word. word.items) words.items ≡ words_behind args.now) }
+{
+    let mut words = List::new(alloc);
+    let Some((_, rest)) = args.split_first() else {
+        return Ok(words);
+    };
+    for arg in rest {
+        words.push(List::from_slice(alloc, arg.as_bytes())?)?;
+    }
+    Ok(words)
+}
+
+/// Ends a run for which there is no memory: writes the last line of the notes.
+fn end_without_memory<N: Sink>(notes: &mut N) -> ExitCode
+    ensures status { exit_status result ≡ 6 }
+    ensures note { EndsNotes 6 (N.written notes.old) (N.written notes.new)
+        (HasRisen (N.faults notes.old) (N.faults notes.new)) }
+{
+    let end = Err(Fault::OutOfMemory);
+    write_note(notes, note_of(&end));
+    ExitCode::from(status(&end))
+}
+
+/// Does all that the program does, with its arguments, of which the first is its own name, or for want of memory
+/// none; and answers the status that it ends with, which is that of [`morph`] for the words behind the name.
+///
+/// Where memory for the words is refused, or they are no settings, nothing is read, nothing goes to the sink, and the
+/// notes get their last line alone.
+pub fn program<R: Threads + Wait + Sync, S: Source + Send, K: Sink, N: Sink>(
+    rt: &R,
+    alloc: Global,
+    args: Result<Vec<String>, OutOfMemory>,
+    source: &mut S,
+    sink: &mut K,
+    notes: &mut N,
+) -> ExitCode
+    ensures usage { IfOk args (λ args. let asked = settings_of (words_behind args.items) in
+        (exit_status result ≡ 2 → asked ≡ None)
+        × (asked ≡ None → (exit_status result ≡ 2) ⊎ (exit_status result ≡ 6))) }
+    ensures headline { IfOk args (λ args. IfSome (settings_of (words_behind args.items)) (λ s.
+        IfSome (input_of s (S.left source.old)) (λ input.
+        Headline (meaning_of s) (telling_of s) input_limit input
+        (left_by s.generated (S.left source.new))
+        (K.written sink.old) (K.written sink.new) (exit_status result)))) }
+    ensures completes { (HasRisen (S.faults source.old) (S.faults source.new) → ⊥)
+        → (HasRisen (K.faults sink.old) (K.faults sink.new) → ⊥)
+        → IfOk args (λ args. IfSome (settings_of (words_behind args.items)) (λ s.
+        (IsTrue (has_notes s) → HasRisen (N.faults notes.old) (N.faults notes.new) → ⊥)
+        → IfSome (input_of s (S.left source.old)) (λ input.
+        Completes (meaning_of s) input_limit input (exit_status result)))) }
+    ensures untouched { IfOk args (λ args. settings_of (words_behind args.items) ≡ None
+        → (source.new ≡ source.old) × (sink.new ≡ sink.old)
+        × EndsNotes (exit_status result) (N.written notes.old) (N.written notes.new)
+        (HasRisen (N.faults notes.old) (N.faults notes.new))) }
+    ensures made { IfOk args (λ args. IfSome (settings_of (words_behind args.items)) (λ s.
+        IsSome s.generated
+        → (source.new ≡ source.old) × IsMadeStatus (exit_status result))) }
+    ensures told { IfOk args (λ args. IfSome (settings_of (words_behind args.items)) (λ s.
+        (tally : Tally) × CallTold (telling_of s)
+        (option_map (accepted (meaning_of s)) (input_of s (S.left source.old)))
+        s (exit_status result) tally
+        (outputs_of (K.written sink.old) (N.written notes.old))
+        (outputs_of (K.written sink.new) (N.written notes.new))
+        (HasRisen (N.faults notes.old) (N.faults notes.new)))) }
+    ensures read { exit_status result ≡ 4 → HasRisen (S.faults source.old) (S.faults source.new) }
+    ensures write { exit_status result ≡ 5
+        → HasRisen (K.faults sink.old) (K.faults sink.new)
+        ⊎ HasRisen (N.faults notes.old) (N.faults notes.new) }
+    ensures statuses { IsStatus (exit_status result) }
+    ensures memory { OnErr args ((exit_status result ≡ 6)
+        × (source.new ≡ source.old) × (sink.new ≡ sink.old)
+        × EndsNotes 6 (N.written notes.old) (N.written notes.new)
+        (HasRisen (N.faults notes.old) (N.faults notes.new))) }
+{
+    let Ok(args) = args else {
+        return end_without_memory(notes);
+    };
+    let Ok(words) = words_of(alloc, &args) else {
+        return end_without_memory(notes);
+    };
+    let ended = morph(rt, alloc, words.as_slice(), source, sink, notes, &FreeGate);
+    ExitCode::from(ended.status)
+}

@@ -1,0 +1,31 @@
+//! The run of the program `morph` from its words to its status: events as lines from a source, each applied as one
+//! transaction, and the text of what became of them to a sink.
+//!
+//! [`morph()`] does all that the program does, over a source, a sink and notes of any kind, and [`program()`] gives it the
+//! words of the program's arguments. It stands on `run_text`, which reads the words and writes the lines, on the
+//! applications, as `ledger_app`, on `event_reader`, which cuts the input into batches, on `decision_model`, which
+//! chooses the strategy of a batch where that is asked for, on `morph_engine`, which runs them, on `batch_pipe`, which
+//! reads and plans ahead, on `snapshot_reader` and `run_checker`, by which a run is watched and checked, and on
+//! `morph_io`, which reads and writes.
+#![tactic(auto)]
+
+mod ahead;
+mod arguments;
+mod batch;
+mod checked;
+mod ended;
+mod fault;
+mod job;
+mod laws;
+mod note;
+mod one_batch;
+mod progress;
+mod run;
+mod strategies;
+mod tell;
+mod top_call;
+mod watching;
+
+pub use arguments::program;
+pub use ended::Ended;
+pub use top_call::morph;

@@ -1,0 +1,67 @@
+use event_reader::{Cause, Draws, EventApp, LineFault, Number, Version, Words, read_number};
+use morph_base::{Event, Func, Key, LATEST, List};
+use morph_io::LineBuf;
+use std::alloc::Global;
+
+/// The application of the tests: one counter, to which each event adds 1.
+///
+/// A line is a time. With one word more it is refused as same.
+#[derive(Clone, Copy, Debug, PartialEq, Eq)]
+pub(crate) struct Counter;
+
+impl EventApp for Counter {
+    ghost use Rattle.std.specs.Prelude.{codes};
+    ghost use Rattle.stream_tests.specs.Counter.{count_event, count_drawn};
+    ghost use Rattle.stream_tests.specs.CounterLaws.{count_valid, count_causes, count_generates};
+
+    ghost table_count = { λ _. 1 };
+
+    ghost name_of = { λ _ _. codes "counter" };
+
+    ghost event_of = { λ _ size version words. count_event size version words };
+
+    ghost generated = { λ _ _ i state. count_drawn i state };
+
+    ghost gives_valid = { λ _ size version words e. count_valid size version words e };
+
+    ghost causes = { λ _ size version words cause. count_causes size version words cause };
+
+    ghost generates = { λ _ size i state some _ start last. count_generates size i state some start
+        last };
+
+    fn tables(&self) -> u8 {
+        1
+    }
+
+    fn table_name(&self, _table: u8) -> &'static str {
+        "counter"
+    }
+
+    fn read_event(
+        &self,
+        alloc: Global,
+        words: &Words<'_>,
+        size: u32,
+        version: Version,
+    ) -> Result<Event, LineFault> {
+        if words.count() == 2 {
+            return Err(LineFault::Refused(Cause::Same));
+        }
+        if words.count() != 1 {
+            return Err(LineFault::Refused(Cause::Form));
+        }
+        match read_number(words.word(0)) {
+            Number::NotNumber => Err(LineFault::Refused(Cause::Form)),
+            Number::Value(ts) if ts > 0 && ts <= LATEST && size > 0 => {
+                let mut ops = List::with_room(alloc, 1)?;
+                ops.add(version.op(Func::Add, Key::of(0, 0), &[], 1));
+                Ok(Event { ts, ops })
+            }
+            _ => Err(LineFault::Refused(Cause::Range)),
+        }
+    }
+
+    fn generate(&self, _draws: &mut Draws, i: u64, _size: u32, line: &mut LineBuf) {
+        line.number(i);
+    }
+}

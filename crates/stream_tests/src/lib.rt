@@ -1,0 +1,29 @@
+//! Tests of the crates that a stream passes through as text: sources and sinks, the reader, the applications and the
+//! lines of a journal, over their public calls alone.
+//!
+//! They stand together, so that none of these crates is proved again with its tests, and so that all of them share
+//! what reads the batches of a source, and what tells how an application takes a line.
+#![tactic(auto)]
+
+#[cfg(test)]
+mod adapters;
+#[cfg(test)]
+mod app_lines;
+#[cfg(test)]
+mod batches;
+#[cfg(test)]
+mod copies;
+#[cfg(test)]
+mod counter;
+#[cfg(test)]
+mod grep;
+#[cfg(test)]
+mod journals;
+#[cfg(test)]
+mod ledger;
+#[cfg(test)]
+mod lines;
+#[cfg(test)]
+mod readings;
+#[cfg(test)]
+mod toll;

@@ -42,17 +42,14 @@ first_none xs from at point high x inside =
 -- ---- the readers of one operation
 
 module _ (p : Plan) (graph : IsGraph p) where
-  pub many_lists : length p.dependents.items ≡ op_count p
+  pub many_lists : length p.dependents ≡ op_count p
   many_lists =
-      sym (length-map p.dependents.items (λ (l : Contents ℕ). l.items))
-      ∙ ap length graph.dependents_are
+      ap length graph.dependents_are
       ∙ length-map-range_with_len (λ o. filter (reads_from p o) (below (op_count p))) 0 (op_count p)
 
-  pub readers_are : (k : ℕ) (d : Contents ℕ) → k < op_count p → (get_or p.dependents.items k d).items ≡ filter (reads_from p k) (below (op_count p))
-  readers_are k d lt =
-      let here : k < length p.dependents.items = subst (λ n. k < n) (sym many_lists) lt in
-      sym (get_or-map (λ (l : Contents ℕ). l.items) p.dependents.items k d [] here)
-      ∙ ap (λ ls. get_or ls k []) graph.dependents_are
+  pub readers_are : (k : ℕ) → k < op_count p → get_or p.dependents k [] ≡ filter (reads_from p k) (below (op_count p))
+  readers_are k lt =
+      ap (λ ls. get_or ls k []) graph.dependents_are
       ∙ get_or-map-range_with_len (λ o. filter (reads_from p o) (below (op_count p))) 0 (op_count p) k k [] lt (omega arith)
 
 module _ (p : Plan) (k : ℕ) (xs : List ℕ) (is : xs ≡ filter (reads_from p k) (below (op_count p))) where

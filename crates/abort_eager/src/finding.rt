@@ -42,10 +42,7 @@ pub(crate) fn reader_from(plan: &Plan, first: u32, end: u32, from: u32) -> Optio
 {
     let mut least = None;
     for op in first..end {
-        least = lesser(
-            least,
-            first_at(plan.dependents.get(op as usize).as_slice(), from),
-        );
+        least = lesser(least, first_at(plan.dependents.row(op as usize), from));
     }
     least
 }

@@ -1,5 +1,5 @@
 use crate::four_events::batch_of;
-use morph_base::{Edges, List, Origin, OutOfMemory, Plan, PlanOp};
+use morph_base::{Edges, List, Origin, OutOfMemory, Plan, PlanOp, Rows};
 use precedence_graph::build;
 use std::alloc::Global;
 use std::process::Abort;
@@ -71,14 +71,29 @@ fn events_of(alloc: Global, plan: &Plan) -> Result<Vec<(u64, u32, u32, u32)>, Ou
     Ok(rows)
 }
 
+/// Appends a list, and 99 behind it.
+fn append(all: &mut Vec<u32>, list: &[u32]) -> Result<(), OutOfMemory> {
+    for n in list {
+        all.push(*n)?;
+    }
+    all.push(99)?;
+    Ok(())
+}
+
 /// The lists, joined, each ended by 99.
 fn joined(alloc: Global, lists: &List<List<u32>>) -> Result<Vec<u32>, OutOfMemory> {
     let mut all = Vec::new(alloc);
     for list in lists.as_slice() {
-        for n in list.as_slice() {
-            all.push(*n)?;
-        }
-        all.push(99)?;
+        append(&mut all, list.as_slice())?;
+    }
+    Ok(all)
+}
+
+/// The rows, joined, each ended by 99.
+fn joined_rows(alloc: Global, rows: &Rows) -> Result<Vec<u32>, OutOfMemory> {
+    let mut all = Vec::new(alloc);
+    for i in 0..rows.len() {
+        append(&mut all, rows.row(i))?;
     }
     Ok(all)
 }
@@ -121,14 +136,11 @@ fn operations_and_events(rt: HostRuntime) -> Result<(), Fail> {
 fn dependencies_and_levels(rt: HostRuntime) -> Result<(), Fail> {
     let plan = built(&rt, rt.alloc(), &[4, 3, 2, 1])?;
     assert_eq!(rt; plan.edges, EDGES);
-    let rows = [
-        (&plan.dependents, DEPENDENTS.as_slice()),
-        (&plan.op_levels, OP_LEVELS.as_slice()),
-        (&plan.event_levels, EVENT_LEVELS.as_slice()),
-    ];
-    for (lists, want) in rows {
-        let got = joined(rt.alloc(), lists)?;
-        assert_eq!(rt; got.as_slice(), want);
-    }
+    let dependents = joined_rows(rt.alloc(), &plan.dependents)?;
+    assert_eq!(rt; dependents.as_slice(), DEPENDENTS.as_slice());
+    let op_levels = joined(rt.alloc(), &plan.op_levels)?;
+    assert_eq!(rt; op_levels.as_slice(), OP_LEVELS.as_slice());
+    let event_levels = joined(rt.alloc(), &plan.event_levels)?;
+    assert_eq!(rt; event_levels.as_slice(), EVENT_LEVELS.as_slice());
     Ok(())
 }

@@ -22,4 +22,5 @@ pub mod KnownLaws
 pub mod WordLaws
 pub mod ShapeLaws
 pub mod LinkLaws
+pub mod RowLemmas
 pub mod ValidLemmas

@@ -59,7 +59,7 @@ module _ (p : Plan) where
     pub op_level_is : (o : ℕ) → o < op_count p → (op_at p o).level ≡ 1 + greatest (map op_level (origins_of p o))
     pub event_level_is : (i : ℕ) → i < event_count p → (event_at p i).level ≡ 1 + greatest (map event_level (event_origins i))
     -- for each operation all those that read from it, rising, each once
-    pub dependents_are : map (λ l. l.items) p.dependents.items ≡ map (λ o. filter (reads_from o) (below (op_count p))) (below (op_count p))
+    pub dependents_are : p.dependents ≡ map (λ o. filter (reads_from o) (below (op_count p))) (below (op_count p))
     -- for each level, from 1 on, all of that level, rising
     pub op_levels_are : map (λ l. l.items) p.op_levels.items ≡ map (λ l. filter (λ o. (op_at p o).level == l + 1) (below (op_count p))) (below op_depth)
     pub event_levels_are : map (λ l. l.items) p.event_levels.items ≡ map (λ l. filter (λ i. (event_at p i).level == l + 1) (below (event_count p))) (below event_depth)

@@ -15,3 +15,4 @@ pub mod Guesses
 pub mod Known
 pub mod Words
 pub mod Links
+pub mod Rows

@@ -7,6 +7,7 @@ ghost use Rattle.morph_base.specs.Words.{value_of_word};
 use crate::limits::READS;
 use crate::list::List;
 use crate::operation::Op;
+use crate::rows::Rows;
 use crate::word::OpWord;
 
 /// Where a place of an operation gets its value.
@@ -95,7 +96,7 @@ pub struct Plan {
     /// By event, and then in operation order; the place of each is its number.
     pub ops: List<PlanOp>,
     /// For each operation those that read from it, rising, each once.
-    pub dependents: List<List<u32>>,
+    pub dependents: Rows,
     /// The operations of level 1, of level 2 and so on, each rising.
     pub op_levels: List<List<u32>>,
     /// The events of level 1, of level 2 and so on, each rising.

@@ -40,7 +40,7 @@ module _ (x : Txns) (is : IsTxns x) (p : Plan) (done : ArePlanned x (txn_op_coun
       let numbers = range_with_len (txn_at x i).first (txn_at x i).count in
       ap (flat_map sources_of) (sym (map-range_is p.ops.items (txn_at x i).first (txn_at x i).count no_plan_op (omega arith))) ∙ flat_map-map sources_of (planned p.ops.items) numbers ∙ ap (λ (e : TxnEvent). flat_map (origins_of p) (range_with_len e.first e.count)) (event_at_same x is p done events_done i)
 
-  pub graph_is : map (λ list. list.items) p.dependents.items ≡ readers_of p.ops.items → map (λ list. list.items) p.op_levels.items ≡ op_lists_of p.ops.items → map (λ list. list.items) p.event_levels.items ≡ event_lists_of p.events.items
+  pub graph_is : p.dependents ≡ readers_of p.ops.items → map (λ list. list.items) p.op_levels.items ≡ op_lists_of p.ops.items → map (λ list. list.items) p.event_levels.items ≡ event_lists_of p.events.items
       → p.edges.temporal ≡ targets_in p.ops.items → p.edges.parametric ≡ parameters_in p.ops.items → p.edges.logical ≡ logical_of p.events.items → IsGraph p
   graph_is dependents op_lists event_lists temporal parametric logical = record {
     op_level_is = λ o lt. (done.each o (omega (arith, ops_same x is p done events_done))).level_is;

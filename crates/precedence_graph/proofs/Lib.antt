@@ -2,6 +2,7 @@ pub mod EnterLemmas
 pub mod PlaceLemmas
 pub mod ListLemmas
 pub mod LinkLemmas
+pub mod PlacingLemmas
 pub mod GreatestLemmas
 pub mod ReadLemmas
 pub mod WriterLemmas

@@ -6,18 +6,14 @@ ghost use Rattle.precedence_graph.specs.Planned.{IsAmong, IsReady, planned, sour
 
 use crate::links::{Link, grouped};
 use crate::sources::used;
-use morph_base::{List, Origin, OutOfMemory, PlanOp};
+use morph_base::{List, Origin, OutOfMemory, PlanOp, Rows};
 use std::alloc::Global;
 
 /// For each operation those that read from it, rising, each once. So many of all places read from operations.
-pub fn dependents(
-    alloc: Global,
-    ops: &[PlanOp],
-    reads: usize,
-) -> Result<List<List<u32>>, OutOfMemory>
+pub fn dependents(alloc: Global, ops: &[PlanOp], reads: usize) -> Result<Rows, OutOfMemory>
     requires ready { All (IsReady (length ops.now)) ops.now }
     requires few { length ops.now < 2 ^ 32 }
-    ensures { IfOk result (λ lists. map (λ list. list.items) lists.items
+    ensures { IfOk result (λ rows. rows
         ≡ map (λ o. filter (λ t. list_any (is_written_by o) (sources_of (planned ops.now t)))
         (below (length ops.now)))
         (below (length ops.now))) }

@@ -81,25 +81,22 @@ module _ (p : Plan) (valid : IsPlan p) (k : ℕ) (lt : k < op_count p) where
 
 module _ (p : Plan) (graph : IsGraph p) where
   -- each operation has a list of dependents
-  pub many_lists : length p.dependents.items ≡ op_count p
+  pub many_lists : length p.dependents ≡ op_count p
   many_lists =
-      let a : length (map items_of p.dependents.items) ≡ length p.dependents.items = length-map p.dependents.items items_of in
-      let b : length (map items_of p.dependents.items) ≡ length (map (readers p) (below (op_count p))) = ap length graph.dependents_are in
+      let b : length p.dependents ≡ length (map (readers p) (below (op_count p))) = ap length graph.dependents_are in
       let c : length (map (readers p) (below (op_count p))) ≡ length (below (op_count p)) = length-map (below (op_count p)) (readers p) in
       let d : length (below (op_count p)) ≡ op_count p = length-range_with_len 0 (op_count p) in
       omega arith
 
-  pub readers_is : (o : ℕ) → o < op_count p → (l : Contents ℕ) → ((d : Contents ℕ) → l ≡ slice_index_or p.dependents.items o d) → (ops : List ℕ) → ops ≡ l.items → ops ≡ readers p o
-  readers_is o lt l at ops same =
+  pub readers_is : (o : ℕ) → o < op_count p → (ops : List ℕ) → ops ≡ slice_index_or p.dependents o [] → ops ≡ readers p o
+  readers_is o lt ops same =
       same
-      ∙ ap items_of (at l)
-      ∙ sym (get_or-map items_of p.dependents.items o l [] (subst (λ n. o < n) (sym many_lists) lt))
       ∙ ap (λ lists. get_or lists o []) graph.dependents_are
       ∙ get_or-map-range_with_len (readers p) 0 (op_count p) o o [] lt (zero-add o)
 
-  pub readers_inside : (o : ℕ) → o < op_count p → (l : Contents ℕ) → ((d : Contents ℕ) → l ≡ slice_index_or p.dependents.items o d) → (ops : List ℕ) → ops ≡ l.items → All (λ k. k < op_count p) ops
-  readers_inside o lt l at ops same =
-      subst (All (λ k. k < op_count p)) (sym (readers_is o lt l at ops same))
+  pub readers_inside : (o : ℕ) → o < op_count p → (ops : List ℕ) → ops ≡ slice_index_or p.dependents o [] → All (λ k. k < op_count p) ops
+  readers_inside o lt ops same =
+      subst (All (λ k. k < op_count p)) (sym (readers_is o lt ops same))
       (All-filter (reads_from p o) (λ k. k < op_count p) (below (op_count p)) (below_inside (op_count p)))
 
   -- each of them has the operation as a source, and each other one has not

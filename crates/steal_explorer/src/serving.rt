@@ -81,7 +81,7 @@ fn ask_all<T: Turns>(ground: &Ground<'_>, told: &T, turn: u64, member: &mut Memb
     ensures alone { IsHandingAlone ground.now.plan.now (readers ground.now.plan.now op) member.old
         → IsHandingAlone ground.now.plan.now [] member.new }
 {
-    let dependents = ground.plan.dependents.get(op as usize).as_slice();
+    let dependents = ground.plan.dependents.row(op as usize);
     for i in 0..dependents.len() {
         ask_one(ground, told, turn, member, dependents[i]);
     }

@@ -1,22 +1,19 @@
-use Rattle.std.proofs.Common.{arith, subst, sym, ap, ◌∙◌, ◌≡◌, ◌<◌, [], ℕ}
-use Rattle.morph_base.specs.Contents.{Contents}
+use Rattle.std.proofs.Common.{arith, subst, sym, ◌∙◌, ◌≡◌, ◌<◌}
 use Rattle.abort_eager.specs.Finding.{IsFirstReader}
 use Rattle.abort_eager.proofs.Searching.{many_lists, readers_are, readers_rise, one_more}
 use Rattle.abort_eager.proofs.finding.reader_from.Goals as goal
 
-pub get-requires : goal.get-requires
-get-requires c = subst (λ n. c.loop-op.op < n) (sym (many_lists _ c.requires.plan.graph)) (omega (arith, c.loop-op-test.true, c.requires.end))
+pub row-requires : goal.row-requires
+row-requires c = subst (λ n. c.loop-op.op < n) (sym (many_lists _ c.requires.plan.graph)) (omega (arith, c.loop-op-test.true, c.requires.end))
 
 pub first_at-requires : goal.first_at-requires
 first_at-requires c =
-    let none : Contents ℕ = record { items = []; room = 0 } in
-    let is = c.as_slice.ensures ∙ ap (λ (l : Contents ℕ). l.items) (c.get.ensures.at none) ∙ readers_are c.args.plan.now c.requires.plan.graph c.loop-op.op none (omega (arith, c.loop-op-test.true, c.requires.end)) in
+    let is = c.row.ensures ∙ readers_are c.args.plan.now c.requires.plan.graph c.loop-op.op (omega (arith, c.loop-op-test.true, c.requires.end)) in
     record { rising = readers_rise c.args.plan.now c.loop-op.op _ is }
 
 pub loop-op-preserved : goal.loop-op-preserved
 loop-op-preserved c =
-    let none : Contents ℕ = record { items = []; room = 0 } in
-    let is = c.as_slice.ensures ∙ ap (λ (l : Contents ℕ). l.items) (c.get.ensures.at none) ∙ readers_are c.args.plan.now c.requires.plan.graph c.loop-op.op none (omega (arith, c.loop-op-test.true, c.requires.end)) in
+    let is = c.row.ensures ∙ readers_are c.args.plan.now c.requires.plan.graph c.loop-op.op (omega (arith, c.loop-op-test.true, c.requires.end)) in
     one_more c.args.plan.now _ _ _ c.loop-op.auto.op _ is _ _ _ c.loop-op.invariant c.first_at.ensures.first c.lesser-least.ensures
 
 pub returns : goal.returns

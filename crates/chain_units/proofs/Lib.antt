@@ -3,3 +3,4 @@ pub mod Insertion
 pub mod Chaining
 pub mod Partition
 pub mod Entering
+pub mod Singles

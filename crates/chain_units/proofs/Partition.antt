@@ -1,11 +1,11 @@
 -- Each operation stands in exactly one unit.
-use Rattle.std.proofs.Common.{◌≡◌, ℕ, zero, suc, ◌+◌, ◌^◌, ◌<◌, ◌≤◌, Bool, true, false, cond, List, [], ◌∷◌, ◌++◌, length, get_or, map, filter, refl, sym, ◌∙◌, ap, subst, arith, Some, None, inl, inr}
+use Rattle.std.proofs.Common.{◌≡◌, ℕ, zero, suc, ◌+◌, ◌-◌, ◌^◌, ◌<◌, ◌≤◌, Bool, true, false, cond, List, [], ◌∷◌, length, get_or, take, drop, drop-cons, map, filter, refl, sym, ◌∙◌, ap, subst, arith, Some, None, inl, inr}
 use Rattle.std.specs.Prelude.{slice_get, Contains}
 use Rattle.std.specs.List.{All, Any, list_any}
 use Rattle.std.specs.List.Sorted.{IsStrictlySortedBy, IsStrictlyIncreasing}
 use Rattle.std.specs.declared.cmp.Ordering.TheVariants.{Less, Equal}
 use Rattle.std.proofs.lemmas.Bool.{cases_lt}
-use Rattle.std.proofs.lemmas.List.{get_or_past, get_or_default, get_or-map, length-map, map-append}
+use Rattle.std.proofs.lemmas.List.{get_or_past, get_or_default, get_or-map, length-map}
 use Rattle.std.proofs.lemmas.List.Sums.{length-filter, count_by-le-length}
 use Rattle.std.proofs.lemmas.List.FromFn.{length-range_with_len, get_or-range_with_len, length-map-range_with_len, get_or-map-range_with_len}
 use Rattle.std.proofs.lemmas.List.Elements.{All-filter, filter_passes}
@@ -18,10 +18,8 @@ use Rattle.morph_base.specs.declared.plan.Plan.{Plan}
 use Rattle.morph_base.specs.declared.strategy.Unit.{Unit as UnitKind}
 use Rattle.morph_base.specs.declared.strategy.Unit.TheVariants.{Op, Chain}
 use Rattle.morph_base.specs.Operations.{same_key, no_key}
-use Rattle.morph_base.specs.Contents.{Contents}
 use Rattle.morph_base.specs.Plans.{op_count, target}
 use Rattle.morph_base.specs.Graphs.{below}
-use Rattle.morph_base.proofs.LevelLaws.{below_more}
 use Rattle.morph_base.proofs.KeyLaws.{same_key-true, same_key-from}
 use Rattle.chain_units.specs.Chains.{key_cmp}
 use Rattle.chain_units.specs.Units.{chain, targets_in_order, units_of}
@@ -31,7 +29,7 @@ use Rattle.chain_units.proofs.Insertion.{ordered_rises, ordered_any, ordered_few
 
 -- ---- the numbers below n that pass a test
 
-below_at : (n i : ℕ) → i < n → get_or (below n) i 0 ≡ i
+pub below_at : (n i : ℕ) → i < n → get_or (below n) i 0 ≡ i
 below_at n i inside = get_or-range_with_len 0 n i 0 inside ∙ omega arith
 
 below_rises : (n : ℕ) → IsStrictlyIncreasing (below n)
@@ -110,7 +108,7 @@ module _ {X : Type 0} (f : X → List ℕ) (xs : List X) (d : X) where
 
 -- ---- single operations
 
-single_at : (n u i o : ℕ) → StandsAt (map (λ x. x ∷ []) (below n)) u i o → (o < n) × (u ≡ o) × (i ≡ 0)
+pub single_at : (n u i o : ℕ) → StandsAt (map (λ x. x ∷ []) (below n)) u i o → (o < n) × (u ≡ o) × (i ≡ 0)
 single_at n u i o is =
     let made = made_from (λ x. x ∷ []) (below n) 0 u i o is in
     let inside : u < n = omega (arith, made.0, length-range_with_len 0 n) in
@@ -120,9 +118,27 @@ single_at n u i o is =
     at_place zero inside here is' = let same : u ≡ o = cc in (omega arith, same, refl)
     at_place (suc k) inside here is' = absurd (cc)
 
+pub single_stands : (n o : ℕ) → o < n → StandsAt (map (λ x. x ∷ []) (below n)) o 0 o
+single_stands n o inside = made_at (λ x. x ∷ []) (below n) 0 o 0 o (omega (arith, length-range_with_len 0 n)) (ap Some (below_at n o inside))
+
+pub single_unit : (n u : ℕ) → u < n → u ∷ [] ≡ get_or (map (λ x. x ∷ []) (below n)) u []
+single_unit n u inside =
+    sym (get_or-map (λ x. x ∷ []) (below n) u 0 [] (omega (arith, length-range_with_len 0 n)) ∙ ap (λ x. x ∷ []) (below_at n u inside))
+
+-- one of these numbers, as a range of them
+pub one_below : (os all : List ℕ) (o : ℕ) → os ≡ all → all ≡ below (length all) → o < length all → take (o + 1 - o) (drop o os) ≡ o ∷ []
+one_below os all o same is inside =
+    let there : get_or all o 0 ≡ o = ap (λ xs. get_or xs o 0) is ∙ below_at (length all) o inside in
+    let first : drop o all ≡ get_or all o 0 ∷ drop (suc o) all = drop-cons all o 0 inside in
+    let one : o + 1 - o ≡ 1 = omega arith in
+    ap (λ k. take k (drop o os)) one ∙ ap (λ xs. take 1 (drop o xs)) same ∙ ap (take 1) first ∙ ap (λ x. x ∷ []) there
+
+pub single_count : (n : ℕ) → length (map (λ x. x ∷ []) (below n)) ≡ n
+single_count n = length-map-range_with_len (λ x. x ∷ []) 0 n
+
 singles_partition : (n : ℕ) → IsPartition (map (λ x. x ∷ []) (below n)) n
 singles_partition n = record {
-  all = λ o inside. (o, 0, made_at (λ x. x ∷ []) (below n) 0 o 0 o (omega (arith, length-range_with_len 0 n)) (ap Some (below_at n o inside)));
+  all = λ o inside. (o, 0, single_stands n o inside);
   inside = λ u i o is. (single_at n u i o is).0;
   alone = λ u v i j o is is'. ((single_at n u i o is).1 ∙ sym (single_at n v j o is').1, (single_at n u i o is).2 ∙ sym (single_at n v j o is').2);
 }
@@ -253,16 +269,6 @@ few_units p Chain small = record {
         (λ key. omega (arith, few_pass (tests p key) (below (op_count p)), length-range_with_len 0 (op_count p))) u,
   );
 }
-
--- ---- as they are made
-
-pub singles_more : (lists : List (Contents ℕ)) (one : Contents ℕ) (n : ℕ) → map (λ unit. unit.items) lists ≡ map (λ o. o ∷ []) (below n) → one.items ≡ n ∷ []
-    → map (λ unit. unit.items) (lists ++ one ∷ []) ≡ map (λ o. o ∷ []) (below (n + 1))
-singles_more lists one n so_far is =
-    map-append (λ (unit : Contents ℕ). unit.items) lists (one ∷ [])
-    ∙ ap (λ (units : List (List ℕ)). units ++ one.items ∷ []) so_far
-    ∙ ap (λ (unit : List ℕ). map (λ o. o ∷ []) (below n) ++ unit ∷ []) is
-    ∙ sym (ap (map (λ (o : ℕ). o ∷ [])) (below_more n) ∙ map-append (λ (o : ℕ). o ∷ []) (below n) (n ∷ []))
 
 pub same_partition : (units units' : List (List ℕ)) (n m : ℕ) → units ≡ units' → n ≡ m → IsPartition units' m → IsPartition units n
 same_partition units units' n m same same' is = subst (λ us. IsPartition us n) (sym same) (subst (IsPartition units') (sym same') is)

@@ -1,3 +1,4 @@
 pub mod Chains
 pub mod Units
 pub mod Places
+pub mod Cuts

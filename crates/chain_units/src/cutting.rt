@@ -1,11 +1,12 @@
-ghost use Rattle.std.specs.Prelude.{◌≡◌, ◌<◌, ◌≤◌, ◌^◌, [], ◌∷◌, length, map, IfOk};
-ghost use Rattle.morph_base.specs.Graphs.{below};
+ghost use Rattle.std.specs.Prelude.{◌≡◌, ◌<◌, ◌^◌, IfOk};
 ghost use Rattle.morph_base.specs.Plans.{op_count};
 ghost use Rattle.chain_units.specs.Units.{units_of};
 
+use crate::alone::Alone;
+use crate::chained::Chained;
 use crate::chains::chains;
 use crate::grouping::Units;
-use morph_base::{List, OutOfMemory, Plan, Unit};
+use morph_base::{OutOfMemory, Plan, Unit};
 use std::alloc::Global;
 
 /// The operations of a plan in units. A valid plan has fewer than the 2^32 that may be numbered.
@@ -19,20 +20,13 @@ pub fn units(alloc: Global, plan: &Plan, unit: Unit) -> Result<Units, OutOfMemor
 {
     let ops = plan.ops.len();
     match unit {
-        Unit::Op => Units::new(alloc, singles(alloc, ops)?, ops),
-        Unit::Chain => Units::new(alloc, chains(alloc, plan)?, ops),
+        Unit::Op => {
+            let ops = Alone::new(alloc, ops)?;
+            Ok(Units::alone(ops))
+        }
+        Unit::Chain => {
+            let units = Chained::new(alloc, chains(alloc, plan)?, ops)?;
+            Ok(Units::chained(units))
+        }
     }
-}
-
-/// Each of so many operations alone.
-fn singles(alloc: Global, ops: usize) -> Result<List<List<u32>>, OutOfMemory>
-    requires { ops ≤ 2 ^ 32 }
-    ensures { IfOk result
-        (λ units. map (λ unit. unit.items) units.items ≡ map (λ o. o ∷ []) (below ops)) }
-{
-    let mut units = List::with_room(alloc, ops)?;
-    for op in 0..ops {
-        units.add(List::from_slice(alloc, &[op as u32])?);
-    }
-    Ok(units)
 }

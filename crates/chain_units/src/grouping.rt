@@ -1,9 +1,9 @@
-ghost use Rattle.std.specs.Prelude.{◌≡◌, ℕ, ◌<◌, ◌↔◌, IsTrue, [], length, map, slice_index_or, IfOk};
-ghost use Rattle.chain_units.specs.Places.{StandsAt, IsPartition, AreFew};
+ghost use Rattle.std.specs.Prelude.{◌≡◌, ℕ, ◌<◌, ◌↔◌, IsTrue, [], length, slice_index_or};
+ghost use Rattle.chain_units.specs.Places.{StandsAt};
 
-use crate::places::{Place, places};
-use morph_base::{List, OutOfMemory};
-use std::alloc::Global;
+use crate::alone::Alone;
+use crate::chained::Chained;
+use crate::cut::Cut;
 use std::marker::Model;
 
 /// Operations in units, which contracts see as a list of lists.
@@ -11,50 +11,56 @@ use std::marker::Model;
 /// Units are numbered from 0, and so are the places of a unit.
 #[derive(Debug, Drop)]
 pub struct Units {
-    units: List<List<u32>>,
-    places: List<Place>,
+    cut: Cut,
 }
 
 impl Model for Units {
-    ghost use Rattle.std.specs.Prelude.{length, map};
-    ghost use Rattle.chain_units.specs.Places.{Grouping, IsIndexed};
+    ghost use Rattle.chain_units.specs.Places.{Grouping};
+    ghost use Rattle.chain_units.specs.Cuts.{grouping_of};
 
     ghost Value = { Grouping };
 
-    ghost view = { λ u. record
-        { units = map (λ unit. unit.items) u.units.items; ops = length u.places.items } };
-
-    ghost invariant = { λ u. IsIndexed (map (λ unit. unit.items) u.units.items) u.places.items };
+    ghost view = { λ units. grouping_of units.cut };
 }
 
 impl Units {
-    /// The units of so many operations, of which each is in exactly one.
-    pub(crate) fn new(
-        alloc: Global,
-        units: List<List<u32>>,
-        ops: usize,
-    ) -> Result<Self, OutOfMemory>
-        requires few { AreFew (map (λ unit. unit.items) units.items) }
-        requires partition { IsPartition (map (λ unit. unit.items) units.items) ops }
-        ensures units { IfOk result (λ made. made.units ≡ map (λ unit. unit.items) units.items) }
-        ensures ops { IfOk result (λ made. made.ops ≡ ops) }
+    ghost use Rattle.std.specs.Prelude.{map, ◌∷◌};
+    ghost use Rattle.morph_base.specs.Graphs.{below};
+
+    /// Each operation alone.
+    pub(crate) fn alone(ops: Alone) -> Self
+        ensures units { result.units ≡ map (λ o. o ∷ []) (below ops) }
+        ensures ops { result.ops ≡ ops }
     {
-        let places = places(alloc, &units, ops)?;
-        Ok(Units { units, places })
+        Units {
+            cut: Cut::Alone(ops),
+        }
+    }
+
+    /// Operations in these units.
+    pub(crate) fn chained(units: Chained) -> Self
+        ensures { result ≡ units }
+    {
+        Units {
+            cut: Cut::Chained(units),
+        }
     }
 
     /// The number of units.
     pub fn len(&self) -> u32
         ensures { result ≡ length self.now.units }
     {
-        self.units.len() as u32
+        match &self.cut {
+            Cut::Alone(ops) => ops.len(),
+            Cut::Chained(units) => units.len(),
+        }
     }
 
     /// Whether there is no unit.
     pub fn is_empty(&self) -> bool
         ensures { IsTrue result ↔ (self.now.units ≡ []) }
     {
-        self.units.is_empty()
+        self.len() == 0
     }
 
     /// The operations of unit `u`, by rising number.
@@ -62,7 +68,10 @@ impl Units {
         requires { u < length self.now.units }
         ensures { result.now ≡ slice_index_or self.now.units u [] }
     {
-        self.units.get(u as usize).as_slice()
+        match &self.cut {
+            Cut::Alone(ops) => ops.unit(u),
+            Cut::Chained(units) => units.ops(u),
+        }
     }
 
     /// The unit of an operation.
@@ -71,7 +80,10 @@ impl Units {
         ensures stands { (i : ℕ) × StandsAt self.now.units result i op }
         ensures alone { (u i : ℕ) → StandsAt self.now.units u i op → u ≡ result }
     {
-        self.places.get(op as usize).unit
+        match &self.cut {
+            Cut::Alone(_) => op,
+            Cut::Chained(units) => units.unit_of(op),
+        }
     }
 
     /// The place of an operation in its unit.
@@ -80,6 +92,9 @@ impl Units {
         ensures stands { (u : ℕ) × StandsAt self.now.units u result op }
         ensures alone { (u i : ℕ) → StandsAt self.now.units u i op → i ≡ result }
     {
-        self.places.get(op as usize).at
+        match &self.cut {
+            Cut::Alone(_) => 0,
+            Cut::Chained(units) => units.place_of(op),
+        }
     }
 }

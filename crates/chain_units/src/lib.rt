@@ -12,7 +12,10 @@
 //! Below stands `morph_base`, whose plans are cut.
 #![tactic(auto)]
 
+mod alone;
+mod chained;
 mod chains;
+mod cut;
 mod cutting;
 mod grouping;
 pub mod laws;

@@ -1,11 +1,8 @@
-use Rattle.std.proofs.Common.{ap}
-use Rattle.chain_units.specs.Places.{Grouping}
-use Rattle.chain_units.proofs.Entering.{stands_there}
+use Rattle.chain_units.proofs.Singles.{alone_at, alone_stands}
 use Rattle.chain_units.proofs.grouping.Units.unit_of.Goals as goal
 
-pub returns-clause-stands : goal.returns-clause-stands
-returns-clause-stands c = (
-  c.get.result.now.at,
-  stands_there _ c.args.self.now.units c.self.inside.places.items c.args.self.now.ops c.args.op c.get.result.now
-      (ap (λ (g : Grouping). g.units) c.self.view_is) (ap (λ (g : Grouping). g.ops) c.self.view_is) c.requires (c.get.ensures.at (record { unit = 0; at = 0 })) c.self.invariant,
-)
+pub returns-in-Alone-clause-stands : goal.returns-in-Alone-clause-stands
+returns-in-Alone-clause-stands c = (0, alone_stands c.self.inside.cut c.in-Alone.field-0 c.args.self.now c.in-Alone.is c.self.view_is c.args.op c.requires)
+
+pub returns-in-Alone-clause-alone : goal.returns-in-Alone-clause-alone
+returns-in-Alone-clause-alone c = λ u i stands. (alone_at c.self.inside.cut c.in-Alone.field-0 c.args.self.now c.in-Alone.is c.self.view_is u i c.args.op stands).1

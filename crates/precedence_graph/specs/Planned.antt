@@ -1,8 +1,9 @@
 -- What stands of a plan while it is made: operations and events over lists, and over the first of them.
-use Rattle.std.specs.Prelude.{◌≡◌, ℕ, ◌+◌, ◌-◌, ◌*◌, ◌≤◌, ◌<◌, List, ◌++◌, length, take, drop, map, replicate, All, count_by, sum_by, slice_index_or}
+use Rattle.std.specs.Prelude.{◌≡◌, ℕ, ◌+◌, ◌-◌, ◌*◌, ◌≤◌, ◌<◌, List, ◌++◌, length, take, drop, map, replicate, All, count_by, sum_by, slice_index_or, if◌then◌else◌}
 use Rattle.std.specs.List.{flat_map}
 use Rattle.morph_base.specs.declared.limits.TheConstants.{PARAMS, READS}
 use Rattle.morph_base.specs.declared.key.Key.{Key}
+use Rattle.morph_base.specs.declared.operation.Op.{Op}
 use Rattle.morph_base.specs.declared.plan.Origin.{Origin}
 use Rattle.morph_base.specs.declared.plan.Origin.TheVariants.{Base}
 use Rattle.morph_base.specs.declared.plan.PlanOp.{PlanOp}
@@ -16,6 +17,7 @@ use Rattle.txn_splitter.specs.declared.txns.TxnEvent.{TxnEvent}
 use Rattle.txn_splitter.specs.declared.txns.Txns.{Txns}
 use Rattle.txn_splitter.specs.Txns.{txn_op_count, txn_at, txn_op_at, txn_of, txn_target}
 use Rattle.precedence_graph.specs.declared.edges.Written.{Written}
+use Rattle.precedence_graph.specs.declared.sources.Reads.{Reads}
 use Rattle.precedence_graph.specs.declared.writers.Writers.{Writers}
 use Rattle.precedence_graph.specs.Writers.{entered_count, room_of, source_in, entered_level, entered_event_level}
 
@@ -85,6 +87,14 @@ pub record IsWrittenOf (ops : List PlanOp) (written : Written) : Type 0 where
   pub targets : written.targets ≡ targets_in ops
   pub parameters : written.parameters ≡ parameters_in ops
   pub few : written.parameters ≤ PARAMS * length ops
+
+-- what the sources of an operation come to: their greatest levels, and how many of them are operations
+pub record IsSumOf (writers : Writers) (op : Op) (r : Reads) : Type 0 where
+  pub level : r.level ≡ greatest (map (level_of (entered_level writers)) (map (source_in writers) (reads op)))
+  pub event_level : r.event_level ≡ greatest (map (level_of (entered_event_level writers)) (map (source_in writers) (reads op)))
+  pub target : r.target ≡ (if is_written (source_in writers op.key) then 1 else 0)
+  pub parameters : r.parameters ≡ count_by is_written (map (source_in writers) (drop 1 (reads op)))
+  pub few : r.parameters ≤ PARAMS
 
 -- the first n operations are planned, with levels of at most n
 pub record ArePlanned (x : Txns) (n : ℕ) (ops : List PlanOp) : Type 0 where

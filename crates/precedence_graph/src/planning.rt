@@ -1,14 +1,15 @@
-ghost use Rattle.std.specs.Prelude.{◌≡◌, ◌+◌, ◌<◌, length, map, take, IfOk};
+ghost use Rattle.std.specs.Prelude.{◌≡◌, ◌+◌, ◌^◌, ◌<◌, ◌++◌, [], ◌∷◌, length, map, take, IfOk};
 ghost use Rattle.morph_base.specs.Graphs.{greatest, level_of};
+ghost use Rattle.morph_base.specs.Operations.{reads, IsShaped};
 ghost use Rattle.txn_splitter.specs.Txns.{IsTxns, txn_count, txn_op_count, txn_at};
-ghost use Rattle.precedence_graph.specs.Planned.{HasWriters, HasLevels, HasEventLevels, IsWrittenOf, ArePlanned, AreEventsPlanned, event_sources_of, members_of};
-ghost use Rattle.precedence_graph.specs.Writers.{entered_event_level};
+ghost use Rattle.precedence_graph.specs.Planned.{HasWriters, HasLevels, HasEventLevels, IsWrittenOf, ArePlanned, AreEventsPlanned, IsSumOf, event_sources_of, members_of, padded};
+ghost use Rattle.precedence_graph.specs.Writers.{entered_level, entered_event_level, source_in};
 
 use crate::edges::Written;
-use crate::sources::sources;
+use crate::sources::{Reads, sources};
 use crate::transactions::event_at;
 use crate::writers::Writers;
-use morph_base::{List, OutOfMemory, PlanEvent, PlanOp};
+use morph_base::{List, Op, Origin, OutOfMemory, PlanEvent, PlanOp, READS};
 use std::alloc::Global;
 use txn_splitter::{TxnEvent, Txns};
 
@@ -83,20 +84,41 @@ fn plan_event_ops(
     let event = event_at(txns, i);
     let mut most: u32 = 0;
     for o in event.first..event.first + event.count {
-        let op = txns.ops.get(o as usize);
-        let reads = sources(op, writers);
-        let origins = reads.origins;
-        ops.add(PlanOp {
-            op: *op,
-            event: i as u32,
-            origins,
-            level: 1 + reads.level,
-        });
+        let reads = add_planned(ops, txns.ops.get(o as usize), i as u32, writers);
         most = most.max(reads.event_level);
         written.targets += u64::from(reads.target);
         written.parameters += u64::from(reads.parameters);
     }
     most
+}
+
+/// Appends an operation of an event with its sources and its level, and tells what its sources come to. They are put into its
+/// places where it stands, since it is large.
+fn add_planned(ops: &mut List<PlanOp>, op: &Op, event: u32, writers: &Writers) -> Reads
+    requires shaped { IsShaped op.now }
+    requires room { 0 < ops.old.room }
+    requires low { 1 + greatest (map (level_of (entered_level writers.now))
+        (map (source_in writers.now) (reads op.now))) < 2 ^ 32 }
+    ensures room { ops.old.room ≡ ops.new.room + 1 }
+    ensures items { ops.new.items ≡ ops.old.items ++ record {
+      op = op.now;
+      event = event;
+      origins = padded (map (source_in writers.now) (reads op.now));
+      level = 1 + result.level;
+    } ∷ [] }
+    ensures sums { IsSumOf writers.now op.now result }
+{
+    ops.add(PlanOp {
+        op: *op,
+        event,
+        origins: [Origin::Base(0); READS],
+        level: 0,
+    });
+    let last = ops.len() - 1;
+    let planned = ops.get_mut(last);
+    let reads = sources(op, writers, &mut planned.origins);
+    planned.level = 1 + reads.level;
+    reads
 }
 
 /// Enters the operations of event `i` as writers, each with its level and that of the event.

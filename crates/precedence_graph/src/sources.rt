@@ -1,19 +1,16 @@
-ghost use Rattle.std.specs.Prelude.{◌≡◌, ◌≤◌, length, drop, map, count_by, if◌then◌else◌};
-ghost use Rattle.morph_base.specs.declared.limits.TheConstants.{PARAMS, READS};
-ghost use Rattle.morph_base.specs.Graphs.{greatest, is_written, level_of};
+ghost use Rattle.std.specs.Prelude.{◌≡◌, length, map, replicate};
+ghost use Rattle.morph_base.specs.declared.limits.TheConstants.{READS};
 ghost use Rattle.morph_base.specs.Operations.{reads, IsShaped};
-ghost use Rattle.precedence_graph.specs.Planned.{padded, sources_of};
-ghost use Rattle.precedence_graph.specs.Writers.{source_in, entered_level, entered_event_level};
+ghost use Rattle.precedence_graph.specs.Planned.{IsSumOf, padded, sources_of};
+ghost use Rattle.precedence_graph.specs.Writers.{source_in};
 
 use crate::edges::written_count;
 use crate::writers::Writers;
 use morph_base::{Op, Origin, PlanOp, READS};
 
-/// Where an operation reads from.
+/// What the sources of an operation come to.
 #[derive(Clone, Copy, Debug, PartialEq, Eq)]
 pub struct Reads {
-    /// The source of each place, its target's first; the places that it does not use hold `Base(0)`.
-    pub origins: [Origin; READS],
     /// The greatest level of the operations among them, 0 where there is none.
     pub level: u32,
     /// The greatest level of the events of these operations.
@@ -24,23 +21,14 @@ pub struct Reads {
     pub parameters: u32,
 }
 
-/// The sources of an operation, where the operations of the events before its own are entered.
-pub fn sources(op: &Op, writers: &Writers) -> Reads
-    requires { IsShaped op.now }
-    ensures origins { result.origins ≡ padded (map (source_in writers.now) (reads op.now)) }
-    ensures level { result.level
-        ≡ greatest (map (level_of (entered_level writers.now))
-        (map (source_in writers.now) (reads op.now))) }
-    ensures event_level { result.event_level
-        ≡ greatest (map (level_of (entered_event_level writers.now))
-        (map (source_in writers.now) (reads op.now))) }
-    ensures target { result.target
-        ≡ (if is_written (source_in writers.now op.now.key) then 1 else 0) }
-    ensures parameters { result.parameters
-        ≡ count_by is_written (map (source_in writers.now) (drop 1 (reads op.now))) }
-    ensures few { result.parameters ≤ PARAMS }
+/// Puts the sources of an operation into their places, its target's first, where the operations of the events before its own
+/// are entered. The places that it does not use keep `Base(0)`.
+pub fn sources(op: &Op, writers: &Writers, origins: &mut [Origin; READS]) -> Reads
+    requires shaped { IsShaped op.now }
+    requires blank { origins.old ≡ replicate READS (Origin.Base 0) }
+    ensures origins { origins.new ≡ padded (map (source_in writers.now) (reads op.now)) }
+    ensures sums { IsSumOf writers.now op.now result }
 {
-    let mut origins = [Origin::Base(0); READS];
     let target = writers.source(op.key);
     origins[0] = target.origin;
     let mut level = target.level;
@@ -54,7 +42,6 @@ pub fn sources(op: &Op, writers: &Writers) -> Reads
         parameters += written_count(source.origin);
     }
     Reads {
-        origins,
         level,
         event_level,
         target: written_count(target.origin),

@@ -18,10 +18,10 @@ loop-j-preserved c =
     let key : Key = c.args.op.now.key in
     let params : List Key = c.args.op.now.params in
     let j : ℕ = c.loop-j.j in
-    let inside : j < length params = omega (arith, c.requires.held, c.loop-j-test.true) in
+    let inside : j < length params = omega (arith, c.requires.shaped.held, c.loop-j-test.true) in
     record {
       origins = ap (λ os. slice_set os (j + 1) c.source-source.result.origin) c.loop-j.invariant.origins
-          ∙ source_put find params (find key) c.source-source.result.origin _ PARAMS j (omega (arith, c.requires.places, c.loop-j-test.true)) inside c.source-source.ensures.origin;
+          ∙ source_put find params (find key) c.source-source.result.origin _ PARAMS j (omega (arith, c.requires.shaped.places, c.loop-j-test.true)) inside c.source-source.ensures.origin;
       level = c.max-level.ensures ∙ ap (λ n. max n c.source-source.result.level) c.loop-j.invariant.level
           ∙ ap (λ n. max (greatest (map of_op (map find (key ∷ take j params)))) n) c.source-source.ensures.level
           ∙ sym (greatest-read_more of_op find key params j _ inside);

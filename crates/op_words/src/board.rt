@@ -67,8 +67,9 @@ pub struct Hand {
 /// The operation that a hand holds, and the values that it fetched so far, of which there are `count`.
 #[derive(Clone, Copy, Debug, PartialEq, Eq)]
 pub(crate) struct Holding {
+    // The values stand first, so that no gap lies in front of them: it would be copied with them in pieces.
+    values: [u64; READS],
     op: u32,
     attempt: u8,
     count: u8,
-    values: [u64; READS],
 }

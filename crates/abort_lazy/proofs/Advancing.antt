@@ -16,20 +16,20 @@ use Rattle.op_words.specs.Rule.{of_counter, one}
 use Rattle.op_words.specs.Views.{IsTrailNoted}
 use Rattle.op_eval.specs.declared.runner.Runner.{Runner}
 use Rattle.op_eval.specs.Running.{hand_view}
+use Rattle.op_eval.proofs.Elements.{contains_first, contains_later, contains_none}
+use Rattle.op_eval.proofs.Turns.{in_turn_append}
 use Rattle.abort_lazy.specs.declared.run.sweeping.Call.{Call}
 use Rattle.abort_lazy.specs.declared.run.sweeping.Call.TheVariants.{Took, Tried}
-use Rattle.abort_lazy.specs.Sweeps.{IsThrough, Calls, Swept, AreSwept, IsEnough, FitsBoard, CanSweep, shared_from, tried_by, taken_by, weight_at}
+use Rattle.op_eval.specs.Turns.{IsEnough}
+use Rattle.worker_gate.specs.Sharing.{shared_from}
+use Rattle.abort_lazy.specs.Sweeps.{IsThrough, Calls, Calling, Swept, AreSwept, FitsBoard, CanSweep, tried_by, taken_by, weight_at}
 use Rattle.abort_lazy.specs.Runs.{Rising, HasTried, IsSettling, AreSettling, events_of, event_in}
 use Rattle.abort_lazy.proofs.Alone.{settled_alone}
 use Rattle.abort_lazy.proofs.Levelling.{level_is, next_room, events_inside, events_few}
 use Rattle.abort_lazy.proofs.Summing.{sum_more, below_same}
-use Rattle.abort_lazy.proofs.Trying.{contains_first, contains_later, contains_none, calls_free, calls_tag, calls_made, calls_room, calls_joined, calls_hold, calls_left}
+use Rattle.abort_lazy.proofs.Trying.{calls_free, calls_tag, calls_made, calls_room, calls_joined, calls_hold, calls_left}
 
 module _ (p : Plan) where
-  calls_append : (ds cs : List Call) (a m b : Runner) → Calls p cs a m → Calls p ds m b → Calls p (ds ++ cs) a b
-  calls_append [] cs a m b first second = subst (Calls p cs a) (sym second) first
-  calls_append (d ∷ ds) cs a m b first second = (second.0, calls_append ds cs a m second.0 first second.1, second.2)
-
   rising_append : (ds cs : List Call) → Rising p cs → Rising p ds → ((i j : ℕ) → Contains cs (Tried i) → Contains ds (Tried j) → (event_at p i).level ≤ (event_at p j).level) → Rising p (ds ++ cs)
   rising_append [] cs first second above = first
   rising_append (Took c n ∷ ds) cs first second above = rising_append ds cs first second (λ i j low high. above i j low (contains_later (Took c n) ds (Tried j) high))
@@ -117,7 +117,7 @@ module _ (p : Plan) (valid : IsPlan p) (graph : IsGraph p) (from level : ℕ) (l
     in_old x found = Contains-append_right swept.calls before.calls x found
 
     made_all : Calls p (swept.calls ++ before.calls) a b
-    made_all = calls_append p swept.calls before.calls a m b before.made swept.made
+    made_all = in_turn_append (Calling p) swept.calls before.calls a m b before.made swept.made
 
     rising_all : Rising p (swept.calls ++ before.calls)
     rising_all =

@@ -16,6 +16,7 @@ use Rattle.op_words.specs.Views.{IsLone, IsTrailNoted, IsSettledSeen, IsSourceSe
 use Rattle.op_words.proofs.Trailing.{calm_open}
 use Rattle.op_eval.specs.declared.runner.Runner.{Runner}
 use Rattle.op_eval.specs.Running.{hand_view}
+use Rattle.op_eval.proofs.Elements.{contains_first, contains_later, contains_cases, contains_none}
 use Rattle.abort_lazy.specs.declared.run.sweeping.Call.{Call}
 use Rattle.abort_lazy.specs.declared.run.sweeping.Call.TheVariants.{Took, Tried}
 use Rattle.abort_lazy.specs.declared.transaction.TxnAnswer.{TxnAnswer}
@@ -23,7 +24,7 @@ use Rattle.abort_lazy.specs.declared.transaction.TxnAnswer.TheVariants.{Settled 
 use Rattle.abort_lazy.specs.Transactions.{IsSettledOn, is_all_settled}
 use Rattle.abort_lazy.specs.Sweeps.{left_of, Calls}
 use Rattle.abort_lazy.proofs.Ending.{of_event}
-use Rattle.abort_lazy.proofs.Trying.{contains_first, contains_later, contains_cases, contains_none, calls_lone, calls_noted}
+use Rattle.abort_lazy.proofs.Trying.{calls_lone, calls_noted}
 
 -- ---- what is noted stays
 

@@ -10,6 +10,7 @@ use Rattle.op_words.specs.declared.board.Board.{Board}
 use Rattle.op_words.specs.Views.{IsLone, IsSettledSeen}
 use Rattle.op_eval.specs.declared.runner.Runner.{Runner}
 use Rattle.op_eval.specs.Running.{hand_view}
+use Rattle.op_eval.proofs.Elements.{contains_first, contains_later, contains_cases, contains_none}
 use Rattle.abort_lazy.specs.declared.run.sweeping.Call.{Call}
 use Rattle.abort_lazy.specs.declared.run.sweeping.Call.TheVariants.{Took, Tried}
 use Rattle.abort_lazy.specs.declared.transaction.TxnAnswer.{TxnAnswer}
@@ -20,7 +21,7 @@ use Rattle.abort_lazy.specs.Runs.{events_of, event_in, AreSettledUpTo, HasSettle
 use Rattle.abort_lazy.proofs.Carrying.{seen_more}
 use Rattle.abort_lazy.proofs.Levelling.{events_is, level_is, levels_len}
 use Rattle.abort_lazy.proofs.Summing.{below_has}
-use Rattle.abort_lazy.proofs.Trying.{contains_first, contains_later, contains_cases, contains_none, calls_lone, seen_taken, source_below}
+use Rattle.abort_lazy.proofs.Trying.{calls_lone, seen_taken, source_below}
 
 -- ---- each event of a level stands in its list
 

@@ -28,6 +28,7 @@ use Rattle.op_words.proofs.Tagging.{trail_alone, own_within, joined_within}
 use Rattle.op_eval.specs.declared.answers.Left.{Left}
 use Rattle.op_eval.specs.declared.runner.Runner.{Runner}
 use Rattle.op_eval.specs.Running.{hand_view}
+use Rattle.op_eval.proofs.Elements.{contains_first, contains_later, contains_cases, contains_none}
 use Rattle.abort_lazy.specs.declared.run.sweeping.Call.{Call}
 use Rattle.abort_lazy.specs.declared.run.sweeping.Call.TheVariants.{Took, Tried}
 use Rattle.abort_lazy.specs.declared.transaction.TxnAnswer.{TxnAnswer}
@@ -41,7 +42,7 @@ use Rattle.abort_lazy.proofs.Ending.{in_range}
 use Rattle.abort_lazy.proofs.Gathered.{root_seen, root_trail}
 use Rattle.abort_lazy.proofs.Once.{calls_made, made_of, tried_once}
 use Rattle.abort_lazy.proofs.Summing.{below_has, below_least, below_some, sum_map, sum_places}
-use Rattle.abort_lazy.proofs.Trying.{calls_tried, contains_cases, contains_first, contains_later, contains_none, seen_taken, source_below}
+use Rattle.abort_lazy.proofs.Trying.{calls_tried, seen_taken, source_below}
 
 -- ---- what calls keep
 

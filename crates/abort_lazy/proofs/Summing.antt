@@ -7,7 +7,7 @@ use Rattle.std.proofs.lemmas.List.Sums.{sum_by-cons, sum_by_push}
 use Rattle.morph_base.specs.Graphs.{below}
 use Rattle.morph_base.proofs.LevelLaws.{below_more}
 use Rattle.op_words.proofs.Sizes.{sum_below}
-use Rattle.abort_lazy.proofs.Trying.{contains_first, contains_later}
+use Rattle.op_eval.proofs.Elements.{contains_first, contains_later}
 
 module _ {A : Type 0} where
   pub sum_none : (xs : List A) → sum_by (λ x. 0) xs ≡ 0

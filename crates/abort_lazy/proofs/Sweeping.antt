@@ -16,10 +16,13 @@ use Rattle.op_words.specs.Views.{IsLone}
 use Rattle.op_eval.specs.declared.runner.Runner.{Runner}
 use Rattle.op_eval.specs.Exploring.{Unused}
 use Rattle.op_eval.specs.Running.{hand_view}
+use Rattle.op_eval.proofs.Elements.{contains_first, contains_later, contains_cases, contains_none}
 use Rattle.abort_lazy.specs.declared.run.sweeping.Call.{Call}
 use Rattle.abort_lazy.specs.declared.run.sweeping.Call.TheVariants.{Took, Tried}
-use Rattle.abort_lazy.specs.Sweeps.{HasTaken, HasTriedOne, Swept, IsThrough, HasSwept, AreSwept, IsSweeping, CanSweep, shared_from, tried_by, taken_by, weight_at}
-use Rattle.abort_lazy.proofs.Trying.{contains_first, contains_later, contains_cases, contains_none, calls_lone}
+use Rattle.op_eval.specs.Turns.{TakesNumber}
+use Rattle.worker_gate.specs.Sharing.{shared_from}
+use Rattle.abort_lazy.specs.Sweeps.{HasTriedOne, Swept, IsThrough, HasSwept, AreSwept, IsSweeping, CanSweep, tried_by, taken_by, weight_at}
+use Rattle.abort_lazy.proofs.Trying.{calls_lone}
 
 times_one : (c n : ℕ) → times c (place c n ∷ []) ≡ 1
 times_one c n = ap (λ t. 0 + cond t 1 0) (eq-eqb c c refl)
@@ -70,7 +73,7 @@ swept_none p c events a unused = record {
 pub sweeping_none : (b : Board) (p : Plan) (c : ℕ) (events : List ℕ) (a : Runner) → IsHandOf b a.hand → Unused c a → IsSweeping b p c events 0 a a
 sweeping_none b p c events a hand unused = record { hand = hand; swept = swept_none p c events a unused; turns = unused; last = inl refl; room = omega arith }
 
-module _ (b : Board) (p : Plan) (c : ℕ) (events : List ℕ) (a : Runner) (turn n : ℕ) (m r : Runner) (sweeping : IsSweeping b p c events turn a m) (taken : HasTaken c n m r) where
+module _ (b : Board) (p : Plan) (c : ℕ) (events : List ℕ) (a : Runner) (turn n : ℕ) (m r : Runner) (sweeping : IsSweeping b p c events turn a m) (taken : TakesNumber c n m r) where
   above : turn ≤ n
   above =
       elim sweeping.last [
@@ -220,10 +223,10 @@ first_alone b p c events rs x y some is can few has = record {
 }
 
 -- what a number that was taken leaves as it was
-pub taken_free : (c n : ℕ) (a b : Runner) → HasTaken c n a b → (hand_view a).claim ≡ None → (hand_view b).claim ≡ None
+pub taken_free : (c n : ℕ) (a b : Runner) → TakesNumber c n a b → (hand_view a).claim ≡ None → (hand_view b).claim ≡ None
 taken_free c n a b taken free = ap (λ (v : View). v.claim) taken.view ∙ free
 
-pub taken_room : (c n : ℕ) (a b : Runner) → HasTaken c n a b → b.kept.room ≡ a.kept.room
+pub taken_room : (c n : ℕ) (a b : Runner) → TakesNumber c n a b → b.kept.room ≡ a.kept.room
 taken_room c n a b taken = ap (λ l. l.room) taken.kept
 
 -- all took part

@@ -1,5 +1,5 @@
 -- What calls in turn keep of a runner, and why what it left stays true.
-use Rattle.std.proofs.Common.{◌≡◌, ◌⊎◌, ℕ, zero, suc, ◌<◌, ◌≤◌, true, false, List, [], ◌∷◌, ◌++◌, length, get_or, refl, sym, ap, ◌∙◌, subst, inl, inr, arith, None, zero-lt-suc, suc-le-suc}
+use Rattle.std.proofs.Common.{◌≡◌, ℕ, ◌<◌, ◌≤◌, true, false, List, [], ◌∷◌, ◌++◌, sym, ap, ◌∙◌, subst, inl, inr, arith, None}
 use Rattle.std.specs.Prelude.{Contains}
 use Rattle.std.proofs.lemmas.Bool.{false≢true}
 use Rattle.std.proofs.lemmas.List.Elements.{Contains-append_left, Contains-append_right, Contains-append_cases}
@@ -20,38 +20,20 @@ use Rattle.op_words.proofs.Trailing.{disturbed_more, disturbed_later}
 use Rattle.op_eval.specs.declared.answers.Left.{Left}
 use Rattle.op_eval.specs.declared.runner.Runner.{Runner}
 use Rattle.op_eval.specs.Running.{hand_view}
+use Rattle.op_eval.proofs.Elements.{contains_first, contains_later, contains_cases, contains_none}
 use Rattle.abort_lazy.specs.declared.run.sweeping.Call.{Call}
 use Rattle.abort_lazy.specs.declared.run.sweeping.Call.TheVariants.{Took, Tried}
 use Rattle.abort_lazy.specs.declared.transaction.TxnAnswer.{TxnAnswer}
 use Rattle.abort_lazy.specs.declared.transaction.TxnAnswer.TheVariants.{Settled as AllSettled, NotYet, Busy}
 use Rattle.abort_lazy.specs.Transactions.{TxnDoes, IsSourceCause}
-use Rattle.abort_lazy.specs.Sweeps.{left_of, Calls, HasTaken}
+use Rattle.op_eval.specs.Turns.{TakesNumber}
+use Rattle.abort_lazy.specs.Sweeps.{left_of, Calls}
 use Rattle.abort_lazy.specs.Runs.{IsLeft, IsLeftBySource, Rising}
 use Rattle.abort_lazy.proofs.Carrying.{load_is_settled}
 use Rattle.abort_lazy.proofs.Ending.{in_range, of_event}
 
-pub contains_first : {X : Type 0} (x : X) (xs : List X) → Contains (x ∷ xs) x
-contains_first x xs = (0, zero-lt-suc (length xs), refl)
-
-pub contains_later : {X : Type 0} (y : X) (xs : List X) (x : X) → Contains xs x → Contains (y ∷ xs) x
-contains_later y xs x found = (suc found.0, suc-le-suc found.1, found.2)
-
--- an element of a list is the first one or one of the others
-pub contains_cases : {X : Type 0} (y : X) (xs : List X) (x : X) → Contains (y ∷ xs) x → (x ≡ y) ⊎ Contains xs x
-contains_cases y xs x inside = at inside.0 inside.1 inside.2
-  where
-    at : (n : ℕ) → n < length (y ∷ xs) → get_or (y ∷ xs) n x ≡ x → (x ≡ y) ⊎ Contains xs x
-    at zero lt is = inl (sym is)
-    at (suc n) lt is = inr (n, lt-from n lt, is)
-      where
-        lt-from : (j : ℕ) → suc j < suc (length xs) → j < length xs
-        lt-from j less = omega arith
-
-pub contains_none : {X : Type 0} (x : X) → Contains [] x → ⊥
-contains_none x found = absurd (omega (arith, found.1))
-
 -- what was seen settled before a number was taken is so after it
-pub seen_taken : (c n o : ℕ) (a b : Runner) → HasTaken c n a b → IsSettledSeen (hand_view a) o → IsSettledSeen (hand_view b) o
+pub seen_taken : (c n o : ℕ) (a b : Runner) → TakesNumber c n a b → IsSettledSeen (hand_view a) o → IsSettledSeen (hand_view b) o
 seen_taken c n o a b taken seen =
     record { note = seen.note; inside = subst (λ (v : View). Contains v.notes seen.note) (sym taken.view) seen.inside; op_is = seen.op_is; settled = seen.settled }
 

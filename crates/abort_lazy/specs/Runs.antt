@@ -22,7 +22,9 @@ use Rattle.op_eval.specs.Running.{hand_view}
 use Rattle.abort_lazy.specs.declared.run.SettledRun.{SettledRun}
 use Rattle.abort_lazy.specs.declared.run.sweeping.Call.{Call}
 use Rattle.abort_lazy.specs.declared.run.sweeping.Call.TheVariants.{Took, Tried}
-use Rattle.abort_lazy.specs.Sweeps.{Calls, IsEnough, shared_from, tried_by, taken_by, weight_at}
+use Rattle.op_eval.specs.Turns.{IsEnough}
+use Rattle.worker_gate.specs.Sharing.{shared_from}
+use Rattle.abort_lazy.specs.Sweeps.{Calls, tried_by, taken_by, weight_at}
 
 -- ---- why an event was left, over the whole trail of the hand that tried it
 

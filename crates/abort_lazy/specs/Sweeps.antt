@@ -3,7 +3,7 @@ use Rattle.std.specs.Prelude.{◌≡◌, ℕ, ◌+◌, ◌<◌, ◌≤◌, ◌�
 use Rattle.morph_base.specs.declared.plan.Plan.{Plan}
 use Rattle.morph_base.specs.Plans.{event_at, event_count}
 use Rattle.op_words.specs.declared.board.Board.{Board}
-use Rattle.op_words.specs.Counting.{place, taking, times, Takes}
+use Rattle.op_words.specs.Counting.{place, times}
 use Rattle.op_words.specs.Hands.{plan_of, counters_of, IsHandOf}
 use Rattle.op_words.specs.Views.{IsLone}
 use Rattle.op_eval.specs.declared.answers.Evaluation.{Evaluation}
@@ -11,18 +11,13 @@ use Rattle.op_eval.specs.declared.answers.Left.{Left}
 use Rattle.op_eval.specs.declared.runner.Runner.{Runner}
 use Rattle.op_eval.specs.Exploring.{Unused}
 use Rattle.op_eval.specs.Running.{hand_view}
+use Rattle.op_eval.specs.Turns.{InTurn, IsEnough, TakesNumber}
+use Rattle.worker_gate.specs.Sharing.{shared_from}
 use Rattle.abort_lazy.specs.declared.run.sweeping.Call.{Call}
 use Rattle.abort_lazy.specs.declared.run.sweeping.Call.TheVariants.{Took, Tried}
 use Rattle.abort_lazy.specs.declared.transaction.TxnAnswer.{TxnAnswer}
 use Rattle.abort_lazy.specs.declared.transaction.TxnAnswer.TheVariants.{Settled as AllSettled, NotYet, Busy}
 use Rattle.abort_lazy.specs.Transactions.{TxnDoes, counted_all}
-
--- the runner took number n from the counter, and nothing else changed
-pub record HasTaken (c n : ℕ) (a b : Runner) : Type 0 where
-  pub view : hand_view b ≡ taking c n (hand_view a)
-  pub takes : Takes c n (hand_view a)
-  pub answers : b.answers ≡ a.answers
-  pub kept : b.kept ≡ a.kept
 
 -- what is kept of an answer
 abbrev pub left_of : ℕ → TxnAnswer → List Left
@@ -40,14 +35,13 @@ pub record HasTriedOne (p : Plan) (i : ℕ) (a b : Runner) : Type 0 where
   pub kept : b.kept.items ≡ a.kept.items ++ left_of i answer
   pub room : a.kept.room ≤ b.kept.room + 1
 
--- one call; and calls one after another, the last first
+-- one call; and calls in turn, the last first
 abbrev pub Calling : Plan → Call → Runner → Runner → Type 0
-Calling p (Took c n) a b = HasTaken c n a b
+Calling p (Took c n) a b = TakesNumber c n a b
 Calling p (Tried i) a b = (i < event_count p) × HasTriedOne p i a b
 
 abbrev pub Calls : Plan → List Call → Runner → Runner → Type 0
-Calls p [] a b = b ≡ a
-Calls p (c ∷ cs) a b = (m : Runner) × Calls p cs a m × Calling p c m b
+Calls p = InTurn (Calling p)
 
 -- the weight of the event that a call tried, and of the number that it took from counter c
 abbrev pub tried_by : (ℕ → ℕ) → Call → ℕ
@@ -89,11 +83,7 @@ pub record Swept (p : Plan) (c : ℕ) (events : List ℕ) (a b : Runner) : Type 
   -- a lone root takes the numbers from 0 on
   pub whole : IsLone (hand_view a) → (n : ℕ) → n < times c (hand_view b).places → Contains calls (Took c n)
 
--- the runner saw the counter at or past the last of so many numbers
-abbrev pub IsEnough : ℕ → ℕ → Runner → Type 0
-IsEnough c many r = (many ≡ 0) ⊎ ((n : ℕ) × Contains (hand_view r).places (place c n) × (many ≤ n + 1))
-
--- it did so; a lone root took as many numbers
+-- the runner saw the counter at or past the last event; a lone root took as many numbers as there are events
 pub record IsThrough (c : ℕ) (events : List ℕ) (a b : Runner) : Type 0 where
   pub enough : IsEnough c (length events) b
   pub alone : IsLone (hand_view a) → length events ≤ times c (hand_view b).places
@@ -102,10 +92,6 @@ pub record HasSwept (b : Board) (p : Plan) (c : ℕ) (events : List ℕ) (before
   pub hand : IsHandOf b after.hand
   pub swept : Swept p c events before after
   pub through : IsThrough c events before after
-
--- all runners share a level of so many events; the first one goes over one of fewer alone
-abbrev pub shared_from : ℕ
-shared_from = 8
 
 -- all runners took part or none but the first, and one of them saw the counter at the end, or each of them where they share the level
 pub record AreSwept (b : Board) (p : Plan) (c : ℕ) (events : List ℕ) (before after : List Runner) : Type 0 where

@@ -15,7 +15,6 @@ use op_words::{Board, Closed};
 use std::thread::Threads;
 
 mod sweeping;
-mod taking;
 
 use sweeping::{Sweep, sweep_by};
 

@@ -23,6 +23,7 @@ use Rattle.op_words.proofs.Trailing.{reached_more}
 use Rattle.op_eval.specs.declared.runner.Runner.{Runner}
 use Rattle.op_eval.specs.Gathering.{gathered}
 use Rattle.op_eval.specs.Running.{hand_view}
+use Rattle.op_eval.proofs.Elements.{contains_first, contains_later}
 use Rattle.strata_explorer.specs.Levels.{ops_of, op_of, level_of, AreStrata, IsWhole}
 use Rattle.strata_explorer.proofs.Climbing.{union}
 use Rattle.abort_lazy.specs.declared.run.sweeping.Call.{Call}
@@ -32,7 +33,7 @@ use Rattle.abort_lazy.specs.Sweeps.{Calls}
 use Rattle.abort_lazy.proofs.Gathered.{gathered_has, gathered_tag, gathered_trail}
 use Rattle.abort_lazy.proofs.Summing.{below_has, below_some, sum_places}
 use Rattle.abort_lazy.proofs.Taking.{weights_of, root_taken, taken_below}
-use Rattle.abort_lazy.proofs.Trying.{contains_first, contains_later, calls_hold}
+use Rattle.abort_lazy.proofs.Trying.{calls_hold}
 use Rattle.morph_engine.specs.Runs.{HasHand, IsPlaceReached, IsItemReached}
 
 -- ---- while events are tried

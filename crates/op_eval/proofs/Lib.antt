@@ -6,3 +6,5 @@ pub mod Further
 pub mod Alone
 pub mod Totals
 pub mod Showing
+pub mod Turns
+pub mod Elements

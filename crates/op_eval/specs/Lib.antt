@@ -5,3 +5,4 @@ pub mod Lending
 pub mod Exploring
 pub mod Further
 pub mod Alone
+pub mod Turns

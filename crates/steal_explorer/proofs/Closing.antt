@@ -29,6 +29,7 @@ use Rattle.steal_explorer.specs.declared.exploring.Handed.{Handed}
 use Rattle.steal_explorer.specs.declared.members.Ground.{Ground}
 use Rattle.steal_explorer.specs.declared.members.Member.{Member}
 use Rattle.op_eval.specs.Further.{AreFurther}
+use Rattle.op_eval.proofs.Elements.{contains_first, contains_later}
 use Rattle.steal_explorer.specs.Calls.{Call, Calls}
 use Rattle.steal_explorer.specs.Draining.{in_plan}
 use Rattle.steal_explorer.specs.Handed.{workers_of, pushed_by, stolen_from, taken_from, left_in, AreReached, AreAnswered}
@@ -40,7 +41,6 @@ use Rattle.steal_explorer.specs.Handing.{log, one}
 use Rattle.steal_explorer.specs.Members.{Thief, own, tickets_of, AreSeated, IsIdle}
 use Rattle.steal_explorer.specs.Seating.{runner_of, seat_of, IsSeat, AreReady, AreSeatedBy}
 use Rattle.steal_explorer.proofs.Further.{calls_further}
-use Rattle.steal_explorer.proofs.Going.{contains_first, contains_later}
 use Rattle.steal_explorer.proofs.Telling.{is_op}
 use Rattle.steal_explorer.proofs.Counting.{each_once}
 use Rattle.steal_explorer.proofs.Starting.{starts, single_sum}

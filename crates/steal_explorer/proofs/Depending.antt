@@ -3,7 +3,7 @@ use Rattle.std.proofs.Common.{◌≡◌, ℕ, ◌+◌, ◌<◌, Bool, true, fals
 use Rattle.std.specs.Prelude.{All, Contains, slice_index_or}
 use Rattle.std.proofs.lemmas.Bool.{false≢true, eq-eqb, cases_eq, ne_eqb}
 use Rattle.std.proofs.lemmas.List.Folds.{Any-from_list_any, list_any_at}
-use Rattle.std.proofs.lemmas.List.{length-map, length-take-le, get_or-map, get_or-take, get_or_default}
+use Rattle.std.proofs.lemmas.List.{length-map, length-take-le, get_or-take, get_or_default}
 use Rattle.std.proofs.lemmas.List.Elements.{All-filter, filter_passes}
 use Rattle.std.proofs.lemmas.List.FromFn.{length-range_with_len, get_or-range_with_len, get_or-map-range_with_len}
 use Rattle.morph_base.specs.Contents.{Contents}
@@ -15,8 +15,7 @@ use Rattle.morph_base.specs.Plans.{IsPlan, op_at, op_count, keys_of, origins_of}
 use Rattle.morph_base.proofs.OutcomeLaws.{keys_fit}
 use Rattle.op_words.specs.Trails.{IsSourceOf}
 use Rattle.steal_explorer.specs.Alone.{readers}
-use Rattle.steal_explorer.proofs.Going.{contains_first, contains_later}
-use Rattle.steal_explorer.proofs.Telling.{contains_cases}
+use Rattle.op_eval.proofs.Elements.{contains_first, contains_later, contains_cases}
 
 abbrev items_of : Contents ℕ → List ℕ
 items_of l = l.items

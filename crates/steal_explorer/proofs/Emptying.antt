@@ -12,15 +12,16 @@ use Rattle.morph_base.specs.declared.strategy.Abort.{Abort}
 use Rattle.morph_base.specs.Plans.{op_count}
 use Rattle.op_words.specs.declared.board.Board.{Board}
 use Rattle.op_eval.specs.declared.runner.Runner.{Runner}
+use Rattle.op_eval.proofs.Elements.{contains_cases}
+use Rattle.op_eval.proofs.Turns.{in_turn_append}
 use Rattle.steal_explorer.specs.declared.handing.Log.{Log}
 use Rattle.steal_explorer.specs.declared.members.Member.{Member}
-use Rattle.steal_explorer.specs.Calls.{Call, Tried, is_tried, Calls}
+use Rattle.steal_explorer.specs.Calls.{Call, Tried, is_tried, Calls, Calling}
 use Rattle.steal_explorer.specs.Draining.{in_plan, IsLeft, WalkedKnown, IsCleared, IsEmptied}
 use Rattle.steal_explorer.specs.Handing.{whole, log, parts_of, got, spare, came, gone, one, WasEmpty, MayTake}
 use Rattle.steal_explorer.specs.Members.{Owner, own, IsIdle}
-use Rattle.steal_explorer.proofs.Going.{calls_append}
 use Rattle.steal_explorer.proofs.Holds.{evens}
-use Rattle.steal_explorer.proofs.Telling.{contains_cases, count_both, one_tried, few, no_op}
+use Rattle.steal_explorer.proofs.Telling.{count_both, one_tried, few, no_op}
 
 -- how many items its deque still holds, as the owner of all parts knows
 abbrev pub to_go : Member → ℕ
@@ -127,7 +128,7 @@ module _ (p : Plan) (cap : ℕ) (a m : Member) (is : IsClearing p cap a m) (o : 
           ∙ ap (λ v. got v (x ∷ [])) is.popped
           ∙ ap (λ l. log (own a).parts (own a).pushed l (own a).stolen (own a).left) (append_assoc (own a).popped is.items (x ∷ []));
       calls = cs ++ is.calls;
-      made = calls_append p cap cs is.calls a.runner m.runner r is.made made;
+      made = in_turn_append (Calling p cap) cs is.calls a.runner m.runner r is.made made;
       tried = λ y found lt.
           elim (Contains-append_cases is.items (x ∷ []) y found) [
             | inl old ↦ Contains-append_right cs is.calls (Tried y) (is.tried y old lt)

@@ -1,6 +1,6 @@
 -- Calls in turn, and what they and pushes make of a worker.
-use Rattle.std.proofs.Common.{◌≡◌, ℕ, zero, suc, ◌+◌, ◌<◌, false, List, [], ◌∷◌, ◌++◌, length, get_or, refl, sym, ap, ◌∙◌, subst, arith, append_assoc, zero-lt-suc, suc-le-suc}
-use Rattle.std.specs.Prelude.{All, Contains, Some, slice_get, slice_index_or}
+use Rattle.std.proofs.Common.{◌≡◌, ℕ, zero, suc, ◌+◌, ◌<◌, false, List, [], ◌∷◌, ◌++◌, length, get_or, refl, sym, ap, ◌∙◌, subst, arith, append_assoc}
+use Rattle.std.specs.Prelude.{All, Some, slice_get, slice_index_or}
 use Rattle.std.proofs.lemmas.Option.{slice_get-get_or}
 use Rattle.std.proofs.lemmas.List.Elements.{All-append, Contains-append_right}
 use Rattle.chain_units.specs.Places.{IsPartition}
@@ -14,19 +14,15 @@ use Rattle.op_words.specs.declared.answers.Readied.{Readied}
 use Rattle.op_eval.specs.declared.answers.Evaluation.{Evaluation}
 use Rattle.op_eval.specs.declared.runner.Runner.{Runner}
 use Rattle.op_eval.specs.Evaluations.{Tries}
+use Rattle.op_eval.proofs.Elements.{contains_first, contains_later}
+use Rattle.op_eval.proofs.Turns.{in_turn_append}
 use Rattle.steal_explorer.specs.declared.handing.Log.{Log}
 use Rattle.steal_explorer.specs.declared.members.Member.{Member}
 use Rattle.abort_eager.specs.Sweeps.{cascade_for, Sweeps}
-use Rattle.steal_explorer.specs.Calls.{Call, Asked, Tried, is_asked, is_swept, NoneSwept, Asks, Calls, GoesQuietly, TriesQuietly, Walked}
+use Rattle.steal_explorer.specs.Calls.{Call, Asked, Tried, is_asked, is_swept, NoneSwept, Asks, Calls, Calling, GoesQuietly, TriesQuietly, Walked}
 use Rattle.steal_explorer.specs.Handing.{log, one, parts_of, put}
 use Rattle.steal_explorer.specs.Members.{Owner, Thief, Ticket, own, stolen_by, AreSeated, HasTickets}
 use Rattle.steal_explorer.specs.Serving.{Goes, TouchesFor, Visits, Serves}
-
-pub contains_first : {X : Type 0} (x : X) (xs : List X) → Contains (x ∷ xs) x
-contains_first x xs = (0, zero-lt-suc (length xs), refl)
-
-pub contains_later : {X : Type 0} (y : X) (xs : List X) (x : X) → Contains xs x → Contains (y ∷ xs) x
-contains_later y xs x found = (suc found.0, suc-le-suc found.1, found.2)
 
 -- an operation of a unit is one of the plan's
 pub unit_inside : (units : List (List ℕ)) (many : ℕ) → IsPartition units many → (u : ℕ) (ops : List ℕ) → ops ≡ slice_index_or units u [] → (i : ℕ) → i < length ops → get_or ops i 0 < many
@@ -34,10 +30,6 @@ unit_inside units many partition u ops same i lt =
     partition.inside u i (get_or ops i 0) (subst (λ zs. slice_get zs i ≡ Some (get_or ops i 0)) same (slice_get-get_or ops i 0 lt))
 
 -- ---- calls
-
-pub calls_append : (p : Plan) (cap : ℕ) (ds cs : List Call) (a m b : Runner) → Calls p cap cs a m → Calls p cap ds m b → Calls p cap (ds ++ cs) a b
-calls_append p cap [] cs a m b first second = subst (Calls p cap cs a) (sym second) first
-calls_append p cap (d ∷ ds) cs a m b first second = (second.0, calls_append p cap ds cs a m second.0 first second.1, second.2)
 
 -- nothing was called, and one call more
 pub lazy_none : (abort : Abort) → NoneSwept abort []
@@ -61,7 +53,7 @@ module _ (p : Plan) (cap : ℕ) (abort : Abort) where
     attempts = (m, tries, sweeps);
     quiet = record {
       calls = quiet.calls ++ Tried o ∷ [];
-      made = calls_append p cap quiet.calls (Tried o ∷ []) a m b (a, refl, (r, tries)) quiet.made;
+      made = in_turn_append (Calling p cap) quiet.calls (Tried o ∷ []) a m b (a, refl, (r, tries)) quiet.made;
       only = All-append (λ c. is_asked c ≡ false) quiet.calls (Tried o ∷ []) quiet.only one;
       lazy = lazy_both abort quiet.calls (Tried o ∷ []) quiet.lazy (lazy_one abort (Tried o) refl);
     };
@@ -75,7 +67,7 @@ module _ (p : Plan) (cap : ℕ) (abort : Abort) where
   pub walked_first : (o : ℕ) {a b : Runner} {r : Evaluation} → TriesQuietly p cap abort o a b r → Walked p cap abort o a b
   walked_first o {a} {b} {r} tries = record {
     ops = o ∷ [];
-    attempts = (a, r, refl, tries.attempts);
+    attempts = (a, refl, (r, tries.attempts));
     first = contains_first o [];
     calls = tries.quiet.calls;
     made = tries.quiet.made;
@@ -87,10 +79,10 @@ module _ (p : Plan) (cap : ℕ) (abort : Abort) where
   pub walked_more : (o q : ℕ) {a m b : Runner} {r : Evaluation} → Walked p cap abort o a m → TriesQuietly p cap abort q m b r → Walked p cap abort o a b
   walked_more o q {a} {m} {b} {r} walked tries = record {
     ops = q ∷ walked.ops;
-    attempts = (m, r, walked.attempts, tries.attempts);
+    attempts = (m, walked.attempts, (r, tries.attempts));
     first = contains_later q walked.ops o walked.first;
     calls = tries.quiet.calls ++ walked.calls;
-    made = calls_append p cap tries.quiet.calls walked.calls a m b walked.made tries.quiet.made;
+    made = in_turn_append (Calling p cap) tries.quiet.calls walked.calls a m b walked.made tries.quiet.made;
     tried = Contains-append_right tries.quiet.calls walked.calls (Tried o) walked.tried;
     only = All-append (λ c. is_asked c ≡ false) tries.quiet.calls walked.calls tries.quiet.only walked.only;
     lazy = lazy_both abort tries.quiet.calls walked.calls tries.quiet.lazy walked.lazy;
@@ -123,7 +115,7 @@ module _ (p : Plan) (cap : ℕ) (abort : Abort) where
     end = second.end ∙ first.end;
     deque = second.deque ∙ first.deque;
     calls = second.calls ++ first.calls;
-    made = calls_append p cap second.calls first.calls a.runner m.runner b.runner first.made second.made;
+    made = in_turn_append (Calling p cap) second.calls first.calls a.runner m.runner b.runner first.made second.made;
     lazy = lazy_both abort second.calls first.calls second.lazy first.lazy;
     pushed = first.pushed ++ second.pushed;
     puts =

@@ -15,13 +15,15 @@ use Rattle.op_eval.specs.declared.explored.RunEnd.TheVariants.{Whole, Drained, S
 use Rattle.op_eval.specs.declared.runner.Runner.{Runner}
 use Rattle.op_eval.specs.Exploring.{total}
 use Rattle.op_eval.specs.Running.{hand_view}
+use Rattle.op_eval.proofs.Elements.{contains_first, contains_later}
+use Rattle.op_eval.proofs.Turns.{in_turn_append}
 use Rattle.crossbeam_deque.specs.Handles.{view, stealer_deque}
 use Rattle.steal_explorer.specs.declared.finding.Found.{Found}
 use Rattle.steal_explorer.specs.declared.finding.Found.TheVariants.{Item, Nothing, Retry}
 use Rattle.steal_explorer.specs.declared.handing.Log.{Log}
 use Rattle.steal_explorer.specs.declared.members.Ground.{Ground}
 use Rattle.steal_explorer.specs.declared.members.Member.{Member}
-use Rattle.steal_explorer.specs.Calls.{Call, is_tried, Calls}
+use Rattle.steal_explorer.specs.Calls.{Call, is_tried, Calls, Calling}
 use Rattle.steal_explorer.specs.Draining.{in_plan, IsEven, IsLeft, IsCleared, HasAll, IsEmptiedBy, AreEmptied}
 use Rattle.steal_explorer.specs.Finding.{weight_of}
 use Rattle.steal_explorer.specs.Gathering.{HasStill, AreHolding, out, Kept, kept_of, AreTotals}
@@ -29,7 +31,6 @@ use Rattle.steal_explorer.specs.Handing.{whole, log, one}
 use Rattle.steal_explorer.specs.HandingOut.{is_one, taken_in, IsBeginning, HasHandedOut}
 use Rattle.steal_explorer.specs.Members.{Thief, Ticket, own, tickets_of, stolen_by, taken_by, HasTickets, IsIdle, IsWorker}
 use Rattle.steal_explorer.specs.Turns.{After, Turns, HasRun}
-use Rattle.steal_explorer.proofs.Going.{contains_first, contains_later, calls_append}
 use Rattle.steal_explorer.proofs.Telling.{turns_taken, turns_tell, count_both, calls_keep, calls_reach, calls_total}
 
 -- ---- sums
@@ -452,7 +453,7 @@ module _ (g : Ground) (ts : List Thief) (ms ws gs : List Member) (begins : (k : 
           let first = run_calls p cap g.abort ts (slice_index_or ms k m) (slice_index_or ws k m) run in
           let second = (tells k m lt).calls in (
             second.0 ++ first.0,
-            calls_append p cap second.0 first.0 (slice_index_or ms k m).runner (slice_index_or ws k m).runner (slice_index_or ns k m).runner first.1
+            in_turn_append (Calling p cap) second.0 first.0 (slice_index_or ms k m).runner (slice_index_or ws k m).runner (slice_index_or ns k m).runner first.1
                 (subst (λ r. Calls p cap second.0 r (slice_index_or ns k m).runner) (ap (λ (q : Kept). q.runner) (kept_at k m lt)) second.1),
             (let a = run_tries p cap g.abort ts (slice_index_or ms k m) (slice_index_or ws k m) run (begins k m lt).fresh in
                 let b = (tells k m lt).tries in

@@ -27,12 +27,12 @@ use Rattle.op_eval.specs.Evaluations.{EvaluationDoes}
 use Rattle.op_eval.specs.Running.{hand_view}
 use Rattle.op_eval.proofs.Alone.{come_first, run_valued, lone_unclaimed, lone_undisturbed, lone_evaluates, knew_first, knew_other, left_last, others_same, none_changed, others_stay, ran_kept}
 use Rattle.op_eval.proofs.Following.{one_none}
+use Rattle.op_eval.proofs.Elements.{contains_cases}
 use Rattle.abort_eager.proofs.Touching.{touched_one}
 use Rattle.steal_explorer.specs.Alone.{IsDue, IsWaiting, IsQueued, HasGone, Stands}
 use Rattle.steal_explorer.specs.Calls.{Call, Asked, Tried, Swept, is_swept, Calls}
 use Rattle.steal_explorer.specs.HandingOut.{is_one}
 use Rattle.steal_explorer.proofs.Counting.{same_is, other_is}
-use Rattle.steal_explorer.proofs.Telling.{contains_cases}
 
 abbrev pub known : List Item → ℕ → OpWord
 known trail o = last_word o (blocked 1) trail

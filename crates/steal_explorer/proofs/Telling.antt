@@ -1,5 +1,5 @@
 -- What turns tell: the calls that the runner made, what was taken, that each item was reached and counted, and what was pushed.
-use Rattle.std.proofs.Common.{◌≡◌, ◌⊎◌, ℕ, zero, suc, ◌+◌, ◌^◌, ◌<◌, ◌≤◌, Bool, true, false, cond, List, [], ◌∷◌, ◌++◌, length, get_or, sym, ap, subst, inl, inr, arith}
+use Rattle.std.proofs.Common.{◌≡◌, ◌⊎◌, ℕ, ◌+◌, ◌^◌, ◌<◌, ◌≤◌, Bool, true, false, cond, List, [], ◌∷◌, ◌++◌, sym, ap, subst, inl, inr, arith}
 use Rattle.std.specs.Prelude.{Contains, sum_by, count_by, nat_lt}
 use Rattle.std.proofs.lemmas.Bool.{cases_lt}
 use Rattle.std.proofs.lemmas.List.Elements.{Contains-append_left, Contains-append_right}
@@ -14,29 +14,19 @@ use Rattle.op_eval.specs.declared.runner.Runner.{Runner}
 use Rattle.op_eval.specs.Exploring.{total}
 use Rattle.op_eval.specs.Running.{hand_view}
 use Rattle.op_eval.proofs.Totals.{tries_total, full_stays}
+use Rattle.op_eval.proofs.Elements.{contains_cases}
+use Rattle.op_eval.proofs.Turns.{in_turn_append}
 use Rattle.abort_eager.proofs.Touching.{touched_one}
 use Rattle.steal_explorer.specs.declared.finding.Found.{Found}
 use Rattle.steal_explorer.specs.declared.finding.Found.TheVariants.{Item, Nothing, Retry}
 use Rattle.steal_explorer.specs.declared.handing.Log.{Log}
 use Rattle.steal_explorer.specs.declared.members.Member.{Member}
-use Rattle.steal_explorer.specs.Calls.{Call, Asked, Tried, Swept, is_tried, Calls}
+use Rattle.steal_explorer.specs.Calls.{Call, Asked, Tried, Swept, is_tried, Calls, Calling}
 use Rattle.steal_explorer.specs.Draining.{in_plan}
 use Rattle.steal_explorer.specs.Finding.{weight_of}
 use Rattle.steal_explorer.specs.Members.{Thief, Ticket, own, tickets_of, stolen_by, taken_by}
 use Rattle.steal_explorer.specs.Serving.{Goes}
 use Rattle.steal_explorer.specs.Turns.{After, Turns}
-use Rattle.steal_explorer.proofs.Going.{calls_append}
-
--- an element of a list is the first one or one of the others
-pub contains_cases : {X : Type 0} (y : X) (xs : List X) (x : X) → Contains (y ∷ xs) x → (x ≡ y) ⊎ Contains xs x
-contains_cases y xs x inside = at inside.0 inside.1 inside.2
-  where
-    at : (n : ℕ) → n < length (y ∷ xs) → get_or (y ∷ xs) n x ≡ x → (x ≡ y) ⊎ Contains xs x
-    at zero lt is = inl (sym is)
-    at (suc n) lt is = inr (n, lt-from n lt, is)
-      where
-        lt-from : (j : ℕ) → suc j < suc (length xs) → j < length xs
-        lt-from j less = omega arith
 
 -- ---- calls
 
@@ -223,7 +213,7 @@ module _ (p : Plan) (cap : ℕ) (abort : Abort) where
       let last = after_tells f made.2.found b made.2.after in
       record {
         calls = last.calls ++ rest.calls;
-        made = calls_append p cap last.calls rest.calls a.runner made.0.runner b.runner rest.made (subst (λ r. Calls p cap last.calls r b.runner) made.2.finds.runner last.made);
+        made = in_turn_append (Calling p cap) last.calls rest.calls a.runner made.0.runner b.runner rest.made (subst (λ r. Calls p cap last.calls r b.runner) made.2.finds.runner last.made);
         tried = λ x found lt.
             elim (contains_cases f fs (Item x) found) [
               | inl same ↦ Contains-append_left last.calls rest.calls (Tried x) (last.tried x (sym same) lt)

@@ -1,5 +1,5 @@
 -- What the calls of an explorer on the board make of a runner.
-use Rattle.std.specs.Prelude.{◌≡◌, ℕ, ◌<◌, Bool, true, false, List, [], ◌∷◌, All, Contains}
+use Rattle.std.specs.Prelude.{◌≡◌, ℕ, ◌<◌, Bool, true, false, List, All, Contains}
 use Rattle.morph_base.specs.declared.plan.Plan.{Plan}
 use Rattle.morph_base.specs.declared.strategy.Abort.{Abort}
 use Rattle.morph_base.specs.declared.strategy.Abort.TheVariants.{Lazy}
@@ -10,6 +10,7 @@ use Rattle.op_eval.specs.declared.answers.Evaluation.{Evaluation}
 use Rattle.op_eval.specs.declared.runner.Runner.{Runner}
 use Rattle.op_eval.specs.Evaluations.{Tries}
 use Rattle.op_eval.specs.Running.{hand_view}
+use Rattle.op_eval.specs.Turns.{InTurn}
 use Rattle.abort_eager.specs.declared.answers.Target.{Target}
 use Rattle.abort_eager.specs.declared.answers.Touched.{Touched}
 use Rattle.abort_eager.specs.Sweeps.{Attempts}
@@ -60,8 +61,7 @@ Calling p cap (Tried o) a b = (r : Evaluation) × Tries p cap o a b r
 Calling p cap (Swept g) a b = (t : Touched) × SweepsOne p cap g a b t
 
 abbrev pub Calls : Plan → (cap : ℕ) → List Call → Runner → Runner → Type 0
-Calls p cap [] a b = b ≡ a
-Calls p cap (c ∷ cs) a b = (m : Runner) × Calls p cap cs a m × Calling p cap c m b
+Calls p cap = InTurn (Calling p cap)
 
 -- targets of cascades were touched, and nothing else was called
 pub record HasTouched (p : Plan) (cap : ℕ) (a b : Runner) : Type 0 where
@@ -84,8 +84,7 @@ pub record TriesQuietly (p : Plan) (cap : ℕ) (abort : Abort) (o : ℕ) (a b : 
 
 -- operations were tried in turn, the last first, each with its cascade behind it
 abbrev pub Attempting : Plan → (cap : ℕ) → Abort → List ℕ → Runner → Runner → Type 0
-Attempting p cap abort [] a b = b ≡ a
-Attempting p cap abort (o ∷ os) a b = (m : Runner) × (r : Evaluation) × Attempting p cap abort os a m × Attempts p cap abort o m b r
+Attempting p cap abort = InTurn (λ o a b. (r : Evaluation) × Attempts p cap abort o a b r)
 
 -- a unit was walked from operation o on: operations were tried, this one among them, with the cascades behind them, and none was asked
 pub record Walked (p : Plan) (cap : ℕ) (abort : Abort) (o : ℕ) (a b : Runner) : Type 0 where

@@ -10,9 +10,9 @@ use Rattle.op_eval.specs.declared.explored.RunEnd.TheVariants.{Whole, Spent}
 use Rattle.op_eval.specs.declared.runner.Runner.{Runner}
 use Rattle.op_eval.specs.Further.{AreFurther}
 use Rattle.op_eval.proofs.Further.{all_same}
+use Rattle.op_eval.proofs.Elements.{contains_first, contains_later}
 use Rattle.strata_explorer.specs.Levels.{counters_for, ops_of, level_of, AreLevels, AreStrata, Follows, Passes, HasPassed, IsAlone}
 use Rattle.strata_explorer.specs.Passes.{IsPassed}
-use Rattle.strata_explorer.proofs.Turning.{contains_first, contains_later}
 use Rattle.strata_explorer.proofs.Climbing.{level_new, level_old, all_strata_more}
 use Rattle.strata_explorer.proofs.Further.{passed_further}
 use Rattle.strata_explorer.proofs.Lone.{alone_more}

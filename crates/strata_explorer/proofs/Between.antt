@@ -14,8 +14,10 @@ use Rattle.op_eval.specs.Running.{hand_view, counted}
 use Rattle.abort_eager.specs.Sweeps.{cascade_for, SweepsFor, Attempts}
 use Rattle.abort_eager.specs.Targets.{targets}
 use Rattle.abort_eager.specs.Touching.{Touching}
-use Rattle.strata_explorer.specs.Calls.{Call, Took, Tried, TakesNumber, Calling, Calls}
-use Rattle.strata_explorer.specs.Passes.{IsLike, AreLike, shared_from, Worked, IsEnough, IsPassed}
+use Rattle.op_eval.specs.Turns.{IsEnough, TakesNumber}
+use Rattle.strata_explorer.specs.Calls.{Call, Took, Tried, Calling, Calls}
+use Rattle.worker_gate.specs.Sharing.{shared_from}
+use Rattle.strata_explorer.specs.Passes.{IsLike, AreLike, Worked, IsPassed}
 use Rattle.strata_explorer.specs.Walks.{has_evaluated, TriesInTurn, WalksUnit, WalksPlaces, WalksAll}
 use Rattle.strata_explorer.proofs.Turning.{times_some}
 use Rattle.strata_explorer.proofs.UnitWalks.{drop_at}
@@ -54,7 +56,7 @@ module _ (p : Plan) (cap : ℕ) (abort : Abort) where
 
   calling_from : (c : Call) (a from b : Runner) → IsLike a from → Calling p cap abort c from b → Calling p cap abort c a b
   calling_from (Took c n) a from b like took = record {
-    view_is = took.view_is ∙ ap (taking c n) like.view;
+    view = took.view ∙ ap (taking c n) like.view;
     takes = subst (Takes c n) like.view took.takes;
     answers = took.answers ∙ like.answers;
     kept = took.kept ∙ like.kept;
@@ -63,7 +65,7 @@ module _ (p : Plan) (cap : ℕ) (abort : Abort) where
 
   calling_to : (c : Call) (a b to : Runner) → Calling p cap abort c a b → IsLike b to → Calling p cap abort c a to
   calling_to (Took c n) a b to took like = record {
-    view_is = like.view ∙ took.view_is;
+    view = like.view ∙ took.view;
     takes = took.takes;
     answers = like.answers ∙ took.answers;
     kept = like.kept ∙ took.kept;
@@ -84,7 +86,7 @@ module _ (p : Plan) (cap : ℕ) (abort : Abort) where
   -- ---- a pass
 
   -- a runner that saw the end of a counter that it had not used has taken a number
-  some_calls : (c : ℕ) (ops : List ℕ) (a b : Runner) → 0 < length ops → Unused c a → IsEnough c ops b → (worked : Worked p cap abort c ops a b) → 0 < length worked.calls
+  some_calls : (c : ℕ) (ops : List ℕ) (a b : Runner) → 0 < length ops → Unused c a → IsEnough c (length ops) b → (worked : Worked p cap abort c ops a b) → 0 < length worked.calls
   some_calls c ops a b some unused enough worked =
       elim enough [
         | inl none ↦ absurd (omega arith)
@@ -104,7 +106,7 @@ module _ (p : Plan) (cap : ℕ) (abort : Abort) where
     counted = worked.counted;
   }
 
-  enough_like : (c : ℕ) (ops : List ℕ) (a b : Runner) → IsLike a b → IsEnough c ops a → IsEnough c ops b
+  enough_like : (c : ℕ) (ops : List ℕ) (a b : Runner) → IsLike a b → IsEnough c (length ops) a → IsEnough c (length ops) b
   enough_like c ops a b like (inl none) = inl none
   enough_like c ops a b like (inr last) = inr (last.0, subst (λ (v : View). Contains v.places (place c last.0)) (sym like.view) last.1, last.2)
 
@@ -146,7 +148,7 @@ module _ (p : Plan) (cap : ℕ) (abort : Abort) where
     places_from : (ns : List ℕ) (a from b : Runner) → 0 < length ns → IsLike a from → WalksPlaces p cap abort units c ops ns from b → WalksPlaces p cap abort units c ops ns a b
     places_from [] a from b some like walks = absurd (omega arith)
     places_from (n ∷ []) a from b some like walks =
-        (a, walks.1, refl, calling_from (Took c n) a from walks.1 like (subst (λ m. TakesNumber c m walks.1 n) walks.2 walks.3), walks.4, walks.5)
+        (a, walks.1, refl, calling_from (Took c n) a from walks.1 like (subst (λ m. TakesNumber c n m walks.1) walks.2 walks.3), walks.4, walks.5)
     places_from (n ∷ m ∷ ns) a from b some like walks = (walks.0, walks.1, places_from (m ∷ ns) a from walks.0 (omega arith) like walks.2, walks.3, walks.4, walks.5)
 
     places_to : (ns : List ℕ) (a b to : Runner) → 0 < length ns → WalksPlaces p cap abort units c ops ns a b → IsLike b to → WalksPlaces p cap abort units c ops ns a to
@@ -158,7 +160,7 @@ module _ (p : Plan) (cap : ℕ) (abort : Abort) where
         ]
 
     -- a runner that saw the end of a counter that it had not used has taken a number
-    some_numbers : (ns : List ℕ) (a b : Runner) → 0 < length ops → Unused c a → IsEnough c ops b → WalksPlaces p cap abort units c ops ns a b → 0 < length ns
+    some_numbers : (ns : List ℕ) (a b : Runner) → 0 < length ops → Unused c a → IsEnough c (length ops) b → WalksPlaces p cap abort units c ops ns a b → 0 < length ns
     some_numbers (n ∷ ns) a b some unused enough walks = omega arith
     some_numbers [] a b some unused enough walks =
         elim enough [
@@ -173,7 +175,7 @@ module _ (p : Plan) (cap : ℕ) (abort : Abort) where
     all_between a from b to first last all some = record { numbers = all.numbers; walks = places_to all.numbers a b to some (places_from all.numbers a from b some first all.walks) last }
 
   pub passed_between : (units : List (List ℕ)) (c : ℕ) (ops : List ℕ) (before rs qs after : List Runner) → AreLike before rs → AreLike qs after → 0 < length ops → 0 < length before → ((d : Runner) → Unused c (slice_index_or before 0 d))
-      → IsPassed p cap abort units c ops rs qs → ((d : Runner) → IsEnough c ops (slice_index_or qs 0 d)) → IsPassed p cap abort units c ops before after
+      → IsPassed p cap abort units c ops rs qs → ((d : Runner) → IsEnough c (length ops) (slice_index_or qs 0 d)) → IsPassed p cap abort units c ops before after
   passed_between units c ops before rs qs after first last full some unused passed saw = record {
     len = last.len ∙ passed.len ∙ first.len;
     each = each;
@@ -192,9 +194,9 @@ module _ (p : Plan) (cap : ℕ) (abort : Abort) where
           unused_like : {a b : Runner} → Unused c a → IsLike a b → Unused c b
           unused_like {a} {b} none like = subst (λ (v : View). times c v.places ≡ 0) (sym like.view) none
 
-      shared : shared_from ≤ length ops → (k : ℕ) (d : Runner) → k < length before → IsEnough c ops (slice_index_or after k d)
+      shared : shared_from ≤ length ops → (k : ℕ) (d : Runner) → k < length before → IsEnough c (length ops) (slice_index_or after k d)
       shared many zero d lt = enough_like c ops (slice_index_or qs 0 d) (slice_index_or after 0 d) (last.first d) (saw d)
-      shared many (suc k) d lt = subst (λ b. IsEnough c ops b) (sym (last.others (suc k) d (omega arith))) (passed.shared many (suc k) d (less lt))
+      shared many (suc k) d lt = subst (λ b. IsEnough c (length ops) b) (sym (last.others (suc k) d (omega arith))) (passed.shared many (suc k) d (less lt))
 
       each : (k : ℕ) (d : Runner) → k < length before → Worked p cap abort c ops (slice_index_or before k d) (slice_index_or after k d)
       each zero d lt =

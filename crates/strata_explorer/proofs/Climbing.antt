@@ -15,12 +15,15 @@ use Rattle.op_words.specs.Counting.{times, place}
 use Rattle.op_eval.specs.Exploring.{total}
 use Rattle.op_eval.specs.Running.{hand_view}
 use Rattle.op_eval.proofs.Totals.{tries_total, full_stays}
+use Rattle.op_eval.proofs.Elements.{contains_first, contains_later}
 use Rattle.strata_explorer.specs.Calls.{Call, Took, Tried, Calls}
-use Rattle.strata_explorer.specs.Passes.{is_tried, names, shared_from, Worked, IsEnough, IsPassed}
+use Rattle.op_eval.specs.Turns.{IsEnough}
+use Rattle.worker_gate.specs.Sharing.{shared_from}
+use Rattle.strata_explorer.specs.Passes.{is_tried, names, Worked, IsPassed}
 use Rattle.strata_explorer.specs.Levels.{ops_of, op_of, level_of, named, IsStrata, AreStrata, IsWhole}
 use Rattle.strata_explorer.specs.Walks.{WalksAll}
 use Rattle.abort_eager.proofs.Sweeping.{attempted}
-use Rattle.strata_explorer.proofs.Turning.{contains_first, contains_later, count_first, times_some}
+use Rattle.strata_explorer.proofs.Turning.{count_first, times_some}
 use Rattle.strata_explorer.proofs.UnitWalks.{all_none}
 use Rattle.strata_explorer.proofs.Running.{calls_keep, calls_reach, calls_places, calls_hold, calls_running}
 
@@ -53,7 +56,7 @@ pub calls_times : (p : Plan) (cap : ℕ) (abort : Abort) (c l : ℕ) → c ≢ l
 calls_times p cap abort c l other [] a b only calls = ap (λ r. times c (hand_view r).places) calls
 calls_times p cap abort c l other (Took k n ∷ cs) a b only calls =
     let same : k ≡ l = only k n (contains_first (Took k n) cs) in
-    ap (λ (v : View). times c v.places) calls.2.view_is
+    ap (λ (v : View). times c v.places) calls.2.view
     ∙ sum_by-append (λ (x : Place). cond (eqb x.counter c) 1 0) (hand_view calls.0).places (place k n ∷ [])
     ∙ ap (λ t. times c (hand_view calls.0).places + (0 + cond t 1 0)) (ne_eqb k c (λ e. other (sym e ∙ same)))
     ∙ none_more (times c (hand_view calls.0).places)
@@ -76,7 +79,7 @@ calls_named p cap abort ls l (Took k n ∷ cs) a b only calls =
     let same : k ≡ l = only k n (contains_first (Took k n) cs) in
     let before : named p ls (hand_view calls.0).places ≡ named p ls (hand_view a).places + count_by (names many) cs = calls_named p cap abort ls l cs a calls.0 (only_later l (Took k n) cs only) calls.1 in
     let now : named p ls (hand_view b).places ≡ named p ls (hand_view calls.0).places + (0 + cond (nat_lt n many) 1 0) =
-    ap (λ (v : View). named p ls v.places) calls.2.view_is
+    ap (λ (v : View). named p ls v.places) calls.2.view
     ∙ sum_by-append (λ (x : Place). cond (nat_lt x.number (length (ops_of p (level_of ls x.counter)))) 1 0) (hand_view calls.0).places (place k n ∷ [])
     ∙ ap (λ j. named p ls (hand_view calls.0).places + (0 + cond (nat_lt n (length (ops_of p (level_of ls j)))) 1 0)) same in
     let more : count_by (names many) (Took k n ∷ cs) ≡ (0 + cond (nat_lt n many) 1 0) + count_by (names many) cs = count_first (names many) (Took k n) cs in
@@ -153,7 +156,7 @@ module _ (p : Plan) (cap : ℕ) (abort : Abort) (l : ℕ) (ls : List ℕ) where
       past : (c : ℕ) → suc (length ls) ≤ c → c ≡ length ls → ⊥
       past c above same = absurd (omega arith)
 
-  enough_stays : (c : ℕ) (ops : List ℕ) (cs : List Call) (a b : Runner) → Calls p cap abort cs a b → IsEnough c ops a → IsEnough c ops b
+  enough_stays : (c : ℕ) (ops : List ℕ) (cs : List Call) (a b : Runner) → Calls p cap abort cs a b → IsEnough c (length ops) a → IsEnough c (length ops) b
   enough_stays c ops cs a b calls enough = elim enough [ inl none ↦ inl none | inr is ↦ inr (is.0, calls_hold p cap abort cs a b calls (place c is.0) is.1, is.2) ]
 
   pub all_strata_more : (units : List (List ℕ)) (rs qs : List Runner) → AreStrata p ls rs → IsPassed p cap abort units (length ls) (ops_of p l) rs qs → AreStrata p (l ∷ ls) qs
@@ -163,19 +166,19 @@ module _ (p : Plan) (cap : ℕ) (abort : Abort) (l : ℕ) (ls : List ℕ) where
         elim (cases_eq c (length ls)) [
           | inl same ↦
               let level : level_of (l ∷ ls) c ≡ l = ap (level_of (l ∷ ls)) same ∙ level_new l ls in
-              let saw : (d : Runner) → IsEnough c (ops_of p l) (slice_index_or qs passed.enough.0 d) = λ d. subst (λ j. IsEnough j (ops_of p l) (slice_index_or qs passed.enough.0 d)) (sym same) (passed.enough.2 d) in (
+              let saw : (d : Runner) → IsEnough c (length (ops_of p l)) (slice_index_or qs passed.enough.0 d) = λ d. subst (λ j. IsEnough j (length (ops_of p l)) (slice_index_or qs passed.enough.0 d)) (sym same) (passed.enough.2 d) in (
                 passed.enough.0,
                 subst (λ n. passed.enough.0 < n) (sym passed.len) passed.enough.1,
-                λ d. subst (λ j. IsEnough c (ops_of p j) (slice_index_or qs passed.enough.0 d)) (sym level) (saw d),
+                λ d. subst (λ j. IsEnough c (length (ops_of p j)) (slice_index_or qs passed.enough.0 d)) (sym level) (saw d),
               )
           | inr other ↦
               let less : c < length ls = below c lt other in
               let level : level_of (l ∷ ls) c ≡ level_of ls c = level_old l ls c less in
               let before = strata.enough c less in
-              let stays : (d : Runner) → IsEnough c (ops_of p (level_of ls c)) (slice_index_or qs before.0 d) = λ d. let worked = passed.each before.0 d before.1 in enough_stays c (ops_of p (level_of ls c)) worked.calls (slice_index_or rs before.0 d) (slice_index_or qs before.0 d) worked.made (before.2 d) in (
+              let stays : (d : Runner) → IsEnough c (length (ops_of p (level_of ls c))) (slice_index_or qs before.0 d) = λ d. let worked = passed.each before.0 d before.1 in enough_stays c (ops_of p (level_of ls c)) worked.calls (slice_index_or rs before.0 d) (slice_index_or qs before.0 d) worked.made (before.2 d) in (
                 before.0,
                 subst (λ n. before.0 < n) (sym passed.len) before.1,
-                λ d. subst (λ j. IsEnough c (ops_of p j) (slice_index_or qs before.0 d)) (sym level) (stays d),
+                λ d. subst (λ j. IsEnough c (length (ops_of p j)) (slice_index_or qs before.0 d)) (sym level) (stays d),
               )
         ];
   }
@@ -215,7 +218,7 @@ worked_none p cap abort c ops a = record {
   counted = omega arith;
 }
 
-pub first_passed : (p : Plan) (cap : ℕ) (abort : Abort) (units : List (List ℕ)) (c : ℕ) (ops : List ℕ) (rs : List Runner) (a b : Runner) → 0 < length rs → Worked p cap abort c ops (first_of rs a) b → WalksAll p cap abort units c ops (first_of rs a) b → IsEnough c ops b
+pub first_passed : (p : Plan) (cap : ℕ) (abort : Abort) (units : List (List ℕ)) (c : ℕ) (ops : List ℕ) (rs : List Runner) (a b : Runner) → 0 < length rs → Worked p cap abort c ops (first_of rs a) b → WalksAll p cap abort units c ops (first_of rs a) b → IsEnough c (length ops) b
     → length ops < shared_from → IsPassed p cap abort units c ops rs (set rs 0 b)
 first_passed p cap abort units c ops [] a b some worked all enough few = absurd (omega arith)
 first_passed p cap abort units c ops (r ∷ rs) a b some worked all enough few = record {

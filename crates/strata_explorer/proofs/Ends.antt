@@ -15,9 +15,10 @@ use Rattle.op_eval.specs.Exploring.{IsExploring, Unused, AreExplored, parts_of}
 use Rattle.op_eval.specs.Gathering.{runners_of, AreAtRest}
 use Rattle.op_eval.specs.Running.{hand_view}
 use Rattle.op_eval.proofs.Seating.{come_back}
+use Rattle.op_eval.proofs.Elements.{contains_first}
 use Rattle.strata_explorer.specs.Passes.{IsSeated}
 use Rattle.strata_explorer.specs.Levels.{named, AreStrata}
-use Rattle.strata_explorer.proofs.Turning.{contains_first, times_some}
+use Rattle.strata_explorer.proofs.Turning.{times_some}
 
 -- where no counter was used, no number was taken
 no_places : (xs : List Place) → ((c : ℕ) → times c xs ≡ 0) → xs ≡ []

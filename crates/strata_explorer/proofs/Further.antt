@@ -18,13 +18,13 @@ use Rattle.abort_eager.proofs.Sweeping.{attempted}
 calls_further : (p : Plan) (cap : ℕ) (abort : Abort) (cs : List Call) (a b : Runner) → Calls p cap abort cs a b → IsFurther a b
 calls_further p cap abort [] a b calls = same_further a b calls
 calls_further p cap abort (Took c n ∷ cs) a b calls = further_then a calls.0 b (calls_further p cap abort cs a calls.0 calls.1) (record {
-  tag = ap (λ (v : View). v.tag) calls.2.view_is;
-  made = ap (λ (v : View). v.made) calls.2.view_is;
-  room = ap (λ (v : View). v.room) calls.2.view_is;
-  joined = ap (λ (v : View). v.joined) calls.2.view_is;
+  tag = ap (λ (v : View). v.tag) calls.2.view;
+  made = ap (λ (v : View). v.made) calls.2.view;
+  room = ap (λ (v : View). v.room) calls.2.view;
+  joined = ap (λ (v : View). v.joined) calls.2.view;
   words = [];
-  trail = ap (λ (v : View). v.trail) calls.2.view_is ∙ no_more (hand_view calls.0).trail;
-  notes = ap (λ (v : View). v.notes) calls.2.view_is ∙ no_more (hand_view calls.0).notes;
+  trail = ap (λ (v : View). v.trail) calls.2.view ∙ no_more (hand_view calls.0).trail;
+  notes = ap (λ (v : View). v.notes) calls.2.view ∙ no_more (hand_view calls.0).notes;
   open_own = λ t inside. absurd (omega (arith, inside.1));
   calm = λ lone. along_none IsCalmAt (hand_view calls.0).trail;
 })

@@ -18,7 +18,7 @@ use Rattle.morph_base.proofs.OutcomeLaws.{source_precedes, keys_fit}
 use Rattle.chain_units.specs.Places.{IsPartition}
 use Rattle.op_words.specs.Trails.{IsSourceOf}
 use Rattle.strata_explorer.specs.Levels.{ops_of, op_of, AreLevels}
-use Rattle.strata_explorer.proofs.Turning.{contains_first, contains_later, contains_cases}
+use Rattle.op_eval.proofs.Elements.{contains_first, contains_later, contains_cases}
 
 -- ---- lists
 

@@ -19,16 +19,18 @@ use Rattle.op_words.proofs.Trailing.{last-none}
 use Rattle.interleaving_core.specs.Core.{blocked}
 use Rattle.op_eval.specs.Alone.{Ran, IsNewRoot, HasRunAll}
 use Rattle.op_eval.proofs.Alone.{IsBegun, come_first, explores, keeps_ran, runs_it}
-use Rattle.strata_explorer.specs.Calls.{Call, Took, Tried, TakesNumber, Calls}
-use Rattle.strata_explorer.specs.Passes.{Worked, IsEnough, IsPassed}
+use Rattle.op_eval.proofs.Elements.{contains_first, contains_later, contains_cases}
+use Rattle.op_eval.specs.Turns.{IsEnough, TakesNumber}
+use Rattle.strata_explorer.specs.Calls.{Call, Took, Tried, Calls}
+use Rattle.strata_explorer.specs.Passes.{Worked, IsPassed}
 use Rattle.strata_explorer.specs.Levels.{ops_of, op_of, AreLevels, AreStrata, IsLoneStrata, IsAlone}
 use Rattle.abort_eager.proofs.Sweeping.{attempted, lazy_tries}
-use Rattle.strata_explorer.proofs.Turning.{contains_first, contains_later, contains_cases, times_one, times_some}
+use Rattle.strata_explorer.proofs.Turning.{times_one, times_some}
 use Rattle.strata_explorer.proofs.Running.{calls_places}
 use Rattle.strata_explorer.proofs.Climbing.{only_later}
 
-pub taking_lone : (c n : ℕ) {a b : Runner} → TakesNumber c a b n → IsLone (hand_view a) → IsLone (hand_view b)
-taking_lone c n taken lone = subst IsLone (sym taken.view_is) (record { root = lone.root; alone = lone.alone })
+pub taking_lone : (c n : ℕ) {a b : Runner} → TakesNumber c n a b → IsLone (hand_view a) → IsLone (hand_view b)
+taking_lone c n taken lone = subst IsLone (sym taken.view) (record { root = lone.root; alone = lone.alone })
 
 pub calls_lone : (p : Plan) (cap : ℕ) (abort : Abort) (cs : List Call) (a b : Runner) → Calls p cap abort cs a b → IsLone (hand_view a) → IsLone (hand_view b)
 calls_lone p cap abort [] a b calls lone = subst (λ r. IsLone (hand_view r)) (sym calls) lone
@@ -47,7 +49,7 @@ lone_takes p cap abort l (Took k n ∷ cs) a b lone none only calls =
     let is : n ≡ times k (hand_view calls.0).places = calls.2.takes.lone (calls_lone p cap abort cs a calls.0 calls.1 lone) in
     let here : n ≡ times l (hand_view calls.0).places = is ∙ ap (λ j. times j (hand_view calls.0).places) same in
     let now : times l (hand_view b).places ≡ times l (hand_view calls.0).places + 1 =
-    ap (λ (v : View). times l v.places) calls.2.view_is
+    ap (λ (v : View). times l v.places) calls.2.view
     ∙ sum_by-append (λ (x : Place). cond (eqb x.counter l) 1 0) (hand_view calls.0).places (place k n ∷ [])
     ∙ ap (λ j. times l (hand_view calls.0).places + times l (place j n ∷ [])) same
     ∙ ap (λ j. times l (hand_view calls.0).places + j) (times_one l n) in (
@@ -81,7 +83,7 @@ lone_takes p cap abort l (Tried q ∷ cs) a b lone none only calls =
     apart e = cc
 
 -- so where it saw the counter at the end, it tried each operation of the pass
-pub lone_tries : (p : Plan) (cap : ℕ) (abort : Abort) (l : ℕ) (ops : List ℕ) (a b : Runner) → IsLone (hand_view a) → times l (hand_view a).places ≡ 0 → (worked : Worked p cap abort l ops a b) → IsEnough l ops b → (n : ℕ) → n < length ops → Contains worked.calls (Tried (slice_index_or ops n 0))
+pub lone_tries : (p : Plan) (cap : ℕ) (abort : Abort) (l : ℕ) (ops : List ℕ) (a b : Runner) → IsLone (hand_view a) → times l (hand_view a).places ≡ 0 → (worked : Worked p cap abort l ops a b) → IsEnough l (length ops) b → (n : ℕ) → n < length ops → Contains worked.calls (Tried (slice_index_or ops n 0))
 lone_tries p cap abort l ops a b lone none worked enough n less =
     let takes = lone_takes p cap abort l worked.calls a b lone none worked.only worked.made in
     elim enough [
@@ -108,12 +110,12 @@ module _ (p : Plan) (valid : IsPlan p) (cap : ℕ) (some : 1 ≤ cap) where
   )
   lone_calls (Took c n ∷ cs) a b lone exploring calls =
       let before = lone_calls cs a calls.0 lone exploring calls.1 in (
-        subst (λ (v : View). IsBegun v.trail) (sym calls.2.view_is) before.0,
-        λ k ran. subst (λ (v : View). Ran v.trail k) (sym calls.2.view_is) (before.1 k ran),
+        subst (λ (v : View). IsBegun v.trail) (sym calls.2.view) before.0,
+        λ k ran. subst (λ (v : View). Ran v.trail k) (sym calls.2.view) (before.1 k ran),
         λ o found sources.
             elim (contains_cases (Took c n) cs (Tried o) found) [
               | inl this ↦ absurd (apart this)
-              | inr later ↦ subst (λ (v : View). Ran v.trail o) (sym calls.2.view_is) (before.2 o later sources)
+              | inr later ↦ subst (λ (v : View). Ran v.trail o) (sym calls.2.view) (before.2 o later sources)
             ],
       )
     where
@@ -139,7 +141,7 @@ module _ (p : Plan) (valid : IsPlan p) (cap : ℕ) (some : 1 ≤ cap) where
       op_is : {o : ℕ} → Tried o ≡ Tried q → o ≡ q
       op_is e = cc
 
-  pub lone_more_levels : (units : List (List ℕ)) (many : ℕ) → AreLevels p units many → (c l : ℕ) (a b : Runner) → IsLoneStrata p l a → times c (hand_view a).places ≡ 0 → Worked p cap Lazy c (ops_of p l) a b → IsEnough c (ops_of p l) b → IsLoneStrata p (l + 1) b
+  pub lone_more_levels : (units : List (List ℕ)) (many : ℕ) → AreLevels p units many → (c l : ℕ) (a b : Runner) → IsLoneStrata p l a → times c (hand_view a).places ≡ 0 → Worked p cap Lazy c (ops_of p l) a b → IsEnough c (length (ops_of p l)) b → IsLoneStrata p (l + 1) b
   lone_more_levels units many levels c l a b alone none worked enough =
       let calls = lone_calls worked.calls a b alone.lone (record { each = alone.exploring }) worked.made in
       record {
@@ -166,7 +168,7 @@ module _ (p : Plan) (valid : IsPlan p) (cap : ℕ) (some : 1 ≤ cap) where
       let lt : 0 < length rs = less (len ∙ one) in
       let which : passed.enough.0 ≡ 0 = only (len ∙ one) passed.enough.0 passed.enough.1 in
       lone_more_levels units many levels (length ls) l (slice_index_or rs 0 d) (slice_index_or qs 0 d) (alone one d begins) ((strata.each 0 d lt).unused (length ls) (le (length ls))) (passed.each 0 d lt)
-      (subst (λ k. IsEnough (length ls) (ops_of p l) (slice_index_or qs k d)) which (passed.enough.2 d))
+      (subst (λ k. IsEnough (length ls) (length (ops_of p l)) (slice_index_or qs k d)) which (passed.enough.2 d))
     where
       less : length rs ≡ 1 → 0 < length rs
       less e = omega arith

@@ -18,19 +18,21 @@ use Rattle.op_eval.specs.declared.answers.Answers.{Answers}
 use Rattle.op_eval.specs.declared.runner.Runner.{Runner}
 use Rattle.op_words.specs.Counting.{place}
 use Rattle.op_eval.specs.Running.{hand_view, one_more}
-use Rattle.strata_explorer.specs.Calls.{Call, Took, Tried, TakesNumber, Calls}
+use Rattle.op_eval.specs.Turns.{TakesNumber}
+use Rattle.strata_explorer.specs.Calls.{Call, Took, Tried, Calls}
 use Rattle.op_eval.specs.Exploring.{stopped, is_load, loads, IsExploring}
 use Rattle.op_eval.proofs.Following.{evaluated_more}
+use Rattle.op_eval.proofs.Elements.{contains_first, contains_later, contains_cases}
 use Rattle.op_words.proofs.Trailing.{reached_more, reached_later}
 use Rattle.abort_eager.proofs.Sweeping.{IsSweptOver, attempted}
-use Rattle.strata_explorer.proofs.Turning.{contains_first, contains_later, contains_cases, count_first}
+use Rattle.strata_explorer.proofs.Turning.{count_first}
 
 -- ---- what is reached stays so
 
 pub calls_keep : (p : Plan) (cap : ℕ) (abort : Abort) (o : ℕ) (cs : List Call) (a b : Runner) → Calls p cap abort cs a b → IsReached p o (hand_view a).trail → IsReached p o (hand_view b).trail
 calls_keep p cap abort o [] a b calls is = subst (λ r. IsReached p o (hand_view r).trail) (sym calls) is
 calls_keep p cap abort o (Took c n ∷ cs) a b calls is =
-    subst (λ (v : View). IsReached p o v.trail) (sym calls.2.view_is) (calls_keep p cap abort o cs a calls.0 calls.1 is)
+    subst (λ (v : View). IsReached p o v.trail) (sym calls.2.view) (calls_keep p cap abort o cs a calls.0 calls.1 is)
 calls_keep p cap abort o (Tried q ∷ cs) a b calls is =
     let does = attempted p cap abort q calls.0 b calls.2 in
     subst (IsReached p o) (sym does.goes.adds.trail) (reached_more does.words (calls_keep p cap abort o cs a calls.0 calls.1 is))
@@ -40,7 +42,7 @@ calls_reach p cap abort o [] a b calls found = absurd (omega (arith, found.1))
 calls_reach p cap abort o (Took c n ∷ cs) a b calls found =
     elim (contains_cases (Took c n) cs (Tried o) found) [
       | inl same ↦ absurd (apart same)
-      | inr later ↦ subst (λ (v : View). IsReached p o v.trail) (sym calls.2.view_is) (calls_reach p cap abort o cs a calls.0 calls.1 later)
+      | inr later ↦ subst (λ (v : View). IsReached p o v.trail) (sym calls.2.view) (calls_reach p cap abort o cs a calls.0 calls.1 later)
     ]
   where
     apart : Tried o ≡ Took c n → ⊥
@@ -61,7 +63,7 @@ calls_reach p cap abort o (Tried q ∷ cs) a b calls found =
 pub calls_places : (p : Plan) (cap : ℕ) (abort : Abort) (cs : List Call) (a b : Runner) → Calls p cap abort cs a b → (c n : ℕ) → Contains (hand_view b).places (place c n) → Contains (hand_view a).places (place c n) ⊎ Contains cs (Took c n)
 calls_places p cap abort [] a b calls c n found = inl (subst (λ r. Contains (hand_view r).places (place c n)) calls found)
 calls_places p cap abort (Took k m ∷ cs) a b calls c n found =
-    elim (Contains-append_cases (hand_view calls.0).places (place k m ∷ []) (place c n) (subst (λ (v : View). Contains v.places (place c n)) calls.2.view_is found)) [
+    elim (Contains-append_cases (hand_view calls.0).places (place k m ∷ []) (place c n) (subst (λ (v : View). Contains v.places (place c n)) calls.2.view found)) [
       | inl old ↦ elim (calls_places p cap abort cs a calls.0 calls.1 c n old) [ inl before ↦ inl before | inr later ↦ inr (contains_later (Took k m) cs (Took c n) later) ]
       | inr new ↦
           elim (contains_cases (place k m) [] (place c n) new) [
@@ -79,7 +81,7 @@ calls_places p cap abort (Tried q ∷ cs) a b calls c n found =
 pub calls_hold : (p : Plan) (cap : ℕ) (abort : Abort) (cs : List Call) (a b : Runner) → Calls p cap abort cs a b → (x : Place) → Contains (hand_view a).places x → Contains (hand_view b).places x
 calls_hold p cap abort [] a b calls x found = subst (λ r. Contains (hand_view r).places x) (sym calls) found
 calls_hold p cap abort (Took k m ∷ cs) a b calls x found =
-    subst (λ (v : View). Contains v.places x) (sym calls.2.view_is) (Contains-append_left (hand_view calls.0).places (place k m ∷ []) x (calls_hold p cap abort cs a calls.0 calls.1 x found))
+    subst (λ (v : View). Contains v.places x) (sym calls.2.view) (Contains-append_left (hand_view calls.0).places (place k m ∷ []) x (calls_hold p cap abort cs a calls.0 calls.1 x found))
 calls_hold p cap abort (Tried q ∷ cs) a b calls x found =
     let does = attempted p cap abort q calls.0 b calls.2 in
     subst (λ xs. Contains xs x) (sym does.goes.adds.places) (calls_hold p cap abort cs a calls.0 calls.1 x found)
@@ -171,10 +173,10 @@ swept_running p a b running over =
       room = subst (λ l. event_count p ≤ l.room) (sym over.kept) running.room;
     }
 
-pub takes_running : (p : Plan) (c n : ℕ) (a b : Runner) → IsExploring p a → TakesNumber c a b n → IsExploring p b
+pub takes_running : (p : Plan) (c n : ℕ) (a b : Runner) → IsExploring p a → TakesNumber c n a b → IsExploring p b
 takes_running p c n a b running t = record {
-  finishes = subst (λ (v : View). b.answers.evaluated ≤ evaluated v.events) (sym t.view_is) (subst (λ (k : Answers). k.evaluated ≤ evaluated (hand_view a).events) (sym t.answers) running.finishes);
-  stops = subst (λ (v : View). stopped b.answers ≤ loads v) (sym t.view_is) (subst (λ (k : Answers). stopped k ≤ loads (hand_view a)) (sym t.answers) running.stops);
+  finishes = subst (λ (v : View). b.answers.evaluated ≤ evaluated v.events) (sym t.view) (subst (λ (k : Answers). k.evaluated ≤ evaluated (hand_view a).events) (sym t.answers) running.finishes);
+  stops = subst (λ (v : View). stopped b.answers ≤ loads v) (sym t.view) (subst (λ (k : Answers). stopped k ≤ loads (hand_view a)) (sym t.answers) running.stops);
   kept = ap (λ l. l.items) t.kept ∙ running.kept;
   room = subst (λ l. event_count p ≤ l.room) (sym t.kept) running.room;
 }

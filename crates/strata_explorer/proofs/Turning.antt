@@ -1,5 +1,5 @@
 -- Calls in turn.
-use Rattle.std.proofs.Common.{◌≡◌, ◌⊎◌, ℕ, zero, suc, ◌+◌, ◌<◌, ◌≤◌, Bool, true, false, cond, List, [], ◌∷◌, ◌++◌, length, get_or, refl, sym, ap, ◌∙◌, subst, inl, inr, arith, zero-lt-suc, suc-le-suc}
+use Rattle.std.proofs.Common.{◌≡◌, ℕ, zero, suc, ◌+◌, ◌<◌, ◌≤◌, Bool, true, false, cond, List, [], ◌∷◌, ◌++◌, length, get_or, refl, sym, ap, ◌∙◌, subst, inl, inr, arith, suc-le-suc}
 use Rattle.std.specs.Prelude.{Contains, All, count_by, slice_index_or, nat_lt}
 use Rattle.std.proofs.lemmas.Bool.{false≢true}
 use Rattle.std.proofs.lemmas.List.Elements.{Contains-append_left, Contains-append_right, Contains-append_cases}
@@ -18,34 +18,16 @@ use Rattle.op_eval.specs.declared.runner.Runner.{Runner}
 use Rattle.op_words.specs.Counting.{times, place}
 use Rattle.op_eval.specs.Exploring.{Unused}
 use Rattle.op_eval.specs.Running.{hand_view}
-use Rattle.strata_explorer.specs.Calls.{Call, Took, Tried, TakesNumber, Calls, IsFree}
+use Rattle.op_eval.proofs.Elements.{contains_first, contains_later, contains_cases}
+use Rattle.op_eval.proofs.Turns.{in_turn_append}
+use Rattle.strata_explorer.specs.Calls.{Call, Took, Tried, Calls, Calling, IsFree}
 use Rattle.abort_eager.specs.Sweeps.{Attempts}
-use Rattle.strata_explorer.specs.Passes.{is_tried, names, Walked, Worked, IsWorking, IsEnough}
+use Rattle.op_eval.specs.Turns.{IsEnough, TakesNumber}
+use Rattle.strata_explorer.specs.Passes.{is_tried, names, Walked, Worked, IsWorking}
 use Rattle.abort_eager.proofs.Sweeping.{attempted}
 
-pub contains_first : {X : Type 0} (x : X) (xs : List X) → Contains (x ∷ xs) x
-contains_first x xs = (0, zero-lt-suc (length xs), refl)
-
-pub contains_later : {X : Type 0} (y : X) (xs : List X) (x : X) → Contains xs x → Contains (y ∷ xs) x
-contains_later y xs x found = (suc found.0, suc-le-suc found.1, found.2)
-
--- an element of a list is the first one or one of the others
-pub contains_cases : {X : Type 0} (y : X) (xs : List X) (x : X) → Contains (y ∷ xs) x → (x ≡ y) ⊎ Contains xs x
-contains_cases y xs x inside = at inside.0 inside.1 inside.2
-  where
-    at : (n : ℕ) → n < length (y ∷ xs) → get_or (y ∷ xs) n x ≡ x → (x ≡ y) ⊎ Contains xs x
-    at zero lt is = inl (sym is)
-    at (suc n) lt is = inr (n, lt-from n lt, is)
-      where
-        lt-from : (j : ℕ) → suc j < suc (length xs) → j < length xs
-        lt-from j less = omega arith
-
-pub calls_append : (p : Plan) (cap : ℕ) (abort : Abort) (ds cs : List Call) (a m b : Runner) → Calls p cap abort cs a m → Calls p cap abort ds m b → Calls p cap abort (ds ++ cs) a b
-calls_append p cap abort [] cs a m b first second = subst (Calls p cap abort cs a) (sym second) first
-calls_append p cap abort (d ∷ ds) cs a m b first second = (second.0, calls_append p cap abort ds cs a m second.0 first second.1, second.2)
-
-pub taking_free : (c n : ℕ) {a b : Runner} → TakesNumber c a b n → IsFree a → IsFree b
-taking_free c n taken free = ap (λ (v : View). v.claim) taken.view_is ∙ free
+pub taking_free : (c n : ℕ) {a b : Runner} → TakesNumber c n a b → IsFree a → IsFree b
+taking_free c n taken free = ap (λ (v : View). v.claim) taken.view ∙ free
 
 -- an operation of a unit is one of the plan's
 pub unit_inside : (units : List (List ℕ)) (many : ℕ) → IsPartition units many → (u : ℕ) (ops : List ℕ) → ops ≡ slice_index_or units u [] → (i : ℕ) → i < length ops → get_or ops i 0 < many
@@ -147,7 +129,7 @@ module _ (p : Plan) (cap : ℕ) (abort : Abort) (c : ℕ) (ops : List ℕ) (a : 
     last = inl refl;
   }
 
-  module _ (turn n : ℕ) (m b : Runner) (working : IsWorking p cap abort c ops turn a m) (takes : TakesNumber c m b n) where
+  module _ (turn n : ℕ) (m b : Runner) (working : IsWorking p cap abort c ops turn a m) (takes : TakesNumber c n m b) where
     pub above : turn ≤ n
     above =
         elim working.last [
@@ -157,19 +139,19 @@ module _ (p : Plan) (cap : ℕ) (abort : Abort) (c : ℕ) (ops : List ℕ) (a : 
 
     pub turned : times c (hand_view b).places ≡ turn + 1
     turned =
-        ap (λ (v : View). times c v.places) takes.view_is
+        ap (λ (v : View). times c v.places) takes.view
         ∙ sum_by-append (λ (x : Place). cond (eqb x.counter c) 1 0) (hand_view m).places (place c n ∷ [])
         ∙ ap (λ k. k + times c (place c n ∷ [])) working.turns
         ∙ ap (λ k. turn + k) (times_one c n)
 
     pub got : Contains (hand_view b).places (place c n)
-    got = subst (λ (v : View). Contains v.places (place c n)) (sym takes.view_is) (Contains-append_right (hand_view m).places (place c n ∷ []) (place c n) (contains_first (place c n) []))
+    got = subst (λ (v : View). Contains v.places (place c n)) (sym takes.view) (Contains-append_right (hand_view m).places (place c n ∷ []) (place c n) (contains_first (place c n) []))
 
     number_of : (k q : ℕ) → Took k q ≡ Took c n → (k ≡ c) × (q ≡ n)
     number_of k q e = (cc, cc)
 
     -- the place names no operation
-    pub ended : length ops ≤ n → Worked p cap abort c ops a b × IsEnough c ops b
+    pub ended : length ops ≤ n → Worked p cap abort c ops a b × IsEnough c (length ops) b
     ended past = (
       record {
         calls = Took c n ∷ working.worked.calls;
@@ -202,7 +184,7 @@ module _ (p : Plan) (cap : ℕ) (abort : Abort) (c : ℕ) (ops : List ℕ) (a : 
     went_on e lt walked = record {
       worked = record {
         calls = walked.calls ++ (Took c n ∷ working.worked.calls);
-        made = calls_append p cap abort walked.calls (Took c n ∷ working.worked.calls) a b e (m, working.worked.made, takes) walked.made;
+        made = in_turn_append (Calling p cap abort) walked.calls (Took c n ∷ working.worked.calls) a b e (m, working.worked.made, takes) walked.made;
         only = λ k q found.
             elim (Contains-append_cases walked.calls (Took c n ∷ working.worked.calls) (Took k q) found) [
               | inl none ↦ absurd (no_take walked.calls walked.only k q none)
@@ -249,5 +231,5 @@ module _ (p : Plan) (cap : ℕ) (abort : Abort) (c : ℕ) (ops : List ℕ) (a : 
         cond_most false k = omega arith
 
   -- all turns were made
-  pub all_turns : (b : Runner) → IsWorking p cap abort c ops (length ops) a b → IsEnough c ops b
+  pub all_turns : (b : Runner) → IsWorking p cap abort c ops (length ops) a b → IsEnough c (length ops) b
   all_turns b working = working.last

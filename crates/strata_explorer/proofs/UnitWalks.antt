@@ -11,7 +11,7 @@ use Rattle.op_eval.specs.declared.answers.Evaluation.{Evaluation}
 use Rattle.op_eval.specs.declared.answers.Evaluation.TheVariants.{Evaluated, Blocked, Busy, Already}
 use Rattle.op_eval.specs.declared.runner.Runner.{Runner}
 use Rattle.abort_eager.specs.Sweeps.{Attempts}
-use Rattle.strata_explorer.specs.Calls.{TakesNumber}
+use Rattle.op_eval.specs.Turns.{TakesNumber}
 use Rattle.strata_explorer.specs.Walks.{has_evaluated, TriesInTurn, WalksUnit, WalksAll}
 
 -- where an operation stands, by its unit and by its place, each of which is known alone
@@ -68,8 +68,8 @@ module _ (p : Plan) (cap : ℕ) (abort : Abort) where
       all_none a = record { numbers = []; walks = refl }
 
       -- the number names no operation
-      pub all_ended : (n : ℕ) (a m b : Runner) → WalksAll p cap abort units c ops a m → TakesNumber c m b n → length ops ≤ n → WalksAll p cap abort units c ops a b
+      pub all_ended : (n : ℕ) (a m b : Runner) → WalksAll p cap abort units c ops a m → TakesNumber c n m b → length ops ≤ n → WalksAll p cap abort units c ops a b
       all_ended n a m b all takes past = record { numbers = n ∷ all.numbers; walks = (m, b, all.walks, takes, (λ lt. absurd (omega arith)), (λ _. refl)) }
 
-      pub all_more : (n : ℕ) (a m t b : Runner) → WalksAll p cap abort units c ops a m → TakesNumber c m t n → n < length ops → WalksUnit p cap abort units (slice_index_or ops n 0) t b → WalksAll p cap abort units c ops a b
+      pub all_more : (n : ℕ) (a m t b : Runner) → WalksAll p cap abort units c ops a m → TakesNumber c n m t → n < length ops → WalksUnit p cap abort units (slice_index_or ops n 0) t b → WalksAll p cap abort units c ops a b
       all_more n a m t b all takes lt walks = record { numbers = n ∷ all.numbers; walks = (m, t, all.walks, takes, (λ _. walks), (λ past. absurd (omega arith))) }

@@ -15,7 +15,8 @@ use Rattle.op_eval.specs.declared.runner.Runner.{Runner}
 use Rattle.op_eval.specs.Alone.{Ran, NotBegun}
 use Rattle.op_eval.specs.Exploring.{IsExploring, Unused, total}
 use Rattle.op_eval.specs.Running.{hand_view}
-use Rattle.strata_explorer.specs.Passes.{Fits, IsEnough, IsPassed}
+use Rattle.op_eval.specs.Turns.{IsEnough}
+use Rattle.strata_explorer.specs.Passes.{Fits, IsPassed}
 
 -- how many counters a board has for the passes over a plan
 abbrev pub counters_for : Plan → ℕ
@@ -60,7 +61,7 @@ pub record IsStrata (p : Plan) (ls : List ℕ) (r : Runner) : Type 0 where
 -- all runners; for each pass one saw its counter at the end
 pub record AreStrata (p : Plan) (ls : List ℕ) (rs : List Runner) : Type 0 where
   pub each : (k : ℕ) (d : Runner) → k < length rs → IsStrata p ls (slice_index_or rs k d)
-  pub enough : (c : ℕ) → c < length ls → (k : ℕ) × (k < length rs) × ((d : Runner) → IsEnough c (ops_of p (level_of ls c)) (slice_index_or rs k d))
+  pub enough : (c : ℕ) → c < length ls → (k : ℕ) × (k < length rs) × ((d : Runner) → IsEnough c (length (ops_of p (level_of ls c))) (slice_index_or rs k d))
 
 module _ (p : Plan) (cap : ℕ) (abort : Abort) where
   -- a pass over level l comes behind passes over these levels, the last first: first over the lowest level, then over the level

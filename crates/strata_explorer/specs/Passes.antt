@@ -10,6 +10,8 @@ use Rattle.op_words.specs.Counting.{place, times}
 use Rattle.op_words.specs.Hands.{IsHandOf}
 use Rattle.op_eval.specs.declared.runner.Runner.{Runner}
 use Rattle.op_eval.specs.Running.{hand_view}
+use Rattle.op_eval.specs.Turns.{IsEnough}
+use Rattle.worker_gate.specs.Sharing.{shared_from}
 use Rattle.strata_explorer.specs.Calls.{Call, Took, Tried, Calls, IsFree}
 use Rattle.strata_explorer.specs.Walks.{WalksAll}
 
@@ -62,19 +64,11 @@ pub record Worked (p : Plan) (cap : ℕ) (abort : Abort) (c : ℕ) (ops : List �
   pub tried : (n : ℕ) → Contains calls (Took c n) → n < length ops → Contains calls (Tried (slice_index_or ops n 0))
   pub counted : count_by (names (length ops)) calls ≤ count_by is_tried calls
 
--- the runner saw the counter at the number of operations, or past it
-abbrev pub IsEnough : ℕ → List ℕ → Runner → Type 0
-IsEnough c ops r = (length ops ≡ 0) ⊎ ((n : ℕ) × Contains (hand_view r).places (place c n) × (length ops ≤ n + 1))
-
 -- after some turns
 pub record IsWorking (p : Plan) (cap : ℕ) (abort : Abort) (c : ℕ) (ops : List ℕ) (turn : ℕ) (a b : Runner) : Type 0 where
   pub worked : Worked p cap abort c ops a b
   pub turns : times c (hand_view b).places ≡ turn
   pub last : (turn ≡ 0) ⊎ ((n : ℕ) × Contains (hand_view b).places (place c n) × (turn ≤ n + 1))
-
--- all runners share a level of so many operations; the first one passes over one of fewer alone
-abbrev pub shared_from : ℕ
-shared_from = 8
 
 -- the first runner took part alone, or all of them where they share the level. One of them saw the counter at the end, or each where
 -- they share it; the unit of each place was walked
@@ -82,6 +76,6 @@ pub record IsPassed (p : Plan) (cap : ℕ) (abort : Abort) (units : List (List �
   pub len : length after ≡ length before
   pub each : (k : ℕ) (d : Runner) → k < length before → Worked p cap abort c ops (slice_index_or before k d) (slice_index_or after k d)
   pub walks : (k : ℕ) (d : Runner) → k < length before → WalksAll p cap abort units c ops (slice_index_or before k d) (slice_index_or after k d)
-  pub enough : (k : ℕ) × (k < length before) × ((d : Runner) → IsEnough c ops (slice_index_or after k d))
+  pub enough : (k : ℕ) × (k < length before) × ((d : Runner) → IsEnough c (length ops) (slice_index_or after k d))
   pub first : length ops < shared_from → (k : ℕ) (d : Runner) → 0 < k → k < length before → slice_index_or after k d ≡ slice_index_or before k d
-  pub shared : shared_from ≤ length ops → (k : ℕ) (d : Runner) → k < length before → IsEnough c ops (slice_index_or after k d)
+  pub shared : shared_from ≤ length ops → (k : ℕ) (d : Runner) → k < length before → IsEnough c (length ops) (slice_index_or after k d)

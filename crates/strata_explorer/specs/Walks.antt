@@ -7,7 +7,7 @@ use Rattle.op_eval.specs.declared.answers.Evaluation.{Evaluation}
 use Rattle.op_eval.specs.declared.answers.Evaluation.TheVariants.{Evaluated, Blocked, Busy, Already}
 use Rattle.op_eval.specs.declared.runner.Runner.{Runner}
 use Rattle.abort_eager.specs.Sweeps.{Attempts}
-use Rattle.strata_explorer.specs.Calls.{TakesNumber}
+use Rattle.op_eval.specs.Turns.{TakesNumber}
 
 -- whether an attempt evaluated its operation
 abbrev pub has_evaluated : Evaluation → Bool
@@ -37,7 +37,7 @@ module _ (p : Plan) (cap : ℕ) (abort : Abort) where
       abbrev pub WalksPlaces : List ℕ → Runner → Runner → Type 0
       WalksPlaces [] a b = b ≡ a
       WalksPlaces (n ∷ ns) a b =
-          (m : Runner) × (t : Runner) × WalksPlaces ns a m × TakesNumber c m t n × (n < length ops → WalksUnit (slice_index_or ops n 0) t b) × (length ops ≤ n → b ≡ t)
+          (m : Runner) × (t : Runner) × WalksPlaces ns a m × TakesNumber c n m t × (n < length ops → WalksUnit (slice_index_or ops n 0) t b) × (length ops ≤ n → b ≡ t)
 
       pub record WalksAll (a b : Runner) : Type 0 where
         pub numbers : List ℕ

@@ -3,18 +3,15 @@ ghost use Rattle.std.specs.Prelude.{◌≡◌, ◌<◌, All, length, slice_index
 ghost use Rattle.op_words.specs.Hands.{plan_of, cap_of, counters_of};
 ghost use Rattle.op_eval.specs.declared.runner.Runner.{Runner as Worker};
 ghost use Rattle.op_eval.specs.Exploring.{Unused};
-ghost use Rattle.strata_explorer.specs.Passes.{Fits, IsEnough, IsSeated, IsPassed};
+ghost use Rattle.op_eval.specs.Turns.{IsEnough};
+ghost use Rattle.strata_explorer.specs.Passes.{Fits, IsSeated, IsPassed};
 
 use crate::ground::Ground;
 use crate::turns::Told;
 use crate::walking::work;
 use op_eval::Runner;
 use std::thread::Threads;
-use worker_gate::{Gate, Job, run_all};
-
-/// A level with fewer operations than these is left to the first worker alone: threads would cost more than they
-/// bring.
-pub const FEW: usize = 8;
+use worker_gate::{Gate, Job, is_few, run_all};
 
 /// A pass over the operations of a level, whose places workers take from a counter.
 #[derive(Drop)]
@@ -26,10 +23,11 @@ pub(crate) struct Pass<'a, G> {
 }
 
 impl<G: Gate> Job<Runner> for Pass<'_, G> {
-    ghost use Rattle.std.specs.Prelude.{◌≡◌, ◌<◌};
+    ghost use Rattle.std.specs.Prelude.{◌≡◌, ◌<◌, length};
     ghost use Rattle.op_words.specs.Hands.{plan_of, cap_of, counters_of};
     ghost use Rattle.op_eval.specs.Exploring.{Unused};
-    ghost use Rattle.strata_explorer.specs.Passes.{Fits, IsSeated, Worked, IsEnough};
+    ghost use Rattle.op_eval.specs.Turns.{IsEnough};
+    ghost use Rattle.strata_explorer.specs.Passes.{Fits, IsSeated, Worked};
     ghost use Rattle.strata_explorer.specs.Walks.{WalksAll};
 
     ghost can_run = { λ pass runner. (pass.ground.plan.now ≡ plan_of pass.ground.board.now)
@@ -41,7 +39,7 @@ impl<G: Gate> Job<Runner> for Pass<'_, G> {
     ghost changes = { λ pass before after. IsSeated pass.ground.board.now after
         × Worked pass.ground.plan.now (cap_of pass.ground.board.now) pass.ground.abort pass.counter
         pass.ops.now before after
-        × IsEnough pass.counter pass.ops.now after
+        × IsEnough pass.counter (length pass.ops.now) after
         × WalksAll pass.ground.plan.now (cap_of pass.ground.board.now) pass.ground.abort
         pass.ground.units.now.units pass.counter pass.ops.now before after };
 
@@ -54,7 +52,7 @@ impl<G: Gate> Job<Runner> for Pass<'_, G> {
     }
 }
 
-/// A pass by all runners, or by the first alone where the level has fewer than [`FEW`] operations.
+/// A pass by all runners, or by the first alone where the level has [few](is_few) operations.
 pub(crate) fn pass_by<R: Threads + Sync, G: Gate>(
     rt: &R,
     runners: &mut [Runner],
@@ -73,9 +71,9 @@ pub(crate) fn pass_by<R: Threads + Sync, G: Gate>(
         pass.now.ground.abort pass.now.ground.units.now.units pass.now.counter
         pass.now.ops.now runners.old runners.new }
     ensures first { (d : Worker)
-        → IsEnough pass.now.counter pass.now.ops.now (slice_index_or runners.new 0 d) }
+        → IsEnough pass.now.counter (length pass.now.ops.now) (slice_index_or runners.new 0 d) }
 {
-    if pass.ops.len() < FEW {
+    if is_few(pass.ops.len()) {
         pass.run(&mut runners[0]);
     } else {
         run_all(rt, runners, pass);

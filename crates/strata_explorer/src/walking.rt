@@ -1,23 +1,19 @@
 //! What one worker does in a pass.
-ghost use Rattle.std.specs.Prelude.{◌≡◌, ◌<◌, ◌≤◌};
+ghost use Rattle.std.specs.Prelude.{◌≡◌, ◌<◌, ◌≤◌, length};
 ghost use Rattle.chain_units.specs.Places.{IsPartition};
 ghost use Rattle.morph_base.specs.Graphs.{IsValidPlan};
 ghost use Rattle.morph_base.specs.Plans.{op_count};
-ghost use Rattle.op_words.specs.Counting.{times};
 ghost use Rattle.op_words.specs.Hands.{plan_of, cap_of, counters_of};
-ghost use Rattle.op_words.specs.Rule.{most_taken};
 ghost use Rattle.op_eval.specs.Exploring.{Unused};
-ghost use Rattle.op_eval.specs.Running.{hand_view};
-ghost use Rattle.strata_explorer.specs.Calls.{TakesNumber};
+ghost use Rattle.op_eval.specs.Turns.{IsEnough};
 ghost use Rattle.abort_eager.specs.Sweeps.{Attempts};
-ghost use Rattle.strata_explorer.specs.Passes.{Fits, IsSeated, Walked, Worked, IsEnough};
+ghost use Rattle.strata_explorer.specs.Passes.{Fits, IsSeated, Walked, Worked};
 ghost use Rattle.strata_explorer.specs.Walks.{WalksUnit, WalksAll};
 
 use crate::ground::Ground;
 use crate::sweeping::sweep;
 use crate::turns::Turns;
 use op_eval::{Evaluation, Runner, evaluate};
-use op_words::Board;
 
 /// Tries to evaluate an operation in a turn, tells the gate, and does what stands behind the evaluation.
 fn attempt<T: Turns>(
@@ -67,17 +63,6 @@ fn walk<T: Turns>(ground: &Ground<'_>, told: &T, turn: u64, runner: &mut Runner,
     }
 }
 
-/// Takes the next place of a pass.
-fn take(board: &Board, runner: &mut Runner, counter: u32) -> u64
-    requires in_range { counter < counters_of board.now }
-    requires few { times counter (hand_view runner.old).places < most_taken }
-    requires seated { IsSeated board.now runner.old }
-    ensures seated { IsSeated board.now runner.new }
-    ensures does { TakesNumber counter runner.old runner.new result }
-{
-    board.take(&mut runner.hand, counter)
-}
-
 /// Takes places of a pass, and walks the unit of each, until no place is left.
 pub(crate) fn work<T: Turns>(
     ground: &Ground<'_>,
@@ -95,12 +80,12 @@ pub(crate) fn work<T: Turns>(
     ensures seated { IsSeated ground.now.board.now runner.new }
     ensures does { Worked ground.now.plan.now (cap_of ground.now.board.now) ground.now.abort counter
         ops.now runner.old runner.new }
-    ensures enough { IsEnough counter ops.now runner.new }
+    ensures enough { IsEnough counter (length ops.now) runner.new }
     ensures walks { WalksAll ground.now.plan.now (cap_of ground.now.board.now) ground.now.abort
         ground.now.units.now.units counter ops.now runner.old runner.new }
 {
     for turn in 0..ops.len() {
-        let number = take(ground.board, runner, counter);
+        let number = runner.take(ground.board, counter);
         if number >= ops.len() as u64 {
             return;
         }

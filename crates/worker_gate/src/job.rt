@@ -1,7 +1,11 @@
-ghost use Rattle.std.specs.Prelude.{ℕ, ◌<◌, length, All, slice_index_or};
+ghost use Rattle.std.specs.Prelude.{ℕ, ◌<◌, ◌↔◌, length, All, slice_index_or, IsTrue};
+ghost use Rattle.worker_gate.specs.Sharing.{shared_from};
 
 use std::thread;
 use std::thread::Threads;
+
+/// Fewer pieces of work than these are left to the first worker alone: threads would cost more than they bring.
+const FEW: usize = 8;
 
 /// What each of several workers is to do, while the job itself is shared by all of them.
 pub trait Job<W>: Sync {
@@ -15,6 +19,13 @@ pub trait Job<W>: Sync {
     fn run(&self, worker: &mut W)
         requires { can_run self.now worker.old }
         ensures { changes self.now worker.old worker.new };
+}
+
+/// Whether a job has so few pieces that it is left to the first worker alone: fewer than 8.
+pub fn is_few(pieces: usize) -> bool
+    ensures { IsTrue result ↔ (pieces < shared_from) }
+{
+    pieces < FEW
 }
 
 /// Has each worker do the job, side by side: with as many threads as there are workers, or fewer where no thread can

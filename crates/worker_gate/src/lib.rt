@@ -16,5 +16,5 @@ mod tests;
 
 pub use gate::{FreeGate, Gate};
 pub use hold_gate::HoldGate;
-pub use job::{Job, run_all};
+pub use job::{Job, is_few, run_all};
 pub use meet_gate::MeetGate;

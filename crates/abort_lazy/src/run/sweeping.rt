@@ -5,16 +5,12 @@ ghost use Rattle.op_words.specs.Hands.{plan_of, IsHandOf};
 ghost use Rattle.op_eval.specs.Running.{hand_view};
 ghost use Rattle.abort_lazy.specs.Sweeps.{HasTriedOne, FitsBoard, CanSweep, HasSwept, AreSwept};
 
-use super::taking::take_number;
 use crate::transaction::{TxnAnswer, settle_txn};
 use morph_base::Plan;
 use op_eval::{Left, Runner};
 use op_words::Board;
 use std::thread::Threads;
-use worker_gate::{Job, run_all};
-
-/// A level of fewer events than these is left to the first runner alone: threads would cost more than they bring.
-const FEW: usize = 8;
+use worker_gate::{Job, is_few, run_all};
 
 /// The events of a level, whose numbers there workers take from a counter.
 #[derive(Drop)]
@@ -71,7 +67,7 @@ fn go_over(sweep: &Sweep<'_>, runner: &mut Runner)
         runner.old runner.new }
 {
     for _turn in 0..sweep.events.len() {
-        let number = take_number(sweep.board, runner, sweep.counter);
+        let number = runner.take(sweep.board, sweep.counter);
         if number >= sweep.events.len() as u64 {
             return;
         }
@@ -98,7 +94,7 @@ impl Job<Runner> for Sweep<'_> {
     }
 }
 
-/// Has the level's events tried by all runners, or by the first alone where there are fewer than [`FEW`].
+/// Has the level's events tried by all runners, or by the first alone where there are [few](is_few).
 pub fn sweep_by<T: Threads + Sync>(rt: &T, runners: &mut [Runner], sweep: &Sweep<'_>)
     requires some { 0 < length runners.old }
     requires fits { FitsBoard sweep.now.board.now sweep.now.plan.now sweep.now.counter
@@ -109,7 +105,7 @@ pub fn sweep_by<T: Threads + Sync>(rt: &T, runners: &mut [Runner], sweep: &Sweep
         sweep.now.events.now
         runners.old runners.new }
 {
-    if sweep.events.len() < FEW {
+    if is_few(sweep.events.len()) {
         sweep.run(&mut runners[0]);
     } else {
         run_all(rt, runners, sweep);

@@ -1,7 +1,8 @@
-use Rattle.std.proofs.Common.{sym, subst, arith}
+use Rattle.std.proofs.Common.{length, sym, subst, arith}
 use Rattle.std.specs.Prelude.{slice_index_or}
 use Rattle.op_words.specs.Hands.{cap_of}
-use Rattle.strata_explorer.specs.Passes.{Fits, IsEnough, IsPassed}
+use Rattle.op_eval.specs.Turns.{IsEnough}
+use Rattle.strata_explorer.specs.Passes.{Fits, IsPassed}
 use Rattle.strata_explorer.specs.Levels.{ops_of}
 use Rattle.strata_explorer.proofs.Between.{passed_between}
 use Rattle.strata_explorer.proofs.Climbing.{level_is}
@@ -26,7 +27,7 @@ returns-clause-passed g c =
     (some_op p c.requires.valid c.args.level c.requires.level) c.requires.some (λ d. c.requires.unused 0 d c.requires.some)
     (subst (λ cap. IsPassed p cap c.args.course.now.abort c.args.course.now.units.now.units c.args.counter (ops_of p c.args.level) c.empty_level.new.runners c.pass_by.new.runners) c.empty_level.ensures.cap
     (subst (λ ops. IsPassed p (cap_of c.empty_level.new.board) c.args.course.now.abort c.args.course.now.units.now.units c.args.counter ops c.empty_level.new.runners c.pass_by.new.runners) is c.pass_by.ensures.does))
-    (λ d. subst (λ ops. IsEnough c.args.counter ops (slice_index_or c.pass_by.new.runners 0 d)) is (c.pass_by.ensures.first d))
+    (λ d. subst (λ ops. IsEnough c.args.counter (length ops) (slice_index_or c.pass_by.new.runners 0 d)) is (c.pass_by.ensures.first d))
 
 pub returns-clause-next : goal.returns-clause-next
 returns-clause-next g c =

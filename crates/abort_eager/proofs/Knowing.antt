@@ -13,9 +13,10 @@ use Rattle.interleaving_core.specs.Core.{places}
 use Rattle.abort_eager.specs.declared.answers.Target.{Target}
 use Rattle.abort_eager.specs.declared.answers.Target.TheVariants.{Spread, RollBack}
 use Rattle.abort_eager.specs.Targets.{is_among, place_targets, reader_targets, sibling_targets, first_source, source_count, end_source, spread_targets, targets, IsSibling, IsReading}
-use Rattle.abort_eager.proofs.Listing.{contains_filter, contains_map, contains_flat_map, all_flat_map, in_range, range_within}
+use Rattle.abort_eager.proofs.Listing.{contains_map, contains_flat_map, all_flat_map, in_range, range_within}
 use Rattle.abort_eager.proofs.Reading.{among_bounds, bounds_among}
 use Rattle.abort_eager.proofs.Popping.{sibling_of}
+use Rattle.op_eval.proofs.Elements.{contains_filter}
 
 module _ (p : Plan) (o : ℕ) (failed : Bool) where
   -- what a target tells
@@ -99,8 +100,8 @@ module _ (p : Plan) (o : ℕ) (valid : IsPlan p) (lt : o < op_count p) where
       let bounds = source_within p o true s valid lt (inr other) in
       contains_map (λ t. Spread t) (filter (λ t. not (eqb t o)) (range_with_len (first_source p o true) (source_count p o true))) s
       (contains_filter (λ t. not (eqb t o)) (range_with_len (first_source p o true) (source_count p o true)) s
-      (ap not (ne_eqb s o (λ e. other.another (sym e))))
-      (in_range (first_source p o true) (source_count p o true) s bounds.0 bounds.1))
+      (in_range (first_source p o true) (source_count p o true) s bounds.0 bounds.1)
+      (ap not (ne_eqb s o (λ e. other.another (sym e)))))
   has_sibling false s other = absurd (false≢true other.failure)
 
   module _ (failed : Bool) where
@@ -110,8 +111,8 @@ module _ (p : Plan) (o : ℕ) (valid : IsPlan p) (lt : o < op_count p) where
         let bounds = source_within p o failed reads.source valid lt reads.source_is in
         let among = ap (is_among (first_source p o failed) (end_source p o failed)) reads.origin_is ∙ bounds_among (first_source p o failed) (end_source p o failed) reads.source bounds.0 bounds.1 in
         contains_map (λ k. RollBack q k) (filter (λ k. is_among (first_source p o failed) (end_source p o failed) (origin_at p q k)) (range_with_len 0 (places p q))) j
-        (contains_filter (λ k. is_among (first_source p o failed) (end_source p o failed) (origin_at p q k)) (range_with_len 0 (places p q)) j among
-        (in_range 0 (places p q) j (omega arith) (let below = reads.in_places in omega arith)))
+        (contains_filter (λ k. is_among (first_source p o failed) (end_source p o failed) (origin_at p q k)) (range_with_len 0 (places p q)) j
+        (in_range 0 (places p q) j (omega arith) (let below = reads.in_places in omega arith)) among)
 
     has_reader : (q j : ℕ) → IsReading p o failed q j → Contains (reader_targets p (first_source p o failed) (end_source p o failed) 0 (op_count p)) (RollBack q j)
     unfolding reader_targets

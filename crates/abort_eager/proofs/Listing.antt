@@ -1,25 +1,11 @@
 -- What a filter, a map and a range have.
-use Rattle.std.proofs.Common.{◌≡◌, ℕ, ◌+◌, ◌-◌, ◌<◌, ◌≤◌, Bool, true, false, cond, List, [], ◌∷◌, map, length, sym, ap, ◌∙◌, subst, refl, inl, inr, arith, zero-lt-suc, not-suc-le-zero}
-use Rattle.std.specs.Prelude.{Contains, All, filter}
+use Rattle.std.proofs.Common.{◌≡◌, ℕ, ◌+◌, ◌-◌, ◌<◌, ◌≤◌, List, [], ◌∷◌, map, length, sym, ap, ◌∙◌, subst, refl, inl, inr, arith, zero-lt-suc, not-suc-le-zero}
+use Rattle.std.specs.Prelude.{Contains, All}
 use Rattle.std.specs.List.{range_with_len, flat_map}
 use Rattle.std.proofs.lemmas.List.{length-map, get_or-map}
 use Rattle.std.proofs.lemmas.List.Elements.{Contains-append_left, Contains-append_right, Contains-append_cases, All-append}
 use Rattle.std.proofs.lemmas.List.FromFn.{length-range_with_len, get_or-range_with_len}
 use Rattle.op_words.proofs.Rows.{one_inside}
-
-pub contains_filter : {X : Type 0} (t : X → Bool) (xs : List X) (x : X) → t x ≡ true → Contains xs x → Contains (filter t xs) x
-contains_filter t [] x passes inside = absurd (not-suc-le-zero inside.1)
-contains_filter {X} t (y ∷ ys) x passes inside =
-    elim (Contains-append_cases (y ∷ []) ys x inside) [
-      | inl first ↦
-          subst (λ b. Contains (cond b (y ∷ filter t ys) (filter t ys)) x) (sym (ap t (one_inside y x first) ∙ passes))
-          (Contains-append_left (y ∷ []) (filter t ys) x first)
-      | inr later ↦ kept (t y) (filter t ys) (contains_filter t ys x passes later)
-    ]
-  where
-    kept : (b : Bool) (l : List X) → Contains l x → Contains (cond b (y ∷ l) l) x
-    kept true l there = Contains-append_right (y ∷ []) l x there
-    kept false l there = there
 
 pub contains_map : {X Y : Type 0} (f : X → Y) (xs : List X) (x : X) → Contains xs x → Contains (map f xs) (f x)
 contains_map f xs x inside =

@@ -11,7 +11,8 @@ use Rattle.morph_base.specs.declared.plan.Plan.{Plan}
 use Rattle.morph_base.specs.Plans.{op_count}
 use Rattle.morph_base.specs.Graphs.{below, reads_from, IsGraph}
 use Rattle.abort_eager.specs.Finding.{IsFirstAt, IsLesser, AreNone, IsReader, IsFirstReader}
-use Rattle.abort_eager.proofs.Listing.{contains_filter, in_range, range_within}
+use Rattle.abort_eager.proofs.Listing.{in_range, range_within}
+use Rattle.op_eval.proofs.Elements.{contains_filter}
 
 -- ---- the first number that is not below
 
@@ -63,7 +64,7 @@ module _ (p : Plan) (k : ℕ) (xs : List ℕ) (is : xs ≡ filter (reads_from p 
           omega arith
 
   listed : (t : ℕ) → t < op_count p → reads_from p k t ≡ true → Contains xs t
-  listed t lt reads = subst (λ ys. Contains ys t) (sym is) (contains_filter (reads_from p k) (below (op_count p)) t reads (in_range 0 (op_count p) t (omega arith) (omega arith)))
+  listed t lt reads = subst (λ ys. Contains ys t) (sym is) (contains_filter (reads_from p k) (below (op_count p)) t (in_range 0 (op_count p) t (omega arith) (omega arith)) reads)
 
   inside_plan : All (λ x. x < op_count p) (below (op_count p))
   inside_plan i d lt = let bounds = range_within 0 (op_count p) (get_or (below (op_count p)) i d) (Contains-get_or (below (op_count p)) i d lt) in omega (arith, bounds.1)

@@ -1,6 +1,6 @@
 -- A lone root settles all.
-use Rattle.std.proofs.Common.{◌≡◌, ℕ, zero, suc, ◌+◌, ◌<◌, Bool, true, false, cond, eqb, List, [], ◌∷◌, ◌++◌, append-nil, length, get_or, refl, sym, ap, ◌∙◌, subst, inl, inr, arith}
-use Rattle.std.specs.Prelude.{Contains, filter, slice_index_or}
+use Rattle.std.proofs.Common.{◌≡◌, ℕ, zero, suc, ◌+◌, ◌<◌, true, eqb, List, [], ◌∷◌, ◌++◌, append-nil, length, get_or, refl, sym, ap, ◌∙◌, subst, inl, inr, arith}
+use Rattle.std.specs.Prelude.{Contains, slice_index_or}
 use Rattle.std.proofs.lemmas.Bool.{false≢true, cases_lt, eq-eqb}
 use Rattle.morph_base.specs.declared.plan.Plan.{Plan}
 use Rattle.morph_base.specs.Graphs.{below, IsGraph}
@@ -10,7 +10,7 @@ use Rattle.op_words.specs.declared.board.Board.{Board}
 use Rattle.op_words.specs.Views.{IsLone, IsSettledSeen}
 use Rattle.op_eval.specs.declared.runner.Runner.{Runner}
 use Rattle.op_eval.specs.Running.{hand_view}
-use Rattle.op_eval.proofs.Elements.{contains_first, contains_later, contains_cases, contains_none}
+use Rattle.op_eval.proofs.Elements.{contains_first, contains_later, contains_cases, contains_none, contains_filter}
 use Rattle.abort_lazy.specs.declared.run.sweeping.Call.{Call}
 use Rattle.abort_lazy.specs.declared.run.sweeping.Call.TheVariants.{Took, Tried}
 use Rattle.abort_lazy.specs.declared.transaction.TxnAnswer.{TxnAnswer}
@@ -24,22 +24,6 @@ use Rattle.abort_lazy.proofs.Summing.{below_has}
 use Rattle.abort_lazy.proofs.Trying.{calls_lone, seen_taken, source_below}
 
 -- ---- each event of a level stands in its list
-
-contains_filter : (q : ℕ → Bool) (xs : List ℕ) (x : ℕ) → Contains xs x → q x ≡ true → Contains (filter q xs) x
-contains_filter q [] x found ok = absurd (contains_none x found)
-contains_filter q (y ∷ xs) x found ok = at (λ later. contains_filter q xs x later ok) (q y) refl
-  where
-    at : (Contains xs x → Contains (filter q xs) x) → (b : Bool) → q y ≡ b → Contains (cond b (y ∷ filter q xs) (filter q xs)) x
-    at rest true is =
-        elim (contains_cases y xs x found) [
-          | inl same ↦ subst (λ z. Contains (z ∷ filter q xs) x) same (contains_first x (filter q xs))
-          | inr later ↦ contains_later y (filter q xs) x (rest later)
-        ]
-    at rest false is =
-        elim (contains_cases y xs x found) [
-          | inl same ↦ absurd (false≢true (sym is ∙ ap q (sym same) ∙ ok))
-          | inr later ↦ rest later
-        ]
 
 any_default : (xs : List ℕ) (n d e : ℕ) → n < length xs → get_or xs n d ≡ get_or xs n e
 any_default [] n d e lt = absurd (omega (arith, lt))

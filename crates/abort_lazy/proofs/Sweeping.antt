@@ -1,5 +1,5 @@
 -- Turns of a runner at one level.
-use Rattle.std.proofs.Common.{◌≡◌, ℕ, ◌+◌, ◌<◌, ◌≤◌, cond, eqb, List, [], ◌∷◌, length, get_or, refl, sym, ap, ◌∙◌, subst, inl, inr, arith, None}
+use Rattle.std.proofs.Common.{◌≡◌, ℕ, ◌+◌, ◌<◌, ◌≤◌, eqb, List, [], ◌∷◌, length, get_or, refl, sym, ap, ◌∙◌, subst, inl, inr, arith, None}
 use Rattle.std.specs.Prelude.{Contains, All, nat_lt, slice_index_or, slice_set, sum_by}
 use Rattle.std.proofs.lemmas.Bool.{cases_eq, cond-true, cond-false, eq-eqb, le-ltb, lt-ltb}
 use Rattle.std.proofs.lemmas.List.{length-set, get_or-set_same, get_or-set_other}
@@ -20,12 +20,10 @@ use Rattle.op_eval.proofs.Elements.{contains_first, contains_later, contains_cas
 use Rattle.abort_lazy.specs.declared.run.sweeping.Call.{Call}
 use Rattle.abort_lazy.specs.declared.run.sweeping.Call.TheVariants.{Took, Tried}
 use Rattle.op_eval.specs.Turns.{TakesNumber}
+use Rattle.op_eval.proofs.Turns.{times_one}
 use Rattle.worker_gate.specs.Sharing.{shared_from}
 use Rattle.abort_lazy.specs.Sweeps.{HasTriedOne, Swept, IsThrough, HasSwept, AreSwept, IsSweeping, CanSweep, tried_by, taken_by, weight_at}
 use Rattle.abort_lazy.proofs.Trying.{calls_lone}
-
-times_one : (c n : ℕ) → times c (place c n ∷ []) ≡ 1
-times_one c n = ap (λ t. 0 + cond t 1 0) (eq-eqb c c refl)
 
 pub times_taking : (c n : ℕ) (v : View) → times c (taking c n v).places ≡ times c v.places + 1
 times_taking c n v = sum_by-append (of_counter c one) v.places (place c n ∷ []) ∙ ap (λ k. times c v.places + k) (times_one c n)

@@ -103,3 +103,8 @@ read_unit lists u list ops inside is items =
 
 pub unit_stands : (units : List (List ℕ)) (u i : ℕ) (ops : List ℕ) → ops ≡ get_or units u [] → i < length ops → StandsAt units u i (get_or ops i 0)
 unit_stands units u i ops unit inside = ap (λ (xs : List ℕ). slice_get xs i) (sym unit) ∙ slice_get-get_or ops i 0 inside
+
+-- an operation of a unit is one of the plan's
+pub unit_inside : (units : List (List ℕ)) (many : ℕ) → IsPartition units many → (u : ℕ) (ops : List ℕ) → ops ≡ get_or units u [] → (i : ℕ) → i < length ops → get_or ops i 0 < many
+unit_inside units many partition u ops same i lt =
+    partition.inside u i (get_or ops i 0) (subst (λ zs. slice_get zs i ≡ Some (get_or ops i 0)) same (slice_get-get_or ops i 0 lt))

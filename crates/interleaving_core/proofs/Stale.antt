@@ -63,7 +63,7 @@ one_only {X} q (z ∷ xs) x y few first second one two = at first.0 first.1 firs
 
 -- ---- after exploration each record is a guess
 
-run_shown : (s : OpState) → has_run s ≡ true → is_shown s ≡ true
+pub run_shown : (s : OpState) → has_run s ≡ true → is_shown s ≡ true
 run_shown Blocked is = is
 run_shown Ready is = is
 run_shown Claimed is = is

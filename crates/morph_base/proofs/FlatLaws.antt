@@ -39,7 +39,7 @@ place-once l a b ha hb e =
     ap (λ t. key_of t a.id) both.0 ∙ ap (λ i. key_of b.table i) both.1
 
 -- the place of a key of the layout is one of as many as there are values
-place-inside : (l : Layout) (key : Key) → InLayout l key → place_of l key < l.tables * l.size
+pub place-inside : (l : Layout) (key : Key) → InLayout l key → place_of l key < l.tables * l.size
 place-inside l key h =
     let row : suc key.table * l.size ≤ l.tables * l.size = mul-le-mul_right l.size h.table in
     let id : key.id < l.size = h.id in

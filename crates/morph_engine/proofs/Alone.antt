@@ -29,7 +29,7 @@ use Rattle.op_words.specs.Plays.{IsTold}
 use Rattle.op_words.specs.Trails.{last_word}
 use Rattle.op_words.specs.Views.{IsLone, IsSettledSeen}
 use Rattle.op_words.proofs.Noting.{noted_present, noted_source}
-use Rattle.op_words.proofs.Sighting.{run_shown}
+use Rattle.interleaving_core.proofs.Stale.{run_shown}
 use Rattle.op_words.proofs.Sizes.{range_size}
 use Rattle.op_eval.specs.declared.runner.Runner.{Runner}
 use Rattle.op_eval.specs.Running.{hand_view}

@@ -1,5 +1,5 @@
 -- What a list begins with, and what stands further on.
-use Rattle.std.proofs.Common.{◌≡◌, ◌⊎◌, ℕ, zero, suc, ◌<◌, List, [], ◌∷◌, length, get_or, refl, sym, inl, inr, arith, zero-lt-suc, suc-le-suc}
+use Rattle.std.proofs.Common.{◌≡◌, ◌⊎◌, ℕ, zero, suc, ◌<◌, Bool, true, false, cond, List, [], ◌∷◌, length, filter, get_or, refl, sym, ap, ◌∙◌, subst, inl, inr, arith, zero-lt-suc, suc-le-suc}
 use Rattle.std.specs.Prelude.{Contains}
 
 pub contains_first : {X : Type 0} (x : X) (xs : List X) → Contains (x ∷ xs) x
@@ -21,3 +21,17 @@ contains_cases y xs x inside = at inside.0 inside.1 inside.2
 
 pub contains_none : {X : Type 0} (x : X) → Contains [] x → ⊥
 contains_none x found = absurd (omega (arith, found.1))
+
+pub contains_filter : {X : Type 0} (t : X → Bool) (xs : List X) (x : X) → Contains xs x → t x ≡ true → Contains (filter t xs) x
+contains_filter t [] x inside passes = absurd (omega (arith, inside.1))
+contains_filter {X} t (y ∷ ys) x inside passes =
+    elim (contains_cases y ys x inside) [
+      | inl same ↦
+          subst (λ b. Contains (cond b (y ∷ filter t ys) (filter t ys)) x) (sym (ap t (sym same) ∙ passes))
+          (subst (λ z. Contains (y ∷ filter t ys) z) (sym same) (contains_first y (filter t ys)))
+      | inr later ↦ kept (t y) (filter t ys) (contains_filter t ys x later passes)
+    ]
+  where
+    kept : (b : Bool) (l : List X) → Contains l x → Contains (cond b (y ∷ l) l) x
+    kept true l there = contains_later y l x there
+    kept false l there = there

@@ -4,6 +4,7 @@ use Rattle.std.specs.Prelude.{slice_index_or}
 use Rattle.std.proofs.lemmas.List.Elements.{Contains-append_cases}
 use Rattle.op_words.specs.declared.trail.Item.{Item}
 use Rattle.op_words.specs.Trails.{OwnOpen, IsCalm, IsCalmAt}
+use Rattle.op_words.specs.Views.{Goes}
 use Rattle.op_words.proofs.Rows.{no_more}
 use Rattle.op_words.proofs.Trailing.{along_none, along-append}
 use Rattle.op_eval.specs.declared.runner.Runner.{Runner}
@@ -21,6 +22,20 @@ same_further a b same = record {
   notes = ap (λ r. (hand_view r).notes) same ∙ no_more (hand_view a).notes;
   open_own = λ t inside. absurd (omega (arith, inside.1));
   calm = λ lone. along_none IsCalmAt (hand_view a).trail;
+}
+
+-- words that settle nothing were added to its view
+pub goes_further : (a b : Runner) (words : List Item) → Goes (hand_view a) (hand_view b) words → OwnOpen words → IsFurther a b
+goes_further a b words goes open_own = record {
+  tag = goes.adds.tag;
+  made = goes.adds.made;
+  room = goes.adds.room;
+  joined = goes.adds.joined;
+  words = words;
+  trail = goes.adds.trail;
+  notes = goes.adds.notes;
+  open_own = open_own;
+  calm = goes.adds.calm;
 }
 
 own_both : (xs ys : List Item) → OwnOpen xs → OwnOpen ys → OwnOpen (xs ++ ys)

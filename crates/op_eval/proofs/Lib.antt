@@ -8,3 +8,4 @@ pub mod Totals
 pub mod Showing
 pub mod Turns
 pub mod Elements
+pub mod Answering

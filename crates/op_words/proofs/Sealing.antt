@@ -31,16 +31,6 @@ use Rattle.op_words.proofs.Walking.{walk_learn, walk_last, look_last, learned_se
 use Rattle.op_words.proofs.Comparing.{read_right}
 use Rattle.op_words.proofs.Judging.{stale_again}
 
-pub open_unsettled : (s : OpState) → is_open s ≡ true → is_settled s ≡ false
-open_unsettled Blocked is = refl
-open_unsettled Ready is = refl
-open_unsettled Claimed is = refl
-open_unsettled Executed is = refl
-open_unsettled Failed is = refl
-open_unsettled Spread is = refl
-open_unsettled Settled is = absurd (false≢true is)
-open_unsettled SettledAborted is = absurd (false≢true is)
-
 adds_settling : (v : View) (o : ℕ) (z : OpWord) → Leaves v (settling o z v) (left o z) → Adds v (settling o z v) (left o z ∷ [])
 adds_settling v o z tells = record {
   trail = refl;

@@ -5,8 +5,6 @@ use mathlib.Core.Option.{some}
 use lib.ListN.{get_elem?}
 use Rattle.morph_base.specs.declared.plan.Plan.{Plan}
 use Rattle.morph_base.specs.declared.plan.Origin.{Origin}
-use Rattle.morph_base.specs.declared.word.OpState.{OpState}
-use Rattle.morph_base.specs.declared.word.OpState.TheVariants.{Blocked, Ready, Claimed, Executed, Failed, Spread, Settled, SettledAborted}
 use Rattle.morph_base.specs.declared.word.OpWord.{OpWord}
 use Rattle.morph_base.specs.Plans.{op_count, event_of, origin_at}
 use Rattle.morph_base.specs.Words.{is_settled}
@@ -14,21 +12,12 @@ use Rattle.interleaving_core.specs.declared.entry.Record.{Record}
 use Rattle.interleaving_core.specs.Core.{has_run, is_shown, IsSettledAs}
 use Rattle.interleaving_core.specs.Soundness.{IsSoundAt}
 use Rattle.interleaving_core.proofs.Sources.{settled_cases, settled_right}
+use Rattle.interleaving_core.proofs.Stale.{run_shown}
 use Rattle.op_words.specs.declared.trail.View.{View}
 use Rattle.op_words.specs.Views.{IsSettledSeen, IsSourceSeen, IsRecordSeen}
 use Rattle.op_words.specs.Rule.{Seats, Knows, Lawful}
 use Rattle.op_words.specs.Plays.{HasRun, IsSight}
 use Rattle.op_words.proofs.Noting.{noted_present, noted_source}
-
-pub run_shown : (s : OpState) → has_run s ≡ true → is_shown s ≡ true
-run_shown Blocked is = is
-run_shown Ready is = is
-run_shown Claimed is = is
-run_shown Executed is = refl
-run_shown Failed is = refl
-run_shown Spread is = refl
-run_shown Settled is = refl
-run_shown SettledAborted is = is
 
 module _ {p : Plan} {cap counters : ℕ} (s : Seats) (lawful : Lawful p cap counters s) (i : ℕ) (v : View) (at : get_elem? s.views i ≡ some (Some v)) where
   knows : Knows p cap lawful.core (length s.views) i v

@@ -3,7 +3,7 @@ ghost use Rattle.std.specs.Prelude.{◌≡◌, ◌≤◌, drop};
 ghost use Rattle.run_checker.specs.Lines.{greatest_id, greatest_small, greatest_value};
 ghost use Rattle.run_checker.specs.Reading.{number_up_to, decision_said, op_said, pair_said, fetch_said, decide_said};
 
-use event_reader::Words;
+use event_reader::{Number, Words, read_number};
 
 /// The greatest value of a line, 10^13.
 const GREATEST_VALUE: u64 = 10_000_000_000_000;
@@ -13,18 +13,10 @@ fn number_up_to(greatest: u64, word: &[u8]) -> Option<u64>
     requires { greatest ≤ greatest_value }
     ensures { result ≡ number_up_to greatest word.now }
 {
-    if word.is_empty() || (word[0] == b'0' && word.len() > 1) {
-        return None;
+    match read_number(word) {
+        Number::Value(value) if value <= greatest => Some(value),
+        _ => None,
     }
-    let mut value = 0u64;
-    'digits: for byte in word {
-        let byte = *byte;
-        if byte < b'0' || b'9' < byte {
-            return None;
-        }
-        value = (10 * value + u64::from(byte - b'0')).min(greatest + 1);
-    }
-    if value > greatest { None } else { Some(value) }
 }
 
 /// The number of an operation or an event.

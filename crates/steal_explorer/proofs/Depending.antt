@@ -1,5 +1,5 @@
 -- The dependents of an operation of a valid plan are its operations that have it as a source.
-use Rattle.std.proofs.Common.{◌≡◌, ℕ, ◌+◌, ◌<◌, Bool, true, false, cond, List, [], ◌∷◌, map, length, get_or, filter, sym, ap, ◌∙◌, subst, inl, inr, ◌⊎◌, arith, zero-add}
+use Rattle.std.proofs.Common.{◌≡◌, ℕ, ◌+◌, ◌<◌, Bool, true, false, List, [], map, length, get_or, sym, ap, ◌∙◌, subst, inl, inr, ◌⊎◌, arith, zero-add}
 use Rattle.std.specs.Prelude.{All, Contains, slice_index_or}
 use Rattle.std.proofs.lemmas.Bool.{false≢true, eq-eqb, cases_eq, ne_eqb}
 use Rattle.std.proofs.lemmas.List.Folds.{Any-from_list_any, list_any_at}
@@ -15,7 +15,7 @@ use Rattle.morph_base.specs.Plans.{IsPlan, op_at, op_count, keys_of, origins_of}
 use Rattle.morph_base.proofs.OutcomeLaws.{keys_fit}
 use Rattle.op_words.specs.Trails.{IsSourceOf}
 use Rattle.steal_explorer.specs.Alone.{readers}
-use Rattle.op_eval.proofs.Elements.{contains_first, contains_later, contains_cases}
+use Rattle.op_eval.proofs.Elements.{contains_filter}
 
 abbrev items_of : Contents ℕ → List ℕ
 items_of l = l.items
@@ -25,20 +25,6 @@ below_inside n k d lt = let less : k < n = subst (λ m. k < m) (length-range_wit
 
 below_all : (n o : ℕ) → o < n → Contains (below n) o
 below_all n o lt = (o, subst (λ m. o < m) (sym (length-range_with_len 0 n)) lt, get_or-range_with_len 0 n o o lt ∙ zero-add o)
-
-contains_filter : (t : ℕ → Bool) (xs : List ℕ) (x : ℕ) → Contains xs x → t x ≡ true → Contains (filter t xs) x
-contains_filter t [] x inside passes = absurd (omega (arith, inside.1))
-contains_filter t (y ∷ ys) x inside passes =
-    elim (contains_cases y ys x inside) [
-      | inl same ↦
-          subst (λ b. Contains (cond b (y ∷ filter t ys) (filter t ys)) x) (sym (ap t (sym same) ∙ passes))
-          (subst (λ z. Contains (y ∷ filter t ys) z) (sym same) (contains_first y (filter t ys)))
-      | inr later ↦ kept (t y) (filter t ys) (contains_filter t ys x later passes)
-    ]
-  where
-    kept : (b : Bool) (l : List ℕ) → Contains l x → Contains (cond b (y ∷ l) l) x
-    kept true l there = contains_later y l x there
-    kept false l there = there
 
 -- ---- who reads from an operation
 

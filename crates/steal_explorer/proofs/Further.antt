@@ -3,7 +3,7 @@ use Rattle.std.proofs.Common.{ℕ, List, [], ◌∷◌}
 use Rattle.morph_base.specs.declared.plan.Plan.{Plan}
 use Rattle.op_eval.specs.declared.runner.Runner.{Runner}
 use Rattle.op_eval.specs.Further.{IsFurther}
-use Rattle.op_eval.proofs.Further.{same_further, further_then}
+use Rattle.op_eval.proofs.Further.{same_further, goes_further, further_then}
 use Rattle.abort_eager.proofs.Touching.{touched_one}
 use Rattle.op_eval.specs.Running.{hand_view}
 use Rattle.steal_explorer.specs.Calls.{Call, Asked, Tried, Swept, Calls}
@@ -12,40 +12,10 @@ pub calls_further : (p : Plan) (cap : ℕ) (cs : List Call) (a b : Runner) → C
 calls_further p cap [] a b calls = same_further a b calls
 calls_further p cap (Asked o ∷ cs) a b calls =
     let does = calls.2.1.does in
-    further_then a calls.0 b (calls_further p cap cs a calls.0 calls.1) (record {
-      tag = does.goes.adds.tag;
-      made = does.goes.adds.made;
-      room = does.goes.adds.room;
-      joined = does.goes.adds.joined;
-      words = does.words;
-      trail = does.goes.adds.trail;
-      notes = does.goes.adds.notes;
-      open_own = does.open_own;
-      calm = does.goes.adds.calm;
-    })
+    further_then a calls.0 b (calls_further p cap cs a calls.0 calls.1) (goes_further calls.0 b does.words does.goes does.open_own)
 calls_further p cap (Tried o ∷ cs) a b calls =
     let does = calls.2.1.does in
-    further_then a calls.0 b (calls_further p cap cs a calls.0 calls.1) (record {
-      tag = does.goes.adds.tag;
-      made = does.goes.adds.made;
-      room = does.goes.adds.room;
-      joined = does.goes.adds.joined;
-      words = does.words;
-      trail = does.goes.adds.trail;
-      notes = does.goes.adds.notes;
-      open_own = does.open_own;
-      calm = does.goes.adds.calm;
-    })
+    further_then a calls.0 b (calls_further p cap cs a calls.0 calls.1) (goes_further calls.0 b does.words does.goes does.open_own)
 calls_further p cap (Swept g ∷ cs) a b calls =
     let does = touched_one p cap g (hand_view calls.0) (hand_view b) calls.2.0 calls.2.1.touches in
-    further_then a calls.0 b (calls_further p cap cs a calls.0 calls.1) (record {
-      tag = does.goes.adds.tag;
-      made = does.goes.adds.made;
-      room = does.goes.adds.room;
-      joined = does.goes.adds.joined;
-      words = does.words;
-      trail = does.goes.adds.trail;
-      notes = does.goes.adds.notes;
-      open_own = does.open_own;
-      calm = does.goes.adds.calm;
-    })
+    further_then a calls.0 b (calls_further p cap cs a calls.0 calls.1) (goes_further calls.0 b does.words does.goes does.open_own)

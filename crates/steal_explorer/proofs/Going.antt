@@ -1,9 +1,7 @@
 -- Calls in turn, and what they and pushes make of a worker.
 use Rattle.std.proofs.Common.{◌≡◌, ℕ, zero, suc, ◌+◌, ◌<◌, false, List, [], ◌∷◌, ◌++◌, length, get_or, refl, sym, ap, ◌∙◌, subst, arith, append_assoc}
-use Rattle.std.specs.Prelude.{All, Some, slice_get, slice_index_or}
-use Rattle.std.proofs.lemmas.Option.{slice_get-get_or}
+use Rattle.std.specs.Prelude.{All, slice_index_or}
 use Rattle.std.proofs.lemmas.List.Elements.{All-append, Contains-append_right}
-use Rattle.chain_units.specs.Places.{IsPartition}
 use Rattle.crossbeam_deque.specs.Handles.{view, stealer_deque, worker_view, SameWorker}
 use Rattle.morph_base.specs.Contents.{Contents}
 use Rattle.op_words.specs.Hands.{up_to}
@@ -23,11 +21,6 @@ use Rattle.steal_explorer.specs.Calls.{Call, Asked, Tried, is_asked, is_swept, N
 use Rattle.steal_explorer.specs.Handing.{log, one, parts_of, put}
 use Rattle.steal_explorer.specs.Members.{Owner, Thief, Ticket, own, stolen_by, AreSeated, HasTickets}
 use Rattle.steal_explorer.specs.Serving.{Goes, TouchesFor, Visits, Serves}
-
--- an operation of a unit is one of the plan's
-pub unit_inside : (units : List (List ℕ)) (many : ℕ) → IsPartition units many → (u : ℕ) (ops : List ℕ) → ops ≡ slice_index_or units u [] → (i : ℕ) → i < length ops → get_or ops i 0 < many
-unit_inside units many partition u ops same i lt =
-    partition.inside u i (get_or ops i 0) (subst (λ zs. slice_get zs i ≡ Some (get_or ops i 0)) same (slice_get-get_or ops i 0 lt))
 
 -- ---- calls
 

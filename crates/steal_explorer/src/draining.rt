@@ -9,9 +9,9 @@ ghost use Rattle.steal_explorer.specs.Members.{own, IsGround, IsIdle};
 
 use crate::handing::{Leaves, Pops};
 use crate::members::{Ground, Member};
-use crate::turns::Untold;
 use crate::walking::walk;
 use op_eval::{RunEnd, Runner};
+use worker_gate::Untold;
 
 /// Leaves with nobody what a worker that made all its turns has left in its deque.
 fn leave_rest(member: &mut Member)

@@ -36,7 +36,6 @@ mod running;
 mod seating;
 mod serving;
 mod sweeping;
-mod turns;
 mod walking;
 mod working;
 

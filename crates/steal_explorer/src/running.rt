@@ -13,10 +13,9 @@ use crate::draining::empty_all;
 use crate::gathering::gather;
 use crate::handing::Thief;
 use crate::members::{Ground, Member};
-use crate::turns::Told;
 use crate::working::work;
 use std::thread::Threads;
-use worker_gate::{Gate, Job, run_all};
+use worker_gate::{Gate, Job, Told, run_all};
 
 /// The turns of a worker, as all of them make them.
 #[derive(Drop)]

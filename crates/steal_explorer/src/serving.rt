@@ -14,10 +14,10 @@ ghost use Rattle.steal_explorer.specs.Turns.{After};
 use crate::handing::Puts;
 use crate::members::{Ground, Member};
 use crate::sweeping::sweep;
-use crate::turns::Turns;
 use crate::walking::{ask, attempt, walk};
 use op_eval::Evaluation;
 use op_words::Readied;
+use worker_gate::Turns;
 
 /// Pushes an operation on the worker's own deque; where that is refused, walks its unit at once.
 pub(crate) fn push<T: Turns>(ground: &Ground<'_>, told: &T, turn: u64, member: &mut Member, op: u32)

@@ -14,9 +14,9 @@ ghost use Rattle.steal_explorer.specs.Serving.{Goes, AsksAndPuts, TouchesNext, T
 
 use crate::members::{Ground, Member};
 use crate::serving::ask_one;
-use crate::turns::Turns;
 use abort_eager::{Cascade, Touch, Touched, cascade_behind};
 use op_eval::Evaluation;
+use worker_gate::Turns;
 
 /// Asks an operation that a cascade touched where it was rolled back, since it has to be evaluated again, and pushes it
 /// where that made it ready. Where a source has no value, whoever evaluates that one will ask it.

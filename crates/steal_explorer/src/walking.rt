@@ -10,10 +10,10 @@ ghost use Rattle.steal_explorer.specs.Calls.{Asks, HasTouched, GoesQuietly, Trie
 ghost use Rattle.steal_explorer.specs.Members.{IsGround, IsIdle};
 
 use crate::members::Ground;
-use crate::turns::Turns;
 use abort_eager::{Cascade, cascade_behind};
 use op_eval::{Evaluation, Runner, evaluate};
 use op_words::Readied;
+use worker_gate::Turns;
 
 /// Tries to evaluate an operation in a turn, and tells the gate.
 pub(crate) fn attempt<T: Turns>(

@@ -11,8 +11,8 @@ use crate::finding::{Found, find};
 use crate::handing::Thief;
 use crate::members::{Ground, Member};
 use crate::serving::serve_known;
-use crate::turns::Turns;
 use op_eval::RunEnd;
+use worker_gate::Turns;
 
 /// So many turns in a row that found all deques empty end a worker's work.
 pub const EMPTY_TURNS: u32 = 64;

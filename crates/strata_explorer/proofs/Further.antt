@@ -10,7 +10,7 @@ use Rattle.op_words.proofs.Trailing.{along_none}
 use Rattle.op_eval.specs.declared.runner.Runner.{Runner}
 use Rattle.op_eval.specs.Running.{hand_view}
 use Rattle.op_eval.specs.Further.{IsFurther, AreFurther}
-use Rattle.op_eval.proofs.Further.{same_further, further_then}
+use Rattle.op_eval.proofs.Further.{same_further, goes_further, further_then}
 use Rattle.strata_explorer.specs.Calls.{Call, Took, Tried, Calls}
 use Rattle.strata_explorer.specs.Passes.{IsPassed}
 use Rattle.abort_eager.proofs.Sweeping.{attempted}
@@ -30,17 +30,7 @@ calls_further p cap abort (Took c n ∷ cs) a b calls = further_then a calls.0 b
 })
 calls_further p cap abort (Tried o ∷ cs) a b calls =
     let does = attempted p cap abort o calls.0 b calls.2 in
-    further_then a calls.0 b (calls_further p cap abort cs a calls.0 calls.1) (record {
-      tag = does.goes.adds.tag;
-      made = does.goes.adds.made;
-      room = does.goes.adds.room;
-      joined = does.goes.adds.joined;
-      words = does.words;
-      trail = does.goes.adds.trail;
-      notes = does.goes.adds.notes;
-      open_own = does.open_own;
-      calm = does.goes.adds.calm;
-    })
+    further_then a calls.0 b (calls_further p cap abort cs a calls.0 calls.1) (goes_further calls.0 b does.words does.goes does.open_own)
 
 pub passed_further : (p : Plan) (cap : ℕ) (abort : Abort) (units : List (List ℕ)) (c : ℕ) (ops : List ℕ) (start rs qs : List Runner) → AreFurther start rs → IsPassed p cap abort units c ops rs qs → AreFurther start qs
 passed_further p cap abort units c ops start rs qs old passed = record {

@@ -18,23 +18,9 @@ use Rattle.morph_base.proofs.OutcomeLaws.{source_precedes, keys_fit}
 use Rattle.chain_units.specs.Places.{IsPartition}
 use Rattle.op_words.specs.Trails.{IsSourceOf}
 use Rattle.strata_explorer.specs.Levels.{ops_of, op_of, AreLevels}
-use Rattle.op_eval.proofs.Elements.{contains_first, contains_later, contains_cases}
+use Rattle.op_eval.proofs.Elements.{contains_filter}
 
 -- ---- lists
-
-contains_filter : {X : Type 0} (t : X → Bool) (xs : List X) (x : X) → Contains xs x → t x ≡ true → Contains (filter t xs) x
-contains_filter t [] x inside passes = absurd (omega (arith, inside.1))
-contains_filter t (y ∷ ys) x inside passes =
-    elim (contains_cases y ys x inside) [
-      | inl same ↦
-          subst (λ b. Contains (cond b (y ∷ filter t ys) (filter t ys)) x) (sym (ap t (sym same) ∙ passes))
-          (subst (λ z. Contains (y ∷ filter t ys) z) (sym same) (contains_first y (filter t ys)))
-      | inr later ↦ kept (t y) (filter t ys) (contains_filter t ys x later passes)
-    ]
-  where
-    kept : (b : Bool) (l : List _) → Contains l x → Contains (cond b (y ∷ l) l) x
-    kept true l there = contains_later y l x there
-    kept false l there = there
 
 pub greatest_most : {X : Type 0} (f : X → ℕ) (xs : List X) (m : ℕ) → ((k : ℕ) (d : X) → k < length xs → f (get_or xs k d) ≤ m) → greatest (map f xs) ≤ m
 greatest_most f [] m most = omega arith

@@ -21,11 +21,12 @@ use Rattle.op_eval.specs.Alone.{Ran, IsNewRoot, HasRunAll}
 use Rattle.op_eval.proofs.Alone.{IsBegun, come_first, explores, keeps_ran, runs_it}
 use Rattle.op_eval.proofs.Elements.{contains_first, contains_later, contains_cases}
 use Rattle.op_eval.specs.Turns.{IsEnough, TakesNumber}
+use Rattle.op_eval.proofs.Turns.{times_one}
 use Rattle.strata_explorer.specs.Calls.{Call, Took, Tried, Calls}
 use Rattle.strata_explorer.specs.Passes.{Worked, IsPassed}
 use Rattle.strata_explorer.specs.Levels.{ops_of, op_of, AreLevels, AreStrata, IsLoneStrata, IsAlone}
 use Rattle.abort_eager.proofs.Sweeping.{attempted, lazy_tries}
-use Rattle.strata_explorer.proofs.Turning.{times_one, times_some}
+use Rattle.strata_explorer.proofs.Turning.{times_some}
 use Rattle.strata_explorer.proofs.Running.{calls_places}
 use Rattle.strata_explorer.proofs.Climbing.{only_later}
 

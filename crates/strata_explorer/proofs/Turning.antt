@@ -4,9 +4,6 @@ use Rattle.std.specs.Prelude.{Contains, All, count_by, slice_index_or, nat_lt}
 use Rattle.std.proofs.lemmas.Bool.{false≢true}
 use Rattle.std.proofs.lemmas.List.Elements.{Contains-append_left, Contains-append_right, Contains-append_cases}
 use Rattle.std.proofs.lemmas.List.Sums.{sum_by-append}
-use Rattle.chain_units.specs.Places.{IsPartition}
-use Rattle.std.specs.Prelude.{slice_get, Some}
-use Rattle.std.proofs.lemmas.Option.{slice_get-get_or}
 use Rattle.std.proofs.lemmas.Bool.{eq-eqb}
 use Rattle.std.proofs.Common.{eqb}
 use Rattle.morph_base.specs.declared.plan.Plan.{Plan}
@@ -19,7 +16,7 @@ use Rattle.op_words.specs.Counting.{times, place}
 use Rattle.op_eval.specs.Exploring.{Unused}
 use Rattle.op_eval.specs.Running.{hand_view}
 use Rattle.op_eval.proofs.Elements.{contains_first, contains_later, contains_cases}
-use Rattle.op_eval.proofs.Turns.{in_turn_append}
+use Rattle.op_eval.proofs.Turns.{in_turn_append, times_one}
 use Rattle.strata_explorer.specs.Calls.{Call, Took, Tried, Calls, Calling, IsFree}
 use Rattle.abort_eager.specs.Sweeps.{Attempts}
 use Rattle.op_eval.specs.Turns.{IsEnough, TakesNumber}
@@ -28,11 +25,6 @@ use Rattle.abort_eager.proofs.Sweeping.{attempted}
 
 pub taking_free : (c n : ℕ) {a b : Runner} → TakesNumber c n a b → IsFree a → IsFree b
 taking_free c n taken free = ap (λ (v : View). v.claim) taken.view ∙ free
-
--- an operation of a unit is one of the plan's
-pub unit_inside : (units : List (List ℕ)) (many : ℕ) → IsPartition units many → (u : ℕ) (ops : List ℕ) → ops ≡ slice_index_or units u [] → (i : ℕ) → i < length ops → get_or ops i 0 < many
-unit_inside units many partition u ops same i lt =
-    partition.inside u i (get_or ops i 0) (subst (λ zs. slice_get zs i ≡ Some (get_or ops i 0)) same (slice_get-get_or ops i 0 lt))
 
 pub walked_first : (p : Plan) (cap : ℕ) (abort : Abort) (o : ℕ) {a b : Runner} {r : Evaluation} → Attempts p cap abort o a b r → Walked p cap abort o a b
 walked_first p cap abort o {a} {b} {r} tries = record {
@@ -97,9 +89,6 @@ one_tried (Took c n ∷ cs) o found =
   where
     apart : Tried o ≡ Took c n → ⊥
     apart e = cc
-
-pub times_one : (c n : ℕ) → times c (place c n ∷ []) ≡ 1
-times_one c n = ap (λ t. 0 + cond t 1 0) (eq-eqb c c refl)
 
 -- a place of a counter is one that was taken from it
 pub times_some : (c n : ℕ) (xs : List Place) → Contains xs (place c n) → 1 ≤ times c xs

@@ -28,7 +28,6 @@ mod ground;
 pub mod laws;
 mod passing;
 mod sweeping;
-mod turns;
 mod walking;
 
 pub use exploring::{counters, explore};

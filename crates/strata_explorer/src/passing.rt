@@ -7,11 +7,10 @@ ghost use Rattle.op_eval.specs.Turns.{IsEnough};
 ghost use Rattle.strata_explorer.specs.Passes.{Fits, IsSeated, IsPassed};
 
 use crate::ground::Ground;
-use crate::turns::Told;
 use crate::walking::work;
 use op_eval::Runner;
 use std::thread::Threads;
-use worker_gate::{Gate, Job, is_few, run_all};
+use worker_gate::{Gate, Job, Told, is_few, run_all};
 
 /// A pass over the operations of a level, whose places workers take from a counter.
 #[derive(Drop)]

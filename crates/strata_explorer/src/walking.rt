@@ -12,8 +12,8 @@ ghost use Rattle.strata_explorer.specs.Walks.{WalksUnit, WalksAll};
 
 use crate::ground::Ground;
 use crate::sweeping::sweep;
-use crate::turns::Turns;
 use op_eval::{Evaluation, Runner, evaluate};
+use worker_gate::Turns;
 
 /// Tries to evaluate an operation in a turn, tells the gate, and does what stands behind the evaluation.
 fn attempt<T: Turns>(

@@ -13,8 +13,10 @@ mod job;
 mod meet_gate;
 #[cfg(test)]
 mod tests;
+mod turns;
 
 pub use gate::{FreeGate, Gate};
 pub use hold_gate::HoldGate;
 pub use job::{Job, is_few, run_all};
 pub use meet_gate::MeetGate;
+pub use turns::{Told, Turns, Untold};

@@ -1,4 +1,5 @@
-use Rattle.steal_explorer.proofs.Going.{serves_then, unit_inside}
+use Rattle.chain_units.proofs.Entering.{unit_inside}
+use Rattle.steal_explorer.proofs.Going.{serves_then}
 use Rattle.steal_explorer.proofs.Queueing.{serves_more}
 use Rattle.steal_explorer.proofs.serving.serve.Goals as goal
 

@@ -1,4 +1,5 @@
-use Rattle.steal_explorer.proofs.Going.{walked_first, walked_more, unit_inside}
+use Rattle.chain_units.proofs.Entering.{unit_inside}
+use Rattle.steal_explorer.proofs.Going.{walked_first, walked_more}
 use Rattle.steal_explorer.proofs.walking.walk.Goals as goal
 
 pub loop-i-init : goal.loop-i-init

@@ -1,7 +1,8 @@
 use Rattle.std.proofs.Common.{◌≡◌, sym, ap, subst}
 use Rattle.std.specs.Prelude.{Some, slice_get}
+use Rattle.chain_units.proofs.Entering.{unit_inside}
 use Rattle.strata_explorer.specs.Walks.{has_evaluated}
-use Rattle.strata_explorer.proofs.Turning.{walked_first, walked_more, unit_inside}
+use Rattle.strata_explorer.proofs.Turning.{walked_first, walked_more}
 use Rattle.strata_explorer.proofs.UnitWalks.{not_evaluated, stands_there, on_first, on_more, on_stop, on_end, unit_walked}
 use Rattle.strata_explorer.proofs.walking.walk.Goals as goal
 

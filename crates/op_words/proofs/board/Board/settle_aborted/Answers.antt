@@ -11,7 +11,8 @@ use Rattle.op_words.specs.Comparing.{MaySettleIt, IsToAbort}
 use Rattle.op_words.specs.Grounds.{SourceDoes}
 use Rattle.op_words.proofs.Comparing.{loaded_as}
 use Rattle.op_words.proofs.Seeking.{source_other}
-use Rattle.op_words.proofs.Sealing.{open_unsettled, stopped_there, sealed_as}
+use Rattle.interleaving_core.proofs.Settlement.{open_unsettled}
+use Rattle.op_words.proofs.Sealing.{stopped_there, sealed_as}
 use Rattle.op_words.proofs.board.Board.settle_aborted.Goals as goal
 
 pub seal-requires-clause-new : goal.seal-requires-clause-new

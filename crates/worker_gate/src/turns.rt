@@ -1,10 +1,10 @@
-use worker_gate::Gate;
+use crate::gate::Gate;
 
 /// A gate as one worker meets it.
 ///
 /// What a job does in a thread is checked without the bound that lets its gate be shared, so its functions ask for
-/// these two calls alone.
-pub(crate) trait Turns {
+/// these two calls alone. Both always return, and change nothing that a contract names.
+pub trait Turns {
     /// Returns when the turn may begin.
     fn pass(&self, turn: u64);
 
@@ -14,9 +14,9 @@ pub(crate) trait Turns {
 
 /// The gate of a run, for the worker of a number.
 #[derive(Drop)]
-pub(crate) struct Told<'a, G> {
-    pub(crate) gate: &'a G,
-    pub(crate) worker: u32,
+pub struct Told<'a, G> {
+    pub gate: &'a G,
+    pub worker: u32,
 }
 
 impl<G: Gate> Turns for Told<'_, G> {
@@ -31,7 +31,7 @@ impl<G: Gate> Turns for Told<'_, G> {
 
 /// No gate: for what is done in no turn.
 #[derive(Drop)]
-pub(crate) struct Untold;
+pub struct Untold;
 
 impl Turns for Untold {
     fn pass(&self, _turn: u64) {}

@@ -1,7 +1,7 @@
 //! What a sequentially consistent step on a board costs, for docs/PERFORMANCE.md: nanoseconds a step, on tables as large as those of a
 //! batch of 1,000 and of 10,000 events with three operations each.
 //!
-//!     rustc -O bench/steps.rs -o /tmp/steps && /tmp/steps
+//!     rustc -O bench/steps.rs -o steps && ./steps
 //!
 //! An operation that reads two places has six steps here: it is made ready, claimed, each of its two values is recorded, it is finished,
 //! and it is settled. All are done by one thread, one operation after another, so nothing but the steps themselves is counted.

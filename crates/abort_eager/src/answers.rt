@@ -29,7 +29,9 @@ pub enum Touch {
 /// An operation that a cascade touched.
 #[derive(Clone, Copy, Debug, PartialEq, Eq)]
 pub struct Touched {
+    /// The operation, by its number in the plan.
     pub op: u32,
+    /// What became of it.
     pub touch: Touch,
 }
 

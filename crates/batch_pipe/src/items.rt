@@ -6,19 +6,23 @@ use decision_model::{Last, choose, profile};
 use morph_base::{Plan, Strategy};
 use morph_engine::BatchEnd;
 
-/// A plan that was sent to be run, with its number from 1.
+/// A plan that was sent to be run.
 #[derive(Debug, Drop)]
 pub struct Sent {
+    /// The number of its batch, from 1 on.
     pub number: u64,
+    /// A valid plan of the batch. Its bases are filled in when it is run.
     pub plan: Plan,
 }
 
-/// What the batch of this number came to.
+/// What a batch came to.
 #[derive(Drop)]
 pub struct Ran {
+    /// The number of the batch, from 1 on.
     pub number: u64,
     /// The strategy that was picked for it.
     pub strategy: Strategy,
+    /// All that the engine tells of it.
     pub end: BatchEnd,
 }
 

@@ -2,7 +2,9 @@
 /// there was none.
 #[derive(Clone, Copy, Debug, Default, PartialEq, Eq)]
 pub struct Last {
+    /// All its events.
     pub events: u64,
+    /// Those of them that aborted.
     pub aborted: u64,
 }
 
@@ -17,5 +19,6 @@ pub struct Profile {
     pub temporal: u64,
     /// The number of parameters that were written by an earlier event.
     pub parametric: u64,
+    /// What came of the batch before.
     pub last: Last,
 }

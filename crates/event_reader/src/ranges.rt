@@ -8,7 +8,9 @@ use morph_base::LATEST;
 /// greater of the two.
 #[derive(Clone, Copy, Debug, PartialEq, Eq)]
 pub struct Range {
+    /// The least number that may stand there.
     pub least: u64,
+    /// The greatest one.
     pub greatest: u64,
 }
 

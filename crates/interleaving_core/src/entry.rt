@@ -3,7 +3,9 @@ use std::collections::LinkedList;
 /// What was read at a place of an operation, and at which attempt.
 #[derive(Clone, Copy, Debug, PartialEq, Eq)]
 pub struct Record {
+    /// The version of the source that was read.
     pub value: u64,
+    /// The attempt of the operation that read it.
     pub attempt: u8,
 }
 
@@ -13,23 +15,32 @@ pub struct Record {
 /// No value of it is made: it stands here so that what contracts see of a worker can hold it.
 #[derive(Drop)]
 pub struct Held {
+    /// The operation, by its number in the plan.
     pub op: u32,
+    /// The attempt at which it was claimed.
     pub attempt: u8,
+    /// From place 0 on.
     pub values: LinkedList<u64>,
 }
 
 /// A value that an operation showed at an attempt, where others could read it.
 #[derive(Clone, Copy, Debug, PartialEq, Eq)]
 pub struct Entry {
+    /// The operation, by its number in the plan.
     pub op: u32,
+    /// The attempt, at which it shows one value and no other.
     pub attempt: u8,
+    /// Its function's value, or where that failed what was read for its target.
     pub value: u64,
+    /// Whether its function failed on what was read.
     pub failed: bool,
 }
 
 /// That a worker settled an operation.
 #[derive(Clone, Copy, Debug, PartialEq, Eq)]
 pub struct Settling {
+    /// The operation, by its number in the plan.
     pub op: u32,
+    /// The worker, from 1 to [`WORKERS`](morph_base::WORKERS).
     pub by: u8,
 }

@@ -12,7 +12,9 @@ use std::alloc::Global;
 /// [`EVENT_OPS`](crate::EVENT_OPS) operations of valid shape, whose targets differ.
 #[derive(Debug, Drop)]
 pub struct Event {
+    /// Its timestamp, by which the events of a batch are applied.
     pub ts: u64,
+    /// What it does, in operation order.
     pub ops: List<Op>,
 }
 
@@ -21,6 +23,7 @@ pub struct Event {
 /// It is valid where its events are valid, at most [`EVENTS`](crate::EVENTS) in number, and their timestamps differ.
 #[derive(Debug, Drop)]
 pub struct Batch {
+    /// In order of arrival.
     pub events: List<Event>,
 }
 

@@ -58,7 +58,9 @@ pub struct Op {
     pub key: Key,
     /// The keys of its parameters, in the first `n_params` places.
     pub params: [Key; PARAMS],
+    /// How many parameters it has: 0 to [`PARAMS`](crate::PARAMS).
     pub n_params: u8,
+    /// How the new value is computed.
     pub func: Func,
     /// The constant of its function.
     pub c: u64,

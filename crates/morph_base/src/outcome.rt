@@ -5,7 +5,10 @@ use crate::list::List;
 /// An event that aborted left its targets as they were.
 #[derive(Debug, Drop)]
 pub struct Outcome {
+    /// Its timestamp.
     pub ts: u64,
+    /// Whether it was done; where it was not it changed nothing.
     pub committed: bool,
+    /// One for each of its operations.
     pub values: List<u64>,
 }

@@ -46,6 +46,7 @@ impl Origin {
 /// An operation of a plan. Place 0 reads its target, the places from 1 on its parameters.
 #[derive(Clone, Copy, Debug, PartialEq, Eq)]
 pub struct PlanOp {
+    /// What it does.
     pub op: Op,
     /// The number of its event in the plan.
     pub event: u32,
@@ -70,8 +71,11 @@ impl PlanOp {
 /// An event of a plan: its operations are those numbered from `first` on, `count` of them.
 #[derive(Clone, Copy, Debug, PartialEq, Eq)]
 pub struct PlanEvent {
+    /// From 1 to [`LATEST`](crate::LATEST), rising from event to event.
     pub ts: u64,
+    /// The number of its first operation.
     pub first: u32,
+    /// How many operations it has: 1 to [`EVENT_OPS`](crate::EVENT_OPS).
     pub count: u32,
     /// 1 and the greatest level of the events that its operations read from; 1 where there is none.
     pub level: u32,
@@ -101,6 +105,7 @@ pub struct Plan {
     pub op_levels: List<List<u32>>,
     /// The events of level 1, of level 2 and so on, each rising.
     pub event_levels: List<List<u32>>,
+    /// How many dependencies there are.
     pub edges: Edges,
 }
 
@@ -108,7 +113,10 @@ pub struct Plan {
 /// operation, where 0 stands for none.
 #[derive(Debug, Drop)]
 pub struct Settled {
+    /// By operation: the value that it leaves, which is its target's before the event where that aborted.
     pub values: List<u64>,
+    /// By event: whether it committed.
     pub committed: List<bool>,
+    /// By operation: a worker from 1 to [`WORKERS`](crate::WORKERS), or 0.
     pub by: List<u8>,
 }

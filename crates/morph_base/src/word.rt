@@ -36,9 +36,13 @@ pub enum OpState {
 /// others.
 #[derive(Clone, Copy, Debug, PartialEq, Eq)]
 pub struct OpWord {
+    /// What others read of it.
     pub value: u64,
+    /// Its present attempt, from 1 on.
     pub attempt: u8,
+    /// How far it has come.
     pub state: OpState,
+    /// The worker that holds it or settled it.
     pub by: u8,
 }
 

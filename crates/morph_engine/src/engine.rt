@@ -59,9 +59,11 @@ pub struct Engine {
 /// `values` from its `first` on, `count` of them.
 #[derive(Drop)]
 pub struct BatchEnd {
+    /// The plan that was run.
     pub plan: Plan,
     /// The strategy that the batch was run with.
     pub strategy: Strategy,
+    /// The value of each operation, the verdict on each event, and who settled each operation.
     pub settled: Settled,
     /// The board of this batch after its end, with the words, decisions and counts that workers left on it.
     pub closed: Closed,
@@ -69,9 +71,9 @@ pub struct BatchEnd {
     pub left: List<List<Left>>,
     /// How often operations were evaluated, spread and rolled back on the board.
     pub counts: Counts,
-    /// How many operations were handed out to workers by deques, and how many of these a worker took from another's: 0
-    /// where a batch is explored by strata.
+    /// How many operations were handed out to workers by deques: 0 where a batch is explored by strata.
     pub handed: u64,
+    /// How many of these a worker took from another's deque.
     pub stolen: u64,
 }
 

@@ -17,9 +17,13 @@ pub enum Evaluation {
 /// How often each answer of `evaluate` came to a runner. Each number stops at the greatest u64.
 #[derive(Clone, Copy, Debug, PartialEq, Eq)]
 pub struct Answers {
+    /// [`Evaluation::Evaluated`].
     pub evaluated: u64,
+    /// [`Evaluation::Blocked`].
     pub blocked: u64,
+    /// [`Evaluation::Busy`].
     pub busy: u64,
+    /// [`Evaluation::Already`].
     pub already: u64,
 }
 
@@ -55,6 +59,7 @@ impl Answers {
 /// Why an event was not settled by the worker that tried it.
 #[derive(Clone, Copy, Debug, PartialEq, Eq)]
 pub struct Left {
+    /// The event, by its number in the plan.
     pub event: u32,
     /// The operation whose word stood in the way, one of the event or one of their sources.
     pub at: u32,

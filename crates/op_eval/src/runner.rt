@@ -7,8 +7,11 @@ use op_words::{Board, Hand};
 /// Calls of the board are made with its field `hand`.
 #[derive(Drop)]
 pub struct Runner {
+    /// The worker's right to change the board.
     pub hand: Hand,
+    /// What `evaluate` answered.
     pub answers: Answers,
+    /// Why events were not settled, one entry for each at most.
     pub kept: List<Left>,
 }
 

@@ -83,7 +83,9 @@ pub enum Verdict {
 /// What is decided on an event.
 #[derive(Clone, Copy, Debug, PartialEq, Eq)]
 pub enum Decided {
+    /// Each of its operations answers on settled sources.
     Committed,
+    /// One of its operations fails on settled sources.
     Aborted,
     /// No operation of the event was bad. The first one that was not good was stale, and `op` is it with its word; or
     /// `op` and `word` are those of its [`Verdict::Unready`].
@@ -105,8 +107,11 @@ pub enum SettleAnswer {
 /// stops at the greatest u64.
 #[derive(Clone, Copy, Debug, PartialEq, Eq)]
 pub struct Counts {
+    /// Claims that ended executed or failed.
     pub evaluated: u64,
+    /// Operations that heard of a failure of their event.
     pub spread: u64,
+    /// Operations that went back to their next attempt.
     pub rolled: u64,
 }
 

@@ -7,11 +7,16 @@ use std::snapshot::Snapshot;
 /// What the table is told once.
 #[derive(Drop)]
 pub struct Known {
+    /// The plan whose operations have words here. It has no bytes.
     pub plan: Snapshot<Plan>,
+    /// The last attempt at which values that are not settled may be read.
     pub cap: u8,
+    /// How many counters stand behind the level word.
     pub counters: u32,
 }
 
+/// What holds of a board between any two steps: its words stand for a sound state of the machine, and what each hand
+/// knows is true of it.
 pub struct Rule;
 
 impl TableRule<(), Option<View>, Known> for Rule {

@@ -7,7 +7,9 @@ use std::snapshot::Snapshot;
 /// A word of an operation that a hand loaded, or left there by its own step.
 #[derive(Clone, Copy, Debug, PartialEq, Eq)]
 pub struct Item {
+    /// The operation, by its number in the plan.
     pub op: u32,
+    /// The word as it stood there.
     pub word: OpWord,
     /// Whether the hand left it.
     pub own: bool,
@@ -16,39 +18,51 @@ pub struct Item {
 /// The value of a record that a hand loaded or stored while the word of the operation that it saw last was `word`.
 #[derive(Clone, Copy, Debug, PartialEq, Eq)]
 pub struct RecordSeen {
+    /// The operation, by its number in the plan.
     pub op: u32,
+    /// The place of the operation: 0 its target's, then those of its parameters.
     pub place: u8,
+    /// What was recorded there.
     pub value: u64,
+    /// The word that tells at which attempt.
     pub word: OpWord,
 }
 
 /// A decision that a hand loaded or made.
 #[derive(Clone, Copy, Debug, PartialEq, Eq)]
 pub struct DecisionSeen {
+    /// The event, by its number in the plan.
     pub event: u32,
+    /// Whether it commits.
     pub committed: bool,
 }
 
 /// A number that a hand took from a counter.
 #[derive(Clone, Copy, Debug, PartialEq, Eq)]
 pub struct Place {
+    /// Which counter, from 0 on.
     pub counter: u32,
+    /// The number, which no other hand gets from that counter.
     pub number: u64,
 }
 
 /// What a joined hand left: its trail, and the numbers that it took, by its tag.
 #[derive(Drop)]
 pub struct Joined {
+    /// The joined hand's number.
     pub tag: u64,
+    /// The words that it loaded or left, in order.
     pub trail: LinkedList<Item>,
+    /// The numbers that it took from counters.
     pub places: LinkedList<Place>,
 }
 
 /// What contracts see of a hand. No value of it is made.
 #[derive(Drop)]
 pub struct View {
-    /// The plan of its board, and the cap.
+    /// The plan of its board.
     pub plan: Snapshot<Plan>,
+    /// The last attempt at which values that are not settled may be read.
     pub cap: u8,
     /// Its number, from 1 on; the root has 1.
     pub tag: u64,
@@ -60,9 +74,11 @@ pub struct View {
     pub claim: Option<Held>,
     /// The values that it showed.
     pub published: LinkedList<Entry>,
-    /// The words, records and decisions that it saw or made, in order; those of hands joined into it too.
+    /// The words that it saw or made, in order; those of hands joined into it too.
     pub notes: LinkedList<Item>,
+    /// The same of records.
     pub records: LinkedList<RecordSeen>,
+    /// The same of decisions.
     pub decisions: LinkedList<DecisionSeen>,
     /// The words that it loaded or left itself, in order.
     pub trail: LinkedList<Item>,

@@ -60,6 +60,7 @@ impl Check {
 /// What the words of the program ask for.
 #[derive(Clone, Copy, Debug, PartialEq, Eq)]
 pub struct Settings {
+    /// The application whose events are read, or made.
     pub app: App,
     /// How many workers evaluate a batch: 1 to 16.
     pub workers: u32,
@@ -100,14 +101,16 @@ pub const DEFAULT_WORKERS: u64 = 1;
 /// The number of ids in each table where the words say none.
 pub const DEFAULT_SIZE: u64 = 10_000;
 
-/// Where the generator begins, and how many events it makes, where the words say nothing of it.
+/// Where the generator begins, where the words say nothing of it.
 pub const DEFAULT_SEED: u64 = 1;
 
+/// How many events the generator makes, where the words say nothing of it.
 pub const DEFAULT_EVENTS: u64 = 1_000;
 
-/// How many batches are read and planned ahead where the words say nothing of it, and at most.
+/// How many batches are read and planned ahead where the words say nothing of it.
 pub const DEFAULT_AHEAD: u64 = 0;
 
+/// The most batches that are read and planned ahead.
 pub const MOST_AHEAD: u64 = 2;
 
 /// The greatest number of ids in a table.

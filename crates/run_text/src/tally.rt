@@ -12,10 +12,13 @@ use op_eval::Left;
 /// What was done in a run, over the batches that were run.
 #[derive(Clone, Copy, Debug, PartialEq, Eq)]
 pub struct Tally {
+    /// How many batches were run.
     pub batches: u64,
-    /// The events of these batches: those that committed and those that aborted.
+    /// The events of these batches.
     pub events: u64,
+    /// Those of the events that committed.
     pub committed: u64,
+    /// Those of the events that aborted.
     pub aborted: u64,
     /// The operations of these events.
     pub ops: u64,
@@ -29,9 +32,9 @@ pub struct Tally {
     pub settled_by: [u64; 17],
     /// How many causes were kept why an event was left to the plain finish. It stops at the greatest number.
     pub left: u64,
-    /// How many operations were handed out to workers by deques, and how many of these a worker took from another's.
-    /// Both stop at the greatest number.
+    /// How many operations were handed out to workers by deques. It stops at the greatest number.
     pub handed: u64,
+    /// How many of these a worker took from another's deque. It stops at the greatest number.
     pub stolen: u64,
 }
 

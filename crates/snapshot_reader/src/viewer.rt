@@ -8,6 +8,7 @@ use std::marker::Model;
 pub struct Total {
     /// How many batches were seen, counted from the first that was published.
     pub number: u64,
+    /// The sum.
     pub total: u64,
 }
 
@@ -16,6 +17,7 @@ pub struct Total {
 pub struct At {
     /// How many batches were seen, counted from the first that was published.
     pub number: u64,
+    /// The value.
     pub value: u64,
 }
 

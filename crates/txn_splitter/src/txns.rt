@@ -5,6 +5,7 @@ use morph_base::{List, Op};
 pub struct TxnEvent {
     /// From 1 to [`LATEST`](morph_base::LATEST), rising from event to event.
     pub ts: u64,
+    /// The number of its first operation.
     pub first: u32,
     /// From 1 to [`EVENT_OPS`](morph_base::EVENT_OPS).
     pub count: u32,
@@ -15,7 +16,9 @@ pub struct TxnEvent {
 /// Events and operations are numbered from 0; operations by event and then by operation order.
 #[derive(Debug, Drop)]
 pub struct Txns {
+    /// By rising timestamp; the place of each is its number.
     pub events: List<TxnEvent>,
+    /// By event, and then in operation order; the place of each is its number.
     pub ops: List<Op>,
     /// For each operation the number of its event.
     pub event_of: List<u32>,

@@ -15,7 +15,9 @@ pub trait Turns {
 /// The gate of a run, for the worker of a number.
 #[derive(Drop)]
 pub struct Told<'a, G> {
+    /// The gate that all workers meet.
     pub gate: &'a G,
+    /// The number of this one, from 1 on.
     pub worker: u32,
 }
 

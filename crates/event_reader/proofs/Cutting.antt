@@ -1,10 +1,12 @@
 -- Bytes cut at each byte of one kind, and lines.
-use Rattle.std.proofs.Common.{◌≡◌, ℕ, ◌+◌, ◌-◌, ◌<◌, ◌≤◌, Bool, true, false, if◌then◌else◌, List, [], ◌∷◌, ◌++◌, length, take, drop, map, refl, sym, ◌∙◌, ap, arith, append_assoc, append-nil, length-append}
-use Rattle.std.specs.List.{slice_split, onto_first, All}
+use Rattle.std.proofs.Common.{◌≡◌, ℕ, ◌+◌, ◌-◌, ◌<◌, ◌≤◌, Bool, true, false, if◌then◌else◌, List, [], ◌∷◌, ◌++◌, length, take, drop, map, None, Some, refl, sym, ◌∙◌, ap, arith, inl, inr, append_assoc, append-nil, length-append, lt-ltb}
+use Rattle.std.specs.List.{slice_split, onto_first, position, position_or_len, All}
 use Rattle.std.specs.Prelude.{slice_index, ◌==◌}
-use Rattle.std.proofs.lemmas.Bool.{false_from_ne_true}
+use Rattle.std.proofs.lemmas.Bool.{cases_lt, false_from_ne_true}
 use Rattle.std.proofs.lemmas.List.{take-append-drop, drop_more, length-take-le, get_or-take, length-take}
 use Rattle.std.proofs.lemmas.List.Elements.{All-head, All-tail, All-from_get_or}
+use Rattle.std.proofs.lemmas.List.Quantifiers.{position-Some}
+use Rattle.std.proofs.lemmas.List.Sums.{fails_before_first}
 use Rattle.std.proofs.lemmas.List.Splits.{slice_split_at, slice_split_none, slice_split-cons_no}
 use Rattle.memchr.specs.Find.{NoneBefore, Nowhere, Passes}
 use Rattle.event_reader.specs.Limits.{deciding_bytes}
@@ -99,9 +101,22 @@ long_open test passes bytes rest none many =
     (without_cr (bytes ++ some.0), line.0, is, omega (arith, length-without_cr (bytes ++ some.0)))
 
 -- the first part ends at the first byte that passes
-pub first_split : (test : ℕ → Bool) (bytes : List ℕ) (at : ℕ) → NoneBefore (Passes test bytes) 0 (length bytes) at
-    → test (slice_index bytes at) ≡ true → slice_split test bytes ≡ take at bytes ∷ slice_split test (drop (at + 1) bytes)
-first_split test bytes at first passes =
-    ap (slice_split test) (sym (append-nil bytes) ∙ split_at_place bytes [] at first.high)
-    ∙ slice_split_at test (take at bytes) (slice_index bytes at) (drop (at + 1) bytes ++ []) (none_pass_before test bytes at first) passes
+pub first_split : (test : ℕ → Bool) (bytes : List ℕ) (at : ℕ) → position test bytes ≡ Some at → slice_split test bytes ≡ take at bytes ∷ slice_split test (drop (at + 1) bytes)
+first_split test bytes at is =
+    let first = position-Some test bytes at 0 is in
+    let long : length (take at bytes) ≡ at = length-take-le at bytes (omega (arith, first.0)) in
+    let before : All (λ b. test b ≡ false) (take at bytes)
+    = All-from_get_or (λ b. test b ≡ false) (take at bytes) 0 (λ i lt. let lt' : i < at = omega arith in rw get_or-take (first.2 i lt')) in
+    ap (slice_split test) (sym (append-nil bytes) ∙ split_at_place bytes [] at first.0)
+    ∙ slice_split_at test (take at bytes) (slice_index bytes at) (drop (at + 1) bytes ++ []) before first.1
     ∙ ap (λ rest. take at bytes ∷ slice_split test rest) (append-nil (drop (at + 1) bytes))
+
+-- where no byte passes there is one part
+pub no_split : (test : ℕ → Bool) (bytes : List ℕ) → position test bytes ≡ None → slice_split test bytes ≡ bytes ∷ []
+no_split test bytes none =
+    slice_split_none test bytes
+    (All-from_get_or (λ b. test b ≡ false) bytes 0
+    (λ k lt. elim (cases_lt (position_or_len test bytes) (length bytes)) [
+      | inl inside ↦ (let found : Some (position_or_len test bytes) ≡ None = rw (lt-ltb (position_or_len test bytes) (length bytes) inside) at none in cc)
+      | inr past ↦ fails_before_first test bytes k 0 (omega arith)
+    ]))

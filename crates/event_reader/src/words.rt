@@ -1,10 +1,9 @@
-ghost use Rattle.std.specs.Prelude.{◌≡◌, ℕ, ◌<◌, ◌≤◌, List, [], ◌∷◌, length, map, take, slice_index_or, MatchOption};
-ghost use Rattle.event_reader.specs.Words.{parts_of, words_of};
+ghost use Rattle.std.specs.Prelude.{◌≡◌, ℕ, ◌<◌, ◌≤◌, List, [], ◌∷◌, length, map, position, take, slice_index_or, MatchOption};
+ghost use Rattle.event_reader.specs.Words.{is_space, parts_of, words_of};
 ghost use Rattle.event_reader.specs.Limits.{line_words};
 ghost use Rattle.event_reader.specs.Forms.{only, letter_of};
 
 use crate::limits::LINE_WORDS;
-use memchr::memchr;
 use std::marker::Model;
 
 /// The words of a line, which contracts see as a list of lists of bytes: at most [`LINE_WORDS`] words, none empty.
@@ -22,13 +21,21 @@ impl<'a> Model for Words<'a> {
     ghost invariant = { λ w. w.count ≤ line_words };
 }
 
+/// Where the first space of a line stands.
+fn first_space(line: &[u8]) -> Option<usize>
+    ensures { result ≡ position is_space line.now }
+{
+    // Words are short: to look at each byte takes less than to begin a search by blocks.
+    line.iter().position(|byte| *byte == b' ')
+}
+
 /// The part of a line in front of its first space, and what follows that space; the whole line where there is none.
 fn first_part(line: &[u8]) -> (&[u8], Option<&[u8]>)
     ensures { MatchOption result.1 (parts_of line.now ≡ result.0.now ∷ [])
         (λ rest. parts_of line.now
         ≡ result.0.now ∷ parts_of rest.now) }
 {
-    match memchr(b' ', line) {
+    match first_space(line) {
         Some(at) => (&line[..at], Some(&line[at + 1..])),
         None => (line, None),
     }

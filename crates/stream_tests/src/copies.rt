@@ -185,7 +185,7 @@ fn a_sink_has_room_pieces_failures_and_stalls(rt: HostRuntime) -> Result<(), Fai
     Ok(())
 }
 
-/// The two lines of the text and the last one, each of which is put.
+/// The three lines of [`TEXT`], each of which is put.
 static PARTS: [&[u8]; 3] = [b"1 C 1 1\n", b"2 A\n", b"B 1 2 1 1\n"];
 
 /// A line of at most 400 bytes.

@@ -1,16 +1,15 @@
 //! Runs that read and plan batches ahead.
-ghost use Rattle.std.specs.Prelude.{◌≡◌, false, ◌<◌, ◌+◌, ◌*◌, ◌≤◌, ◌⊎◌, [], ◌++◌, length};
+ghost use Rattle.std.specs.Prelude.{◌≡◌, false, ◌<◌, ◌≤◌, ◌⊎◌, [], ◌++◌, length};
 ghost use Rattle.std.specs.Prelude.{None, option_map, IfOk, IfSome, IsErrOf, IsTrue, OnOk, OnErr};
 ghost use Rattle.event_reader.specs.Accepted.{accepted_within};
 ghost use Rattle.event_reader.specs.declared.limits.TheConstants.{INPUT_BYTES};
 ghost use Rattle.event_reader.specs.Reader.{new_reader};
-ghost use Rattle.event_reader.specs.Versions.{greatest_of};
 ghost use Rattle.morph_base.specs.declared.plan.Plan.{Plan};
 ghost use Rattle.morph_base.specs.Flat.{contents};
 ghost use Rattle.morph_base.specs.Plans.{IsPlan, IsSettledOf};
 ghost use Rattle.morph_engine.specs.Accounts.{account_of};
 ghost use Rattle.morph_engine.specs.Fates.{settled_fates};
-ghost use Rattle.morph_base.specs.States.{opening_state, IsUpTo};
+ghost use Rattle.morph_base.specs.States.{opening_state};
 ghost use Rattle.morph_io.specs.Told.{HasRisen};
 ghost use Rattle.decision_model.specs.declared.counts.Last.{Last as Came};
 ghost use Rattle.batch_pipe.specs.Running.{picked};
@@ -37,11 +36,11 @@ use crate::run::Finish;
 use crate::tell::{Refusal, tell_closing, tell_counted, tell_refused};
 use crate::watching::Watched;
 use batch_pipe::{Picker, Pipe, Ran, Tail};
+use decision_model::Last;
 use event_reader::EventApp;
 use morph_base::{Abort, Explore, OutOfMemory, Strategy, Unit};
 use morph_io::{Out, Sink, Source, WriteFailed};
 use run_text::{Planning, Settings, Tally};
-use std::alloc::Global;
 use std::thread::Threads;
 use worker_gate::Gate;
 
@@ -52,25 +51,27 @@ pub struct Ahead<A: EventApp> {
     pub out: Out,
 }
 
-impl<A: EventApp> Ahead<A> {
-    /// That of a run which has not begun, and is to read so many batches ahead.
-    pub fn new(alloc: Global, opening: Opening<A>, ahead: u32) -> Result<Self, OutOfMemory>
-    where
-        A: Drop,
-        requires some { 1 ≤ ahead }
-        requires few { ahead ≤ 2 }
-        requires live { IsTrue opening.reader.live }
-        requires layout { opening.engine.layout
-            ≡ layout_of (A.table_count opening.reader.app) opening.reader.size }
-        requires small { IsUpTo (greatest_of opening.reader.past.version)
-            (contents opening.engine) }
-        ensures pipe { IfOk result
-            (λ new. new.pipe ≡ new_pipe opening.reader opening.engine ahead) }
-        ensures out { IfOk result (λ new. new.out ≡ opening.out) }
+impl<A: EventApp + Copy> Ahead<A> {
+    /// That of a run which has not begun, and is to read as many batches ahead as its settings say.
+    pub fn new<R, G>(job: &Job<'_, A, R, G>) -> Result<Self, OutOfMemory>
+        requires settings { AreInRange job.now.settings }
+        requires ahead { 0 < job.now.settings.ahead }
+        ensures pipe { IfOk result (λ new. new.pipe
+            ≡ new_pipe (new_reader job.now.app job.now.settings.size INPUT_BYTES)
+            new.pipe.engine job.now.settings.ahead) }
+        ensures layout { IfOk result (λ new. new.pipe.engine.layout
+            ≡ layout_of (A.table_count job.now.app) job.now.settings.size) }
+        ensures opening { IfOk result (λ new. contents new.pipe.engine ≡ opening_state) }
+        ensures empty { IfOk result (λ new. new.out ≡ []) }
     {
+        let Opening {
+            engine,
+            reader,
+            out,
+        } = Opening::new(job)?;
         Ok(Ahead {
-            pipe: Pipe::new(alloc, opening.reader, opening.engine, ahead)?,
-            out: opening.out,
+            pipe: Pipe::new(job.host.alloc, reader, engine, job.settings.ahead)?,
+            out,
         })
     }
 }
@@ -96,7 +97,7 @@ fn picker(planning: Planning) -> Picker
     }
 }
 
-/// Counts and tells the next batch that was run.
+/// Counts and tells the next batch that was run, and says what came of it.
 fn tell_next<K: Sink, N: Sink>(
     out: &mut Out,
     sink: &mut K,
@@ -104,7 +105,7 @@ fn tell_next<K: Sink, N: Sink>(
     settings: &Settings,
     tally: &mut Tally,
     ran: Ran,
-) -> Result<(), WriteFailed>
+) -> Result<Last, WriteFailed>
     requires empty { out.old ≡ [] }
     requires plan { IsPlan ran.end.plan }
     requires settled { IsSettledOf ran.end.plan ran.end.settled }
@@ -126,8 +127,7 @@ fn tell_next<K: Sink, N: Sink>(
         end: ran.end,
         audit: None,
     };
-    tell_counted(out, sink, notes, settings, tally, &ran)?;
-    Ok(())
+    tell_counted(out, sink, notes, settings, tally, &ran)
 }
 
 /// Ends a run that reads ahead, by the tail that its pipe met: tells the end or the refused line, or answers the fault.

@@ -31,15 +31,15 @@ use worker_gate::Gate;
 pub fn take_batch<R: Threads + Wait + Sync, A: EventApp, K: Sink, N: Sink, G: Gate>(
     job: &Job<'_, A, R, G>,
     progress: &mut Progress<A>,
-    batch: Batch,
+    batch: &Batch,
     sink: &mut K,
     notes: &mut N,
     tally: &mut Tally,
 ) -> Result<(), Fault>
     requires settings { AreInRange job.now.settings }
-    requires batch { IsBatch batch }
-    requires keys { BatchKeysIn progress.old.engine.layout batch }
-    requires small { IsUpTo (high_of_all (transactions_of batch)) (contents progress.old.engine) }
+    requires batch { IsBatch batch.now }
+    requires keys { BatchKeysIn progress.old.engine.layout batch.now }
+    requires small { IsUpTo (high_of_all (transactions_of batch.now)) (contents progress.old.engine) }
     requires empty { progress.old.out ≡ [] }
     requires room { (a : Account) → IsPlan a.plan → IsSound job.now.settings.workers a
         → HasRoom tally.old a }
@@ -49,7 +49,7 @@ pub fn take_batch<R: Threads + Wait + Sync, A: EventApp, K: Sink, N: Sink, G: Ga
     requires watch { IsSome progress.old.watching → IsTrue job.now.settings.watch }
     ensures takes { TakesBatch result job.now.settings progress.old.last
         progress.old.engine progress.new.engine progress.old.watching progress.new.watching
-        batch tally.old tally.new progress.new.last
+        batch.now tally.old tally.new progress.new.last
         (outputs_of (K.written sink.old) (N.written notes.old))
         (outputs_of (K.written sink.new) (N.written notes.new)) }
     ensures reader { progress.new.reader ≡ progress.old.reader }
@@ -64,7 +64,7 @@ pub fn take_batch<R: Threads + Wait + Sync, A: EventApp, K: Sink, N: Sink, G: Ga
     let (host, settings, last) = (job.host, &job.settings, progress.last);
     let watching = &mut progress.watching;
     let engine = &mut progress.engine;
-    let ran = run_watched(host, watching, engine, &batch, settings, last)?;
+    let ran = run_watched(host, watching, engine, batch, settings, last)?;
     tell_and_publish(job, progress, &ran, sink, notes, tally)
 }
 

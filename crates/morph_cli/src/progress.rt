@@ -1,8 +1,9 @@
-ghost use Rattle.std.specs.Prelude.{◌≡◌, [], IfOk};
+ghost use Rattle.std.specs.Prelude.{◌≡◌, ◌↔◌, [], IfOk, IfSome, IsSome, IsTrue};
 ghost use Rattle.event_reader.specs.declared.limits.TheConstants.{INPUT_BYTES};
 ghost use Rattle.event_reader.specs.Reader.{new_reader};
 ghost use Rattle.morph_base.specs.Flat.{contents};
 ghost use Rattle.morph_base.specs.States.{opening_state};
+ghost use Rattle.morph_cli.specs.Batches.{IsShown};
 ghost use Rattle.morph_cli.specs.Runs.{layout_of};
 ghost use Rattle.decision_model.specs.Choices.{no_last};
 ghost use Rattle.run_text.specs.Settings.{AreInRange};
@@ -55,16 +56,25 @@ pub struct Progress<A> {
     pub watching: Option<Watching>,
 }
 
-impl<A> Progress<A> {
-    /// That of a run which begins, and whose balances are watched so.
-    pub fn new(opening: Opening<A>, watching: Option<Watching>) -> Self
-        ensures engine { result.engine ≡ opening.engine }
-        ensures reader { result.reader ≡ opening.reader }
-        ensures out { result.out ≡ opening.out }
-        ensures last { result.last ≡ no_last }
-        ensures watching { result.watching ≡ watching }
+impl<A: EventApp + Copy> Progress<A> {
+    /// That of a run which has not begun, and whose balances are watched where its settings ask for it.
+    pub fn new<R, G>(job: &Job<'_, A, R, G>) -> Result<Self, OutOfMemory>
+        requires { AreInRange job.now.settings }
+        ensures reader { IfOk result (λ new.
+            new.reader ≡ new_reader job.now.app job.now.settings.size INPUT_BYTES) }
+        ensures layout { IfOk result (λ new.
+            new.engine.layout ≡ layout_of (A.table_count job.now.app) job.now.settings.size) }
+        ensures opening { IfOk result (λ new. contents new.engine ≡ opening_state) }
+        ensures empty { IfOk result (λ new. new.out ≡ []) }
+        ensures last { IfOk result (λ new. new.last ≡ no_last) }
+        ensures shown { IfOk result (λ new.
+            IfSome new.watching (IsShown new.engine.layout 0 opening_state)) }
+        ensures watch { IfOk result (λ new.
+            IsSome new.watching ↔ IsTrue job.now.settings.watch) }
     {
-        Progress {
+        let opening = Opening::new(job)?;
+        let watching = Watching::asked(job)?;
+        Ok(Progress {
             engine: opening.engine,
             reader: opening.reader,
             out: opening.out,
@@ -73,9 +83,11 @@ impl<A> Progress<A> {
                 aborted: 0,
             },
             watching,
-        }
+        })
     }
+}
 
+impl<A> Progress<A> {
     /// Ends what watches the balances. It may wait for a viewer that is reading.
     pub fn end<R: Wait>(self, rt: &R)
     where

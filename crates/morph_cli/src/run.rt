@@ -1,4 +1,4 @@
-ghost use Rattle.std.specs.Prelude.{◌≡◌, ℕ, [], ◌≤◌, ◌⊎◌, ◌↔◌, option_map, IfSome, IsErrOf, IsSome, IsTrue};
+ghost use Rattle.std.specs.Prelude.{◌≡◌, [], ◌≤◌, ◌⊎◌, ◌↔◌, option_map, IfSome, IsErrOf, IsSome, IsTrue};
 ghost use Rattle.event_reader.specs.Accepted.{accepted_within};
 ghost use Rattle.event_reader.specs.declared.limits.TheConstants.{INPUT_BYTES};
 ghost use Rattle.morph_base.specs.States.{opening_state};
@@ -19,9 +19,8 @@ use crate::ahead::{Ahead, run_ahead};
 use crate::fault::Fault;
 use crate::job::Job;
 use crate::one_batch::take_batch;
-use crate::progress::{Opening, Progress};
+use crate::progress::Progress;
 use crate::tell::{Refusal, tell_closing, tell_refused};
-use crate::watching::Watching;
 use event_reader::{EventApp, Next};
 use morph_io::{Sink, Source};
 use run_text::Tally;
@@ -80,13 +79,11 @@ pub fn run<
         ⊎ (IsTrue (has_notes job.now.settings)
         × HasRisen (N.faults notes.old) (N.faults notes.new)) }
 {
-    let opening = Opening::new(job)?;
     if job.settings.ahead > 0 {
-        let mut ahead = Ahead::new(job.host.alloc, opening, job.settings.ahead)?;
+        let mut ahead = Ahead::new(job)?;
         return run_ahead(job, &mut ahead, source, sink, notes, tally);
     }
-    let watching = Watching::asked(job)?;
-    let mut progress = Progress::new(opening, watching);
+    let mut progress = Progress::new(job)?;
     let end = run_batches(job, &mut progress, source, sink, notes, tally);
     progress.end(job.host.rt);
     end
@@ -136,7 +133,7 @@ fn run_batches<R: Threads + Wait + Sync, A: EventApp + Copy, S: Source, K: Sink,
 {
     'batches: loop {
         match progress.reader.next_batch(job.host.alloc, source)? {
-            Next::Batch(batch) => take_batch(job, progress, batch, sink, notes, tally)?,
+            Next::Batch(batch) => take_batch(job, progress, &batch, sink, notes, tally)?,
             Next::End => {
                 let values = progress.engine.state();
                 tell_closing(&mut progress.out, sink, notes, job, values, tally)?;

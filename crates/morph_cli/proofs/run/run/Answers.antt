@@ -6,38 +6,26 @@ use Rattle.morph_cli.proofs.run.run.Goals as goal
 
 -- memory is refused before the first batch, for the run or for its pipe
 
-pub returns-in_err-opening-clause-ends : goal.returns-in_err-opening-clause-ends
-returns-in_err-opening-clause-ends g c =
-    ends_at_once (course_of g.A.EventApp.event_of (g.A.EventApp.table_count c.args.job.now.app) (g.A.EventApp.name_of c.args.job.now.app) c.args.job.now.app c.args.job.now.settings INPUT_BYTES (g.S.Source.left c.args.source.now)
-    (outputs_of (g.K.Sink.written c.args.sink.now) (g.N.Sink.written c.args.notes.now))) (g.S.Source.left c.args.source.now) c.args.tally.now
-    (error_is c.from_residual.result OutOfMemory c.from_residual.ensures.1) c.requires.tally
-
-pub returns-in_err-opening-clause-told : goal.returns-in_err-opening-clause-told
-returns-in_err-opening-clause-told g c =
-    told_at_once (course_of g.A.EventApp.event_of (g.A.EventApp.table_count c.args.job.now.app) (g.A.EventApp.name_of c.args.job.now.app) c.args.job.now.app c.args.job.now.settings INPUT_BYTES (g.S.Source.left c.args.source.now)
-    (outputs_of (g.K.Sink.written c.args.sink.now) (g.N.Sink.written c.args.notes.now))) c.args.tally.now
-    (error_is c.from_residual.result OutOfMemory c.from_residual.ensures.1) c.requires.tally
-
 pub returns-in_err-ahead-clause-ends : goal.returns-in_err-ahead-clause-ends
 returns-in_err-ahead-clause-ends g c =
     ends_at_once (course_of g.A.EventApp.event_of (g.A.EventApp.table_count c.args.job.now.app) (g.A.EventApp.name_of c.args.job.now.app) c.args.job.now.app c.args.job.now.settings INPUT_BYTES (g.S.Source.left c.args.source.now)
     (outputs_of (g.K.Sink.written c.args.sink.now) (g.N.Sink.written c.args.notes.now))) (g.S.Source.left c.args.source.now) c.args.tally.now
-    (error_is c.from_residual-in_err-ahead.result OutOfMemory c.from_residual-in_err-ahead.ensures.1) c.requires.tally
+    (error_is c.from_residual.result OutOfMemory c.from_residual.ensures.1) c.requires.tally
 
 pub returns-in_err-ahead-clause-told : goal.returns-in_err-ahead-clause-told
 returns-in_err-ahead-clause-told g c =
     told_at_once (course_of g.A.EventApp.event_of (g.A.EventApp.table_count c.args.job.now.app) (g.A.EventApp.name_of c.args.job.now.app) c.args.job.now.app c.args.job.now.settings INPUT_BYTES (g.S.Source.left c.args.source.now)
     (outputs_of (g.K.Sink.written c.args.sink.now) (g.N.Sink.written c.args.notes.now))) c.args.tally.now
-    (error_is c.from_residual-in_err-ahead.result OutOfMemory c.from_residual-in_err-ahead.ensures.1) c.requires.tally
+    (error_is c.from_residual.result OutOfMemory c.from_residual.ensures.1) c.requires.tally
 
-pub returns-in_err-watching-clause-ends : goal.returns-in_err-watching-clause-ends
-returns-in_err-watching-clause-ends g c =
+pub returns-in_err-progress-clause-ends : goal.returns-in_err-progress-clause-ends
+returns-in_err-progress-clause-ends g c =
     ends_at_once (course_of g.A.EventApp.event_of (g.A.EventApp.table_count c.args.job.now.app) (g.A.EventApp.name_of c.args.job.now.app) c.args.job.now.app c.args.job.now.settings INPUT_BYTES (g.S.Source.left c.args.source.now)
     (outputs_of (g.K.Sink.written c.args.sink.now) (g.N.Sink.written c.args.notes.now))) (g.S.Source.left c.args.source.now) c.args.tally.now
-    (error_is c.from_residual-in_err-watching.result OutOfMemory c.from_residual-in_err-watching.ensures.1) c.requires.tally
+    (error_is c.from_residual-in_err-progress.result OutOfMemory c.from_residual-in_err-progress.ensures.1) c.requires.tally
 
-pub returns-in_err-watching-clause-told : goal.returns-in_err-watching-clause-told
-returns-in_err-watching-clause-told g c =
+pub returns-in_err-progress-clause-told : goal.returns-in_err-progress-clause-told
+returns-in_err-progress-clause-told g c =
     told_at_once (course_of g.A.EventApp.event_of (g.A.EventApp.table_count c.args.job.now.app) (g.A.EventApp.name_of c.args.job.now.app) c.args.job.now.app c.args.job.now.settings INPUT_BYTES (g.S.Source.left c.args.source.now)
     (outputs_of (g.K.Sink.written c.args.sink.now) (g.N.Sink.written c.args.notes.now))) c.args.tally.now
-    (error_is c.from_residual-in_err-watching.result OutOfMemory c.from_residual-in_err-watching.ensures.1) c.requires.tally
+    (error_is c.from_residual-in_err-progress.result OutOfMemory c.from_residual-in_err-progress.ensures.1) c.requires.tally

@@ -1,0 +1,1 @@
+"""What ./morph is made of: its words, the crates below the program, their proofs, and the runs."""

@@ -231,6 +231,15 @@ class Tries(Calls):
         self.tree.run("try", *WORDS, given=EVENTS)
         self.assertEqual(self.tree.log(), ["try"])
 
+    def test_a_disk_that_is_full_when_it_is_kept(self):
+        tried = self.tree.top / "crates/morph/out/tried"
+        linker = self.tree.kit / "toolchain/bin/ld.lld"
+        linker.write_text(f"#!/bin/sh\nln -s /dev/full {tried}/morph.new.part\necho program > program\n")
+        done = self.tree.run("try", *WORDS)
+        self.assertEqual((done.returncode, done.stdout), (1, ""))
+        self.assertEqual(done.stderr.splitlines()[-1], f"morph: the disk is full: there is no room in {tried}")
+        self.assertFalse((tried / "morph").exists() or (tried / "stamp").exists())
+
     def test_status(self):
         self.tree.run("try", *WORDS, given=EVENTS)
         self.assertEqual(self.tree.run("try", *WORDS, given="status 3\n").returncode, 3)

@@ -1,4 +1,4 @@
-//! What a sequentially consistent step on a board costs, for docs/PERFORMANCE.md: nanoseconds a step, on tables as large as those of a
+//! What a sequentially consistent step on a board costs, for docs/PERFORMANCE-HISTORY.md: nanoseconds a step, on tables as large as those of a
 //! batch of 1,000 and of 10,000 events with three operations each.
 //!
 //!     rustc -O bench/steps.rs -o steps && ./steps

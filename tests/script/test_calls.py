@@ -22,14 +22,30 @@ class Calls(unittest.TestCase):
         self.tree.log()
 
     def wait_for(self, holds):
-        for _ in range(500):
+        for _ in range(1500):
             if holds():
                 return
             time.sleep(0.02)
         self.fail("it did not come")
 
+    def at_once(self, count, *words):
+        """So many calls at once, of which one works and the others wait for it. What each wrote to standard error."""
+        self.tree.set("hold")
+        files = [self.tree.folder / f"errors{number}" for number in range(count)]
+        calls = []
+        for file in files:
+            with open(file, "w") as errors:
+                calls.append(self.tree.start(*words, stdout=subprocess.DEVNULL, stderr=errors))
+        self.wait_for(lambda: sum("this one waits for it" in file.read_text() for file in files) == count - 1)
+        self.tree.unset("hold")
+        self.assertEqual([call.wait(30) for call in calls], [0] * count)
+        return [file.read_text() for file in files]
+
     def terminal(self):
-        terminal = Terminal()
+        try:
+            terminal = Terminal()
+        except OSError:
+            self.skipTest("there are no terminals here")
         self.addCleanup(terminal.close)
         return terminal
 
@@ -106,25 +122,20 @@ class Builds(Calls):
             self.build()
             self.tree.edit("left", str(number))
             self.tree.edit("right", str(number))
-            self.tree.set("slow-left", "20")
+            self.tree.set("hold-left")
             call = self.tree.start(*WORDS, stdout=subprocess.DEVNULL, stderr=subprocess.DEVNULL)
             self.wait_for(lambda: self.tree.has_log("left") and self.tree.is_stamped("right"))
             call.send_signal(number)
             self.assertEqual(call.wait(10), status)
             self.tree.log()
-            self.tree.unset("slow-left")
+            self.tree.unset("hold-left")
             self.assertEqual(self.tree.run(*WORDS, given=EVENTS).returncode, 0)
             self.assertEqual(self.tree.log(), ["left", "morph", "link"])
 
-    def test_two_calls_at_once(self):
-        self.tree.set("slow", "0.2")
-        calls = [self.tree.start(*WORDS, stdout=subprocess.PIPE, stderr=subprocess.PIPE, text=True) for _ in range(3)]
-        said = [call.communicate(timeout=60) for call in calls]
-        self.assertEqual([call.returncode for call in calls], [0, 0, 0])
+    def test_calls_at_once(self):
+        said = self.at_once(3, *WORDS)
         self.assertEqual(sorted(self.tree.log()), sorted([*CRATES, "link"]))
-        waited = [error for _, error in said if "another call proves and builds here; this one waits for it" in error]
-        self.assertEqual(len(waited), 2)
-        self.assertTrue(all("program " in output for output, _ in said))
+        self.assertEqual(sum("another call proves and builds here; this one waits for it" in error for error in said), 2)
 
     def test_a_running_program_is_replaced(self):
         self.build()
@@ -137,7 +148,6 @@ class Builds(Calls):
 
     def test_one_line_on_a_terminal(self):
         terminal = self.terminal()
-        self.tree.set("slow", "0.2")
         call = self.tree.start(*WORDS, stdout=subprocess.DEVNULL, stderr=terminal.theirs)
         self.assertEqual(call.wait(60), 0)
         said = terminal.read()
@@ -189,8 +199,11 @@ class Troubles(Calls):
         if os.getuid() != 0:
             return {}
         how = {"user": 65534, "group": 65534, "extra_groups": [], "python": "/usr/bin/python3"}
-        if not os.path.exists(how["python"]):
-            self.skipTest("nobody else may run this Python")
+        reads = [how["python"], "-c", f"open({str(self.tree.top / 'crates.txt')!r})"]
+        try:
+            subprocess.run(reads, check=True, capture_output=True, user=65534, group=65534, extra_groups=[])
+        except (OSError, subprocess.SubprocessError):
+            self.skipTest("nobody else may read this tree, or run this Python")
         return how
 
     def test_a_tree_that_may_not_be_written(self):
@@ -251,14 +264,11 @@ class Tries(Calls):
         self.assertTrue(done.stderr.endswith("error: no such name\nmorph: the program does not compile: the lines above "
                                              "say why\n"))
 
-    def test_two_at_once(self):
-        self.tree.set("slow", "0.2")
-        calls = [self.tree.start("try", *WORDS, stdout=subprocess.PIPE, stderr=subprocess.PIPE, text=True) for _ in "ab"]
-        said = [call.communicate(timeout=60) for call in calls]
-        self.assertEqual([call.returncode for call in calls], [0, 0])
+    def test_calls_at_once(self):
+        said = self.at_once(2, "try", *WORDS)
         self.assertEqual(self.tree.log(), ["try"])
-        self.assertEqual(sum("another call compiles the program here" in error for _, error in said), 1)
-        for _, error in said:
+        self.assertEqual(sum("another call compiles the program here" in error for error in said), 1)
+        for error in said:
             self.assertEqual(error.count("nothing of this run is proved"), 1)
 
 
@@ -303,8 +313,15 @@ class Runs(Calls):
         file.seek(0)
         return self.tree.start(*words, stdin=file, stdout=stdout, stderr=terminal.theirs), terminal
 
+    def hold(self):
+        """A line that lets the program wait until this is taken back."""
+        self.tree.set("hold-run")
+        return f"hold {self.tree.kit}/hold-run\n"
+
     def test_progress(self):
-        call, terminal = self.with_progress(*WORDS, given="sleep 1.5\n" + EVENTS)
+        call, terminal = self.with_progress(*WORDS, given=self.hold() + EVENTS)
+        self.assertTrue(terminal.wait_for("% read"))
+        self.tree.unset("hold-run")
         self.assertEqual(call.wait(20), 0)
         self.assertRegex(terminal.read(), r"\r\x1b\[Kmorph: \d+ % read, \d+ lines, \d+ a second")
         self.assertTrue(terminal.read().endswith("\r\x1b[K"))
@@ -312,19 +329,26 @@ class Runs(Calls):
     def test_progress_of_a_pipe(self):
         terminal = self.terminal()
         call = self.tree.start(*WORDS, stdin=subprocess.PIPE, stdout=subprocess.DEVNULL, stderr=terminal.theirs)
-        call.stdin.write(b"sleep 1.5\n")
+        call.stdin.write(self.hold().encode())
         call.stdin.close()
+        self.assertTrue(terminal.wait_for("MB read"))
+        self.tree.unset("hold-run")
         self.assertEqual(call.wait(20), 0)
         self.assertRegex(terminal.read(), r"\r\x1b\[Kmorph: \d+\.\d MB read in \d+ s, \d+\.\d MB a second")
 
     def test_no_progress(self):
         for words in (("--quiet", *WORDS), (*WORDS, "notes=on")):
-            call, terminal = self.with_progress(*words, given="sleep 1.5\n")
+            call, terminal = self.with_progress(*words, given=self.hold())
+            time.sleep(1)
+            self.tree.unset("hold-run")
             self.assertEqual((call.wait(20), terminal.read()), (0, ""))
 
     def test_output_on_the_same_terminal(self):
         terminal = self.terminal()
-        call, errors = self.with_progress(*WORDS, given="sleep 1.5\n", stdout=terminal.theirs)
+        call, errors = self.with_progress(*WORDS, given=self.hold(), stdout=terminal.theirs)
+        self.assertTrue(terminal.wait_for("kept"))
+        time.sleep(0.5)
+        self.tree.unset("hold-run")
         self.assertEqual(call.wait(20), 0)
         self.assertEqual([line.split()[0] for line in terminal.read().splitlines()], ["program", "kept", "end"])
         self.assertNotIn("read", errors.read())
@@ -334,7 +358,7 @@ class Runs(Calls):
         self.assertEqual(call.wait(20), 3)
         call, _ = self.with_progress(*WORDS, given="signal KILL\n")
         self.assertEqual(call.wait(20), -signal.SIGKILL)
-        call, terminal = self.with_progress(*WORDS, given="sleep 20\n")
+        call, terminal = self.with_progress(*WORDS, given=self.hold())
         self.assertTrue(terminal.wait_for("% read"))
         call.send_signal(signal.SIGTERM)
         self.assertEqual(call.wait(20), -signal.SIGTERM)

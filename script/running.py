@@ -1,6 +1,7 @@
 """Runs the program, in place of the script or as a child whose progress is shown."""
 import contextlib
 import os
+import resource
 import select
 import signal
 import stat
@@ -101,7 +102,8 @@ def watch(program, words, given):
 
 
 def end_by(number):
-    """Ends the script by the signal that ended the program."""
+    """Ends the script by the signal that ended the program, without a core file of its own."""
+    resource.setrlimit(resource.RLIMIT_CORE, (0, 0))
     with contextlib.suppress(OSError):  # of SIGKILL nothing can be set
         signal.signal(number, signal.SIG_DFL)
     os.kill(os.getpid(), number)

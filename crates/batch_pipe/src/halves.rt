@@ -17,6 +17,10 @@ use morph_io::Source;
 use std::thread::{Threads, join_mut};
 use worker_gate::Gate;
 
+/// A plan of so many operations is run side by side with reading and planning the next ones. Beside a smaller one the
+/// thread, and two threads' use of each other's memory, would cost more than they bring: docs/PERFORMANCE.md.
+const SHARED_OPS: usize = 131_072;
+
 /// The runner's half of a round.
 fn run_half<R: Threads + Sync, G: Gate>(
     host: &Host<'_, R, G>,
@@ -33,7 +37,17 @@ fn run_half<R: Threads + Sync, G: Gate>(
     run_waiting(host, runner, first)
 }
 
-/// The two halves of a round, side by side. Neither waits for the other.
+/// How many operations the first plan has that is to be run, or 0 if none waits.
+fn first_ops(runner: &Runner, first: &Option<Sent>) -> usize {
+    match first {
+        Some(sent) => sent.plan.ops.len(),
+        None if runner.ring.cached_slots() > 0 => runner.ring.peek_known().plan.ops.len(),
+        None => 0,
+    }
+}
+
+/// The two halves of a round: side by side, and neither waits for the other; or, if the first plan has fewer than 131,072
+/// operations, one after the other.
 pub(crate) fn run_halves<R: Threads + Sync, A: EventApp + Send, S: Source + Send, G: Gate>(
     host: &Host<'_, R, G>,
     planning: bool,
@@ -63,6 +77,10 @@ pub(crate) fn run_halves<R: Threads + Sync, A: EventApp + Send, S: Source + Send
 {
     let mut first = first;
     let alloc = host.alloc;
+    if first_ops(runner, &first) < SHARED_OPS {
+        let all = run_half(host, runner, &mut first);
+        return (plan_half(alloc, planning, planner, source), all);
+    }
     join_mut(
         host.rt,
         &mut || plan_half(alloc, planning, planner, source),

@@ -1,4 +1,4 @@
-//! Many deposits of 1 on accounts and assets, so many that levels are shared out among workers.
+//! Many deposits of 1 on accounts and assets, which workers explore side by side.
 ghost use Rattle.morph_base.specs.Graphs.{IsValidPlan};
 
 use crate::four_events::{ACCOUNTS, ASSETS, plan_for};
@@ -11,7 +11,12 @@ use std::alloc::Global;
 use std::test::Fail;
 use std::thread::Threads;
 use strata_explorer::{counters, explore};
-use worker_gate::FreeGate;
+use worker_gate::HoldGate;
+
+/// Holds nobody, and has each worker run in a thread of its own.
+pub(crate) fn side_by_side() -> HoldGate {
+    HoldGate::new(0, 0, 0)
+}
 
 /// How many accounts, and as many assets, there are deposits on.
 pub(crate) const IDS: u64 = 2_000;
@@ -45,7 +50,8 @@ fn four_explore<R: Threads + Sync>(
     let units = units(alloc, plan, unit)?;
     let (board, root) = Board::new(alloc, plan, 1, counters(plan))?;
     let runners = Runners::new(alloc, &board, root, 4, plan.events.len() as u32)?;
-    let explored = explore(rt, board, runners, plan, &units, Abort::Lazy, &FreeGate);
+    let gate = side_by_side();
+    let explored = explore(rt, board, runners, plan, &units, Abort::Lazy, &gate);
     let (board, mut runners, end, _) = explored.parts();
     let runner = runners.runner(1);
     let words = words_of(alloc, &board, &mut runner.hand, plan)?;

@@ -50,7 +50,7 @@ impl Job<Runner> for Level<'_> {
     }
 }
 
-/// Has the runners evaluate one level after the other.
+/// Has the runners evaluate one level after the other, each in a thread of its own.
 fn evaluate_levels<R: Threads + Sync>(rt: &R, board: &Board, plan: &Plan, runners: &mut [Runner])
     requires plan { plan.now ≡ plan_of board.now }
     requires rest { AreAtRest board.now runners.old }
@@ -64,7 +64,7 @@ fn evaluate_levels<R: Threads + Sync>(rt: &R, board: &Board, plan: &Plan, runner
             level,
             workers,
         };
-        run_all(rt, runners, &job);
+        run_all(rt, runners, usize::MAX, &job);
     }
 }
 

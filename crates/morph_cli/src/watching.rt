@@ -104,11 +104,16 @@ fn look(viewer: &mut Viewer, told: u64) -> Option<Total>
     }
 }
 
-/// Does a job. Where the balances are watched the viewer is told of all batches that were published, and looks in a
-/// thread of its own while the job is done.
+/// In a batch of so many events a viewer looks in a thread of its own. In a smaller one that would take longer than the
+/// look.
+const THREAD_EVENTS: usize = 4_096;
+
+/// Does a job for a batch of so many events. If the balances are watched the viewer is told of all batches that were
+/// published, and looks in a thread of its own while the job is done, or before it if the batch is small.
 pub fn look_beside<R: Threads, F: FnMut() -> T, T>(
     rt: &R,
     watching: &mut Option<Watching>,
+    events: usize,
     job: &mut F,
 ) -> (Option<Total>, T)
     requires { F.pre job.old }
@@ -122,6 +127,9 @@ pub fn look_beside<R: Threads, F: FnMut() -> T, T>(
     watching.publisher.tell(&mut watching.viewer);
     let told = watching.publisher.number();
     let viewer = &mut watching.viewer;
+    if events < THREAD_EVENTS {
+        return (look(viewer, told), job());
+    }
     join_mut(rt, &mut || look(viewer, told), job)
 }
 
@@ -149,6 +157,7 @@ pub fn run_watched<R: Threads + Sync, G: Gate>(
     let (audit, end) = look_beside(
         host.rt,
         watching,
+        batch.events.len(),
         &mut ||
             requires { IsSync R.row × IsSync G.row × AreInRange settings.now × IsBatch batch.now
                 × BatchKeysIn engine.now.layout batch.now

@@ -7,6 +7,7 @@ pub mod Alone
 pub mod Reaching
 pub mod Passing
 pub mod HandingOut
+pub mod Waiting
 pub mod Ending
 pub mod Accounting
 pub mod Ended

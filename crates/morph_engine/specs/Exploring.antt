@@ -15,7 +15,7 @@ use Rattle.op_eval.specs.Gathering.{runners_of}
 use Rattle.strata_explorer.specs.Levels.{AreStrata, counters_for, level_of}
 use Rattle.steal_explorer.specs.Dealing.{level_one}
 use Rattle.steal_explorer.specs.Handed.{AreReached}
-use Rattle.steal_explorer.specs.Seating.{AreReady}
+use Rattle.morph_engine.specs.Crews.{IsCrew}
 use Rattle.morph_engine.specs.declared.exploring.Supply.{Supply}
 use Rattle.morph_engine.specs.declared.exploring.Supply.TheVariants.{Counters, Deques}
 
@@ -24,12 +24,12 @@ use Rattle.morph_engine.specs.declared.exploring.Supply.TheVariants.{Counters, D
 -- how a batch is explored with it
 abbrev pub explore_of : Supply → Explore
 explore_of Counters = Strata
-explore_of (Deques d) = Steal
+explore_of (Deques crew) = Steal
 
--- deques hold the operations of level 1, and there is one for each worker
+-- deques are those of a crew of so many workers
 abbrev pub IsSupply : Plan → (workers : ℕ) → Supply → Type 0
 IsSupply p workers Counters = Unit {0}
-IsSupply p workers (Deques d) = AreReady p d × (length d.seats.items ≡ workers)
+IsSupply p workers (Deques crew) = IsCrew p workers crew
 
 -- ---- operations that were handed out
 

@@ -1,4 +1,5 @@
 pub mod Caps
+pub mod Crews
 pub mod Fates
 pub mod Accounts
 pub mod Exploring

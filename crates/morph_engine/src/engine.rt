@@ -193,7 +193,8 @@ impl Engine {
             (account_of end)) }
         ensures refused { OnErr result (self.new ≡ self.old) }
     {
-        let prepared = Prepared::new(alloc, &plan, strategy, workers, 0)?;
+        let side_by_side = gate.needs_threads();
+        let prepared = Prepared::new(alloc, &plan, strategy, workers, side_by_side, 0)?;
         Ok(self.run_prepared(rt, prepared, plan, strategy, gate))
     }
 

@@ -13,13 +13,13 @@ ghost use Rattle.op_eval.specs.Gathering.{runners_of};
 ghost use Rattle.op_words.specs.Hands.{plan_of, cap_of, counters_of};
 ghost use Rattle.strata_explorer.specs.Levels.{counters_for};
 
+use crate::crew::Crew;
 use chain_units::Units;
 use morph_base::{Abort, Explore, OutOfMemory, Plan};
 use op_eval::{Explored, Runners};
 use op_words::Board;
 use std::alloc::Global;
 use std::thread::Threads;
-use steal_explorer::Deques;
 use worker_gate::Gate;
 
 /// What workers take operations from while they explore.
@@ -27,8 +27,8 @@ use worker_gate::Gate;
 pub(crate) enum Supply {
     /// The counters of the board, one for each pass.
     Counters,
-    /// Deques, each worker from its own or by a steal.
-    Deques(Deques),
+    /// Deques, each worker of a crew from its own or by a steal.
+    Deques(Crew),
 }
 
 /// How many operations were handed out to workers, and how many of these another worker took.
@@ -45,6 +45,7 @@ impl Supply {
         plan: &Plan,
         explore: Explore,
         workers: u32,
+        side_by_side: bool,
     ) -> Result<Self, OutOfMemory>
         requires valid { IsValidPlan plan.now }
         requires some { 1 ≤ workers }
@@ -55,8 +56,8 @@ impl Supply {
         match explore {
             Explore::Strata => Ok(Supply::Counters),
             Explore::Steal => {
-                let deques = Deques::new(alloc, plan, workers)?;
-                Ok(Supply::Deques(deques))
+                let crew = Crew::new(alloc, plan, workers, side_by_side)?;
+                Ok(Supply::Deques(crew))
             }
         }
     }
@@ -102,15 +103,6 @@ pub(crate) fn explore_by<R: Threads + Sync, G: Gate>(
             };
             (explored, none)
         }
-        Supply::Deques(deques) => {
-            let (explored, handed) = steal_explorer::explore(
-                rt, board, runners, deques, plan, units, abort, gate,
-            );
-            let tallied = Tallied {
-                handed: handed.handed,
-                stolen: handed.stolen,
-            };
-            (explored, tallied)
-        }
+        Supply::Deques(crew) => crew.explore(rt, board, runners, plan, units, abort, gate),
     }
 }

@@ -63,7 +63,7 @@ impl Engine {
         ensures refused { OnErr result (self.new ≡ self.old) }
     {
         let room = room_for(plan.ops.len());
-        let prepared = Prepared::new(alloc, &plan, strategy, 1, room)?;
+        let prepared = Prepared::new(alloc, &plan, strategy, 1, false, room)?;
         Ok(self.run_prepared(rt, prepared, plan, strategy, &FreeGate))
     }
 }

@@ -11,6 +11,7 @@
 //! `op_eval`, `strata_explorer` and `steal_explorer`; `abort_lazy` settles what was explored, and completes it.
 #![tactic(auto)]
 
+mod crew;
 mod engine;
 mod exploring;
 mod kept;

@@ -81,12 +81,14 @@ pub(crate) struct Ran {
 }
 
 impl Prepared {
-    /// Takes the memory for a plan, by a strategy and for so many workers, whose root has so much room for a journal.
+    /// Takes the memory for a plan, by a strategy and for so many workers, whose root has so much room for a journal. They
+    /// are to work side by side, or in as many threads as the plan is worth.
     pub(crate) fn new(
         alloc: Global,
         plan: &Plan,
         strategy: &Strategy,
         workers: u32,
+        side_by_side: bool,
         room: usize,
     ) -> Result<Self, OutOfMemory>
         requires valid { IsValidPlan plan.now }
@@ -102,7 +104,7 @@ impl Prepared {
         let counters = counters(plan) + plan.event_levels.len() as u32;
         let (board, root) = board_for(alloc, plan, cap_of(strategy.abort), counters, room)?;
         let runners = Runners::new(alloc, &board, root, workers, plan.events.len() as u32)?;
-        let supply = Supply::new(alloc, plan, strategy.explore, workers)?;
+        let supply = Supply::new(alloc, plan, strategy.explore, workers, side_by_side)?;
         let room = Room::new(alloc, plan)?;
         Ok(Prepared {
             abort: strategy.abort,

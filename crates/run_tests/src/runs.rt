@@ -4,7 +4,7 @@ mod apps;
 mod faults;
 mod holding;
 mod inputs;
-mod lines;
+pub mod lines;
 mod meeting;
 mod notes;
 mod places;
@@ -81,7 +81,7 @@ fn sink_of(
 ) -> Result<MemSink, OutOfMemory> {
     let fail = List::from_slice(alloc, fail)?;
     let stall = List::from_slice(alloc, stall)?;
-    MemSink::new(alloc, 1_100_000, piece.max(1), fail, stall)
+    MemSink::new(alloc, 1_500_000, piece.max(1), fail, stall)
 }
 
 /// Runs the program.

@@ -14,7 +14,7 @@ use Rattle.morph_base.specs.Graphs.{below, is_written_by, reads_from, IsGraph}
 use Rattle.morph_base.specs.Plans.{IsPlan, op_at, op_count, keys_of, origins_of}
 use Rattle.morph_base.proofs.OutcomeLaws.{keys_fit}
 use Rattle.op_words.specs.Trails.{IsSourceOf}
-use Rattle.steal_explorer.specs.Alone.{readers}
+use Rattle.steal_explorer.specs.Serving.{readers}
 use Rattle.op_eval.proofs.Elements.{contains_filter}
 
 abbrev items_of : Contents ℕ → List ℕ

@@ -7,9 +7,11 @@ use Rattle.morph_base.specs.Contents.{Contents}
 use Rattle.op_words.specs.Hands.{up_to}
 use Rattle.morph_base.specs.declared.plan.Plan.{Plan}
 use Rattle.morph_base.specs.declared.strategy.Abort.{Abort}
+use Rattle.op_words.specs.declared.answers.Outcome.{Outcome}
 use Rattle.op_words.proofs.Rows.{no_more}
 use Rattle.op_words.specs.declared.answers.Readied.{Readied}
 use Rattle.op_eval.specs.declared.answers.Evaluation.{Evaluation}
+use Rattle.op_eval.specs.declared.answers.Evaluation.TheVariants.{Evaluated, Blocked, Busy, Already}
 use Rattle.op_eval.specs.declared.runner.Runner.{Runner}
 use Rattle.op_eval.specs.Evaluations.{Tries}
 use Rattle.op_eval.proofs.Elements.{contains_first, contains_later}
@@ -20,7 +22,7 @@ use Rattle.abort_eager.specs.Sweeps.{cascade_for, Sweeps}
 use Rattle.steal_explorer.specs.Calls.{Call, Asked, Tried, is_asked, is_swept, NoneSwept, Asks, Calls, Calling, GoesQuietly, TriesQuietly, Walked}
 use Rattle.steal_explorer.specs.Handing.{log, one, parts_of, put}
 use Rattle.steal_explorer.specs.Members.{Owner, Thief, Ticket, own, stolen_by, AreSeated, HasTickets}
-use Rattle.steal_explorer.specs.Serving.{Goes, TouchesFor, Visits, Serves}
+use Rattle.steal_explorer.specs.Serving.{Goes, TouchesFor, AsksAll, AsksReaders, Visits, Serves, readers}
 
 -- ---- calls
 
@@ -120,10 +122,20 @@ module _ (p : Plan) (cap : ℕ) (abort : Abort) where
   pub goes_tried : (o : ℕ) (a : Member) (r : Runner) (x : Evaluation) → Tries p cap o a.runner r x → Goes p cap abort a (record a { runner = r })
   goes_tried o a r x tries = goes_calls a r (Tried o ∷ []) (a.runner, refl, (x, tries)) (lazy_one abort (Tried o) refl)
 
+  -- what reads from an operation was asked, since that was evaluated; or it was not, and nothing was
+  pub asked_where : (o attempt : ℕ) (x : Outcome) (answer : Evaluation) (a b : Member) → answer ≡ Evaluated attempt x → AsksAll p cap abort (readers p o) a b → AsksReaders p cap abort o answer a b
+  asked_where o attempt x answer a b is asks = subst (λ e. AsksReaders p cap abort o e a b) (sym is) asks
+
+  pub none_asked : (o : ℕ) (answer : Evaluation) (a : Member) → ((attempt : ℕ) (x : Outcome) → answer ≡ Evaluated attempt x → ⊥) → AsksReaders p cap abort o answer a a
+  none_asked o (Evaluated attempt x) a other = absurd (other attempt x refl)
+  none_asked o (Blocked source word) a other = refl
+  none_asked o (Busy word) a other = refl
+  none_asked o (Already word) a other = refl
+
   -- it tried an operation, ran the cascade behind that to its end, and went on
-  module _ (o : ℕ) (a : Member) (r : Runner) (x : Evaluation) (tries : Tries p cap o a.runner r x) (m b : Member) (touches : TouchesFor p cap abort o (cascade_for abort x) (record a { runner = r }) m) (swept : Goes p cap abort (record a { runner = r }) m) (goes : Goes p cap abort m b) where
+  module _ (o : ℕ) (a : Member) (r : Runner) (x : Evaluation) (tries : Tries p cap o a.runner r x) (m b : Member) (touches : TouchesFor p cap abort o (cascade_for abort x) (record a { runner = r }) m) (swept : Goes p cap abort (record a { runner = r }) m) (goes : Goes p cap abort m b) (asks : AsksReaders p cap abort o x m b) where
     pub visited : Visits p cap abort o a b
-    visited = record { evaluated = r; answer = x; tries = tries; swept = m; touches = touches; goes = goes }
+    visited = record { evaluated = r; answer = x; tries = tries; swept = m; touches = touches; asks = asks; goes = goes }
 
     pub serves_first : Serves p cap abort o a b
     unfolding goes_then goes_tried goes_calls

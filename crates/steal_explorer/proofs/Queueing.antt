@@ -23,7 +23,8 @@ use Rattle.op_eval.specs.Running.{hand_view}
 use Rattle.op_eval.proofs.Alone.{come_first}
 use Rattle.steal_explorer.specs.declared.handing.Log.{Log}
 use Rattle.steal_explorer.specs.declared.members.Member.{Member}
-use Rattle.steal_explorer.specs.Alone.{readers, Stands, IsRun, IsHandingAlone, Pushes, ServesAlone}
+use Rattle.steal_explorer.specs.Alone.{Stands, IsRun, IsHandingAlone, Pushes, ServesAlone}
+use Rattle.steal_explorer.specs.Serving.{readers}
 use Rattle.steal_explorer.specs.Calls.{Asks}
 use Rattle.steal_explorer.specs.HandingOut.{is_one}
 use Rattle.steal_explorer.specs.Members.{own, HasDeque}

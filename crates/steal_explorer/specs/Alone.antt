@@ -23,10 +23,6 @@ use Rattle.steal_explorer.specs.Handing.{one, put, got, came, gone, WasEmpty, Ma
 use Rattle.steal_explorer.specs.HandingOut.{is_one}
 use Rattle.steal_explorer.specs.Members.{own}
 
--- the operations that read from operation o, rising
-abbrev pub readers : Plan → ℕ → List ℕ
-readers p o = filter (reads_from p o) (below (op_count p))
-
 -- ---- operations, by the words that the root knows and by what was pushed
 
 -- all sources that are operations have run

@@ -1,11 +1,14 @@
 -- What serving an item makes of a worker.
-use Rattle.std.specs.Prelude.{◌≡◌, ◌≢◌, ◌⊎◌, ℕ, Bool, true, false, Option, Some, None, List, [], ◌∷◌, Contains}
+use Rattle.std.specs.Prelude.{◌≡◌, ◌≢◌, ◌⊎◌, ℕ, Bool, true, false, Option, Some, None, List, [], ◌∷◌, Contains, filter}
 use Rattle.crossbeam_deque.specs.Handles.{worker_deque}
+use Rattle.morph_base.specs.Graphs.{below, reads_from}
+use Rattle.morph_base.specs.Plans.{op_count}
 use Rattle.morph_base.specs.declared.plan.Plan.{Plan}
 use Rattle.morph_base.specs.declared.strategy.Abort.{Abort}
 use Rattle.op_words.specs.declared.answers.Readied.{Readied}
 use Rattle.op_words.specs.declared.answers.Readied.TheVariants.{Made}
 use Rattle.op_eval.specs.declared.answers.Evaluation.{Evaluation}
+use Rattle.op_eval.specs.declared.answers.Evaluation.TheVariants.{Evaluated, Blocked, Busy, Already}
 use Rattle.op_eval.specs.declared.runner.Runner.{Runner}
 use Rattle.op_eval.specs.Evaluations.{Tries}
 use Rattle.abort_eager.specs.declared.answers.Target.{Target}
@@ -18,6 +21,10 @@ use Rattle.steal_explorer.specs.declared.members.Member.{Member}
 use Rattle.steal_explorer.specs.Calls.{Call, Tried, NoneSwept, Asks, Calls, SweepsOne, Walked}
 use Rattle.steal_explorer.specs.Handing.{put}
 use Rattle.steal_explorer.specs.Members.{own}
+
+-- the operations that read from operation o, rising
+abbrev pub readers : Plan → ℕ → List ℕ
+readers p o = filter (reads_from p o) (below (op_count p))
 
 -- its runner made calls, under lazy abort none of a cascade, and it pushed on its own deque; nothing else changed
 pub record Goes (p : Plan) (cap : ℕ) (abort : Abort) (a b : Member) : Type 0 where
@@ -67,13 +74,26 @@ module _ (p : Plan) (cap : ℕ) (abort : Abort) where
   TouchesFor o None a b = b ≡ a
   TouchesFor o (Some failed) a b = TouchesAll (targets p o failed) a b
 
-  -- operation o was tried, and the cascade behind that was run to its end; then the worker went on
+  -- operations were asked, one after another, and each was pushed, or its unit walked, if that made it ready
+  abbrev pub AsksAll : List ℕ → Member → Member → Type 0
+  AsksAll [] a b = b ≡ a
+  AsksAll (o ∷ os) a b = (m : Member) × AsksAndPuts o a m × AsksAll os m b
+
+  -- all that read from operation o were, if it was evaluated; if it was not, nothing was done
+  abbrev pub AsksReaders : (o : ℕ) → Evaluation → Member → Member → Type 0
+  AsksReaders o (Evaluated attempt ok) a b = AsksAll (readers p o) a b
+  AsksReaders o (Blocked source word) a b = b ≡ a
+  AsksReaders o (Busy word) a b = b ≡ a
+  AsksReaders o (Already word) a b = b ≡ a
+
+  -- operation o was tried, the cascade behind that was run to its end, and then what reads from it was asked
   pub record Visits (o : ℕ) (a b : Member) : Type 0 where
     pub evaluated : Runner
     pub answer : Evaluation
     pub tries : Tries p cap o a.runner evaluated answer
     pub swept : Member
     pub touches : TouchesFor o (cascade_for abort answer) (record a { runner = evaluated }) swept
+    pub asks : AsksReaders o answer swept b
     pub goes : Goes p cap abort swept b
 
   -- operations were visited, the last first

@@ -1,4 +1,4 @@
-ghost use Rattle.std.specs.Prelude.{◌≡◌, ◌≢◌, true, ℕ, ◌+◌, ◌<◌, ◌≤◌, [], All, Contains, length, sum_by};
+ghost use Rattle.std.specs.Prelude.{◌≡◌, ◌≢◌, ◌↔◌, true, ℕ, ◌+◌, ◌<◌, ◌≤◌, [], All, Contains, length, sum_by};
 ghost use Rattle.chain_units.specs.Places.{IsPartition};
 ghost use Rattle.morph_base.specs.declared.strategy.Abort.TheVariants.{Lazy};
 ghost use Rattle.morph_base.specs.Graphs.{IsValidPlan};
@@ -8,7 +8,7 @@ ghost use Rattle.op_eval.specs.declared.explored.RunEnd.TheVariants.{Drained, Sp
 ghost use Rattle.op_eval.specs.Alone.{IsNewRoot};
 ghost use Rattle.op_eval.specs.Further.{AreFurther};
 ghost use Rattle.op_eval.specs.Exploring.{AreExplored, IsExplored, parts_of};
-ghost use Rattle.op_eval.specs.Gathering.{runners_of};
+ghost use Rattle.op_eval.specs.Gathering.{runners_of, spare};
 ghost use Rattle.steal_explorer.specs.Alone.{IsHandedAlone};
 ghost use Rattle.steal_explorer.specs.Handed.{workers_of, pushed_by, AreReached, AreAnswered, HasTurns};
 ghost use Rattle.steal_explorer.specs.Handed.{pushed_of, taken_of, stolen_of, unserved_of};
@@ -152,9 +152,12 @@ pub fn explore<R: Threads + Sync, G: Gate>(
     ensures explored { IsExplored result.0 }
     ensures board { (parts_of result.0).0 ≡ board }
     ensures hands { AreFurther (runners_of runners) (runners_of (parts_of result.0).1) }
+    ensures spare { spare (parts_of result.0).1 ≡ spare runners }
     ensures next_counter { (parts_of result.0).3 ≡ 0 }
     ensures turns { HasTurns plan.now (cap_of board) abort deques (runners_of runners) result.1 }
     ensures end { (parts_of result.0).2 ≢ Drained → (parts_of result.0).2 ≡ Spent }
+    ensures ended { ((parts_of result.0).2 ≡ Drained)
+        ↔ All (λ m. m.end ≡ Drained) (workers_of result.1) }
     ensures inside { (x : ℕ) → Contains (taken_of result.1) x → x < op_count plan.now }
     ensures handed { result.1.handed ≡ up_to (length (pushed_of result.1)) }
     ensures stolen { result.1.stolen ≡ up_to (length (stolen_of result.1)) }

@@ -41,4 +41,5 @@ mod working;
 
 pub use deques::Deques;
 pub use exploring::{Handed, explore};
+pub use running::pieces;
 pub use working::EMPTY_TURNS;

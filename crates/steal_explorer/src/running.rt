@@ -14,8 +14,9 @@ use crate::gathering::gather;
 use crate::handing::Thief;
 use crate::members::{Ground, Member};
 use crate::working::work;
+use morph_base::Plan;
 use std::thread::Threads;
-use worker_gate::{Gate, Job, Told, run_all};
+use worker_gate::{Gate, Job, Told, pieces_for, run_all};
 
 /// The turns of a worker, as all of them make them.
 #[derive(Drop)]
@@ -51,6 +52,22 @@ impl<G: Gate> Job<Member> for Working<'_, G> {
     }
 }
 
+/// As so many pieces of work an operation counts that is handed out by deques: it goes to one worker, who writes to its
+/// word alone, and its worker is started once for a batch.
+const HANDED_PIECES: usize = 8;
+
+/// Of a plan no more operations count than so many for each operation of an average level. Workers who find little side by
+/// side look into each other's deques in vain.
+const WIDTHS: usize = 64;
+
+/// How many pieces of work exploring a plan by deques is, for the threads that it is [worth](worker_gate::threads_for).
+pub fn pieces(plan: &Plan) -> usize {
+    let ops = plan.ops.len();
+    let width = ops / plan.op_levels.len().max(1);
+    ops.min(width.saturating_mul(WIDTHS))
+        .saturating_mul(HANDED_PIECES)
+}
+
 /// All workers make their turns.
 fn work_all<R: Threads + Sync, G: Gate>(
     rt: &R,
@@ -76,7 +93,7 @@ fn work_all<R: Threads + Sync, G: Gate>(
         gate,
         thieves,
     };
-    run_all(rt, members, &working);
+    run_all(rt, members, pieces_for(gate, pieces(ground.plan)), &working);
 }
 
 /// All workers make their turns, get all parts of their deques back, and what is left there is taken or left with

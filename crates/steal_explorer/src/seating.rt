@@ -73,6 +73,7 @@ pub(crate) fn unseat_all(members: &mut List<Member>, runners: &mut Runners)
     requires empty { runners_of runners.old ≡ [] }
     requires room { length members.old.items ≤ spare runners.old }
     ensures runners { runners_of runners.new ≡ map runner_of members.old.items }
+    ensures spare { spare runners.old ≡ spare runners.new + length members.old.items }
     ensures places { HasPlaces runners.old → HasPlaces runners.new }
 {
     turn_round(members);

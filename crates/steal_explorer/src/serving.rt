@@ -5,10 +5,11 @@ ghost use Rattle.morph_base.specs.declared.strategy.Abort.TheVariants.{Lazy};
 ghost use Rattle.morph_base.specs.Plans.{op_count};
 ghost use Rattle.op_words.specs.Hands.{cap_of};
 ghost use Rattle.op_words.specs.Trails.{IsSourceOf};
-ghost use Rattle.steal_explorer.specs.Alone.{readers, IsHandingAlone, Pushes, ServesAlone};
+ghost use Rattle.steal_explorer.specs.Alone.{IsHandingAlone, Pushes, ServesAlone};
+ghost use Rattle.steal_explorer.specs.Serving.{readers};
 ghost use Rattle.steal_explorer.specs.Members.{IsGround, IsIdle, HasDeque};
 ghost use Rattle.steal_explorer.specs.declared.finding.Found.TheVariants.{Item};
-ghost use Rattle.steal_explorer.specs.Serving.{Goes, PutsOrWalks, AsksAndPuts, Visits, Serves};
+ghost use Rattle.steal_explorer.specs.Serving.{Goes, PutsOrWalks, AsksAndPuts, AsksAll, Visits, Serves};
 ghost use Rattle.steal_explorer.specs.Turns.{After};
 
 use crate::handing::Puts;
@@ -78,6 +79,8 @@ fn ask_all<T: Turns>(ground: &Ground<'_>, told: &T, turn: u64, member: &mut Memb
     ensures deque { HasDeque ground.now.plan.now member.new }
     ensures goes { Goes ground.now.plan.now (cap_of ground.now.board.now) ground.now.abort
         member.old member.new }
+    ensures asks { AsksAll ground.now.plan.now (cap_of ground.now.board.now) ground.now.abort
+        (readers ground.now.plan.now op) member.old member.new }
     ensures alone { IsHandingAlone ground.now.plan.now (readers ground.now.plan.now op) member.old
         → IsHandingAlone ground.now.plan.now [] member.new }
 {

@@ -168,12 +168,15 @@ module _ (p : Plan) (cap : ℕ) (abort : Abort) (units : List (List ℕ)) where
       inside = climbing.inside;
       last = λ e. absurd (apart e);
       whole = λ e. absurd (apart e);
-      spent = λ other. (refl, let many = climbing.counted in let most = few in omega arith);
+      spent = λ other. (refl, used_all, level, less, climbing.next);
       lazy = λ lazy. absurd (let past = lazy_ends lazy used in omega arith);
     }
       where
         apart : Spent ≡ Whole → ⊥
         apart e = cc
+
+        used_all : length climbing.levels ≡ counters_for p
+        used_all = let many = climbing.counted in let most = few in omega arith
 
     pub ends_alone : (depth ≤ level) ⊎ (counters_for p ≤ counters) → abort ≡ Lazy → 1 ≤ cap → IsAlone p depth start now
     ends_alone end lazy some = subst (λ l. IsAlone p l start now) all (climbing.alone lazy some)

@@ -78,7 +78,7 @@ module _ (p : Plan) (cap : ℕ) (abort : Abort) where
         (earlier : List Runner) × Passes ls start earlier before × Follows l ls earlier before × IsPassed p cap abort units (length ls) (ops_of p l) before now
 
     -- passes were made over levels, as many as counters are used. The end is Whole once there is no level left that comes next, and
-    -- then each was passed; it is Spent where as many passes were made as there are counters for them. Under lazy abort each level
+    -- then each was passed; it is Spent if as many passes were made as there are counters for them, and there is one that comes next. Under lazy abort each level
     -- was passed once, from the lowest on. At each place of a pass the unit of its operation was walked
     pub record HasPassed (start now : List Runner) (end : RunEnd) (counters : ℕ) : Type 0 where
       pub levels : List ℕ
@@ -90,7 +90,7 @@ module _ (p : Plan) (cap : ℕ) (abort : Abort) where
       pub inside : All (λ l. l < length p.op_levels.items) levels
       pub last : end ≡ Whole → Follows (length p.op_levels.items) levels before now
       pub whole : end ≡ Whole → (l : ℕ) → l < length p.op_levels.items → Contains levels l
-      pub spent : end ≢ Whole → (end ≡ Spent) × (length levels ≡ counters_for p)
+      pub spent : end ≢ Whole → (end ≡ Spent) × (length levels ≡ counters_for p) × (l : ℕ) × (l < length p.op_levels.items) × Follows l levels before now
       pub lazy : abort ≡ Lazy → (end ≡ Whole) × (length levels ≡ length p.op_levels.items) × ((k : ℕ) → k < length levels → level_of levels k ≡ k)
 
 -- a lone root after the passes over the levels below: what it called `evaluate` on has run at attempt 1

@@ -10,7 +10,7 @@ use crate::ground::Ground;
 use crate::walking::work;
 use op_eval::Runner;
 use std::thread::Threads;
-use worker_gate::{Gate, Job, Told, is_few, run_all};
+use worker_gate::{Gate, Job, Told, is_few, pieces_for, run_all};
 
 /// A pass over the operations of a level, whose places workers take from a counter.
 #[derive(Drop)]
@@ -75,6 +75,7 @@ pub(crate) fn pass_by<R: Threads + Sync, G: Gate>(
     if is_few(pass.ops.len()) {
         pass.run(&mut runners[0]);
     } else {
-        run_all(rt, runners, pass);
+        let pieces = pieces_for(pass.gate, pass.ops.len());
+        run_all(rt, runners, pieces, pass);
     }
 }

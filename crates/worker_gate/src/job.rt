@@ -1,11 +1,16 @@
-ghost use Rattle.std.specs.Prelude.{ℕ, ◌<◌, ◌↔◌, length, All, slice_index_or, IsTrue};
+ghost use Rattle.std.specs.Prelude.{ℕ, ◌<◌, ◌≤◌, ◌↔◌, max, length, All, slice_index_or, IsTrue};
 ghost use Rattle.worker_gate.specs.Sharing.{shared_from};
 
+use crate::gate::Gate;
 use std::thread;
 use std::thread::Threads;
 
-/// Fewer pieces of work than these are left to the first worker alone: threads would cost more than they bring.
+/// Fewer pieces of work than these are left to the first worker alone.
 const FEW: usize = 8;
+
+/// So many pieces of work are worth a thread. With fewer, workers who share them lose more by writing to the same lines of
+/// memory than they gain by working side by side. docs/PERFORMANCE.md has what was measured.
+const THREAD_PIECES: usize = 262_144;
 
 /// What each of several workers is to do, while the job itself is shared by all of them.
 pub trait Job<W>: Sync {
@@ -28,15 +33,40 @@ pub fn is_few(pieces: usize) -> bool
     pieces < FEW
 }
 
-/// Has each worker do the job, side by side: with as many threads as there are workers, or fewer where no thread can
-/// be made.
+/// How many threads so many pieces of work are worth, for so many workers: one for each 262,144 pieces, at least one, and
+/// at most one for each worker.
+pub fn threads_for(workers: usize, pieces: usize) -> usize
+    ensures some { 1 ≤ result }
+    ensures most { result ≤ max 1 workers }
+{
+    (pieces / THREAD_PIECES).min(workers).max(1)
+}
+
+/// So many pieces of work; under a gate that [needs threads](Gate::needs_threads) as many as are worth a thread for
+/// everybody.
+pub fn pieces_for<G: Gate>(gate: &G, pieces: usize) -> usize {
+    if gate.needs_threads() {
+        usize::MAX
+    } else {
+        pieces
+    }
+}
+
+/// Has each worker do the job, which has so many pieces of work for all of them together.
 ///
-/// It returns when all have done it. With one worker, or none, no thread is started.
-pub fn run_all<R: Threads + Sync, W: Send, J: Job<W>>(rt: &R, workers: &mut [W], job: &J)
+/// It returns when all have done it. There are as many threads as the pieces [are worth](threads_for), and the workers of
+/// one thread do the job one after the other. With few pieces, with one worker, or if no thread can be made, all of them
+/// do it in the caller's thread.
+pub fn run_all<R: Threads + Sync, W: Send, J: Job<W>>(
+    rt: &R,
+    workers: &mut [W],
+    pieces: usize,
+    job: &J,
+)
     requires { All (J.can_run job.now) workers.old }
     ensures { (i : ℕ) (d : W) → i < length workers.old
         → J.changes job.now (slice_index_or workers.old i d) (slice_index_or workers.new i d) }
 {
-    let threads = workers.len().max(1);
+    let threads = threads_for(workers.len(), pieces);
     thread::for_each_mut(rt, workers, threads, &|_, worker| job.run(worker));
 }

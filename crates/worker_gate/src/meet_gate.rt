@@ -5,8 +5,8 @@ use std::sync::atomic::{AtomicBool, Ordering};
 /// A gate that lets nobody far ahead of the other: it holds worker 1 at turn 0 until worker 2 has called
 /// [`Gate::done`], and worker 2 at turn 1 until worker 1 has called it. All other turns are free.
 ///
-/// A test runs two workers under it to see that they work side by side: where they do, both come to their hold and
-/// find the other's `done`. Where one worker does all its work before the other begins, it waits in vain and goes on
+/// A test runs two workers under it to see that they work side by side, if there is work enough for two threads: if they
+/// do, both come to their hold and find the other's `done`. Where one worker does all its work before the other begins, it waits in vain and goes on
 /// after `limit` loads.
 #[derive(Drop)]
 pub struct MeetGate {
@@ -84,5 +84,9 @@ impl Gate for MeetGate {
             2 => self.second.done.store(true, Ordering::SeqCst),
             _ => {}
         }
+    }
+
+    fn needs_threads(&self) -> bool {
+        false
     }
 }

@@ -5,6 +5,9 @@ use std::hint::spin_loop;
 use std::sync::atomic::{AtomicBool, AtomicU64, Ordering};
 use std::test::Fail;
 
+/// As many pieces of work as sixteen workers get a thread each for.
+const MANY_PIECES: usize = 4_194_304;
+
 /// Adds a number to a worker's own.
 #[derive(Drop)]
 struct Adding {
@@ -25,13 +28,13 @@ impl Job<u32> for Adding {
 fn each_worker_does_its_job(rt: HostRuntime) -> Result<(), Fail> {
     let job = Adding { by: 5 };
     let mut one = [7];
-    run_all(&rt, &mut one, &job);
+    run_all(&rt, &mut one, MANY_PIECES, &job);
     assert_eq!(rt; one, [12]);
     let mut two = [7, 0];
-    run_all(&rt, &mut two, &job);
+    run_all(&rt, &mut two, MANY_PIECES, &job);
     assert_eq!(rt; two, [12, 5]);
     let mut sixteen = [0, 1, 2, 3, 4, 5, 6, 7, 8, 9, 10, 11, 12, 13, 14, 15];
-    run_all(&rt, &mut sixteen, &job);
+    run_all(&rt, &mut sixteen, MANY_PIECES, &job);
     assert_eq!(rt;
         sixteen,
         [5, 6, 7, 8, 9, 10, 11, 12, 13, 14, 15, 16, 17, 18, 19, 20]
@@ -61,16 +64,19 @@ impl Job<u32> for Turning<'_> {
 #[test]
 fn two_workers_meet_and_one_alone_does_not(rt: HostRuntime) {
     let gate = MeetGate::new(1_000_000_000);
-    run_all(&rt, &mut [1, 2], &Turning { gate: &gate });
+    run_all(&rt, &mut [1, 2], MANY_PIECES, &Turning { gate: &gate });
     assert_eq!(rt; (gate.met(), gate.missed()), (true, false), "side by side");
     let gate = MeetGate::new(1_000);
-    run_all(&rt, &mut [1], &Turning { gate: &gate });
+    run_all(&rt, &mut [1, 2], 524_287, &Turning { gate: &gate });
+    assert_eq!(rt; (gate.met(), gate.missed()), (false, true), "in one thread");
+    let gate = MeetGate::new(1_000);
+    run_all(&rt, &mut [1], MANY_PIECES, &Turning { gate: &gate });
     assert_eq!(rt;
         (gate.met(), gate.missed()),
         (false, true),
         "the first alone"
     );
-    run_all(&rt, &mut [2], &Turning { gate: &gate });
+    run_all(&rt, &mut [2], MANY_PIECES, &Turning { gate: &gate });
     assert_eq!(rt;
         (gate.met(), gate.missed()),
         (false, true),
@@ -79,6 +85,7 @@ fn two_workers_meet_and_one_alone_does_not(rt: HostRuntime) {
     run_all(
         &rt,
         &mut [3, 4],
+        MANY_PIECES,
         &Turning {
             gate: &MeetGate::new(0),
         },
@@ -179,7 +186,7 @@ fn one_worker_is_held_from_a_turn_on_and_the_other_goes_on(rt: HostRuntime) {
         over: AtomicBool::new(false),
     };
     let mut workers = [Passer::new(1), Passer::new(2)];
-    run_all(&rt, &mut workers, &passing);
+    run_all(&rt, &mut workers, MANY_PIECES, &passing);
     let [first, _] = workers;
     assert_eq!(rt; (first.before < MANY, first.held >= MANY), (true, true));
 }

@@ -108,6 +108,6 @@ pub fn sweep_by<T: Threads + Sync>(rt: &T, runners: &mut [Runner], sweep: &Sweep
     if is_few(sweep.events.len()) {
         sweep.run(&mut runners[0]);
     } else {
-        run_all(rt, runners, sweep);
+        run_all(rt, runners, sweep.events.len(), sweep);
     }
 }

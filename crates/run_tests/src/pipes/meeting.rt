@@ -1,6 +1,7 @@
 //! The two halves of a round side by side: reading and running wait for each other.
 use super::{ledger_pipe, tell_round};
-use morph_base::List;
+use crate::runs::lines::{append, append_number};
+use morph_base::{List, OutOfMemory};
 use morph_io::{MemSource, ReadFailed, Source};
 use std::hint::spin_loop;
 use std::sync::atomic::{AtomicBool, Ordering};
@@ -10,10 +11,10 @@ use worker_gate::Gate;
 /// The most loads of one hold.
 const LOADS: u64 = 200_000_000;
 
-/// Where the reader of a second piece and the first worker meet.
+/// Where the reader of a second batch and the first worker meet.
 #[derive(Drop)]
 struct Meeting {
-    /// The second read was entered.
+    /// The read that is held was entered.
     entered: AtomicBool,
     /// A worker has evaluated something.
     done: AtomicBool,
@@ -42,7 +43,7 @@ impl Meeting {
     }
 }
 
-/// It holds worker 1 at its turn 0 until the second read was entered.
+/// It holds worker 1 at its turn 0 until the read that is held was entered.
 impl Gate for Meeting {
     fn pass(&self, worker: u32, turn: u64) {
         if worker == 1 && turn == 0 {
@@ -53,13 +54,18 @@ impl Gate for Meeting {
     fn done(&self, _worker: u32, _turn: u64) {
         self.done.store(true, Ordering::SeqCst);
     }
+
+    fn needs_threads(&self) -> bool {
+        false
+    }
 }
 
-/// A source whose second read holds until a worker has evaluated something.
+/// A source of which one read, by its number from 1, holds until a worker has evaluated something.
 #[derive(Drop)]
 struct Held<'a, S> {
     source: S,
     reads: u64,
+    held: u64,
     meeting: &'a Meeting,
 }
 
@@ -72,7 +78,7 @@ impl<S: Source> Source for Held<'_, S> {
 
     fn read(&mut self, buf: &mut [u8]) -> Result<usize, ReadFailed> {
         self.reads = self.reads.saturating_add(1);
-        if self.reads == 2 {
+        if self.reads == self.held {
             self.meeting.entered.store(true, Ordering::SeqCst);
             self.meeting.hold_until(&self.meeting.done);
         }
@@ -80,21 +86,42 @@ impl<S: Source> Source for Held<'_, S> {
     }
 }
 
-/// Halves that ran one after the other would wait in vain.
+/// Payouts of so many events, each of sixteen operations, and as many bytes of a piece.
+const PAYOUTS: u64 = 8_192;
+
+const PIECE: usize = 4_096;
+
+/// Appends so many payouts of 0, from this timestamp on.
+fn append_payouts(list: &mut List<u8>, from: u64, count: u64) -> Result<(), OutOfMemory> {
+    for i in 0..count {
+        append(list, b"M ")?;
+        append_number(list, from.wrapping_add(i))?;
+        append(list, b" 0 0 1 2 3 4 5 6 7 8 9 10 11 12 13 14 15\n")?;
+    }
+    Ok(())
+}
+
+/// A batch with as many operations as two halves are worth, and what comes behind it. Halves that ran one after the other would
+/// wait in vain.
 #[test]
 fn pipe_meets(rt: HostRuntime) -> Result<(), Fail> {
     let alloc = rt.alloc();
     let meeting = Meeting::new();
-    let bytes = List::from_slice(alloc, b"D 1 0 0 1 1\nP\nD 2 0 0 1 1\n")?;
+    let mut bytes = List::from_slice(alloc, b"morph 2\n")?;
+    append_payouts(&mut bytes, 1, PAYOUTS)?;
+    append(&mut bytes, b"P\n")?;
+    let held = bytes.len().div_ceil(PIECE) as u64;
+    append_payouts(&mut bytes, 1 + PAYOUTS, 500)?;
     let mut source = Held {
-        source: MemSource::new(bytes, 14, List::new(alloc)),
+        source: MemSource::new(bytes, PIECE, List::new(alloc)),
         reads: 0,
+        held: held.saturating_add(1),
         meeting: &meeting,
     };
-    let mut pipe = ledger_pipe(alloc, 2)?;
+    let mut pipe = ledger_pipe(alloc, 1)?;
     let mut told = List::new(alloc);
     tell_round(&rt, alloc, &mut pipe, &mut source, &meeting, &mut told)?;
-    assert_eq!(rt; told.as_slice(), [[1, 1]].as_slice());
+    assert_eq!(rt; told.as_slice(), [[1, PAYOUTS]].as_slice());
     assert!(rt; !meeting.missed.load(Ordering::SeqCst));
     Ok(())
 }

@@ -4,7 +4,7 @@ use super::{FOUR, FOUR_EVENTS, run_gated};
 use morph_base::{List, OutOfMemory};
 use std::alloc::Global;
 use std::test::Fail;
-use worker_gate::{FreeGate, HoldGate};
+use worker_gate::HoldGate;
 
 /// The words that ask for each strategy.
 static STRATEGIES: [[&[u8]; 3]; 8] = [
@@ -47,6 +47,7 @@ fn transfers(alloc: Global) -> Result<List<u8>, OutOfMemory> {
 #[test]
 fn sixteen_workers_contend_for_an_account(rt: HostRuntime) -> Result<(), Fail> {
     let input = transfers(rt.alloc())?;
+    let side_by_side = HoldGate::new(0, 0, 0);
     for &[unit, explore, abort] in &STRATEGIES {
         let words = [
             b"app=ledger".as_slice(),
@@ -55,7 +56,7 @@ fn sixteen_workers_contend_for_an_account(rt: HostRuntime) -> Result<(), Fail> {
             explore,
             abort,
         ];
-        let ran = run_gated(&rt, rt.alloc(), &words, input.as_slice(), &FreeGate)?;
+        let ran = run_gated(&rt, rt.alloc(), &words, input.as_slice(), &side_by_side)?;
         let last = b"\n2001 C 0 0 2000 0\n2002 A\n".as_slice();
         let met = ran
             .sink

@@ -23,16 +23,21 @@ pub fn append(list: &mut List<u8>, bytes: &[u8]) -> Result<(), OutOfMemory> {
     Ok(())
 }
 
+/// Appends the digits of a number.
+pub fn append_number(list: &mut List<u8>, number: u64) -> Result<(), OutOfMemory> {
+    let mut digits = LineBuf::new();
+    digits.number(number);
+    append(list, digits.bytes())
+}
+
 /// Appends a part of the line of a number.
 fn append_part(list: &mut List<u8>, part: Part, number: u64) -> Result<(), OutOfMemory> {
-    let mut digits = LineBuf::new();
     match part {
-        Part::Text(text) => return append(list, text),
-        Part::Number => digits.number(number),
-        Part::Before => digits.number(number.saturating_sub(1)),
-        Part::After => digits.number(number.saturating_add(1)),
+        Part::Text(text) => append(list, text),
+        Part::Number => append_number(list, number),
+        Part::Before => append_number(list, number.saturating_sub(1)),
+        Part::After => append_number(list, number.saturating_add(1)),
     }
-    append(list, digits.bytes())
 }
 
 /// Appends the lines of these parts for the numbers from 1 to `count`.

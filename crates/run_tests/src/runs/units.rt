@@ -22,7 +22,8 @@ struct Way {
     handed: [u64; 2],
 }
 
-/// With lazy abort each operation is made ready once, so it is handed out once, whichever worker it comes to.
+/// With lazy abort each operation is made ready once. In the unit of operations it is handed out then; in chains a worker may
+/// make an operation ready on its way through a unit, and then it is handed out to nobody.
 static WAYS: [Way; 4] = [
     Way {
         explore: Explore::Strata,
@@ -88,6 +89,11 @@ fn expect_four(
         let ran = run_words(rt, rt.alloc(), &words, FOUR_EVENTS)?;
         let noted = ran.notes.bytes().starts_with(front);
         let balanced = is_balanced(ran.tally, way.explore, way.abort, workers);
+        let least = if unit == b"unit=op" {
+            least
+        } else {
+            least.min(2)
+        };
         let handed = least <= ran.tally.handed && ran.tally.handed <= most;
         let same = ran.sink.bytes() == FOUR;
         let got = (ran.status, same, noted, balanced, handed);

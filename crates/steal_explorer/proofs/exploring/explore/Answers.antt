@@ -1,11 +1,11 @@
-use Rattle.std.proofs.Common.{◌≡◌, ◌+◌, ◌<◌, ◌∙◌, ℕ, List, map, length, refl, sym, ap, subst}
+use Rattle.std.proofs.Common.{◌≡◌, ◌+◌, ◌<◌, ◌∙◌, ℕ, List, map, length, refl, sym, ap, subst, arith}
 use Rattle.std.specs.Prelude.{All, Contains, flat_map, sum_by, slice_index_or}
 use Rattle.std.proofs.lemmas.List.{length-map}
 use Rattle.op_words.specs.declared.board.Board.{Board}
 use Rattle.op_eval.specs.declared.explored.RunEnd.{RunEnd}
 use Rattle.op_eval.specs.declared.explored.RunEnd.TheVariants.{Drained}
 use Rattle.op_eval.specs.declared.runners.Runners.{Runners}
-use Rattle.op_eval.specs.Gathering.{runners_of}
+use Rattle.op_eval.specs.Gathering.{runners_of, spare}
 use Rattle.op_eval.proofs.Seating.{come_back}
 use Rattle.steal_explorer.specs.declared.members.Member.{Member}
 use Rattle.op_eval.specs.Further.{AreFurther}
@@ -37,6 +37,16 @@ returns-clause-hands g c =
     let back = come_back c.seat_all.new.members.items c.hand_out.new.members (law.len ∙ ap (λ (l : List Member). length l) c.as_mut_slice.ensures.items) in
     subst (AreFurther (runners_of c.args.runners)) (sym (ap (λ (t : Board × Runners × RunEnd × ℕ). runners_of t.1) c.new.ensures.parts ∙ c.unseat_all.ensures.runners ∙ ap (map runner_of) back))
     (further_is _ _ _ _ _ _ law (runners_of c.args.runners) (ap (map runner_of) c.as_mut_slice.ensures.items ∙ c.seat_all.ensures.seated.runners))
+
+pub returns-clause-spare : goal.returns-clause-spare
+returns-clause-spare g c =
+    let law = c.hand_out.ensures.handed_out in
+    let many : length c.hand_out.new.members ≡ length c.seat_all.new.members.items = law.len ∙ ap (λ (l : List Member). length l) c.as_mut_slice.ensures.items in
+    let back = come_back c.seat_all.new.members.items c.hand_out.new.members many in
+    let seated : length c.seat_all.new.members.items ≡ length (runners_of c.args.runners) = sym (length-map c.seat_all.new.members.items runner_of) ∙ ap length c.seat_all.ensures.seated.runners in
+    let returned = ap (λ (l : List Member). length l) back in
+    let same : spare c.unseat_all.new.runners ≡ spare c.args.runners = omega (arith, many, seated, returned, c.seat_all.ensures.spare, c.unseat_all.ensures.spare) in
+    ap (λ (t : Board × Runners × RunEnd × ℕ). spare t.1) c.new.ensures.parts ∙ same
 
 pub returns-clause-balance : goal.returns-clause-balance
 returns-clause-balance g c =
@@ -94,6 +104,14 @@ pub returns-clause-end : goal.returns-clause-end
 returns-clause-end g c =
     let same = ap (λ (t : Board × Runners × RunEnd × ℕ). t.2) c.new.ensures.parts in
     λ other. same ∙ c.end_of-end.ensures.spent (λ drained. other (same ∙ drained))
+
+pub returns-clause-ended : goal.returns-clause-ended
+returns-clause-ended g c =
+    let same = ap (λ (t : Board × Runners × RunEnd × ℕ). t.2) c.new.ensures.parts in
+    let shown = c.of-handed.ensures.workers ∙ sym c.as_slice-2.ensures in (
+      (λ end. subst (All (λ m. m.end ≡ Drained)) (sym shown) (c.end_of-end.ensures.drained (sym same ∙ end))),
+      (λ all. same ∙ c.end_of-end.ensures.all (subst (All (λ m. m.end ≡ Drained)) shown all)),
+    )
 
 pub of-handed-requires : goal.of-handed-requires
 of-handed-requires g c =

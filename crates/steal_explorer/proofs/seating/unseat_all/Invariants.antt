@@ -7,5 +7,6 @@ abbrev pub invariant-members : goal.invariant-members
 invariant-members l =
     (map runner_of l.fn.members.items ≡ runners_of l.runners ++ map runner_of (reverse l.members.items))
     × (length l.members.items ≤ spare l.runners)
+    × (spare l.fn.runners ≡ spare l.runners + l.counter)
     × (HasPlaces l.fn.runners → HasPlaces l.runners)
     × (length l.members.items + l.counter ≡ length l.fn.members.items)

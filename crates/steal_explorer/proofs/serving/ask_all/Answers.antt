@@ -1,6 +1,8 @@
-use Rattle.std.proofs.Common.{sym, subst, drop, ◌<◌, ◌+◌}
+use Rattle.std.proofs.Common.{sym, subst, refl, drop, ◌<◌, ◌+◌}
+use Rattle.op_words.specs.Hands.{cap_of}
 use Rattle.steal_explorer.proofs.Depending.{many_lists, readers_is, readers_inside}
 use Rattle.steal_explorer.specs.Alone.{IsHandingAlone}
+use Rattle.steal_explorer.specs.Serving.{AsksAll}
 use Rattle.steal_explorer.proofs.Queueing.{next_source, rest_of, none_left}
 use Rattle.steal_explorer.proofs.Going.{goes_none, goes_then}
 use Rattle.steal_explorer.proofs.serving.ask_all.Goals as goal
@@ -13,6 +15,8 @@ loop-i-init g c = (
   c.requires.idle,
   c.requires.deque,
   goes_none _ _ _ _,
+  λ z. subst (λ ops. AsksAll c.args.ground.now.plan.now (cap_of c.args.ground.now.board.now) c.args.ground.now.abort ops c.args.member.now z)
+      (readers_is c.args.ground.now.plan.now c.requires.ground.valid.graph c.args.op c.requires.in_range _ c.row-dependents.ensures),
   subst (λ ops. IsHandingAlone c.args.ground.now.plan.now ops c.args.member.now)
       (sym (readers_is c.args.ground.now.plan.now c.requires.ground.valid.graph c.args.op c.requires.in_range _ c.row-dependents.ensures)),
 )
@@ -28,12 +32,21 @@ loop-i-preserved g c =
       c.ask_one.ensures.idle,
       c.ask_one.ensures.deque,
       goes_then _ _ _ _ _ _ c.loop-i.invariant.2 c.ask_one.ensures.goes,
+      λ z asked.
+          c.loop-i.invariant.3 z
+          (subst (λ ops. AsksAll p (cap_of c.args.ground.now.board.now) c.args.ground.now.abort ops c.loop-i.member z) (sym (rest_of c.row-dependents.result.now c.loop-i.i c.loop-i-test.true))
+          (c.ask_one.new.member, c.ask_one.ensures.does, asked)),
       λ begins.
           c.ask_one.ensures.alone (drop (c.loop-i.i + 1) c.row-dependents.result.now) c.args.op (next_source p c.requires.ground.valid c.args.op _ same c.loop-i.i c.loop-i-test.true)
-          (subst (λ ops. IsHandingAlone p ops c.loop-i.member) (rest_of c.row-dependents.result.now c.loop-i.i c.loop-i-test.true) (c.loop-i.invariant.3 begins)),
+          (subst (λ ops. IsHandingAlone p ops c.loop-i.member) (rest_of c.row-dependents.result.now c.loop-i.i c.loop-i-test.true) (c.loop-i.invariant.4 begins)),
     )
+
+pub returns-clause-asks : goal.returns-clause-asks
+returns-clause-asks g c =
+    c.loop-i.invariant.3 c.loop-i.member
+    (subst (λ ops. AsksAll c.args.ground.now.plan.now (cap_of c.args.ground.now.board.now) c.args.ground.now.abort ops c.loop-i.member c.loop-i.member) (sym (none_left c.row-dependents.result.now c.loop-i.i c.loop-i-test.false)) refl)
 
 pub returns-clause-alone : goal.returns-clause-alone
 returns-clause-alone g c =
     λ begins.
-    subst (λ ops. IsHandingAlone c.args.ground.now.plan.now ops c.loop-i.member) (none_left c.row-dependents.result.now c.loop-i.i c.loop-i-test.false) (c.loop-i.invariant.3 begins)
+    subst (λ ops. IsHandingAlone c.args.ground.now.plan.now ops c.loop-i.member) (none_left c.row-dependents.result.now c.loop-i.i c.loop-i-test.false) (c.loop-i.invariant.4 begins)

@@ -1,9 +1,10 @@
 use Rattle.std.proofs.Common.{sym, subst}
 use Rattle.op_words.specs.Hands.{cap_of}
 use Rattle.abort_eager.proofs.Sweeping.{cause_shown}
-use Rattle.steal_explorer.specs.Alone.{readers, IsHandingAlone, IsRun, ServesAlone}
+use Rattle.steal_explorer.specs.Alone.{IsHandingAlone, IsRun, ServesAlone}
+use Rattle.steal_explorer.specs.Serving.{readers}
 use Rattle.steal_explorer.proofs.Cascading.{none_under_lazy}
-use Rattle.steal_explorer.proofs.Going.{goes_none, visited, serves_first}
+use Rattle.steal_explorer.proofs.Going.{goes_none, visited, serves_first, asked_where, none_asked}
 use Rattle.steal_explorer.proofs.Queueing.{tried_and_evaluated, tried_in_vain, goes_ran}
 use Rattle.steal_explorer.proofs.serving.evaluate_and_ask.Goals as goal
 
@@ -15,11 +16,15 @@ sweep-requires-clause-cause g c = cause_shown _ _ _ c.args.ground.now.abort _ _ 
 
 pub returns-in-Evaluated-clause-serves : goal.returns-in-Evaluated-clause-serves
 returns-in-Evaluated-clause-serves g c =
-    serves_first _ _ _ c.args.op c.args.member.now c.attempt-answer.new.runner _ c.attempt-answer.ensures.does c.sweep.new.member _ c.sweep.ensures.touches c.sweep.ensures.goes c.ask_all.ensures.goes
+    let asks =
+    asked_where c.args.ground.now.plan.now (cap_of c.args.ground.now.board.now) c.args.ground.now.abort c.args.op _ _ c.attempt-answer.result c.sweep.new.member c.ask_all.new.member c.in-Evaluated.is c.ask_all.ensures.asks in
+    serves_first _ _ _ c.args.op c.args.member.now c.attempt-answer.new.runner _ c.attempt-answer.ensures.does c.sweep.new.member _ c.sweep.ensures.touches c.sweep.ensures.goes c.ask_all.ensures.goes asks
 
 pub returns-in-Evaluated-clause-visits : goal.returns-in-Evaluated-clause-visits
 returns-in-Evaluated-clause-visits g c =
-    visited _ _ _ c.args.op c.args.member.now c.attempt-answer.new.runner _ c.attempt-answer.ensures.does c.sweep.new.member _ c.sweep.ensures.touches c.sweep.ensures.goes c.ask_all.ensures.goes
+    let asks =
+    asked_where c.args.ground.now.plan.now (cap_of c.args.ground.now.board.now) c.args.ground.now.abort c.args.op _ _ c.attempt-answer.result c.sweep.new.member c.ask_all.new.member c.in-Evaluated.is c.ask_all.ensures.asks in
+    visited _ _ _ c.args.op c.args.member.now c.attempt-answer.new.runner _ c.attempt-answer.ensures.does c.sweep.new.member _ c.sweep.ensures.touches c.sweep.ensures.goes c.ask_all.ensures.goes asks
 
 pub returns-in-Evaluated-clause-alone : goal.returns-in-Evaluated-clause-alone
 returns-in-Evaluated-clause-alone g c = λ lazy some is.
@@ -33,14 +38,17 @@ returns-in-Evaluated-clause-alone g c = λ lazy some is.
     }
 
 pub returns-in_default : goal.returns-in_default
-returns-in_default g c = record {
-  idle = c.sweep.ensures.idle;
-  deque = c.sweep.ensures.deque;
-  serves = serves_first _ _ _ c.args.op c.args.member.now c.attempt-answer.new.runner _ c.attempt-answer.ensures.does c.sweep.new.member _ c.sweep.ensures.touches c.sweep.ensures.goes (goes_none _ _ _ _);
-  visits = visited _ _ _ c.args.op c.args.member.now c.attempt-answer.new.runner _ c.attempt-answer.ensures.does c.sweep.new.member _ c.sweep.ensures.touches c.sweep.ensures.goes (goes_none _ _ _ _);
-  alone = λ lazy some is.
-      let still = none_under_lazy c.args.ground.now.plan.now (cap_of c.args.ground.now.board.now) c.args.ground.now.abort c.args.op c.attempt-answer.result _ c.sweep.new.member lazy c.sweep.ensures.touches in
-      subst (ServesAlone c.args.ground.now.plan.now c.args.op c.args.member.now) (sym still)
-      (tried_in_vain _ c.requires.ground.valid _ c.args.member.now some c.args.op c.attempt-answer.new.runner is _ c.attempt-answer.ensures.does
-      c.in_default.not-Evaluated);
-}
+returns-in_default g c =
+    let asks =
+    none_asked c.args.ground.now.plan.now (cap_of c.args.ground.now.board.now) c.args.ground.now.abort c.args.op c.attempt-answer.result c.sweep.new.member c.in_default.not-Evaluated in
+    record {
+      idle = c.sweep.ensures.idle;
+      deque = c.sweep.ensures.deque;
+      serves = serves_first _ _ _ c.args.op c.args.member.now c.attempt-answer.new.runner _ c.attempt-answer.ensures.does c.sweep.new.member _ c.sweep.ensures.touches c.sweep.ensures.goes (goes_none _ _ _ _) asks;
+      visits = visited _ _ _ c.args.op c.args.member.now c.attempt-answer.new.runner _ c.attempt-answer.ensures.does c.sweep.new.member _ c.sweep.ensures.touches c.sweep.ensures.goes (goes_none _ _ _ _) asks;
+      alone = λ lazy some is.
+          let still = none_under_lazy c.args.ground.now.plan.now (cap_of c.args.ground.now.board.now) c.args.ground.now.abort c.args.op c.attempt-answer.result _ c.sweep.new.member lazy c.sweep.ensures.touches in
+          subst (ServesAlone c.args.ground.now.plan.now c.args.op c.args.member.now) (sym still)
+          (tried_in_vain _ c.requires.ground.valid _ c.args.member.now some c.args.op c.attempt-answer.new.runner is _ c.attempt-answer.ensures.does
+          c.in_default.not-Evaluated);
+    }

@@ -94,11 +94,11 @@ next_in_range p cap a b v u t next = touched_in_range p cap next.target v u t ne
 -- ---- one call
 
 module _ (p : Plan) (cap : ℕ) (g : Target) (failing : ℕ) (v u : View) where
-  pub spread_touched : (o : ℕ) (answer : Spreaded) (touch : Touch) → g ≡ Spread o → CanTouch p failing v g → SpreadDoes p cap o v u answer → touch ≡ spread_touch o answer
+  pub spread_touched : (o : ℕ) (answer : Spreaded) (touch : Touch) → g ≡ Spread o → CanTouch p failing v g → SpreadDoes p cap o v u failing answer → touch ≡ spread_touch o answer
       → Touches p cap g v u (record { op = o; touch = touch })
   spread_touched o answer touch is can does same =
       let may = subst (CanTouch p failing v) is can in
-      subst (λ h. Touches p cap h v u (record { op = o; touch = touch })) (sym is) (record { in_range = may.0; answer = answer; does = does; op_is = refl; touch_is = same })
+      subst (λ h. Touches p cap h v u (record { op = o; touch = touch })) (sym is) (record { in_range = may.0; sibling = failing; from = may.1; answer = answer; does = does; op_is = refl; touch_is = same })
 
   pub roll_touched : (o j : ℕ) (answer : Rolled) (touch : Touch) → g ≡ RollBack o j → CanTouch p failing v g → RollDoes p cap o v u j answer → touch ≡ roll_touch answer
       → Touches p cap g v u (record { op = o; touch = touch })

@@ -40,11 +40,13 @@ CanTouch p o v (Spread s) = (s < op_count p) × IsSpreadFrom p s o v
 CanTouch p o v (RollBack q j) = (q < op_count p) × (j < places p q)
 
 module _ (p : Plan) (cap : ℕ) where
-  -- a failure was spread to operation o, with what the board tells of it
+  -- a failure that the hand showed was spread to operation o, with what the board tells of it
   pub record IsSpreadTouched (o : ℕ) (v u : View) (t : Touched) : Type 0 where
     pub in_range : o < op_count p
+    pub sibling : ℕ
+    pub from : IsSpreadFrom p o sibling v
     pub answer : Spreaded
-    pub does : SpreadDoes p cap o v u answer
+    pub does : SpreadDoes p cap o v u sibling answer
     pub op_is : t.op ≡ o
     pub touch_is : t.touch ≡ spread_touch o answer
 

@@ -1,5 +1,5 @@
 -- The verdicts on the operations of an event, one after another.
-use Rattle.std.proofs.Common.{◌≡◌, ◌≢◌, ◌⊎◌, ℕ, ◌+◌, ◌<◌, ◌≤◌, Bool, true, false, List, [], ◌++◌, refl, sym, ap, ◌∙◌, subst, inl, inr, arith, Option, Some, None}
+use Rattle.std.proofs.Common.{◌≡◌, ◌≢◌, ◌⊎◌, ℕ, ◌+◌, ◌<◌, ◌≤◌, Bool, true, false, List, [], ◌∷◌, ◌++◌, refl, sym, ap, ◌∙◌, subst, inl, inr, arith, Option, Some, None}
 use Rattle.std.specs.Prelude.{Contains}
 use Rattle.std.proofs.lemmas.Bool.{cases_lt}
 use Rattle.std.proofs.lemmas.List.Elements.{Contains-append_left, Contains-append_right}
@@ -8,6 +8,8 @@ use Rattle.morph_base.specs.declared.plan.Origin.{Origin}
 use Rattle.morph_base.specs.declared.plan.PlanEvent.{PlanEvent}
 use Rattle.morph_base.specs.Numbering.{IsWithin}
 use Rattle.morph_base.specs.declared.word.OpWord.{OpWord}
+use Rattle.interleaving_core.specs.declared.event.CoreEvent.{CoreEvent}
+use Rattle.interleaving_core.specs.declared.event.CoreEvent.TheVariants.{Decide}
 use Rattle.morph_base.specs.Plans.{IsPlan, event_count, event_at, event_of, origin_at, verdict, InEvent}
 use Rattle.morph_base.proofs.OutcomeLaws.{source_precedes}
 use Rattle.op_words.specs.declared.answers.Decided.{Decided}
@@ -20,9 +22,9 @@ use Rattle.op_words.specs.declared.trail.Item.{Item}
 use Rattle.op_words.specs.declared.trail.RecordSeen.{RecordSeen}
 use Rattle.op_words.specs.declared.trail.View.{View}
 use Rattle.op_words.specs.Trails.{loaded, HasLast, IsDisturbed, IsSourceOf, NoneOwn}
-use Rattle.op_words.specs.Views.{IsSettledSeen, Adds}
+use Rattle.op_words.specs.Views.{IsDecisionSeen, IsSettledSeen, Adds}
 use Rattle.op_words.specs.Calls.{IsSettledRead, Elsewhere}
-use Rattle.op_words.specs.Judging.{decided_as, IsStaleWord, IsOwnUnready, IsAnswerSeen, IsGoodSeen, IsDoubtful, IsInDoubt, IsDecided, DecideTells, DecideDoes}
+use Rattle.op_words.specs.Judging.{decided_as, IsStaleWord, IsOwnUnready, IsAnswerSeen, IsGoodSeen, IsDoubtful, IsInDoubt, IsDecided, MayDecide, DecideSteps, DecideTells, DecideDoes}
 use Rattle.op_words.specs.Hands.{plan_of, view_of, IsHandOf}
 use Rattle.op_words.specs.Stepping.{Learned}
 use Rattle.op_words.specs.Comparing.{OfReads, IsJudgedAs, WeighTells, IsWeighed, HasDoubt, GroundsTell, HasGrounds, MaySayOf, IsConcluded}
@@ -112,7 +114,7 @@ answer_more p o answer adds is = record { sources = λ j below. let k = is.sourc
 
 module _ (b : Board) (p : Plan) (cap o : ℕ) (h g : Hand) (w : OpWord) where
   weighed_as : (v : Verdict) (r : Decided) (is : IsJudgedAs b p cap o h g w v) → WeighTells p cap o (view_of h) (view_of g) is.words r → IsWeighed b p cap o h g r
-  weighed_as v r is tells = record { hand = is.hand; words = is.words; goes = is.goes; none = is.none; reads = is.reads; tells = tells }
+  weighed_as v r is tells = record { hand = is.hand; words = is.words; goes = is.goes; none = is.none; reads = is.reads; stays = is.stays; tells = tells }
 
   pub weighed_good : (x : ℕ) → IsJudgedAs b p cap o h g w (Good x) → IsWeighed b p cap o h g Committed
   weighed_good x is = weighed_as (Good x) Committed is (x, record { sources = λ j below. (_, is.tells.judged.sources j below); answer_is = is.tells.answer })
@@ -154,12 +156,13 @@ module _ (b : Board) (p : Plan) (cap i start : ℕ) (valid : IsPlan p) (lt : i <
     words = [];
     goes = record { adds = adds_none (view_of h) is.told.agree; free = free };
     none = λ t inside. absurd (not_inside t inside);
+    stays = refl;
     tells = λ o low high. absurd (omega (arith, low, high));
   }
 
   module _ {h g k : Hand} (n : ℕ) (within : InEvent p i n) (far : Decided) (next : Decided) (all : HasGrounds b p cap i start n h g far) (here : IsWeighed b p cap n g k next) where
     grounds_with : (r : Decided) → GroundsTell p cap i start (n + 1) (view_of h) (view_of k) (all.words ++ here.words) r → HasGrounds b p cap i start (n + 1) h k r
-    grounds_with r tells = record { hand = here.hand; words = all.words ++ here.words; goes = goes_then all.goes here.goes; none = none_then all.words here.words all.none here.none; tells = tells }
+    grounds_with r tells = record { hand = here.hand; words = all.words ++ here.words; goes = goes_then all.goes here.goes; none = none_then all.words here.words all.none here.none; stays = here.stays ∙ all.stays; tells = tells }
 
     -- the doubt about another operation of the event stays
     doubt_stays : (o : ℕ) → InEvent p i o → o < n → (at : ℕ) (w : OpWord) → IsDoubtful p cap o (view_of h) (view_of g) all.words at w → IsDoubtful p cap o (view_of h) (view_of k) (all.words ++ here.words) at w
@@ -231,6 +234,7 @@ module _ (b : Board) (p : Plan) (cap i start : ℕ) (valid : IsPlan p) (lt : i <
       words = all.words ++ here.words;
       goes = goes_then all.goes here.goes;
       none = none_then all.words here.words all.none here.none;
+      stays = here.stays ∙ all.stays;
       tells = subst (GroundsTell p cap i start end (view_of h) (view_of k) (all.words ++ here.words)) (sym bad) (n, within, subst (WeighTells p cap n (view_of g) (view_of k) here.words) bad here.tells);
     }
 
@@ -249,9 +253,19 @@ decided_tells : {p : Plan} {cap i : ℕ} {v u : View} {xs : List Item} (committe
 decided_tells true is = is
 decided_tells false is = is
 
+decide_steps : (i : ℕ) (v u : View) (committed : Bool) → MayDecide i committed v u → DecideSteps i v u (decided_as committed)
+decide_steps i v u true is = is
+decide_steps i v u false is = is
+
+decide_later : (i : ℕ) (committed : Bool) (v n u : View) → n.events ≡ v.events → MayDecide i committed n u → MayDecide i committed v u
+decide_later i committed v n u stays is = elim is [ inl same ↦ inl (same ∙ stays) | inr more ↦ inr (more ∙ ap (λ (es : List CoreEvent). Decide i committed ∷ es) stays) ]
+
 module _ (b : Board) (p : Plan) (cap i : ℕ) (plan : p ≡ plan_of b) (h g : Hand) (learned : Learned b i h g None) (is : IsHandOf b h) where
   view_same : view_of g ≡ view_of h
   view_same = learned.view
+
+  none_known : (committed : Bool) → None ≡ Some committed → ⊥
+  none_known committed same = cc
 
   module _ (k : Hand) where
     -- it is not decided, and an operation is in doubt
@@ -261,9 +275,11 @@ module _ (b : Board) (p : Plan) (cap i : ℕ) (plan : p ≡ plan_of b) (h g : Ha
       words = all.words;
       goes = all.goes;
       none = all.none;
+      steps = all.stays;
       tells = record {
         culprit = all.tells.culprit;
         inside = all.tells.inside;
+        undecided = λ committed seen. none_known committed (learned.tells.known committed (subst (λ (v : View). IsDecisionSeen v i committed) view_same seen));
         none_settled = λ o inside seen. learned.tells.none_settled refl o (subst (λ (q : Plan). InEvent q i o) plan inside) (subst (λ (v : View). IsSettledSeen v o) view_same seen);
         cause = all.tells.doubt;
         before = λ o inside less. all.tells.before o inside.from less;
@@ -279,6 +295,7 @@ module _ (b : Board) (p : Plan) (cap i : ℕ) (plan : p ≡ plan_of b) (h g : Ha
         words = all.words ++ [];
         goes = goes_then all.goes stands.goes;
         none = none_then all.words [] all.none (λ t inside. absurd (not_inside t inside));
+        steps = decide_steps i (view_of g) (view_of m) committed (decide_later i committed (view_of g) (view_of k) (view_of m) all.stays stands.steps);
         tells = decided_tells committed (record { right = stands.right; known = stands.known });
       })
 
@@ -291,6 +308,7 @@ decided_before b p cap i h g committed plan is free did =
       words = [];
       goes = record { adds = walk.adds; free = walk.claim ∙ free };
       none = λ t inside. absurd (not_inside t inside);
+      steps = decide_steps i (view_of h) (view_of g) committed (inl walk.events);
       tells = decided_tells committed (record { right = ap (λ (q : Plan). verdict q i) plan ∙ did.tells.right committed refl; known = learned_seen b i h g committed did });
     }
 

@@ -24,7 +24,7 @@ use Rattle.op_words.specs.declared.trail.View.{View}
 use Rattle.op_words.specs.Trails.{loaded, left, last_word, IsSourceOf, OfSources, NoneOwn}
 use Rattle.op_words.specs.Views.{IsDecisionSeen, IsRecordSeen, IsSourceSeen, Goes, settling}
 use Rattle.op_words.specs.Calls.{IsSettledRead}
-use Rattle.op_words.specs.Judging.{IsStaleAt, VerdictTells, IsAnswerSeen, IsGoodSeen, IsDoubtful, IsInDoubt}
+use Rattle.op_words.specs.Judging.{MayDecide, IsStaleAt, VerdictTells, IsAnswerSeen, IsGoodSeen, IsDoubtful, IsInDoubt}
 use Rattle.op_words.specs.Hands.{plan_of, view_of, IsHandOf}
 use Rattle.op_words.specs.Stepping.{Looked, Left, IsWalk}
 
@@ -123,6 +123,7 @@ pub record IsJudgedAs (b : Board) (p : Plan) (cap o : ℕ) (h g : Hand) (w : OpW
   pub goes : Goes (view_of h) (view_of g) words
   pub none : NoneOwn words
   pub reads : OfReads p o words
+  pub stays : (view_of g).events ≡ (view_of h).events
   pub tells : VerdictTells p cap o (view_of h) (view_of g) words r
   pub stale : (j kept value : ℕ) → r ≡ Stale j kept value → IsStaleAt p cap o (view_of h) (view_of g) words w j kept value
 
@@ -139,6 +140,7 @@ pub record IsWeighed (b : Board) (p : Plan) (cap o : ℕ) (h g : Hand) (r : Deci
   pub goes : Goes (view_of h) (view_of g) words
   pub none : NoneOwn words
   pub reads : OfReads p o words
+  pub stays : (view_of g).events ≡ (view_of h).events
   pub tells : WeighTells p cap o (view_of h) (view_of g) words r
 
 -- of the first operations of the event, numbered from `start` below `end`, one is doubtful, those before it are good, and none is bad
@@ -161,6 +163,7 @@ pub record HasGrounds (b : Board) (p : Plan) (cap i start end : ℕ) (h g : Hand
   pub words : List Item
   pub goes : Goes (view_of h) (view_of g) words
   pub none : NoneOwn words
+  pub stays : (view_of g).events ≡ (view_of h).events
   pub tells : GroundsTell p cap i start end (view_of h) (view_of g) words r
 
 -- ---- what a hand has to have seen
@@ -193,6 +196,7 @@ MaySettleIt p v o w z = IsToCommit p v o w z ⊎ IsToAbort p v o w z
 pub record IsConcluded (b : Board) (p : Plan) (i : ℕ) (h g : Hand) (committed : Bool) : Type 0 where
   pub hand : IsHandOf b g
   pub goes : Goes (view_of h) (view_of g) []
+  pub steps : MayDecide i committed (view_of h) (view_of g)
   pub right : verdict p i ≡ committed
   pub known : IsDecisionSeen (view_of g) i committed
 
@@ -202,6 +206,7 @@ pub record IsConcluded (b : Board) (p : Plan) (i : ℕ) (h g : Hand) (committed 
 pub record IsOpened (p : Plan) (o : ℕ) (v u : View) (w : OpWord) : Type 0 where
   pub goes : Goes v u (loaded o w ∷ [])
   pub tag : u.tag ≡ v.tag
+  pub stays : u.events ≡ v.events
 
 abbrev pub SealTells : Board → ℕ → Hand → Hand → OpWord → OpWord → SettleAnswer → Type 0
 SealTells b o h g w z (HasSettledIt x) = Left b h g (settling o z (view_of h)) (left o z) × (x ≡ z.value) × (z.value ≡ final (plan_of b) o)

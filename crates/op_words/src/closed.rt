@@ -3,11 +3,13 @@ ghost use Rattle.std.specs.Prelude.{◌≡◌, ℕ, ◌<◌, ◌≤◌, length};
 ghost use Rattle.std.specs.Slots.{slots_len, IsFull};
 
 use crate::answers::Counts;
+use crate::board::Hand;
 use crate::journal::Journal;
 use atomic_table::Closed as ClosedTable;
 use interleaving_core::CoreEvent;
 use morph_base::OpWord;
 use std::alloc::Global;
+use std::snapshot::Snapshot;
 
 /// A board on which nobody steps any more. Its words stand still, and can be read until it is dropped.
 pub struct Closed {
@@ -16,6 +18,8 @@ pub struct Closed {
     pub(crate) decisions: usize,
     pub(crate) counts: Counts,
     pub(crate) journal: Option<Journal>,
+    /// The hand that closed it, with the trails of all hands, as contracts see them.
+    pub(crate) root: Snapshot<Hand>,
     ghost full: { IsFull table.words },
     ghost slotless: { slots_len table.slots ≡ 0 },
 }
@@ -27,6 +31,7 @@ impl Drop for Closed {
             decisions: _,
             counts: _,
             journal,
+            root: _,
         } = self;
         drop(journal);
         table.free();

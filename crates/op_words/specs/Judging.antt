@@ -129,12 +129,23 @@ pub record IsAnswerSeen (p : Plan) (u : View) (o : ℕ) (answer : Option ℕ) : 
 abbrev pub IsGoodSeen : Plan → View → ℕ → Type 0
 IsGoodSeen p u o = (x : ℕ) × IsAnswerSeen p u o (Some x)
 
--- it is not ready, or stale, at word w of operation `at`; at some word
+-- it is not ready, or stale, at word w of operation `at`
 abbrev pub IsDoubtful : Plan → ℕ → ℕ → View → View → List Item → ℕ → OpWord → Type 0
 IsDoubtful p cap o v u xs at w = ((at ≡ o) × (IsOwnUnready p cap o v u xs w ⊎ IsStaleWord p cap o v u xs w)) ⊎ IsSourceOpen p cap o v u xs at w
 
-abbrev pub IsInDoubt : Plan → ℕ → ℕ → View → View → List Item → Type 0
-IsInDoubt p cap o v u xs = (at : ℕ) × (w : OpWord) × IsDoubtful p cap o v u xs at w
+-- it is so by what was loaded from a load of its own word on: what other operations were judged by before that is left out
+pub record IsInDoubt (p : Plan) (cap o : ℕ) (v u : View) (xs : List Item) : Type 0 where
+  pub front : List Item
+  pub first : OpWord
+  pub rest : List Item
+  pub split : xs ≡ front ++ (loaded o first ∷ rest)
+  pub at : ℕ
+  pub word : OpWord
+  pub doubt : IsDoubtful p cap o v u (loaded o first ∷ rest) at word
+
+-- it was judged good
+abbrev pub IsJudgedGood : Plan → ℕ → ℕ → View → View → List Item → Type 0
+IsJudgedGood p cap o v u xs = (x : ℕ) × IsGood p cap o v u xs x
 
 module _ (p : Plan) (cap i : ℕ) (v u : View) (xs : List Item) where
   -- committed or aborted as the fold does, and the hand knows it
@@ -142,16 +153,16 @@ module _ (p : Plan) (cap i : ℕ) (v u : View) (xs : List Item) where
     pub right : verdict p i ≡ committed
     pub known : IsDecisionSeen u i committed
 
-  -- no decision: none had been seen, and no operation of the event settled, and one of them is not ready or stale; those before it are good,
-  -- and each behind it is good, or not ready or stale too: none is bad
+  -- no decision: none had been seen, and no operation of the event settled, and one of them is not ready or stale; those before it were
+  -- judged good, and each behind it was judged good, or is not ready or stale too: none is bad
   pub record IsUndecided (at : ℕ) (w : OpWord) : Type 0 where
     pub culprit : ℕ
     pub inside : InEvent p i culprit
     pub undecided : (committed : Bool) → IsDecisionSeen v i committed → ⊥
     pub none_settled : (o : ℕ) → InEvent p i o → IsSettledSeen v o → ⊥
     pub cause : IsDoubtful p cap culprit v u xs at w
-    pub before : (o : ℕ) → InEvent p i o → o < culprit → IsGoodSeen p u o
-    pub behind : (o : ℕ) → InEvent p i o → culprit < o → IsGoodSeen p u o ⊎ IsInDoubt p cap o v u xs
+    pub before : (o : ℕ) → InEvent p i o → o < culprit → IsJudgedGood p cap o v u xs
+    pub behind : (o : ℕ) → InEvent p i o → culprit < o → IsJudgedGood p cap o v u xs ⊎ IsInDoubt p cap o v u xs
 
   abbrev pub DecideTells : Decided → Type 0
   DecideTells Committed = IsDecided true

@@ -1,5 +1,5 @@
 //! A board after its end.
-ghost use Rattle.std.specs.Prelude.{◌≡◌, ℕ, ◌<◌, ◌≤◌, length};
+ghost use Rattle.std.specs.Prelude.{◌≡◌, ℕ, ◌<◌, ◌≤◌, length, reverse, take};
 ghost use Rattle.std.specs.Slots.{slots_len, IsFull};
 
 use crate::answers::Counts;
@@ -18,7 +18,7 @@ pub struct Closed {
     pub(crate) decisions: usize,
     pub(crate) counts: Counts,
     pub(crate) journal: Option<Journal>,
-    /// The hand that closed it, with the trails of all hands, as contracts see them.
+    /// The hand that closed it, as contracts see it: its view has the trails of all hands.
     pub(crate) root: Snapshot<Hand>,
     ghost full: { IsFull table.words },
     ghost slotless: { slots_len table.slots ≡ 0 },
@@ -72,10 +72,13 @@ impl Closed {
         if word == 0 { None } else { Some(word == 1) }
     }
 
-    /// The steps that the root wrote down, in order; none where it kept no journal. Where it was the only hand made the
-    /// machine takes them one after another, and where there was room for more they are all.
+    /// The first of the steps that the root took itself, in order, as many as it had room for; none if it kept no
+    /// journal. If it was the only hand made, the machine takes them one after another, and if there was room for
+    /// more they are all.
     pub fn journal(&self) -> &[CoreEvent]
         ensures steps { result.now ≡ journal_of self.now }
+        ensures own { (p : Plan) (cap counters : ℕ) (v : View) → IsClosed p cap counters v self.now
+            → result.now ≡ take v.room (reverse v.own) }
         ensures few { (p : Plan) (cap counters : ℕ) (v : View) → IsClosed p cap counters v self.now
             → length result.now ≤ v.room }
         ensures leads { (p : Plan) (cap counters : ℕ) (v : View)

@@ -3,11 +3,14 @@ use Rattle.std.proofs.Common.{◌≡◌, ℕ, suc, ◌<◌, List, [], ◌∷◌,
 use Rattle.std.proofs.lemmas.List.Elements.{Contains-append_cases}
 use Rattle.morph_base.specs.declared.plan.Plan.{Plan}
 use Rattle.morph_base.specs.Plans.{op_count}
+use Rattle.interleaving_core.specs.declared.event.CoreEvent.{CoreEvent}
 use Rattle.op_words.specs.declared.answers.Rolled.{Rolled}
+use Rattle.op_words.specs.declared.answers.Rolled.TheVariants.{Done as HasRolled, Fresh as IsFresh, Not as Unrolled}
 use Rattle.op_words.specs.declared.answers.Spreaded.{Spreaded}
+use Rattle.op_words.specs.declared.answers.Spreaded.TheVariants.{Done as HasSpread, Not as Unspread}
 use Rattle.op_words.specs.declared.trail.Item.{Item}
 use Rattle.op_words.specs.declared.trail.View.{View}
-use Rattle.op_words.specs.Retrying.{SpreadDoes, RollDoes}
+use Rattle.op_words.specs.Retrying.{SpreadDoes, RollDoes, spread_steps, roll_steps}
 use Rattle.op_words.specs.Trails.{OwnOn, OwnOpen}
 use Rattle.op_words.specs.Views.{Goes, IsAtRest}
 use Rattle.op_words.proofs.Adding.{adds_none, goes_then}
@@ -18,7 +21,7 @@ use Rattle.abort_eager.specs.declared.answers.Touched.{Touched}
 use Rattle.abort_eager.specs.declared.cascade.Cascade.{Cascade}
 use Rattle.abort_eager.specs.Targets.{targets_left}
 use Rattle.abort_eager.specs.Popping.{GoesOn}
-use Rattle.abort_eager.specs.Touching.{HasCause, CanTouch, Touches, Touching, NextDoes, CascadeDoes, op_of, spread_touch, roll_touch}
+use Rattle.abort_eager.specs.Touching.{HasCause, CanTouch, Touches, Touching, NextDoes, CascadeDoes, op_of, spread_touch, roll_touch, touch_steps}
 
 -- ---- one target
 
@@ -94,11 +97,11 @@ next_in_range p cap a b v u t next = touched_in_range p cap next.target v u t ne
 -- ---- one call
 
 module _ (p : Plan) (cap : ℕ) (g : Target) (failing : ℕ) (v u : View) where
-  pub spread_touched : (o : ℕ) (answer : Spreaded) (touch : Touch) → g ≡ Spread o → CanTouch p failing v g → SpreadDoes p cap o v u answer → touch ≡ spread_touch o answer
+  pub spread_touched : (o : ℕ) (answer : Spreaded) (touch : Touch) → g ≡ Spread o → CanTouch p failing v g → SpreadDoes p cap o v u failing answer → touch ≡ spread_touch o answer
       → Touches p cap g v u (record { op = o; touch = touch })
   spread_touched o answer touch is can does same =
       let may = subst (CanTouch p failing v) is can in
-      subst (λ h. Touches p cap h v u (record { op = o; touch = touch })) (sym is) (record { in_range = may.0; answer = answer; does = does; op_is = refl; touch_is = same })
+      subst (λ h. Touches p cap h v u (record { op = o; touch = touch })) (sym is) (record { in_range = may.0; sibling = failing; from = may.1; answer = answer; does = does; op_is = refl; touch_is = same })
 
   pub roll_touched : (o j : ℕ) (answer : Rolled) (touch : Touch) → g ≡ RollBack o j → CanTouch p failing v g → RollDoes p cap o v u j answer → touch ≡ roll_touch answer
       → Touches p cap g v u (record { op = o; touch = touch })
@@ -106,3 +109,22 @@ module _ (p : Plan) (cap : ℕ) (g : Target) (failing : ℕ) (v u : View) where
       let may = subst (CanTouch p failing v) is can in
       subst (λ h. Touches p cap h v u (record { op = o; touch = touch })) (sym is)
       (record { in_range = may.0; in_places = may.1; answer = answer; does = does; op_is = refl; touch_is = same })
+
+  pub spread_steps_are : (o : ℕ) (answer : Spreaded) (touch : Touch) → g ≡ Spread o → SpreadDoes p cap o v u failing answer → touch ≡ spread_touch o answer
+      → u.events ≡ touch_steps g failing touch ++ v.events
+  spread_steps_are o answer touch is does same =
+      does.steps ∙ ap (λ (es : List CoreEvent). es ++ v.events) (sym (by_answer answer) ∙ ap (touch_steps (Spread o) failing) (sym same) ∙ ap (λ h. touch_steps h failing touch) (sym is))
+    where
+      by_answer : (r : Spreaded) → touch_steps (Spread o) failing (spread_touch o r) ≡ spread_steps o failing r
+      by_answer HasSpread = refl
+      by_answer (Unspread w) = refl
+
+  pub roll_steps_are : (o j : ℕ) (answer : Rolled) (touch : Touch) → g ≡ RollBack o j → RollDoes p cap o v u j answer → touch ≡ roll_touch answer
+      → u.events ≡ touch_steps g failing touch ++ v.events
+  roll_steps_are o j answer touch is does same =
+      does.steps ∙ ap (λ (es : List CoreEvent). es ++ v.events) (sym (by_answer answer) ∙ ap (touch_steps (RollBack o j) failing) (sym same) ∙ ap (λ h. touch_steps h failing touch) (sym is))
+    where
+      by_answer : (r : Rolled) → touch_steps (RollBack o j) failing (roll_touch r) ≡ roll_steps o j r
+      by_answer HasRolled = refl
+      by_answer (IsFresh x) = refl
+      by_answer (Unrolled at w) = refl

@@ -1,7 +1,9 @@
 -- What the targets of a cascade come to, one after another.
-use Rattle.std.specs.Prelude.{◌≡◌, ℕ, ◌<◌, true, List, [], ◌∷◌, Contains, Option, Some, None}
+use Rattle.std.specs.Prelude.{◌≡◌, ℕ, ◌<◌, true, List, [], ◌∷◌, ◌++◌, Contains, Option, Some, None}
 use Rattle.morph_base.specs.declared.plan.Plan.{Plan}
 use Rattle.morph_base.specs.Plans.{op_count}
+use Rattle.interleaving_core.specs.declared.event.CoreEvent.{CoreEvent}
+use Rattle.interleaving_core.specs.declared.event.CoreEvent.TheVariants.{Spread as SpreadStep, RollBack as RollBackStep}
 use Rattle.interleaving_core.specs.Core.{places}
 use Rattle.op_words.specs.declared.answers.Rolled.{Rolled}
 use Rattle.op_words.specs.declared.answers.Rolled.TheVariants.{Done as HasRolled, Fresh as IsFresh, Not as Unrolled}
@@ -30,6 +32,12 @@ roll_touch HasRolled = RolledBack
 roll_touch (IsFresh x) = Fresh x
 roll_touch (Unrolled at w) = Not at w
 
+-- the step that a touch is: a failure of operation `failing` was spread to the target, or the target rolled back; else none
+abbrev pub touch_steps : Target → ℕ → Touch → List CoreEvent
+touch_steps (Spread o) failing WasSpread = SpreadStep o failing ∷ []
+touch_steps (RollBack o j) failing RolledBack = RollBackStep o j ∷ []
+touch_steps g failing t = []
+
 -- the failure for which a cascade was started was shown by the hand
 abbrev pub HasCause : Cascade → View → Type 0
 HasCause c v = c.failed ≡ true → HasShownFailure v c.op
@@ -40,11 +48,13 @@ CanTouch p o v (Spread s) = (s < op_count p) × IsSpreadFrom p s o v
 CanTouch p o v (RollBack q j) = (q < op_count p) × (j < places p q)
 
 module _ (p : Plan) (cap : ℕ) where
-  -- a failure was spread to operation o, with what the board tells of it
+  -- a failure that the hand showed was spread to operation o, with what the board tells of it
   pub record IsSpreadTouched (o : ℕ) (v u : View) (t : Touched) : Type 0 where
     pub in_range : o < op_count p
+    pub sibling : ℕ
+    pub from : IsSpreadFrom p o sibling v
     pub answer : Spreaded
-    pub does : SpreadDoes p cap o v u answer
+    pub does : SpreadDoes p cap o v u sibling answer
     pub op_is : t.op ≡ o
     pub touch_is : t.touch ≡ spread_touch o answer
 
@@ -67,11 +77,12 @@ module _ (p : Plan) (cap : ℕ) where
   Touching (g ∷ gs) v u = (m : View) × (t : Touched) × Touches g v m t × Touching gs m u
 
   module _ (a b : Cascade) (v u : View) where
-    -- the first target that was left was touched
+    -- the first target that was left was touched, for a failure of the cascade's operation alone
     pub record IsTouched (t : Touched) : Type 0 where
       pub target : Target
       pub left : targets_left p a ≡ target ∷ targets_left p b
       pub touches : Touches target v u t
+      pub steps : u.events ≡ touch_steps target a.op t.touch ++ v.events
 
     -- no target was left, and the hand did nothing
     pub record IsEnded : Type 0 where

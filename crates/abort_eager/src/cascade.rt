@@ -1,11 +1,11 @@
-ghost use Rattle.std.specs.Prelude.{◌≡◌, ◌<◌, ◌≤◌, ◌+◌, None};
+ghost use Rattle.std.specs.Prelude.{◌≡◌, ◌<◌, ◌≤◌, ◌+◌, ◌++◌, None};
 ghost use Rattle.morph_base.specs.Plans.{IsPlan, op_count};
 ghost use Rattle.morph_base.specs.Graphs.{IsValidPlan};
 ghost use Rattle.op_words.specs.Hands.{plan_of, cap_of, view_of, IsHandOf};
 ghost use Rattle.abort_eager.specs.Targets.{first_source, end_source, targets, targets_left, IsCascade};
 ghost use Rattle.abort_eager.specs.Finding.{IsFirstPlace, IsSiblingFrom};
 ghost use Rattle.abort_eager.specs.Popping.{GoesOn, PlacePops, Pops};
-ghost use Rattle.abort_eager.specs.Touching.{HasCause, CanTouch, Touches, NextDoes};
+ghost use Rattle.abort_eager.specs.Touching.{HasCause, CanTouch, Touches, NextDoes, touch_steps};
 
 use crate::answers::{Target, Touch, Touched};
 use crate::finding::{place_from, reader_from};
@@ -67,6 +67,8 @@ fn touch(board: &Board, hand: &mut Hand, plan: &Plan, op: u32, target: Target) -
     ensures hand { IsHandOf board.now hand.new }
     ensures does { Touches plan.now (cap_of board.now) target (view_of hand.old)
         (view_of hand.new) result }
+    ensures steps { (view_of hand.new).events
+        ≡ touch_steps target op result.touch ++ (view_of hand.old).events }
 {
     match target {
         Target::Spread { op: sibling } => {

@@ -108,9 +108,10 @@ pub record HasRunAlone (p : Plan) (abort : Abort) (history : List CoreEvent) (li
   pub evaluated_is : abort ≡ Lazy → evaluated history ≡ op_count p + rolled history
   pub rolled_is : abort ≡ Lazy → rolled history ≡ stale_count p
 
--- a batch was explored so, with this abort, and run by so many workers: the closed board is that of its plan; each operation has the
--- worker that settled it there, 0 where nobody did; why events were left, by worker; and how many operations were handed out and
--- stolen. By strata passes were made over levels, and each place of a pass was taken, and its operation reached
+-- a batch was explored so, with this abort, and run by so many workers: the closed board is that of its plan, and `view` is the one that
+-- it shows; each operation has the worker that settled it there, 0 where nobody did; why events were left, by worker; and how many
+-- operations were handed out and stolen. By strata passes were made over levels, and each place of a pass was taken, and its operation
+-- reached
 pub record HasRun (p : Plan) (explore : Explore) (abort : Abort) (workers : ℕ) (closed : Closed) (lists : List (List Left)) (by : List ℕ) (handed stolen : ℕ) : Type 0 where
   pub counters : ℕ
   pub view : View
@@ -124,7 +125,8 @@ pub record HasRun (p : Plan) (explore : Explore) (abort : Abort) (workers : ℕ)
   pub handed_out : explore ≡ Steal → IsHandedOut p abort workers view handed stolen
   pub alone : workers ≡ 1 → HasRunAlone p abort ended.ends.history lists by
 
--- the root was the only hand made, kept a journal with so much room, and settled each operation on the board
+-- the root, whose view the closed board shows, was the only hand made, kept a journal with so much room, and settled each operation on
+-- the board
 pub record IsKept (p : Plan) (abort : Abort) (room : ℕ) (closed : Closed) : Type 0 where
   pub counters : ℕ
   pub view : View

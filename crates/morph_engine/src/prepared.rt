@@ -1,8 +1,7 @@
 //! What a batch takes its memory for, and its run on that, which takes none.
 ghost use Rattle.std.specs.Prelude.{◌≡◌, ℕ, ◌≤◌, ◌<◌, IfOk, length, map};
 ghost use Rattle.morph_base.specs.Graphs.{IsValidPlan};
-ghost use Rattle.morph_base.specs.Limits.{most_workers};
-ghost use Rattle.morph_base.specs.declared.word.TheConstants.{ATTEMPTS};
+ghost use Rattle.morph_base.specs.Limits.{most_attempts, most_workers};
 ghost use Rattle.morph_base.specs.Plans.{IsPlan, IsSettledOf};
 ghost use Rattle.op_words.specs.Hands.{plan_of, cap_of as cap_of_board, counters_of, view_of, IsHandOf};
 ghost use Rattle.op_words.specs.Journals.{roomed};
@@ -45,7 +44,7 @@ fn board_for(
     room: usize,
 ) -> Result<(Board, Hand), OutOfMemory>
     requires plan { IsPlan plan.now }
-    requires cap { cap < ATTEMPTS }
+    requires cap { cap < most_attempts }
     ensures plan { IfOk result (λ r. plan_of r.0 ≡ plan.now) }
     ensures cap { IfOk result (λ r. cap_of_board r.0 ≡ cap) }
     ensures counters { IfOk result (λ r. counters_of r.0 ≡ counters) }

@@ -18,7 +18,7 @@ use Rattle.op_words.proofs.Adding.{goes_then}
 use Rattle.op_eval.specs.Evaluations.{SoFar}
 
 -- operations that were evaluated stay so
-pub evaluated_more : (v u : View) → (es : List CoreEvent) × (u.events ≡ es ++ v.events) → evaluated v.events ≤ evaluated u.events
+pub evaluated_more : (v u : View) → (es : List CoreEvent) × (u.events ≡ es ++ v.events) × (u.own ≡ es ++ v.own) → evaluated v.events ≤ evaluated u.events
 evaluated_more v u more =
     let e : evaluated u.events ≡ evaluated more.0 + evaluated v.events = ap evaluated more.1 ∙ sum_by-append (λ x. cond (is_finish x) 1 0) more.0 v.events in
     omega arith

@@ -13,6 +13,9 @@ use Rattle.morph_base.specs.declared.word.OpState.{OpState}
 use Rattle.morph_base.specs.declared.word.OpState.TheVariants.{Blocked, Ready, Claimed, Executed, Failed, Spread, Settled, SettledAborted}
 use Rattle.morph_base.specs.Plans.{origin_at}
 use Rattle.morph_base.specs.Words.{is_settled, is_idle}
+use Rattle.interleaving_core.specs.declared.event.CoreEvent.{CoreEvent}
+use Rattle.interleaving_core.specs.declared.event.CoreEvent.TheVariants.{Ready as ReadyStep, Claim, Fetch, Finish, GiveBack}
+use Rattle.interleaving_core.specs.Counts.{is_finish, is_spread, is_roll, spreads, rolled}
 use Rattle.interleaving_core.specs.Core.{blocked, ready, claimed, places, has_run}
 use Rattle.op_words.specs.declared.trail.Item.{Item}
 use Rattle.op_words.specs.declared.trail.View.{View}
@@ -21,13 +24,14 @@ use Rattle.op_words.specs.declared.answers.Claimed.TheVariants.{Held as HeldAt, 
 use Rattle.op_words.specs.declared.answers.Readied.TheVariants.{Made, Not as Unmade}
 use Rattle.op_words.specs.declared.answers.Outcome.{Outcome}
 use Rattle.op_words.specs.Trails.{loaded, left, HasLast, IsDisturbed, IsReached, IsSourceOf, OwnOn, OwnOpen, NoneOwn}
-use Rattle.op_words.specs.Views.{Agrees, Adds, Goes, Holds}
+use Rattle.op_words.specs.Views.{Agrees, Adds, Goes, Holds, looked, looking}
 use Rattle.op_words.specs.Calls.{Elsewhere, IsRead, IsUsed, IsTaken, PeekDoes, MakeDoes, ClaimDoes, FetchDoes, FinishDoes, GiveBackDoes}
 use Rattle.op_words.proofs.Trailing.{cases_word, last_item, last_later, one_last, disturbed_later, disturbed_more}
 use Rattle.op_eval.specs.declared.answers.Evaluation.TheVariants.{Evaluated, Blocked as BlockedOn, Busy as BusyAt, Already}
-use Rattle.op_eval.specs.Evaluations.{EvaluationDoes, IsEvaluatingSoFar, SoFar, IsFetchedUpTo, IsStopped}
+use Rattle.op_eval.specs.Evaluations.{fetches, IsReadied, IsClaimedWith, EvaluationDoes, IsEvaluatingSoFar, SoFar, IsFetchedUpTo, IsStopped}
 use Rattle.op_words.proofs.Adding.{adds_then, adds_none}
-use Rattle.op_eval.proofs.Following.{evaluated_more, claimed_other, one_is_last, one_none, found_other, own_append, none_own, open_append, none_open, far_then}
+use Rattle.op_eval.proofs.Stepping.{fetches-nil, fetches-snoc, count_quiet, readied_quiet, claimed_quiet}
+use Rattle.op_eval.proofs.Following.{claimed_other, one_is_last, one_none, found_other, own_append, none_own, open_append, none_open, far_then}
 
 pub read_more : (xs ys : List Item) (q : Origin) (x : ℕ) → IsRead xs q x → IsRead (xs ++ ys) q x
 read_more xs ys (Base b) x read = read
@@ -38,7 +42,7 @@ read_later xs ys (Base b) x read = read
 read_later xs ys (Written s) x read = (read.0, Contains-append_right xs ys (loaded s read.0) read.1, read.2)
 
 pub fetched_none : (p : Plan) (o a : ℕ) (v : View) → Agrees v → Holds v o a [] → IsFetchedUpTo p o a 0 v v
-fetched_none p o a v agrees holds = record { words = []; adds = adds_none v agrees; elsewhere = λ t found. absurd (not-suc-le-zero found.1); values = []; holds = holds; count = refl; read = λ k lt. absurd (not-suc-le-zero lt); valued = λ k s lt. absurd (not-suc-le-zero lt) }
+fetched_none p o a v agrees holds = record { words = []; adds = adds_none v agrees; elsewhere = λ t found. absurd (not-suc-le-zero found.1); values = []; holds = holds; count = refl; read = λ k lt. absurd (not-suc-le-zero lt); valued = λ k s lt. absurd (not-suc-le-zero lt); steps = sym (fetches-nil o v.tag 0 v.events) }
 
 both_elsewhere : (o : ℕ) (xs ys : List Item) → Elsewhere o xs → Elsewhere o ys → Elsewhere o (xs ++ ys)
 both_elsewhere o xs ys first second t inside = elim (Contains-append_cases xs ys t inside) [ inl found ↦ first t found | inr found ↦ second t found ]
@@ -74,6 +78,11 @@ fetched_more p cap o a j {v} {m} {u} {x} up does =
                 let old = up.valued k s less is in
                 (old.0, Contains-append_left up.words does.words (loaded s old.0) old.1, old.2)
           ];
+      steps =
+          ap (λ (z : View). z.events) tells.view_is
+          ∙ ap (λ t. Fetch o (length up.values) t x ∷ m.events) up.adds.tag
+          ∙ ap (λ es. Fetch o (length up.values) v.tag x ∷ es) up.steps
+          ∙ sym (fetches-snoc o v.tag up.values x v.events);
     }
   where
     last_value : (vs : List ℕ) (n : ℕ) → length vs ≡ n → get_or (vs ++ x ∷ []) n 0 ≡ x
@@ -95,6 +104,7 @@ fetched_stops p cap o a j at w up does =
       inside = Contains-append_right up.words does.words (loaded at w) tells.inside;
       settled = tells.settled;
       cause = tells.cause;
+      steps = ap (λ (z : View). z.events) tells.view_is ∙ up.steps;
     }
 
 -- ---- reached
@@ -168,16 +178,19 @@ begins_more rest xs ys begins = ap (λ zs. zs ++ ys) begins
 claimed_blocked : Claimed ≡ Blocked → ⊥
 claimed_blocked e = cc
 
+ready_blocked : Ready ≡ Blocked → ⊥
+ready_blocked e = cc
+
 module _ (p : Plan) (cap o : ℕ) {start u : View} where
   -- after the first load
-  pub begun : {w : OpWord} → PeekDoes p cap o start u w → is_idle w.state ≡ true → (ys : List Item) × IsEvaluatingSoFar o start u ys w
-  begun {w} does idle = (
+  pub begun : {w : OpWord} → PeekDoes p cap o start u w → u ≡ looked o w start → is_idle w.state ≡ true → (ys : List Item) × IsEvaluatingSoFar o start u ys w
+  begun {w} does view idle = (
     does.words,
-    record { far = record { goes = does.goes; own = none_own does.words does.none; open_own = none_open does.words does.none }; first = w; rest = []; begins = does.only; began = idle; last = does.last; kept = inl refl },
+    record { far = record { goes = does.goes; own = none_own does.words does.none; open_own = none_open does.words does.none }; first = w; rest = []; begins = does.only; began = idle; last = does.last; kept = inl refl; readied = inl (ap (λ (z : View). z.events) view); unready = λ is. ap (λ (z : View). z.events) view },
   )
 
-  pub already : {w : OpWord} → PeekDoes p cap o start u w → is_idle w.state ≡ false → EvaluationDoes p cap o start u (Already w)
-  already {w} does there = record {
+  pub already : {w : OpWord} → PeekDoes p cap o start u w → u ≡ looked o w start → is_idle w.state ≡ false → EvaluationDoes p cap o start u (Already w)
+  already {w} does view there = record {
     words = does.words;
     goes = does.goes;
     own = none_own does.words does.none;
@@ -185,12 +198,14 @@ module _ (p : Plan) (cap o : ℕ) {start u : View} where
     first = w;
     rest = [];
     begins = does.only;
-    tells = record { only = does.only; there = there };
+    tells = record { only = does.only; there = there; stays = ap (λ (z : View). z.events) view };
+    no_spread = ap spreads (ap (λ (z : View). z.events) view);
+    no_roll = ap rolled (ap (λ (z : View). z.events) view);
     reached = reached_own (loaded o w) does.seen refl (λ same. false≢true (sym there ∙ ap (λ (x : OpWord). is_idle x.state) same));
   }
 
-  pub busy_first : {w : OpWord} → PeekDoes p cap o start u w → w.state ≡ Claimed → EvaluationDoes p cap o start u (BusyAt w)
-  busy_first {w} does is = record {
+  pub busy_first : {w : OpWord} → PeekDoes p cap o start u w → u ≡ looked o w start → w.state ≡ Claimed → EvaluationDoes p cap o start u (BusyAt w)
+  busy_first {w} does view is = record {
     words = does.words;
     goes = does.goes;
     own = none_own does.words does.none;
@@ -198,17 +213,20 @@ module _ (p : Plan) (cap o : ℕ) {start u : View} where
     first = w;
     rest = [];
     begins = does.only;
-    tells = record { began = ap is_idle is; last = does.last; seen = does.seen; cause = inl is; by_another = claimed_other does.goes.adds does.seen };
+    tells = record { began = ap is_idle is; last = does.last; seen = does.seen; cause = inl is; by_another = claimed_other does.goes.adds does.seen; steps = inl (ap (λ (z : View). z.events) view) };
+    no_spread = ap spreads (ap (λ (z : View). z.events) view);
+    no_roll = ap rolled (ap (λ (z : View). z.events) view);
     reached = reached_own (loaded o w) does.seen refl (λ same. claimed_blocked (sym is ∙ ap (λ (x : OpWord). x.state) same));
   }
 
 module _ (p : Plan) (cap o : ℕ) {start v : View} {xs : List Item} {w : OpWord} (far : IsEvaluatingSoFar o start v xs w) where
   -- its own word was found otherwise than it was last
-  busy_found : {u : View} {z : OpWord} (ys : List Item) → Goes v u ys → NoneOwn ys → HasLast o ys z → Contains ys (loaded o z) → (z ≢ w) ⊎ IsDisturbed o ys → EvaluationDoes p cap o start u (BusyAt z)
-  busy_found {u} {z} ys goes none last seen cause =
+  busy_found : {u : View} {z : OpWord} (ys : List Item) → Goes v u ys → NoneOwn ys → HasLast o ys z → Contains ys (loaded o z) → (z ≢ w) ⊎ IsDisturbed o ys → u ≡ looking ys v → EvaluationDoes p cap o start u (BusyAt z)
+  busy_found {u} {z} ys goes none last seen cause view =
       let whole : SoFar o start u (xs ++ ys) = far_then far.far goes (none_own ys none) (none_open ys none) in
       let there : IsDisturbed o (xs ++ ys) = elim cause [ inl other ↦ found_other xs ys far.last last (λ same. other (sym same)) none | inr within ↦ disturbed_later xs within ] in
       let inside : Contains (xs ++ ys) (loaded o z) = Contains-append_right xs ys (loaded o z) seen in
+      let readied : IsReadied o start.events u.events = subst (IsReadied o start.events) (sym (ap (λ (y : View). y.events) view)) far.readied in
       record {
         words = xs ++ ys;
         goes = whole.goes;
@@ -223,7 +241,10 @@ module _ (p : Plan) (cap o : ℕ) {start v : View} {xs : List Item} {w : OpWord}
           seen = inside;
           cause = inr there;
           by_another = claimed_other whole.goes.adds inside;
+          steps = readied;
         };
+        no_spread = readied_quiet is_spread o readied refl;
+        no_roll = readied_quiet is_roll o readied refl;
         reached = reached_disturbed there;
       }
 
@@ -235,8 +256,8 @@ module _ (p : Plan) (cap o : ℕ) {start v : View} {xs : List Item} {w : OpWord}
         | inl same ↦ elim far.kept [ inl kept ↦ inl (sym (ap (λ (x : OpWord). x.attempt) same) ∙ kept) | inr there ↦ inr (disturbed_more ys there) ]
       ]
 
-  pub made_ready : {u : View} → MakeDoes p cap o v u Made → (ys : List Item) × (z : OpWord) × IsEvaluatingSoFar o start u ys z × (z.state ≡ Ready)
-  made_ready {u} does = (
+  pub made_ready : {u : View} → w.state ≡ Blocked → MakeDoes p cap o v u Made → (ys : List Item) × (z : OpWord) × IsEvaluatingSoFar o start u ys z × (z.state ≡ Ready)
+  made_ready {u} is does = (
     xs ++ does.words,
     ready does.first.attempt,
     record {
@@ -247,6 +268,8 @@ module _ (p : Plan) (cap o : ℕ) {start v : View} {xs : List Item} {w : OpWord}
       began = far.began;
       last = last_later xs does.tells.last;
       kept = same_attempt does.words does.rest does.first does.begins;
+      readied = inr (ap (λ (y : View). y.events) does.tells.view_is ∙ ap (λ (es : List CoreEvent). ReadyStep o ∷ es) (far.unready is));
+      unready = λ other. absurd (ready_blocked other);
     },
     refl,
   )
@@ -257,16 +280,17 @@ module _ (p : Plan) (cap o : ℕ) {start v : View} {xs : List Item} {w : OpWord}
         | inr source ↦ absurd (source.0 same)
         | inl own ↦
             busy_found does.words does.goes own.1.none own.1.last own.1.seen
-            (elim own.1.cause [ inl other ↦ inl (λ e. other (ap (λ (x : OpWord). x.state) e ∙ is)) | inr there ↦ inr there ])
+            (elim own.1.cause [ inl other ↦ inl (λ e. other (ap (λ (x : OpWord). x.state) e ∙ is)) | inr there ↦ inr there ]) own.1.view_is
       ]
 
-  pub make_blocked : {u : View} {at : ℕ} {z : OpWord} → at ≢ o → MakeDoes p cap o v u (Unmade at z) → EvaluationDoes p cap o start u (BlockedOn at z)
-  make_blocked {u} {at} {z} other does =
+  pub make_blocked : {u : View} {at : ℕ} {z : OpWord} → at ≢ o → w.state ≡ Blocked → MakeDoes p cap o v u (Unmade at z) → EvaluationDoes p cap o start u (BlockedOn at z)
+  make_blocked {u} {at} {z} other here does =
       elim does.tells [
         | inl own ↦ absurd (other own.0)
         | inr source ↦
             let ys : List Item = does.words in
             let is = source.1 in
+            let stays : u.events ≡ start.events = ap (λ (y : View). y.events) is.view_is ∙ far.unready here in
             let whole : SoFar o start u (xs ++ ys) = far_then far.far does.goes does.own does.open_own in
             record {
               words = xs ++ ys;
@@ -299,7 +323,10 @@ module _ (p : Plan) (cap o : ℕ) {start v : View} {xs : List Item} {w : OpWord}
                     ];
                 cause = inl is.idle;
                 at_last = inl is.idle;
+                steps = inl stays;
               };
+              no_spread = ap spreads stays;
+              no_roll = ap rolled stays;
               reached = reached_idle is.source (Contains-append_right xs ys (loaded at z) is.inside) is.idle;
             }
       ]
@@ -307,7 +334,7 @@ module _ (p : Plan) (cap o : ℕ) {start v : View} {xs : List Item} {w : OpWord}
   pub claim_busy : {u : View} {z : OpWord} → w.state ≡ Ready → ClaimDoes p cap o v u (Unheld z) → EvaluationDoes p cap o start u (BusyAt z)
   claim_busy {u} {z} is does =
       busy_found does.words (record { adds = does.adds; free = does.tells.free }) does.tells.none does.tells.last does.tells.seen
-      (elim does.tells.cause [ inl other ↦ inl (λ e. other (ap (λ (x : OpWord). x.state) e ∙ is)) | inr there ↦ inr there ])
+      (elim does.tells.cause [ inl other ↦ inl (λ e. other (ap (λ (x : OpWord). x.state) e ∙ is)) | inr there ↦ inr there ]) does.tells.view_is
 
   module _ {m : View} {a : ℕ} (claim : ClaimDoes p cap o v m (HeldAt a)) where
     claim_attempt : (a ≡ far.first.attempt) ⊎ IsDisturbed o (xs ++ claim.words)
@@ -316,6 +343,15 @@ module _ (p : Plan) (cap o : ℕ) {start v : View} {xs : List Item} {w : OpWord}
     -- with what follows the claim
     held_attempt : (zs : List Item) → (a ≡ far.first.attempt) ⊎ IsDisturbed o (xs ++ (claim.words ++ zs))
     held_attempt zs = elim claim_attempt [ inl same ↦ inl same | inr there ↦ inr (subst (IsDisturbed o) (append_assoc xs claim.words zs) (disturbed_more zs there)) ]
+
+    -- the steps up to the last fetch
+    held_with : (n : View) (values : List ℕ) → n.events ≡ fetches o m.tag 0 values m.events → IsClaimedWith o start.tag values start.events n.events
+    held_with n values steps = (
+      v.events,
+      far.readied,
+      steps ∙ ap (λ t. fetches o t 0 values m.events) (claim.adds.tag ∙ far.far.goes.adds.tag)
+          ∙ ap (fetches o start.tag 0 values) (ap (λ (y : View). y.events) claim.tells.view_is ∙ ap (λ t. Claim o t ∷ v.events) far.far.goes.adds.tag),
+    )
 
     held_own : OwnOn o claim.words
     held_own = subst (OwnOn o) (sym claim.tells.words) (own_pair o (ready a) (claimed a v.tag))
@@ -345,6 +381,9 @@ module _ (p : Plan) (cap o : ℕ) {start v : View} {xs : List Item} {w : OpWord}
         let inside : Contains zs (left o tells.word) = subst (λ qs. Contains qs (left o tells.word)) (sym tells.words) (0, omega arith, refl) in
         let there : Contains (xs ++ (claim.words ++ (ys ++ zs))) (left o tells.word) =
         Contains-append_right xs (claim.words ++ (ys ++ zs)) (left o tells.word) (Contains-append_right claim.words (ys ++ zs) (left o tells.word) (Contains-append_right ys zs (left o tells.word) inside)) in
+        let with : IsClaimedWith o start.tag fetched.values start.events n.events = held_with n fetched.values fetched.steps in
+        let tag : n.tag ≡ start.tag = fetched.adds.tag ∙ claim.adds.tag ∙ far.far.goes.adds.tag in
+        let steps : u.events ≡ Finish o start.tag ∷ n.events = ap (λ (y : View). y.events) tells.view_is ∙ ap (λ t. Finish o t ∷ n.events) tag in
         record {
           words = xs ++ (claim.words ++ (ys ++ zs));
           goes = record { adds = whole_adds fetched.adds does.adds; free = tells.free };
@@ -365,10 +404,13 @@ module _ (p : Plan) (cap o : ℕ) {start v : View} {xs : List Item} {w : OpWord}
             word_is = tells.word_is;
             outcome_is = tells.answer;
             shown = tells.shown;
+            held = n.events;
+            claimed_with = with;
+            steps = steps;
             finished_more =
-                let more = evaluated_more start n (adds_then far.far.goes.adds (adds_then claim.adds fetched.adds)).events in
+                let before = claimed_quiet is_finish o start.tag fetched.values with refl refl (λ k x. refl) in
                 let step = tells.finished_more in
-                omega arith;
+                omega (arith, before, step);
             records = tells.records;
             read = λ j lt.
                 read_later xs (claim.words ++ (ys ++ zs)) (origin_at p o j) (slice_index fetched.values j)
@@ -381,6 +423,8 @@ module _ (p : Plan) (cap o : ℕ) {start v : View} {xs : List Item} {w : OpWord}
                   at.2,
                 );
           };
+          no_spread = ap spreads steps ∙ count_quiet is_spread (Finish o start.tag) n.events refl ∙ claimed_quiet is_spread o start.tag fetched.values with refl refl (λ k x. refl);
+          no_roll = ap rolled steps ∙ count_quiet is_roll (Finish o start.tag) n.events refl ∙ claimed_quiet is_roll o start.tag fetched.values with refl refl (λ k x. refl);
           reached = reached_own (left o tells.word) there refl (λ same. false≢true (ap (λ (x : OpWord). has_run x.state) (sym same) ∙ tells.ran));
         }
 
@@ -396,6 +440,9 @@ module _ (p : Plan) (cap o : ℕ) {start v : View} {xs : List Item} {w : OpWord}
         subst (λ t. Contains claim.words (left o (claimed a t))) tag (subst (λ qs. Contains qs (left o (claimed a v.tag))) (sym claim.tells.words) (1, omega arith, refl)) in
         let there : Contains (xs ++ (claim.words ++ (ys ++ zs))) (left o (claimed a start.tag)) =
         Contains-append_right xs (claim.words ++ (ys ++ zs)) (left o (claimed a start.tag)) (Contains-append_left claim.words (ys ++ zs) (left o (claimed a start.tag)) mine) in
+        let with : IsClaimedWith o start.tag stop.values start.events n.events = held_with n stop.values stop.steps in
+        let held_tag : n.tag ≡ start.tag = stop.adds.tag ∙ claim.adds.tag ∙ far.far.goes.adds.tag in
+        let steps : u.events ≡ GiveBack o start.tag ∷ n.events = ap (λ (y : View). y.events) tells.view_is ∙ ap (λ t. GiveBack o t ∷ n.events) held_tag in
         record {
           words = xs ++ (claim.words ++ (ys ++ zs));
           goes = record { adds = whole_adds stop.adds does.adds; free = tells.free };
@@ -426,6 +473,9 @@ module _ (p : Plan) (cap o : ℕ) {start v : View} {xs : List Item} {w : OpWord}
                   | inl idle ↦ inl idle
                   | inr last ↦ inr (subst (λ n. Contains (xs ++ (claim.words ++ (ys ++ zs))) (left o (claimed n start.tag))) last there)
                 ];
+            steps = inr (stop.values, n.events, with, steps);
           };
+          no_spread = ap spreads steps ∙ count_quiet is_spread (GiveBack o start.tag) n.events refl ∙ claimed_quiet is_spread o start.tag stop.values with refl refl (λ k x. refl);
+          no_roll = ap rolled steps ∙ count_quiet is_roll (GiveBack o start.tag) n.events refl ∙ claimed_quiet is_roll o start.tag stop.values with refl refl (λ k x. refl);
           reached = reached_own (left o (claimed a start.tag)) there refl (λ same. claimed_blocked (ap (λ (x : OpWord). x.state) same));
         }

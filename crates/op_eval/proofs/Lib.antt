@@ -1,4 +1,5 @@
 pub mod Following
+pub mod Stepping
 pub mod Holding
 pub mod Seating
 pub mod Beginning

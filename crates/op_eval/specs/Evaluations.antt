@@ -2,13 +2,15 @@
 use Rattle.std.specs.Prelude.{◌≡◌, ◌≢◌, ℕ, ◌+◌, ◌<◌, ◌⊎◌, true, false, List, [], ◌∷◌, length, Contains, Option, Some, None, slice_index}
 use Rattle.morph_base.specs.declared.plan.Plan.{Plan}
 use Rattle.morph_base.specs.declared.plan.Origin.TheVariants.{Op as Written}
-use Rattle.morph_base.specs.declared.word.OpState.TheVariants.{Claimed}
+use Rattle.morph_base.specs.declared.word.OpState.TheVariants.{Blocked, Claimed}
 use Rattle.morph_base.specs.declared.word.OpWord.{OpWord}
 use Rattle.morph_base.specs.Functions.{value_of}
 use Rattle.morph_base.specs.Plans.{op_at, op_count, origin_at}
 use Rattle.morph_base.specs.Words.{is_idle, is_settled}
 use Rattle.interleaving_core.specs.Core.{blocked, claimed, entry_of, finished, has_run, places}
-use Rattle.interleaving_core.specs.Counts.{evaluated}
+use Rattle.interleaving_core.specs.declared.event.CoreEvent.{CoreEvent}
+use Rattle.interleaving_core.specs.declared.event.CoreEvent.TheVariants.{Ready as ReadyStep, Claim, Fetch, Finish, GiveBack}
+use Rattle.interleaving_core.specs.Counts.{evaluated, spreads, rolled}
 use Rattle.op_words.specs.declared.answers.Outcome.{Outcome}
 use Rattle.op_words.specs.declared.trail.Item.{Item}
 use Rattle.op_words.specs.declared.trail.View.{View}
@@ -20,6 +22,27 @@ use Rattle.op_eval.specs.declared.answers.Evaluation.TheVariants.{Evaluated, Blo
 use Rattle.op_eval.specs.declared.evaluating.Stopped.{Stopped}
 use Rattle.op_eval.specs.declared.runner.Runner.{Runner}
 use Rattle.op_eval.specs.Running.{hand_view, counted}
+
+-- ---- the steps of an evaluation, the last one first
+
+-- the values xs were fetched from place k on by the hand of this tag, after the steps es
+unfoldable pub fetches : ℕ → ℕ → ℕ → List ℕ → List CoreEvent → List CoreEvent
+fetches o tag k [] es = es
+fetches o tag k (x ∷ xs) es = fetches o tag (k + 1) xs (Fetch o k tag x ∷ es)
+
+-- the operation was made ready after the steps es, or nothing was done yet
+abbrev pub IsReadied : ℕ → List CoreEvent → List CoreEvent → Type 0
+IsReadied o es fs = (fs ≡ es) ⊎ (fs ≡ ReadyStep o ∷ es)
+
+-- it was made ready or was so, it was claimed, and the values xs were fetched
+abbrev pub IsClaimedWith : ℕ → ℕ → List ℕ → List CoreEvent → List CoreEvent → Type 0
+IsClaimedWith o tag xs es fs = (begun : List CoreEvent) × IsReadied o es begun × (fs ≡ fetches o tag 0 xs (Claim o tag ∷ begun))
+
+-- and then it was given back
+abbrev pub IsGivenUp : ℕ → ℕ → List CoreEvent → List CoreEvent → Type 0
+IsGivenUp o tag es fs = (xs : List ℕ) × (held : List CoreEvent) × IsClaimedWith o tag xs es held × (fs ≡ GiveBack o tag ∷ held)
+
+-- ---- what each answer says
 
 -- operation s was loaded with a value
 abbrev pub IsValued : List Item → ℕ → Type 0
@@ -40,7 +63,11 @@ module _ (p : Plan) (cap o : ℕ) (v u : View) (xs : List Item) where
     pub word_is : word ≡ finished (op_at p o).op attempt values
     pub outcome_is : r ≡ answer_of (value_of (op_at p o).op values)
     pub shown : Contains u.published (entry_of o word)
-    pub finished_more : evaluated v.events < evaluated u.events
+    -- its last step is the one finish; the others make it ready, claim it, and fetch these values
+    pub held : List CoreEvent
+    pub claimed_with : IsClaimedWith o v.tag values v.events held
+    pub steps : u.events ≡ Finish o v.tag ∷ held
+    pub finished_more : evaluated u.events ≡ evaluated v.events + 1
     pub records : HasRecordsSeen p u o word values
     pub read : (j : ℕ) → j < places p o → IsRead xs (origin_at p o j) (slice_index values j)
     pub sources : (s : ℕ) → IsSourceOf p o s → IsValued xs s
@@ -54,6 +81,7 @@ module _ (p : Plan) (cap o : ℕ) (v u : View) (xs : List Item) where
     pub back : (z : OpWord) → HasLast o xs z → (z ≡ blocked first.attempt) ⊎ IsDisturbed o xs
     pub cause : (is_idle w.state ≡ true) ⊎ ((first.attempt ≡ cap + 1) ⊎ IsDisturbed o xs)
     pub at_last : (is_idle w.state ≡ true) ⊎ Contains xs (left o (claimed (cap + 1) v.tag))
+    pub steps : (u.events ≡ v.events) ⊎ IsGivenUp o v.tag v.events u.events
 
   -- it was seen claimed by another hand, or another hand changed it during the call
   pub record IsBusy (first : OpWord) (w : OpWord) : Type 0 where
@@ -62,11 +90,13 @@ module _ (p : Plan) (cap o : ℕ) (v u : View) (xs : List Item) where
     pub seen : Contains xs (loaded o w)
     pub cause : (w.state ≡ Claimed) ⊎ IsDisturbed o xs
     pub by_another : w.state ≡ Claimed → w.by ≢ v.tag
+    pub steps : IsReadied o v.events u.events
 
   -- its word, as it was loaded first and alone, was evaluated or settled
   pub record IsAlready (w : OpWord) : Type 0 where
     pub only : xs ≡ loaded o w ∷ []
     pub there : is_idle w.state ≡ false
+    pub stays : u.events ≡ v.events
 
   abbrev pub EvaluationTells : OpWord → Evaluation → Type 0
   EvaluationTells first (Evaluated attempt r) = IsEvaluated first attempt r
@@ -74,7 +104,7 @@ module _ (p : Plan) (cap o : ℕ) (v u : View) (xs : List Item) where
   EvaluationTells first (BusyAt w) = IsBusy first w
   EvaluationTells first (Already w) = IsAlready w
 
--- the call adds the words to the view. Its own steps are on this operation alone, and settle nothing
+-- the call adds the words to the view. Its own steps are on this operation alone, and settle, spread and roll back nothing
 pub record EvaluationDoes (p : Plan) (cap o : ℕ) (v u : View) (r : Evaluation) : Type 0 where
   pub words : List Item
   pub goes : Goes v u words
@@ -85,6 +115,8 @@ pub record EvaluationDoes (p : Plan) (cap o : ℕ) (v u : View) (r : Evaluation)
   pub begins : words ≡ loaded o first ∷ rest
   pub tells : EvaluationTells p cap o v u words first r
   pub reached : IsReached p o words
+  pub no_spread : spreads u.events ≡ spreads v.events
+  pub no_roll : rolled u.events ≡ rolled v.events
 
 -- what it makes of a runner: its view, the count of its answers, and nothing else
 pub record Tries (p : Plan) (cap o : ℕ) (before after : Runner) (r : Evaluation) : Type 0 where
@@ -110,6 +142,8 @@ pub record IsEvaluatingSoFar (o : ℕ) (start v : View) (xs : List Item) (w : Op
   pub began : is_idle first.state ≡ true
   pub last : HasLast o xs w
   pub kept : (w.attempt ≡ first.attempt) ⊎ IsDisturbed o xs
+  pub readied : IsReadied o start.events v.events
+  pub unready : w.state ≡ Blocked → v.events ≡ start.events
 
 -- the values fetched so far, each as it was loaded since the claim
 pub record IsFetchedUpTo (p : Plan) (o a j : ℕ) (v u : View) : Type 0 where
@@ -121,6 +155,7 @@ pub record IsFetchedUpTo (p : Plan) (o a j : ℕ) (v u : View) : Type 0 where
   pub count : length values ≡ j
   pub read : (k : ℕ) → k < j → IsRead words (origin_at p o k) (slice_index values k)
   pub valued : (k s : ℕ) → k < j → origin_at p o k ≡ Written s → IsValued words s
+  pub steps : u.events ≡ fetches o v.tag 0 values v.events
 
 -- a source stopped it
 pub record IsStopped (p : Plan) (cap o a : ℕ) (v u : View) (at : ℕ) (w : OpWord) : Type 0 where
@@ -133,6 +168,7 @@ pub record IsStopped (p : Plan) (cap o a : ℕ) (v u : View) (at : ℕ) (w : OpW
   pub inside : Contains words (loaded at w)
   pub settled : is_settled w.state ≡ false
   pub cause : (is_idle w.state ≡ true) ⊎ (a ≡ cap + 1)
+  pub steps : u.events ≡ fetches o v.tag 0 values v.events
 
 -- all places were fetched, or a source stopped it
 abbrev pub FetchAllTells : Plan → ℕ → ℕ → ℕ → View → View → Option Stopped → Type 0

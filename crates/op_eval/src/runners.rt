@@ -1,6 +1,6 @@
 ghost use Rattle.std.specs.Prelude.{◌≡◌, ℕ, ◌+◌, ◌-◌, ◌<◌, ◌≤◌, ◌↔◌, ◌++◌, ◌∷◌, [], All, None, IsNone, IfSome, IfOk, length, map, drop, reverse, slice_set, slice_index_or};
 ghost use Rattle.std.specs.Borrow.{sem};
-ghost use Rattle.morph_base.specs.declared.limits.TheConstants.{WORKERS};
+ghost use Rattle.morph_base.specs.Limits.{most_workers};
 ghost use Rattle.op_words.specs.Hands.{view_of, IsHandOf};
 ghost use Rattle.op_eval.specs.declared.runner.Runner.{Runner as R};
 ghost use Rattle.op_eval.specs.Running.{hand_view, no_answers};
@@ -52,7 +52,7 @@ fn seat_all(board: &Board, root: Hand, runners: &mut List<Runner>, lists: &mut L
     requires root { IsHandOf board.now root }
     requires tag { (view_of root).tag ≡ 1 }
     requires some { 0 < length lists.old.items }
-    requires few { length lists.old.items + (view_of root).made ≤ WORKERS + 1 }
+    requires few { length lists.old.items + (view_of root).made ≤ most_workers + 1 }
     requires none { runners.old.items ≡ [] }
     requires room { length lists.old.items ≤ runners.old.room }
     ensures new { (events : ℕ)
@@ -120,7 +120,7 @@ impl Runners {
         requires root { IsHandOf board.now root }
         requires tag { (view_of root).tag ≡ 1 }
         requires some { 1 ≤ workers }
-        requires few { workers + (view_of root).made ≤ WORKERS + 1 }
+        requires few { workers + (view_of root).made ≤ most_workers + 1 }
         ensures places { IfOk result HasPlaces }
         ensures full { IfOk result (λ runners. spare runners ≡ 0) }
         ensures new { IfOk result

@@ -34,7 +34,7 @@ adds_none v agree = record {
   room = refl;
   joined = refl;
   places = refl;
-  events = ([], refl);
+  events = ([], refl, refl);
   agree = agree;
   steady = along_none (IsSteadyAt v.tag) v.notes;
   calm = λ lone. along_none IsCalmAt v.trail;
@@ -53,7 +53,11 @@ adds_then {v} {u} {w} {xs} {ys} first second = record {
   room = second.room ∙ first.room;
   joined = second.joined ∙ first.joined;
   places = second.places ∙ first.places;
-  events = (second.events.0 ++ first.events.0, second.events.1 ∙ ap (λ es. second.events.0 ++ es) first.events.1 ∙ sym (append_assoc second.events.0 first.events.0 v.events));
+  events = (
+    second.events.0 ++ first.events.0,
+    second.events.1 ∙ ap (λ es. second.events.0 ++ es) first.events.1 ∙ sym (append_assoc second.events.0 first.events.0 v.events),
+    second.events.2 ∙ ap (λ es. second.events.0 ++ es) first.events.2 ∙ sym (append_assoc second.events.0 first.events.0 v.own),
+  );
   agree = second.agree;
   steady = along-append (IsSteadyAt v.tag) v.notes xs ys first.steady (subst (λ zs. IsSteady v.tag zs ys) first.notes (subst (λ t. IsSteady t u.notes ys) first.tag second.steady));
   calm = λ lone. along-append IsCalmAt v.trail xs ys (first.calm lone) (subst (λ zs. IsCalm zs ys) first.trail (second.calm (lone_more first lone)));
@@ -76,7 +80,7 @@ adds_look o n v w apart tells = record {
   room = refl;
   joined = refl;
   places = refl;
-  events = ([], refl);
+  events = ([], refl, refl);
   agree = tells.told.agree;
   steady = along_one (IsSteadyAt v.tag) v.notes (loaded o w) (tells.steady apart);
   calm = λ lone. along_one IsCalmAt v.trail (loaded o w) (tells.calm apart lone);

@@ -242,7 +242,7 @@ module _ (b : Board) (h g : Hand) (is : IsHandOf b h) (table : g.seat.table_id �
   made_hand : HasNoted h.journal g.journal (Decide e committed) → g.seat.me ≡ (Some (deciding e committed (view_of h)), []) → IsTold (deciding e committed (view_of h)) → IsHandOf b g
   made_hand noted me told_after =
       still b h g (deciding e committed (view_of h)) is table me refl refl
-      (kept_step h g (deciding e committed (view_of h)) (Decide e committed) (kept is) tag made counts noted refl refl refl refl refl refl refl (ap held_of held ∙ is.held) (λ k same. is.fits k (sym held ∙ same))) told_after
+      (kept_step h g (deciding e committed (view_of h)) (Decide e committed) (kept is) tag made counts noted refl refl refl refl refl refl refl refl refl (ap held_of held ∙ is.held) (λ k same. is.fits k (sym held ∙ same))) told_after
 
   goes_deciding : IsTold (deciding e committed (view_of h)) → Goes (view_of h) (deciding e committed (view_of h)) []
   goes_deciding told_after = record {
@@ -258,7 +258,7 @@ module _ (b : Board) (h g : Hand) (is : IsHandOf b h) (table : g.seat.table_id �
       room = refl;
       joined = refl;
       places = refl;
-      events = (Decide e committed ∷ [], refl);
+      events = (Decide e committed ∷ [], refl, refl);
       agree = told_after.agree;
       steady = along_none (IsSteadyAt (view_of h).tag) (view_of h).notes;
       calm = λ lone. along_none IsCalmAt (view_of h).trail;
@@ -282,6 +282,7 @@ module _ (b : Board) (h g : Hand) (is : IsHandOf b h) (table : g.seat.table_id �
             record {
               hand = made_hand (noted hit.0) me hit.2;
               goes = subst (λ (u : View). Goes (view_of h) u []) (sym view) (goes_deciding hit.2);
+              steps = inr (ap (λ (u : View). u.events) view);
               right = right;
               known = subst (λ (u : View). IsDecisionSeen u e committed) (sym view) (known_after (view_of h));
             }
@@ -291,6 +292,7 @@ module _ (b : Board) (h g : Hand) (is : IsHandOf b h) (table : g.seat.table_id �
             record {
               hand = learned_still b h g is table tag made held counts (same (λ zero. let some = some_decided committed in omega (arith, some, zero, missed.0))) e (Some committed) me;
               goes = subst (λ (u : View). Goes (view_of h) u []) (sym view) goes_learning;
+              steps = inl (ap (λ (u : View). u.events) view);
               right = right;
               known = subst (λ (u : View). IsDecisionSeen u e committed) (sym view) (known_after (view_of h));
             }

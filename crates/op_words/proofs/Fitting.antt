@@ -18,6 +18,7 @@ use Rattle.op_words.specs.Rule.{Seats, live, taken, HasNumbers, Knows, Lawful, S
 use Rattle.op_words.specs.Plays.{Sat, IsTold}
 use Rattle.op_words.specs.Counting.{fits}
 use Rattle.op_words.specs.Journals.{room_in, steps_in, roomed}
+use Rattle.op_words.specs.Views.{IsLone}
 use Rattle.op_words.specs.Hands.{view_of, held_of, IsHandOf}
 use Rattle.op_words.proofs.Rows.{sum_set, set_apart}
 use Rattle.op_words.proofs.Handing.{still}
@@ -76,9 +77,9 @@ fit_told n v told = record {
   done = λ is. let d = told.done (record { root = is.root; alone = is.alone }) in record { core = d.core; run = d.run; present = record { each = d.present.each } };
 }
 
-pub fit_hand : (b : Board) (h g : Hand) (n : ℕ) → IsHandOf b h → (view_of h).events ≡ [] → g.seat.table_id ≡ h.seat.table_id → g.seat.me ≡ (Some (roomed n (view_of h)), [])
+pub fit_hand : (b : Board) (h g : Hand) (n : ℕ) → IsHandOf b h → IsLone (view_of h) → (view_of h).events ≡ [] → g.seat.table_id ≡ h.seat.table_id → g.seat.me ≡ (Some (roomed n (view_of h)), [])
     → g.tag ≡ h.tag → g.made ≡ h.made → g.held ≡ h.held → g.counts ≡ h.counts → room_in g.journal ≡ n → steps_in g.journal ≡ [] → IsHandOf b g
-fit_hand b h g n is new table me tag made held counts room steps =
+fit_hand b h g n is lone new table me tag made held counts room steps =
     still b h g (roomed n (view_of h)) is table me refl refl
     (record {
       worker = is.worker;
@@ -88,6 +89,6 @@ fit_hand b h g n is new table me tag made held counts room steps =
       held = ap held_of held ∙ is.held;
       fits = λ k e. is.fits k (sym held ∙ e);
       counts = counts ∙ is.counts;
-      journal = record { room = room; steps = λ one. steps ∙ sym (take_all n [] (omega arith)) ∙ ap (λ (es : List CoreEvent). take n (reverse es)) (sym new) };
+      journal = record { room = room; steps = steps ∙ sym (take_all n [] (omega arith)) ∙ ap (λ (es : List CoreEvent). take n (reverse es)) (sym new ∙ is.journal.alone (inl lone.alone)); alone = λ none. is.journal.alone none };
     })
     (fit_told n (view_of h) is.told)

@@ -9,7 +9,7 @@ use lib.ListN.{get_elem?}
 use prog.Atomic.{either}
 use Rattle.atomic_table.specs.Table.{step, keeps, Allows}
 use Rattle.morph_base.specs.declared.limits.TheConstants.{MAX}
-use Rattle.morph_base.specs.declared.word.TheConstants.{ATTEMPTS}
+use Rattle.morph_base.specs.Limits.{most_attempts}
 use Rattle.morph_base.specs.declared.plan.Plan.{Plan}
 use Rattle.morph_base.specs.declared.plan.Origin.{Origin}
 use Rattle.morph_base.specs.declared.plan.Origin.TheVariants.{Base, Op as Written}
@@ -320,7 +320,7 @@ module _ (h g : Hand) (is : IsKept h (view_of h)) (tag : g.tag ≡ h.tag) (made 
     held = ap held_of held ∙ is.held;
     fits = λ k same. is.fits k (sym held ∙ same);
     counts = counts_more g.counts h.counts one_spread (SpreadStep o (last_op 0 (view_of h).notes)) (view_of h).events refl is.counts e s r;
-    journal = journal_step (spreading o w (view_of h)) (SpreadStep o (last_op 0 (view_of h).notes)) is.journal noted refl refl refl;
+    journal = journal_step (spreading o w (view_of h)) (SpreadStep o (last_op 0 (view_of h).notes)) is.journal noted refl refl refl refl refl;
   }
 
   pub kept_rolled : (o a : ℕ) → g.counts.evaluated ≡ min (h.counts.evaluated + 0) (2 ^ 64 - 1) → g.counts.spread ≡ min (h.counts.spread + 0) (2 ^ 64 - 1)
@@ -334,11 +334,11 @@ module _ (h g : Hand) (is : IsKept h (view_of h)) (tag : g.tag ≡ h.tag) (made 
     held = ap held_of held ∙ is.held;
     fits = λ k same. is.fits k (sym held ∙ same);
     counts = counts_more g.counts h.counts one_rolled (RollBack o (last_place 0 (view_of h).records)) (view_of h).events refl is.counts e s r;
-    journal = journal_step (rolling_back o a (view_of h)) (RollBack o (last_place 0 (view_of h).records)) is.journal noted refl refl refl;
+    journal = journal_step (rolling_back o a (view_of h)) (RollBack o (last_place 0 (view_of h).records)) is.journal noted refl refl refl refl refl;
   }
 
 -- the word that is left is one
-pub word_rolled : (a cap : ℕ) → a ≤ cap → cap < ATTEMPTS → IsWord (blocked (a + 1))
+pub word_rolled : (a cap : ℕ) → a ≤ cap → cap < most_attempts → IsWord (blocked (a + 1))
 word_rolled a cap most small = record {
   small = omega arith;
   first = omega arith;
@@ -348,7 +348,7 @@ word_rolled a cap most small = record {
   by_none = λ e. refl;
 }
 
-pub word_spread : (w : OpWord) (cap x : ℕ) → IsWord w → w.attempt < cap → cap < ATTEMPTS → x ≤ MAX → IsWord (spread (w.attempt + 1) x)
+pub word_spread : (w : OpWord) (cap x : ℕ) → IsWord w → w.attempt < cap → cap < most_attempts → x ≤ MAX → IsWord (spread (w.attempt + 1) x)
 word_spread w cap x is below small value = record {
   small = value;
   first = omega arith;

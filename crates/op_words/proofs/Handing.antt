@@ -5,8 +5,7 @@ use Rattle.std.proofs.lemmas.Option.{none-some, same_Some}
 use Rattle.std.proofs.lemmas.List.{length-append}
 use Rattle.std.proofs.lemmas.List.Sums.{sum_by-append, sum_by-cons}
 use Rattle.std.specs.declared.snapshot.Snapshot.{Snapshot}
-use Rattle.morph_base.specs.declared.limits.TheConstants.{WORKERS}
-use Rattle.morph_base.specs.declared.word.TheConstants.{ATTEMPTS}
+use Rattle.morph_base.specs.Limits.{most_attempts, most_workers}
 use Rattle.morph_base.specs.declared.plan.Plan.{Plan}
 use Rattle.morph_base.specs.declared.word.OpWord.{OpWord}
 use Rattle.morph_base.specs.Words.{IsWord, packed}
@@ -84,7 +83,7 @@ parent_kept h g is root tag made held counts journal = record {
   held = ap held_of held ∙ is.held;
   fits = λ k e. is.fits k (sym held ∙ e);
   counts = counts ∙ is.counts;
-  journal = journal_other (parent (view_of h)) is.journal journal refl (λ one. let some = is.counted root in omega (arith, some, one));
+  journal = journal_same (parent (view_of h)) is.journal journal refl (λ none. elim none [ inl one ↦ absurd (let some = is.counted root in omega (arith, some, one)) | inr empty ↦ inr empty ]) refl refl;
 }
 
 pub parent_told : (v : View) → (v.tag ≡ 1 → 1 ≤ v.made) → IsTold v → IsTold (parent v)
@@ -139,12 +138,12 @@ joined_kept h o g is its tag made held e s r journal more = record {
   held = ap held_of held ∙ is.held;
   fits = λ k same. is.fits k (sym held ∙ same);
   counts = counts_append g.counts h.counts o.counts (view_of h).events (view_of o).events is.counts its.counts e s r;
-  journal = journal_other (merged (view_of h) (view_of o)) is.journal journal refl more;
+  journal = journal_other (merged (view_of h) (view_of o)) is.journal journal refl refl (λ none. elim none [ inl one ↦ more one | inr empty ↦ more_joined (view_of h) (view_of o) empty ]);
 }
 
 -- ---- new hands
 
-pub child_hand : (b : Board) (h g : Hand) → IsHandOf b h → (view_of h).tag ≡ 1 → (view_of h).made < WORKERS → g.seat.table_id ≡ h.seat.table_id → g.seat.me ≡ (Some (child (view_of h)), [])
+pub child_hand : (b : Board) (h g : Hand) → IsHandOf b h → (view_of h).tag ≡ 1 → (view_of h).made < most_workers → g.seat.table_id ≡ h.seat.table_id → g.seat.me ≡ (Some (child (view_of h)), [])
     → g.tag ≡ h.made + 1 → g.made ≡ 0 → g.held ≡ None → g.counts ≡ counts_of [] → g.journal ≡ None → IsHandOf b g
 child_hand b h g is root few table me tag made held counts journal =
     still b h g (child (view_of h)) is table me refl refl
@@ -156,7 +155,7 @@ child_hand b h g is root few table me tag made held counts journal =
       held = ap held_of held;
       fits = λ k e. absurd (none-some k (sym held ∙ e));
       counts = counts;
-      journal = record { room = ap room_in journal; steps = λ one. absurd (omega (arith, one)) };
+      journal = record { room = ap room_in journal; steps = ap steps_in journal; alone = λ none. refl };
     })
     (child_told (view_of h) is.told)
   where
@@ -171,7 +170,7 @@ first_told plan cap = record {
 }
 
 pub first_hand : (b : Board) (g : Hand) → g.seat.table_id ≡ b.table.shared.table_id → g.seat.me ≡ (Some (first_view b.table.shared.key.plan b.table.shared.key.cap), [])
-    → IsPlan (plan_of b) → cap_of b < ATTEMPTS → g.tag ≡ 1 → g.made ≡ 1 → g.held ≡ None → g.counts ≡ counts_of [] → g.journal ≡ None → IsHandOf b g
+    → IsPlan (plan_of b) → cap_of b < most_attempts → g.tag ≡ 1 → g.made ≡ 1 → g.held ≡ None → g.counts ≡ counts_of [] → g.journal ≡ None → IsHandOf b g
 first_hand b g table me valid small tag made held counts journal =
     let u : View = first_view b.table.shared.key.plan b.table.shared.key.cap in
     let same : view_of g ≡ u = ap (λ (m : Sat). view_in m.0) me in
@@ -189,7 +188,7 @@ first_hand b g table me valid small tag made held counts journal =
       held = ap held_of held ∙ sym (ap (λ (v : View). v.claim) same);
       fits = λ k e. absurd (none-some k (sym held ∙ e));
       counts = counts ∙ sym (ap (λ (v : View). counts_of v.events) same);
-      journal = subst (λ (v : View). IsJournal v g.journal) (sym same) (record { room = ap room_in journal; steps = λ one. ap steps_in journal });
+      journal = subst (λ (v : View). IsJournal v g.journal) (sym same) (record { room = ap room_in journal; steps = ap steps_in journal; alone = λ none. refl });
       told = subst IsTold (sym same) (first_told b.table.shared.key.plan b.table.shared.key.cap);
     }
 
@@ -212,14 +211,14 @@ kept_looked h g o w is tag made held counts journal = record {
   held = ap held_of held ∙ is.held;
   fits = λ k e. is.fits k (sym held ∙ e);
   counts = counts ∙ is.counts;
-  journal = journal_same (looked o w (view_of h)) is.journal journal refl refl refl;
+  journal = journal_same (looked o w (view_of h)) is.journal journal refl (λ none. none) refl refl;
 }
 
 -- and after a quiet step, with what it holds then
 pub kept_step : (h g : Hand) (u : View) (e : CoreEvent) → IsKept h (view_of h) → g.tag ≡ h.tag → g.made ≡ h.made → g.counts ≡ h.counts → HasNoted h.journal g.journal e → u.room ≡ (view_of h).room
-    → u.tag ≡ (view_of h).tag → u.made ≡ (view_of h).made → u.events ≡ e ∷ (view_of h).events → is_finish e ≡ false → is_spread e ≡ false → is_roll e ≡ false
+    → u.tag ≡ (view_of h).tag → u.made ≡ (view_of h).made → u.joined ≡ (view_of h).joined → u.events ≡ e ∷ (view_of h).events → u.own ≡ e ∷ (view_of h).own → is_finish e ≡ false → is_spread e ≡ false → is_roll e ≡ false
     → held_of g.held ≡ u.claim → ((k : Holding) → g.held ≡ Some k → Fits k) → IsKept g u
-kept_step h g u e is tag made counts noted same_room same_tag same_made events f s r held fits = record {
+kept_step h g u e is tag made counts noted same_room same_tag same_made same_joined events own f s r held fits = record {
   worker = subst IsWorker (sym same_tag) is.worker;
   counted = λ root. subst (λ n. 1 ≤ n) (sym same_made) (is.counted (sym same_tag ∙ root));
   tag = tag ∙ is.tag ∙ sym same_tag;
@@ -227,7 +226,7 @@ kept_step h g u e is tag made counts noted same_room same_tag same_made events f
   held = held;
   fits = fits;
   counts = counts ∙ is.counts ∙ sym (ap counts_of events ∙ counts_quiet e (view_of h).events f s r);
-  journal = journal_step u e is.journal noted same_room same_made events;
+  journal = journal_step u e is.journal noted same_room same_made same_joined events own;
 }
 
 module _ (b : Board) (h g : Hand) (is : IsHandOf b h) (table : g.seat.table_id ≡ h.seat.table_id) where
@@ -303,5 +302,5 @@ kept_end h g o w xs is tag made held e s r noted = record {
   held = ap held_of held;
   fits = λ k same. absurd (none-some k (sym held ∙ same));
   counts = counts_finish g.counts h.counts o (view_of h).tag (view_of h).events is.counts e s r;
-  journal = journal_step (finishing o w xs (view_of h)) (Finish o (view_of h).tag) is.journal noted refl refl refl;
+  journal = journal_step (finishing o w xs (view_of h)) (Finish o (view_of h).tag) is.journal noted refl refl refl refl refl;
 }

@@ -9,7 +9,7 @@ use mathlib.Core.Option.{some}
 use lib.ListN.{get_elem?}
 use Rattle.atomic_table.specs.Table.{Joins}
 use Rattle.atomic_table.proofs.Lists.{at_set, set_else}
-use Rattle.morph_base.specs.declared.limits.TheConstants.{WORKERS}
+use Rattle.morph_base.specs.Limits.{most_workers}
 use Rattle.morph_base.specs.declared.plan.Plan.{Plan}
 use Rattle.interleaving_core.specs.declared.entry.Settling.{Settling}
 use Rattle.op_words.specs.declared.trail.Joined.{Joined}
@@ -152,7 +152,7 @@ module _ {p : Plan} {cap counters : ℕ} (s : Seats) (lawful : Lawful p cap coun
       spent = spent_after;
       nobody = λ t more. lawful.nobody t (subst (λ n. n < t) long more);
       no_worker = lawful.no_worker;
-      most = subst (λ n. n ≤ WORKERS) (sym long) lawful.most;
+      most = subst (λ n. n ≤ most_workers) (sym long) lawful.most;
       sums = sums_joined;
       numbers = numbers_joined;
       alone = λ single x is. absurd (two single);

@@ -11,7 +11,7 @@ use Rattle.interleaving_core.proofs.Ordering.{run_leads}
 use Rattle.op_words.specs.declared.journal.Journal.{Journal}
 use Rattle.op_words.specs.declared.trail.View.{View}
 use Rattle.op_words.specs.Closing.{Ends}
-use Rattle.op_words.specs.Journals.{room_in, steps_in, IsJournal, IsJournalOf}
+use Rattle.op_words.specs.Journals.{room_in, steps_in, IsUnjoined, IsJournal, IsJournalOf}
 
 -- a step was written down, where there was room
 pub record HasNoted (old new : Option Journal) (e : CoreEvent) : Type 0 where
@@ -31,26 +31,33 @@ take_again n xs ys =
     ]
 
 -- the journal stays the hand's own after each step
-pub journal_same : {v : View} {old new : Option Journal} (u : View) → IsJournal v old → new ≡ old → u.room ≡ v.room → u.made ≡ v.made → u.events ≡ v.events → IsJournal u new
-journal_same u is same room made events = record {
+pub journal_same : {v : View} {old new : Option Journal} (u : View) → IsJournal v old → new ≡ old → u.room ≡ v.room → (IsUnjoined u → IsUnjoined v) → u.events ≡ v.events → u.own ≡ v.own → IsJournal u new
+journal_same u is same room unjoined events own = record {
   room = ap room_in same ∙ is.room ∙ sym room;
-  steps = λ one. ap steps_in same ∙ is.steps (sym made ∙ one) ∙ ap (λ (z : ℕ × List CoreEvent). take z.0 (reverse z.1)) (λ i. (sym room i, sym events i));
+  steps = ap steps_in same ∙ is.steps ∙ ap (λ (z : ℕ × List CoreEvent). take z.0 (reverse z.1)) (λ i. (sym room i, sym own i));
+  alone = λ none. events ∙ is.alone (unjoined none) ∙ sym own;
 }
 
-pub journal_step : {v : View} {old new : Option Journal} (u : View) (e : CoreEvent) → IsJournal v old → HasNoted old new e → u.room ≡ v.room → u.made ≡ v.made → u.events ≡ e ∷ v.events → IsJournal u new
-journal_step {v} {old} u e is noted room made events = record {
+pub journal_step : {v : View} {old new : Option Journal} (u : View) (e : CoreEvent) → IsJournal v old → HasNoted old new e → u.room ≡ v.room → u.made ≡ v.made → u.joined ≡ v.joined → u.events ≡ e ∷ v.events → u.own ≡ e ∷ v.own → IsJournal u new
+journal_step {v} {old} u e is noted room made joined events own = record {
   room = noted.room ∙ is.room ∙ sym room;
-  steps = λ one.
+  steps =
       noted.steps
-      ∙ ap (λ (z : ℕ × List CoreEvent). take z.0 (z.1 ++ e ∷ [])) (λ i. (is.room i, is.steps (sym made ∙ one) i))
-      ∙ take_again v.room (reverse v.events) (e ∷ [])
-      ∙ ap (take v.room) (sym (reverse-cons e v.events))
-      ∙ ap (λ (z : ℕ × List CoreEvent). take z.0 (reverse z.1)) (λ i. (sym room i, sym events i));
+      ∙ ap (λ (z : ℕ × List CoreEvent). take z.0 (z.1 ++ e ∷ [])) (λ i. (is.room i, is.steps i))
+      ∙ take_again v.room (reverse v.own) (e ∷ [])
+      ∙ ap (take v.room) (sym (reverse-cons e v.own))
+      ∙ ap (λ (z : ℕ × List CoreEvent). take z.0 (reverse z.1)) (λ i. (sym room i, sym own i));
+  alone = λ none.
+      events ∙ ap (λ (es : List CoreEvent). e ∷ es) (is.alone (elim none [ inl one ↦ inl (sym made ∙ one) | inr empty ↦ inr (sym joined ∙ empty) ])) ∙ sym own;
 }
 
--- of a hand that was never the only one
-pub journal_other : {v : View} {old new : Option Journal} (u : View) → IsJournal v old → new ≡ old → u.room ≡ v.room → (u.made ≡ 1 → ⊥) → IsJournal u new
-journal_other u is same room more = record { room = ap room_in same ∙ is.room ∙ sym room; steps = λ one. absurd (more one) }
+-- of a hand into which another was joined
+pub journal_other : {v : View} {old new : Option Journal} (u : View) → IsJournal v old → new ≡ old → u.room ≡ v.room → u.own ≡ v.own → (IsUnjoined u → ⊥) → IsJournal u new
+journal_other u is same room own more = record {
+  room = ap room_in same ∙ is.room ∙ sym room;
+  steps = ap steps_in same ∙ is.steps ∙ ap (λ (z : ℕ × List CoreEvent). take z.0 (reverse z.1)) (λ i. (sym room i, sym own i));
+  alone = λ none. absurd (more none);
+}
 
 -- ---- the machine takes it
 
@@ -66,10 +73,11 @@ module _ (p : Plan) (cap : ℕ) where
 
   pub journal_leads : (counters : ℕ) (ws : List ℕ) (v : View) (j : Option Journal) (is : Ends p cap counters ws v) → IsJournal v j → v.made ≡ 1 → IsJournalOf p cap v.room (steps_in j) is.core
   journal_leads counters ws v j is journal one =
-      let all : Leads p cap start (reverse v.events) is.core = subst (λ es. Leads p cap start (reverse es) is.core) (is.only one) (run_leads p cap is.history is.core is.run) in
-      let front = front_leads v.room (reverse v.events) start is.core all in
-      let size = length-take v.room (reverse v.events) in
-      let same : steps_in j ≡ take v.room (reverse v.events) = journal.steps one in
+      let mine : is.history ≡ v.own = is.only one ∙ journal.alone (inl one) in
+      let all : Leads p cap start (reverse v.own) is.core = subst (λ es. Leads p cap start (reverse es) is.core) mine (run_leads p cap is.history is.core is.run) in
+      let front = front_leads v.room (reverse v.own) start is.core all in
+      let size = length-take v.room (reverse v.own) in
+      let same : steps_in j ≡ take v.room (reverse v.own) = journal.steps in
       record {
         state = front.0;
         leads = subst (λ es. Leads p cap start es front.0) (sym same) front.1;

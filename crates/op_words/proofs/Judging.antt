@@ -127,6 +127,9 @@ module _ (b : Board) (p : Plan) (o : ℕ) (plan : p ≡ plan_of b) (lt : o < op_
   free_next : (view_of g).claim ≡ None
   free_next = ap (λ (v : View). v.claim) did.view ∙ free
 
+  stays_first : (view_of g).events ≡ (view_of h).events
+  stays_first = ap (λ (v : View). v.events) did.view
+
   last_first : HasLast o (loaded o w ∷ []) w
   last_first = last_one (loaded o w) (loaded o w ∷ []) refl
 
@@ -141,6 +144,10 @@ module _ (b : Board) (p : Plan) (o : ℕ) (plan : p ≡ plan_of b) (lt : o < op_
     goes = record { adds = adds_first; free = free_next };
     none = none_one o w;
     reads = λ t inside. inl (sym (ap (λ (x : Item). x.op) (one_inside (loaded o w) t inside)));
+    first = w;
+    rest = [];
+    begins = refl;
+    stays = stays_first;
     tells = inl (refl, record { last = last_first; seen = (0, omega arith, refl); cause = inl idle; spread = (sight_of b p o h g w hand plan did).spread });
     stale = λ j kept value same. absurd (not_stale o w j kept value same);
   }
@@ -155,6 +162,9 @@ module _ (b : Board) (p : Plan) (o : ℕ) (plan : p ≡ plan_of b) (lt : o < op_
 
     free_front : (view_of k).claim ≡ None
     free_front = walk.claim ∙ free_next
+
+    stays_front : (view_of k).events ≡ (view_of h).events
+    stays_front = walk.events ∙ stays_first
 
     last_front : HasLast o front w
     last_front = last_else o (loaded o w ∷ []) xs w last_first walk.elsewhere
@@ -177,6 +187,10 @@ module _ (b : Board) (p : Plan) (o : ℕ) (plan : p ≡ plan_of b) (lt : o < op_
       goes = record { adds = adds_front; free = free_front };
       none = none_front;
       reads = reads_front;
+      first = w;
+      rest = xs;
+      begins = refl;
+      stays = stays_front;
       tells = inr (
         other,
         record {
@@ -223,6 +237,10 @@ module _ (b : Board) (p : Plan) (o : ℕ) (plan : p ≡ plan_of b) (lt : o < op_
         goes = record { adds = adds_all; free = ap (λ (v : View). v.claim) again.view ∙ free_front };
         none = none_then front (loaded o z ∷ []) none_front (none_one o z);
         reads = reads_all;
+        first = w;
+        rest = xs ++ loaded o z ∷ [];
+        begins = refl;
+        stays = ap (λ (v : View). v.events) again.view ∙ stays_front;
         tells = tells;
         stale = stale;
       }

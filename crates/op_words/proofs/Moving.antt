@@ -7,7 +7,7 @@ use Rattle.std.proofs.lemmas.List.Sums.{sum_by-cons, sum_by-append}
 use mathlib.Core.Option.{some}
 use lib.ListN.{get_elem?}
 use Rattle.atomic_table.proofs.Lists.{at_set}
-use Rattle.morph_base.specs.declared.limits.TheConstants.{WORKERS}
+use Rattle.morph_base.specs.Limits.{most_workers}
 use Rattle.morph_base.specs.declared.plan.Plan.{Plan}
 use Rattle.interleaving_core.specs.declared.entry.Entry.{Entry}
 use Rattle.interleaving_core.specs.declared.entry.Settling.{Settling}
@@ -100,7 +100,7 @@ module _ {p : Plan} {cap counters : ℕ} (s : Seats) (lawful : Lawful p cap coun
           ];
       nobody = λ t more. lawful.nobody t (subst (λ n. n < t) long more);
       no_worker = lawful.no_worker;
-      most = subst (λ n. n ≤ WORKERS) (sym long) lawful.most;
+      most = subst (λ n. n ≤ most_workers) (sym long) lawful.most;
       sums = sums_kept s.views i v u at lawful.core lawful.history rests lawful.sums;
       numbers = numbers;
       alone = λ single w root.
@@ -185,7 +185,7 @@ module _ {p : Plan} {cap counters : ℕ} (s : Seats) (lawful : Lawful p cap coun
             ];
         nobody = λ t more. step.others t (λ same. omega (arith, same, more, longer, seated)) ∙ lawful.nobody t (subst (λ n. n < t) longer more);
         no_worker = step.others 0 (λ same. omega (arith, same)) ∙ lawful.no_worker;
-        most = subst (λ n. n ≤ WORKERS) (sym longer) lawful.most;
+        most = subst (λ n. n ≤ most_workers) (sym longer) lawful.most;
         sums = sums_more;
         numbers = record {
           each = λ k lt h.

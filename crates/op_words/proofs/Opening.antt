@@ -6,7 +6,7 @@ use Rattle.std.proofs.lemmas.Option.{same_Some}
 use mathlib.Core.Option.{some, some-injective, some-ne-none}
 use lib.ListN.{get_elem?}
 use Rattle.atomic_table.specs.Table.{opening}
-use Rattle.morph_base.specs.declared.word.TheConstants.{ATTEMPTS}
+use Rattle.morph_base.specs.Limits.{most_attempts}
 use Rattle.morph_base.specs.declared.plan.Plan.{Plan}
 use Rattle.morph_base.specs.Graphs.{below}
 use Rattle.morph_base.specs.Plans.{IsPlan}
@@ -31,7 +31,7 @@ only_view : (a v : View) (i : ℕ) → get_elem? (Some a ∷ []) i ≡ some (Som
 only_view a v zero is = (refl, same_Some a v (some-injective (Some a) (Some v) is))
 only_view a v (suc i) is = absurd (some-ne-none (Some v) (sym is))
 
-module _ (cap counters : ℕ) (plan : Snapshot Plan) (ws : List ℕ) (valid : IsPlan plan.value) (few : cap < ATTEMPTS) (words : AreFirst plan.value counters ws) where
+module _ (cap counters : ℕ) (plan : Snapshot Plan) (ws : List ℕ) (valid : IsPlan plan.value) (few : cap < most_attempts) (words : AreFirst plan.value counters ws) where
   knows_first : Knows plan.value cap start 1 0 (first_view plan cap)
   knows_first = record {
     plan = refl;

@@ -210,7 +210,7 @@ module _ (b : Board) (h g : Hand) (is : IsHandOf b h) (table : g.seat.table_id �
         held = ap held_of held ∙ is.held;
         fits = λ k e. is.fits k (sym held ∙ e);
         counts = counts ∙ is.counts;
-        journal = journal_same (noting rs ds (view_of h)) is.journal journal refl refl refl;
+        journal = journal_same (noting rs ds (view_of h)) is.journal journal refl (λ none. none) refl refl;
       })
       (noted_told rs ds (view_of h) is.told)
 

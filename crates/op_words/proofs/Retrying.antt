@@ -46,7 +46,7 @@ adds_spreading v o w tells = record {
   room = refl;
   joined = refl;
   places = refl;
-  events = (_ ∷ [], refl);
+  events = (_ ∷ [], refl, refl);
   agree = tells.told.agree;
   steady = along_one (IsSteadyAt v.tag) v.notes (left o w) tells.steady;
   calm = λ lone. along_one IsCalmAt v.trail (left o w) (calm_left v.trail o w);
@@ -67,12 +67,16 @@ module _ (b : Board) (p : Plan) (cap o : ℕ) (h g : Hand) (w : OpWord) (free : 
   pub free_next : (view_of g).claim ≡ None
   free_next = ap (λ (v : View). v.claim) did.view ∙ free
 
-  pub not_spread : (w.state ≢ Executed) ⊎ (cap ≤ w.attempt) → SpreadDoes p cap o (view_of h) (view_of g) (Unspread w)
-  not_spread other = record {
+  pub events_first : (view_of g).events ≡ (view_of h).events
+  events_first = ap (λ (v : View). v.events) did.view
+
+  pub not_spread : (q : ℕ) → (w.state ≢ Executed) ⊎ (cap ≤ w.attempt) → SpreadDoes p cap o (view_of h) (view_of g) q (Unspread w)
+  not_spread q other = record {
     words = loaded o w ∷ [];
     goes = record { adds = adds_first; free = free_next };
     own = own_none o (loaded o w ∷ []) (none_one o w);
     open_own = open_none (loaded o w ∷ []) (none_one o w);
+    steps = events_first;
     tells = record {
       last = last_one (loaded o w) (loaded o w ∷ []) refl;
       seen = (0, omega arith, refl);
@@ -98,12 +102,12 @@ module _ (b : Board) (p : Plan) (cap o : ℕ) (h g : Hand) (w : OpWord) (free : 
     free_front = walk.claim ∙ free_next
 
     pub events_front : (view_of k).events ≡ (view_of h).events
-    events_front = walk.events ∙ ap (λ (v : View). v.events) did.view
+    events_front = walk.events ∙ events_first
 
     module _ (m : Hand) where
-      pub spread_done : (x : ℕ) → w.state ≡ Executed → w.attempt < cap → IsRecordSeen (view_of k) o 0 w x
-          → Left b k m (spreading o (spread (w.attempt + 1) x) (view_of k)) (left o (spread (w.attempt + 1) x)) → SpreadDoes p cap o (view_of h) (view_of m) HasSpread
-      spread_done x executed below seen step =
+      pub spread_done : (q : ℕ) → last_op 0 (view_of k).notes ≡ q → (x : ℕ) → w.state ≡ Executed → w.attempt < cap → IsRecordSeen (view_of k) o 0 w x
+          → Left b k m (spreading o (spread (w.attempt + 1) x) (view_of k)) (left o (spread (w.attempt + 1) x)) → SpreadDoes p cap o (view_of h) (view_of m) q HasSpread
+      spread_done q sibling x executed below seen step =
           let z : OpWord = spread (w.attempt + 1) x in
           record {
             words = front ++ left o z ∷ [];
@@ -113,6 +117,7 @@ module _ (b : Board) (p : Plan) (cap o : ℕ) (h g : Hand) (w : OpWord) (free : 
             };
             own = own_left o front z none_front;
             open_own = open_left o front z refl none_front;
+            steps = ap (λ (u : View). u.events) step.view ∙ ap (λ s. SpreadStep o s ∷ (view_of k).events) sibling ∙ ap (λ (es : List CoreEvent). SpreadStep o q ∷ es) events_front;
             tells = record {
               first = w;
               seen = (0, omega arith, refl);
@@ -127,8 +132,8 @@ module _ (b : Board) (p : Plan) (cap o : ℕ) (h g : Hand) (w : OpWord) (free : 
             };
           }
 
-      pub found_unspread : {z : OpWord} → z ≢ w → Looked b o k m z → SpreadDoes p cap o (view_of h) (view_of m) (Unspread z)
-      found_unspread {z} other step = record {
+      pub found_unspread : (q : ℕ) {z : OpWord} → z ≢ w → Looked b o k m z → SpreadDoes p cap o (view_of h) (view_of m) q (Unspread z)
+      found_unspread q {z} other step = record {
         words = front ++ loaded o z ∷ [];
         goes = record {
           adds = adds_then adds_front (subst (λ (u : View). Adds (view_of k) u (loaded o z ∷ [])) (sym step.view) (adds_look o _ (view_of k) z (free_apart (view_of k) o free_front) step.tells));
@@ -136,6 +141,7 @@ module _ (b : Board) (p : Plan) (cap o : ℕ) (h g : Hand) (w : OpWord) (free : 
         };
         own = own_none o (front ++ loaded o z ∷ []) (none_then front (loaded o z ∷ []) none_front (none_one o z));
         open_own = open_none (front ++ loaded o z ∷ []) (none_then front (loaded o z ∷ []) none_front (none_one o z));
+        steps = ap (λ (u : View). u.events) step.view ∙ events_front;
         tells = record {
           last = last_later front (last_one (loaded o z) (loaded o z ∷ []) refl);
           seen = Contains-append_right front (loaded o z ∷ []) (loaded o z) (0, omega arith, refl);

@@ -11,6 +11,7 @@ use Rattle.morph_base.specs.declared.word.OpState.TheVariants.{Blocked, Ready, C
 use Rattle.morph_base.specs.declared.word.OpWord.{OpWord}
 use Rattle.morph_base.specs.Plans.{origin_at}
 use Rattle.morph_base.specs.Words.{has_run, is_evaluated, is_idle, is_settled}
+use Rattle.interleaving_core.specs.declared.event.CoreEvent.{CoreEvent}
 use Rattle.interleaving_core.specs.declared.event.CoreEvent.TheVariants.{RollBack}
 use Rattle.interleaving_core.specs.Core.{blocked, spread, places}
 use Rattle.interleaving_core.specs.Counts.{is_roll, rolled}
@@ -28,7 +29,7 @@ use Rattle.op_words.specs.Hands.{plan_of, cap_of, view_of, IsHandOf}
 use Rattle.op_words.specs.Stepping.{Looked, Left, Recalled, IsUsable, IsWalk}
 use Rattle.op_words.specs.Retrying.{IsSpreadAside, RollDoes}
 use Rattle.op_words.specs.Grounds.{HasGroundsToRoll, AreSourcesSettled, IsSourceLoaded, SourceDoes, OpenDoes, OpenTells}
-use Rattle.op_words.proofs.Retrying.{count_one, adds_first, free_next, adds_front, last_front, none_front, free_front, events_front}
+use Rattle.op_words.proofs.Retrying.{count_one, adds_first, free_next, adds_front, last_front, none_front, free_front, events_first, events_front}
 use Rattle.op_words.proofs.Trailing.{last_later}
 use Rattle.op_words.proofs.Adding.{adds_then, adds_look, free_apart, last_one, none_one}
 use Rattle.op_words.proofs.Making.{adds_leave, found_disturbed, none_then, own_none, open_none, own_left, open_left}
@@ -99,6 +100,7 @@ module _ (b : Board) (p : Plan) (o j : ℕ) (h g : Hand) (w : OpWord) (free : (v
     goes = record { adds = adds_first b p (cap_of b) o h g w free did; free = free_next b p (cap_of b) o h g w free did };
     own = own_none o (loaded o w ∷ []) (none_one o w);
     open_own = open_none (loaded o w ∷ []) (none_one o w);
+    steps = events_first b p (cap_of b) o h g w free did;
     tells = inl (
       refl,
       record {
@@ -129,14 +131,18 @@ module _ (b : Board) (p : Plan) (o j : ℕ) (h g : Hand) (w : OpWord) (free : (v
     free_now : (view_of k).claim ≡ None
     free_now = free_front b p (cap_of b) o h g w free did xs walk
 
+    events_now : (view_of k).events ≡ (view_of h).events
+    events_now = events_front b p (cap_of b) o h g w free did xs walk
+
     -- a source stopped the call
     pub source_stops : (stop : Stop) → stop.source ≢ o → IsSourceOf p o stop.source → Contains xs (loaded stop.source stop.word) → is_settled stop.word.state ≡ false
-        → (is_idle stop.word.state ≡ true) ⊎ ((w.attempt ≡ cap_of b) ⊎ IsSpreadAside p (cap_of b) o (view_of h) (view_of k) (loaded o w ∷ xs) j w) → RollDoes p (cap_of b) o (view_of h) (view_of k) j (Unrolled stop.source stop.word)
+        → ((origin_at p o j ≡ Written stop.source) × (is_idle stop.word.state ≡ true)) ⊎ ((w.attempt ≡ cap_of b) ⊎ IsSpreadAside p (cap_of b) o (view_of h) (view_of k) (loaded o w ∷ xs) j w) → RollDoes p (cap_of b) o (view_of h) (view_of k) j (Unrolled stop.source stop.word)
     source_stops stop other source inside settled cause = record {
       words = front;
       goes = record { adds = adds_now; free = free_now };
       own = own_none o front none_now;
       open_own = open_none front none_now;
+      steps = events_now;
       tells = inr (
         other,
         record {
@@ -165,6 +171,7 @@ module _ (b : Board) (p : Plan) (o j : ℕ) (h g : Hand) (w : OpWord) (free : (v
         };
         own = own_none o (front ++ loaded o z ∷ []) (none_then front (loaded o z ∷ []) none_now (none_one o z));
         open_own = open_none (front ++ loaded o z ∷ []) (none_then front (loaded o z ∷ []) none_now (none_one o z));
+        steps = ap (λ (u : View). u.events) step.view ∙ events_now;
         tells = inl (
           refl,
           record {
@@ -176,8 +183,8 @@ module _ (b : Board) (p : Plan) (o j : ℕ) (h g : Hand) (w : OpWord) (free : (v
         );
       }
 
-      pub rolled_done : w.attempt ≤ cap_of b → Left b k m (rolling_back o (w.attempt + 1) (view_of k)) (left o (blocked (w.attempt + 1))) → RollDoes p (cap_of b) o (view_of h) (view_of m) j HasRolled
-      rolled_done most step =
+      pub rolled_done : w.attempt ≤ cap_of b → last_place 0 (view_of k).records ≡ j → Left b k m (rolling_back o (w.attempt + 1) (view_of k)) (left o (blocked (w.attempt + 1))) → RollDoes p (cap_of b) o (view_of h) (view_of m) j HasRolled
+      rolled_done most place step =
           let z : OpWord = blocked (w.attempt + 1) in
           record {
             words = front ++ left o z ∷ [];
@@ -187,6 +194,7 @@ module _ (b : Board) (p : Plan) (o j : ℕ) (h g : Hand) (w : OpWord) (free : (v
             };
             own = own_left o front z none_now;
             open_own = open_left o front z refl none_now;
+            steps = ap (λ (u : View). u.events) step.view ∙ ap (λ n. RollBack o n ∷ (view_of k).events) place ∙ ap (λ (es : List CoreEvent). RollBack o j ∷ es) events_now;
             tells = record {
               first = w;
               seen = (0, omega arith, refl);
@@ -196,7 +204,7 @@ module _ (b : Board) (p : Plan) (o j : ℕ) (h g : Hand) (w : OpWord) (free : (v
               inside = Contains-append_right front (left o z ∷ []) (left o z) (0, omega arith, refl);
               counted =
                   ap (λ (u : View). rolled u.events) step.view ∙ count_one is_roll (RollBack o (last_place 0 (view_of k).records)) (view_of k).events refl
-                  ∙ ap (λ es. rolled es + 1) (events_front b p (cap_of b) o h g w free did xs walk);
+                  ∙ ap (λ es. rolled es + 1) events_now;
             };
           }
 
@@ -211,6 +219,7 @@ module _ (b : Board) (p : Plan) (o j : ℕ) (h g : Hand) (w : OpWord) (free : (v
         };
         own = own_none o (front ++ loaded o w ∷ []) (none_then front (loaded o w ∷ []) none_now (none_one o w));
         open_own = open_none (front ++ loaded o w ∷ []) (none_then front (loaded o w ∷ []) none_now (none_one o w));
+        steps = ap (λ (u : View). u.events) step.view ∙ events_now;
         tells = record {
           word = w;
           last = last_later front (last_one (loaded o w) (loaded o w ∷ []) refl);

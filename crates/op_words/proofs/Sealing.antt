@@ -4,12 +4,15 @@ use Rattle.std.specs.Prelude.{Contains}
 use Rattle.std.proofs.lemmas.Bool.{cases_eq, false≢true}
 use Rattle.std.proofs.lemmas.List.Elements.{Contains-append_left, Contains-append_right}
 use Rattle.morph_base.specs.declared.plan.Plan.{Plan}
+use Rattle.morph_base.specs.declared.plan.Origin.TheVariants.{Op as Written}
 use Rattle.morph_base.specs.declared.word.OpState.{OpState}
 use Rattle.morph_base.specs.declared.word.OpState.TheVariants.{Blocked, Ready, Claimed, Executed, Failed, Spread, Settled, SettledAborted}
 use Rattle.morph_base.specs.declared.word.OpWord.{OpWord}
 use Rattle.morph_base.specs.Plans.{event_of, origin_at, final, verdict}
 use Rattle.morph_base.specs.Words.{IsWord, is_settled, packed}
 use Rattle.morph_base.proofs.WordLaws.{one_word}
+use Rattle.interleaving_core.specs.declared.event.CoreEvent.{CoreEvent}
+use Rattle.interleaving_core.specs.declared.event.CoreEvent.TheVariants.{Settle}
 use Rattle.interleaving_core.specs.Core.{blocked, has_run, is_open}
 use Rattle.op_words.specs.declared.answers.SettleAnswer.{SettleAnswer}
 use Rattle.op_words.specs.declared.answers.SettleAnswer.TheVariants.{Done, Not}
@@ -44,7 +47,7 @@ adds_settling v o z tells = record {
   room = refl;
   joined = refl;
   places = refl;
-  events = (_ ∷ [], refl);
+  events = (_ ∷ [], refl, refl);
   agree = tells.told.agree;
   steady = along_one (IsSteadyAt v.tag) v.notes (left o z) tells.steady;
   calm = λ lone. along_one IsCalmAt v.trail (left o z) (calm_left v.trail o z);
@@ -63,6 +66,7 @@ module _ (b : Board) (p : Plan) (o : ℕ) (v : View) (h : Hand) (w : OpWord) (op
     words = loaded o w ∷ [];
     goes = opened.goes;
     own = own_none o (loaded o w ∷ []) (none_one o w);
+    steps = opened.stays;
     tells = inl (
       refl,
       record {
@@ -84,6 +88,9 @@ module _ (b : Board) (p : Plan) (o : ℕ) (v : View) (h : Hand) (w : OpWord) (op
     free_front : (view_of k).claim ≡ None
     free_front = walk.claim ∙ opened.goes.free
 
+    stays_front : (view_of k).events ≡ v.events
+    stays_front = walk.events ∙ opened.stays
+
     last_front : HasLast o front w
     last_front = last_else o (loaded o w ∷ []) xs w last_first walk.elsewhere
 
@@ -91,11 +98,12 @@ module _ (b : Board) (p : Plan) (o : ℕ) (v : View) (h : Hand) (w : OpWord) (op
     none_front = none_then (loaded o w ∷ []) xs (none_one o w) (none_elsewhere o xs walk.elsewhere)
 
     -- a source did
-    pub stopped_there : is_settled w.state ≡ false → (s : ℕ) (z : OpWord) → s ≢ o → IsSourceOf p o s → Contains xs (loaded s z) → is_settled z.state ≡ false → SettleDoes p cap o v (view_of k) (Not s z)
-    stopped_there unsettled s z other source inside open_source = record {
+    pub stopped_there : is_settled w.state ≡ false → (s : ℕ) (z : OpWord) → s ≢ o → IsSourceOf p o s → Contains xs (loaded s z) → is_settled z.state ≡ false → (verdict p (event_of p o) ≡ true) ⊎ (origin_at p o 0 ≡ Written s) → SettleDoes p cap o v (view_of k) (Not s z)
+    stopped_there unsettled s z other source inside open_source needed = record {
       words = front;
       goes = record { adds = adds_front; free = free_front };
       own = own_none o front none_front;
+      steps = stays_front;
       tells = inr (
         other,
         record {
@@ -106,6 +114,7 @@ module _ (b : Board) (p : Plan) (o : ℕ) (v : View) (h : Hand) (w : OpWord) (op
           last = last_front;
           open_own = unsettled;
         },
+        needed,
       );
     }
 
@@ -119,6 +128,7 @@ module _ (b : Board) (p : Plan) (o : ℕ) (v : View) (h : Hand) (w : OpWord) (op
           free = ap (λ (u : View). u.claim) did.view ∙ free_front;
         };
         own = own_none o (front ++ loaded o z ∷ []) none_all;
+        steps = ap (λ (u : View). u.events) did.view ∙ stays_front;
         tells = inl (
           refl,
           record {
@@ -166,6 +176,7 @@ module _ (b : Board) (p : Plan) (o : ℕ) (v : View) (h : Hand) (w : OpWord) (op
           free = ap (λ (u : View). u.claim) step.view ∙ free_front;
         };
         own = own_left o front z none_front;
+        steps = ap (λ (u : View). u.events) step.view ∙ ap (λ t. Settle o t ∷ (view_of k).events) adds_front.tag ∙ ap (λ (es : List CoreEvent). Settle o v.tag ∷ es) stays_front;
         tells = record {
           first = w;
           rest = xs ++ left o z ∷ [];
@@ -209,6 +220,7 @@ module _ (b : Board) (p : Plan) (o : ℕ) (h g : Hand) (w : OpWord) (free : (vie
       free = ap (λ (u : View). u.claim) did.view ∙ free;
     };
     tag = ap (λ (u : View). u.tag) did.view;
+    stays = ap (λ (u : View). u.events) did.view;
   }
 
   -- then the decision was loaded
@@ -219,6 +231,7 @@ module _ (b : Board) (p : Plan) (o : ℕ) (h g : Hand) (w : OpWord) (free : (vie
         record {
           goes = record { adds = adds_then opened_first.goes.adds walk.adds; free = walk.claim ∙ opened_first.goes.free };
           tag = walk.adds.tag ∙ opened_first.tag;
+          stays = walk.events ∙ opened_first.stays;
         }
 
     pub last_then : IsNotedLast o (view_of k) w

@@ -8,7 +8,7 @@ use mathlib.Core.Option.{some}
 use lib.ListN.{get_elem?}
 use Rattle.atomic_table.specs.Table.{Splits}
 use Rattle.atomic_table.proofs.Lists.{at_set}
-use Rattle.morph_base.specs.declared.limits.TheConstants.{WORKERS}
+use Rattle.morph_base.specs.Limits.{most_workers}
 use Rattle.morph_base.specs.declared.plan.Plan.{Plan}
 use Rattle.interleaving_core.specs.declared.entry.Settling.{Settling}
 use Rattle.interleaving_core.specs.Core.{Core}
@@ -36,7 +36,7 @@ recount other k = record {
 }
 
 module _ {p : Plan} {cap counters : ℕ} (s : Seats) (lawful : Lawful p cap counters s) (i : ℕ) (v : View)
-    (at : get_elem? s.views i ≡ some (Some v)) (root : v.tag ≡ 1) (room : v.made < WORKERS) where
+    (at : get_elem? s.views i ≡ some (Some v)) (root : v.tag ≡ 1) (room : v.made < most_workers) where
   abbrev stays : List (Option View)
   stays = set s.views i (Some (parent v))
 
@@ -176,7 +176,7 @@ module _ {p : Plan} {cap counters : ℕ} (s : Seats) (lawful : Lawful p cap coun
           ]
 
 module _ {p : Plan} {cap counters : ℕ} where
-  pub allows_split : (i : ℕ) (a : Option View) (v : View) → a ≡ Some v → v.tag ≡ 1 → v.made < WORKERS → Splits (Lawful p cap counters) i a (staying a) (going a)
+  pub allows_split : (i : ℕ) (a : Option View) (v : View) → a ≡ Some v → v.tag ≡ 1 → v.made < most_workers → Splits (Lawful p cap counters) i a (staying a) (going a)
   allows_split i a v is root room s lawful at =
       subst (λ x. Lawful p cap counters (record { words = s.words; homes = s.homes; views = set s.views i (staying x) ++ going x ∷ [] })) (sym is)
       (split_stays s lawful i v (at ∙ ap some is) root room).next

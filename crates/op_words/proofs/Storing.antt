@@ -56,6 +56,6 @@ module _ (b : Board) (h : Hand) (is : IsHandOf b h) (k : Holding) (some : h.held
       subst (HasNoted h.journal g.journal) (ap (λ (z : ℕ × ℕ × ℕ). Fetch z.0 z.1 z.2 x) (λ i. (parts.0 i, count_kept i, is.tag i))) noted in
       record {
         hand = still b h g u is table me_now refl refl
-            (kept_step h g u _ (kept is) tag made counts noted_so refl refl refl refl refl refl refl claim (λ n same. subst Fits (same_Some m n (sym held ∙ same)) fits)) told;
+            (kept_step h g u _ (kept is) tag made counts noted_so refl refl refl refl refl refl refl refl refl claim (λ n same. subst Fits (same_Some m n (sym held ∙ same)) fits)) told;
         view = ap (λ (y : Sat). view_in y.0) me_now;
       }

@@ -234,7 +234,7 @@ taking_kept h g k n is tag made held counts journal = record {
   held = ap held_of held ∙ is.held;
   fits = λ x e. is.fits x (sym held ∙ e);
   counts = counts ∙ is.counts;
-  journal = journal_same (taking k n (view_of h)) is.journal journal refl refl refl;
+  journal = journal_same (taking k n (view_of h)) is.journal journal refl (λ none. none) refl refl;
 }
 
 -- ---- the level word

@@ -1,5 +1,5 @@
 -- The verdicts on the operations of an event, one after another.
-use Rattle.std.proofs.Common.{◌≡◌, ◌≢◌, ◌⊎◌, ℕ, ◌+◌, ◌<◌, ◌≤◌, Bool, true, false, List, [], ◌++◌, refl, sym, ap, ◌∙◌, subst, inl, inr, arith, Option, Some, None}
+use Rattle.std.proofs.Common.{◌≡◌, ◌≢◌, ◌⊎◌, ℕ, ◌+◌, ◌<◌, ◌≤◌, Bool, true, false, List, [], ◌∷◌, ◌++◌, refl, sym, ap, ◌∙◌, subst, inl, inr, arith, append_assoc, Some, None}
 use Rattle.std.specs.Prelude.{Contains}
 use Rattle.std.proofs.lemmas.Bool.{cases_lt}
 use Rattle.std.proofs.lemmas.List.Elements.{Contains-append_left, Contains-append_right}
@@ -8,6 +8,8 @@ use Rattle.morph_base.specs.declared.plan.Origin.{Origin}
 use Rattle.morph_base.specs.declared.plan.PlanEvent.{PlanEvent}
 use Rattle.morph_base.specs.Numbering.{IsWithin}
 use Rattle.morph_base.specs.declared.word.OpWord.{OpWord}
+use Rattle.interleaving_core.specs.declared.event.CoreEvent.{CoreEvent}
+use Rattle.interleaving_core.specs.declared.event.CoreEvent.TheVariants.{Decide}
 use Rattle.morph_base.specs.Plans.{IsPlan, event_count, event_at, event_of, origin_at, verdict, InEvent}
 use Rattle.morph_base.proofs.OutcomeLaws.{source_precedes}
 use Rattle.op_words.specs.declared.answers.Decided.{Decided}
@@ -20,9 +22,9 @@ use Rattle.op_words.specs.declared.trail.Item.{Item}
 use Rattle.op_words.specs.declared.trail.RecordSeen.{RecordSeen}
 use Rattle.op_words.specs.declared.trail.View.{View}
 use Rattle.op_words.specs.Trails.{loaded, HasLast, IsDisturbed, IsSourceOf, NoneOwn}
-use Rattle.op_words.specs.Views.{IsSettledSeen, Adds}
+use Rattle.op_words.specs.Views.{IsDecisionSeen, IsSettledSeen, Adds}
 use Rattle.op_words.specs.Calls.{IsSettledRead, Elsewhere}
-use Rattle.op_words.specs.Judging.{decided_as, IsStaleWord, IsOwnUnready, IsAnswerSeen, IsGoodSeen, IsDoubtful, IsInDoubt, IsDecided, DecideTells, DecideDoes}
+use Rattle.op_words.specs.Judging.{decided_as, IsStaleWord, IsOwnUnready, IsJudgedGood, IsDoubtful, IsInDoubt, IsDecided, MayDecide, DecideSteps, DecideTells, DecideDoes}
 use Rattle.op_words.specs.Hands.{plan_of, view_of, IsHandOf}
 use Rattle.op_words.specs.Stepping.{Learned}
 use Rattle.op_words.specs.Comparing.{OfReads, IsJudgedAs, WeighTells, IsWeighed, HasDoubt, GroundsTell, HasGrounds, MaySayOf, IsConcluded}
@@ -105,17 +107,48 @@ wider_more o xs {ys} adds elsewhere = record {
   before = λ r inside. inside;
 }
 
-answer_more : (p : Plan) (o : ℕ) (answer : Option ℕ) {v u : View} {xs : List Item} → Adds v u xs → IsAnswerSeen p v o answer → IsAnswerSeen p u o answer
-answer_more p o answer adds is = record { sources = λ j below. let k = is.sources j below in (k.0, seen_more adds (origin_at p o j) k.0 k.1); answer_is = is.answer_is }
+-- what the hand had seen before some words leaves a doubt in these words
+wider_before : (o : ℕ) {v n u : View} {xs : List Item} (ys : List Item) → Adds v n xs → IsWider o n u v u ys ys
+wider_before o ys adds = record {
+  last = λ w last. last;
+  inside = λ t inside. inside;
+  shaken = λ is. is;
+  read = λ q x is. is;
+  now = λ r inside. inside;
+  before = λ r inside. adds.records r inside;
+}
+
+-- one that was judged good stays so, with words more before it, and behind it
+good_later : (p : Plan) (cap o : ℕ) {v n u : View} (xs : List Item) {ys : List Item} → IsJudgedGood p cap o n u ys → IsJudgedGood p cap o v u (xs ++ ys)
+good_later p cap o xs is = (is.0, record { word = is.1.word; last = last_later xs is.1.last; state_is = is.1.state_is; judged = is.1.judged; value_is = is.1.value_is; answer = is.1.answer })
+
+good_more : (p : Plan) (cap o : ℕ) {v n u : View} (xs : List Item) {ys : List Item} → Adds n u ys → Elsewhere o ys → IsJudgedGood p cap o v n xs → IsJudgedGood p cap o v u (xs ++ ys)
+good_more p cap o xs {ys} adds elsewhere is =
+    let good = is.1 in (
+      is.0,
+      record {
+        word = good.word;
+        last = last_else o xs ys good.word good.last elsewhere;
+        state_is = good.state_is;
+        judged = record {
+          ran = good.judged.ran;
+          values = good.judged.values;
+          records = record { len = good.judged.records.len; each = λ j below. adds.records _ (good.judged.records.each j below) };
+          sources = λ j below. seen_more adds (origin_at p o j) _ (good.judged.sources j below);
+        };
+        value_is = good.value_is;
+        answer = good.answer;
+      },
+    )
 
 -- ---- one operation
 
 module _ (b : Board) (p : Plan) (cap o : ℕ) (h g : Hand) (w : OpWord) where
   weighed_as : (v : Verdict) (r : Decided) (is : IsJudgedAs b p cap o h g w v) → WeighTells p cap o (view_of h) (view_of g) is.words r → IsWeighed b p cap o h g r
-  weighed_as v r is tells = record { hand = is.hand; words = is.words; goes = is.goes; none = is.none; reads = is.reads; tells = tells }
+  weighed_as v r is tells = record { hand = is.hand; words = is.words; goes = is.goes; none = is.none; reads = is.reads; first = is.first; rest = is.rest; begins = is.begins; stays = is.stays; tells = tells }
 
   pub weighed_good : (x : ℕ) → IsJudgedAs b p cap o h g w (Good x) → IsWeighed b p cap o h g Committed
-  weighed_good x is = weighed_as (Good x) Committed is (x, record { sources = λ j below. (_, is.tells.judged.sources j below); answer_is = is.tells.answer })
+  weighed_good x is = weighed_as (Good x) Committed is (x, is.tells)
 
   pub weighed_bad : IsJudgedAs b p cap o h g w Bad → IsWeighed b p cap o h g Aborted
   weighed_bad is = weighed_as Bad Aborted is (record { sources = λ j below. (_, is.tells.judged.sources j below); answer_is = is.tells.answer })
@@ -147,32 +180,61 @@ apart_reads p i o n ys valid lt mine other apart none reads t inside = (none t i
         let two = here.1 in let three = home.1 in
         omega (arith, before, one, two, three)
 
-module _ (b : Board) (p : Plan) (cap i start : ℕ) (valid : IsPlan p) (lt : i < event_count p) where
+module _ (b : Board) (p : Plan) (cap i start : ℕ) (valid : IsPlan p) (lt : i < event_count p) (first_is : (event_at p i).first ≤ start) where
   pub grounds_none : (h : Hand) → IsHandOf b h → (view_of h).claim ≡ None → HasGrounds b p cap i start start h h Committed
   grounds_none h is free = record {
     hand = is;
     words = [];
     goes = record { adds = adds_none (view_of h) is.told.agree; free = free };
     none = λ t inside. absurd (not_inside t inside);
+    stays = refl;
     tells = λ o low high. absurd (omega (arith, low, high));
   }
 
   module _ {h g k : Hand} (n : ℕ) (within : InEvent p i n) (far : Decided) (next : Decided) (all : HasGrounds b p cap i start n h g far) (here : IsWeighed b p cap n g k next) where
     grounds_with : (r : Decided) → GroundsTell p cap i start (n + 1) (view_of h) (view_of k) (all.words ++ here.words) r → HasGrounds b p cap i start (n + 1) h k r
-    grounds_with r tells = record { hand = here.hand; words = all.words ++ here.words; goes = goes_then all.goes here.goes; none = none_then all.words here.words all.none here.none; tells = tells }
+    grounds_with r tells = record { hand = here.hand; words = all.words ++ here.words; goes = goes_then all.goes here.goes; none = none_then all.words here.words all.none here.none; stays = here.stays ∙ all.stays; tells = tells }
+
+    -- the operation is not loaded while another one of the event is judged
+    apart_from : (o : ℕ) → InEvent p i o → o < n → Elsewhere o here.words
+    apart_from o inside less = apart_reads p i o n here.words valid lt inside within (λ same. omega (arith, same, less)) here.none here.reads
 
     -- the doubt about another operation of the event stays
     doubt_stays : (o : ℕ) → InEvent p i o → o < n → (at : ℕ) (w : OpWord) → IsDoubtful p cap o (view_of h) (view_of g) all.words at w → IsDoubtful p cap o (view_of h) (view_of k) (all.words ++ here.words) at w
-    doubt_stays o inside less at w is =
-        doubt_wider p cap o (wider_more o all.words here.goes.adds (apart_reads p i o n here.words valid lt inside within (λ same. omega (arith, same, less)) here.none here.reads)) at w is
+    doubt_stays o inside less at w is = doubt_wider p cap o (wider_more o all.words here.goes.adds (apart_from o inside less)) at w is
 
-    good_stays : (o : ℕ) → IsGoodSeen p (view_of g) o → IsGoodSeen p (view_of k) o
-    good_stays o is = (is.0, answer_more p o (Some is.0) here.goes.adds is.1)
+    in_doubt_stays : (o : ℕ) → InEvent p i o → o < n → IsInDoubt p cap o (view_of h) (view_of g) all.words → IsInDoubt p cap o (view_of h) (view_of k) (all.words ++ here.words)
+    in_doubt_stays o inside less is = record {
+      front = is.front;
+      first = is.first;
+      rest = is.rest ++ here.words;
+      split = ap (λ zs. zs ++ here.words) is.split ∙ append_assoc is.front (loaded o is.first ∷ is.rest) here.words;
+      at = is.at;
+      word = is.word;
+      doubt = doubt_wider p cap o (wider_more o (loaded o is.first ∷ is.rest) here.goes.adds (apart_from o inside less)) is.at is.word is.doubt;
+    }
+
+    good_stays : (o : ℕ) → InEvent p i o → o < n → IsJudgedGood p cap o (view_of h) (view_of g) all.words → IsJudgedGood p cap o (view_of h) (view_of k) (all.words ++ here.words)
+    good_stays o inside less is = good_more p cap o all.words here.goes.adds (apart_from o inside less) is
+
+    -- the operations before the one that is judged are of the event
+    of_event : (o : ℕ) → start ≤ o → o < n → InEvent p i o
+    of_event o low less = record { from = omega (arith, low, first_is); below = let high = within.below in omega (arith, high, less) }
 
     -- the operation itself, where it is not bad
-    weighed_now : (c : Decided) → (c ≡ Aborted → ⊥) → WeighTells p cap n (view_of g) (view_of k) here.words c → IsGoodSeen p (view_of k) n ⊎ IsInDoubt p cap n (view_of h) (view_of k) (all.words ++ here.words)
-    weighed_now Committed fine now = inl now
-    weighed_now (Undecided at w) fine now = inr (at, w, doubt_wider p cap n (wider_later n here.words all.goes.adds) at w now)
+    weighed_now : (c : Decided) → (c ≡ Aborted → ⊥) → WeighTells p cap n (view_of g) (view_of k) here.words c
+        → IsJudgedGood p cap n (view_of h) (view_of k) (all.words ++ here.words) ⊎ IsInDoubt p cap n (view_of h) (view_of k) (all.words ++ here.words)
+    weighed_now Committed fine now = inl (good_later p cap n all.words now)
+    weighed_now (Undecided at w) fine now =
+        inr (record {
+          front = all.words;
+          first = here.first;
+          rest = here.rest;
+          split = ap (λ zs. all.words ++ zs) here.begins;
+          at = at;
+          word = w;
+          doubt = subst (λ zs. IsDoubtful p cap n (view_of h) (view_of k) zs at w) here.begins (doubt_wider p cap n (wider_before n here.words all.goes.adds) at w now);
+        })
     weighed_now Aborted fine now = absurd (fine refl)
 
     more_doubt : (at : ℕ) (w : OpWord) (c : Decided) → (c ≡ Aborted → ⊥) → HasDoubt p cap i start n (view_of h) (view_of g) all.words at w → WeighTells p cap n (view_of g) (view_of k) here.words c
@@ -182,16 +244,18 @@ module _ (b : Board) (p : Plan) (cap i start : ℕ) (valid : IsPlan p) (lt : i <
       inside = is.inside;
       below = let less = is.below in omega (arith, less);
       doubt = doubt_stays is.culprit is.inside is.below at w is.doubt;
-      before = λ o low less. good_stays o (is.before o low less);
+      before = λ o low less. let lower : o < n = let high = is.below in omega (arith, high, less) in good_stays o (of_event o low lower) lower (is.before o low less);
       behind = λ o more less.
           elim (cases_lt o n) [
-            | inl lower ↦ elim (is.behind o more lower) [
-              | inl good ↦ inl (good_stays o good)
-              | inr doubt ↦ inr (doubt.0, doubt.1, doubt_stays o (record { from = let low = is.inside.from in omega (arith, low, more); below = let high = within.below in omega (arith, high, lower) }) lower doubt.0 doubt.1 doubt.2)
-            ]
+            | inl lower ↦
+                let inside : InEvent p i o = record { from = let low = is.inside.from in omega (arith, low, more); below = let high = within.below in omega (arith, high, lower) } in
+                elim (is.behind o more lower) [
+                  | inl good ↦ inl (good_stays o inside lower good)
+                  | inr doubt ↦ inr (in_doubt_stays o inside lower doubt)
+                ]
             | inr same ↦
                 let here_is : n ≡ o = omega (arith, same, less) in
-                subst (λ q. IsGoodSeen p (view_of k) q ⊎ IsInDoubt p cap q (view_of h) (view_of k) (all.words ++ here.words)) here_is (weighed_now c fine now)
+                subst (λ q. IsJudgedGood p cap q (view_of h) (view_of k) (all.words ++ here.words) ⊎ IsInDoubt p cap q (view_of h) (view_of k) (all.words ++ here.words)) here_is (weighed_now c fine now)
           ];
     }
 
@@ -201,8 +265,10 @@ module _ (b : Board) (p : Plan) (cap i start : ℕ) (valid : IsPlan p) (lt : i <
         subst (GroundsTell p cap i start (n + 1) (view_of h) (view_of k) (all.words ++ here.words)) (sym (first refl))
         (λ o low high.
         elim (cases_lt o n) [
-          | inl less ↦ good_stays o (before o low less)
-          | inr more ↦ let same : n ≡ o = omega (arith, more, high) in subst (IsGoodSeen p (view_of k)) same now
+          | inl less ↦ good_stays o (of_event o low less) less (before o low less)
+          | inr more ↦
+              let same : n ≡ o = omega (arith, more, high) in
+              subst (λ q. IsJudgedGood p cap q (view_of h) (view_of k) (all.words ++ here.words)) same (good_later p cap n all.words now)
         ])
     tells_more Committed (Undecided at w) fine before now r not_bad first doubt =
         subst (GroundsTell p cap i start (n + 1) (view_of h) (view_of k) (all.words ++ here.words)) (sym (first refl))
@@ -211,7 +277,7 @@ module _ (b : Board) (p : Plan) (cap i start : ℕ) (valid : IsPlan p) (lt : i <
           inside = within;
           below = omega arith;
           doubt = doubt_wider p cap n (wider_later n here.words all.goes.adds) at w now;
-          before = λ o low less. good_stays o (before o low less);
+          before = λ o low less. good_stays o (of_event o low less) less (before o low less);
           behind = λ o more less. absurd (omega (arith, more, less));
         })
     tells_more Committed Aborted fine before now r not_bad first doubt = absurd (fine refl)
@@ -231,6 +297,7 @@ module _ (b : Board) (p : Plan) (cap i start : ℕ) (valid : IsPlan p) (lt : i <
       words = all.words ++ here.words;
       goes = goes_then all.goes here.goes;
       none = none_then all.words here.words all.none here.none;
+      stays = here.stays ∙ all.stays;
       tells = subst (GroundsTell p cap i start end (view_of h) (view_of k) (all.words ++ here.words)) (sym bad) (n, within, subst (WeighTells p cap n (view_of g) (view_of k) here.words) bad here.tells);
     }
 
@@ -249,9 +316,19 @@ decided_tells : {p : Plan} {cap i : ℕ} {v u : View} {xs : List Item} (committe
 decided_tells true is = is
 decided_tells false is = is
 
+decide_steps : (i : ℕ) (v u : View) (committed : Bool) → MayDecide i committed v u → DecideSteps i v u (decided_as committed)
+decide_steps i v u true is = is
+decide_steps i v u false is = is
+
+decide_later : (i : ℕ) (committed : Bool) (v n u : View) → n.events ≡ v.events → MayDecide i committed n u → MayDecide i committed v u
+decide_later i committed v n u stays is = elim is [ inl same ↦ inl (same ∙ stays) | inr more ↦ inr (more ∙ ap (λ (es : List CoreEvent). Decide i committed ∷ es) stays) ]
+
 module _ (b : Board) (p : Plan) (cap i : ℕ) (plan : p ≡ plan_of b) (h g : Hand) (learned : Learned b i h g None) (is : IsHandOf b h) where
   view_same : view_of g ≡ view_of h
   view_same = learned.view
+
+  none_known : (committed : Bool) → None ≡ Some committed → ⊥
+  none_known committed same = cc
 
   module _ (k : Hand) where
     -- it is not decided, and an operation is in doubt
@@ -261,9 +338,11 @@ module _ (b : Board) (p : Plan) (cap i : ℕ) (plan : p ≡ plan_of b) (h g : Ha
       words = all.words;
       goes = all.goes;
       none = all.none;
+      steps = all.stays;
       tells = record {
         culprit = all.tells.culprit;
         inside = all.tells.inside;
+        undecided = λ committed seen. none_known committed (learned.tells.known committed (subst (λ (v : View). IsDecisionSeen v i committed) view_same seen));
         none_settled = λ o inside seen. learned.tells.none_settled refl o (subst (λ (q : Plan). InEvent q i o) plan inside) (subst (λ (v : View). IsSettledSeen v o) view_same seen);
         cause = all.tells.doubt;
         before = λ o inside less. all.tells.before o inside.from less;
@@ -279,6 +358,7 @@ module _ (b : Board) (p : Plan) (cap i : ℕ) (plan : p ≡ plan_of b) (h g : Ha
         words = all.words ++ [];
         goes = goes_then all.goes stands.goes;
         none = none_then all.words [] all.none (λ t inside. absurd (not_inside t inside));
+        steps = decide_steps i (view_of g) (view_of m) committed (decide_later i committed (view_of g) (view_of k) (view_of m) all.stays stands.steps);
         tells = decided_tells committed (record { right = stands.right; known = stands.known });
       })
 
@@ -291,13 +371,15 @@ decided_before b p cap i h g committed plan is free did =
       words = [];
       goes = record { adds = walk.adds; free = walk.claim ∙ free };
       none = λ t inside. absurd (not_inside t inside);
+      steps = decide_steps i (view_of h) (view_of g) committed (inl walk.events);
       tells = decided_tells committed (record { right = ap (λ (q : Plan). verdict q i) plan ∙ did.tells.right committed refl; known = learned_seen b i h g committed did });
     }
 
 -- what the grounds say
 pub may_say : (b : Board) (p : Plan) (cap i : ℕ) (g k : Hand) (r : Decided) (committed : Bool) → r ≡ decided_as committed → HasGrounds b p cap i (event_at p i).first ((event_at p i).first + (event_at p i).count) g k r → MaySayOf p (view_of k) i committed
 may_say b p cap i g k r true same all = λ o inside.
-    (subst (GroundsTell p cap i (event_at p i).first ((event_at p i).first + (event_at p i).count) (view_of g) (view_of k) all.words) same all.tells) o inside.from inside.below
+    let good = (subst (GroundsTell p cap i (event_at p i).first ((event_at p i).first + (event_at p i).count) (view_of g) (view_of k) all.words) same all.tells) o inside.from inside.below in
+    (good.0, record { sources = λ j below. (_, good.1.judged.sources j below); answer_is = good.1.answer })
 may_say b p cap i g k r false same all = subst (GroundsTell p cap i (event_at p i).first ((event_at p i).first + (event_at p i).count) (view_of g) (view_of k) all.words) same all.tells
 
 pub within_event : (p : Plan) (i : ℕ) (e : PlanEvent) (o : ℕ) → e ≡ event_at p i → e.first ≤ o → o < e.first + e.count → InEvent p i o

@@ -19,7 +19,7 @@ use Rattle.op_words.specs.Views.{IsBooked}
 use Rattle.std.specs.Slots.{slots_items}
 use Rattle.op_words.specs.declared.closed.Closed.{Closed}
 use Rattle.op_words.specs.Layout.{decision_base}
-use Rattle.op_words.specs.Hands.{counts_of}
+use Rattle.op_words.specs.Hands.{counts_of, view_of}
 use Rattle.op_words.specs.Journals.{steps_in, IsJournal}
 
 -- the hand of tag t was joined into the one with this view
@@ -55,9 +55,10 @@ words_of c = slots_items c.table.words
 abbrev pub journal_of : Closed → List CoreEvent
 journal_of c = steps_in c.journal
 
--- a board that was closed by the root with this view
+-- a board that was closed by the root with this view, which the board still shows to contracts
 pub record IsClosed (p : Plan) (cap counters : ℕ) (v : View) (c : Closed) : Type 0 where
   pub ends : Ends p cap counters (words_of c) v
   pub decisions : c.decisions ≡ decision_base p
   pub counts : c.counts ≡ counts_of v.events
   pub journal : IsJournal v c.journal
+  pub view_is : v ≡ view_of c.root.value

@@ -24,7 +24,7 @@ use Rattle.op_words.specs.declared.trail.View.{View}
 use Rattle.op_words.specs.Trails.{loaded, left, last_word, IsSourceOf, OfSources, NoneOwn}
 use Rattle.op_words.specs.Views.{IsDecisionSeen, IsRecordSeen, IsSourceSeen, Goes, settling}
 use Rattle.op_words.specs.Calls.{IsSettledRead}
-use Rattle.op_words.specs.Judging.{IsStaleAt, VerdictTells, IsAnswerSeen, IsGoodSeen, IsDoubtful, IsInDoubt}
+use Rattle.op_words.specs.Judging.{MayDecide, IsStaleAt, VerdictTells, IsAnswerSeen, IsGoodSeen, IsJudgedGood, IsDoubtful, IsInDoubt}
 use Rattle.op_words.specs.Hands.{plan_of, view_of, IsHandOf}
 use Rattle.op_words.specs.Stepping.{Looked, Left, IsWalk}
 
@@ -116,20 +116,24 @@ pub record IsConfirmed (b : Board) (o : ℕ) (h g : Hand) (first : OpWord) (verd
 
 -- ---- a verdict, with the word that it is about
 
--- it loads the operation and its sources alone; a stale one is stale at this word
+-- it loads the operation first, and else it and its sources alone; a stale one is stale at this word
 pub record IsJudgedAs (b : Board) (p : Plan) (cap o : ℕ) (h g : Hand) (w : OpWord) (r : Verdict) : Type 0 where
   pub hand : IsHandOf b g
   pub words : List Item
   pub goes : Goes (view_of h) (view_of g) words
   pub none : NoneOwn words
   pub reads : OfReads p o words
+  pub first : OpWord
+  pub rest : List Item
+  pub begins : words ≡ loaded o first ∷ rest
+  pub stays : (view_of g).events ≡ (view_of h).events
   pub tells : VerdictTells p cap o (view_of h) (view_of g) words r
   pub stale : (j kept value : ℕ) → r ≡ Stale j kept value → IsStaleAt p cap o (view_of h) (view_of g) words w j kept value
 
 -- ---- what the operations of an event say of it
 
 abbrev pub WeighTells : Plan → ℕ → ℕ → View → View → List Item → Decided → Type 0
-WeighTells p cap o v u xs Committed = IsGoodSeen p u o
+WeighTells p cap o v u xs Committed = IsJudgedGood p cap o v u xs
 WeighTells p cap o v u xs Aborted = IsAnswerSeen p u o None
 WeighTells p cap o v u xs (Undecided at w) = IsDoubtful p cap o v u xs at w
 
@@ -139,6 +143,10 @@ pub record IsWeighed (b : Board) (p : Plan) (cap o : ℕ) (h g : Hand) (r : Deci
   pub goes : Goes (view_of h) (view_of g) words
   pub none : NoneOwn words
   pub reads : OfReads p o words
+  pub first : OpWord
+  pub rest : List Item
+  pub begins : words ≡ loaded o first ∷ rest
+  pub stays : (view_of g).events ≡ (view_of h).events
   pub tells : WeighTells p cap o (view_of h) (view_of g) words r
 
 -- of the first operations of the event, numbered from `start` below `end`, one is doubtful, those before it are good, and none is bad
@@ -147,12 +155,12 @@ pub record HasDoubt (p : Plan) (cap i start end : ℕ) (v u : View) (xs : List I
   pub inside : InEvent p i culprit
   pub below : culprit < end
   pub doubt : IsDoubtful p cap culprit v u xs at w
-  pub before : (o : ℕ) → start ≤ o → o < culprit → IsGoodSeen p u o
-  pub behind : (o : ℕ) → culprit < o → o < end → IsGoodSeen p u o ⊎ IsInDoubt p cap o v u xs
+  pub before : (o : ℕ) → start ≤ o → o < culprit → IsJudgedGood p cap o v u xs
+  pub behind : (o : ℕ) → culprit < o → o < end → IsJudgedGood p cap o v u xs ⊎ IsInDoubt p cap o v u xs
 
 -- all of them are good; one of them is bad; or one is doubtful
 abbrev pub GroundsTell : Plan → ℕ → ℕ → ℕ → ℕ → View → View → List Item → Decided → Type 0
-GroundsTell p cap i start end v u xs Committed = (o : ℕ) → start ≤ o → o < end → IsGoodSeen p u o
+GroundsTell p cap i start end v u xs Committed = (o : ℕ) → start ≤ o → o < end → IsJudgedGood p cap o v u xs
 GroundsTell p cap i start end v u xs Aborted = (o : ℕ) × InEvent p i o × IsAnswerSeen p u o None
 GroundsTell p cap i start end v u xs (Undecided at w) = HasDoubt p cap i start end v u xs at w
 
@@ -161,6 +169,7 @@ pub record HasGrounds (b : Board) (p : Plan) (cap i start end : ℕ) (h g : Hand
   pub words : List Item
   pub goes : Goes (view_of h) (view_of g) words
   pub none : NoneOwn words
+  pub stays : (view_of g).events ≡ (view_of h).events
   pub tells : GroundsTell p cap i start end (view_of h) (view_of g) words r
 
 -- ---- what a hand has to have seen
@@ -193,6 +202,7 @@ MaySettleIt p v o w z = IsToCommit p v o w z ⊎ IsToAbort p v o w z
 pub record IsConcluded (b : Board) (p : Plan) (i : ℕ) (h g : Hand) (committed : Bool) : Type 0 where
   pub hand : IsHandOf b g
   pub goes : Goes (view_of h) (view_of g) []
+  pub steps : MayDecide i committed (view_of h) (view_of g)
   pub right : verdict p i ≡ committed
   pub known : IsDecisionSeen (view_of g) i committed
 
@@ -202,6 +212,7 @@ pub record IsConcluded (b : Board) (p : Plan) (i : ℕ) (h g : Hand) (committed 
 pub record IsOpened (p : Plan) (o : ℕ) (v u : View) (w : OpWord) : Type 0 where
   pub goes : Goes v u (loaded o w ∷ [])
   pub tag : u.tag ≡ v.tag
+  pub stays : u.events ≡ v.events
 
 abbrev pub SealTells : Board → ℕ → Hand → Hand → OpWord → OpWord → SettleAnswer → Type 0
 SealTells b o h g w z (HasSettledIt x) = Left b h g (settling o z (view_of h)) (left o z) × (x ≡ z.value) × (z.value ≡ final (plan_of b) o)

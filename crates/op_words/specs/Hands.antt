@@ -1,7 +1,7 @@
 -- The board and its hands, as contracts see them.
 use Rattle.std.specs.Prelude.{◌≡◌, ℕ, ◌-◌, ◌^◌, ◌≤◌, ◌<◌, List, [], length, take, min, All, Option, Some, None}
 use Rattle.morph_base.specs.declared.limits.TheConstants.{MAX, READS}
-use Rattle.morph_base.specs.declared.word.TheConstants.{ATTEMPTS}
+use Rattle.morph_base.specs.Limits.{most_attempts}
 use Rattle.morph_base.specs.declared.plan.Plan.{Plan}
 use Rattle.morph_base.specs.Plans.{IsPlan}
 use Rattle.interleaving_core.specs.declared.entry.Held.{Held}
@@ -54,6 +54,7 @@ no_view =
       trail = [];
       places = [];
       events = [];
+      own = [];
       settlings = [];
       joined = [];
     }
@@ -79,7 +80,7 @@ held_of (Some k) = Some (record { op = k.op; attempt = k.attempt; values = fetch
 -- what is held is at one of the attempts, and has a value for each place that was fetched
 pub record Fits (k : Holding) : Type 0 where
   pub first : 1 ≤ k.attempt
-  pub last : k.attempt ≤ ATTEMPTS
+  pub last : k.attempt ≤ most_attempts
   pub count : k.count ≤ READS
   pub len : length k.values ≡ READS
   pub small : All (λ x. x ≤ MAX) (fetched_of k)
@@ -103,7 +104,7 @@ pub record IsHandOf (b : Board) (h : Hand) : Type 0 where
   pub plan : (view_of h).plan.value ≡ plan_of b
   pub cap : (view_of h).cap ≡ cap_of b
   pub valid : IsPlan (plan_of b)
-  pub small : cap_of b < ATTEMPTS
+  pub small : cap_of b < most_attempts
   pub worker : IsWorker (view_of h).tag
   pub counted : (view_of h).tag ≡ 1 → 1 ≤ (view_of h).made
   pub tag : h.tag ≡ (view_of h).tag

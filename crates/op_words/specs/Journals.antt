@@ -1,5 +1,5 @@
 -- The journal of a hand: the first of its own steps, in order.
-use Rattle.std.specs.Prelude.{◌≡◌, ℕ, ◌<◌, List, [], length, reverse, take, Option, Some, None}
+use Rattle.std.specs.Prelude.{◌≡◌, ℕ, ◌<◌, ◌⊎◌, List, [], length, reverse, take, Option, Some, None}
 use Rattle.morph_base.specs.declared.plan.Plan.{Plan}
 use Rattle.interleaving_core.specs.declared.event.CoreEvent.{CoreEvent}
 use Rattle.interleaving_core.specs.Core.{Core, start}
@@ -20,10 +20,16 @@ steps_in (Some j) = j.steps.items
 abbrev pub roomed : ℕ → View → View
 roomed n v = record v { room = n }
 
--- where the root is the only hand made, its journal has its first steps, as many as there is room for
+-- no hand was joined into it, or none was made that could be
+abbrev pub IsUnjoined : View → Type 0
+IsUnjoined v = (v.made ≡ 1) ⊎ (v.joined ≡ [])
+
+-- the journal has the first of the steps that its hand took itself, as many as there is room for; as long as no hand was joined into
+-- it, the steps that its view has are its own
 pub record IsJournal (v : View) (j : Option Journal) : Type 0 where
   pub room : room_in j ≡ v.room
-  pub steps : v.made ≡ 1 → steps_in j ≡ take v.room (reverse v.events)
+  pub steps : steps_in j ≡ take v.room (reverse v.own)
+  pub alone : IsUnjoined v → v.events ≡ v.own
 
 -- the machine takes the journal step by step; where that is not full, it leads to state c
 pub record IsJournalOf (p : Plan) (cap room : ℕ) (journal : List CoreEvent) (c : Core) : Type 0 where

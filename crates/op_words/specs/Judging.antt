@@ -1,11 +1,14 @@
 -- What the calls tell that judge an operation, decide on its event and settle it.
-use Rattle.std.specs.Prelude.{◌≡◌, ◌≢◌, ℕ, ◌≤◌, ◌<◌, ◌⊎◌, Bool, true, false, List, ◌∷◌, Contains, Option, Some, None, if◌then◌else◌}
+use Rattle.std.specs.Prelude.{◌≡◌, ◌≢◌, ℕ, ◌≤◌, ◌<◌, ◌⊎◌, Bool, true, false, List, [], ◌∷◌, ◌++◌, Contains, Option, Some, None, if◌then◌else◌}
 use Rattle.morph_base.specs.declared.plan.Plan.{Plan}
+use Rattle.morph_base.specs.declared.plan.Origin.TheVariants.{Op as Written}
 use Rattle.morph_base.specs.declared.word.OpState.TheVariants.{Claimed, Executed, Failed, Spread}
 use Rattle.morph_base.specs.declared.word.OpWord.{OpWord}
 use Rattle.morph_base.specs.Plans.{event_of, origin_at, final, verdict, InEvent}
 use Rattle.morph_base.specs.Clean.{outcome}
 use Rattle.morph_base.specs.Words.{is_settled}
+use Rattle.interleaving_core.specs.declared.event.CoreEvent.{CoreEvent}
+use Rattle.interleaving_core.specs.declared.event.CoreEvent.TheVariants.{Decide, Settle}
 use Rattle.interleaving_core.specs.Core.{has_run, is_failed, places}
 use Rattle.op_words.specs.declared.answers.Verdict.{Verdict}
 use Rattle.op_words.specs.declared.answers.Verdict.TheVariants.{Good, Bad, Stale, Unready}
@@ -105,9 +108,18 @@ module _ (p : Plan) (cap o : ℕ) (v u : View) (xs : List Item) where
         ((w.state ≡ Claimed) ⊎ (is_settled w.state ≡ true))
         ⊎ (IsDisturbed o xs ⊎ ((verdict p (event_of p o) ≡ true) × ((w.state ≢ Executed) ⊎ IsStaleWord w)))
 
+  -- a source that it needs: each one where the event commits, else that of its target
+  abbrev pub IsNeeded : ℕ → Type 0
+  IsNeeded at = (verdict p (event_of p o) ≡ true) ⊎ (origin_at p o 0 ≡ Written at)
+
   abbrev pub SettleTells : SettleAnswer → Type 0
   SettleTells (HasSettledIt x) = IsDone x
-  SettleTells (Unsettled at w) = ((at ≡ o) × IsOwnUnsettled w) ⊎ ((at ≢ o) × IsSourceOpen p cap o v u xs at w)
+  SettleTells (Unsettled at w) = ((at ≡ o) × IsOwnUnsettled w) ⊎ ((at ≢ o) × IsSourceOpen p cap o v u xs at w × IsNeeded at)
+
+-- the steps that the call takes: one where it settled the operation, else none
+abbrev pub settle_steps : ℕ → ℕ → SettleAnswer → List CoreEvent
+settle_steps o tag (HasSettledIt x) = Settle o tag ∷ []
+settle_steps o tag (Unsettled at w) = []
 
 -- on its sources, which the hand saw settled, the operation answers; it fails
 pub record IsAnswerSeen (p : Plan) (u : View) (o : ℕ) (answer : Option ℕ) : Type 0 where
@@ -117,12 +129,23 @@ pub record IsAnswerSeen (p : Plan) (u : View) (o : ℕ) (answer : Option ℕ) : 
 abbrev pub IsGoodSeen : Plan → View → ℕ → Type 0
 IsGoodSeen p u o = (x : ℕ) × IsAnswerSeen p u o (Some x)
 
--- it is not ready, or stale, at word w of operation `at`; at some word
+-- it is not ready, or stale, at word w of operation `at`
 abbrev pub IsDoubtful : Plan → ℕ → ℕ → View → View → List Item → ℕ → OpWord → Type 0
 IsDoubtful p cap o v u xs at w = ((at ≡ o) × (IsOwnUnready p cap o v u xs w ⊎ IsStaleWord p cap o v u xs w)) ⊎ IsSourceOpen p cap o v u xs at w
 
-abbrev pub IsInDoubt : Plan → ℕ → ℕ → View → View → List Item → Type 0
-IsInDoubt p cap o v u xs = (at : ℕ) × (w : OpWord) × IsDoubtful p cap o v u xs at w
+-- it is so by what was loaded from a load of its own word on: what other operations were judged by before that is left out
+pub record IsInDoubt (p : Plan) (cap o : ℕ) (v u : View) (xs : List Item) : Type 0 where
+  pub front : List Item
+  pub first : OpWord
+  pub rest : List Item
+  pub split : xs ≡ front ++ (loaded o first ∷ rest)
+  pub at : ℕ
+  pub word : OpWord
+  pub doubt : IsDoubtful p cap o v u (loaded o first ∷ rest) at word
+
+-- it was judged good
+abbrev pub IsJudgedGood : Plan → ℕ → ℕ → View → View → List Item → Type 0
+IsJudgedGood p cap o v u xs = (x : ℕ) × IsGood p cap o v u xs x
 
 module _ (p : Plan) (cap i : ℕ) (v u : View) (xs : List Item) where
   -- committed or aborted as the fold does, and the hand knows it
@@ -130,20 +153,30 @@ module _ (p : Plan) (cap i : ℕ) (v u : View) (xs : List Item) where
     pub right : verdict p i ≡ committed
     pub known : IsDecisionSeen u i committed
 
-  -- no decision: no operation of the event had been seen settled, and one of them is not ready or stale; those before it are good,
-  -- and each behind it is good, or not ready or stale too: none is bad
+  -- no decision: none had been seen, and no operation of the event settled, and one of them is not ready or stale; those before it were
+  -- judged good, and each behind it was judged good, or is not ready or stale too: none is bad
   pub record IsUndecided (at : ℕ) (w : OpWord) : Type 0 where
     pub culprit : ℕ
     pub inside : InEvent p i culprit
+    pub undecided : (committed : Bool) → IsDecisionSeen v i committed → ⊥
     pub none_settled : (o : ℕ) → InEvent p i o → IsSettledSeen v o → ⊥
     pub cause : IsDoubtful p cap culprit v u xs at w
-    pub before : (o : ℕ) → InEvent p i o → o < culprit → IsGoodSeen p u o
-    pub behind : (o : ℕ) → InEvent p i o → culprit < o → IsGoodSeen p u o ⊎ IsInDoubt p cap o v u xs
+    pub before : (o : ℕ) → InEvent p i o → o < culprit → IsJudgedGood p cap o v u xs
+    pub behind : (o : ℕ) → InEvent p i o → culprit < o → IsJudgedGood p cap o v u xs ⊎ IsInDoubt p cap o v u xs
 
   abbrev pub DecideTells : Decided → Type 0
   DecideTells Committed = IsDecided true
   DecideTells Aborted = IsDecided false
   DecideTells (Undecided at w) = IsUndecided at w
+
+-- the call took no step, or decided the event
+abbrev pub MayDecide : ℕ → Bool → View → View → Type 0
+MayDecide i committed v u = (u.events ≡ v.events) ⊎ (u.events ≡ Decide i committed ∷ v.events)
+
+abbrev pub DecideSteps : ℕ → View → View → Decided → Type 0
+DecideSteps i v u Committed = MayDecide i true v u
+DecideSteps i v u Aborted = MayDecide i false v u
+DecideSteps i v u (Undecided at w) = u.events ≡ v.events
 
 -- ---- the calls, with what they add
 
@@ -152,12 +185,14 @@ module _ (p : Plan) (cap o : ℕ) (v u : View) where
     pub words : List Item
     pub goes : Goes v u words
     pub none : NoneOwn words
+    pub stays : u.events ≡ v.events
     pub tells : VerdictTells p cap o v u words r
 
   pub record SettleDoes (r : SettleAnswer) : Type 0 where
     pub words : List Item
     pub goes : Goes v u words
     pub own : OwnOn o words
+    pub steps : u.events ≡ settle_steps o v.tag r ++ v.events
     pub tells : SettleTells p cap o v u words r
 
 -- of an event
@@ -165,4 +200,5 @@ pub record DecideDoes (p : Plan) (cap i : ℕ) (v u : View) (r : Decided) : Type
   pub words : List Item
   pub goes : Goes v u words
   pub none : NoneOwn words
+  pub steps : DecideSteps i v u r
   pub tells : DecideTells p cap i v u words r

@@ -14,6 +14,7 @@ use Rattle.interleaving_core.specs.Core.{blocked, ready, claimed, places, record
 use Rattle.interleaving_core.specs.Steps.{May, after, spread_of}
 use Rattle.op_words.specs.declared.trail.View.{View}
 use Rattle.op_words.specs.Views.{looked, making, claiming, fetching, finishing, giving_back, spreading, rolling_back, recalling, learning, deciding, settling, last_op, last_place, parent, child, merged}
+use Rattle.op_words.specs.Journals.{roomed}
 use Rattle.op_words.specs.Layout.{record_index, packed_record, decision_base, packed_decision, level_index, counter_base}
 use Rattle.op_words.specs.Rule.{Seats, Lawful, Stays, Steps, most_taken}
 use Rattle.op_words.specs.Counting.{taking, times}
@@ -119,6 +120,10 @@ module _ (p : Plan) (cap counters : ℕ) (m : Moment p cap counters) where
   -- whatever becomes of the level word
   abbrev pub Lowers : Type 0
   Lowers = (a : ℕ) → IsNone (turned m.table m.seat (slice_set m.table.words (level_index p) a) m.view)
+
+  -- a step on the level word that leaves what stands there, by which the hand gets room for so many steps in its journal
+  abbrev pub GetsRoom : Type 0
+  GetsRoom = (n : ℕ) → IsNone (turned m.table m.seat (slice_set m.table.words (level_index p) (slice_index m.table.words (level_index p))) (roomed n m.view))
 
   -- the root makes a hand
   abbrev pub MakesHand : Type 0

@@ -1,11 +1,14 @@
 -- What the calls that take a value back tell: a failure is spread to another operation of its event, and an operation is rolled
 -- back to its next attempt.
-use Rattle.std.specs.Prelude.{◌≡◌, ◌≢◌, ℕ, ◌+◌, ◌≤◌, ◌<◌, ◌⊎◌, true, false, List, Contains}
+use Rattle.std.specs.Prelude.{◌≡◌, ◌≢◌, ℕ, ◌+◌, ◌≤◌, ◌<◌, ◌⊎◌, true, false, List, [], ◌∷◌, ◌++◌, Contains}
 use Rattle.morph_base.specs.declared.plan.Plan.{Plan}
+use Rattle.morph_base.specs.declared.plan.Origin.TheVariants.{Op as Written}
 use Rattle.morph_base.specs.declared.word.OpState.TheVariants.{Executed, Spread as IsSpreadState}
 use Rattle.morph_base.specs.declared.word.OpWord.{OpWord}
 use Rattle.morph_base.specs.Plans.{op_count, event_of, origin_at}
 use Rattle.morph_base.specs.Words.{is_evaluated, is_idle}
+use Rattle.interleaving_core.specs.declared.event.CoreEvent.{CoreEvent}
+use Rattle.interleaving_core.specs.declared.event.CoreEvent.TheVariants.{Spread as SpreadStep, RollBack}
 use Rattle.interleaving_core.specs.Core.{blocked, spread, entry_of}
 use Rattle.interleaving_core.specs.Counts.{spreads, rolled}
 use Rattle.op_words.specs.declared.answers.Rolled.{Rolled}
@@ -87,25 +90,37 @@ module _ (p : Plan) (cap o : ℕ) (v u : View) (xs : List Item) where
     pub read : IsRead xs (origin_at p o j) value
     pub recorded : IsRecordSeen u o j word value
 
-  -- or a source has no value, or is not settled where the operation is at the cap, or spread with a record that is right
+  -- or the source at place j has no value, or a source is not settled where the operation is at the cap, or spread with a record
+  -- that is right
   pub record IsSourceUnrolled (j at : ℕ) (w : OpWord) : Type 0 where
     pub source_open : IsSourceOpen p cap o v u xs at w
     pub none : NoneOwn xs
-    pub cause : (is_idle w.state ≡ true) ⊎ ((source_open.own.attempt ≡ cap) ⊎ IsSpreadAside j source_open.own)
+    pub cause : ((origin_at p o j ≡ Written at) × (is_idle w.state ≡ true)) ⊎ ((source_open.own.attempt ≡ cap) ⊎ IsSpreadAside j source_open.own)
 
   abbrev pub RollTells : ℕ → Rolled → Type 0
   RollTells j HasRolled = IsRolled
   RollTells j (Fresh x) = IsUpToDate j x
   RollTells j (Unrolled at w) = ((at ≡ o) × IsOwnUnrolled w) ⊎ ((at ≢ o) × IsSourceUnrolled j at w)
 
+-- the steps that the calls take: one where they took the value back, else none
+abbrev pub spread_steps : ℕ → ℕ → Spreaded → List CoreEvent
+spread_steps o sibling HasSpread = SpreadStep o sibling ∷ []
+spread_steps o sibling (Unspread w) = []
+
+abbrev pub roll_steps : ℕ → ℕ → Rolled → List CoreEvent
+roll_steps o j HasRolled = RollBack o j ∷ []
+roll_steps o j (Fresh x) = []
+roll_steps o j (Unrolled at w) = []
+
 -- ---- the calls, with what they add
 
 module _ (p : Plan) (cap o : ℕ) (v u : View) where
-  pub record SpreadDoes (r : Spreaded) : Type 0 where
+  pub record SpreadDoes (sibling : ℕ) (r : Spreaded) : Type 0 where
     pub words : List Item
     pub goes : Goes v u words
     pub own : OwnOn o words
     pub open_own : OwnOpen words
+    pub steps : u.events ≡ spread_steps o sibling r ++ v.events
     pub tells : SpreadTells p cap o v u words r
 
   pub record RollDoes (j : ℕ) (r : Rolled) : Type 0 where
@@ -113,4 +128,5 @@ module _ (p : Plan) (cap o : ℕ) (v u : View) where
     pub goes : Goes v u words
     pub own : OwnOn o words
     pub open_own : OwnOpen words
+    pub steps : u.events ≡ roll_steps o j r ++ v.events
     pub tells : RollTells p cap o v u words j r

@@ -5,8 +5,7 @@ use Rattle.std.specs.declared.snapshot.Snapshot.{Snapshot}
 use mathlib.Core.Option.{some}
 use lib.ListN.{get_elem?}
 use Rattle.atomic_table.specs.Table.{State}
-use Rattle.morph_base.specs.declared.limits.TheConstants.{WORKERS}
-use Rattle.morph_base.specs.declared.word.TheConstants.{ATTEMPTS}
+use Rattle.morph_base.specs.Limits.{most_attempts, most_workers}
 use Rattle.morph_base.specs.declared.plan.Plan.{Plan}
 use Rattle.morph_base.specs.Graphs.{below}
 use Rattle.morph_base.specs.Plans.{IsPlan}
@@ -43,6 +42,7 @@ first_view plan cap =
       trail = [];
       places = [];
       events = [];
+      own = [];
       settlings = [];
       joined = [];
     }
@@ -105,7 +105,7 @@ pub record Sums (c : Core) (history : List CoreEvent) (vs : List (Option View)) 
 
 pub record Lawful (p : Plan) (cap counters : ℕ) (s : Seats) : Type 0 where
   pub valid : IsPlan p
-  pub small : cap < ATTEMPTS
+  pub small : cap < most_attempts
   -- the state of the machine that is shown, and the steps that led to it, the last one first
   pub core : Core
   pub history : List CoreEvent
@@ -117,7 +117,7 @@ pub record Lawful (p : Plan) (cap counters : ℕ) (s : Seats) : Type 0 where
   pub spent : (i : ℕ) → get_elem? s.views i ≡ some None → core.claim (i + 1) ≡ None
   pub nobody : (t : ℕ) → length s.views < t → core.claim t ≡ None
   pub no_worker : core.claim 0 ≡ None
-  pub most : length s.views ≤ WORKERS
+  pub most : length s.views ≤ most_workers
   pub sums : Sums core history s.views
   pub numbers : HasNumbers p counters s.words s.views
   -- where the root is the only hand ever made, each word is the one that it last loaded or left, and all steps are its own: so

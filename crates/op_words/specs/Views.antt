@@ -133,7 +133,7 @@ looked o w v = looking (loaded o w ∷ []) v
 
 -- the word w was left on operation o by the step e
 abbrev pub leaving : ℕ → OpWord → CoreEvent → View → View
-leaving o w e v = record v { notes = v.notes ++ left o w ∷ []; trail = v.trail ++ left o w ∷ []; events = e ∷ v.events }
+leaving o w e v = record v { notes = v.notes ++ left o w ∷ []; trail = v.trail ++ left o w ∷ []; events = e ∷ v.events; own = e ∷ v.own }
 
 -- it was made ready at attempt a; claimed
 abbrev pub making : ℕ → ℕ → View → View
@@ -144,7 +144,12 @@ claiming o a v = record (leaving o (claimed a v.tag) (Claim o v.tag) v) { claim 
 
 -- the next place of what is held got the value x
 abbrev pub fetching : Held → ℕ → View → View
-fetching h x v = record v { claim = Some (record { op = h.op; attempt = h.attempt; values = h.values ++ x ∷ [] }); events = Fetch h.op (length h.values) v.tag x ∷ v.events }
+fetching h x v =
+    record v {
+      claim = Some (record { op = h.op; attempt = h.attempt; values = h.values ++ x ∷ [] });
+      events = Fetch h.op (length h.values) v.tag x ∷ v.events;
+      own = Fetch h.op (length h.values) v.tag x ∷ v.own;
+    }
 
 -- the values xs as records of the operation under word w, from place k on
 unfoldable pub records_from : ℕ → ℕ → OpWord → List ℕ → List RecordSeen
@@ -170,7 +175,7 @@ learning i (Some committed) v = record v { decisions = v.decisions ++ record { e
 
 -- it was made
 abbrev pub deciding : ℕ → Bool → View → View
-deciding i committed v = record (learning i (Some committed) v) { events = Decide i committed ∷ v.events }
+deciding i committed v = record (learning i (Some committed) v) { events = Decide i committed ∷ v.events; own = Decide i committed ∷ v.own }
 
 -- the operation was settled
 abbrev pub settling : ℕ → OpWord → View → View
@@ -212,6 +217,7 @@ child v =
       trail = [];
       places = [];
       events = [];
+      own = [];
       settlings = [];
       joined = [];
     }
@@ -248,7 +254,7 @@ pub record Adds (v u : View) (xs : List Item) : Type 0 where
   pub joined : u.joined ≡ v.joined
   -- it took no number from a counter; its steps, the last one first
   pub places : u.places ≡ v.places
-  pub events : (es : List CoreEvent) × (u.events ≡ es ++ v.events)
+  pub events : (es : List CoreEvent) × (u.events ≡ es ++ v.events) × (u.own ≡ es ++ v.own)
   pub agree : Agrees u
   pub steady : IsSteady v.tag v.notes xs
   pub calm : IsLone v → IsCalm v.trail xs

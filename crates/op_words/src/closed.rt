@@ -1,13 +1,15 @@
 //! A board after its end.
-ghost use Rattle.std.specs.Prelude.{◌≡◌, ℕ, ◌<◌, ◌≤◌, length};
+ghost use Rattle.std.specs.Prelude.{◌≡◌, ℕ, ◌<◌, ◌≤◌, length, reverse, take};
 ghost use Rattle.std.specs.Slots.{slots_len, IsFull};
 
 use crate::answers::Counts;
+use crate::board::Hand;
 use crate::journal::Journal;
 use atomic_table::Closed as ClosedTable;
 use interleaving_core::CoreEvent;
 use morph_base::OpWord;
 use std::alloc::Global;
+use std::snapshot::Snapshot;
 
 /// A board on which nobody steps any more. Its words stand still, and can be read until it is dropped.
 pub struct Closed {
@@ -16,6 +18,8 @@ pub struct Closed {
     pub(crate) decisions: usize,
     pub(crate) counts: Counts,
     pub(crate) journal: Option<Journal>,
+    /// The hand that closed it, as contracts see it: its view has the trails of all hands.
+    pub(crate) root: Snapshot<Hand>,
     ghost full: { IsFull table.words },
     ghost slotless: { slots_len table.slots ≡ 0 },
 }
@@ -27,6 +31,7 @@ impl Drop for Closed {
             decisions: _,
             counts: _,
             journal,
+            root: _,
         } = self;
         drop(journal);
         table.free();
@@ -67,10 +72,13 @@ impl Closed {
         if word == 0 { None } else { Some(word == 1) }
     }
 
-    /// The steps that the root wrote down, in order; none where it kept no journal. Where it was the only hand made the
-    /// machine takes them one after another, and where there was room for more they are all.
+    /// The first of the steps that the root took itself, in order, as many as it had room for; none if it kept no
+    /// journal. If it was the only hand made, the machine takes them one after another, and if there was room for
+    /// more they are all.
     pub fn journal(&self) -> &[CoreEvent]
         ensures steps { result.now ≡ journal_of self.now }
+        ensures own { (p : Plan) (cap counters : ℕ) (v : View) → IsClosed p cap counters v self.now
+            → result.now ≡ take v.room (reverse v.own) }
         ensures few { (p : Plan) (cap counters : ℕ) (v : View) → IsClosed p cap counters v self.now
             → length result.now ≤ v.room }
         ensures leads { (p : Plan) (cap counters : ℕ) (v : View)

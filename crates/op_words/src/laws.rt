@@ -2,9 +2,12 @@
 //!
 //! The rule of the table has the state of the machine that the words show, and the steps that led to it. Each atomic
 //! step of a hand keeps the rule, and says what becomes of that state.
-ghost use Rattle.std.specs.Prelude.{ℕ};
+ghost use Rattle.std.specs.Prelude.{◌≡◌, ℕ};
 ghost use Rattle.morph_base.specs.declared.plan.Plan.{Plan};
-ghost use Rattle.op_words.specs.Kinds.{Moment, Loads, Makes, Claims, Records, Finishes, GivesBack, Spreads, RollsBack, Decides, Settles, LoadsRecord, LoadsDecision, Takes, Lowers, MakesHand, Joins, HoldsAlone};
+ghost use Rattle.op_words.specs.declared.closed.Closed.{Closed};
+ghost use Rattle.op_words.specs.declared.trail.View.{View};
+ghost use Rattle.op_words.specs.Closing.{IsClosed};
+ghost use Rattle.op_words.specs.Kinds.{Moment, Loads, Makes, Claims, Records, Finishes, GivesBack, Spreads, RollsBack, Decides, Settles, LoadsRecord, LoadsDecision, Takes, Lowers, GetsRoom, MakesHand, Joins, HoldsAlone};
 
 /// Each atomic step is a step of the machine, or leaves its state as it was.
 ///
@@ -39,6 +42,8 @@ pub fn each_step()
         → Takes p cap counters m }
     ensures lowers { (p : Plan) (cap counters : ℕ) (m : Moment p cap counters)
         → Lowers p cap counters m }
+    ensures gets_room { (p : Plan) (cap counters : ℕ) (m : Moment p cap counters)
+        → GetsRoom p cap counters m }
     ensures makes_hand { (p : Plan) (cap counters : ℕ) (m : Moment p cap counters)
         → MakesHand p cap counters m }
     ensures joins { (p : Plan) (cap counters : ℕ) (m : Moment p cap counters)
@@ -48,4 +53,10 @@ pub fn each_step()
 /// An operation is held by at most one hand at a time.
 pub fn one_holder()
     ensures { (p : Plan) (cap counters : ℕ) → HoldsAlone p cap counters }
+{}
+
+/// A closed board shows one view alone: the trail of the root that closed it, and those of the hands joined into it.
+pub fn one_view()
+    ensures { (p q : Plan) (cap most counters many : ℕ) (v u : View) (c : Closed)
+        → IsClosed p cap counters v c → IsClosed q most many u c → v ≡ u }
 {}

@@ -84,8 +84,10 @@ pub struct View {
     pub trail: LinkedList<Item>,
     /// The numbers that it took from counters.
     pub places: LinkedList<Place>,
-    /// Its steps of the machine, the last one first.
+    /// Its steps of the machine, the last one first; those of hands joined into it too.
     pub events: LinkedList<CoreEvent>,
+    /// The steps that it took itself, the last one first.
+    pub own: LinkedList<CoreEvent>,
     /// The operations that it settled.
     pub settlings: LinkedList<Settling>,
     /// What the hands that were joined into it left.

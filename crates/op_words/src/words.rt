@@ -1,7 +1,7 @@
 //! The numbers that stand in the board's row of words.
 ghost use Rattle.std.specs.Prelude.{◌≡◌, ◌≤◌, ◌↔◌, ◌⊎◌, Bool, true, false, IfOk, IsTrue, Option, Some};
 ghost use Rattle.morph_base.specs.declared.limits.TheConstants.{MAX};
-ghost use Rattle.morph_base.specs.declared.word.TheConstants.{ATTEMPTS};
+ghost use Rattle.morph_base.specs.Limits.{most_attempts};
 ghost use Rattle.morph_base.specs.Plans.{IsPlan};
 ghost use Rattle.morph_base.specs.Words.{is_idle, is_settled, has_run as is_run};
 ghost use Rattle.interleaving_core.specs.declared.entry.Record.{Record};
@@ -108,7 +108,7 @@ pub(crate) fn spread(attempt: u8, value: u64) -> OpWord
 /// A record as one number: bits 0 to 43 are its value, bits 44 to 47 the attempt that recorded it, and bit 48 is 1.
 pub(crate) fn pack_record(value: u64, attempt: u8) -> u64
     requires value { value ≤ MAX }
-    requires attempt { (1 ≤ attempt) × (attempt ≤ ATTEMPTS) }
+    requires attempt { (1 ≤ attempt) × (attempt ≤ most_attempts) }
     ensures { result ≡ packed_record (Some (record { value = value; attempt = attempt })) }
 {
     ready(attempt).pack() + value

@@ -1,7 +1,6 @@
 //! The calls of the board. Each is made of the single steps of `steps`.
 ghost use Rattle.std.specs.Prelude.{◌≡◌, ℕ, ◌+◌, ◌<◌, ◌↔◌, List, length, None, IfOk, IsTrue};
-ghost use Rattle.morph_base.specs.declared.limits.TheConstants.{WORKERS};
-ghost use Rattle.morph_base.specs.declared.word.TheConstants.{ATTEMPTS};
+ghost use Rattle.morph_base.specs.Limits.{most_attempts, most_workers};
 ghost use Rattle.morph_base.specs.Plans.{IsPlan, op_count, origin_at};
 ghost use Rattle.morph_base.specs.declared.plan.Origin.TheVariants.{Op as Written};
 ghost use Rattle.morph_base.specs.Words.{IsWord};
@@ -33,7 +32,7 @@ impl Board {
         counters: u32,
     ) -> Result<(Board, Hand), OutOfMemory>
         requires plan { IsPlan plan.now }
-        requires cap { cap < ATTEMPTS }
+        requires cap { cap < most_attempts }
         ensures plan { IfOk result (λ r. plan_of r.0 ≡ plan.now) }
         ensures cap { IfOk result (λ r. cap_of r.0 ≡ cap) }
         ensures counters { IfOk result (λ r. counters_of r.0 ≡ counters) }
@@ -79,7 +78,7 @@ impl Board {
     pub fn split(&self, root: &mut Hand) -> Hand
         requires hand { IsHandOf self.now root.old }
         requires root { (view_of root.old).tag ≡ 1 }
-        requires few { (view_of root.old).made < WORKERS }
+        requires few { (view_of root.old).made < most_workers }
         ensures root { IsHandOf self.now root.new }
         ensures hand { IsHandOf self.now result }
         ensures parent { view_of root.new ≡ parent (view_of root.old) }
@@ -212,7 +211,7 @@ impl Board {
 
     /// Whether the attempt is the last one, at which only settled values are read.
     fn is_last(&self, attempt: u8) -> bool
-        requires { cap_of self.now < ATTEMPTS }
+        requires { cap_of self.now < most_attempts }
         ensures { IsTrue result ↔ (attempt ≡ cap_of self.now + 1) }
     {
         attempt == self.cap + 1

@@ -6,6 +6,7 @@ ghost use Rattle.op_words.specs.Hands.{plan_of, cap_of, counters_of, view_of, Is
 use super::{Board, Hand};
 use crate::closed::Closed;
 use morph_base::Plan;
+use std::snapshot::Snapshot;
 
 impl Board {
     /// Ends the board, once every other hand is joined into the root.
@@ -17,6 +18,7 @@ impl Board {
         ensures { IsClosed (plan_of self) (cap_of self) (counters_of self) (view_of root) result }
     {
         let decisions = self.level - plan.events.len();
+        let shown = Snapshot::of(&root);
         let Board { table, .. } = self;
         let Hand {
             seat,
@@ -29,6 +31,7 @@ impl Board {
             decisions,
             counts,
             journal,
+            root: shown,
         }
     }
 }

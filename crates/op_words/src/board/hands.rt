@@ -30,7 +30,7 @@ impl Hand {
         }
     }
 
-    /// Keeps a journal from now on: its steps in order, as many as there is room for. The root of a new board may, which
+    /// Keeps a journal from now on: its own steps in order, as many as there is room for. The root of a new board may, which
     /// has made no step and no other hand. Where memory is refused it stays as it was.
     pub fn keep(&mut self, alloc: Global, board: &Board, room: usize) -> Result<(), OutOfMemory>
         requires hand { IsHandOf board.now self.old }

@@ -25,7 +25,7 @@ impl Board {
         requires free { (view_of hand.old).claim ≡ None }
         ensures hand { IsHandOf self.now hand.new }
         ensures does { SpreadDoes plan.now (cap_of self.now) op (view_of hand.old)
-            (view_of hand.new) result }
+            (view_of hand.new) sibling result }
     {
         let word = self.look(hand, op);
         if !self.may_spread(word) {

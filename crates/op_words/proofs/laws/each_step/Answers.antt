@@ -1,9 +1,10 @@
 use Rattle.std.proofs.Common.{◌+◌, arith, refl, subst}
-use Rattle.std.specs.Prelude.{slice_set}
+use Rattle.std.specs.Prelude.{slice_index, slice_set}
 use Rattle.morph_base.specs.Words.{packed}
 use Rattle.interleaving_core.specs.declared.event.CoreEvent.TheVariants.{Spread as SpreadStep, RollBack}
 use Rattle.interleaving_core.specs.Core.{blocked}
 use Rattle.interleaving_core.specs.Steps.{May, spread_of}
+use Rattle.op_words.specs.Layout.{level_index}
 use Rattle.op_words.specs.Views.{spreading, rolling_back}
 use Rattle.op_words.specs.Rule.{Steps}
 use Rattle.op_words.specs.Kinds.{turned}
@@ -16,6 +17,7 @@ use Rattle.op_words.proofs.Deciding.{decided_steps}
 use Rattle.op_words.proofs.Settling.{any_settled}
 use Rattle.op_words.proofs.Recalling.{recalled_stays, learned_stays}
 use Rattle.op_words.proofs.Taking.{taken_stays, level_stays}
+use Rattle.op_words.proofs.Fitting.{fit_stays}
 use Rattle.op_words.proofs.Splitting.{split_stays}
 use Rattle.op_words.proofs.Joining.{joined_stays}
 use Rattle.op_words.proofs.Storing.{places_few}
@@ -44,6 +46,7 @@ returns c = record {
   loads_decision = λ p cap counters m i lt. learned_stays m.table m.lawful m.seat m.view m.there i lt (m.lawful.core.decision i) refl;
   takes = λ p cap counters m k below few. taken_stays m.table m.lawful m.seat m.view m.there k below few;
   lowers = λ p cap counters m a. level_stays m.table m.lawful m.seat m.view m.there a;
+  gets_room = λ p cap counters m n. fit_stays m.table m.lawful m.seat m.view m.there (slice_index m.table.words (level_index p)) n;
   makes_hand = λ p cap counters m root few. split_stays m.table m.lawful m.seat m.view m.there root few;
   joins = λ p cap counters m o w there other root free. joined_stays m.table m.lawful m.seat o m.view w m.there there other root free;
 }

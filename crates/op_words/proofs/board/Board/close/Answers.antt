@@ -1,10 +1,10 @@
-use Rattle.std.proofs.Common.{◌≡◌, ap, arith, subst, ◌∙◌, Option}
+use Rattle.std.proofs.Common.{◌≡◌, ap, arith, subst, sym, ◌∙◌, Option}
 use Rattle.std.specs.Slots.{slots_items}
 use Rattle.atomic_table.specs.Table.{Final, Seen}
 use Rattle.morph_base.specs.declared.plan.Plan.{Plan}
 use Rattle.morph_base.specs.Plans.{event_count}
 use Rattle.op_words.specs.declared.trail.View.{View}
-use Rattle.op_words.specs.Hands.{plan_of, cap_of, counters_of}
+use Rattle.op_words.specs.Hands.{plan_of, cap_of, counters_of, view_of}
 use Rattle.op_words.specs.Plays.{Sat}
 use Rattle.op_words.specs.Rule.{Lawful}
 use Rattle.op_words.proofs.Closing.{closed_ends}
@@ -21,4 +21,5 @@ returns c = record {
       omega (arith, level, many);
   counts = c.requires.root.counts;
   journal = c.requires.root.journal;
+  view_is = ap view_of (sym c.of-shown.ensures);
 }

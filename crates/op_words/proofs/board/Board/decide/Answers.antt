@@ -1,11 +1,12 @@
-use Rattle.std.proofs.Common.{◌+◌, sym, subst}
-use Rattle.op_words.specs.Judging.{DecideDoes}
+use Rattle.std.proofs.Common.{◌≡◌, ◌+◌, Bool, true, false, sym, subst}
+use Rattle.op_words.specs.Judging.{DecideDoes, decided_as}
 use Rattle.op_words.specs.Hands.{cap_of, view_of}
-use Rattle.op_words.specs.Comparing.{HasGrounds}
+use Rattle.op_words.specs.Comparing.{HasGrounds, MaySayOf}
 use Rattle.op_words.specs.Stepping.{Learned}
 use Rattle.morph_base.specs.Plans.{event_at}
-use Rattle.op_words.proofs.Weighing.{decided_before, decided_now, undecided}
+use Rattle.op_words.proofs.Weighing.{decided_before, decided_now, may_say, undecided}
 use Rattle.op_words.proofs.board.Board.decide.Goals as goal
+use Rattle.op_words.proofs.board.Board.decide.Goals.{in-Committed, in-Aborted}
 
 pub returns-in-Some-clause-does : goal.returns-in-Some-clause-does
 returns-in-Some-clause-does c =
@@ -23,3 +24,13 @@ returns-clause-does c =
     let b = c.args.self.now in let p = c.args.plan.now in let i = c.args.event in
     subst (DecideDoes p (cap_of b) i (view_of c.args.hand.now) (view_of c.conclude.new.hand)) (sym c.of-2.ensures)
     (decided_now b p (cap_of b) i c.requires.plan c.args.hand.now c.learn.new.hand (subst (Learned b i c.args.hand.now c.learn.new.hand) c.in_default.is c.learn.ensures) c.requires.hand c.grounds.new.hand _ _ c.conclude.new.hand c.conclude.result c.grounds.result c.grounds.ensures c.conclude.ensures)
+
+pub conclude-requires-clause-grounds : goal.conclude-requires-clause-grounds
+conclude-requires-clause-grounds c =
+    let b = c.args.self.now in let p = c.args.plan.now in let i = c.args.event in
+    let says : (committed : Bool) → c.grounds.result ≡ decided_as committed → c.match-grounds.committed ≡ committed → MaySayOf p (view_of c.grounds.new.hand) i c.match-grounds.committed =
+    λ committed same is. subst (MaySayOf p (view_of c.grounds.new.hand) i) (sym is) (may_say b p (cap_of b) i c.learn.new.hand c.grounds.new.hand c.grounds.result committed same c.grounds.ensures) in
+    elim c.match-grounds.branch [
+      | in-Committed w ↦ says true w.in-Committed.is w.committed-is
+      | in-Aborted w ↦ says false w.in-Aborted.is w.committed-is
+    ]

@@ -31,4 +31,4 @@ returns c =
     let h = c.requires.hand in
     let done = c.store.ensures.2 _ (ap (λ (m : Sat). m.0) h.seat) (record { op = c.args.op; attempt = c.args.attempt; values = c.requires.held.0 }) c.requires.held.1 in
     left_hand c.args.self.now c.args.hand.now _ h c.store.ensures.0 (giving_back c.args.op c.args.attempt (view_of c.args.hand.now)) (left c.args.op (blocked c.args.attempt)) done.0 refl refl
-    (kept_step c.args.hand.now _ _ _ (kept h) refl refl refl (record { room = c.note.ensures.room; steps = c.note.ensures.steps ∙ ap (λ (t : ℕ). take (room_in c.args.hand.now.journal) (steps_in c.args.hand.now.journal ++ GiveBack c.args.op t ∷ [])) h.tag }) refl refl refl refl refl refl refl refl (λ k e. absurd (none-some k e))) done.1
+    (kept_step c.args.hand.now _ _ _ (kept h) refl refl refl (record { room = c.note.ensures.room; steps = c.note.ensures.steps ∙ ap (λ (t : ℕ). take (room_in c.args.hand.now.journal) (steps_in c.args.hand.now.journal ++ GiveBack c.args.op t ∷ [])) h.tag }) refl refl refl refl refl refl refl refl refl refl (λ k e. absurd (none-some k e))) done.1

@@ -1,4 +1,4 @@
-use Rattle.std.proofs.Common.{◌≡◌, ◌+◌, ℕ, arith, ap, sym, subst}
+use Rattle.std.proofs.Common.{◌≡◌, ◌+◌, ◌≤◌, ℕ, arith, ap, sym, subst}
 use Rattle.morph_base.specs.declared.plan.PlanEvent.{PlanEvent}
 use Rattle.morph_base.specs.Plans.{IsPlan, event_at, no_event}
 use Rattle.morph_base.proofs.NumberLaws.{op_count-small}
@@ -8,6 +8,9 @@ use Rattle.op_words.specs.Hands.{cap_of}
 use Rattle.op_words.specs.Comparing.{HasGrounds}
 use Rattle.op_words.proofs.Weighing.{grounds_none, grounds_more, grounds_bad, and_fine, within_event}
 use Rattle.op_words.proofs.board.Board.grounds.Goals as goal
+
+begins : (e f : PlanEvent) → e ≡ f → f.first ≤ e.first
+begins e f same = let first = ap (λ (x : PlanEvent). x.first) same in omega (arith, first)
 
 pub overflow_add-end : goal.overflow_add-end
 overflow_add-end c =
@@ -19,7 +22,9 @@ overflow_add-end c =
     omega (arith, room, few, same)
 
 pub loop-op-init : goal.loop-op-init
-loop-op-init c = (grounds_none c.args.self.now c.args.plan.now _ c.args.event _ (subst IsPlan (sym c.requires.plan) c.requires.hand.valid) c.requires.in_range c.args.hand.now c.requires.hand c.requires.free, λ same. apart same)
+loop-op-init c =
+    let entry : c.get-entry.result.now ≡ event_at c.args.plan.now c.args.event = c.get-entry.ensures.at no_event in
+    (grounds_none c.args.self.now c.args.plan.now _ c.args.event _ (subst IsPlan (sym c.requires.plan) c.requires.hand.valid) c.requires.in_range (begins _ _ entry) c.args.hand.now c.requires.hand c.requires.free, λ same. apart same)
   where
     apart : Committed ≡ Aborted → ⊥
     apart same = cc
@@ -45,7 +50,7 @@ returns-in-Aborted c =
     let valid = subst IsPlan (sym c.requires.plan) c.requires.hand.valid in
     let entry : c.get-entry.result.now ≡ event_at p c.args.event = c.get-entry.ensures.at no_event in
     subst (λ (e : PlanEvent). HasGrounds b p (cap_of b) c.args.event e.first (e.first + e.count) c.args.hand.now c.weigh-next.new.hand c.weigh-next.result) entry
-    (grounds_bad b p (cap_of b) c.args.event _ valid c.requires.in_range c.loop-op.op (within_event p c.args.event _ c.loop-op.op entry c.loop-op.auto.op c.loop-op-test.true) c.loop-op.grounds c.weigh-next.result c.loop-op.invariant.0 c.weigh-next.ensures c.in-Aborted.is _)
+    (grounds_bad b p (cap_of b) c.args.event _ valid c.requires.in_range (begins _ _ entry) c.loop-op.op (within_event p c.args.event _ c.loop-op.op entry c.loop-op.auto.op c.loop-op-test.true) c.loop-op.grounds c.weigh-next.result c.loop-op.invariant.0 c.weigh-next.ensures c.in-Aborted.is _)
 
 pub loop-op-preserved : goal.loop-op-preserved
 loop-op-preserved c =
@@ -53,7 +58,7 @@ loop-op-preserved c =
     let valid = subst IsPlan (sym c.requires.plan) c.requires.hand.valid in
     let entry : c.get-entry.result.now ≡ event_at p c.args.event = c.get-entry.ensures.at no_event in
     let good : c.weigh-next.result ≡ Aborted → ⊥ = (λ same. c.in_default.not-Aborted same) in (
-      grounds_more b p (cap_of b) c.args.event _ valid c.requires.in_range c.loop-op.op (within_event p c.args.event _ c.loop-op.op entry c.loop-op.auto.op c.loop-op-test.true) c.loop-op.grounds c.weigh-next.result c.loop-op.invariant.0 c.weigh-next.ensures
+      grounds_more b p (cap_of b) c.args.event _ valid c.requires.in_range (begins _ _ entry) c.loop-op.op (within_event p c.args.event _ c.loop-op.op entry c.loop-op.auto.op c.loop-op-test.true) c.loop-op.grounds c.weigh-next.result c.loop-op.invariant.0 c.weigh-next.ensures
           c.loop-op.invariant.1 good c.and-grounds.result c.and-grounds.ensures.first c.and-grounds.ensures.doubt,
       and_fine c.loop-op.grounds c.weigh-next.result c.and-grounds.result c.loop-op.invariant.1 good c.and-grounds.ensures.first c.and-grounds.ensures.doubt,
     )

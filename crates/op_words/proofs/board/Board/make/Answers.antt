@@ -31,7 +31,7 @@ returns-then-found-first c =
     let h = c.requires.hand in
     let swaps = c.compare_exchange-found.ensures.2 _ (ap (λ (m : Sat). m.0) h.seat) c.args.attempt (c.pack-first.ensures ∙ ap packed c.blocked.ensures) in
     swap_left c.args.self.now c.args.hand.now _ h c.compare_exchange-found.ensures.0 _ _ _ (making c.args.op c.args.attempt (view_of c.args.hand.now)) (ready c.args.attempt) swaps c.if-found-first.true refl refl
-    (kept_step c.args.hand.now _ _ _ (kept h) refl refl refl (record { room = c.note.ensures.room; steps = c.note.ensures.steps }) refl refl refl refl refl refl refl h.held h.fits)
+    (kept_step c.args.hand.now _ _ _ (kept h) refl refl refl (record { room = c.note.ensures.room; steps = c.note.ensures.steps }) refl refl refl refl refl refl refl refl refl h.held h.fits)
 
 pub unreachable-requires : goal.unreachable-requires
 unreachable-requires c =

@@ -1,7 +1,7 @@
 use Rattle.std.proofs.Common.{◌<◌, ◌∙◌, ap, sym, subst, refl, List, [], ℕ, Some}
 use Rattle.morph_base.specs.Plans.{IsPlan}
 use Rattle.morph_base.specs.declared.plan.Plan.{Plan}
-use Rattle.morph_base.specs.declared.word.TheConstants.{ATTEMPTS}
+use Rattle.morph_base.specs.Limits.{most_attempts}
 use Rattle.op_words.specs.declared.rule.Known.{Known}
 use Rattle.op_words.specs.Layout.{AreFirst}
 use Rattle.op_words.specs.Rule.{first_view}
@@ -19,4 +19,4 @@ pub returns-clause-hand : goal.returns-clause-hand
 returns-clause-hand c =
     let t = c.in_ok-table.ensures in
     first_hand _ _ t.2 (t.4 ∙ ap (λ (k : Known). (Some (first_view k.plan k.cap), [])) (sym t.5))
-    (subst (λ (k : Known). IsPlan k.plan.value) (sym t.5) (subst IsPlan (sym c.of.ensures) c.requires.plan)) (subst (λ (k : Known). k.cap < ATTEMPTS) (sym t.5) c.requires.cap) refl refl refl c.none.ensures refl
+    (subst (λ (k : Known). IsPlan k.plan.value) (sym t.5) (subst IsPlan (sym c.of.ensures) c.requires.plan)) (subst (λ (k : Known). k.cap < most_attempts) (sym t.5) c.requires.cap) refl refl refl c.none.ensures refl

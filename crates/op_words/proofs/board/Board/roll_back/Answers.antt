@@ -25,7 +25,7 @@ returns-in-Err-clause-does c =
     source_stops b p o j c.args.hand.now c.look-word.new.hand c.look-word.result c.requires.free c.requires.hand c.look-word.ensures may.0 d.words (walk_row b o d.row) c.in-Err.stop
     (source_other p o j c.in-Err.stop.source (subst IsPlan (sym c.requires.plan) c.requires.hand.valid) c.requires.in_range c.requires.in_places d.tells.source_is).1
     (record { place = j; in_places = c.requires.in_places; source_is = d.tells.source_is }) d.tells.unready.inside d.tells.unready.settled
-    (elim d.tells.unready.cause [ inl idle ↦ inl idle | inr needed ↦ inr (inl (c.is_at_cap.ensures.0 needed)) ])
+    (elim d.tells.unready.cause [ inl idle ↦ inl (d.tells.source_is, idle) | inr needed ↦ inr (inl (c.is_at_cap.ensures.0 needed)) ])
 
 pub returns-then-not-is_same-clause-does : goal.returns-then-not-is_same-clause-does
 returns-then-not-is_same-clause-does c =
@@ -88,7 +88,8 @@ returns-in-None-clause-does c =
     let h = c.args.hand.now in let g = c.look-word.new.hand in let k = c.source_value.new.hand in let m = c.recall-kept.new.hand in let w = c.look-word.result in
     let kept = c.recall-kept.result in let x = c.in-Ok.value in let d = c.in-Ok.ensures in
     rolled_done b p o j h g w c.requires.free c.requires.hand c.look-word.ensures may.0 _
-    (walk_sources b p o j h g k m w kept x c.is_at_cap.result c.requires.free c.look-word.ensures d c.recall-kept.ensures c.needs_settled-needed.result c.open_source.ensures) _ may.1 c.in-None.ensures
+    (walk_sources b p o j h g k m w kept x c.is_at_cap.result c.requires.free c.look-word.ensures d c.recall-kept.ensures c.needs_settled-needed.result c.open_source.ensures) _ may.1
+    (place_is b p o j h g k m w kept x c.is_at_cap.result c.requires.free c.look-word.ensures d c.recall-kept.ensures c.needs_settled-needed.result c.open_source.ensures) c.in-None.ensures
 
 pub returns-in-Some-leave_blocked-clause-does : goal.returns-in-Some-leave_blocked-clause-does
 returns-in-Some-leave_blocked-clause-does c =

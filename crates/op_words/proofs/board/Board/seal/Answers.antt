@@ -34,7 +34,7 @@ returns-then-found-first c =
     let h = c.requires.hand in let v = view_of c.args.hand.now in
     let t = c.compare_exchange-found.ensures.2 v (ap (λ (m : Sat). m.0) h.seat) c.args.new c.requires.new c.pack-second.ensures in
     let step = swap_left c.args.self.now c.args.hand.now _ h c.compare_exchange-found.ensures.0 _ _ _ (settling c.args.op c.args.new v) c.args.new t.0 c.if-found-first.true refl refl
-    (kept_step c.args.hand.now _ _ (Settle c.args.op v.tag) (kept h) refl refl refl (record { room = c.note.ensures.room; steps = c.note.ensures.steps ∙ ap (λ (t : ℕ). take (room_in c.args.hand.now.journal) (steps_in c.args.hand.now.journal ++ Settle c.args.op t ∷ [])) h.tag }) refl refl refl refl refl refl refl h.held h.fits) in
+    (kept_step c.args.hand.now _ _ (Settle c.args.op v.tag) (kept h) refl refl refl (record { room = c.note.ensures.room; steps = c.note.ensures.steps ∙ ap (λ (t : ℕ). take (room_in c.args.hand.now.journal) (steps_in c.args.hand.now.journal ++ Settle c.args.op t ∷ [])) h.tag }) refl refl refl refl refl refl refl refl refl h.held h.fits) in
     record { hand = step.hand; tells = (step, refl, t.1 c.if-found-first.true ∙ ap (λ (q : Plan). final q c.args.op) h.plan) }
 
 pub unreachable-requires : goal.unreachable-requires

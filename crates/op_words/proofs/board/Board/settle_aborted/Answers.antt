@@ -51,7 +51,7 @@ returns-in-Err-clause-does c v opened =
     let at = loaded_as b p o 0 c.args.hand.now c.source_value.new.hand _ (subst (SourceDoes b p o 0 true c.args.hand.now c.source_value.new.hand) c.in-Err.is c.source_value.ensures) in
     stopped_there b p o v c.args.hand.now c.args.word opened at.words at.walk (open_unsettled c.args.word.state c.requires.state) _ _
     (source_other _ _ _ _ (subst IsPlan (sym c.requires.plan) c.requires.hand.valid) c.requires.in_range (zero-lt-suc _) at.tells.source_is).1
-    (record { place = 0; in_places = zero-lt-suc _; source_is = at.tells.source_is }) at.tells.inside at.tells.settled
+    (record { place = 0; in_places = zero-lt-suc _; source_is = at.tells.source_is }) at.tells.inside at.tells.settled (inr at.tells.source_is)
 
 pub returns-in-Ok-clause-does : goal.returns-in-Ok-clause-does
 returns-in-Ok-clause-does c v opened =

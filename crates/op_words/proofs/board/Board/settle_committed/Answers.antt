@@ -33,7 +33,7 @@ returns-in-Open-clause-does c v opened =
     let compared = subst (IsCompared b p o c.args.hand.now c.compare.new.hand) c.in-Open.is c.compare.ensures in
     let at = compared.tells c.args.word c.requires.loaded in
     stopped_there b p o v c.args.hand.now c.args.word opened compared.words compared.walk (ap is_settled (c.is_in.ensures.0 c.if-not-is_in.false)) _ _
-    (source_other _ _ _ _ (subst IsPlan (sym c.requires.plan) c.requires.hand.valid) c.requires.in_range at.source.in_places at.source.source_is).1 at.source at.inside at.settled
+    (source_other _ _ _ _ (subst IsPlan (sym c.requires.plan) c.requires.hand.valid) c.requires.in_range at.source.in_places at.source.source_is).1 at.source at.inside at.settled (inl c.requires.commits)
 
 pub returns-in-Differs-clause-does : goal.returns-in-Differs-clause-does
 returns-in-Differs-clause-does c v opened =

@@ -25,6 +25,6 @@ compare_exchange-requires c =
 pub returns-clause-hand : goal.returns-clause-hand
 returns-clause-hand c =
     let h = c.requires.hand in let v = view_of c.args.self.now in
-    fit_hand c.args.board.now c.args.self.now _ c.args.room h c.requires.new c.compare_exchange.ensures.0
+    fit_hand c.args.board.now c.args.self.now _ c.args.room h c.requires.lone c.requires.new c.compare_exchange.ensures.0
     (c.compare_exchange.ensures.2 v (ap (λ (m : Sat). m.0) h.seat) ∙ ap (λ (m : Sat). (Some (roomed c.args.room v), m.1)) h.seat)
     refl refl refl refl c.in_ok-journal.ensures.room c.in_ok-journal.ensures.steps

@@ -18,7 +18,7 @@ use Rattle.steal_explorer.specs.declared.handing.Log.{Log}
 use Rattle.steal_explorer.specs.declared.members.Member.{Member}
 use Rattle.steal_explorer.specs.Calls.{Call, Tried, is_tried, Calls, Calling}
 use Rattle.steal_explorer.specs.Draining.{in_plan, IsLeft, WalkedKnown, IsCleared, IsEmptied}
-use Rattle.steal_explorer.specs.Handing.{whole, log, parts_of, got, spare, came, gone, one, WasEmpty, MayTake}
+use Rattle.steal_explorer.specs.Handing.{whole, log, parts_of, got, spare, came, gone, one, MayBeEmpty, MayTake}
 use Rattle.steal_explorer.specs.Members.{Owner, own, IsIdle}
 use Rattle.steal_explorer.proofs.Holds.{evens}
 use Rattle.steal_explorer.proofs.Telling.{count_both, one_tried, few, no_op}
@@ -66,7 +66,7 @@ module _ (a m : Member) (is : IsLeaving a m) (o : Owner) (x : ℕ) (same : SameW
       let g = sum_by_push one (own m).left x in
       omega arith
 
-pub all_left : (a m : Member) → IsLeaving a m → (o : Owner) → SameWorker m.owner o → worker_view o ≡ own m → WasEmpty (own m) → IsLeft a (record m { owner = o })
+pub all_left : (a m : Member) → IsLeaving a m → (o : Owner) → SameWorker m.owner o → worker_view o ≡ own m → MayBeEmpty (own m) → IsLeft a (record m { owner = o })
 all_left a m is o same still was = record {
   owner = o;
   is = ap (λ (n : Member). record n { owner = o }) is.is;
@@ -158,7 +158,7 @@ module _ (p : Plan) (cap : ℕ) (a m : Member) (is : IsClearing p cap a m) (o : 
       cases_le : (n k : ℕ) → (n ≤ k) ⊎ (k < n)
       cases_le n k = grind arith
 
-pub all_cleared : (p : Plan) (cap : ℕ) (a m : Member) → IsClearing p cap a m → (o : Owner) → SameWorker m.owner o → worker_view o ≡ own m → WasEmpty (own m) → IsCleared p cap a (record m { owner = o })
+pub all_cleared : (p : Plan) (cap : ℕ) (a m : Member) → IsClearing p cap a m → (o : Owner) → SameWorker m.owner o → worker_view o ≡ own m → MayBeEmpty (own m) → IsCleared p cap a (record m { owner = o })
 all_cleared p cap a m is o same still was = record {
   owner = o;
   is = ap (λ (n : Member). record n { owner = o }) is.is;

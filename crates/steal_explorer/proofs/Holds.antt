@@ -7,7 +7,7 @@ use lib.ListN.{get_elem?}
 use Rattle.crossbeam_deque.specs.Tasks.{Pushes, Takes, Finds, FindsFew, Admits, Forks, Merges}
 use Rattle.crossbeam_deque.proofs.Lists.{at_set, at_snoc}
 use Rattle.steal_explorer.specs.declared.handing.Log.{Log}
-use Rattle.steal_explorer.specs.Handing.{whole, log, put, got, stole, spare, both, came, gone, parts_of, DidNothing, Balanced, WasEmpty, MayTake}
+use Rattle.steal_explorer.specs.Handing.{whole, log, put, got, stole, spare, both, came, gone, parts_of, DidNothing, Balanced, MayBeEmpty, MayTake}
 
 some_is : {v w : Log} → some v ≡ some w → v ≡ w
 some_is e = cc
@@ -117,7 +117,7 @@ knows_all items views port v old at all h =
     omega arith
 
 -- and so a deque that it finds empty has given all that came in
-pub evens : (v : Log) → v.parts ≡ whole → WasEmpty v → (h : ℕ → ℕ) → came h v ≡ gone h v
+pub evens : (v : Log) → v.parts ≡ whole → MayBeEmpty v → (h : ℕ → ℕ) → came h v ≡ gone h v
 evens v all was h = let e : came h v ≡ gone h v + sum_by h [] = knows_all [] was.0 was.1 v was.2 was.3 all h in omega arith
 
 may_take : (port : ℕ) (v : Log) (xs items : List ℕ) (views : List Log) → Balanced (xs ++ items) views → get_elem? views port ≡ some v → MayTake v xs
@@ -148,14 +148,14 @@ leaves port v holding xs items views any _ old at = (
 
 -- ---- what is found
 
-pub finds : (port : ℕ) (v : Log) → Finds Balanced port v (WasEmpty v)
+pub finds : (port : ℕ) (v : Log) → Finds Balanced port v (MayBeEmpty v)
 finds port v views old at = (views, port, old, at)
 
 none_there : (items : List ℕ) → length items ≤ 0 → items ≡ []
 none_there [] few = refl
 none_there (x ∷ xs) few = absurd (omega arith)
 
-pub finds_few : (flavor port : ℕ) (v : Log) → flavor ≡ 0 → FindsFew Balanced flavor port v (WasEmpty v)
+pub finds_few : (flavor port : ℕ) (v : Log) → flavor ≡ 0 → FindsFew Balanced flavor port v (MayBeEmpty v)
 finds_few flavor port v fifo items views few old at =
     (views, port, subst (λ xs. Balanced xs views) (none_there items (omega arith)) old, at)
 

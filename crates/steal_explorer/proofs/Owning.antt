@@ -16,7 +16,7 @@ use Rattle.steal_explorer.specs.declared.finding.Found.TheVariants.{Item, Nothin
 use Rattle.steal_explorer.specs.declared.handing.Log.{Log}
 use Rattle.steal_explorer.specs.declared.members.Member.{Member}
 use Rattle.steal_explorer.specs.Alone.{FindsAlone}
-use Rattle.steal_explorer.specs.Handing.{one, parts_of, put, got, WasEmpty}
+use Rattle.steal_explorer.specs.Handing.{one, parts_of, put, got, MayBeEmpty}
 use Rattle.steal_explorer.specs.Members.{Owner, Thief, Ticket, own, tickets_of, stolen_by, HasDeque, AreSeated, HasTickets}
 use Rattle.steal_explorer.specs.Finding.{weight_of, StealsRound, Finds}
 
@@ -89,7 +89,7 @@ module _ (a : Member) (o : Owner) (l : Contents Ticket) (s : ℕ) (f : Found) (s
     handed = is.handed ∙ ap (λ (v : Log). up_to (length v.pushed)) (sym still);
   }
 
-  pub stole_alone : worker_index o ≤ worker_index a.owner → WasEmpty (own a) → f ≡ Nothing → FindsAlone f a stole
+  pub stole_alone : worker_index o ≤ worker_index a.owner → MayBeEmpty (own a) → f ≡ Nothing → FindsAlone f a stole
   stole_alone index was none = subst (λ g. FindsAlone g a stole) (sym none) (record { slots = same.3; index = index; found = (still, was) })
 
   module _ (ts : List Thief) (is : HasTickets ts a) (round : StealsRound a.number (length ts) f (tickets_of a) l.items) where
@@ -108,7 +108,7 @@ module _ (a : Member) (o : Owner) (l : Contents Ticket) (s : ℕ) (f : Found) (s
       stolen = let e : stolen_by one l.items ≡ stolen_by one (tickets_of a) + weight_of one f = round.gets one in let old : a.stolen ≡ up_to (stolen_by one (tickets_of a)) = is.stolen in omega arith;
     }
 
-    pub stole_finds : WasEmpty (own a) → Finds ts f a stole
+    pub stole_finds : MayBeEmpty (own a) → Finds ts f a stole
     stole_finds was = record {
       runner = refl;
       number = refl;
@@ -119,8 +119,8 @@ module _ (a : Member) (o : Owner) (l : Contents Ticket) (s : ℕ) (f : Found) (s
           let e : sum_by h (worker_view o).popped ≡ sum_by h (own a).popped = ap (λ (v : Log). sum_by h v.popped) still in
           let g : stolen_by h l.items ≡ stolen_by h (tickets_of a) + weight_of h f = round.gets h in
           omega arith;
-      missed = λ none. let both = round.missed none in (subst WasEmpty (sym still) was, both.0, both.1);
-      empty = λ e. let both = round.empty e in (subst WasEmpty (sym still) was, both.0, both.1);
+      missed = λ none. let both = round.missed none in (subst MayBeEmpty (sym still) was, both.0, both.1);
+      empty = λ e. let both = round.empty e in (subst MayBeEmpty (sym still) was, both.0, both.1);
       alone = λ single retried. apart (sym (round.alone single) ∙ retried);
     }
       where

@@ -8,9 +8,9 @@ use Rattle.crossbeam_deque.specs.Handles.{view}
 use Rattle.steal_explorer.specs.declared.finding.Found.{Found}
 use Rattle.steal_explorer.specs.declared.finding.Found.TheVariants.{Item, Nothing, Retry}
 use Rattle.steal_explorer.specs.declared.handing.Log.{Log}
-use Rattle.steal_explorer.specs.Handing.{parts_of, WasEmpty}
+use Rattle.steal_explorer.specs.Handing.{parts_of, MayBeEmpty}
 use Rattle.steal_explorer.specs.Members.{Thief, Ticket, SitsAt, AreSeated, stolen_by}
-use Rattle.steal_explorer.specs.Finding.{is_item, or_then, weight_of, Misses, AreMissed, Steals, WereEmpty, StealsAmong, StealsRound}
+use Rattle.steal_explorer.specs.Finding.{is_item, or_then, weight_of, Misses, AreMissed, Steals, MayBeAllEmpty, StealsAmong, StealsRound}
 
 pub ticket_part : (t : Thief) (x : Ticket) → SitsAt t x → 0 < (view x).parts
 ticket_part t x sits = let e : (view x).parts ≡ 1 = ap parts_of sits.view_is in omega arith
@@ -28,7 +28,7 @@ pub record IsStealing (ts : List Thief) (from to k : ℕ) (retried : Bool) (xs y
   pub others : (j : ℕ) (x : Ticket) → (j < from) ⊎ (k ≤ j) → slice_index_or ys j x ≡ slice_index_or xs j x
   pub gets : (h : ℕ → ℕ) → stolen_by h ys ≡ stolen_by h xs
   pub missed : AreMissed xs ys from k
-  pub empty : retried ≡ false → WereEmpty ys from k
+  pub empty : retried ≡ false → MayBeAllEmpty ys from k
 
 pub none_stolen : (ts : List Thief) (from to : ℕ) (xs : List Ticket) → AreSeated ts from to xs → IsStealing ts from to from false xs xs
 none_stolen ts from to xs seated = record {
@@ -134,9 +134,9 @@ module _ (ts : List Thief) (from to k : ℕ) (retried : Bool) (xs ys : List Tick
     empty = λ never j x low high.
         elim (cases_eq j k) [
           | inl same ↦
-              subst (λ i. WasEmpty (view (slice_index_or zs i x))) (sym same)
-              (subst (λ (y : Ticket). WasEmpty (view y)) (sym (here x)) (subst WasEmpty (sym steals.0) steals.1))
-          | inr other ↦ subst (λ (y : Ticket). WasEmpty (view y)) (sym (elsewhere j x other)) (is.empty never j x low (omega arith))
+              subst (λ i. MayBeEmpty (view (slice_index_or zs i x))) (sym same)
+              (subst (λ (y : Ticket). MayBeEmpty (view y)) (sym (here x)) (subst MayBeEmpty (sym steals.0) steals.1))
+          | inr other ↦ subst (λ (y : Ticket). MayBeEmpty (view y)) (sym (elsewhere j x other)) (is.empty never j x low (omega arith))
         ];
   }
 
@@ -254,7 +254,7 @@ round_below number count f g xs ys zs inside none first second none_above none_b
   );
   empty = λ e. (
     second.empty (both_none f g e).1,
-    λ j x low high. subst (λ (y : Ticket). WasEmpty (view y)) (sym (second.others j x (inr (omega arith)))) (first.empty (both_none f g e).0 j x low high),
+    λ j x low high. subst (λ (y : Ticket). MayBeEmpty (view y)) (sym (second.others j x (inr (omega arith)))) (first.empty (both_none f g e).0 j x low high),
   );
   alone = λ single. ap (λ z. or_then z g) (none_above (omega arith)) ∙ ap (or_then Nothing) (none_below (omega arith));
 }

@@ -19,7 +19,7 @@ use Rattle.steal_explorer.specs.declared.finding.Found.TheVariants.{Item as Got,
 use Rattle.steal_explorer.specs.declared.members.Member.{Member}
 use Rattle.steal_explorer.specs.Draining.{IsEven}
 use Rattle.steal_explorer.specs.Handed.{workers_of, pushed_of}
-use Rattle.steal_explorer.specs.Handing.{one, put, got, came, gone, WasEmpty, MayTake}
+use Rattle.steal_explorer.specs.Handing.{one, put, got, came, gone, MayBeEmpty, MayTake}
 use Rattle.steal_explorer.specs.HandingOut.{is_one}
 use Rattle.steal_explorer.specs.Members.{own}
 
@@ -78,7 +78,7 @@ pub record ServesAlone (p : Plan) (o : ℕ) (a b : Member) : Type 0 where
 -- what it finds in the only deque
 abbrev pub FoundAlone : Found → Member → Member → Type 0
 FoundAlone (Got x) a b = (own b ≡ got (own a) (x ∷ [])) × MayTake (own a) (x ∷ [])
-FoundAlone Nothing a b = (own b ≡ own a) × WasEmpty (own a)
+FoundAlone Nothing a b = (own b ≡ own a) × MayBeEmpty (own a)
 FoundAlone Retry a b = ⊥
 
 pub record FindsAlone (f : Found) (a b : Member) : Type 0 where

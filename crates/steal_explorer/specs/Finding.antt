@@ -4,7 +4,7 @@ use Rattle.crossbeam_deque.specs.Handles.{view, taken, worker_deque}
 use Rattle.steal_explorer.specs.declared.finding.Found.{Found}
 use Rattle.steal_explorer.specs.declared.finding.Found.TheVariants.{Item, Nothing, Retry}
 use Rattle.steal_explorer.specs.declared.members.Member.{Member}
-use Rattle.steal_explorer.specs.Handing.{stole, WasEmpty}
+use Rattle.steal_explorer.specs.Handing.{stole, MayBeEmpty}
 use Rattle.steal_explorer.specs.Members.{Thief, Ticket, own, tickets_of, stolen_by, taken_by}
 
 -- over what was found
@@ -24,9 +24,9 @@ or_then f (Item x) = Item x
 or_then f Nothing = f
 or_then f Retry = Retry
 
--- a ticket, before and after, that got no item: it learned that more items had left the deque than it knew of, or the deque was empty
+-- a ticket, before and after, that got no item: it learned that more items had left the deque than it knew of, or the deque can be empty
 abbrev pub Misses : Ticket → Ticket → Type 0
-Misses x y = (view y ≡ view x) × ((taken x < taken y) ⊎ WasEmpty (view x))
+Misses x y = (view y ≡ view x) × ((taken x < taken y) ⊎ MayBeEmpty (view x))
 
 -- each of these deques was missed
 abbrev pub AreMissed : List Ticket → List Ticket → (from to : ℕ) → Type 0
@@ -35,12 +35,12 @@ AreMissed xs ys from to = (k : ℕ) (x : Ticket) → from ≤ k → k < to → M
 -- a steal, by its ticket before and after it
 abbrev pub Steals : Found → Ticket → Ticket → Type 0
 Steals (Item i) x y = view y ≡ stole (view x) (i ∷ [])
-Steals Nothing x y = (view y ≡ view x) × WasEmpty (view x)
+Steals Nothing x y = (view y ≡ view x) × MayBeEmpty (view x)
 Steals Retry x y = Misses x y
 
--- each of these deques was empty while its ticket had done what it has done
-abbrev pub WereEmpty : List Ticket → (from to : ℕ) → Type 0
-WereEmpty xs from to = (k : ℕ) (x : Ticket) → from ≤ k → k < to → WasEmpty (view (slice_index_or xs k x))
+-- each of these deques can be empty while its ticket has done what it has done
+abbrev pub MayBeAllEmpty : List Ticket → (from to : ℕ) → Type 0
+MayBeAllEmpty xs from to = (k : ℕ) (x : Ticket) → from ≤ k → k < to → MayBeEmpty (view (slice_index_or xs k x))
 
 -- steals from the deques whose numbers are from `from` on and below `to`, until one gave an item; where none did, each was missed
 pub record StealsAmong (from to : ℕ) (f : Found) (xs ys : List Ticket) : Type 0 where
@@ -48,7 +48,7 @@ pub record StealsAmong (from to : ℕ) (f : Found) (xs ys : List Ticket) : Type 
   pub others : (k : ℕ) (x : Ticket) → (k < from) ⊎ (to ≤ k) → slice_index_or ys k x ≡ slice_index_or xs k x
   pub gets : (h : ℕ → ℕ) → stolen_by h ys ≡ stolen_by h xs + weight_of h f
   pub missed : is_item f ≡ false → AreMissed xs ys from to
-  pub empty : f ≡ Nothing → WereEmpty ys from to
+  pub empty : f ≡ Nothing → MayBeAllEmpty ys from to
 
 -- the same with all deques but that of this number, of so many
 pub record StealsRound (number count : ℕ) (f : Found) (xs ys : List Ticket) : Type 0 where
@@ -56,16 +56,16 @@ pub record StealsRound (number count : ℕ) (f : Found) (xs ys : List Ticket) : 
   pub guest : (x : Ticket) → slice_index_or ys number x ≡ slice_index_or xs number x
   pub gets : (h : ℕ → ℕ) → stolen_by h ys ≡ stolen_by h xs + weight_of h f
   pub missed : is_item f ≡ false → AreMissed xs ys 0 number × AreMissed xs ys (number + 1) count
-  pub empty : f ≡ Nothing → WereEmpty ys 0 number × WereEmpty ys (number + 1) count
+  pub empty : f ≡ Nothing → MayBeAllEmpty ys 0 number × MayBeAllEmpty ys (number + 1) count
   pub alone : count ≡ 1 → f ≡ Nothing
 
--- its own deque and each other one was found empty
+-- its own deque and each other one can be empty
 abbrev pub FoundEmpty : List Thief → Member → Type 0
-FoundEmpty ts m = WasEmpty (own m) × WereEmpty (tickets_of m) 0 m.number × WereEmpty (tickets_of m) (m.number + 1) (length ts)
+FoundEmpty ts m = MayBeEmpty (own m) × MayBeAllEmpty (tickets_of m) 0 m.number × MayBeAllEmpty (tickets_of m) (m.number + 1) (length ts)
 
--- its own deque was found empty, and each other one was missed
+-- its own deque can be empty, and each other one was missed
 abbrev pub FoundNone : List Thief → Member → Member → Type 0
-FoundNone ts a b = WasEmpty (own b) × AreMissed (tickets_of a) (tickets_of b) 0 a.number × AreMissed (tickets_of a) (tickets_of b) (a.number + 1) (length ts)
+FoundNone ts a b = MayBeEmpty (own b) × AreMissed (tickets_of a) (tickets_of b) 0 a.number × AreMissed (tickets_of a) (tickets_of b) (a.number + 1) (length ts)
 
 -- an item left its own deque or another one for the worker; or none did, and then it was found so, and by `Nothing` all were found
 -- empty; nothing else changed

@@ -55,9 +55,10 @@ pub record Balanced (items : List ℕ) (views : List Log) : Type 0 where
   pub balance : (h : ℕ → ℕ) → sum_by (came h) views ≡ sum_by (gone h) views + sum_by h items
   pub idle : (k : ℕ) (v : Log) → get_elem? views k ≡ some v → v.parts ≡ 0 → DidNothing v
 
--- at some moment the deque was empty while a hold on it had done this
-abbrev pub WasEmpty : Log → Type 0
-WasEmpty v = (views : List Log) × (port : ℕ) × Balanced [] views × (get_elem? views port ≡ some v)
+-- the deque can be empty while a hold on it has done this: there are things that the other holds may have done with which it is. A hold
+-- with all parts learns by it that nothing is there. A hold with fewer parts learns nothing, since it knows nothing of the others
+abbrev pub MayBeEmpty : Log → Type 0
+MayBeEmpty v = (views : List Log) × (port : ℕ) × Balanced [] views × (get_elem? views port ≡ some v)
 
 -- who has all parts knows that what it takes had come in and was still there
 abbrev pub MayTake : Log → List ℕ → Type 0

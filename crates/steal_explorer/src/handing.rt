@@ -47,11 +47,11 @@ pub(crate) struct Pops;
 
 impl Outcome<u32, Log> for Pops {
     ghost use Rattle.std.specs.Prelude.{◌≡◌};
-    ghost use Rattle.steal_explorer.specs.Handing.{got, WasEmpty, MayTake};
+    ghost use Rattle.steal_explorer.specs.Handing.{got, MayBeEmpty, MayTake};
 
     ghost then = { λ v xs w. (w ≡ got v xs) × MayTake v xs };
 
-    ghost empty = { WasEmpty };
+    ghost empty = { MayBeEmpty };
 }
 
 /// A pop of an item that nobody takes.
@@ -59,11 +59,11 @@ pub(crate) struct Leaves;
 
 impl Outcome<u32, Log> for Leaves {
     ghost use Rattle.std.specs.Prelude.{◌≡◌};
-    ghost use Rattle.steal_explorer.specs.Handing.{spare, WasEmpty, MayTake};
+    ghost use Rattle.steal_explorer.specs.Handing.{spare, MayBeEmpty, MayTake};
 
     ghost then = { λ v xs w. (w ≡ spare v xs) × MayTake v xs };
 
-    ghost empty = { WasEmpty };
+    ghost empty = { MayBeEmpty };
 }
 
 /// A steal.
@@ -71,11 +71,11 @@ pub(crate) struct Steals;
 
 impl Outcome<u32, Log> for Steals {
     ghost use Rattle.std.specs.Prelude.{◌≡◌};
-    ghost use Rattle.steal_explorer.specs.Handing.{stole, WasEmpty};
+    ghost use Rattle.steal_explorer.specs.Handing.{stole, MayBeEmpty};
 
     ghost then = { λ v xs w. w ≡ stole v xs };
 
-    ghost empty = { WasEmpty };
+    ghost empty = { MayBeEmpty };
 }
 
 /// Lends one part of a deque.

@@ -89,7 +89,7 @@ fn expect_four(
         let ran = run_words(rt, rt.alloc(), &words, FOUR_EVENTS)?;
         let noted = ran.notes.bytes().starts_with(front);
         let balanced = is_balanced(ran.tally, way.explore, way.abort, workers);
-        let least = if unit == b"unit=op" {
+        let least = if unit == b"unit=op".as_slice() {
             least
         } else {
             least.min(2)

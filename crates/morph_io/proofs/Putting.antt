@@ -1,8 +1,11 @@
 -- What puts into a buffer in front of a sink add up to.
-use Rattle.std.proofs.Common.{◌≡◌, ℕ, ◌+◌, ◌≤◌, ◌<◌, List, [], ◌++◌, Option, length, take, drop, cond, ap, sym, ◌∙◌, arith, append_assoc, rules}
+use Rattle.std.proofs.Common.{◌≡◌, ℕ, ◌+◌, ◌≤◌, ◌<◌, List, [], ◌++◌, Option, Result, length, take, drop, cond, ap, subst, sym, ◌∙◌, arith, append_assoc, rules}
 use Rattle.std.proofs.lemmas.Bool.{lt-ltb, le-ltb}
 use Rattle.std.proofs.lemmas.List.{length-append, take-append-drop}
-use Rattle.std.proofs.Math.Seq.{drop-append-add}
+use Rattle.std.proofs.Math.Seq.{drop-append-add, take-append-add}
+use Rattle.morph_io.specs.Limits.{out_bytes}
+use Rattle.morph_io.specs.Writing.{WritesAll, WritesFull}
+use Rattle.morph_io.specs.declared.sink.WriteFailed.{WriteFailed}
 use Rattle.morph_io.specs.Told.{behind, behind_nil, behind_behind, Puts, AppendsPrefix, kept_of}
 
 -- nothing was put
@@ -63,3 +66,13 @@ pub filled_parts : (kept line full : List ℕ) (room : ℕ) → full ≡ kept ++
 filled_parts kept line full room e =
     ap (λ bytes. kept ++ bytes) (sym (take-append-drop room line)) ∙ sym (append_assoc kept (take room line) (drop room line))
     ∙ ap (λ front. front ++ drop room line) (sym e)
+
+-- the writes of a buffer that the front of a line filled
+pub writes_full : {S T E : Type 0} (writes : S → List ℕ → Result ℕ WriteFailed → S → Type 0) (kept line full : List ℕ) (room : ℕ) (sink sink' : S) (answer : Result T E)
+    → full ≡ kept ++ take room line → length kept + room ≡ out_bytes → room ≤ length line
+    → WritesAll writes full sink answer sink' → WritesFull writes (kept ++ line) sink answer sink'
+writes_full writes kept line full room sink sink' answer e filled enough all = record {
+  none = λ short. absurd (omega (arith, length-append kept line, filled, enough, short));
+  full = λ _. subst (λ bytes. WritesAll writes bytes sink answer sink')
+      (e ∙ sym (take-append-add kept line room) ∙ ap (λ n. take n (kept ++ line)) filled) all;
+}

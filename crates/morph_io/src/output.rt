@@ -1,6 +1,7 @@
 ghost use Rattle.std.specs.Prelude.{◌≡◌, ◌<◌, ◌≤◌, [], ◌++◌, length, vec_capacity, IsOk, OnOk, OnErr, IfOk};
 ghost use Rattle.morph_io.specs.Told.{behind, HasRisen, Puts, AppendsPrefix, kept_of};
-ghost use Rattle.morph_io.specs.declared.output.TheConstants.{OUT_BYTES};
+ghost use Rattle.morph_io.specs.Limits.{out_bytes};
+ghost use Rattle.morph_io.specs.Writing.{WritesAll, WritesFull};
 
 use crate::copying::append;
 use crate::line_buf::LineBuf;
@@ -24,23 +25,26 @@ pub struct Out {
 
 impl Model for Out {
     ghost use Rattle.std.specs.Prelude.{ℕ, ◌<◌, ◌≤◌, List, length, vec_capacity};
-    ghost use Rattle.morph_io.specs.declared.output.TheConstants.{OUT_BYTES};
+    ghost use Rattle.morph_io.specs.Limits.{out_bytes};
 
     ghost Value = { List ℕ };
 
     ghost view = { λ out. out.kept.items };
 
-    ghost invariant = { λ out. (length out.kept.items < OUT_BYTES)
-        × (OUT_BYTES ≤ vec_capacity out.kept) };
+    ghost invariant = { λ out. (length out.kept.items < out_bytes)
+        × (out_bytes ≤ vec_capacity out.kept) };
 }
 
-/// Writes all of `bytes` to the sink, however few it takes at a time.
+/// Writes all of `bytes` to the sink, however few it takes at a time: each write is of all that is left, and none comes
+/// after one that failed.
 pub fn write_all<K: Sink>(sink: &mut K, bytes: &[u8]) -> Result<(), WriteFailed>
     ensures all { OnOk result (K.written sink.new ≡ behind (K.written sink.old) bytes.now) }
     ensures prefix { OnErr result
         (AppendsPrefix (K.written sink.old) bytes.now (K.written sink.new)) }
     ensures never_falls { K.faults sink.old ≤ K.faults sink.new }
+    ensures steady { OnOk result (K.faults sink.new ≡ K.faults sink.old) }
     ensures cause { OnErr result (HasRisen (K.faults sink.old) (K.faults sink.new)) }
+    ensures writes { WritesAll K.writes bytes.now sink.old result sink.new }
     ensures unused { bytes.now ≡ [] → IsOk result × (sink.new ≡ sink.old) }
 {
     let mut at = 0;
@@ -58,7 +62,9 @@ fn write_out<K: Sink>(kept: &mut Vec<u8>, sink: &mut K) -> Result<(), WriteFaile
     ensures empty { kept.new.items ≡ [] }
     ensures capacity { vec_capacity kept.old ≤ vec_capacity kept.new }
     ensures never_falls { K.faults sink.old ≤ K.faults sink.new }
+    ensures steady { OnOk result (K.faults sink.new ≡ K.faults sink.old) }
     ensures cause { OnErr result (HasRisen (K.faults sink.old) (K.faults sink.new)) }
+    ensures writes { WritesAll K.writes kept.old.items sink.old result sink.new }
     ensures unused { kept.old.items ≡ [] → IsOk result × (sink.new ≡ sink.old) }
 {
     let result = write_all(sink, kept.as_slice());
@@ -83,15 +89,17 @@ impl Out {
     pub fn put<K: Sink>(&mut self, sink: &mut K, line: &LineBuf) -> Result<(), WriteFailed>
         ensures puts { OnOk result
             (Puts (K.written sink.old) self.old line.now (K.written sink.new) self.new) }
-        ensures kept { OnOk result (self.new ≡ kept_of OUT_BYTES (self.old ++ line.now)) }
-        ensures unused { length (self.old ++ line.now) < OUT_BYTES
+        ensures kept { OnOk result (self.new ≡ kept_of out_bytes (self.old ++ line.now)) }
+        ensures unused { length (self.old ++ line.now) < out_bytes
             → IsOk result × (sink.new ≡ sink.old) }
 
         ensures prefix { OnErr result
             (AppendsPrefix (K.written sink.old) (self.old ++ line.now) (K.written sink.new)) }
         ensures dropped { OnErr result (self.new ≡ []) }
         ensures never_falls { K.faults sink.old ≤ K.faults sink.new }
+        ensures steady { OnOk result (K.faults sink.new ≡ K.faults sink.old) }
         ensures cause { OnErr result (HasRisen (K.faults sink.old) (K.faults sink.new)) }
+        ensures writes { WritesFull K.writes (self.old ++ line.now) sink.old result sink.new }
     {
         let bytes = line.bytes();
         let room = OUT_BYTES - self.kept.len();
@@ -120,7 +128,9 @@ impl Out {
             (AppendsPrefix (K.written sink.old) self.old (K.written sink.new)) }
         ensures empty { self.new ≡ [] }
         ensures never_falls { K.faults sink.old ≤ K.faults sink.new }
+        ensures steady { OnOk result (K.faults sink.new ≡ K.faults sink.old) }
         ensures cause { OnErr result (HasRisen (K.faults sink.old) (K.faults sink.new)) }
+        ensures writes { WritesAll K.writes self.old sink.old result sink.new }
     {
         write_out(&mut self.kept, sink)
     }

@@ -2,8 +2,8 @@
 use Rattle.std.proofs.Common.{◌≡◌, ℕ, ◌+◌, ◌<◌, ◌≤◌, false, List, ◌++◌, Option, Result, Ok, Err, length, take, drop, ap, subst, sym, ◌∙◌, arith}
 use Rattle.std.proofs.lemmas.List.{take-append-drop, take-take, drop-take, drop-drop, length-drop}
 use Rattle.morph_io.specs.declared.sink.WriteFailed.{WriteFailed}
-use Rattle.morph_io.specs.Writing.{Writes, one_more, last_one, WritesAll}
-use Rattle.morph_io.specs.Told.{behind, behind_behind, AppendsPrefix}
+use Rattle.morph_io.specs.Writing.{AppendsPart, Writes, one_more, last_one, WritesAll}
+use Rattle.morph_io.specs.Told.{behind, behind_behind}
 
 -- the first bytes, and the next ones
 pub take_take_drop : (a n : ℕ) (bytes : List ℕ) → take a bytes ++ take n (drop a bytes) ≡ take (a + n) bytes
@@ -20,10 +20,15 @@ behind_piece old mid new a n bytes before step =
     step ∙ ap (λ told. behind told (take n (drop a bytes))) before
     ∙ behind_behind old (take a bytes) (take n (drop a bytes)) ∙ ap (behind old) (take_take_drop a n bytes)
 
--- a sink that has the first bytes has a prefix of them
-pub prefix_at : (old new : Option (List ℕ)) (a : ℕ) (bytes : List ℕ) → new ≡ behind old (take a bytes) → AppendsPrefix old bytes new
-prefix_at old new a bytes h =
-    record { done = take a bytes; rest = drop a bytes; parts = sym (take-append-drop a bytes); appended = h }
+-- a sink that has the first bytes has a part of them where they are not all
+pub part_at : (old new : Option (List ℕ)) (a : ℕ) (bytes : List ℕ) → a < length bytes → new ≡ behind old (take a bytes) → AppendsPart old bytes new
+part_at old new a bytes more h = record {
+  done = take a bytes;
+  rest = drop a bytes;
+  missing = omega (arith, length-drop a bytes);
+  parts = sym (take-append-drop a bytes);
+  appended = h;
+}
 
 -- the writes of pieces from the front
 module _ {S : Type 0} (writes : S → List ℕ → Result ℕ WriteFailed → S → Type 0) (bytes : List ℕ) (sink₀ : S) where

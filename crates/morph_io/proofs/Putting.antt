@@ -4,7 +4,7 @@ use Rattle.std.proofs.lemmas.Bool.{lt-ltb, le-ltb}
 use Rattle.std.proofs.lemmas.List.{length-append, take-append-drop}
 use Rattle.std.proofs.Math.Seq.{drop-append-add, take-append-add}
 use Rattle.morph_io.specs.Limits.{out_bytes}
-use Rattle.morph_io.specs.Writing.{WritesAll, WritesFull}
+use Rattle.morph_io.specs.Writing.{AppendsPart, WritesAll, WritesFull}
 use Rattle.morph_io.specs.declared.sink.WriteFailed.{WriteFailed}
 use Rattle.morph_io.specs.Told.{behind, behind_nil, behind_behind, Puts, AppendsPrefix, kept_of}
 
@@ -28,10 +28,11 @@ puts_next old mid new kept kept' kept'' front back p q = record {
 
 -- a put that fails after one that did not
 pub puts_cut : (old mid new : Option (List ℕ)) (kept kept' front back : List ℕ)
-    → Puts old kept front mid kept' → AppendsPrefix mid (kept' ++ back) new → AppendsPrefix old (kept ++ (front ++ back)) new
+    → Puts old kept front mid kept' → AppendsPart mid (kept' ++ back) new → AppendsPart old (kept ++ (front ++ back)) new
 puts_cut old mid new kept kept' front back p q = record {
   done = p.done ++ q.done;
   rest = q.rest;
+  missing = q.missing;
   parts = sym (append_assoc kept front back) ∙ ap (λ bytes. bytes ++ back) (sym p.parts) ∙ append_assoc p.done kept' back
       ∙ ap (λ rest. p.done ++ rest) q.parts ∙ sym (append_assoc p.done q.done q.rest);
   appended = q.appended ∙ ap (λ told. behind told q.done) p.written ∙ behind_behind old p.done q.done;
@@ -42,6 +43,16 @@ pub prefix_more : (old new : Option (List ℕ)) (bytes more all : List ℕ) → 
 prefix_more old new bytes more all e p = record {
   done = p.done;
   rest = p.rest ++ more;
+  parts = e ∙ ap (λ front. front ++ more) p.parts ∙ append_assoc p.done p.rest more;
+  appended = p.appended;
+}
+
+-- the same where bytes are missing
+pub part_more : (old new : Option (List ℕ)) (bytes more all : List ℕ) → all ≡ bytes ++ more → AppendsPart old bytes new → AppendsPart old all new
+part_more old new bytes more all e p = record {
+  done = p.done;
+  rest = p.rest ++ more;
+  missing = (let m = p.missing in omega (arith, length-append p.rest more, m));
   parts = e ∙ ap (λ front. front ++ more) p.parts ∙ append_assoc p.done p.rest more;
   appended = p.appended;
 }

@@ -1,6 +1,7 @@
 -- How bytes are handed to a sink.
-use Rattle.std.specs.Prelude.{◌≡◌, ℕ, ◌<◌, ◌≤◌, Bool, true, false, is_err, List, [], length, take, drop, Result, Ok, Err, OnOk}
+use Rattle.std.specs.Prelude.{◌≡◌, ℕ, ◌<◌, ◌≤◌, Bool, true, false, is_err, List, [], ◌++◌, length, take, drop, Option, Result, Ok, Err, OnOk}
 use Rattle.morph_io.specs.Limits.{out_bytes}
+use Rattle.morph_io.specs.Told.{behind, AppendsPrefix}
 use Rattle.morph_io.specs.declared.sink.WriteFailed.{WriteFailed}
 
 -- writes one after another of some bytes: each one is of all that is left of them, and none comes after one that failed. What a
@@ -23,3 +24,14 @@ pub record WritesAll {S T E : Type 0} (writes : S → List ℕ → Result ℕ Wr
 pub record WritesFull {S T E : Type 0} (writes : S → List ℕ → Result ℕ WriteFailed → S → Type 0) (bytes : List ℕ) (sink : S) (answer : Result T E) (sink' : S) : Type 0 where
   pub none : length bytes < out_bytes → sink' ≡ sink
   pub full : out_bytes ≤ length bytes → WritesAll writes (take out_bytes bytes) sink answer sink'
+
+-- a sink has grown by a part of `bytes` from the front, and the rest of them is missing
+pub record AppendsPart (old : Option (List ℕ)) (bytes : List ℕ) (new : Option (List ℕ)) : Type 0 where
+  pub done : List ℕ
+  pub rest : List ℕ
+  pub missing : 0 < length rest
+  pub parts : bytes ≡ done ++ rest
+  pub appended : new ≡ behind old done
+
+pub part_is_prefix : (old new : Option (List ℕ)) (bytes : List ℕ) → AppendsPart old bytes new → AppendsPrefix old bytes new
+part_is_prefix old new bytes p = record { done = p.done; rest = p.rest; parts = p.parts; appended = p.appended }

@@ -4,7 +4,7 @@ use Rattle.std.proofs.lemmas.List.{take_rest}
 use Rattle.std.proofs.lemmas.Result.{err_from_is_err_and}
 use Rattle.morph_io.specs.Told.{behind_nil}
 use Rattle.morph_io.specs.Writing.{no_write}
-use Rattle.morph_io.proofs.Pieces.{behind_piece, prefix_at, writes_piece, writes_cut}
+use Rattle.morph_io.proofs.Pieces.{behind_piece, part_at, writes_piece, writes_cut}
 use Rattle.morph_io.proofs.output.write_all.Goals as goal
 
 pub pieces-init : goal.pieces-init
@@ -23,7 +23,7 @@ pieces-preserved g c =
 pub returns-in_err-at-clause-prefix : goal.returns-in_err-at-clause-prefix
 returns-in_err-at-clause-prefix g c =
     let p = err_from_is_err_and c.from_residual.result c.from_residual.ensures.1 in
-    rw p.1 (prefix_at _ _ c.pieces.at _ (c.in_err-at.ensures.kept ∙ c.pieces.invariant.1))
+    rw p.1 (part_at _ _ c.pieces.at _ c.pieces-test.true (c.in_err-at.ensures.kept ∙ c.pieces.invariant.1))
 
 pub returns-in_err-at-clause-writes : goal.returns-in_err-at-clause-writes
 returns-in_err-at-clause-writes g c =

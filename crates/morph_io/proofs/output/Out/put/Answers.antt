@@ -2,7 +2,7 @@
 use Rattle.std.proofs.Common.{◌≡◌, ℕ, ◌+◌, ◌-◌, ◌<◌, ◌≤◌, ◌++◌, length, drop, take, ◌∙◌, sym, ap, arith}
 use Rattle.std.proofs.lemmas.Result.{err_from_is_err_and}
 use Rattle.morph_io.specs.Limits.{out_bytes}
-use Rattle.morph_io.proofs.Putting.{puts_kept, prefix_more, kept_all, kept_rest, filled_parts, writes_full}
+use Rattle.morph_io.proofs.Putting.{puts_kept, part_more, kept_all, kept_rest, filled_parts, writes_full}
 use Rattle.morph_io.proofs.output.Out.put.Goals as goal
 
 pub returns-then-bytes-room-clause-puts : goal.returns-then-bytes-room-clause-puts
@@ -16,7 +16,7 @@ returns-in_err-write_out-clause-prefix g c =
     let room : ℕ = out_bytes - c.len-room.result in
     let full : c.append-2.new.kept.items ≡ c.args.self.now ++ take room c.args.line.now =
     rw (← c.self.view_is, ← bytes, ← c.split_at.ensures.front) c.append-2.ensures.items in
-    rw p.1 (prefix_more _ _ _ _ _ (filled_parts c.args.self.now c.args.line.now _ room full) c.in_err-write_out.ensures.prefix)
+    rw p.1 (part_more _ _ _ _ _ (filled_parts c.args.self.now c.args.line.now _ room full) c.in_err-write_out.ensures.prefix)
 
 pub returns-clause-kept : goal.returns-clause-kept
 returns-clause-kept g c =

@@ -73,6 +73,10 @@ pub fn run<
     ensures source_faults { S.faults source.old ≤ S.faults source.new }
     ensures sink_faults { K.faults sink.old ≤ K.faults sink.new }
     ensures notes_faults { N.faults notes.old ≤ N.faults notes.new }
+    ensures steady { (IsErrOf result Fault.Write → ⊥) → (K.faults sink.new ≡ K.faults sink.old)
+        × (N.faults notes.new ≡ N.faults notes.old) }
+    ensures unread { job.now.settings.ahead ≡ 0 → (IsErrOf result Fault.Read → ⊥)
+        → S.faults source.new ≡ S.faults source.old }
     ensures read { IsErrOf result Fault.Read
         → HasRisen (S.faults source.old) (S.faults source.new) }
     ensures write { IsErrOf result Fault.Write → HasRisen (K.faults sink.old) (K.faults sink.new)
@@ -125,6 +129,10 @@ fn run_batches<R: Threads + Wait + Sync, A: EventApp + Copy, S: Source, K: Sink,
     ensures source_faults { S.faults source.old ≤ S.faults source.new }
     ensures sink_faults { K.faults sink.old ≤ K.faults sink.new }
     ensures notes_faults { N.faults notes.old ≤ N.faults notes.new }
+    ensures steady { (IsErrOf result Fault.Write → ⊥) → (K.faults sink.new ≡ K.faults sink.old)
+        × (N.faults notes.new ≡ N.faults notes.old) }
+    ensures unread { (IsErrOf result Fault.Read → ⊥)
+        → S.faults source.new ≡ S.faults source.old }
     ensures read { IsErrOf result Fault.Read
         → HasRisen (S.faults source.old) (S.faults source.new) }
     ensures write { IsErrOf result Fault.Write → HasRisen (K.faults sink.old) (K.faults sink.new)

@@ -1,3 +1,4 @@
+use Rattle.std.proofs.Common.{arith}
 use Rattle.event_reader.specs.declared.limits.TheConstants.{INPUT_BYTES}
 use Rattle.morph_cli.specs.declared.fault.Fault.TheVariants.{OutOfMemory}
 use Rattle.morph_cli.specs.Outputs.{outputs_of}
@@ -29,3 +30,11 @@ returns-in_err-progress-clause-told g c =
     told_at_once (course_of g.A.EventApp.event_of (g.A.EventApp.table_count c.args.job.now.app) (g.A.EventApp.name_of c.args.job.now.app) c.args.job.now.app c.args.job.now.settings INPUT_BYTES (g.S.Source.left c.args.source.now)
     (outputs_of (g.K.Sink.written c.args.sink.now) (g.N.Sink.written c.args.notes.now))) c.args.tally.now
     (error_is c.from_residual-in_err-progress.result OutOfMemory c.from_residual-in_err-progress.ensures.1) c.requires.tally
+
+-- ---- the counts of faults
+
+pub returns-then-job-gt0-clause-unread : goal.returns-then-job-gt0-clause-unread
+returns-then-job-gt0-clause-unread g c none = absurd (let more = c.if-job-gt0.true in omega (arith, none, more))
+
+pub returns-clause-unread : goal.returns-clause-unread
+returns-clause-unread g c none = c.run_batches-end.ensures.unread

@@ -1,4 +1,4 @@
-use Rattle.std.proofs.Common.{◌+◌, ◌-◌, ◌≤◌}
+use Rattle.std.proofs.Common.{◌≡◌, ◌+◌, ◌-◌, ◌≤◌}
 use Rattle.event_reader.specs.declared.limits.TheConstants.{INPUT_BYTES}
 use Rattle.std.specs.Prelude.{IfSome, IsSome, IsTrue}
 use Rattle.event_reader.specs.Versions.{greatest_of}
@@ -20,6 +20,9 @@ invariant-batches g l = record {
   source_faults : g.S.Source.faults l.initial.source ≤ g.S.Source.faults l.source;
   sink_faults : g.K.Sink.faults l.initial.sink ≤ g.K.Sink.faults l.sink;
   notes_faults : g.N.Sink.faults l.initial.notes ≤ g.N.Sink.faults l.notes;
+  source_steady : g.S.Source.faults l.source ≡ g.S.Source.faults l.initial.source;
+  sink_steady : g.K.Sink.faults l.sink ≡ g.K.Sink.faults l.initial.sink;
+  notes_steady : g.N.Sink.faults l.notes ≡ g.N.Sink.faults l.initial.notes;
 }
 
 abbrev pub decreases-batches : goal.decreases-batches

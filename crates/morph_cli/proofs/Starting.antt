@@ -3,6 +3,7 @@ use Rattle.std.proofs.Common.{◌≡◌, ◌⊎◌, inl, inr, ℕ, List, [], ◌
 use Rattle.std.proofs.lemmas.List.Elements.{All-nil}
 use Rattle.std.specs.Prelude.{option_map, IsSome, IfSome, IfOk, IsTrue}
 use Rattle.morph_base.specs.Transactions.{Transaction}
+use Rattle.morph_io.specs.declared.source.ReadFailed.{ReadFailed}
 use Rattle.morph_io.specs.Told.{behind, behind_nil}
 use Rattle.event_reader.specs.Accepted.{Accepted, accepted, accepted_within}
 use Rattle.run_text.specs.declared.choices.Settings.{Settings}
@@ -17,6 +18,8 @@ use Rattle.morph_cli.specs.Headline.{Headline, Completes, input_limit}
 use Rattle.morph_cli.specs.Outputs.{Outputs, has_notes, outputs_of, with_batches, notes_from}
 use Rattle.morph_cli.specs.Status.{IsMadeStatus, EndsNotes}
 use Rattle.morph_cli.specs.Tallies.{RunTold, CallTold, IsChecked}
+use Rattle.morph_cli.specs.Calls.{IsReadBy}
+use Rattle.morph_cli.proofs.Calling.{unread_by}
 use Rattle.morph_cli.proofs.Headlines.{headline}
 use Rattle.morph_cli.proofs.Noting.{no_audits}
 use Rattle.morph_cli.proofs.Running.{nothing_told}
@@ -40,6 +43,9 @@ WriteBy Sunk Noted words status = IfSome (settings_of words) (λ s. status ≡ 5
 
 abbrev pub UnreadBy : (Same : Type 0) → (words : List (List ℕ)) → (status : ℕ) → Type 0
 UnreadBy Same words status = IfSome (settings_of words) (λ s. s.ahead ≡ 0 → (status ≡ 4 → ⊥) → Same)
+
+abbrev pub AsksBy : {S : Type 0} → (left_of : S → Option (List ℕ)) → (reads : S → ℕ → Result ℕ ReadFailed → S → Type 0) → (source source' : S) → (words : List (List ℕ)) → (status : ℕ) → Type 0
+AsksBy left_of reads source source' words status = IfSome (settings_of words) (λ s. s.ahead ≡ 0 → IsReadBy left_of reads (meaning_of s) source source')
 
 abbrev pub MadeBy : (Same : Type 0) → (words : List (List ℕ)) → (status : ℕ) → Type 0
 MadeBy Same words status = IfSome (settings_of words) (λ s. IsSome s.generated → Same × IsMadeStatus status)
@@ -107,6 +113,10 @@ no_memory_write Sunk Noted words status is =
 
 pub no_memory_unread : (Same : Type 0) (words : List (List ℕ)) (status : ℕ) → Same → UnreadBy Same words status
 no_memory_unread Same words status same = for_some (λ s. s.ahead ≡ 0 → (status ≡ 4 → ⊥) → Same) (settings_of words) (λ s none other. same)
+
+pub no_memory_asks : {S : Type 0} (left_of : S → Option (List ℕ)) (reads : S → ℕ → Result ℕ ReadFailed → S → Type 0) (source : S) (words : List (List ℕ)) (status : ℕ) → AsksBy left_of reads source source words status
+no_memory_asks left_of reads source words status =
+    for_some (λ s. s.ahead ≡ 0 → IsReadBy left_of reads (meaning_of s) source source) (settings_of words) (λ s none. unread_by left_of reads (meaning_of s) source)
 
 pub no_memory_made : (Same : Type 0) (words : List (List ℕ)) (status : ℕ) → status ≡ 6 → Same → MadeBy Same words status
 no_memory_made Same words status is same = for_some (λ s. IsSome s.generated → Same × IsMadeStatus status) (settings_of words) (λ s made. (same, inr (inr is)))

@@ -3,6 +3,7 @@ ghost use Rattle.std.specs.Process.{exit_status};
 ghost use Rattle.morph_io.specs.Told.{HasRisen};
 ghost use Rattle.morph_cli.specs.Apps.{input_of, left_by, meaning_of, telling_of};
 ghost use Rattle.event_reader.specs.Accepted.{accepted};
+ghost use Rattle.morph_cli.specs.Calls.{IsReadBy};
 ghost use Rattle.morph_cli.specs.Headline.{Headline, Completes, input_limit};
 ghost use Rattle.morph_cli.specs.Outputs.{has_notes, outputs_of};
 ghost use Rattle.morph_cli.specs.Tallies.{CallTold};
@@ -97,6 +98,8 @@ pub fn program<R: Threads + Wait + Sync, S: Source + Send, K: Sink, N: Sink>(
     ensures unread { IfOk args (λ args. IfSome (settings_of (words_behind args.items)) (λ s.
         s.ahead ≡ 0 → (exit_status result ≡ 4 → ⊥)
         → S.faults source.new ≡ S.faults source.old)) }
+    ensures asks { IfOk args (λ args. IfSome (settings_of (words_behind args.items)) (λ s.
+        s.ahead ≡ 0 → IsReadBy S.left S.reads (meaning_of s) source.old source.new)) }
     ensures statuses { IsStatus (exit_status result) }
     ensures memory { OnErr args ((exit_status result ≡ 6)
         × (source.new ≡ source.old) × (sink.new ≡ sink.old)

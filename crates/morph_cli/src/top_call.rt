@@ -4,6 +4,7 @@ ghost use Rattle.event_reader.specs.declared.limits.TheConstants.{INPUT_BYTES};
 ghost use Rattle.event_reader.specs.Accepted.{accepted, accepted_within};
 ghost use Rattle.event_reader.specs.GeneratedText.{generated_text};
 ghost use Rattle.morph_cli.specs.Apps.{input_by, input_of, left_by, meaning_of, telling_for, telling_of};
+ghost use Rattle.morph_cli.specs.Calls.{IsReadBy};
 ghost use Rattle.morph_cli.specs.Headline.{Headline, Completes, input_limit};
 ghost use Rattle.morph_cli.specs.Outputs.{has_notes, outputs_of};
 ghost use Rattle.morph_cli.specs.Runs.{EndsSo, EndsMade};
@@ -67,6 +68,8 @@ fn run_over<
         × (N.faults notes.new ≡ N.faults notes.old) }
     ensures unread { job.now.settings.ahead ≡ 0 → (IsErrOf result Fault.Read → ⊥)
         → S.faults source.new ≡ S.faults source.old }
+    ensures asks { let settings = job.now.settings in settings.ahead ≡ 0
+        → IsReadBy S.left S.reads (A.event_of job.now.app settings.size) source.old source.new }
     ensures made { IsSome job.now.settings.generated → (source.new ≡ source.old) × EndsMade result }
     ensures read { IsErrOf result Fault.Read
         → HasRisen (S.faults source.old) (S.faults source.new) }
@@ -144,6 +147,8 @@ fn run_app<R: Threads + Wait + Sync, S: Source + Send, K: Sink, N: Sink, G: Gate
         × (N.faults notes.new ≡ N.faults notes.old) }
     ensures unread { settings.ahead ≡ 0 → (IsErrOf result Fault.Read → ⊥)
         → S.faults source.new ≡ S.faults source.old }
+    ensures asks { settings.ahead ≡ 0
+        → IsReadBy S.left S.reads (meaning_of settings) source.old source.new }
     ensures made { IsSome settings.generated → (source.new ≡ source.old) × EndsMade result }
     ensures read { IsErrOf result Fault.Read
         → HasRisen (S.faults source.old) (S.faults source.new) }
@@ -221,6 +226,10 @@ pub fn morph<R: Threads + Wait + Sync, S: Source + Send, K: Sink, N: Sink, G: Ga
     ensures steady { (result.status ≡ 5 → ⊥) → K.faults sink.new ≡ K.faults sink.old }
     ensures unread { IfSome (settings_of (map (λ word. word.items) words.now)) (λ s. s.ahead ≡ 0
         → (result.status ≡ 4 → ⊥) → S.faults source.new ≡ S.faults source.old) }
+
+    // Where nothing is read ahead the source is read for the next batch alone, and not behind the end of the run.
+    ensures asks { IfSome (settings_of (map (λ word. word.items) words.now)) (λ s. s.ahead ≡ 0
+        → IsReadBy S.left S.reads (meaning_of s) source.old source.new) }
     ensures told { IfSome (settings_of (map (λ word. word.items) words.now)) (λ s.
         CallTold (telling_of s)
         (option_map (accepted (meaning_of s)) (input_of s (S.left source.old)))

@@ -3,7 +3,7 @@ use Rattle.std.specs.Process.{exit_status}
 use Rattle.morph_io.specs.Told.{HasRisen}
 use Rattle.morph_cli.specs.Outputs.{outputs_of}
 use Rattle.morph_cli.specs.Words.{words_behind}
-use Rattle.morph_cli.proofs.Starting.{at_ok, along, HeadlineBy, UsageBy, CompletesBy, MadeBy, ToldBy, UntouchedBy, UnreadBy, WriteBy, usage_along, tally_told, no_memory, no_memory_completes, no_memory_made, no_memory_told, no_memory_notes, no_memory_unread, no_memory_write}
+use Rattle.morph_cli.proofs.Starting.{at_ok, along, AsksBy, no_memory_asks, HeadlineBy, UsageBy, CompletesBy, MadeBy, ToldBy, UntouchedBy, UnreadBy, WriteBy, usage_along, tally_told, no_memory, no_memory_completes, no_memory_made, no_memory_told, no_memory_notes, no_memory_unread, no_memory_write}
 use Rattle.morph_cli.proofs.arguments.program.Goals as goal
 
 -- ---- no memory for the words
@@ -140,3 +140,15 @@ returns-in_default-words_of-clause-unread g c =
     let status = exit_status c.end_without_memory-in_default-words_of.result in
     at_ok c.args.args c.in-Ok.args c.in-Ok.is (λ args. UnreadBy same (words_behind args.items) status)
     (no_memory_unread same (words_behind c.in-Ok.args.items) status refl)
+
+pub returns-clause-asks : goal.returns-clause-asks
+returns-clause-asks g c =
+    at_ok c.args.args c.in-Ok.args c.in-Ok.is (λ args. AsksBy g.S.Source.left g.S.Source.reads c.args.source.now c.morph-ended.new.source (words_behind args.items) (exit_status c.from.result))
+    (along (AsksBy g.S.Source.left g.S.Source.reads c.args.source.now c.morph-ended.new.source) (map (λ word. word.items) c.as_slice.result.now) (words_behind c.in-Ok.args.items) c.morph-ended.result.status (exit_status c.from.result)
+    (ap (map (λ word. word.items)) c.as_slice.ensures ∙ c.in-Ok-words_of.ensures ∙ ap words_behind c.deref.ensures.value) c.from.ensures c.morph-ended.ensures.asks)
+
+pub returns-in_default-words_of-clause-asks : goal.returns-in_default-words_of-clause-asks
+returns-in_default-words_of-clause-asks g c =
+    let status = exit_status c.end_without_memory-in_default-words_of.result in
+    at_ok c.args.args c.in-Ok.args c.in-Ok.is (λ args. AsksBy g.S.Source.left g.S.Source.reads c.args.source.now c.args.source.now (words_behind args.items) status)
+    (no_memory_asks g.S.Source.left g.S.Source.reads c.args.source.now (words_behind c.in-Ok.args.items) status)

@@ -19,6 +19,7 @@ use Rattle.event_reader.specs.Versions.{greatest_of}
 use Rattle.morph_base.specs.Flat.{contents}
 use Rattle.morph_base.proofs.BoundLaws.{fold_batch-within}
 use Rattle.morph_cli.proofs.Bounds.{opens_small, batch_small}
+use Rattle.morph_cli.proofs.Calling.{called_nothing, called_more, read_by}
 use Rattle.morph_cli.proofs.run.run_batches.Goals as goal
 
 -- ---- between two batches
@@ -40,6 +41,7 @@ batches-init g c =
       source_faults = omega arith;
       sink_faults = omega arith;
       notes_faults = omega arith;
+      called = called_nothing g.S.Source.left g.S.Source.reads g.A.EventApp.event_of c.args.job.now.app c.args.job.now.settings.size c.args.source.now c.args.progress.now.reader c.requires.reader;
       source_steady = refl;
       sink_steady = refl;
       notes_steady = refl;
@@ -104,6 +106,7 @@ batches-preserved g c =
     let shows = rw c.in-Batch.is at c.in_ok-batch.ensures.shows in
     let counted = rw c.in-Batch.is at c.in_ok-batch.ensures.counted in
     let live = rw c.in-Batch.is at c.in_ok-batch.ensures.goes_on in
+    let asks = rw c.in-Batch.is at c.in_ok-batch.ensures.asks in
     record {
       run = between_same c.in_ok-take_batch-in-Batch.ensures.reader
           (between_taken (g.S.Source.left c.next_batch.new.source) c.next_batch.new.self _ _ c.batches.invariant.run refl refl c.batches.invariant.shown c.batches.invariant.watch answers valid.0 _ _ _ _ _ _ _ c.in_ok-take_batch-in-Batch.ensures.takes shows counted c.in_ok-batch.ensures.bound (c.in_ok-batch.ensures.same.0, c.in_ok-batch.ensures.same.1, c.in_ok-batch.ensures.same.2) c.in_ok-batch.ensures.unended live
@@ -116,6 +119,8 @@ batches-preserved g c =
       source_faults = omega (arith, c.batches.invariant.source_faults, c.in_ok-batch.ensures.never_falls);
       sink_faults = omega (arith, c.batches.invariant.sink_faults, c.in_ok-take_batch-in-Batch.ensures.sink_faults);
       notes_faults = omega (arith, c.batches.invariant.notes_faults, c.in_ok-take_batch-in-Batch.ensures.notes_faults);
+      called = called_more g.S.Source.left g.S.Source.reads g.A.EventApp.event_of c.args.job.now.app c.args.job.now.settings.size c.args.source.now c.batches.progress.reader c.next_batch.new.self _ c.batches.source c.next_batch.new.source _ refl c.in_ok-take_batch-in-Batch.ensures.reader c.in_ok-batch.ensures.same.0 c.in_ok-batch.ensures.same.1
+          c.batches.invariant.called asks shows;
       source_steady = c.in_ok-batch.ensures.steady (λ is. absurd (cc)) ∙ c.batches.invariant.source_steady;
       sink_steady = (c.in_ok-take_batch-in-Batch.ensures.steady (λ is. absurd (cc))).0 ∙ c.batches.invariant.sink_steady;
       notes_steady = (c.in_ok-take_batch-in-Batch.ensures.steady (λ is. absurd (cc))).1 ∙ c.batches.invariant.notes_steady;
@@ -255,3 +260,35 @@ returns-in_err-tell_refused-in-Refused-clause-steady g c other = absurd (other (
 
 pub returns-in_err-tell_refused-in-Refused-clause-unread : goal.returns-in_err-tell_refused-in-Refused-clause-unread
 returns-in_err-tell_refused-in-Refused-clause-unread g c other = c.in_ok-batch.ensures.steady (λ is. absurd (cc)) ∙ c.batches.invariant.source_steady
+
+-- ---- the reads
+
+pub returns-in_err-take_batch-in-Batch-clause-asks : goal.returns-in_err-take_batch-in-Batch-clause-asks
+returns-in_err-take_batch-in-Batch-clause-asks g c =
+    read_by g.S.Source.left g.S.Source.reads g.A.EventApp.event_of c.args.job.now.app c.args.job.now.settings.size c.args.source.now c.batches.progress.reader c.next_batch.new.self c.batches.source c.next_batch.new.source _
+    c.batches.invariant.called c.in_ok-batch.ensures.asks c.in_ok-batch.ensures.shows
+
+pub returns-in-End-clause-asks : goal.returns-in-End-clause-asks
+returns-in-End-clause-asks g c =
+    read_by g.S.Source.left g.S.Source.reads g.A.EventApp.event_of c.args.job.now.app c.args.job.now.settings.size c.args.source.now c.batches.progress.reader c.next_batch.new.self c.batches.source c.next_batch.new.source _
+    c.batches.invariant.called c.in_ok-batch.ensures.asks c.in_ok-batch.ensures.shows
+
+pub returns-in_err-tell_closing-in-End-clause-asks : goal.returns-in_err-tell_closing-in-End-clause-asks
+returns-in_err-tell_closing-in-End-clause-asks g c =
+    read_by g.S.Source.left g.S.Source.reads g.A.EventApp.event_of c.args.job.now.app c.args.job.now.settings.size c.args.source.now c.batches.progress.reader c.next_batch.new.self c.batches.source c.next_batch.new.source _
+    c.batches.invariant.called c.in_ok-batch.ensures.asks c.in_ok-batch.ensures.shows
+
+pub returns-in-Refused-clause-asks : goal.returns-in-Refused-clause-asks
+returns-in-Refused-clause-asks g c =
+    read_by g.S.Source.left g.S.Source.reads g.A.EventApp.event_of c.args.job.now.app c.args.job.now.settings.size c.args.source.now c.batches.progress.reader c.next_batch.new.self c.batches.source c.next_batch.new.source _
+    c.batches.invariant.called c.in_ok-batch.ensures.asks c.in_ok-batch.ensures.shows
+
+pub returns-in_err-tell_refused-in-Refused-clause-asks : goal.returns-in_err-tell_refused-in-Refused-clause-asks
+returns-in_err-tell_refused-in-Refused-clause-asks g c =
+    read_by g.S.Source.left g.S.Source.reads g.A.EventApp.event_of c.args.job.now.app c.args.job.now.settings.size c.args.source.now c.batches.progress.reader c.next_batch.new.self c.batches.source c.next_batch.new.source _
+    c.batches.invariant.called c.in_ok-batch.ensures.asks c.in_ok-batch.ensures.shows
+
+pub returns-in_err-batch-clause-asks : goal.returns-in_err-batch-clause-asks
+returns-in_err-batch-clause-asks g c =
+    read_by g.S.Source.left g.S.Source.reads g.A.EventApp.event_of c.args.job.now.app c.args.job.now.settings.size c.args.source.now c.batches.progress.reader c.next_batch.new.self c.batches.source c.next_batch.new.source _
+    c.batches.invariant.called c.in_err-batch.ensures.asks c.in_err-batch.ensures.shows

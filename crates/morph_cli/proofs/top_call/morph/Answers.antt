@@ -1,6 +1,8 @@
 -- The answers of `morph`.
 use Rattle.std.proofs.Common.{◌≡◌, map, sym, ap, subst, ◌∙◌}
 use Rattle.morph_io.specs.Told.{HasRisen}
+use Rattle.morph_cli.specs.Apps.{meaning_of}
+use Rattle.morph_cli.specs.Calls.{IsReadBy}
 use Rattle.morph_cli.specs.Outputs.{outputs_of}
 use Rattle.morph_cli.specs.Status.{status_of, EndsWith}
 use Rattle.morph_cli.specs.Tallies.{IsBalanced}
@@ -42,6 +44,11 @@ pub returns-clause-unread : goal.returns-clause-unread
 returns-clause-unread g c =
     asked_so (λ s. s.ahead ≡ 0 → (c.status.result ≡ 4 → ⊥) → g.S.Source.faults c.run_app-end.new.source ≡ g.S.Source.faults c.args.source.now) (settings_of (map (λ word. word.items) c.args.words.now)) c.in-Some.settings (sym c.in-Some.ensures.asked)
     (λ none other. c.run_app-end.ensures.unread none (λ is. other (c.status.ensures ∙ ap status_of is)))
+
+pub returns-clause-asks : goal.returns-clause-asks
+returns-clause-asks g c =
+    asked_so (λ s. s.ahead ≡ 0 → IsReadBy g.S.Source.left g.S.Source.reads (meaning_of s) c.args.source.now c.run_app-end.new.source) (settings_of (map (λ word. word.items) c.args.words.now)) c.in-Some.settings (sym c.in-Some.ensures.asked)
+    c.run_app-end.ensures.asks
 
 pub returns-clause-balanced : goal.returns-clause-balanced
 returns-clause-balanced g c =

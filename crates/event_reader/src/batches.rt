@@ -63,6 +63,8 @@ fn read_batch<A: EventApp, S: Source>(
     ensures full { IsErrOf result ReaderFault.TooLong → lines.new.taken ≡ lines.new.limit }
     ensures asked { IsErrOf result ReaderFault.ReadFault → lines.old.ended ≡ false }
     ensures never_falls { S.faults source.old ≤ S.faults source.new }
+    ensures steady { (IsErrOf result ReaderFault.ReadFault → ⊥)
+        → S.faults source.new ≡ S.faults source.old }
     ensures cause { IsErrOf result ReaderFault.ReadFault
         → HasRisen (S.faults source.old) (S.faults source.new) }
     ensures asks { AsksForBatch S.left S.reads (A.event_of app.now size)
@@ -182,7 +184,7 @@ impl<A: EventApp> BatchReader<A> {
     /// A [`Next::Batch`] has an event at least, is valid, and has the greatest value of the version. The answer is
     /// [`Next::End`] exactly at the end of the input with no event pending, and [`Next::Refused`] exactly at the
     /// first refused line. [`ReaderFault::ReadFault`] comes only where the source's count of faults rose in this
-    /// call, and [`ReaderFault::TooLong`] exactly where as many bytes as the limit were taken, none of their lines is
+    /// call, which it does with no other answer, and [`ReaderFault::TooLong`] exactly where as many bytes as the limit were taken, none of their lines is
     /// refused, and the source gave one more. After every other answer than a batch it may not be asked again.
     pub fn next_batch<S: Source>(
         &mut self,
@@ -212,6 +214,8 @@ impl<A: EventApp> BatchReader<A> {
             ≡ self.new.lines.limit }
         ensures asked { IsErrOf result ReaderFault.ReadFault → self.old.lines.ended ≡ false }
         ensures never_falls { S.faults source.old ≤ S.faults source.new }
+        ensures steady { (IsErrOf result ReaderFault.ReadFault → ⊥)
+            → S.faults source.new ≡ S.faults source.old }
         ensures cause { IsErrOf result ReaderFault.ReadFault
             → HasRisen (S.faults source.old) (S.faults source.new) }
         ensures asks { AsksForNext S.left S.reads A.event_of self.old source.old result self.new

@@ -1,4 +1,4 @@
-ghost use Rattle.std.specs.Prelude.{◌≡◌, ℕ, ◌+◌, ◌-◌, ◌<◌, ◌≤◌, ◌==◌, min, if◌then◌else◌, length, take, slice_range, IfOk, OnErr};
+ghost use Rattle.std.specs.Prelude.{◌≡◌, ℕ, ◌+◌, ◌-◌, ◌<◌, ◌≤◌, ◌==◌, min, if◌then◌else◌, length, take, slice_range, IfOk, OnOk, OnErr};
 ghost use Rattle.morph_io.specs.Told.{ahead, IsAtEnd, HasRisen};
 
 use crate::answers::LineNext;
@@ -77,6 +77,7 @@ fn read_behind<S: Source>(
     ensures at_end { IfOk result (λ n. n ≡ 0 → IsAtEnd (S.left source.new)) }
     ensures failed { OnErr result (S.left source.new ≡ S.left source.old) }
     ensures never_falls { S.faults source.old ≤ S.faults source.new }
+    ensures steady { OnOk result (S.faults source.new ≡ S.faults source.old) }
     ensures cause { OnErr result (HasRisen (S.faults source.old) (S.faults source.new)) }
     ensures does { S.reads source.old most result source.new }
 {
@@ -168,6 +169,8 @@ impl Lines {
         ensures fills { Fills self.old (S.left source.old) result self.new (S.left source.new) }
         ensures bound { self.new.number ≤ self.new.limit + 1 }
         ensures never_falls { S.faults source.old ≤ S.faults source.new }
+        ensures steady { (IsErrOf result ReaderFault.ReadFault → ⊥)
+            → S.faults source.new ≡ S.faults source.old }
         ensures cause { IsErrOf result ReaderFault.ReadFault
             → HasRisen (S.faults source.old) (S.faults source.new) }
         ensures asks { FillsBy S.left S.reads self.old source.old result self.new source.new }
@@ -197,7 +200,7 @@ impl Lines {
     ///
     /// The answer is [`LineNext::End`] exactly at the end of the input with no line pending, and [`LineNext::Long`]
     /// exactly where the next line is too long. [`ReaderFault::ReadFault`] comes only where the source's count of
-    /// faults rose in this call, and [`ReaderFault::TooLong`] exactly where as many bytes as the limit were taken, none
+    /// faults rose in this call, which it does with no other answer, and [`ReaderFault::TooLong`] exactly where as many bytes as the limit were taken, none
     /// of their lines is too long, and the source gave one more. It takes no memory.
     pub fn next_line<S: Source>(&mut self, source: &mut S) -> Result<LineNext, ReaderFault>
         requires live { IsTrue self.old.live }
@@ -217,6 +220,8 @@ impl Lines {
         ensures full { IsErrOf result ReaderFault.TooLong → self.new.taken ≡ self.new.limit }
         ensures asked { OnErr result (self.new.ended ≡ false) }
         ensures never_falls { S.faults source.old ≤ S.faults source.new }
+        ensures steady { (IsErrOf result ReaderFault.ReadFault → ⊥)
+            → S.faults source.new ≡ S.faults source.old }
         ensures cause { IsErrOf result ReaderFault.ReadFault
             → HasRisen (S.faults source.old) (S.faults source.new) }
         ensures asks { AsksForLine S.left S.reads self.old source.old result self.new source.new }

@@ -1,5 +1,5 @@
 -- What is said of the whole call, from what is said of the run.
-use Rattle.std.proofs.Common.{◌≡◌, ◌≤◌, ◌⊎◌, ◌∙◌, arith, inl, inr, ℕ, List, Option, Some, None, Result, Ok, Err, IsSome, refl, sym, subst}
+use Rattle.std.proofs.Common.{◌≡◌, ◌≤◌, ◌⊎◌, ◌∙◌, arith, inl, inr, ℕ, List, Option, Some, None, Result, Ok, Err, IsSome, refl, sym, ap, subst}
 use Rattle.std.specs.Prelude.{option_map, IfSome, IsErrOf, IsTrue}
 use Rattle.event_reader.specs.declared.limits.TheConstants.{INPUT_BYTES}
 use Rattle.morph_cli.specs.declared.fault.Fault.{Fault}
@@ -9,13 +9,13 @@ use Rattle.morph_cli.specs.declared.run.Finish.TheVariants.{Complete, Refused}
 use Rattle.run_text.specs.declared.choices.Settings.{Settings}
 use Rattle.morph_cli.specs.Apps.{input_of, left_by, meaning_of, telling_of}
 use Rattle.morph_cli.specs.Runs.{EndsSo, EndsMade}
-use Rattle.morph_cli.specs.Status.{note_at, status_of, IsMadeStatus}
+use Rattle.morph_cli.specs.Status.{EndsNotes, status_of, IsMadeStatus}
 use Rattle.event_reader.specs.Accepted.{accepted, accepted_within}
 use Rattle.run_text.specs.declared.tally.Tally.{Tally}
 use Rattle.morph_cli.specs.Outputs.{Outputs, has_notes, outputs_of}
 use Rattle.morph_cli.specs.Tallies.{RunTold, CallTold}
-use Rattle.morph_io.specs.Told.{behind, HasRisen, AppendsPrefix}
-use Rattle.morph_cli.proofs.Noting.{risen_before, risen_later}
+use Rattle.morph_io.specs.Told.{HasRisen}
+use Rattle.morph_cli.proofs.Noting.{risen_before}
 use Rattle.morph_cli.specs.Headline.{Headline, Completes}
 use Rattle.morph_cli.proofs.Headlines.{headline, completes, told_all}
 
@@ -43,35 +43,44 @@ headline_asked asked s told left old new r status is status_is ends =
         subst (λ n. Headline (meaning_of s) (telling_of s) INPUT_BYTES input (left_by s.generated left) old new n) (sym status_is)
         (headline (meaning_of s) (telling_of s) INPUT_BYTES input (left_by s.generated left) old new r ends)
 
-pub completes_asked : (asked : Option Settings) (s : Settings) (told left old new : Option (List ℕ)) (r : Result Finish Fault) (status : ℕ) (risen : Type 0) →
-    asked ≡ Some s → status ≡ status_of r → Ends s told left old r new → (IsErrOf r Read → ⊥) → ((IsTrue (has_notes s) → risen → ⊥) → IsErrOf r Write → ⊥) →
-    IfSome asked (λ s. (IsTrue (has_notes s) → risen → ⊥) → IfSome (input_of s told) (λ input. Completes (meaning_of s) INPUT_BYTES input status))
-completes_asked asked s told left old new r status risen is status_is ends reads writes =
-    asked_so (λ s. (IsTrue (has_notes s) → risen → ⊥) → IfSome (input_of s told) (λ input. Completes (meaning_of s) INPUT_BYTES input status)) asked s is
-    (λ none. by_told (writes none) (input_of s told) ends)
+pub completes_asked : (asked : Option Settings) (s : Settings) (told left old new : Option (List ℕ)) (r : Result Finish Fault) (status : ℕ) →
+    asked ≡ Some s → status ≡ status_of r → Ends s told left old r new → (IsErrOf r Read → ⊥) → (IsErrOf r Write → ⊥) →
+    IfSome asked (λ s. IfSome (input_of s told) (λ input. Completes (meaning_of s) INPUT_BYTES input status))
+completes_asked asked s told left old new r status is status_is ends reads writes =
+    asked_so (λ s. IfSome (input_of s told) (λ input. Completes (meaning_of s) INPUT_BYTES input status)) asked s is (by_told (input_of s told) ends)
   where
-    by_told : (IsErrOf r Write → ⊥) → (told : Option (List ℕ)) → EndsBy s told left old r new → IfSome told (λ input. Completes (meaning_of s) INPUT_BYTES input status)
-    by_told writes None ends = tt
-    by_told writes (Some input) ends =
+    by_told : (told : Option (List ℕ)) → EndsBy s told left old r new → IfSome told (λ input. Completes (meaning_of s) INPUT_BYTES input status)
+    by_told None ends = tt
+    by_told (Some input) ends =
         subst (λ n. Completes (meaning_of s) INPUT_BYTES input n) (sym status_is)
         (completes (meaning_of s) (telling_of s) INPUT_BYTES input (left_by s.generated left) old new r ends reads writes)
 
+-- a status of a failed write
+is_write : (r : Result Finish Fault) → status_of r ≡ 5 → IsErrOf r Write
+is_write (Ok Complete) five = absurd (omega (arith, five))
+is_write (Ok Refused) five = absurd (omega (arith, five))
+is_write (Err Read) five = absurd (omega (arith, five))
+is_write (Err Write) five = refl
+is_write (Err OutOfMemory) five = absurd (omega (arith, five))
+is_write (Err TooLong) five = absurd (omega (arith, five))
+
 -- what is told of the call, over the whole input
 pub told_asked : (asked : Option Settings) (s : Settings) (told left : Option (List ℕ)) (r : Result Finish Fault) (status : ℕ) (t : Tally)
-    (old ran : Outputs) (after : Option (List ℕ)) (risen_from risen_by risen_to : ℕ) → asked ≡ Some s → status ≡ status_of r → Ends s told left old.sink r ran.sink →
+    (old ran : Outputs) (after : Option (List ℕ)) (Sunk : Type 0) (n0 n1 n2 : ℕ) → asked ≡ Some s → status ≡ status_of r → Ends s told left old.sink r ran.sink →
     RunTold (telling_of s) (option_map (accepted_within (meaning_of s) INPUT_BYTES) (input_of s told)) s (status_of r) t old ran →
-    AppendsPrefix ran.notes (note_at (status_of r)) after → ((HasRisen risen_by risen_to → ⊥) → after ≡ behind ran.notes (note_at (status_of r))) →
-    risen_from ≤ risen_by → risen_by ≤ risen_to →
-    IfSome asked (λ s. CallTold (telling_of s) (option_map (accepted (meaning_of s)) (input_of s told)) s status t old (outputs_of ran.sink after) (HasRisen risen_from risen_to))
-told_asked asked s told left r status t old ran after risen_from risen_by risen_to is status_is ends run last whole first second =
-    asked_so (λ s. CallTold (telling_of s) (option_map (accepted (meaning_of s)) (input_of s told)) s status t old (outputs_of ran.sink after) (HasRisen risen_from risen_to)) asked s is
-    (subst (λ n. CallTold (telling_of s) (option_map (accepted (meaning_of s)) (input_of s told)) s n t old (outputs_of ran.sink after) (HasRisen risen_from risen_to)) (sym status_is)
+    EndsNotes (status_of r) ran.notes after n1 n2 → (IsErrOf r Write → Sunk ⊎ (IsTrue (has_notes s) × HasRisen n0 n1)) → ((IsErrOf r Write → ⊥) → n1 ≡ n0) →
+    IfSome asked (λ s. CallTold (telling_of s) (option_map (accepted (meaning_of s)) (input_of s told)) s status t old (outputs_of ran.sink after) Sunk n0 n2)
+told_asked asked s told left r status t old ran after Sunk n0 n1 n2 is status_is ends run last cause steady =
+    asked_so (λ s. CallTold (telling_of s) (option_map (accepted (meaning_of s)) (input_of s told)) s status t old (outputs_of ran.sink after) Sunk n0 n2) asked s is
+    (subst (λ n. CallTold (telling_of s) (option_map (accepted (meaning_of s)) (input_of s told)) s n t old (outputs_of ran.sink after) Sunk n0 n2) (sym status_is)
     (record {
       ran = ran;
       run = by_told (input_of s told) ends run;
       sink = refl;
+      before = n1;
+      cause = λ five. cause (is_write r five);
+      steady = λ other. steady (λ is. other (ap status_of is));
       last = last;
-      whole = λ none. whole (λ later. none (risen_later risen_from risen_by risen_to first second later));
     }))
   where
     by_told : (told : Option (List ℕ)) → EndsBy s told left old.sink r ran.sink
@@ -95,15 +104,6 @@ pub made_asked : {X : Type 0} (asked : Option Settings) (s : Settings) (old new 
 made_asked asked s old new r status is status_is made =
     asked_so (λ s. IsSome s.generated → (new ≡ old) × IsMadeStatus status) asked s is
     (λ some. let m = made some in (m.0, subst IsMadeStatus (sym status_is) (made_status r m.1)))
-
--- a status of a failed write
-is_write : (r : Result Finish Fault) → status_of r ≡ 5 → IsErrOf r Write
-is_write (Ok Complete) five = absurd (omega (arith, five))
-is_write (Ok Refused) five = absurd (omega (arith, five))
-is_write (Err Read) five = absurd (omega (arith, five))
-is_write (Err Write) five = refl
-is_write (Err OutOfMemory) five = absurd (omega (arith, five))
-is_write (Err TooLong) five = absurd (omega (arith, five))
 
 pub write_asked : (asked : Option Settings) (s : Settings) (r : Result Finish Fault) (status : ℕ) (Sunk : Type 0) (n0 n1 n2 : ℕ) → asked ≡ Some s → status ≡ status_of r →
     (IsErrOf r Write → Sunk ⊎ (IsTrue (has_notes s) × HasRisen n0 n1)) → n1 ≤ n2 → IfSome asked (λ s. status ≡ 5 → Sunk ⊎ (IsTrue (has_notes s) × HasRisen n0 n2))

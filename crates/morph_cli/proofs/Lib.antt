@@ -15,3 +15,4 @@ pub mod Starting
 pub mod Piping
 pub mod Tails
 pub mod Bounds
+pub mod Calling

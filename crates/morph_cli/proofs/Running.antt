@@ -11,12 +11,20 @@ use Rattle.morph_base.proofs.PlainLaws.{fates-nil}
 use Rattle.morph_io.specs.Told.{behind, behind_nil, behind_behind, AppendsPrefix}
 use Rattle.morph_io.proofs.Putting.{prefix_more}
 use Rattle.event_reader.specs.Accepted.{Accepted, Ending, Ended, RefusedAt, CutOff, with_batch}
-use Rattle.run_text.proofs.Writes.{prefix_after}
 use Rattle.run_text.specs.declared.tally.Tally.{Tally}
 use Rattle.run_text.specs.declared.report.Report.{Report}
 use Rattle.run_text.specs.declared.report.Report.TheVariants.{Whole, Summary}
 use Rattle.run_text.specs.Text.{Telling, in_order, run_state, run_fates, event_lines, told_lines, event_line, committed_in, aborted_in, told_values, counts_line, closing_text, end_text, whole_text, refused_text}
 use Rattle.morph_cli.specs.Runs.{AppendsBatches}
+
+-- a prefix of what comes after some bytes
+prefix_after : (old new newer : Option (List ℕ)) (front text : List ℕ) → new ≡ behind old front → AppendsPrefix new text newer → AppendsPrefix old (front ++ text) newer
+prefix_after old new newer front text appended cut = record {
+  done = front ++ cut.done;
+  rest = cut.rest;
+  parts = ap (λ l. front ++ l) cut.parts ∙ sym (append_assoc front cut.done cut.rest);
+  appended = cut.appended ∙ ap (λ w. behind w cut.done) appended ∙ behind_behind old front cut.done;
+}
 
 -- batches that were done, in front of those that are still to come
 abbrev pub fronts : List (List Transaction) → Accepted → Accepted

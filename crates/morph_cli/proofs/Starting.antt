@@ -3,6 +3,7 @@ use Rattle.std.proofs.Common.{◌≡◌, ◌⊎◌, inl, inr, ℕ, List, [], ◌
 use Rattle.std.proofs.lemmas.List.Elements.{All-nil}
 use Rattle.std.specs.Prelude.{option_map, IsSome, IfSome, IfOk, IsTrue}
 use Rattle.morph_base.specs.Transactions.{Transaction}
+use Rattle.morph_io.specs.declared.source.ReadFailed.{ReadFailed}
 use Rattle.morph_io.specs.Told.{behind, behind_nil}
 use Rattle.event_reader.specs.Accepted.{Accepted, accepted, accepted_within}
 use Rattle.run_text.specs.declared.choices.Settings.{Settings}
@@ -17,6 +18,8 @@ use Rattle.morph_cli.specs.Headline.{Headline, Completes, input_limit}
 use Rattle.morph_cli.specs.Outputs.{Outputs, has_notes, outputs_of, with_batches, notes_from}
 use Rattle.morph_cli.specs.Status.{IsMadeStatus, EndsNotes}
 use Rattle.morph_cli.specs.Tallies.{RunTold, CallTold, IsChecked}
+use Rattle.morph_cli.specs.Calls.{IsReadBy}
+use Rattle.morph_cli.proofs.Calling.{unread_by}
 use Rattle.morph_cli.proofs.Headlines.{headline}
 use Rattle.morph_cli.proofs.Noting.{no_audits}
 use Rattle.morph_cli.proofs.Running.{nothing_told}
@@ -32,21 +35,28 @@ HeadlineBy words told left old new status =
 abbrev pub UsageBy : (words : List (List ℕ)) → (status : ℕ) → Type 0
 UsageBy words status = (status ≡ 2 → settings_of words ≡ None) × (settings_of words ≡ None → (status ≡ 2) ⊎ (status ≡ 6))
 
--- what came of a run, where nothing is said of the sink and the source but by these
-abbrev pub CompletesBy : (told : Option (List ℕ)) → (HasFailed : Type 0) → (words : List (List ℕ)) → (status : ℕ) → Type 0
-CompletesBy told HasFailed words status =
-    IfSome (settings_of words) (λ s. (IsTrue (has_notes s) → HasFailed → ⊥) → IfSome (input_of s told) (λ input. Completes (meaning_of s) input_limit input status))
+abbrev pub CompletesBy : (told : Option (List ℕ)) → (words : List (List ℕ)) → (status : ℕ) → Type 0
+CompletesBy told words status = IfSome (settings_of words) (λ s. IfSome (input_of s told) (λ input. Completes (meaning_of s) input_limit input status))
+
+abbrev pub WriteBy : (Sunk Noted : Type 0) → (words : List (List ℕ)) → (status : ℕ) → Type 0
+WriteBy Sunk Noted words status = IfSome (settings_of words) (λ s. status ≡ 5 → Sunk ⊎ (IsTrue (has_notes s) × Noted))
+
+abbrev pub UnreadBy : (Same : Type 0) → (words : List (List ℕ)) → (status : ℕ) → Type 0
+UnreadBy Same words status = IfSome (settings_of words) (λ s. s.ahead ≡ 0 → (status ≡ 4 → ⊥) → Same)
+
+abbrev pub AsksBy : {S : Type 0} → (left_of : S → Option (List ℕ)) → (reads : S → ℕ → Result ℕ ReadFailed → S → Type 0) → (source source' : S) → (words : List (List ℕ)) → (status : ℕ) → Type 0
+AsksBy left_of reads source source' words status = IfSome (settings_of words) (λ s. s.ahead ≡ 0 → IsReadBy left_of reads (meaning_of s) source source')
 
 abbrev pub MadeBy : (Same : Type 0) → (words : List (List ℕ)) → (status : ℕ) → Type 0
 MadeBy Same words status = IfSome (settings_of words) (λ s. IsSome s.generated → Same × IsMadeStatus status)
 
-abbrev pub ToldBy : (told : Option (List ℕ)) → (old new : Outputs) → (HasFailed : Type 0) → (words : List (List ℕ)) → (status : ℕ) → Type 0
-ToldBy told old new HasFailed words status =
-    IfSome (settings_of words) (λ s. (t : Tally) × CallTold (telling_of s) (option_map (accepted (meaning_of s)) (input_of s told)) s status t old new HasFailed)
+abbrev pub ToldBy : (told : Option (List ℕ)) → (old new : Outputs) → (Sunk : Type 0) → (faults faults' : ℕ) → (words : List (List ℕ)) → (status : ℕ) → Type 0
+ToldBy told old new Sunk faults faults' words status =
+    IfSome (settings_of words) (λ s. (t : Tally) × CallTold (telling_of s) (option_map (accepted (meaning_of s)) (input_of s told)) s status t old new Sunk faults faults')
 
-abbrev pub UntouchedBy : {S K : Type 0} → (source source' : S) → (sink sink' : K) → (old new : Option (List ℕ)) → (HasFailed : Type 0) → (words : List (List ℕ)) → (status : ℕ) → Type 0
-UntouchedBy source source' sink sink' old new HasFailed words status =
-    settings_of words ≡ None → (source' ≡ source) × (sink' ≡ sink) × EndsNotes status old new HasFailed
+abbrev pub UntouchedBy : {S K : Type 0} → (source source' : S) → (sink sink' : K) → (old new : Option (List ℕ)) → (faults faults' : ℕ) → (words : List (List ℕ)) → (status : ℕ) → Type 0
+UntouchedBy source source' sink sink' old new faults faults' words status =
+    settings_of words ≡ None → (source' ≡ source) × (sink' ≡ sink) × EndsNotes status old new faults faults'
 
 -- what holds of the words that the call was given, and of its status, holds of those of the arguments, and of the program's
 pub along : (P : List (List ℕ) → ℕ → Type 0) (words words' : List (List ℕ)) (status status' : ℕ) → words ≡ words' → status' ≡ status → P words status → P words' status'
@@ -62,12 +72,12 @@ pub usage_along : (words words' : List (List ℕ)) (status status' : ℕ) → wo
 usage_along words words' status status' same is holds = along UsageBy words words' status status' same is (holds.0, λ none. inl (holds.1 none))
 
 -- the tally of a call is some tally
-pub tally_told : (told : Option (List ℕ)) (old new : Outputs) (HasFailed : Type 0) (words : List (List ℕ)) (status : ℕ) (t : Tally)
-    → IfSome (settings_of words) (λ s. CallTold (telling_of s) (option_map (accepted (meaning_of s)) (input_of s told)) s status t old new HasFailed) → ToldBy told old new HasFailed words status
-tally_told told old new HasFailed words status t holds = by_settings (settings_of words) holds
+pub tally_told : (told : Option (List ℕ)) (old new : Outputs) (Sunk : Type 0) (faults faults' : ℕ) (words : List (List ℕ)) (status : ℕ) (t : Tally)
+    → IfSome (settings_of words) (λ s. CallTold (telling_of s) (option_map (accepted (meaning_of s)) (input_of s told)) s status t old new Sunk faults faults') → ToldBy told old new Sunk faults faults' words status
+tally_told told old new Sunk faults faults' words status t holds = by_settings (settings_of words) holds
   where
-    by_settings : (o : Option Settings) → IfSome o (λ s. CallTold (telling_of s) (option_map (accepted (meaning_of s)) (input_of s told)) s status t old new HasFailed)
-        → IfSome o (λ s. (t : Tally) × CallTold (telling_of s) (option_map (accepted (meaning_of s)) (input_of s told)) s status t old new HasFailed)
+    by_settings : (o : Option Settings) → IfSome o (λ s. CallTold (telling_of s) (option_map (accepted (meaning_of s)) (input_of s told)) s status t old new Sunk faults faults')
+        → IfSome o (λ s. (t : Tally) × CallTold (telling_of s) (option_map (accepted (meaning_of s)) (input_of s told)) s status t old new Sunk faults faults')
     by_settings None holds = tt
     by_settings (Some s) holds = (t, holds)
 
@@ -91,11 +101,22 @@ no_memory words told old status is = by_settings (settings_of words)
     by_settings None = tt
     by_settings (Some s) = by_input s (input_of s told)
 
-pub no_memory_completes : (told : Option (List ℕ)) (HasFailed : Type 0) (words : List (List ℕ)) (status : ℕ) → status ≡ 6 → CompletesBy told HasFailed words status
-no_memory_completes told HasFailed words status is =
-    for_some (λ s. (IsTrue (has_notes s) → HasFailed → ⊥) → IfSome (input_of s told) (λ input. Completes (meaning_of s) input_limit input status)) (settings_of words)
-    (λ s none. for_some (λ input. Completes (meaning_of s) input_limit input status) (input_of s told)
+pub no_memory_completes : (told : Option (List ℕ)) (words : List (List ℕ)) (status : ℕ) → status ≡ 6 → CompletesBy told words status
+no_memory_completes told words status is =
+    for_some (λ s. IfSome (input_of s told) (λ input. Completes (meaning_of s) input_limit input status)) (settings_of words)
+    (λ s. for_some (λ input. Completes (meaning_of s) input_limit input status) (input_of s told)
     (λ input. record { done = λ few ended. inr is; refused = λ line cause refused. inr is; long = λ long. inr is }))
+
+pub no_memory_write : (Sunk Noted : Type 0) (words : List (List ℕ)) (status : ℕ) → status ≡ 6 → WriteBy Sunk Noted words status
+no_memory_write Sunk Noted words status is =
+    for_some (λ s. status ≡ 5 → Sunk ⊎ (IsTrue (has_notes s) × Noted)) (settings_of words) (λ s five. absurd (omega (arith, is, five)))
+
+pub no_memory_unread : (Same : Type 0) (words : List (List ℕ)) (status : ℕ) → Same → UnreadBy Same words status
+no_memory_unread Same words status same = for_some (λ s. s.ahead ≡ 0 → (status ≡ 4 → ⊥) → Same) (settings_of words) (λ s none other. same)
+
+pub no_memory_asks : {S : Type 0} (left_of : S → Option (List ℕ)) (reads : S → ℕ → Result ℕ ReadFailed → S → Type 0) (source : S) (words : List (List ℕ)) (status : ℕ) → AsksBy left_of reads source source words status
+no_memory_asks left_of reads source words status =
+    for_some (λ s. s.ahead ≡ 0 → IsReadBy left_of reads (meaning_of s) source source) (settings_of words) (λ s none. unread_by left_of reads (meaning_of s) source)
 
 pub no_memory_made : (Same : Type 0) (words : List (List ℕ)) (status : ℕ) → status ≡ 6 → Same → MadeBy Same words status
 no_memory_made Same words status is same = for_some (λ s. IsSome s.generated → Same × IsMadeStatus status) (settings_of words) (λ s made. (same, inr (inr is)))
@@ -136,31 +157,23 @@ told_unrun telling told s old =
       cut = λ five. absurd (omega (arith, five));
     }
 
-pub no_memory_notes : (old new : Option (List ℕ)) (HasFailed : Type 0) (status : ℕ) → status ≡ 6 → EndsNotes 6 old new HasFailed → EndsNotes status old new HasFailed
-no_memory_notes old new HasFailed status is noted = subst (λ n. EndsNotes n old new HasFailed) (sym is) noted
+pub no_memory_notes : (old new : Option (List ℕ)) (faults faults' status : ℕ) → status ≡ 6 → EndsNotes 6 old new faults faults' → EndsNotes status old new faults faults'
+no_memory_notes old new faults faults' status is noted = subst (λ n. EndsNotes n old new faults faults') (sym is) noted
 
-pub no_memory_told : (told sink old new : Option (List ℕ)) (HasFailed : Type 0) (words : List (List ℕ)) (status : ℕ) → status ≡ 6 → EndsNotes 6 old new HasFailed
-    → ToldBy told (outputs_of sink old) (outputs_of sink new) HasFailed words status
-no_memory_told told sink old new HasFailed words status is noted =
-    for_some (λ s. (t : Tally) × CallTold (telling_of s) (option_map (accepted (meaning_of s)) (input_of s told)) s status t (outputs_of sink old) (outputs_of sink new) HasFailed) (settings_of words)
+pub no_memory_told : (told sink old new : Option (List ℕ)) (Sunk : Type 0) (faults faults' : ℕ) (words : List (List ℕ)) (status : ℕ) → status ≡ 6 → EndsNotes 6 old new faults faults'
+    → ToldBy told (outputs_of sink old) (outputs_of sink new) Sunk faults faults' words status
+no_memory_told told sink old new Sunk faults faults' words status is noted =
+    for_some (λ s. (t : Tally) × CallTold (telling_of s) (option_map (accepted (meaning_of s)) (input_of s told)) s status t (outputs_of sink old) (outputs_of sink new) Sunk faults faults') (settings_of words)
     (λ s. (
       no_tally,
-      subst (λ n. CallTold (telling_of s) (option_map (accepted (meaning_of s)) (input_of s told)) s n no_tally (outputs_of sink old) (outputs_of sink new) HasFailed) (sym is)
+      subst (λ n. CallTold (telling_of s) (option_map (accepted (meaning_of s)) (input_of s told)) s n no_tally (outputs_of sink old) (outputs_of sink new) Sunk faults faults') (sym is)
           (record {
             ran = outputs_of sink old;
             run = told_unrun (telling_of s) (option_map (accepted (meaning_of s)) (input_of s told)) s (outputs_of sink old);
             sink = refl;
-            last = noted.last;
-            whole = noted.whole;
+            before = faults;
+            cause = λ five. absurd (omega (arith, five));
+            steady = λ other. refl;
+            last = noted;
           }),
     ))
-
--- a write failed, whatever the settings say of the notes
-pub write_along : (asked : Option Settings) (status status' : ℕ) (Sunk Noted : Type 0) → status' ≡ status → (asked ≡ None → status ≡ 2) →
-    IfSome asked (λ s. status ≡ 5 → Sunk ⊎ (IsTrue (has_notes s) × Noted)) → status' ≡ 5 → Sunk ⊎ Noted
-write_along None status status' Sunk Noted is usage cause five = let two = usage refl in absurd (omega (arith, is, two, five))
-write_along (Some s) status status' Sunk Noted is usage cause five = by_cause (cause (sym is ∙ five))
-  where
-    by_cause : Sunk ⊎ (IsTrue (has_notes s) × Noted) → Sunk ⊎ Noted
-    by_cause (inl sunk) = inl sunk
-    by_cause (inr noted) = inr noted.1

@@ -36,6 +36,12 @@ error_same e f is = ap Err (error_value e f is)
     error_value : {T E : Type 0} (e f : E) → IsErrOf {T = T} (Err e) f → e ≡ f
     error_value e f is = cc
 
+pub error_as : {T U E F : Type 0} (f : E → F) (e e' : E) → IsErrOf {T = T} (Err e) e' → IsErrOf {T = U} (Err (f e)) (f e')
+error_as f e e' is = ap (λ x. Err (f x)) (error_value e e' is)
+  where
+    error_value : {T E : Type 0} (e f : E) → IsErrOf {T = T} (Err e) f → e ≡ f
+    error_value e f is = cc
+
 -- there is room for the number of one batch more
 pub few_batches : {App : Type 0} {c : Course App} {left : Option (List ℕ)} {new : Outputs} {r : ReaderView App} {values : Kept} {tally : Tally} {out : List ℕ} {last : Last} →
     Between c left new r values tally out last → c.limit ≤ 1073741824 → tally.batches + 1 < 2 ^ 64

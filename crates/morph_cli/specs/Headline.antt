@@ -29,7 +29,7 @@ pub record Headline (meaning : Meaning) (telling : Telling) (limit : ℕ) (input
   pub long : status ≡ 7 → (limit < length input) × ((accepted_within meaning limit input).ending ≡ CutOff)
       × (new ≡ behind old (event_lines telling.report (closed_batches meaning (take limit input))))
 
--- where no fault came, the status is the one that the input asks for, or want of memory
+-- the status is the one that the input asks for, or want of memory
 pub record Completes (meaning : Meaning) (limit : ℕ) (input : List ℕ) (status : ℕ) : Type 0 where
   pub done : length input ≤ limit → (accepted meaning input).ending ≡ Ended → (status ≡ 0) ⊎ (status ≡ 6)
   pub refused : (line : ℕ) (cause : Cause) → (accepted_within meaning limit input).ending ≡ RefusedAt line cause → (status ≡ 3) ⊎ (status ≡ 6)

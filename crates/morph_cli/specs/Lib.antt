@@ -9,3 +9,4 @@ pub mod Tallies
 pub mod Outputs
 pub mod Batches
 pub mod Endings
+pub mod Calls

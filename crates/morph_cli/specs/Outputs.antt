@@ -5,7 +5,8 @@ use Rattle.morph_base.specs.Transactions.{Transaction, by_time}
 use Rattle.morph_engine.specs.Accounts.{Account}
 use Rattle.morph_base.specs.Outcomes.{fates}
 use Rattle.morph_base.specs.States.{State, opening_state, after_all}
-use Rattle.morph_io.specs.Told.{behind, AppendsPrefix}
+use Rattle.morph_io.specs.Told.{behind}
+use Rattle.morph_io.specs.Writing.{AppendsPart}
 use Rattle.event_reader.specs.Accepted.{Accepted, Ending, CutOff}
 use Rattle.run_text.specs.declared.choices.Settings.{Settings}
 use Rattle.run_text.specs.declared.report.Report.{Report}
@@ -27,10 +28,10 @@ outputs_of sink notes = record { sink = sink; notes = notes }
 abbrev pub with_both : Outputs → (text note : List ℕ) → Outputs
 with_both old text note = outputs_of (behind old.sink text) (behind old.notes note)
 
--- one of the two writes failed: of the text a prefix stands, and nothing of the note; or the whole text, and of the note a prefix
+-- one of the two writes failed: of the text a part stands, and nothing of the note; or the whole text, and of the note a part
 abbrev pub IsCutIn : Outputs → (text note : List ℕ) → Outputs → Type 0
 IsCutIn old text note new =
-    (AppendsPrefix old.sink text new.sink × (new.notes ≡ old.notes)) ⊎ ((new.sink ≡ behind old.sink text) × AppendsPrefix old.notes note new.notes)
+    (AppendsPart old.sink text new.sink × (new.notes ≡ old.notes)) ⊎ ((new.sink ≡ behind old.sink text) × AppendsPart old.notes note new.notes)
 
 -- both by the answer of the call that writes them
 abbrev pub Tells : {T E : Type 0} → Result T E → Outputs → (text note : List ℕ) → Outputs → Type 0

@@ -4,7 +4,8 @@ use Rattle.morph_cli.specs.declared.fault.Fault.{Fault}
 use Rattle.morph_cli.specs.declared.fault.Fault.TheVariants.{Read, Write, OutOfMemory, TooLong}
 use Rattle.morph_cli.specs.declared.run.Finish.{Finish}
 use Rattle.morph_cli.specs.declared.run.Finish.TheVariants.{Complete, Refused}
-use Rattle.morph_io.specs.Told.{behind, AppendsPrefix}
+use Rattle.morph_io.specs.Told.{behind, HasRisen}
+use Rattle.morph_io.specs.Writing.{AppendsPart}
 use Rattle.run_text.specs.Text.{line}
 
 -- the status of a run
@@ -25,10 +26,13 @@ note_at status =
     else (if status == 6 then line (codes "morph: out of memory")
     else (if status == 7 then line (codes "morph: input too long") else []))))
 
--- the last line of the notes stands behind what stood there; a prefix of it where a write of it failed
-pub record EndsNotes (status : ℕ) (old new : Option (List ℕ)) (HasFailed : Type 0) : Type 0 where
-  pub last : AppendsPrefix old (note_at status) new
-  pub whole : (HasFailed → ⊥) → new ≡ behind old (note_at status)
+-- a last line stands in the notes behind what stood there, and none of its writes failed; or one failed, and a part of it stands there
+abbrev pub EndsWith : (line : List ℕ) → (old new : Option (List ℕ)) → (faults faults' : ℕ) → Type 0
+EndsWith line old new faults faults' = ((new ≡ behind old line) × (faults' ≡ faults)) ⊎ (AppendsPart old line new × HasRisen faults faults')
+
+-- it is the last line of the status
+abbrev pub EndsNotes : (status : ℕ) → (old new : Option (List ℕ)) → (faults faults' : ℕ) → Type 0
+EndsNotes status old new faults faults' = EndsWith (note_at status) old new faults faults'
 
 -- the statuses: 0, and 2 to 7
 abbrev pub IsStatus : ℕ → Type 0

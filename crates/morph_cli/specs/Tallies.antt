@@ -22,14 +22,14 @@ use Rattle.run_text.specs.declared.choices.Planning.{Planning}
 use Rattle.run_text.specs.declared.choices.Planning.TheVariants.{Fixed}
 use Rattle.run_text.specs.declared.choices.Settings.{Settings}
 use Rattle.run_text.specs.declared.tally.Tally.{Tally}
-use Rattle.morph_io.specs.Told.{behind, AppendsPrefix}
+use Rattle.morph_io.specs.Told.{HasRisen}
 use Rattle.run_text.specs.Notes.{noted, closing_notes, is_cut}
 use Rattle.run_text.specs.Checks.{is_checked}
 use Rattle.interleaving_core.specs.Core.{Core, start}
 use Rattle.interleaving_core.specs.Orders.{Leads}
 use Rattle.run_checker.specs.Answers.{SettlesWholeFold}
-use Rattle.morph_cli.specs.Outputs.{Outputs, with_both, with_batches, AreAudits, IsCutIn, IsCutInBatch, IsAtLast}
-use Rattle.morph_cli.specs.Status.{note_at}
+use Rattle.morph_cli.specs.Outputs.{Outputs, has_notes, with_both, with_batches, AreAudits, IsCutIn, IsCutInBatch, IsAtLast}
+use Rattle.morph_cli.specs.Status.{EndsNotes}
 use Rattle.morph_cli.specs.Strategies.{strategy_by}
 use Rattle.decision_model.specs.Choices.{last_of, no_last}
 use Rattle.run_text.specs.Text.{Telling, run_fates, committed_in, aborted_in, end_text}
@@ -167,10 +167,15 @@ pub record RunTold (telling : Telling) (told : Option Accepted) (s : Settings) (
   pub cut : status ≡ 5 → IsCutInBatch telling.report s done accounts audits old new ⊎ ((last : IsAtLast told rest)
       × IsCutIn (with_batches old telling.report s done accounts audits) (end_text telling done last.ending) (noted s.notes (closing_notes s.workers t)) new)
 
--- what is told of a call: what its run wrote, and the last line of the notes behind that; a prefix of it where a write of it failed
-pub record CallTold (telling : Telling) (told : Option Accepted) (s : Settings) (status : ℕ) (t : Tally) (old new : Outputs) (HasFailed : Type 0) : Type 0 where
+-- what is told of a call: what its run wrote, and the last line of the notes behind that. `HasSunk` is that a write to the sink failed,
+-- and the notes' count of faults went from the one number to the other. A fault of the last line changes nothing: the status is 5 only
+-- where a write failed before it
+pub record CallTold (telling : Telling) (told : Option Accepted) (s : Settings) (status : ℕ) (t : Tally) (old new : Outputs) (HasSunk : Type 0) (faults faults' : ℕ) : Type 0 where
   pub ran : Outputs
   pub run : RunTold telling told s status t old ran
   pub sink : new.sink ≡ ran.sink
-  pub last : AppendsPrefix ran.notes (note_at status) new.notes
-  pub whole : (HasFailed → ⊥) → new.notes ≡ behind ran.notes (note_at status)
+  -- the notes' count of faults before the last line
+  pub before : ℕ
+  pub cause : status ≡ 5 → HasSunk ⊎ (IsTrue (has_notes s) × HasRisen faults before)
+  pub steady : (status ≡ 5 → ⊥) → before ≡ faults
+  pub last : EndsNotes status ran.notes new.notes before faults'

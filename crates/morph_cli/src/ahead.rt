@@ -120,6 +120,8 @@ fn tell_next<K: Sink, N: Sink>(
     ensures empty { OnOk result (out.new ≡ []) }
     ensures sink_faults { K.faults sink.old ≤ K.faults sink.new }
     ensures notes_faults { N.faults notes.old ≤ N.faults notes.new }
+    ensures steady { OnOk result ((K.faults sink.new ≡ K.faults sink.old)
+        × (N.faults notes.new ≡ N.faults notes.old)) }
     ensures cause { OnErr result (HasRisen (K.faults sink.old) (K.faults sink.new)
         ⊎ (IsTrue settings.now.notes × HasRisen (N.faults notes.old) (N.faults notes.new))) }
 {
@@ -152,6 +154,8 @@ fn end_ahead<R, A: EventApp + Copy, K: Sink, N: Sink, G>(
         (outputs_of (K.written sink.new) (N.written notes.new)) }
     ensures sink_faults { K.faults sink.old ≤ K.faults sink.new }
     ensures notes_faults { N.faults notes.old ≤ N.faults notes.new }
+    ensures steady { (IsErrOf result Fault.Write → ⊥) → (K.faults sink.new ≡ K.faults sink.old)
+        × (N.faults notes.new ≡ N.faults notes.old) }
     ensures write { IsErrOf result Fault.Write → HasRisen (K.faults sink.old) (K.faults sink.new)
         ⊎ (IsTrue job.now.settings.notes × HasRisen (N.faults notes.old) (N.faults notes.new)) }
 {
@@ -214,6 +218,8 @@ pub fn run_ahead<
     ensures source_faults { S.faults source.old ≤ S.faults source.new }
     ensures sink_faults { K.faults sink.old ≤ K.faults sink.new }
     ensures notes_faults { N.faults notes.old ≤ N.faults notes.new }
+    ensures steady { (IsErrOf result Fault.Write → ⊥) → (K.faults sink.new ≡ K.faults sink.old)
+        × (N.faults notes.new ≡ N.faults notes.old) }
     ensures read { IsErrOf result Fault.Read
         → HasRisen (S.faults source.old) (S.faults source.new) }
     ensures write { IsErrOf result Fault.Write → HasRisen (K.faults sink.old) (K.faults sink.new)

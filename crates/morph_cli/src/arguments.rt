@@ -3,6 +3,7 @@ ghost use Rattle.std.specs.Process.{exit_status};
 ghost use Rattle.morph_io.specs.Told.{HasRisen};
 ghost use Rattle.morph_cli.specs.Apps.{input_of, left_by, meaning_of, telling_of};
 ghost use Rattle.event_reader.specs.Accepted.{accepted};
+ghost use Rattle.morph_cli.specs.Calls.{IsReadBy};
 ghost use Rattle.morph_cli.specs.Headline.{Headline, Completes, input_limit};
 ghost use Rattle.morph_cli.specs.Outputs.{has_notes, outputs_of};
 ghost use Rattle.morph_cli.specs.Tallies.{CallTold};
@@ -41,7 +42,7 @@ fn words_of(alloc: Global, args: &[String]) -> Result<List<List<u8>>, OutOfMemor
 fn end_without_memory<N: Sink>(notes: &mut N) -> ExitCode
     ensures status { exit_status result ≡ 6 }
     ensures note { EndsNotes 6 (N.written notes.old) (N.written notes.new)
-        (HasRisen (N.faults notes.old) (N.faults notes.new)) }
+        (N.faults notes.old) (N.faults notes.new) }
 {
     let end = Err(Fault::OutOfMemory);
     write_note(notes, note_of(&end));
@@ -70,15 +71,14 @@ pub fn program<R: Threads + Wait + Sync, S: Source + Send, K: Sink, N: Sink>(
         (left_by s.generated (S.left source.new))
         (K.written sink.old) (K.written sink.new) (exit_status result)))) }
     ensures completes { (HasRisen (S.faults source.old) (S.faults source.new) → ⊥)
-        → (HasRisen (K.faults sink.old) (K.faults sink.new) → ⊥)
+        → (exit_status result ≡ 5 → ⊥)
         → IfOk args (λ args. IfSome (settings_of (words_behind args.items)) (λ s.
-        (IsTrue (has_notes s) → HasRisen (N.faults notes.old) (N.faults notes.new) → ⊥)
-        → IfSome (input_of s (S.left source.old)) (λ input.
+        IfSome (input_of s (S.left source.old)) (λ input.
         Completes (meaning_of s) input_limit input (exit_status result)))) }
     ensures untouched { IfOk args (λ args. settings_of (words_behind args.items) ≡ None
         → (source.new ≡ source.old) × (sink.new ≡ sink.old)
         × EndsNotes (exit_status result) (N.written notes.old) (N.written notes.new)
-        (HasRisen (N.faults notes.old) (N.faults notes.new))) }
+        (N.faults notes.old) (N.faults notes.new)) }
     ensures made { IfOk args (λ args. IfSome (settings_of (words_behind args.items)) (λ s.
         IsSome s.generated
         → (source.new ≡ source.old) × IsMadeStatus (exit_status result))) }
@@ -88,16 +88,23 @@ pub fn program<R: Threads + Wait + Sync, S: Source + Send, K: Sink, N: Sink>(
         s (exit_status result) tally
         (outputs_of (K.written sink.old) (N.written notes.old))
         (outputs_of (K.written sink.new) (N.written notes.new))
-        (HasRisen (N.faults notes.old) (N.faults notes.new)))) }
+        (HasRisen (K.faults sink.old) (K.faults sink.new))
+        (N.faults notes.old) (N.faults notes.new))) }
     ensures read { exit_status result ≡ 4 → HasRisen (S.faults source.old) (S.faults source.new) }
-    ensures write { exit_status result ≡ 5
-        → HasRisen (K.faults sink.old) (K.faults sink.new)
-        ⊎ HasRisen (N.faults notes.old) (N.faults notes.new) }
+    ensures write { IfOk args (λ args. IfSome (settings_of (words_behind args.items)) (λ s.
+        exit_status result ≡ 5 → HasRisen (K.faults sink.old) (K.faults sink.new)
+        ⊎ (IsTrue (has_notes s) × HasRisen (N.faults notes.old) (N.faults notes.new)))) }
+    ensures steady { (exit_status result ≡ 5 → ⊥) → K.faults sink.new ≡ K.faults sink.old }
+    ensures unread { IfOk args (λ args. IfSome (settings_of (words_behind args.items)) (λ s.
+        s.ahead ≡ 0 → (exit_status result ≡ 4 → ⊥)
+        → S.faults source.new ≡ S.faults source.old)) }
+    ensures asks { IfOk args (λ args. IfSome (settings_of (words_behind args.items)) (λ s.
+        s.ahead ≡ 0 → IsReadBy S.left S.reads (meaning_of s) source.old source.new)) }
     ensures statuses { IsStatus (exit_status result) }
     ensures memory { OnErr args ((exit_status result ≡ 6)
         × (source.new ≡ source.old) × (sink.new ≡ sink.old)
         × EndsNotes 6 (N.written notes.old) (N.written notes.new)
-        (HasRisen (N.faults notes.old) (N.faults notes.new))) }
+        (N.faults notes.old) (N.faults notes.new)) }
 {
     let Ok(args) = args else {
         return end_without_memory(notes);

@@ -28,4 +28,5 @@ mod watching;
 
 pub use arguments::program;
 pub use ended::Ended;
+pub use run_text::{App, Check, Generated, Planning, Settings, Tally, event_line, settings};
 pub use top_call::morph;

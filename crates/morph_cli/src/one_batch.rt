@@ -57,6 +57,8 @@ pub fn take_batch<R: Threads + Wait + Sync, A: EventApp, K: Sink, N: Sink, G: Ga
     ensures empty { OnOk result (progress.new.out ≡ []) }
     ensures sink_faults { K.faults sink.old ≤ K.faults sink.new }
     ensures notes_faults { N.faults notes.old ≤ N.faults notes.new }
+    ensures steady { (IsErrOf result Fault.Write → ⊥) → (K.faults sink.new ≡ K.faults sink.old)
+        × (N.faults notes.new ≡ N.faults notes.old) }
     ensures cause { IsErrOf result Fault.Write → HasRisen (K.faults sink.old) (K.faults sink.new)
         ⊎ (IsTrue (has_notes job.now.settings)
         × HasRisen (N.faults notes.old) (N.faults notes.new)) }
@@ -98,6 +100,8 @@ fn tell_and_publish<R: Wait, A: EventApp, K: Sink, N: Sink, G>(
     ensures empty { OnOk result (progress.new.out ≡ []) }
     ensures sink_faults { K.faults sink.old ≤ K.faults sink.new }
     ensures notes_faults { N.faults notes.old ≤ N.faults notes.new }
+    ensures steady { (IsErrOf result Fault.Write → ⊥) → (K.faults sink.new ≡ K.faults sink.old)
+        × (N.faults notes.new ≡ N.faults notes.old) }
     ensures cause { IsErrOf result Fault.Write → HasRisen (K.faults sink.old) (K.faults sink.new)
         ⊎ (((IsSome ran.now.audit) ⊎ ((IsTrue job.now.settings.notes)
         ⊎ IsTrue (is_checked job.now.settings.check)))

@@ -7,6 +7,7 @@ ghost use Rattle.event_reader.specs.Reader.{new_reader};
 ghost use Rattle.morph_io.specs.Told.{HasRisen};
 ghost use Rattle.morph_cli.specs.Apps.{telling_for};
 ghost use Rattle.morph_cli.specs.Batches.{IsShown};
+ghost use Rattle.morph_cli.specs.Calls.{IsReadBy};
 ghost use Rattle.morph_cli.specs.Outputs.{has_notes, outputs_of};
 ghost use Rattle.morph_cli.specs.Runs.{EndsSo, layout_of};
 ghost use Rattle.run_text.specs.Settings.{AreInRange};
@@ -73,6 +74,12 @@ pub fn run<
     ensures source_faults { S.faults source.old ≤ S.faults source.new }
     ensures sink_faults { K.faults sink.old ≤ K.faults sink.new }
     ensures notes_faults { N.faults notes.old ≤ N.faults notes.new }
+    ensures steady { (IsErrOf result Fault.Write → ⊥) → (K.faults sink.new ≡ K.faults sink.old)
+        × (N.faults notes.new ≡ N.faults notes.old) }
+    ensures unread { job.now.settings.ahead ≡ 0 → (IsErrOf result Fault.Read → ⊥)
+        → S.faults source.new ≡ S.faults source.old }
+    ensures asks { let settings = job.now.settings in settings.ahead ≡ 0
+        → IsReadBy S.left S.reads (A.event_of job.now.app settings.size) source.old source.new }
     ensures read { IsErrOf result Fault.Read
         → HasRisen (S.faults source.old) (S.faults source.new) }
     ensures write { IsErrOf result Fault.Write → HasRisen (K.faults sink.old) (K.faults sink.new)
@@ -125,6 +132,12 @@ fn run_batches<R: Threads + Wait + Sync, A: EventApp + Copy, S: Source, K: Sink,
     ensures source_faults { S.faults source.old ≤ S.faults source.new }
     ensures sink_faults { K.faults sink.old ≤ K.faults sink.new }
     ensures notes_faults { N.faults notes.old ≤ N.faults notes.new }
+    ensures steady { (IsErrOf result Fault.Write → ⊥) → (K.faults sink.new ≡ K.faults sink.old)
+        × (N.faults notes.new ≡ N.faults notes.old) }
+    ensures unread { (IsErrOf result Fault.Read → ⊥)
+        → S.faults source.new ≡ S.faults source.old }
+    ensures asks { let settings = job.now.settings in
+        IsReadBy S.left S.reads (A.event_of job.now.app settings.size) source.old source.new }
     ensures read { IsErrOf result Fault.Read
         → HasRisen (S.faults source.old) (S.faults source.new) }
     ensures write { IsErrOf result Fault.Write → HasRisen (K.faults sink.old) (K.faults sink.new)

@@ -5,7 +5,8 @@ ghost use Rattle.morph_base.specs.Plans.{IsPlan, IsSettledOf};
 ghost use Rattle.decision_model.specs.Choices.{last_of};
 ghost use Rattle.morph_engine.specs.Accounts.{account_of};
 ghost use Rattle.morph_engine.specs.Fates.{settled_fates};
-ghost use Rattle.morph_io.specs.Told.{behind, AppendsPrefix, HasRisen};
+ghost use Rattle.morph_io.specs.Told.{behind, HasRisen};
+ghost use Rattle.morph_io.specs.Writing.{AppendsPart};
 ghost use Rattle.run_text.specs.declared.choices.TheConstants.{GREATEST_SIZE};
 ghost use Rattle.run_text.specs.Checks.{is_checked};
 ghost use Rattle.run_text.specs.Counts.{Adds, HasRoom};
@@ -56,6 +57,8 @@ fn tell_batch<K: Sink, N: Sink>(
     ensures empty { OnOk result (out.new ≡ []) }
     ensures sink_faults { K.faults sink.old ≤ K.faults sink.new }
     ensures notes_faults { N.faults notes.old ≤ N.faults notes.new }
+    ensures steady { OnOk result ((K.faults sink.new ≡ K.faults sink.old)
+        × (N.faults notes.new ≡ N.faults notes.old)) }
     ensures cause { OnErr result (HasRisen (K.faults sink.old) (K.faults sink.new)
         ⊎ (((IsSome ran.now.audit)
         ⊎ ((IsTrue settings.now.notes) ⊎ IsTrue (is_checked settings.now.check)))
@@ -89,6 +92,8 @@ pub fn tell_counted<K: Sink, N: Sink>(
     ensures empty { OnOk result (out.new ≡ []) }
     ensures sink_faults { K.faults sink.old ≤ K.faults sink.new }
     ensures notes_faults { N.faults notes.old ≤ N.faults notes.new }
+    ensures steady { OnOk result ((K.faults sink.new ≡ K.faults sink.old)
+        × (N.faults notes.new ≡ N.faults notes.old)) }
     ensures cause { OnErr result (HasRisen (K.faults sink.old) (K.faults sink.new)
         ⊎ (((IsSome ran.now.audit)
         ⊎ ((IsTrue settings.now.notes) ⊎ IsTrue (is_checked settings.now.check)))
@@ -111,11 +116,12 @@ fn note_ran<N: Sink>(
     requires plan { IsPlan ran.now.end.plan }
     ensures written { OnOk result (N.written notes.new ≡ behind (N.written notes.old)
         (audit_of ran.now.audit ++ own_note settings.now number (account_of ran.now.end))) }
-    ensures prefix { OnErr result (AppendsPrefix (N.written notes.old)
+    ensures prefix { OnErr result (AppendsPart (N.written notes.old)
         (audit_of ran.now.audit ++ own_note settings.now number (account_of ran.now.end))
         (N.written notes.new)) }
     ensures empty { OnOk result (out.new ≡ []) }
     ensures never_falls { N.faults notes.old ≤ N.faults notes.new }
+    ensures steady { OnOk result (N.faults notes.new ≡ N.faults notes.old) }
     ensures cause { OnErr result (((IsSome ran.now.audit)
         ⊎ ((IsTrue settings.now.notes) ⊎ IsTrue (is_checked settings.now.check)))
         × HasRisen (N.faults notes.old) (N.faults notes.new)) }
@@ -137,10 +143,11 @@ fn note_own<N: Sink>(
     requires plan { IsPlan end.now.plan }
     ensures written { OnOk result (N.written notes.new ≡ behind (N.written notes.old)
         (own_note settings.now number (account_of end.now))) }
-    ensures prefix { OnErr result (AppendsPrefix (N.written notes.old)
+    ensures prefix { OnErr result (AppendsPart (N.written notes.old)
         (own_note settings.now number (account_of end.now)) (N.written notes.new)) }
     ensures empty { OnOk result (out.new ≡ []) }
     ensures never_falls { N.faults notes.old ≤ N.faults notes.new }
+    ensures steady { OnOk result (N.faults notes.new ≡ N.faults notes.old) }
     ensures cause { OnErr result (((IsTrue settings.now.notes)
         ⊎ IsTrue (is_checked settings.now.check))
         × HasRisen (N.faults notes.old) (N.faults notes.new)) }
@@ -155,8 +162,9 @@ fn note_seen<N: Sink>(notes: &mut N, audit: &Option<Total>) -> Result<(), WriteF
     ensures written { OnOk result (N.written notes.new
         ≡ behind (N.written notes.old) (audit_of audit.now)) }
     ensures prefix { OnErr result
-        (AppendsPrefix (N.written notes.old) (audit_of audit.now) (N.written notes.new)) }
+        (AppendsPart (N.written notes.old) (audit_of audit.now) (N.written notes.new)) }
     ensures never_falls { N.faults notes.old ≤ N.faults notes.new }
+    ensures steady { OnOk result (N.faults notes.new ≡ N.faults notes.old) }
     ensures cause { OnErr result (IsSome audit.now
         × HasRisen (N.faults notes.old) (N.faults notes.new)) }
 {
@@ -188,6 +196,8 @@ pub fn tell_closing<A: EventApp, R, G, K: Sink, N: Sink>(
         (outputs_of (K.written sink.new) (N.written notes.new)) }
     ensures sink_faults { K.faults sink.old ≤ K.faults sink.new }
     ensures notes_faults { N.faults notes.old ≤ N.faults notes.new }
+    ensures steady { OnOk result ((K.faults sink.new ≡ K.faults sink.old)
+        × (N.faults notes.new ≡ N.faults notes.old)) }
     ensures cause { OnErr result (HasRisen (K.faults sink.old) (K.faults sink.new)
         ⊎ (IsTrue job.now.settings.notes × HasRisen (N.faults notes.old) (N.faults notes.new))) }
 {
@@ -214,6 +224,8 @@ pub fn tell_refused<K: Sink, N: Sink>(
         (outputs_of (K.written sink.new) (N.written notes.new)) }
     ensures sink_faults { K.faults sink.old ≤ K.faults sink.new }
     ensures notes_faults { N.faults notes.old ≤ N.faults notes.new }
+    ensures steady { OnOk result ((K.faults sink.new ≡ K.faults sink.old)
+        × (N.faults notes.new ≡ N.faults notes.old)) }
     ensures cause { OnErr result (HasRisen (K.faults sink.old) (K.faults sink.new)
         ⊎ (IsTrue settings.now.notes × HasRisen (N.faults notes.old) (N.faults notes.new))) }
 {

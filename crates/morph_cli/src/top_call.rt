@@ -1,14 +1,15 @@
 ghost use Rattle.std.specs.Prelude.{◌≡◌, ◌≤◌, ◌⊎◌, None, Some, map, option_map, IsSome, IfSome, IsErrOf, IsTrue};
-ghost use Rattle.morph_io.specs.Told.{behind, HasRisen, AppendsPrefix};
+ghost use Rattle.morph_io.specs.Told.{HasRisen};
 ghost use Rattle.event_reader.specs.declared.limits.TheConstants.{INPUT_BYTES};
 ghost use Rattle.event_reader.specs.Accepted.{accepted, accepted_within};
 ghost use Rattle.event_reader.specs.GeneratedText.{generated_text};
 ghost use Rattle.morph_cli.specs.Apps.{input_by, input_of, left_by, meaning_of, telling_for, telling_of};
+ghost use Rattle.morph_cli.specs.Calls.{IsReadBy};
 ghost use Rattle.morph_cli.specs.Headline.{Headline, Completes, input_limit};
 ghost use Rattle.morph_cli.specs.Outputs.{has_notes, outputs_of};
 ghost use Rattle.morph_cli.specs.Runs.{EndsSo, EndsMade};
 ghost use Rattle.run_text.specs.Settings.{AreInRange, settings_of};
-ghost use Rattle.morph_cli.specs.Status.{note_at, status_of, IsStatus, IsMadeStatus};
+ghost use Rattle.morph_cli.specs.Status.{status_of, EndsNotes, IsStatus, IsMadeStatus};
 ghost use Rattle.run_text.specs.Counts.{no_tally};
 ghost use Rattle.morph_cli.specs.Tallies.{RunTold, CallTold, IsBalanced};
 
@@ -63,6 +64,12 @@ fn run_over<
         (outputs_of (K.written sink.old) (N.written notes.old))
         (outputs_of (K.written sink.new) (N.written notes.new)) }
     ensures notes_faults { N.faults notes.old ≤ N.faults notes.new }
+    ensures steady { (IsErrOf result Fault.Write → ⊥) → (K.faults sink.new ≡ K.faults sink.old)
+        × (N.faults notes.new ≡ N.faults notes.old) }
+    ensures unread { job.now.settings.ahead ≡ 0 → (IsErrOf result Fault.Read → ⊥)
+        → S.faults source.new ≡ S.faults source.old }
+    ensures asks { let settings = job.now.settings in settings.ahead ≡ 0
+        → IsReadBy S.left S.reads (A.event_of job.now.app settings.size) source.old source.new }
     ensures made { IsSome job.now.settings.generated → (source.new ≡ source.old) × EndsMade result }
     ensures read { IsErrOf result Fault.Read
         → HasRisen (S.faults source.old) (S.faults source.new) }
@@ -100,6 +107,8 @@ fn run_made<R: Threads + Wait + Sync, A: EventApp + Copy + Send, K: Sink, N: Sin
         (outputs_of (K.written sink.old) (N.written notes.old))
         (outputs_of (K.written sink.new) (N.written notes.new)) }
     ensures notes_faults { N.faults notes.old ≤ N.faults notes.new }
+    ensures steady { (IsErrOf result Fault.Write → ⊥) → (K.faults sink.new ≡ K.faults sink.old)
+        × (N.faults notes.new ≡ N.faults notes.old) }
     ensures made { EndsMade result }
     ensures write { IsErrOf result Fault.Write → HasRisen (K.faults sink.old) (K.faults sink.new)
         ⊎ (IsTrue (has_notes job.now.settings)
@@ -134,6 +143,12 @@ fn run_app<R: Threads + Wait + Sync, S: Source + Send, K: Sink, N: Sink, G: Gate
         (outputs_of (K.written sink.old) (N.written notes.old))
         (outputs_of (K.written sink.new) (N.written notes.new)) }
     ensures notes_faults { N.faults notes.old ≤ N.faults notes.new }
+    ensures steady { (IsErrOf result Fault.Write → ⊥) → (K.faults sink.new ≡ K.faults sink.old)
+        × (N.faults notes.new ≡ N.faults notes.old) }
+    ensures unread { settings.ahead ≡ 0 → (IsErrOf result Fault.Read → ⊥)
+        → S.faults source.new ≡ S.faults source.old }
+    ensures asks { settings.ahead ≡ 0
+        → IsReadBy S.left S.reads (meaning_of settings) source.old source.new }
     ensures made { IsSome settings.generated → (source.new ≡ source.old) × EndsMade result }
     ensures read { IsErrOf result Fault.Read
         → HasRisen (S.faults source.old) (S.faults source.new) }
@@ -173,7 +188,8 @@ fn run_app<R: Threads + Wait + Sync, S: Source + Send, K: Sink, N: Sink, G: Gate
 ///
 /// The text is that of applying the events one transaction at a time, in the order of time within each batch, to a map
 /// that is zero everywhere, for every strategy and number of workers and whatever the gate holds. The statuses are
-/// those of [`Ended`]. A fault of writing the last line of the notes changes nothing.
+/// those of [`Ended`]. A fault of writing the last line of the notes changes nothing, with notes on too: the status is 5
+/// only where a write failed before it.
 pub fn morph<R: Threads + Wait + Sync, S: Source + Send, K: Sink, N: Sink, G: Gate>(
     rt: &R,
     alloc: Global,
@@ -192,10 +208,9 @@ pub fn morph<R: Threads + Wait + Sync, S: Source + Send, K: Sink, N: Sink, G: Ga
         (left_by s.generated (S.left source.new))
         (K.written sink.old) (K.written sink.new) result.status)) }
     ensures completes { (HasRisen (S.faults source.old) (S.faults source.new) → ⊥)
-        → (HasRisen (K.faults sink.old) (K.faults sink.new) → ⊥)
+        → (result.status ≡ 5 → ⊥)
         → IfSome (settings_of (map (λ word. word.items) words.now)) (λ s.
-        (IsTrue (has_notes s) → HasRisen (N.faults notes.old) (N.faults notes.new) → ⊥)
-        → IfSome (input_of s (S.left source.old)) (λ input.
+        IfSome (input_of s (S.left source.old)) (λ input.
         Completes (meaning_of s) input_limit input result.status)) }
 
     // An input that the program makes is not read from the source, and none of its lines is refused.
@@ -206,21 +221,28 @@ pub fn morph<R: Threads + Wait + Sync, S: Source + Send, K: Sink, N: Sink, G: Ga
         result.status ≡ 5 → HasRisen (K.faults sink.old) (K.faults sink.new)
         ⊎ (IsTrue (has_notes s) × HasRisen (N.faults notes.old) (N.faults notes.new))) }
     ensures statuses { IsStatus result.status }
+
+    // No fault comes in a call where the status does not name it.
+    ensures steady { (result.status ≡ 5 → ⊥) → K.faults sink.new ≡ K.faults sink.old }
+    ensures unread { IfSome (settings_of (map (λ word. word.items) words.now)) (λ s. s.ahead ≡ 0
+        → (result.status ≡ 4 → ⊥) → S.faults source.new ≡ S.faults source.old) }
+
+    // Where nothing is read ahead the source is read for the next batch alone, and not behind the end of the run.
+    ensures asks { IfSome (settings_of (map (λ word. word.items) words.now)) (λ s. s.ahead ≡ 0
+        → IsReadBy S.left S.reads (meaning_of s) source.old source.new) }
     ensures told { IfSome (settings_of (map (λ word. word.items) words.now)) (λ s.
         CallTold (telling_of s)
         (option_map (accepted (meaning_of s)) (input_of s (S.left source.old)))
         s result.status result.tally
         (outputs_of (K.written sink.old) (N.written notes.old))
         (outputs_of (K.written sink.new) (N.written notes.new))
-        (HasRisen (N.faults notes.old) (N.faults notes.new))) }
+        (HasRisen (K.faults sink.old) (K.faults sink.new))
+        (N.faults notes.old) (N.faults notes.new)) }
     ensures balanced { IfSome (settings_of (map (λ word. word.items) words.now))
         (λ s. IsBalanced s.planning s.workers result.tally) }
     ensures uncounted { result.status ≡ 2 → result.tally ≡ no_tally }
-    ensures note { result.status ≡ 2
-        → AppendsPrefix (N.written notes.old) (note_at result.status) (N.written notes.new) }
-    ensures whole_note { result.status ≡ 2
-        → (HasRisen (N.faults notes.old) (N.faults notes.new) → ⊥)
-        → N.written notes.new ≡ behind (N.written notes.old) (note_at result.status) }
+    ensures note { result.status ≡ 2 → EndsNotes result.status
+        (N.written notes.old) (N.written notes.new) (N.faults notes.old) (N.faults notes.new) }
 {
     let mut tally = Tally::new();
     let Some(settings) = settings(words) else {

@@ -1,5 +1,6 @@
 -- What contracts see of the sources and sinks in memory.
-use Rattle.std.specs.Prelude.{◌≡◌, ℕ, zero, suc, ◌+◌, ◌≤◌, ◌⊎◌, ◌↔◌, min, nat_lt, if◌then◌else◌, List, [], ◌++◌, length, drop, Contains, Result, IsOk, IsErr, IfOk, OnErr}
+use Rattle.std.specs.Prelude.{◌≡◌, ℕ, zero, suc, ◌+◌, ◌-◌, ◌≤◌, ◌⊎◌, ◌↔◌, min, nat_lt, if◌then◌else◌, List, [], ◌++◌, length, take, drop, Contains, Result, IsOk, IsErr, IfOk, OnErr}
+use Rattle.morph_io.specs.declared.sink.WriteFailed.{WriteFailed}
 use Rattle.morph_io.specs.declared.source.ReadFailed.{ReadFailed}
 
 -- a source of given bytes, which gives at most `piece` of them in one call
@@ -50,6 +51,14 @@ pub record Gives (old : List ℕ) (asked : ℕ) (answer : Result ℕ ReadFailed)
 -- the sink's next call appends nothing
 abbrev pub IsRefused : Store → Type 0
 IsRefused s = (s.room ≡ 0) ⊎ (Contains s.fail (s.calls + 1) ⊎ Contains s.stall (s.calls + 1))
+
+-- one write of a sink in memory: it fails exactly where the sink is refused, and takes as many bytes as a piece and the room
+-- allow
+pub record StoreWrites (old : Store) (piece : List ℕ) (answer : Result ℕ WriteFailed) (new : Store) : Type 0 where
+  pub fails : IsErr answer ↔ IsRefused old
+  pub failed : OnErr answer (new ≡ record old { calls = counted old.calls; faults = counted old.faults })
+  pub count : IfOk answer (λ n. n ≡ min (min (length piece) old.piece) old.room)
+  pub taken : IfOk answer (λ n. new ≡ record old { written = old.written ++ take n piece; room = old.room - n; calls = counted old.calls })
 
 -- the line, `times` times
 unfoldable pub repeated : ℕ → List ℕ → List ℕ

@@ -1,2 +1,4 @@
 pub mod InMemory
+pub mod Limits
 pub mod Told
+pub mod Writing

@@ -24,6 +24,7 @@
 
 mod calls;
 mod copying;
+pub mod laws;
 mod line_buf;
 mod mem_sink;
 mod mem_source;

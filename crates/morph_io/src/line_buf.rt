@@ -1,5 +1,5 @@
 ghost use Rattle.std.specs.Prelude.{◌≡◌, ℕ, ◌+◌, ◌≤◌, ◌↔◌, List, [], ◌++◌, length, take, decimal, IsTrue};
-ghost use Rattle.morph_io.specs.declared.line_buf.TheConstants.{LINE_BYTES};
+ghost use Rattle.morph_io.specs.Limits.{line_bytes};
 
 use crate::copying::copy_to;
 use itoa::write_digits;
@@ -23,7 +23,7 @@ impl Model for LineBuf {
 
     ghost view = { λ line. take line.len line.bytes };
 
-    ghost invariant = { λ line. line.len ≤ LINE_BYTES };
+    ghost invariant = { λ line. line.len ≤ line_bytes };
 }
 
 impl LineBuf {
@@ -40,7 +40,7 @@ impl LineBuf {
     /// The number of bytes, at most [`LINE_BYTES`].
     pub fn len(&self) -> usize
         ensures len { result ≡ length self.now }
-        ensures bound { result ≤ LINE_BYTES }
+        ensures bound { result ≤ line_bytes }
     {
         self.len
     }
@@ -61,7 +61,7 @@ impl LineBuf {
 
     /// Appends `word`.
     pub fn word(&mut self, word: &[u8])
-        requires { length self.old + length word.now ≤ LINE_BYTES }
+        requires { length self.old + length word.now ≤ line_bytes }
         ensures { self.new ≡ self.old ++ word.now }
     {
         copy_to(&mut self.bytes, self.len, word);
@@ -70,7 +70,7 @@ impl LineBuf {
 
     /// Appends the decimal digits of `n`, with no zeros in front: at most 20 bytes.
     pub fn number(&mut self, n: u64)
-        requires { length self.old + 20 ≤ LINE_BYTES }
+        requires { length self.old + 20 ≤ line_bytes }
         ensures digits { self.new ≡ self.old ++ decimal n }
         ensures bound { length self.new ≤ length self.old + 20 }
     {
@@ -82,7 +82,7 @@ impl LineBuf {
     /// The bytes of the line.
     pub fn bytes(&self) -> &[u8]
         ensures bytes { result.now ≡ self.now }
-        ensures bound { length result.now ≤ LINE_BYTES }
+        ensures bound { length result.now ≤ line_bytes }
     {
         &self.bytes[..self.len]
     }

@@ -1,5 +1,5 @@
 ghost use Rattle.std.specs.Prelude.{◌≡◌, ◌-◌, ◌<◌, ◌≤◌, ◌↔◌, min, [], ◌++◌, length, take, Some, IsErr, IfOk, OnErr};
-ghost use Rattle.morph_io.specs.InMemory.{Store, counted, IsRefused};
+ghost use Rattle.morph_io.specs.InMemory.{Store, StoreWrites, counted, IsRefused};
 
 use crate::calls::{is_next_call_among, next_count};
 use crate::copying::append;
@@ -86,6 +86,8 @@ impl Sink for MemSink {
     ghost written = { λ s. Some s.written };
 
     ghost faults = { λ s. s.faults };
+
+    ghost writes = { StoreWrites };
 
     /// Takes as many bytes as `piece` and the room allow, or fails where there is no room or the number of the call
     /// is among the chosen ones.

@@ -1,4 +1,5 @@
-ghost use Rattle.std.specs.Prelude.{◌≡◌, ℕ, ◌<◌, ◌≤◌, List, Option, Some, length, take, codes, IfOk, OnErr};
+ghost use Rattle.std.specs.Prelude.{◌≡◌, ℕ, ◌<◌, ◌≤◌, List, Option, Some, Result, length, take, codes, IfOk, OnOk, OnErr};
+ghost use Rattle.morph_io.specs.declared.sink.WriteFailed.{WriteFailed};
 ghost use Rattle.morph_io.specs.Told.{behind, HasRisen};
 
 use std::error::Error;
@@ -20,8 +21,8 @@ impl Error for WriteFailed {}
 
 /// Where bytes go.
 ///
-/// Its meanings are the bytes written, where it tells them, and a count of faults that never falls. The count is a
-/// `u64`: where it stands at its last value it counts as risen in every call.
+/// Its meanings are the bytes written, where it tells them, a count of faults that never falls, and what one write may do.
+/// The count is a `u64`: where it stands at its last value it counts as risen in every call.
 pub trait Sink {
     /// The bytes that were written so far, or `None` where the sink tells nothing of them.
     ghost written: { Self → Option (List ℕ) };
@@ -29,9 +30,14 @@ pub trait Sink {
     /// How many writes have failed so far.
     ghost faults: { Self → ℕ };
 
+    /// What one write of these bytes may do, from the sink before to its answer and the sink after; `Unit` where the
+    /// sink says nothing more of it than the clauses of [`write`](Sink::write).
+    ghost writes: { Self → (piece : List ℕ) → Result ℕ WriteFailed → Self → Type 0 };
+
     /// Appends the first bytes of `piece`, and answers how many: at least one, and at most all.
     ///
-    /// `Err` comes only where the count of faults rose in this call, and nothing was appended then.
+    /// `Err` comes only where the count of faults rose in this call, and nothing was appended then. `Ok` leaves the
+    /// count as it was.
     fn write(&mut self, piece: &[u8]) -> Result<usize, WriteFailed>
         requires { 0 < length piece.now }
         ensures some { IfOk result (λ n. 0 < n) }
@@ -40,5 +46,7 @@ pub trait Sink {
             (λ n. written self.new ≡ behind (written self.old) (take n piece.now)) }
         ensures kept { OnErr result (written self.new ≡ written self.old) }
         ensures never_falls { faults self.old ≤ faults self.new }
-        ensures cause { OnErr result (HasRisen (faults self.old) (faults self.new)) };
+        ensures steady { OnOk result (faults self.new ≡ faults self.old) }
+        ensures cause { OnErr result (HasRisen (faults self.old) (faults self.new)) }
+        ensures does { writes self.old piece.now result self.new };
 }

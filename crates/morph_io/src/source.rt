@@ -1,4 +1,4 @@
-ghost use Rattle.std.specs.Prelude.{◌≡◌, ℕ, ◌<◌, ◌≤◌, List, Option, Some, Result, length, take, codes, IfOk, OnErr};
+ghost use Rattle.std.specs.Prelude.{◌≡◌, ℕ, ◌<◌, ◌≤◌, List, Option, Some, Result, length, take, codes, IfOk, OnOk, OnErr};
 ghost use Rattle.morph_io.specs.declared.source.ReadFailed.{ReadFailed};
 ghost use Rattle.morph_io.specs.Told.{ahead, IsAtEnd, HasRisen};
 
@@ -37,7 +37,8 @@ pub trait Source {
     /// Moves the first bytes that are left into the front of `buf`, and answers how many: at least one, or 0 at the
     /// end of the input.
     ///
-    /// `Err` comes only where the count of faults rose in this call, and the bytes left are then as before.
+    /// `Err` comes only where the count of faults rose in this call, and the bytes left are then as before. `Ok` leaves
+    /// the count as it was.
     fn read(&mut self, buf: &mut [u8]) -> Result<usize, ReadFailed>
         requires { 0 < length buf.old }
         ensures bound { IfOk result (λ n. n ≤ length buf.new) }
@@ -45,6 +46,7 @@ pub trait Source {
         ensures end { IfOk result (λ n. n ≡ 0 → IsAtEnd (left self.new)) }
         ensures kept { OnErr result (left self.new ≡ left self.old) }
         ensures never_falls { faults self.old ≤ faults self.new }
+        ensures steady { OnOk result (faults self.new ≡ faults self.old) }
         ensures cause { OnErr result (HasRisen (faults self.old) (faults self.new)) }
         ensures does { reads self.old (length buf.new) result self.new };
 }

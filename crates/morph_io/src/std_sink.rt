@@ -84,6 +84,8 @@ impl<W: Write> Sink for StdSink<W> {
 
     ghost faults = { λ s. s };
 
+    ghost writes = { λ _ _ _ _. Unit {0} };
+
     fn write(&mut self, piece: &[u8]) -> Result<usize, WriteFailed>
         ensures some { IfOk result (λ n. 0 < n) }
         ensures bound { IfOk result (λ n. n ≤ length piece.now) }

@@ -6,3 +6,4 @@ pub mod Asked
 pub mod WordLaws
 pub mod NoSettingsLaws
 pub mod Journals
+pub mod SaidLaws

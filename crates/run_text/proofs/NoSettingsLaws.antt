@@ -54,7 +54,7 @@ first_false test (name ∷ names) is = by_case (and_cases (test name) (list_all 
     by_case (inl here) later = (name, here)
     by_case (inr there) later = later there
 
-all_false : (test : Name → Bool) (name : Name) → test name ≡ false → list_all test all_names ≡ false
+pub all_false : (test : Name → Bool) (name : Name) → test name ≡ false → list_all test all_names ≡ false
 all_false test AppName is = list_all_at test all_names 0 AppName (lit< tt) is
 all_false test Own is = list_all_at test all_names 1 Own (lit< tt) is
 all_false test Workers is = list_all_at test all_names 2 Workers (lit< tt) is

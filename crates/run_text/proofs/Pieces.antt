@@ -5,8 +5,9 @@ use Rattle.std.specs.List.{flat_map}
 use Rattle.std.proofs.lemmas.List.{take_more, take-append-drop}
 use Rattle.std.proofs.lemmas.List.Concat.{flat_map-append}
 use Rattle.std.proofs.Common.{append-nil, append_assoc}
-use Rattle.morph_io.specs.Told.{behind, behind_behind, Puts, AppendsPrefix}
-use Rattle.morph_io.proofs.Putting.{puts_next, puts_cut, prefix_more}
+use Rattle.morph_io.specs.Told.{behind, behind_behind, Puts}
+use Rattle.morph_io.specs.Writing.{AppendsPart}
+use Rattle.morph_io.proofs.Putting.{puts_next, puts_cut, part_more}
 
 -- what holds, holds where there is an error
 pub on_err : {T E P : Type 0} (r : Result T E) → P → OnErr r P
@@ -32,14 +33,14 @@ puts_more f xs i d w0 w1 w2 k0 k1 k2 piece lt is so_far one =
 
 -- a piece failed to be put
 pub puts_stop : {X : Type 0} (f : X → List ℕ) (xs : List X) (i : ℕ) (d : X) (w0 w1 w2 : Option (List ℕ)) (k0 k1 piece : List ℕ) → i < length xs →
-    f (get_or xs i d) ≡ piece → Puts w0 k0 (flat_map f (take i xs)) w1 k1 → AppendsPrefix w1 (k1 ++ piece) w2 → AppendsPrefix w0 (k0 ++ flat_map f xs) w2
+    f (get_or xs i d) ≡ piece → Puts w0 k0 (flat_map f (take i xs)) w1 k1 → AppendsPart w1 (k1 ++ piece) w2 → AppendsPart w0 (k0 ++ flat_map f xs) w2
 puts_stop f xs i d w0 w1 w2 k0 k1 piece lt is so_far cut =
     let front : List ℕ = flat_map f (take i xs) in
     let rest : List ℕ = flat_map f (drop (i + 1) xs) in
     let all : k0 ++ flat_map f xs ≡ (k0 ++ (front ++ piece)) ++ rest =
     ap (λ l. k0 ++ l) (pieces-parts f xs (i + 1) ∙ ap (λ l. l ++ rest) (pieces-more f xs i d lt ∙ ap (λ l. front ++ l) is))
     ∙ sym (append_assoc k0 (front ++ piece) rest) in
-    prefix_more w0 w2 (k0 ++ (front ++ piece)) rest (k0 ++ flat_map f xs) all (puts_cut w0 w1 w2 k0 k1 front piece so_far cut)
+    part_more w0 w2 (k0 ++ (front ++ piece)) rest (k0 ++ flat_map f xs) all (puts_cut w0 w1 w2 k0 k1 front piece so_far cut)
 
 -- what was put and then flushed was appended
 pub puts_flushed : (w0 w1 w2 : Option (List ℕ)) (k0 k1 text : List ℕ) → k0 ≡ [] → Puts w0 k0 text w1 k1 → w2 ≡ behind w1 k1 → w2 ≡ behind w0 text
@@ -48,11 +49,11 @@ puts_flushed w0 w1 w2 k0 k1 text none puts flushed =
     ∙ ap (behind w0) (puts.parts ∙ ap (λ k. k ++ text) none)
 
 -- a flush that fails after what was put
-pub puts_unflushed : (w0 w1 w2 : Option (List ℕ)) (k0 k1 text : List ℕ) → k0 ≡ [] → Puts w0 k0 text w1 k1 → AppendsPrefix w1 k1 w2 → AppendsPrefix w0 text w2
+pub puts_unflushed : (w0 w1 w2 : Option (List ℕ)) (k0 k1 text : List ℕ) → k0 ≡ [] → Puts w0 k0 text w1 k1 → AppendsPart w1 k1 w2 → AppendsPart w0 text w2
 puts_unflushed w0 w1 w2 k0 k1 text none puts cut =
-    subst (λ l. AppendsPrefix w0 l w2) (ap (λ k. k ++ (text ++ [])) none ∙ append-nil text)
-    (puts_cut w0 w1 w2 k0 k1 text [] puts (subst (λ l. AppendsPrefix w1 l w2) (sym (append-nil k1)) cut))
+    subst (λ l. AppendsPart w0 l w2) (ap (λ k. k ++ (text ++ [])) none ∙ append-nil text)
+    (puts_cut w0 w1 w2 k0 k1 text [] puts (subst (λ l. AppendsPart w1 l w2) (sym (append-nil k1)) cut))
 
 -- from an empty buffer
-pub prefix_alone : (w0 w1 : Option (List ℕ)) (k0 text : List ℕ) → k0 ≡ [] → AppendsPrefix w0 (k0 ++ text) w1 → AppendsPrefix w0 text w1
-prefix_alone w0 w1 k0 text none cut = subst (λ l. AppendsPrefix w0 l w1) (ap (λ k. k ++ text) none) cut
+pub part_alone : (w0 w1 : Option (List ℕ)) (k0 text : List ℕ) → k0 ≡ [] → AppendsPart w0 (k0 ++ text) w1 → AppendsPart w0 text w1
+part_alone w0 w1 k0 text none cut = subst (λ l. AppendsPart w0 l w1) (ap (λ k. k ++ text) none) cut

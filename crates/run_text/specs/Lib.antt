@@ -5,3 +5,4 @@ pub mod Counts
 pub mod Notes
 pub mod Settings
 pub mod NoSettings
+pub mod SaidSettings

@@ -1,7 +1,8 @@
 //! What the notes say of journals.
 ghost use Rattle.std.specs.Prelude.{◌≡◌, ◌+◌, ◌*◌, ◌^◌, ◌<◌, ◌≤◌, [], ◌++◌, length, IsTrue, OnOk, OnErr};
 ghost use Rattle.morph_base.specs.Plans.{IsPlan};
-ghost use Rattle.morph_io.specs.Told.{behind, HasRisen, Puts, AppendsPrefix};
+ghost use Rattle.morph_io.specs.Told.{behind, HasRisen, Puts};
+ghost use Rattle.morph_io.specs.Writing.{AppendsPart};
 ghost use Rattle.run_checker.specs.Lines.{text_of};
 ghost use Rattle.run_text.specs.Checks.{is_checked};
 ghost use Rattle.run_text.specs.Notes.{check_note, check_notes, check_word, is_cut, step_notes};
@@ -35,10 +36,11 @@ pub fn note_check<N: Sink>(
     requires plan { IsPlan plan.now }
     ensures written { OnOk result (N.written notes.new ≡ behind (N.written notes.old)
         (check_notes check number plan.now journal.now)) }
-    ensures prefix { OnErr result (AppendsPrefix (N.written notes.old)
+    ensures prefix { OnErr result (AppendsPart (N.written notes.old)
         (check_notes check number plan.now journal.now) (N.written notes.new)) }
     ensures empty { OnOk result (out.new ≡ []) }
     ensures never_falls { N.faults notes.old ≤ N.faults notes.new }
+    ensures steady { OnOk result (N.faults notes.new ≡ N.faults notes.old) }
     ensures cause { OnErr result (IsTrue (is_checked check)
         × HasRisen (N.faults notes.old) (N.faults notes.new)) }
 {
@@ -61,11 +63,12 @@ fn write_check<N: Sink>(
     requires plan { IsPlan plan.now }
     ensures written { OnOk result (N.written notes.new ≡ behind (N.written notes.old)
         (step_notes check journal.now ++ check_note number (is_cut plan.now journal.now))) }
-    ensures prefix { OnErr result (AppendsPrefix (N.written notes.old)
+    ensures prefix { OnErr result (AppendsPart (N.written notes.old)
         (step_notes check journal.now ++ check_note number (is_cut plan.now journal.now))
         (N.written notes.new)) }
     ensures empty { OnOk result (out.new ≡ []) }
     ensures never_falls { N.faults notes.old ≤ N.faults notes.new }
+    ensures steady { OnOk result (N.faults notes.new ≡ N.faults notes.old) }
     ensures cause { OnErr result (HasRisen (N.faults notes.old) (N.faults notes.new)) }
 {
     write_steps(out, notes, check, journal)?;
@@ -83,10 +86,11 @@ fn write_steps<N: Sink>(
     requires empty { out.old ≡ [] }
     ensures written { OnOk result (N.written notes.new ≡ behind (N.written notes.old)
         (step_notes check journal.now)) }
-    ensures prefix { OnErr result (AppendsPrefix (N.written notes.old)
+    ensures prefix { OnErr result (AppendsPart (N.written notes.old)
         (step_notes check journal.now) (N.written notes.new)) }
     ensures empty { OnOk result (out.new ≡ []) }
     ensures never_falls { N.faults notes.old ≤ N.faults notes.new }
+    ensures steady { OnOk result (N.faults notes.new ≡ N.faults notes.old) }
     ensures cause { OnErr result (HasRisen (N.faults notes.old) (N.faults notes.new)) }
 {
     match check {
@@ -104,10 +108,11 @@ fn write_journal<N: Sink>(
     requires empty { out.old ≡ [] }
     ensures written { OnOk result (N.written notes.new ≡ behind (N.written notes.old)
         (text_of journal.now)) }
-    ensures prefix { OnErr result (AppendsPrefix (N.written notes.old)
+    ensures prefix { OnErr result (AppendsPart (N.written notes.old)
         (text_of journal.now) (N.written notes.new)) }
     ensures empty { OnOk result (out.new ≡ []) }
     ensures never_falls { N.faults notes.old ≤ N.faults notes.new }
+    ensures steady { OnOk result (N.faults notes.new ≡ N.faults notes.old) }
     ensures cause { OnErr result (HasRisen (N.faults notes.old) (N.faults notes.new)) }
 {
     put_steps(out, notes, journal)?;
@@ -122,9 +127,10 @@ fn put_steps<N: Sink>(
 ) -> Result<(), WriteFailed>
     ensures puts { OnOk result (Puts (N.written notes.old) out.old (text_of journal.now)
         (N.written notes.new) out.new) }
-    ensures prefix { OnErr result (AppendsPrefix (N.written notes.old)
+    ensures prefix { OnErr result (AppendsPart (N.written notes.old)
         (out.old ++ text_of journal.now) (N.written notes.new)) }
     ensures never_falls { N.faults notes.old ≤ N.faults notes.new }
+    ensures steady { OnOk result (N.faults notes.new ≡ N.faults notes.old) }
     ensures cause { OnErr result (HasRisen (N.faults notes.old) (N.faults notes.new)) }
 {
     let mut line = LineBuf::new();

@@ -10,6 +10,7 @@
 
 mod checks;
 mod choices;
+pub mod laws;
 mod names;
 mod notes;
 mod report;
@@ -24,5 +25,6 @@ pub use choices::{App, Check, GREATEST_SIZE, Generated, Planning, Settings};
 pub use notes::{note_audit, note_batch, note_tally};
 pub use report::Report;
 pub use tally::Tally;
+pub use text::event_line;
 pub use words::settings;
 pub use writing::{write_closing, write_events, write_refused};

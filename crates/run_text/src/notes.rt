@@ -1,7 +1,8 @@
 ghost use Rattle.std.specs.Prelude.{◌≡◌, ◌+◌, ◌≤◌, ◌++◌, length, IsTrue, OnOk, OnErr};
 ghost use Rattle.morph_base.specs.declared.limits.TheConstants.{WORKERS};
 ghost use Rattle.morph_io.specs.declared.line_buf.TheConstants.{LINE_BYTES};
-ghost use Rattle.morph_io.specs.Told.{behind, HasRisen, AppendsPrefix};
+ghost use Rattle.morph_io.specs.Told.{behind, HasRisen};
+ghost use Rattle.morph_io.specs.Writing.{AppendsPart};
 ghost use Rattle.run_text.specs.Notes.{noted, unit_word, explore_word, abort_word, strategy_words, batch_note};
 ghost use Rattle.run_text.specs.Notes.{tally_note, settled_note, closing_notes, audit_note};
 
@@ -20,9 +21,10 @@ pub fn note_batch<N: Sink>(
 ) -> Result<(), WriteFailed>
     ensures written { OnOk result (N.written notes.new ≡ behind (N.written notes.old)
         (noted on (batch_note number plan.now strategy))) }
-    ensures prefix { OnErr result (AppendsPrefix (N.written notes.old)
+    ensures prefix { OnErr result (AppendsPart (N.written notes.old)
         (noted on (batch_note number plan.now strategy)) (N.written notes.new)) }
     ensures never_falls { N.faults notes.old ≤ N.faults notes.new }
+    ensures steady { OnOk result (N.faults notes.new ≡ N.faults notes.old) }
     ensures cause { OnErr result (IsTrue on × HasRisen (N.faults notes.old) (N.faults notes.new)) }
 {
     if !on {
@@ -37,9 +39,10 @@ pub fn note_batch<N: Sink>(
 pub fn note_audit<N: Sink>(notes: &mut N, number: u64, total: u64) -> Result<(), WriteFailed>
     ensures written { OnOk result (N.written notes.new ≡ behind (N.written notes.old)
         (audit_note number total)) }
-    ensures prefix { OnErr result (AppendsPrefix (N.written notes.old)
+    ensures prefix { OnErr result (AppendsPart (N.written notes.old)
         (audit_note number total) (N.written notes.new)) }
     ensures never_falls { N.faults notes.old ≤ N.faults notes.new }
+    ensures steady { OnOk result (N.faults notes.new ≡ N.faults notes.old) }
     ensures cause { OnErr result (HasRisen (N.faults notes.old) (N.faults notes.new)) }
 {
     let seen = audit_line(number, total);
@@ -58,9 +61,10 @@ pub fn note_tally<N: Sink>(
     requires all { length tally.now.settled_by ≡ 17 }
     ensures written { OnOk result (N.written notes.new ≡ behind (N.written notes.old)
         (noted on (closing_notes workers tally.now))) }
-    ensures prefix { OnErr result (AppendsPrefix (N.written notes.old)
+    ensures prefix { OnErr result (AppendsPart (N.written notes.old)
         (noted on (closing_notes workers tally.now)) (N.written notes.new)) }
     ensures never_falls { N.faults notes.old ≤ N.faults notes.new }
+    ensures steady { OnOk result (N.faults notes.new ≡ N.faults notes.old) }
     ensures cause { OnErr result (IsTrue on × HasRisen (N.faults notes.old) (N.faults notes.new)) }
 {
     if !on {
@@ -75,9 +79,10 @@ fn write_tally<N: Sink>(notes: &mut N, workers: u32, tally: &Tally) -> Result<()
     requires all { length tally.now.settled_by ≡ 17 }
     ensures written { OnOk result (N.written notes.new ≡ behind (N.written notes.old)
         (closing_notes workers tally.now)) }
-    ensures prefix { OnErr result (AppendsPrefix (N.written notes.old)
+    ensures prefix { OnErr result (AppendsPart (N.written notes.old)
         (closing_notes workers tally.now) (N.written notes.new)) }
     ensures never_falls { N.faults notes.old ≤ N.faults notes.new }
+    ensures steady { OnOk result (N.faults notes.new ≡ N.faults notes.old) }
     ensures cause { OnErr result (HasRisen (N.faults notes.old) (N.faults notes.new)) }
 {
     let first = tally_line(tally);

@@ -2,7 +2,8 @@ ghost use Rattle.std.specs.Prelude.{◌≡◌, ◌<◌, ◌≤◌, ◌++◌, len
 ghost use Rattle.morph_base.specs.Flat.{contents};
 ghost use Rattle.event_reader.specs.declared.limits.TheConstants.{NAME_BYTES};
 ghost use Rattle.run_text.specs.declared.choices.TheConstants.{GREATEST_SIZE};
-ghost use Rattle.morph_io.specs.Told.{HasRisen, Puts, AppendsPrefix};
+ghost use Rattle.morph_io.specs.Told.{HasRisen, Puts};
+ghost use Rattle.morph_io.specs.Writing.{AppendsPart};
 ghost use Rattle.run_text.specs.Text.{total_line, total_lines};
 ghost use Rattle.version_table.specs.Totals.{total_of};
 
@@ -38,10 +39,11 @@ fn put_total<K: Sink>(
     ensures puts { OnOk result (Puts (K.written sink.old) out.old
         (total_line name.now (contents values.now) table values.now.layout.size)
         (K.written sink.new) out.new) }
-    ensures prefix { OnErr result (AppendsPrefix (K.written sink.old)
+    ensures prefix { OnErr result (AppendsPart (K.written sink.old)
         (out.old ++ total_line name.now (contents values.now) table values.now.layout.size)
         (K.written sink.new)) }
     ensures never_falls { K.faults sink.old ≤ K.faults sink.new }
+    ensures steady { OnOk result (K.faults sink.new ≡ K.faults sink.old) }
     ensures cause { OnErr result (HasRisen (K.faults sink.old) (K.faults sink.new)) }
 {
     let mut line = LineBuf::new();
@@ -64,10 +66,11 @@ pub fn put_totals<A: EventApp, K: Sink>(
     ensures puts { OnOk result (Puts (K.written sink.old) out.old
         (total_lines values.now.layout (A.name_of app.now) (contents values.now))
         (K.written sink.new) out.new) }
-    ensures prefix { OnErr result (AppendsPrefix (K.written sink.old)
+    ensures prefix { OnErr result (AppendsPart (K.written sink.old)
         (out.old ++ total_lines values.now.layout (A.name_of app.now) (contents values.now))
         (K.written sink.new)) }
     ensures never_falls { K.faults sink.old ≤ K.faults sink.new }
+    ensures steady { OnOk result (K.faults sink.new ≡ K.faults sink.old) }
     ensures cause { OnErr result (HasRisen (K.faults sink.old) (K.faults sink.new)) }
 {
     for table in 0..app.tables() {

@@ -4,7 +4,8 @@ ghost use Rattle.morph_base.specs.Plans.{IsPlan, IsSettledOf};
 ghost use Rattle.morph_engine.specs.Fates.{settled_fates};
 ghost use Rattle.event_reader.specs.declared.limits.TheConstants.{NAME_BYTES};
 ghost use Rattle.run_text.specs.declared.choices.TheConstants.{GREATEST_SIZE};
-ghost use Rattle.morph_io.specs.Told.{behind, HasRisen, Puts, AppendsPrefix};
+ghost use Rattle.morph_io.specs.Told.{behind, HasRisen, Puts};
+ghost use Rattle.morph_io.specs.Writing.{AppendsPart};
 ghost use Rattle.run_text.specs.Text.{lines_of, told_lines, value_line, table_lines, value_lines, told_values, counts_line, cause_word, refused_text};
 
 use crate::report::Report;
@@ -29,10 +30,11 @@ pub fn write_events<K: Sink>(
     requires settled { IsSettledOf end.now.plan end.now.settled }
     ensures written { OnOk result (K.written sink.new ≡ behind (K.written sink.old)
         (told_lines report (settled_fates end.now.plan end.now.settled))) }
-    ensures prefix { OnErr result (AppendsPrefix (K.written sink.old)
+    ensures prefix { OnErr result (AppendsPart (K.written sink.old)
         (told_lines report (settled_fates end.now.plan end.now.settled)) (K.written sink.new)) }
     ensures empty { OnOk result (out.new ≡ []) }
     ensures never_falls { K.faults sink.old ≤ K.faults sink.new }
+    ensures steady { OnOk result (K.faults sink.new ≡ K.faults sink.old) }
     ensures cause { OnErr result (HasRisen (K.faults sink.old) (K.faults sink.new)) }
 {
     match report {
@@ -48,10 +50,11 @@ fn write_lines<K: Sink>(out: &mut Out, sink: &mut K, end: &BatchEnd) -> Result<(
     requires settled { IsSettledOf end.now.plan end.now.settled }
     ensures written { OnOk result (K.written sink.new ≡ behind (K.written sink.old)
         (lines_of (settled_fates end.now.plan end.now.settled))) }
-    ensures prefix { OnErr result (AppendsPrefix (K.written sink.old)
+    ensures prefix { OnErr result (AppendsPart (K.written sink.old)
         (lines_of (settled_fates end.now.plan end.now.settled)) (K.written sink.new)) }
     ensures empty { OnOk result (out.new ≡ []) }
     ensures never_falls { K.faults sink.old ≤ K.faults sink.new }
+    ensures steady { OnOk result (K.faults sink.new ≡ K.faults sink.old) }
     ensures cause { OnErr result (HasRisen (K.faults sink.old) (K.faults sink.new)) }
 {
     put_events(out, sink, &end.plan, &end.settled)?;
@@ -73,10 +76,11 @@ pub fn write_closing<A: EventApp, K: Sink>(
     ensures written { OnOk result (K.written sink.new
         ≡ behind (K.written sink.old) (told_values report values.now.layout (A.name_of app.now)
         (contents values.now) ++ counts_line tally.now.committed tally.now.aborted)) }
-    ensures prefix { OnErr result (AppendsPrefix (K.written sink.old)
+    ensures prefix { OnErr result (AppendsPart (K.written sink.old)
         (told_values report values.now.layout (A.name_of app.now) (contents values.now)
         ++ counts_line tally.now.committed tally.now.aborted) (K.written sink.new)) }
     ensures never_falls { K.faults sink.old ≤ K.faults sink.new }
+    ensures steady { OnOk result (K.faults sink.new ≡ K.faults sink.old) }
     ensures cause { OnErr result (HasRisen (K.faults sink.old) (K.faults sink.new)) }
 {
     put_told_values(out, sink, app, report, values)?;
@@ -94,9 +98,10 @@ pub fn write_refused<K: Sink>(
     requires empty { out.old ≡ [] }
     ensures written { OnOk result (K.written sink.new ≡ behind (K.written sink.old)
         (refused_text number cause)) }
-    ensures prefix { OnErr result (AppendsPrefix (K.written sink.old) (refused_text number cause)
+    ensures prefix { OnErr result (AppendsPart (K.written sink.old) (refused_text number cause)
         (K.written sink.new)) }
     ensures never_falls { K.faults sink.old ≤ K.faults sink.new }
+    ensures steady { OnOk result (K.faults sink.new ≡ K.faults sink.old) }
     ensures cause { OnErr result (HasRisen (K.faults sink.old) (K.faults sink.new)) }
 {
     put_refused(out, sink, number, cause)?;
@@ -130,9 +135,10 @@ fn put_events<K: Sink>(
     requires settled { IsSettledOf plan.now settled.now }
     ensures puts { OnOk result (Puts (K.written sink.old) out.old
         (lines_of (settled_fates plan.now settled.now)) (K.written sink.new) out.new) }
-    ensures prefix { OnErr result (AppendsPrefix (K.written sink.old)
+    ensures prefix { OnErr result (AppendsPart (K.written sink.old)
         (out.old ++ lines_of (settled_fates plan.now settled.now)) (K.written sink.new)) }
     ensures never_falls { K.faults sink.old ≤ K.faults sink.new }
+    ensures steady { OnOk result (K.faults sink.new ≡ K.faults sink.old) }
     ensures cause { OnErr result (HasRisen (K.faults sink.old) (K.faults sink.new)) }
 {
     let mut line = LineBuf::new();
@@ -156,9 +162,10 @@ fn put_value<K: Sink>(
     requires short { length name.now ≤ NAME_BYTES }
     ensures puts { OnOk result (Puts (K.written sink.old) out.old (value_line name.now id value)
         (K.written sink.new) out.new) }
-    ensures prefix { OnErr result (AppendsPrefix (K.written sink.old)
+    ensures prefix { OnErr result (AppendsPart (K.written sink.old)
         (out.old ++ value_line name.now id value) (K.written sink.new)) }
     ensures never_falls { K.faults sink.old ≤ K.faults sink.new }
+    ensures steady { OnOk result (K.faults sink.new ≡ K.faults sink.old) }
     ensures cause { OnErr result (HasRisen (K.faults sink.old) (K.faults sink.new)) }
 {
     if value == 0 {
@@ -187,10 +194,11 @@ fn put_table<K: Sink>(
     ensures puts { OnOk result (Puts (K.written sink.old) out.old
         (table_lines name.now (contents values.now) table values.now.layout.size)
         (K.written sink.new) out.new) }
-    ensures prefix { OnErr result (AppendsPrefix (K.written sink.old)
+    ensures prefix { OnErr result (AppendsPart (K.written sink.old)
         (out.old ++ table_lines name.now (contents values.now) table values.now.layout.size)
         (K.written sink.new)) }
     ensures never_falls { K.faults sink.old ≤ K.faults sink.new }
+    ensures steady { OnOk result (K.faults sink.new ≡ K.faults sink.old) }
     ensures cause { OnErr result (HasRisen (K.faults sink.old) (K.faults sink.new)) }
 {
     for id in 0..values.layout().size {
@@ -211,10 +219,11 @@ fn put_values<A: EventApp, K: Sink>(
     ensures puts { OnOk result (Puts (K.written sink.old) out.old
         (value_lines values.now.layout (A.name_of app.now) (contents values.now))
         (K.written sink.new) out.new) }
-    ensures prefix { OnErr result (AppendsPrefix (K.written sink.old)
+    ensures prefix { OnErr result (AppendsPart (K.written sink.old)
         (out.old ++ value_lines values.now.layout (A.name_of app.now) (contents values.now))
         (K.written sink.new)) }
     ensures never_falls { K.faults sink.old ≤ K.faults sink.new }
+    ensures steady { OnOk result (K.faults sink.new ≡ K.faults sink.old) }
     ensures cause { OnErr result (HasRisen (K.faults sink.old) (K.faults sink.new)) }
 {
     for table in 0..app.tables() {
@@ -236,10 +245,11 @@ fn put_told_values<A: EventApp, K: Sink>(
     ensures puts { OnOk result (Puts (K.written sink.old) out.old
         (told_values report values.now.layout (A.name_of app.now) (contents values.now))
         (K.written sink.new) out.new) }
-    ensures prefix { OnErr result (AppendsPrefix (K.written sink.old)
+    ensures prefix { OnErr result (AppendsPart (K.written sink.old)
         (out.old ++ told_values report values.now.layout (A.name_of app.now) (contents values.now))
         (K.written sink.new)) }
     ensures never_falls { K.faults sink.old ≤ K.faults sink.new }
+    ensures steady { OnOk result (K.faults sink.new ≡ K.faults sink.old) }
     ensures cause { OnErr result (HasRisen (K.faults sink.old) (K.faults sink.new)) }
 {
     match report {
@@ -252,9 +262,10 @@ fn put_told_values<A: EventApp, K: Sink>(
 fn put_counts<K: Sink>(out: &mut Out, sink: &mut K, tally: &Tally) -> Result<(), WriteFailed>
     ensures puts { OnOk result (Puts (K.written sink.old) out.old
         (counts_line tally.now.committed tally.now.aborted) (K.written sink.new) out.new) }
-    ensures prefix { OnErr result (AppendsPrefix (K.written sink.old)
+    ensures prefix { OnErr result (AppendsPart (K.written sink.old)
         (out.old ++ counts_line tally.now.committed tally.now.aborted) (K.written sink.new)) }
     ensures never_falls { K.faults sink.old ≤ K.faults sink.new }
+    ensures steady { OnOk result (K.faults sink.new ≡ K.faults sink.old) }
     ensures cause { OnErr result (HasRisen (K.faults sink.old) (K.faults sink.new)) }
 {
     let mut line = LineBuf::new();
@@ -275,9 +286,10 @@ fn put_refused<K: Sink>(
 ) -> Result<(), WriteFailed>
     ensures puts { OnOk result (Puts (K.written sink.old) out.old (refused_text number cause)
         (K.written sink.new) out.new) }
-    ensures prefix { OnErr result (AppendsPrefix (K.written sink.old)
+    ensures prefix { OnErr result (AppendsPart (K.written sink.old)
         (out.old ++ refused_text number cause) (K.written sink.new)) }
     ensures never_falls { K.faults sink.old ≤ K.faults sink.new }
+    ensures steady { OnOk result (K.faults sink.new ≡ K.faults sink.old) }
     ensures cause { OnErr result (HasRisen (K.faults sink.old) (K.faults sink.new)) }
 {
     let mut line = LineBuf::new();

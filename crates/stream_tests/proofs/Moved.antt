@@ -1,6 +1,7 @@
 -- What a copy from a source to a sink has moved.
 use Rattle.std.proofs.Common.{◌≡◌, ℕ, List, [], ◌++◌, Option, Some, None, IfSome, refl, ap, sym, ◌∙◌, append_assoc, append-nil, take}
 use Rattle.morph_io.specs.Told.{ahead, behind, IsAtEnd, AppendsPrefix, ahead_nil, ahead_ahead, behind_nil, behind_behind}
+use Rattle.morph_io.specs.Writing.{AppendsPart}
 use Rattle.morph_io.proofs.Putting.{prefix_more}
 
 -- the bytes that were taken from what was left are those that were written
@@ -55,7 +56,7 @@ copied_prefix left0 left written0 written h = prefix_by_cases left0 left written
 
 -- the same, where a part of the last piece was written
 pub copied_cut : (left0 left left' written0 written written' : Option (List ℕ)) (front : List ℕ)
-    → HasCopied left0 left written0 written → left ≡ ahead front left' → AppendsPrefix written front written'
+    → HasCopied left0 left written0 written → left ≡ ahead front left' → AppendsPart written front written'
     → IfSome left0 (λ bytes. AppendsPrefix written0 bytes written')
 copied_cut left0 left left' written0 written written' front h e p =
     prefix_by_cases left0 left' written0 written' (h.taken ++ front) (h.source ∙ ap (ahead h.taken) e ∙ ahead_ahead h.taken front left')

@@ -4,8 +4,7 @@ ghost use Rattle.morph_io.specs.Told.{behind, HasRisen, AppendsPrefix};
 use crate::readings::source_of;
 use morph_base::{List, OutOfMemory};
 use morph_io::{
-    LineBuf, MemSink, OUT_BYTES, Out, ReadFailed, RepeatSource, Sink, Source, WriteFailed,
-    write_all,
+    LineBuf, MemSink, Out, ReadFailed, RepeatSource, Sink, Source, WriteFailed, write_all,
 };
 use std::alloc::Global;
 use std::process::Abort;
@@ -261,7 +260,7 @@ fn put_full(rt: &impl Abort, out: &mut Out, sink: &mut MemSink) {
     bytes[399] = b'\n';
     let line = line_of(&bytes);
     for puts in 1..22usize {
-        let written = if puts * 400 < OUT_BYTES { 0 } else { OUT_BYTES };
+        let written = if puts * 400 < 8_192 { 0 } else { 8_192 };
         assert_eq!(rt;
             put(out, sink, &line),
             (true, written),

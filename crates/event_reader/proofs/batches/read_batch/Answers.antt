@@ -28,7 +28,7 @@ lines-init g c = record {
   stays = λ ended. ended;
   at_end = λ unended ended. absurd (true≢false (sym ended ∙ unended));
   idle = λ ended. refl;
-  never_falls = omega arith;
+  steady = refl;
 }
 
 pub returns-in_err-next_line-clause-answers : goal.returns-in_err-next_line-clause-answers
@@ -131,7 +131,7 @@ lines-preserved g c =
       stays = λ ended. stays_ended _ _ c.next_line.ensures.unended (c.lines.invariant.stays ended);
       at_end = ends_later (λ s. IsAtEnd (g.S.Source.left s)) _ _ _ _ _ c.lines.invariant.at_end c.next_line.ensures.at_end c.next_line.ensures.idle;
       idle = λ ended. c.next_line.ensures.idle (c.lines.invariant.stays ended) ∙ c.lines.invariant.idle ended;
-      never_falls = omega (arith, c.lines.invariant.never_falls, c.next_line.ensures.never_falls);
+      steady = c.in_ok-next_line.ensures.steady (λ failed. absurd (cc)) ∙ c.lines.invariant.steady;
     }
 
 -- the version line leads on
@@ -161,7 +161,7 @@ lines-preserved-then-says_version g c =
       stays = λ ended. stays_ended _ _ c.next_line.ensures.unended (c.lines.invariant.stays ended);
       at_end = ends_later (λ s. IsAtEnd (g.S.Source.left s)) _ _ _ _ _ c.lines.invariant.at_end c.next_line.ensures.at_end c.next_line.ensures.idle;
       idle = λ ended. c.next_line.ensures.idle (c.lines.invariant.stays ended) ∙ c.lines.invariant.idle ended;
-      never_falls = omega (arith, c.lines.invariant.never_falls, c.next_line.ensures.never_falls);
+      steady = c.in_ok-next_line.ensures.steady (λ failed. absurd (cc)) ∙ c.lines.invariant.steady;
     }
 
 pub returns-in-Refuses-clause-answers : goal.returns-in-Refuses-clause-answers

@@ -24,7 +24,7 @@ invariant-lines g l = record {
   stays : IsTrue l.initial.lines.ended → IsTrue l.lines.ended;
   at_end : l.initial.lines.ended ≡ false → IsTrue l.lines.ended → IsAtEnd (g.S.Source.left l.source);
   idle : IsTrue l.initial.lines.ended → l.source ≡ l.initial.source;
-  never_falls : g.S.Source.faults l.initial.source ≤ g.S.Source.faults l.source;
+  steady : g.S.Source.faults l.source ≡ g.S.Source.faults l.initial.source;
 }
 
 -- each turn reads a line

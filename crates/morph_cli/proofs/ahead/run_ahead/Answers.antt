@@ -30,6 +30,8 @@ turns-init g c =
       source_faults = omega arith;
       sink_faults = omega arith;
       notes_faults = omega arith;
+      sink_steady = refl;
+      notes_steady = refl;
     }
 
 pub tell_next-requires-clause-plan : goal.tell_next-requires-clause-plan
@@ -75,6 +77,8 @@ turns-preserved-in-Some g c =
       source_faults = c.turns.invariant.source_faults;
       sink_faults = omega (arith, c.turns.invariant.sink_faults, c.in_ok-tell_next-in-Some.ensures.sink_faults);
       notes_faults = omega (arith, c.turns.invariant.notes_faults, c.in_ok-tell_next-in-Some.ensures.notes_faults);
+      sink_steady = c.in_ok-tell_next-in-Some.ensures.steady.0 ∙ c.turns.invariant.sink_steady;
+      notes_steady = c.in_ok-tell_next-in-Some.ensures.steady.1 ∙ c.turns.invariant.notes_steady;
     }
 
 pub turns-smaller : goal.turns-smaller
@@ -96,6 +100,8 @@ turns-preserved g c =
       source_faults = omega (arith, c.turns.invariant.source_faults, c.round.ensures.never_falls);
       sink_faults = c.turns.invariant.sink_faults;
       notes_faults = c.turns.invariant.notes_faults;
+      sink_steady = c.turns.invariant.sink_steady;
+      notes_steady = c.turns.invariant.notes_steady;
     }
 
 -- ---- the end
@@ -142,3 +148,10 @@ pub returns-clause-write : goal.returns-clause-write
 returns-clause-write g c is =
     risen_in_part (noted_so c.args.job.now.settings) (g.K.Sink.faults c.args.sink.now) (g.K.Sink.faults c.turns.sink) (g.K.Sink.faults c.end_ahead.new.sink) (g.N.Sink.faults c.args.notes.now) (g.N.Sink.faults c.turns.notes) (g.N.Sink.faults c.end_ahead.new.notes)
     c.turns.invariant.sink_faults c.end_ahead.ensures.sink_faults c.turns.invariant.notes_faults c.end_ahead.ensures.notes_faults (c.end_ahead.ensures.write is)
+
+pub returns-in_err-tell_next-in-Some-clause-steady : goal.returns-in_err-tell_next-in-Some-clause-steady
+returns-in_err-tell_next-in-Some-clause-steady g c other = absurd (other (error_is c.from_residual.result Write c.from_residual.ensures.1))
+
+pub returns-clause-steady : goal.returns-clause-steady
+returns-clause-steady g c other =
+    let steady = c.end_ahead.ensures.steady other in (steady.0 ∙ c.turns.invariant.sink_steady, steady.1 ∙ c.turns.invariant.notes_steady)

@@ -19,6 +19,8 @@ invariant-turns g l = record {
   source_faults : g.S.Source.faults l.initial.source ≤ g.S.Source.faults l.source;
   sink_faults : g.K.Sink.faults l.initial.sink ≤ g.K.Sink.faults l.sink;
   notes_faults : g.N.Sink.faults l.initial.notes ≤ g.N.Sink.faults l.notes;
+  sink_steady : g.K.Sink.faults l.sink ≡ g.K.Sink.faults l.initial.sink;
+  notes_steady : g.N.Sink.faults l.notes ≡ g.N.Sink.faults l.initial.notes;
 }
 
 abbrev pub decreases-turns : goal.decreases-turns

@@ -1,10 +1,9 @@
 use Rattle.std.proofs.Common.{◌≡◌, map, ap, ◌∙◌, refl}
 use Rattle.std.specs.Process.{exit_status}
 use Rattle.morph_io.specs.Told.{HasRisen}
-use Rattle.run_text.specs.Settings.{settings_of}
 use Rattle.morph_cli.specs.Outputs.{outputs_of}
 use Rattle.morph_cli.specs.Words.{words_behind}
-use Rattle.morph_cli.proofs.Starting.{at_ok, along, HeadlineBy, UsageBy, CompletesBy, MadeBy, ToldBy, UntouchedBy, usage_along, tally_told, no_memory, no_memory_completes, no_memory_made, no_memory_told, no_memory_notes, write_along}
+use Rattle.morph_cli.proofs.Starting.{at_ok, along, AsksBy, no_memory_asks, HeadlineBy, UsageBy, CompletesBy, MadeBy, ToldBy, UntouchedBy, UnreadBy, WriteBy, usage_along, tally_told, no_memory, no_memory_completes, no_memory_made, no_memory_told, no_memory_notes, no_memory_unread, no_memory_write}
 use Rattle.morph_cli.proofs.arguments.program.Goals as goal
 
 -- ---- no memory for the words
@@ -20,19 +19,19 @@ returns-in_default-words_of-clause-headline g c =
 pub returns-in_default-words_of-clause-completes : goal.returns-in_default-words_of-clause-completes
 returns-in_default-words_of-clause-completes g c no_read no_write =
     let told = g.S.Source.left c.args.source.now in
-    let failed = HasRisen (g.N.Sink.faults c.args.notes.now) (g.N.Sink.faults c.end_without_memory-in_default-words_of.new.notes) in
     let status = exit_status c.end_without_memory-in_default-words_of.result in
-    at_ok c.args.args c.in-Ok.args c.in-Ok.is (λ args. CompletesBy told failed (words_behind args.items) status)
-    (no_memory_completes told failed (words_behind c.in-Ok.args.items) status c.end_without_memory-in_default-words_of.ensures.status)
+    at_ok c.args.args c.in-Ok.args c.in-Ok.is (λ args. CompletesBy told (words_behind args.items) status)
+    (no_memory_completes told (words_behind c.in-Ok.args.items) status c.end_without_memory-in_default-words_of.ensures.status)
 
 pub returns-in_default-words_of-clause-untouched : goal.returns-in_default-words_of-clause-untouched
 returns-in_default-words_of-clause-untouched g c =
     let old = g.N.Sink.written c.args.notes.now in
     let new = g.N.Sink.written c.end_without_memory-in_default-words_of.new.notes in
-    let failed = HasRisen (g.N.Sink.faults c.args.notes.now) (g.N.Sink.faults c.end_without_memory-in_default-words_of.new.notes) in
+    let before = g.N.Sink.faults c.args.notes.now in
+    let after = g.N.Sink.faults c.end_without_memory-in_default-words_of.new.notes in
     let status = exit_status c.end_without_memory-in_default-words_of.result in
-    at_ok c.args.args c.in-Ok.args c.in-Ok.is (λ args. UntouchedBy c.args.source.now c.args.source.now c.args.sink.now c.args.sink.now old new failed (words_behind args.items) status)
-    (λ none. (refl, refl, no_memory_notes old new failed status c.end_without_memory-in_default-words_of.ensures.status c.end_without_memory-in_default-words_of.ensures.note))
+    at_ok c.args.args c.in-Ok.args c.in-Ok.is (λ args. UntouchedBy c.args.source.now c.args.source.now c.args.sink.now c.args.sink.now old new before after (words_behind args.items) status)
+    (λ none. (refl, refl, no_memory_notes old new before after status c.end_without_memory-in_default-words_of.ensures.status c.end_without_memory-in_default-words_of.ensures.note))
 
 pub returns-in_default-words_of-clause-made : goal.returns-in_default-words_of-clause-made
 returns-in_default-words_of-clause-made g c =
@@ -44,12 +43,14 @@ pub returns-in_default-words_of-clause-told : goal.returns-in_default-words_of-c
 returns-in_default-words_of-clause-told g c =
     let told = g.S.Source.left c.args.source.now in
     let sink = g.K.Sink.written c.args.sink.now in
+    let sunk = HasRisen (g.K.Sink.faults c.args.sink.now) (g.K.Sink.faults c.args.sink.now) in
     let old = g.N.Sink.written c.args.notes.now in
     let new = g.N.Sink.written c.end_without_memory-in_default-words_of.new.notes in
-    let failed = HasRisen (g.N.Sink.faults c.args.notes.now) (g.N.Sink.faults c.end_without_memory-in_default-words_of.new.notes) in
+    let before = g.N.Sink.faults c.args.notes.now in
+    let after = g.N.Sink.faults c.end_without_memory-in_default-words_of.new.notes in
     let status = exit_status c.end_without_memory-in_default-words_of.result in
-    at_ok c.args.args c.in-Ok.args c.in-Ok.is (λ args. ToldBy told (outputs_of sink old) (outputs_of sink new) failed (words_behind args.items) status)
-    (no_memory_told told sink old new failed (words_behind c.in-Ok.args.items) status c.end_without_memory-in_default-words_of.ensures.status c.end_without_memory-in_default-words_of.ensures.note)
+    at_ok c.args.args c.in-Ok.args c.in-Ok.is (λ args. ToldBy told (outputs_of sink old) (outputs_of sink new) sunk before after (words_behind args.items) status)
+    (no_memory_told told sink old new sunk before after (words_behind c.in-Ok.args.items) status c.end_without_memory-in_default-words_of.ensures.status c.end_without_memory-in_default-words_of.ensures.note)
 
 -- ---- what the call says
 
@@ -70,23 +71,23 @@ returns-clause-headline g c =
     (ap (map (λ word. word.items)) c.as_slice.ensures ∙ c.in-Ok-words_of.ensures ∙ ap words_behind c.deref.ensures.value) c.from.ensures c.morph-ended.ensures.headline)
 
 pub returns-clause-completes : goal.returns-clause-completes
-returns-clause-completes g c no_read no_write =
+returns-clause-completes g c no_read other =
     let told = g.S.Source.left c.args.source.now in
-    let failed = HasRisen (g.N.Sink.faults c.args.notes.now) (g.N.Sink.faults c.morph-ended.new.notes) in
-    at_ok c.args.args c.in-Ok.args c.in-Ok.is (λ args. CompletesBy told failed (words_behind args.items) (exit_status c.from.result))
-    (along (CompletesBy told failed) (map (λ word. word.items) c.as_slice.result.now) (words_behind c.in-Ok.args.items) c.morph-ended.result.status (exit_status c.from.result)
-    (ap (map (λ word. word.items)) c.as_slice.ensures ∙ c.in-Ok-words_of.ensures ∙ ap words_behind c.deref.ensures.value) c.from.ensures (c.morph-ended.ensures.completes no_read no_write))
+    at_ok c.args.args c.in-Ok.args c.in-Ok.is (λ args. CompletesBy told (words_behind args.items) (exit_status c.from.result))
+    (along (CompletesBy told) (map (λ word. word.items) c.as_slice.result.now) (words_behind c.in-Ok.args.items) c.morph-ended.result.status (exit_status c.from.result)
+    (ap (map (λ word. word.items)) c.as_slice.ensures ∙ c.in-Ok-words_of.ensures ∙ ap words_behind c.deref.ensures.value) c.from.ensures (c.morph-ended.ensures.completes no_read (λ five. other (c.from.ensures ∙ five))))
 
 pub returns-clause-untouched : goal.returns-clause-untouched
 returns-clause-untouched g c =
     let old = g.N.Sink.written c.args.notes.now in
     let new = g.N.Sink.written c.morph-ended.new.notes in
-    let failed = HasRisen (g.N.Sink.faults c.args.notes.now) (g.N.Sink.faults c.morph-ended.new.notes) in
+    let before = g.N.Sink.faults c.args.notes.now in
+    let after = g.N.Sink.faults c.morph-ended.new.notes in
     at_ok c.args.args c.in-Ok.args c.in-Ok.is
-    (λ args. UntouchedBy c.args.source.now c.morph-ended.new.source c.args.sink.now c.morph-ended.new.sink old new failed (words_behind args.items) (exit_status c.from.result))
-    (along (UntouchedBy c.args.source.now c.morph-ended.new.source c.args.sink.now c.morph-ended.new.sink old new failed) (map (λ word. word.items) c.as_slice.result.now) (words_behind c.in-Ok.args.items) c.morph-ended.result.status (exit_status c.from.result)
+    (λ args. UntouchedBy c.args.source.now c.morph-ended.new.source c.args.sink.now c.morph-ended.new.sink old new before after (words_behind args.items) (exit_status c.from.result))
+    (along (UntouchedBy c.args.source.now c.morph-ended.new.source c.args.sink.now c.morph-ended.new.sink old new before after) (map (λ word. word.items) c.as_slice.result.now) (words_behind c.in-Ok.args.items) c.morph-ended.result.status (exit_status c.from.result)
     (ap (map (λ word. word.items)) c.as_slice.ensures ∙ c.in-Ok-words_of.ensures ∙ ap words_behind c.deref.ensures.value) c.from.ensures
-    (λ none. let usage = c.morph-ended.ensures.usage.1 none in let same = c.morph-ended.ensures.untouched usage in (same.0, same.1, record { last = c.morph-ended.ensures.note usage; whole = c.morph-ended.ensures.whole_note usage })))
+    (λ none. let usage = c.morph-ended.ensures.usage.1 none in let same = c.morph-ended.ensures.untouched usage in (same.0, same.1, c.morph-ended.ensures.note usage)))
 
 pub returns-clause-made : goal.returns-clause-made
 returns-clause-made g c =
@@ -97,17 +98,57 @@ returns-clause-made g c =
 pub returns-clause-told : goal.returns-clause-told
 returns-clause-told g c =
     let told = g.S.Source.left c.args.source.now in
+    let sunk = HasRisen (g.K.Sink.faults c.args.sink.now) (g.K.Sink.faults c.morph-ended.new.sink) in
     let old = outputs_of (g.K.Sink.written c.args.sink.now) (g.N.Sink.written c.args.notes.now) in
     let new = outputs_of (g.K.Sink.written c.morph-ended.new.sink) (g.N.Sink.written c.morph-ended.new.notes) in
-    let failed = HasRisen (g.N.Sink.faults c.args.notes.now) (g.N.Sink.faults c.morph-ended.new.notes) in
-    at_ok c.args.args c.in-Ok.args c.in-Ok.is (λ args. ToldBy told old new failed (words_behind args.items) (exit_status c.from.result))
-    (along (ToldBy told old new failed) (map (λ word. word.items) c.as_slice.result.now) (words_behind c.in-Ok.args.items) c.morph-ended.result.status (exit_status c.from.result)
+    let before = g.N.Sink.faults c.args.notes.now in
+    let after = g.N.Sink.faults c.morph-ended.new.notes in
+    at_ok c.args.args c.in-Ok.args c.in-Ok.is (λ args. ToldBy told old new sunk before after (words_behind args.items) (exit_status c.from.result))
+    (along (ToldBy told old new sunk before after) (map (λ word. word.items) c.as_slice.result.now) (words_behind c.in-Ok.args.items) c.morph-ended.result.status (exit_status c.from.result)
     (ap (map (λ word. word.items)) c.as_slice.ensures ∙ c.in-Ok-words_of.ensures ∙ ap words_behind c.deref.ensures.value) c.from.ensures
-    (tally_told told old new failed (map (λ word. word.items) c.as_slice.result.now) c.morph-ended.result.status c.morph-ended.result.tally c.morph-ended.ensures.told))
+    (tally_told told old new sunk before after (map (λ word. word.items) c.as_slice.result.now) c.morph-ended.result.status c.morph-ended.result.tally c.morph-ended.ensures.told))
 
 pub returns-clause-write : goal.returns-clause-write
 returns-clause-write g c =
-    write_along (settings_of (map (λ word. word.items) c.as_slice.result.now)) c.morph-ended.result.status (exit_status c.from.result)
-    (HasRisen (g.K.Sink.faults c.args.sink.now) (g.K.Sink.faults c.morph-ended.new.sink))
-    (HasRisen (g.N.Sink.faults c.args.notes.now) (g.N.Sink.faults c.morph-ended.new.notes))
-    c.from.ensures c.morph-ended.ensures.usage.1 c.morph-ended.ensures.write
+    let sunk = HasRisen (g.K.Sink.faults c.args.sink.now) (g.K.Sink.faults c.morph-ended.new.sink) in
+    let noted = HasRisen (g.N.Sink.faults c.args.notes.now) (g.N.Sink.faults c.morph-ended.new.notes) in
+    at_ok c.args.args c.in-Ok.args c.in-Ok.is (λ args. WriteBy sunk noted (words_behind args.items) (exit_status c.from.result))
+    (along (WriteBy sunk noted) (map (λ word. word.items) c.as_slice.result.now) (words_behind c.in-Ok.args.items) c.morph-ended.result.status (exit_status c.from.result)
+    (ap (map (λ word. word.items)) c.as_slice.ensures ∙ c.in-Ok-words_of.ensures ∙ ap words_behind c.deref.ensures.value) c.from.ensures c.morph-ended.ensures.write)
+
+pub returns-clause-steady : goal.returns-clause-steady
+returns-clause-steady g c other = c.morph-ended.ensures.steady (λ five. other (c.from.ensures ∙ five))
+
+pub returns-clause-unread : goal.returns-clause-unread
+returns-clause-unread g c =
+    let same = g.S.Source.faults c.morph-ended.new.source ≡ g.S.Source.faults c.args.source.now in
+    at_ok c.args.args c.in-Ok.args c.in-Ok.is (λ args. UnreadBy same (words_behind args.items) (exit_status c.from.result))
+    (along (UnreadBy same) (map (λ word. word.items) c.as_slice.result.now) (words_behind c.in-Ok.args.items) c.morph-ended.result.status (exit_status c.from.result)
+    (ap (map (λ word. word.items)) c.as_slice.ensures ∙ c.in-Ok-words_of.ensures ∙ ap words_behind c.deref.ensures.value) c.from.ensures c.morph-ended.ensures.unread)
+
+pub returns-in_default-words_of-clause-write : goal.returns-in_default-words_of-clause-write
+returns-in_default-words_of-clause-write g c =
+    let sunk = HasRisen (g.K.Sink.faults c.args.sink.now) (g.K.Sink.faults c.args.sink.now) in
+    let noted = HasRisen (g.N.Sink.faults c.args.notes.now) (g.N.Sink.faults c.end_without_memory-in_default-words_of.new.notes) in
+    let status = exit_status c.end_without_memory-in_default-words_of.result in
+    at_ok c.args.args c.in-Ok.args c.in-Ok.is (λ args. WriteBy sunk noted (words_behind args.items) status)
+    (no_memory_write sunk noted (words_behind c.in-Ok.args.items) status c.end_without_memory-in_default-words_of.ensures.status)
+
+pub returns-in_default-words_of-clause-unread : goal.returns-in_default-words_of-clause-unread
+returns-in_default-words_of-clause-unread g c =
+    let same = g.S.Source.faults c.args.source.now ≡ g.S.Source.faults c.args.source.now in
+    let status = exit_status c.end_without_memory-in_default-words_of.result in
+    at_ok c.args.args c.in-Ok.args c.in-Ok.is (λ args. UnreadBy same (words_behind args.items) status)
+    (no_memory_unread same (words_behind c.in-Ok.args.items) status refl)
+
+pub returns-clause-asks : goal.returns-clause-asks
+returns-clause-asks g c =
+    at_ok c.args.args c.in-Ok.args c.in-Ok.is (λ args. AsksBy g.S.Source.left g.S.Source.reads c.args.source.now c.morph-ended.new.source (words_behind args.items) (exit_status c.from.result))
+    (along (AsksBy g.S.Source.left g.S.Source.reads c.args.source.now c.morph-ended.new.source) (map (λ word. word.items) c.as_slice.result.now) (words_behind c.in-Ok.args.items) c.morph-ended.result.status (exit_status c.from.result)
+    (ap (map (λ word. word.items)) c.as_slice.ensures ∙ c.in-Ok-words_of.ensures ∙ ap words_behind c.deref.ensures.value) c.from.ensures c.morph-ended.ensures.asks)
+
+pub returns-in_default-words_of-clause-asks : goal.returns-in_default-words_of-clause-asks
+returns-in_default-words_of-clause-asks g c =
+    let status = exit_status c.end_without_memory-in_default-words_of.result in
+    at_ok c.args.args c.in-Ok.args c.in-Ok.is (λ args. AsksBy g.S.Source.left g.S.Source.reads c.args.source.now c.args.source.now (words_behind args.items) status)
+    (no_memory_asks g.S.Source.left g.S.Source.reads c.args.source.now (words_behind c.in-Ok.args.items) status)

@@ -17,3 +17,6 @@ pub returns-clause-takes : goal.returns-clause-takes
 returns-clause-takes g c =
     takes_told _ _ _ _ _ (record { end = c.in_ok-ran.ran.end; audit = c.in_ok-ran.ran.audit; ran = c.in_ok-ran.ensures.ran; seen = c.in_ok-ran.ensures.audit; adds = c.tell_and_publish.ensures.adds })
     (ap contents c.tell_and_publish.ensures.engine ∙ c.in_ok-ran.ensures.state) c.in_ok-ran.ensures.watching c.tell_and_publish.result c.tell_and_publish.ensures.tells
+
+pub returns-clause-steady : goal.returns-clause-steady
+returns-clause-steady g c = c.tell_and_publish.ensures.steady

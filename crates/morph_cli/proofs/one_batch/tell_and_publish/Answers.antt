@@ -10,3 +10,12 @@ returns-in_err-publish-clause-tells g c = rw (error_is c.from_residual-in_err-pu
 
 pub returns-clause-tells : goal.returns-clause-tells
 returns-clause-tells g c = (c.in_ok-progress.ensures.told, c.in_ok-progress.ensures.last, c.in_ok-publish.ensures.published)
+
+pub returns-in_err-progress-clause-steady : goal.returns-in_err-progress-clause-steady
+returns-in_err-progress-clause-steady g c other = absurd (other (error_is c.from_residual.result Write c.from_residual.ensures.1))
+
+pub returns-in_err-publish-clause-steady : goal.returns-in_err-publish-clause-steady
+returns-in_err-publish-clause-steady g c other = c.in_ok-progress.ensures.steady
+
+pub returns-clause-steady : goal.returns-clause-steady
+returns-clause-steady g c other = c.in_ok-progress.ensures.steady

@@ -1,9 +1,10 @@
 use Rattle.std.proofs.Common.{inl, inr, refl, ap, sym, ◌∙◌, arith, le_trans, lit≤}
 use Rattle.run_text.specs.declared.tally.Tally.{Tally}
-use Rattle.morph_cli.proofs.Takings.{error_same, few_batches, never_read, between_same, ends_taken, told_taken, between_taken, shown_taken, watch_taken}
+use Rattle.morph_cli.proofs.Takings.{error_as, error_same, few_batches, never_read, between_same, ends_taken, told_taken, between_taken, shown_taken, watch_taken}
 use Rattle.morph_cli.proofs.Watches.{if_posted}
 use Rattle.event_reader.specs.declared.limits.TheConstants.{INPUT_BYTES}
 use Rattle.event_reader.specs.Accepted.{Ended, RefusedAt}
+use Rattle.event_reader.specs.declared.fault.ReaderFault.TheVariants.{ReadFault}
 use Rattle.morph_cli.specs.declared.fault.Fault.TheVariants.{Write}
 use Rattle.morph_cli.specs.Faults.{fault_of}
 use Rattle.run_text.specs.Notes.{noted, closing_notes}
@@ -18,6 +19,7 @@ use Rattle.event_reader.specs.Versions.{greatest_of}
 use Rattle.morph_base.specs.Flat.{contents}
 use Rattle.morph_base.proofs.BoundLaws.{fold_batch-within}
 use Rattle.morph_cli.proofs.Bounds.{opens_small, batch_small}
+use Rattle.morph_cli.proofs.Calling.{called_nothing, called_more, read_by}
 use Rattle.morph_cli.proofs.run.run_batches.Goals as goal
 
 -- ---- between two batches
@@ -39,6 +41,10 @@ batches-init g c =
       source_faults = omega arith;
       sink_faults = omega arith;
       notes_faults = omega arith;
+      called = called_nothing g.S.Source.left g.S.Source.reads g.A.EventApp.event_of c.args.job.now.app c.args.job.now.settings.size c.args.source.now c.args.progress.now.reader c.requires.reader;
+      source_steady = refl;
+      sink_steady = refl;
+      notes_steady = refl;
     }
 
 pub returns-in_err-batch-clause-ends : goal.returns-in_err-batch-clause-ends
@@ -100,6 +106,7 @@ batches-preserved g c =
     let shows = rw c.in-Batch.is at c.in_ok-batch.ensures.shows in
     let counted = rw c.in-Batch.is at c.in_ok-batch.ensures.counted in
     let live = rw c.in-Batch.is at c.in_ok-batch.ensures.goes_on in
+    let asks = rw c.in-Batch.is at c.in_ok-batch.ensures.asks in
     record {
       run = between_same c.in_ok-take_batch-in-Batch.ensures.reader
           (between_taken (g.S.Source.left c.next_batch.new.source) c.next_batch.new.self _ _ c.batches.invariant.run refl refl c.batches.invariant.shown c.batches.invariant.watch answers valid.0 _ _ _ _ _ _ _ c.in_ok-take_batch-in-Batch.ensures.takes shows counted c.in_ok-batch.ensures.bound (c.in_ok-batch.ensures.same.0, c.in_ok-batch.ensures.same.1, c.in_ok-batch.ensures.same.2) c.in_ok-batch.ensures.unended live
@@ -112,6 +119,11 @@ batches-preserved g c =
       source_faults = omega (arith, c.batches.invariant.source_faults, c.in_ok-batch.ensures.never_falls);
       sink_faults = omega (arith, c.batches.invariant.sink_faults, c.in_ok-take_batch-in-Batch.ensures.sink_faults);
       notes_faults = omega (arith, c.batches.invariant.notes_faults, c.in_ok-take_batch-in-Batch.ensures.notes_faults);
+      called = called_more g.S.Source.left g.S.Source.reads g.A.EventApp.event_of c.args.job.now.app c.args.job.now.settings.size c.args.source.now c.batches.progress.reader c.next_batch.new.self _ c.batches.source c.next_batch.new.source _ refl c.in_ok-take_batch-in-Batch.ensures.reader c.in_ok-batch.ensures.same.0 c.in_ok-batch.ensures.same.1
+          c.batches.invariant.called asks shows;
+      source_steady = c.in_ok-batch.ensures.steady (λ is. absurd (cc)) ∙ c.batches.invariant.source_steady;
+      sink_steady = (c.in_ok-take_batch-in-Batch.ensures.steady (λ is. absurd (cc))).0 ∙ c.batches.invariant.sink_steady;
+      notes_steady = (c.in_ok-take_batch-in-Batch.ensures.steady (λ is. absurd (cc))).1 ∙ c.batches.invariant.notes_steady;
     }
 
 -- ---- the end
@@ -201,3 +213,82 @@ pub returns-in_err-tell_refused-in-Refused-clause-write : goal.returns-in_err-te
 returns-in_err-tell_refused-in-Refused-clause-write g c is =
     risen_in_part (noted_so c.args.job.now.settings) (g.K.Sink.faults c.args.sink.now) (g.K.Sink.faults c.batches.sink) (g.K.Sink.faults c.tell_refused.new.sink) (g.N.Sink.faults c.args.notes.now) (g.N.Sink.faults c.batches.notes) (g.N.Sink.faults c.tell_refused.new.notes)
     c.batches.invariant.sink_faults c.in_err-tell_refused-in-Refused.ensures.sink_faults c.batches.invariant.notes_faults c.in_err-tell_refused-in-Refused.ensures.notes_faults c.in_err-tell_refused-in-Refused.ensures.cause
+
+-- ---- the counts of faults
+
+pub returns-in_err-batch-clause-steady : goal.returns-in_err-batch-clause-steady
+returns-in_err-batch-clause-steady g c other = (c.batches.invariant.sink_steady, c.batches.invariant.notes_steady)
+
+pub returns-in_err-batch-clause-unread : goal.returns-in_err-batch-clause-unread
+returns-in_err-batch-clause-unread g c other =
+    c.in_err-batch.ensures.steady
+    (λ is. other (error_is c.from_residual.result (fault_of c.in_err-batch.field-0.0) c.from_residual.ensures.1 ∙ error_as fault_of c.in_err-batch.field-0.0 ReadFault is))
+    ∙ c.batches.invariant.source_steady
+
+pub returns-in_err-take_batch-in-Batch-clause-steady : goal.returns-in_err-take_batch-in-Batch-clause-steady
+returns-in_err-take_batch-in-Batch-clause-steady g c other =
+    let steady = c.in_err-take_batch-in-Batch.ensures.steady
+    (λ is. other (error_is c.from_residual-in_err-take_batch-in-Batch.result c.in_err-take_batch-in-Batch.field-0.0 c.from_residual-in_err-take_batch-in-Batch.ensures.1
+    ∙ error_same c.in_err-take_batch-in-Batch.field-0.0 Write is)) in
+    (steady.0 ∙ c.batches.invariant.sink_steady, steady.1 ∙ c.batches.invariant.notes_steady)
+
+pub returns-in_err-take_batch-in-Batch-clause-unread : goal.returns-in_err-take_batch-in-Batch-clause-unread
+returns-in_err-take_batch-in-Batch-clause-unread g c other = c.in_ok-batch.ensures.steady (λ is. absurd (cc)) ∙ c.batches.invariant.source_steady
+
+pub returns-in-End-clause-steady : goal.returns-in-End-clause-steady
+returns-in-End-clause-steady g c other =
+    (c.in_ok-tell_closing-in-End.ensures.steady.0 ∙ c.batches.invariant.sink_steady, c.in_ok-tell_closing-in-End.ensures.steady.1 ∙ c.batches.invariant.notes_steady)
+
+pub returns-in-End-clause-unread : goal.returns-in-End-clause-unread
+returns-in-End-clause-unread g c other = c.in_ok-batch.ensures.steady (λ is. absurd (cc)) ∙ c.batches.invariant.source_steady
+
+pub returns-in_err-tell_closing-in-End-clause-steady : goal.returns-in_err-tell_closing-in-End-clause-steady
+returns-in_err-tell_closing-in-End-clause-steady g c other = absurd (other (error_is c.from_residual-in_err-tell_closing-in-End.result Write c.from_residual-in_err-tell_closing-in-End.ensures.1))
+
+pub returns-in_err-tell_closing-in-End-clause-unread : goal.returns-in_err-tell_closing-in-End-clause-unread
+returns-in_err-tell_closing-in-End-clause-unread g c other = c.in_ok-batch.ensures.steady (λ is. absurd (cc)) ∙ c.batches.invariant.source_steady
+
+pub returns-in-Refused-clause-steady : goal.returns-in-Refused-clause-steady
+returns-in-Refused-clause-steady g c other =
+    (c.in_ok-tell_refused-in-Refused.ensures.steady.0 ∙ c.batches.invariant.sink_steady, c.in_ok-tell_refused-in-Refused.ensures.steady.1 ∙ c.batches.invariant.notes_steady)
+
+pub returns-in-Refused-clause-unread : goal.returns-in-Refused-clause-unread
+returns-in-Refused-clause-unread g c other = c.in_ok-batch.ensures.steady (λ is. absurd (cc)) ∙ c.batches.invariant.source_steady
+
+pub returns-in_err-tell_refused-in-Refused-clause-steady : goal.returns-in_err-tell_refused-in-Refused-clause-steady
+returns-in_err-tell_refused-in-Refused-clause-steady g c other = absurd (other (error_is c.from_residual-in_err-tell_refused-in-Refused.result Write c.from_residual-in_err-tell_refused-in-Refused.ensures.1))
+
+pub returns-in_err-tell_refused-in-Refused-clause-unread : goal.returns-in_err-tell_refused-in-Refused-clause-unread
+returns-in_err-tell_refused-in-Refused-clause-unread g c other = c.in_ok-batch.ensures.steady (λ is. absurd (cc)) ∙ c.batches.invariant.source_steady
+
+-- ---- the reads
+
+pub returns-in_err-take_batch-in-Batch-clause-asks : goal.returns-in_err-take_batch-in-Batch-clause-asks
+returns-in_err-take_batch-in-Batch-clause-asks g c =
+    read_by g.S.Source.left g.S.Source.reads g.A.EventApp.event_of c.args.job.now.app c.args.job.now.settings.size c.args.source.now c.batches.progress.reader c.next_batch.new.self c.batches.source c.next_batch.new.source _
+    c.batches.invariant.called c.in_ok-batch.ensures.asks c.in_ok-batch.ensures.shows
+
+pub returns-in-End-clause-asks : goal.returns-in-End-clause-asks
+returns-in-End-clause-asks g c =
+    read_by g.S.Source.left g.S.Source.reads g.A.EventApp.event_of c.args.job.now.app c.args.job.now.settings.size c.args.source.now c.batches.progress.reader c.next_batch.new.self c.batches.source c.next_batch.new.source _
+    c.batches.invariant.called c.in_ok-batch.ensures.asks c.in_ok-batch.ensures.shows
+
+pub returns-in_err-tell_closing-in-End-clause-asks : goal.returns-in_err-tell_closing-in-End-clause-asks
+returns-in_err-tell_closing-in-End-clause-asks g c =
+    read_by g.S.Source.left g.S.Source.reads g.A.EventApp.event_of c.args.job.now.app c.args.job.now.settings.size c.args.source.now c.batches.progress.reader c.next_batch.new.self c.batches.source c.next_batch.new.source _
+    c.batches.invariant.called c.in_ok-batch.ensures.asks c.in_ok-batch.ensures.shows
+
+pub returns-in-Refused-clause-asks : goal.returns-in-Refused-clause-asks
+returns-in-Refused-clause-asks g c =
+    read_by g.S.Source.left g.S.Source.reads g.A.EventApp.event_of c.args.job.now.app c.args.job.now.settings.size c.args.source.now c.batches.progress.reader c.next_batch.new.self c.batches.source c.next_batch.new.source _
+    c.batches.invariant.called c.in_ok-batch.ensures.asks c.in_ok-batch.ensures.shows
+
+pub returns-in_err-tell_refused-in-Refused-clause-asks : goal.returns-in_err-tell_refused-in-Refused-clause-asks
+returns-in_err-tell_refused-in-Refused-clause-asks g c =
+    read_by g.S.Source.left g.S.Source.reads g.A.EventApp.event_of c.args.job.now.app c.args.job.now.settings.size c.args.source.now c.batches.progress.reader c.next_batch.new.self c.batches.source c.next_batch.new.source _
+    c.batches.invariant.called c.in_ok-batch.ensures.asks c.in_ok-batch.ensures.shows
+
+pub returns-in_err-batch-clause-asks : goal.returns-in_err-batch-clause-asks
+returns-in_err-batch-clause-asks g c =
+    read_by g.S.Source.left g.S.Source.reads g.A.EventApp.event_of c.args.job.now.app c.args.job.now.settings.size c.args.source.now c.batches.progress.reader c.next_batch.new.self c.batches.source c.next_batch.new.source _
+    c.batches.invariant.called c.in_err-batch.ensures.asks c.in_err-batch.ensures.shows

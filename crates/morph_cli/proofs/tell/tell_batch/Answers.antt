@@ -1,5 +1,6 @@
 use Rattle.std.proofs.Common.{◌++◌, ap, subst, ◌∙◌}
-use Rattle.morph_io.specs.Told.{behind, AppendsPrefix}
+use Rattle.morph_io.specs.Told.{behind}
+use Rattle.morph_io.specs.Writing.{AppendsPart}
 use Rattle.morph_engine.specs.Fates.{settled_fates}
 use Rattle.run_text.specs.Reports.{report_of}
 use Rattle.morph_engine.specs.Accounts.{account_of}
@@ -13,7 +14,7 @@ returns-in_err-write_events-clause-told g c =
     let told = settled_fates c.args.ran.now.end.plan c.args.ran.now.end.settled in
     tells_cut c.from_residual.result (g.K.Sink.written c.args.sink.now) (g.K.Sink.written c.write_events.new.sink) (g.N.Sink.written c.args.notes.now)
     (told_lines (report_of c.args.settings.now) told) (audit_of c.args.ran.now.audit ++ own_note c.args.settings.now c.args.number (account_of c.args.ran.now.end)) c.from_residual.ensures.0
-    (subst (λ r. AppendsPrefix (g.K.Sink.written c.args.sink.now) (told_lines r told) (g.K.Sink.written c.write_events.new.sink)) c.report.ensures c.in_err-write_events.ensures.prefix)
+    (subst (λ r. AppendsPart (g.K.Sink.written c.args.sink.now) (told_lines r told) (g.K.Sink.written c.write_events.new.sink)) c.report.ensures c.in_err-write_events.ensures.prefix)
 
 pub returns-clause-told : goal.returns-clause-told
 returns-clause-told g c =

@@ -1,5 +1,6 @@
 use Rattle.std.proofs.Common.{◌++◌, ap, subst, ◌∙◌}
-use Rattle.morph_io.specs.Told.{behind, AppendsPrefix}
+use Rattle.morph_io.specs.Told.{behind}
+use Rattle.morph_io.specs.Writing.{AppendsPart}
 use Rattle.morph_base.specs.Flat.{contents}
 use Rattle.run_text.specs.Reports.{report_of}
 use Rattle.run_text.specs.Notes.{noted, closing_notes}
@@ -12,7 +13,7 @@ returns-in_err-write_closing-clause-told g c =
     tells_cut c.from_residual.result (g.K.Sink.written c.args.sink.now) (g.K.Sink.written c.write_closing.new.sink) (g.N.Sink.written c.args.notes.now)
     (told_values (report_of c.args.job.now.settings) c.args.values.now.layout (g.A.EventApp.name_of c.args.job.now.app) (contents c.args.values.now) ++ counts_line c.args.tally.now.committed c.args.tally.now.aborted)
     (noted c.args.job.now.settings.notes (closing_notes c.args.job.now.settings.workers c.args.tally.now)) c.from_residual.ensures.0
-    (subst (λ r. AppendsPrefix (g.K.Sink.written c.args.sink.now) (told_values r c.args.values.now.layout (g.A.EventApp.name_of c.args.job.now.app) (contents c.args.values.now) ++ counts_line c.args.tally.now.committed c.args.tally.now.aborted) (g.K.Sink.written c.write_closing.new.sink)) c.report.ensures c.in_err-write_closing.ensures.prefix)
+    (subst (λ r. AppendsPart (g.K.Sink.written c.args.sink.now) (told_values r c.args.values.now.layout (g.A.EventApp.name_of c.args.job.now.app) (contents c.args.values.now) ++ counts_line c.args.tally.now.committed c.args.tally.now.aborted) (g.K.Sink.written c.write_closing.new.sink)) c.report.ensures c.in_err-write_closing.ensures.prefix)
 
 pub returns-clause-told : goal.returns-clause-told
 returns-clause-told g c =

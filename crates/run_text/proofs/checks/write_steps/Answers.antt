@@ -1,4 +1,4 @@
-use Rattle.std.proofs.Common.{sym, ap, ◌∙◌, arith}
+use Rattle.std.proofs.Common.{sym, ap, ◌∙◌, arith, refl}
 use Rattle.morph_io.specs.Told.{behind, behind_nil}
 use Rattle.run_text.proofs.Journals.{unasked}
 use Rattle.run_text.proofs.checks.write_steps.Goals as goal
@@ -11,5 +11,6 @@ returns-in-Off g c =
       prefix = tt;
       empty = c.requires.empty;
       never_falls = omega arith;
+      steady = refl;
       cause = tt;
     }

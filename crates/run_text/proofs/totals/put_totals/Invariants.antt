@@ -1,4 +1,4 @@
-use Rattle.std.proofs.Common.{◌≤◌, take}
+use Rattle.std.proofs.Common.{◌≡◌, take}
 use Rattle.std.specs.List.{flat_map, range_with_len}
 use Rattle.morph_base.specs.Flat.{contents}
 use Rattle.morph_io.specs.Told.{Puts}
@@ -11,5 +11,5 @@ invariant-loop-table g l = record {
       (flat_map (λ table. total_line (g.A.EventApp.name_of l.app table) (contents l.values) table l.values.layout.size)
       (take l.table (range_with_len 0 l.values.layout.tables)))
       (g.K.Sink.written l.sink) l.out;
-  never_falls : g.K.Sink.faults l.initial.sink ≤ g.K.Sink.faults l.sink;
+  steady : g.K.Sink.faults l.sink ≡ g.K.Sink.faults l.initial.sink;
 }

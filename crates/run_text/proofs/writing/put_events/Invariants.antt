@@ -1,4 +1,4 @@
-use Rattle.std.proofs.Common.{◌≤◌, take}
+use Rattle.std.proofs.Common.{◌≡◌, take}
 use Rattle.std.specs.List.{flat_map}
 use Rattle.morph_base.specs.Graphs.{below}
 use Rattle.morph_base.specs.Plans.{event_count}
@@ -11,5 +11,5 @@ abbrev pub invariant-loop-i : goal.invariant-loop-i
 invariant-loop-i g l = record {
   puts : Puts (g.K.Sink.written l.initial.sink) l.initial.out (flat_map (λ i. event_line (settled_fate l.plan l.settled i)) (take l.i (below (event_count l.plan))))
       (g.K.Sink.written l.sink) l.out;
-  never_falls : g.K.Sink.faults l.initial.sink ≤ g.K.Sink.faults l.sink;
+  steady : g.K.Sink.faults l.sink ≡ g.K.Sink.faults l.initial.sink;
 }

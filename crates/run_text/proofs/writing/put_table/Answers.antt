@@ -1,4 +1,4 @@
-use Rattle.std.proofs.Common.{◌≡◌, ℕ, ◌<◌, List, ap, sym, subst, ◌∙◌, arith, get_or}
+use Rattle.std.proofs.Common.{◌≡◌, ℕ, ◌<◌, List, ap, sym, subst, ◌∙◌, arith, get_or, refl}
 use Rattle.std.specs.List.{flat_map, range_with_len}
 use Rattle.std.proofs.lemmas.List.FromFn.{get_or-range_with_len}
 use Rattle.morph_base.specs.declared.key.Layout.{Layout}
@@ -21,7 +21,7 @@ line_is name s table n id value lt got =
     ap (at_id name s table) (get_or-range_with_len 0 n id 0 lt ∙ omega arith) ∙ ap (value_line name id) (sym got)
 
 pub loop-id-init : goal.loop-id-init
-loop-id-init g c = record { puts = puts_nothing _ _; never_falls = omega arith }
+loop-id-init g c = record { puts = puts_nothing _ _; steady = refl }
 
 pub returns-in_err-put_value-clause-prefix : goal.returns-in_err-put_value-clause-prefix
 returns-in_err-put_value-clause-prefix g c =
@@ -42,7 +42,7 @@ loop-id-preserved g c =
       puts = puts_more (at_id c.args.name.now s c.args.table) (range_with_len 0 n) c.loop-id.id 0 _ _ _ _ _ _ _ (inside_range n c.loop-id.id lt)
           (line_is c.args.name.now s c.args.table n c.loop-id.id c.get-value.result lt c.get-value.ensures.value)
           c.loop-id.invariant.puts c.in_ok-put_value.ensures.puts;
-      never_falls = omega (arith, c.in_ok-put_value.ensures.never_falls);
+      steady = c.in_ok-put_value.ensures.steady ∙ c.loop-id.invariant.steady;
     }
 
 pub returns-clause-puts : goal.returns-clause-puts

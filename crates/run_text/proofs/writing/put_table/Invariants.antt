@@ -1,4 +1,4 @@
-use Rattle.std.proofs.Common.{◌≤◌, take}
+use Rattle.std.proofs.Common.{◌≡◌, take}
 use Rattle.std.specs.List.{flat_map, range_with_len}
 use Rattle.morph_base.specs.Flat.{contents}
 use Rattle.morph_io.specs.Told.{Puts}
@@ -10,5 +10,5 @@ invariant-loop-id g l = record {
   puts : Puts (g.K.Sink.written l.initial.sink) l.initial.out
       (flat_map (λ id. value_line l.name id (contents l.values (record { table = l.table; id = id }))) (take l.id (range_with_len 0 l.values.layout.size)))
       (g.K.Sink.written l.sink) l.out;
-  never_falls : g.K.Sink.faults l.initial.sink ≤ g.K.Sink.faults l.sink;
+  steady : g.K.Sink.faults l.sink ≡ g.K.Sink.faults l.initial.sink;
 }

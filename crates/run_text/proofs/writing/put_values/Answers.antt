@@ -1,4 +1,4 @@
-use Rattle.std.proofs.Common.{◌≡◌, ℕ, ◌<◌, List, ap, sym, subst, ◌∙◌, arith, get_or}
+use Rattle.std.proofs.Common.{◌≡◌, ℕ, ◌<◌, List, ap, sym, subst, ◌∙◌, arith, get_or, refl}
 use Rattle.std.specs.List.{flat_map, range_with_len}
 use Rattle.std.proofs.lemmas.List.FromFn.{get_or-range_with_len}
 use Rattle.morph_base.specs.States.{State}
@@ -20,7 +20,7 @@ lines_are name s size n table put lt named =
     ap (of_table name s size) (get_or-range_with_len 0 n table 0 lt ∙ omega arith) ∙ ap (λ l. table_lines l s table size) (sym named)
 
 pub loop-table-init : goal.loop-table-init
-loop-table-init g c = record { puts = puts_nothing _ _; never_falls = omega arith }
+loop-table-init g c = record { puts = puts_nothing _ _; steady = refl }
 
 pub returns-in_err-put_table-clause-prefix : goal.returns-in_err-put_table-clause-prefix
 returns-in_err-put_table-clause-prefix g c =
@@ -45,7 +45,7 @@ loop-table-preserved g c =
       puts = puts_more (of_table name s size) (range_with_len 0 n) c.loop-table.table 0 _ _ _ _ _ _ _ (inside_range n c.loop-table.table lt)
           (lines_are name s size n c.loop-table.table _ lt c.table_name.ensures.name)
           c.loop-table.invariant.puts c.in_ok-put_table.ensures.puts;
-      never_falls = omega (arith, c.in_ok-put_table.ensures.never_falls);
+      steady = c.in_ok-put_table.ensures.steady ∙ c.loop-table.invariant.steady;
     }
 
 pub returns-clause-puts : goal.returns-clause-puts

@@ -1,4 +1,4 @@
-use Rattle.std.proofs.Common.{◌+◌, ◌-◌, false, arith, ap, ◌∙◌, sym, refl}
+use Rattle.std.proofs.Common.{◌+◌, ◌-◌, false, ap, ◌∙◌, sym, refl}
 use Rattle.std.proofs.lemmas.Bool.{true≢false}
 use Rattle.std.proofs.lemmas.Result.{err_from_is_err_and}
 use Rattle.event_reader.specs.Reader.{reading_of}
@@ -8,7 +8,7 @@ use Rattle.event_reader.proofs.Askings.{asked_nothing, asked_more, asked_last, a
 use Rattle.event_reader.proofs.lines.Lines.next_line.Goals as goal
 
 pub reads-init : goal.reads-init
-reads-init g c = record { goes_on = goes_nowhere _ _ c.requires.live; idle = λ ended. refl; asks = asked_nothing g.S.Source.left g.S.Source.reads c.args.self.now c.args.source.now; never_falls = omega arith }
+reads-init g c = record { goes_on = goes_nowhere _ _ c.requires.live; idle = λ ended. refl; asks = asked_nothing g.S.Source.left g.S.Source.reads c.args.self.now c.args.source.now; steady = refl }
 
 pub reads-preserved : goal.reads-preserved
 reads-preserved g c =
@@ -17,7 +17,7 @@ reads-preserved g c =
       goes_on = goes_further _ _ c.reads.self (g.S.Source.left c.reads.source) _ _ c.reads.invariant.goes_on none.goes_on c.in_ok-fill-in-Open.ensures.fills;
       idle = λ ended. absurd (true≢false (sym ended ∙ c.reads.invariant.goes_on.unended none.goes_on));
       asks = asked_more g.S.Source.left g.S.Source.reads c.args.self.now c.args.source.now c.reads.self c.fill.new.self c.reads.source c.fill.new.source c.reads.invariant.asks none.goes_on none.none c.in_ok-fill-in-Open.ensures.asks;
-      never_falls = omega (arith, c.reads.invariant.never_falls, c.in_ok-fill-in-Open.ensures.never_falls);
+      steady = c.in_ok-fill-in-Open.ensures.steady (λ failed. absurd (cc)) ∙ c.reads.invariant.steady;
     }
 
 pub returns-in_err-fill-in-Open-clause-answers : goal.returns-in_err-fill-in-Open-clause-answers

@@ -1,5 +1,5 @@
 use Rattle.std.specs.Prelude.{IsTrue}
-use Rattle.std.proofs.Common.{◌≡◌, ◌+◌, ◌-◌, ◌*◌, ◌≤◌, if◌then◌else◌}
+use Rattle.std.proofs.Common.{◌≡◌, ◌+◌, ◌-◌, ◌*◌, if◌then◌else◌}
 use Rattle.event_reader.proofs.Goings.{GoesOn}
 use Rattle.event_reader.proofs.Askings.{AskedSoFar}
 use Rattle.event_reader.proofs.lines.Lines.next_line.Given as goal
@@ -9,7 +9,7 @@ invariant-reads g l = record {
   goes_on : GoesOn l.initial.self (g.S.Source.left l.initial.source) l.self (g.S.Source.left l.source);
   idle : IsTrue l.initial.self.ended → l.source ≡ l.initial.source;
   asks : AskedSoFar g.S.Source.left g.S.Source.reads l.initial.self l.initial.source l.self l.source;
-  never_falls : g.S.Source.faults l.initial.source ≤ g.S.Source.faults l.source;
+  steady : g.S.Source.faults l.source ≡ g.S.Source.faults l.initial.source;
 }
 
 -- each turn takes a byte, or finds the end of the input

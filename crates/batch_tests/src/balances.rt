@@ -60,16 +60,20 @@ fn seen(number: u64, account: u64, totals: [u64; 2]) -> (Option<At>, [Option<Tot
 #[test]
 fn viewers_see_whole_batches(rt: HostRuntime) -> Result<(), Fail> {
     let alloc = rt.alloc();
-    let (mut publisher, mut viewers) = snapshots(alloc, LAYOUT, 2)?;
+    let (mut publisher, mut viewers) = snapshots(alloc, LAYOUT, 3)?;
     let before = viewers.pop().map(|mut viewer| look(&rt, &mut viewer));
     let published = publish_four(&rt, alloc, &mut publisher);
     let after = viewers.pop().map(|mut viewer| {
         publisher.tell(&mut viewer);
         look(&rt, &mut viewer)
     });
+    let untold = viewers.pop().map(|mut viewer| look(&rt, &mut viewer));
     publisher.end(&rt);
     assert_eq!(rt; published?, 1);
     assert_eq!(rt; before, Some(seen(0, 0, [0, 0])));
     assert_eq!(rt; after, Some(seen(1, 40, [100, 5])));
+    // It was told nothing, and may see either.
+    let is_either = untold == Some(seen(0, 0, [0, 0])) || untold == Some(seen(1, 40, [100, 5]));
+    assert!(rt; is_either);
     Ok(())
 }

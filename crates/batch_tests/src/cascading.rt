@@ -23,7 +23,6 @@ fn first_three(board: &Board, hand: &mut Hand, plan: &Plan) -> Option<[Option<To
     evaluate(board, hand, plan, 0);
     evaluate(board, hand, plan, 1);
     evaluate(board, hand, plan, 2);
-    evaluate(board, hand, plan, 6);
     if !fails(board, hand, plan, 3) {
         return None;
     }

@@ -6,8 +6,8 @@ ghost use Rattle.op_eval.specs.Running.{hand_view};
 
 use crate::four_events::plan_at;
 use abort_lazy::{TxnAnswer, settle_txn};
-use morph_base::{List, OpState, OpWord, Plan};
-use op_eval::{Answers, Runner};
+use morph_base::{OpState, OpWord, Plan};
+use op_eval::{Runner, Runners};
 use op_words::{Board, Claimed, Hand};
 use std::test::Fail;
 
@@ -39,23 +39,14 @@ fn answers(
     }
 }
 
-/// The holder is the second hand, and its tag is in the word that the runner found.
+/// The holder is the second hand, split off before the root became a runner's, and its tag is in the word that the runner found.
 #[test]
 fn a_transaction_waits_for_nobody(rt: HostRuntime) -> Result<(), Fail> {
     let plan = plan_at(&rt, rt.alloc(), &[1])?;
     assert!(rt; plan.ops.len() == 2 && plan.events.len() == 1);
     let (board, mut root) = Board::new(rt.alloc(), &plan, 1, 0)?;
     let mut second = board.split(&mut root);
-    let mut runner = Runner {
-        hand: root,
-        answers: Answers {
-            evaluated: 0,
-            blocked: 0,
-            busy: 0,
-            already: 0,
-        },
-        kept: List::new(rt.alloc()),
-    };
+    let mut runners = Runners::new(rt.alloc(), &board, root, 1, 1)?;
     let busy = TxnAnswer::Busy {
         at: 0,
         word: OpWord {
@@ -65,7 +56,8 @@ fn a_transaction_waits_for_nobody(rt: HostRuntime) -> Result<(), Fail> {
             by: 2,
         },
     };
-    let got = answers(&board, &mut second, &mut runner, &plan);
+    let runner = runners.runner(1);
+    let got = answers(&board, &mut second, runner, &plan);
     assert_eq!(rt; got, Some([busy, TxnAnswer::Settled { committed: true }]));
     Ok(())
 }

@@ -32,19 +32,26 @@ fn deposit(
 }
 
 /// The operations of the event at a time. The transfer at 6 takes from account 0 at level 2, and finds at level 5 that
-/// there are 4 of asset 0 and not 6; that at 7 has taken from the same account at level 3 by then.
+/// there are 4 of asset 0 and not 6; that at 7 has taken from the same account at level 3 by then. The transfer at 16
+/// takes from account 20 at level 3, and finds at level 7 that there are 6 of asset 20 and not 60; that at 17 has taken
+/// from the same account at level 4 by then.
 fn ops_at(alloc: Global, ts: u32) -> Result<List<Op>, OutOfMemory> {
     match ts {
         5 => deposit(alloc, 0, 100, 5, 1),
         6 => transfer(alloc, 0, 1, 60, 6),
         7 => transfer(alloc, 0, 2, 30, 1),
+        14 | 15 => deposit(alloc, 20, 100, ts.saturating_add(50), 1),
+        16 => transfer(alloc, 20, 21, 60, 60),
+        17 => transfer(alloc, 20, 22, 30, 1),
+        8..=13 => deposit(alloc, ts.saturating_add(30), 1, 20, 1),
         _ => deposit(alloc, ts.saturating_add(10), 1, 0, 1),
     }
 }
 
-fn batch(alloc: Global) -> Result<Batch, OutOfMemory> {
+/// The events up to a time.
+fn batch(alloc: Global, last: u32) -> Result<Batch, OutOfMemory> {
     let mut events = List::new(alloc);
-    for ts in 1..8u32 {
+    for ts in 1..=last {
         let ops = ops_at(alloc, ts)?;
         events.push(Event {
             ts: u64::from(ts),
@@ -76,7 +83,7 @@ fn explored<R: Threads + Sync>(
 /// Two withdrawals of the last event read what the failed event had left, and are rolled back to level 3.
 #[test]
 fn levels_are_passed_again(rt: HostRuntime) -> Result<(), Fail> {
-    let plan = plan_for(&rt, rt.alloc(), &batch(rt.alloc())?)?;
+    let plan = plan_for(&rt, rt.alloc(), &batch(rt.alloc(), 7)?)?;
     let counts = |evaluated, spread, rolled| Counts {
         evaluated,
         spread,
@@ -86,5 +93,17 @@ fn levels_are_passed_again(rt: HostRuntime) -> Result<(), Fail> {
     assert_eq!(rt; lazy, (RunEnd::Whole, 6, counts(18, 0, 0)));
     let eager = explored(&rt, rt.alloc(), &plan, Abort::Eager, 7)?;
     assert_eq!(rt; eager, (RunEnd::Whole, 9, counts(20, 2, 2)));
+    Ok(())
+}
+
+/// After the pass over level 5 exploring goes back to level 3, and after that over level 7 to level 4, and not to 3 once
+/// more: the level word of the first failure is gone by then. So there are 5 passes, then 5 from level 3 to level 7, and
+/// 5 from level 4 to level 8.
+#[test]
+fn a_later_failure_goes_back_to_its_own_level(rt: HostRuntime) -> Result<(), Fail> {
+    let plan = plan_for(&rt, rt.alloc(), &batch(rt.alloc(), 17)?)?;
+    let (end, passes, counts) = explored(&rt, rt.alloc(), &plan, Abort::Eager, 7)?;
+    assert_eq!(rt; (end, passes), (RunEnd::Whole, 15));
+    assert_eq!(rt; (counts.evaluated, counts.spread, counts.rolled), (46, 4, 4));
     Ok(())
 }

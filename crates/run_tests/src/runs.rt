@@ -7,6 +7,7 @@ mod inputs;
 pub mod lines;
 mod meeting;
 mod notes;
+mod order;
 mod places;
 mod tallies;
 mod units;

@@ -73,7 +73,9 @@ impl Publisher {
     /// Tells a viewer of all that was published: it sees no fewer batches from now on.
     ///
     /// The viewer is given a fresh reader, since no call of `left_right` says that a reader which has looked is still one
-    /// of this writer's. Where there is none it sees nothing from now on. A viewer without a reader stays as it is.
+    /// of this writer's. If `left_right` hands out none, the viewer sees nothing from now on. A viewer without a reader stays
+    /// as it is. A viewer that another call of [`snapshots`](crate::snapshots) made is moved to the balances of this
+    /// publisher if it saw no more batches than were published here, and else sees nothing from now on.
     pub fn tell(&mut self, viewer: &mut Viewer)
         ensures told { viewer.new.sees ≡ true → viewer.new.told ≡ self.old.plans }
         ensures least { viewer.new.sees ≡ true → viewer.new.least ≡ length self.old.plans }

@@ -104,6 +104,9 @@ fn a_later_failure_goes_back_to_its_own_level(rt: HostRuntime) -> Result<(), Fai
     let plan = plan_for(&rt, rt.alloc(), &batch(rt.alloc(), 17)?)?;
     let (end, passes, counts) = explored(&rt, rt.alloc(), &plan, Abort::Eager, 7)?;
     assert_eq!(rt; (end, passes), (RunEnd::Whole, 15));
-    assert_eq!(rt; (counts.evaluated, counts.spread, counts.rolled), (46, 4, 4));
+    assert_eq!(rt;
+        (counts.evaluated, counts.spread, counts.rolled),
+        (46, 4, 4)
+    );
     Ok(())
 }

@@ -17,9 +17,9 @@ use morph_io::Source;
 use std::thread::{Threads, join_mut};
 use worker_gate::Gate;
 
-/// A plan of so many operations is run side by side with reading and planning the next ones. Beside a smaller one the
-/// thread, and two threads' use of each other's memory, would cost more than they bring: docs/PERFORMANCE.md.
-const SHARED_OPS: usize = 131_072;
+/// A plan of so many operations is run side by side with reading and planning the next ones. Beside a smaller one the start
+/// of a thread would cost more than it brings: docs/PERFORMANCE.md.
+const SHARED_OPS: usize = 16_384;
 
 /// The runner's half of a round.
 fn run_half<R: Threads + Sync, G: Gate>(
@@ -46,7 +46,7 @@ fn first_ops(runner: &Runner, first: &Option<Sent>) -> usize {
     }
 }
 
-/// The two halves of a round: side by side, and neither waits for the other; or, if the first plan has fewer than 131,072
+/// The two halves of a round: side by side, and neither waits for the other; or, if the first plan has fewer than 16,384
 /// operations, one after the other.
 pub(crate) fn run_halves<R: Threads + Sync, A: EventApp + Send, S: Source + Send, G: Gate>(
     host: &Host<'_, R, G>,

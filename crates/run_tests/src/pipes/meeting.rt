@@ -87,7 +87,7 @@ impl<S: Source> Source for Held<'_, S> {
 }
 
 /// Payouts of so many events, each of sixteen operations, and as many bytes of a piece.
-const PAYOUTS: u64 = 8_192;
+const PAYOUTS: u64 = 1_024;
 
 const PIECE: usize = 4_096;
 

@@ -1,17 +1,14 @@
-ghost use Rattle.std.specs.Prelude.{◌≡◌, ℕ, ◌<◌, ◌≤◌, List, [], Result, length};
+ghost use Rattle.std.specs.Prelude.{◌≡◌, ℕ, ◌<◌, ◌≤◌, List, Result, length};
 ghost use Rattle.morph_base.specs.Transactions.{Transaction};
-ghost use Rattle.event_reader.specs.Limits.{name_bytes, generated_events, generated_ids};
+ghost use Rattle.event_reader.specs.Limits.{name_bytes};
 ghost use Rattle.event_reader.specs.declared.cause.Cause.{Cause};
 ghost use Rattle.event_reader.specs.declared.version.Version.{Version};
 ghost use Rattle.event_reader.specs.Reader.{GivesEvent, GivesValid, IsOfWords};
-ghost use Rattle.event_reader.specs.Generated.{Drawn, GeneratesEvents};
 
 use crate::cause::LineFault;
-use crate::draws::Draws;
 use crate::version::Version;
 use crate::words::Words;
 use morph_base::Event;
-use morph_io::LineBuf;
 use std::alloc::Global;
 
 /// An application: its tables, and what the words of its event lines say.
@@ -25,10 +22,6 @@ pub trait EventApp {
     /// What the words of a line say where each table has so many ids, in an input of each version: an event, or the
     /// first of the causes form, range and same that applies.
     ghost event_of: { Self → ℕ → Version → List (List ℕ) → Result Transaction Cause };
-
-    /// What the generator writes as the line of event i, where each table has so many ids, from a state of its draws:
-    /// the line without its LF, and the state after it.
-    ghost generated: { Self → (size i state : ℕ) → Drawn };
 
     /// The number of tables, which are numbered from 0.
     fn tables(&self) -> u8
@@ -50,24 +43,10 @@ pub trait EventApp {
     ) -> Result<Event, LineFault>
         ensures { GivesEvent (event_of self.now size version words.now) result };
 
-    /// Writes the line of event `i` without its LF into an empty buffer, by draws in their order, where each table has
-    /// `size` ids.
-    fn generate(&self, draws: &mut Draws, i: u64, size: u32, line: &mut LineBuf)
-        requires empty { line.old ≡ [] }
-        requires event { 1 ≤ i }
-        requires last { i ≤ generated_events }
-        requires size { 1 ≤ size }
-        requires ids { size ≤ generated_ids }
-        ensures line { line.new ≡ (generated self.now size i draws.old).line }
-        ensures state { draws.new ≡ (generated self.now size i draws.old).state };
-
     /// Each event is valid, its keys are in the tables, and its greatest value is that of the version.
     ghost gives_valid: { GivesValid table_count event_of };
 
     /// Words have no other causes than form, range and same.
     ghost causes: { (app : Self) (size : ℕ) (version : Version) (words : List (List ℕ)) (cause : Cause)
         → event_of app size version words ≡ Result.Err cause → IsOfWords cause };
-
-    /// Each line that is generated is an event's in version 1, at the time of its number.
-    ghost generates: { GeneratesEvents event_of generated };
 }

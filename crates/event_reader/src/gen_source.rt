@@ -3,9 +3,9 @@ ghost use Rattle.morph_io.specs.InMemory.{Gives};
 ghost use Rattle.event_reader.specs.Limits.{generated_events, generated_ids};
 ghost use Rattle.event_reader.specs.GeneratedText.{with_end, new_generator, generated_left};
 
-use crate::app::EventApp;
 use crate::draws::Draws;
 use crate::limits::GENERATED_BATCH;
+use crate::makes_input::MakesInput;
 use morph_io::{LineBuf, ReadFailed, Source};
 use std::marker::Model;
 
@@ -47,7 +47,7 @@ impl<A> Model for GenSource<A> {
 }
 
 /// Writes the line of event `i` with its LF, and the line of a punctuation behind it where the event ends a batch.
-fn write_event<A: EventApp>(app: &A, draws: &mut Draws, i: u64, size: u32, line: &mut LineBuf)
+fn write_event<A: MakesInput>(app: &A, draws: &mut Draws, i: u64, size: u32, line: &mut LineBuf)
     requires event { 1 ≤ i }
     requires last { i ≤ generated_events }
     requires size { 1 ≤ size }
@@ -63,7 +63,7 @@ fn write_event<A: EventApp>(app: &A, draws: &mut Draws, i: u64, size: u32, line:
     }
 }
 
-impl<A: EventApp> GenSource<A> {
+impl<A: MakesInput> GenSource<A> {
     /// A source of the lines of `events` events, at most [`GENERATED_EVENTS`](crate::GENERATED_EVENTS), for tables of
     /// `size` ids each, which are 1 to [`GENERATED_IDS`](crate::GENERATED_IDS). The draws begin at `seed`.
     pub fn new(app: A, seed: u64, events: u64, size: u32) -> Self
@@ -113,7 +113,7 @@ impl<A: EventApp> GenSource<A> {
     }
 }
 
-impl<A: EventApp> Source for GenSource<A> {
+impl<A: MakesInput> Source for GenSource<A> {
     ghost left = { λ source. Some (generated_left A.generated source) };
 
     ghost faults = { λ _. 0 };

@@ -12,13 +12,13 @@ ghost use Rattle.event_reader.specs.Limits.{generated_events, generated_ids, inp
 ghost use Rattle.event_reader.specs.Accepted.{Ended, RefusedAt, CutOff, accepted, accepted_first, accepted_within};
 ghost use Rattle.event_reader.specs.GeneratedText.{generated_text};
 
-use crate::app::EventApp;
+use crate::makes_input::MakesInput;
 
 /// No line of a generated text is refused, whatever the seed: its batches have as many events as were asked for. The
 /// text never meets the greatest length of an input.
 ///
 /// So a run on a generated text reads all of it.
-pub fn generated_text_is_accepted<A: EventApp>()
+pub fn generated_text_is_accepted<A: MakesInput>()
     ensures ended { (app : A) (size seed events : ℕ) → 0 < size → size ≤ generated_ids
         → events ≤ generated_events
         → (accepted (A.event_of app size)

@@ -16,10 +16,10 @@
 //! };
 //! ```
 //!
-//! An application has a [`Form`] for each kind of line, reads its numbers by [`Words::read`], each within a [`Range`],
-//! and writes lines of its own for tests of any size: a [`GenSource`] is a source of its generated text, of which
-//! [`laws`] say that no line is refused. [`Draws`] are the random numbers of that, and [`write_line`] puts a line of a
-//! letter and numbers into a buffer.
+//! An application has a [`Form`] for each kind of line, and reads its numbers by [`Words::read`], each within a
+//! [`Range`]. One that is [`MakesInput`] also writes lines of its own for runs of any size: a [`GenSource`] is a source
+//! of its generated text, of which [`laws`] say that no line is refused. [`Draws`] are the random numbers of that, and
+//! [`write_line`] puts a line of a letter and numbers into a buffer.
 //!
 //! The definitions stand in `specs/`: `Accepted` has the batches of an input, `Steps` what a line does. Below stand
 //! `morph_io`, whose sources give the bytes, `morph_base`, whose events and batches are made, and the kit's `memchr`
@@ -39,6 +39,7 @@ mod keys;
 pub mod laws;
 mod limits;
 mod lines;
+mod makes_input;
 mod number;
 mod numbers;
 mod past;
@@ -63,6 +64,7 @@ pub use limits::{
     GENERATED_IDS, GREATEST_NUMBER, INPUT_BYTES, LINE_WORDS, LONGEST_LINE, NAME_BYTES,
 };
 pub use lines::Lines;
+pub use makes_input::MakesInput;
 pub use number::{Number, read_number};
 pub use numbers::Numbers;
 pub use plain::write_line;

@@ -6,8 +6,8 @@ ghost use Rattle.grep_app.specs.Grep.{most_cells, settings, gather, sums, grep_e
 
 use crate::generating::{write_setting, write_sum};
 use event_reader::{
-    Cause, Draws, EventApp, Form, LineFault, Range, TIMES, Version, Words, are_distinct, has_key,
-    key_of, keys_of,
+    Cause, Draws, EventApp, Form, LineFault, MakesInput, Range, TIMES, Version, Words,
+    are_distinct, has_key, key_of, keys_of,
 };
 use morph_base::{Event, Func, Key, List, PARAMS};
 use morph_io::LineBuf;
@@ -81,9 +81,7 @@ fn sum(alloc: Global, words: &Words<'_>, size: u32, version: Version) -> Result<
 }
 
 impl EventApp for Grep {
-    ghost use Rattle.grep_app.specs.GrepDraws.{grep_drawn};
     ghost use Rattle.grep_app.specs.GrepLaws.{grep_is_valid, grep_causes};
-    ghost use Rattle.grep_app.specs.DrawLaws.{grep_generates};
 
     ghost table_count = { λ _. 1 };
 
@@ -91,14 +89,9 @@ impl EventApp for Grep {
 
     ghost event_of = { λ _ size version words. grep_event size version words };
 
-    ghost generated = { λ _ size i state. grep_drawn size i state };
-
     ghost gives_valid = { λ _ size version words e. grep_is_valid size version words e };
 
     ghost causes = { λ _ size version words cause. grep_causes size version words cause };
-
-    ghost generates = { λ _ size i state some few start last. grep_generates size i state some
-        few start last };
 
     fn tables(&self) -> u8 {
         1
@@ -121,6 +114,16 @@ impl EventApp for Grep {
             _ => Err(LineFault::Refused(Cause::Form)),
         }
     }
+}
+
+impl MakesInput for Grep {
+    ghost use Rattle.grep_app.specs.GrepDraws.{grep_drawn};
+    ghost use Rattle.grep_app.specs.DrawLaws.{grep_generates};
+
+    ghost generated = { λ _ size i state. grep_drawn size i state };
+
+    ghost generates = { λ _ size i state some few start last. grep_generates size i state some
+        few start last };
 
     fn generate(&self, draws: &mut Draws, i: u64, size: u32, line: &mut LineBuf) {
         let choice = draws.draw(2);

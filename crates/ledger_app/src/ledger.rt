@@ -6,8 +6,8 @@ ghost use Rattle.ledger_app.specs.Ledger.{deposits, transfers, most_floors, most
 
 use crate::generating::{write_deposit, write_transfer};
 use event_reader::{
-    Cause, Draws, EventApp, Form, LineFault, Range, TIMES, Version, Words, are_distinct, has_key,
-    key_of, keys_of,
+    Cause, Draws, EventApp, Form, LineFault, MakesInput, Range, TIMES, Version, Words,
+    are_distinct, has_key, key_of, keys_of,
 };
 use morph_base::{EVENT_OPS, Event, Func, Key, List, Op};
 use morph_io::LineBuf;
@@ -137,9 +137,7 @@ fn pay(alloc: Global, words: &Words<'_>, size: u32, version: Version) -> Result<
 }
 
 impl EventApp for Ledger {
-    ghost use Rattle.ledger_app.specs.LedgerDraws.{ledger_drawn};
     ghost use Rattle.ledger_app.specs.LedgerLaws.{ledger_is_valid, ledger_causes};
-    ghost use Rattle.ledger_app.specs.DrawLaws.{ledger_generates};
 
     ghost table_count = { λ _. 2 };
 
@@ -147,14 +145,9 @@ impl EventApp for Ledger {
 
     ghost event_of = { λ _ size version words. ledger_event size version words };
 
-    ghost generated = { λ _ size i state. ledger_drawn size i state };
-
     ghost gives_valid = { λ _ size version words e. ledger_is_valid size version words e };
 
     ghost causes = { λ _ size version words cause. ledger_causes size version words cause };
-
-    ghost generates = { λ _ size i state some few start last. ledger_generates size i state some
-        few start last };
 
     fn tables(&self) -> u8 {
         2
@@ -178,6 +171,16 @@ impl EventApp for Ledger {
             _ => Err(LineFault::Refused(Cause::Form)),
         }
     }
+}
+
+impl MakesInput for Ledger {
+    ghost use Rattle.ledger_app.specs.LedgerDraws.{ledger_drawn};
+    ghost use Rattle.ledger_app.specs.DrawLaws.{ledger_generates};
+
+    ghost generated = { λ _ size i state. ledger_drawn size i state };
+
+    ghost generates = { λ _ size i state some few start last. ledger_generates size i state some
+        few start last };
 
     fn generate(&self, draws: &mut Draws, i: u64, size: u32, line: &mut LineBuf) {
         let choice = draws.draw(4);

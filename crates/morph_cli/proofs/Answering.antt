@@ -11,6 +11,8 @@ use Rattle.morph_cli.specs.Apps.{input_of, left_by, meaning_of, telling_of}
 use Rattle.morph_cli.specs.Runs.{EndsSo, EndsMade}
 use Rattle.morph_cli.specs.Status.{EndsNotes, status_of, IsMadeStatus}
 use Rattle.event_reader.specs.Accepted.{accepted, accepted_within}
+use Rattle.event_reader.specs.Steps.{Meaning}
+use Rattle.run_text.specs.Text.{Telling}
 use Rattle.run_text.specs.declared.tally.Tally.{Tally}
 use Rattle.morph_cli.specs.Outputs.{Outputs, has_notes, outputs_of}
 use Rattle.morph_cli.specs.Tallies.{RunTold, CallTold}
@@ -30,30 +32,33 @@ EndsBy s told left old r new =
 abbrev Ends : Settings → (told left old : Option (List ℕ)) → Result Finish Fault → (new : Option (List ℕ)) → Type 0
 Ends s told left old r new = EndsBy s (input_of s told) left old r new
 
+-- the headline, over whatever application and input
+pub headline_so : (meaning : Meaning) (telling : Telling) (told left old new : Option (List ℕ)) (r : Result Finish Fault) (status : ℕ) → status ≡ status_of r →
+    IfSome told (λ input. EndsSo meaning telling INPUT_BYTES input left old r new) → IfSome told (λ input. Headline meaning telling INPUT_BYTES input left old new status)
+headline_so meaning telling None left old new r status status_is ends = tt
+headline_so meaning telling (Some input) left old new r status status_is ends =
+    subst (λ n. Headline meaning telling INPUT_BYTES input left old new n) (sym status_is) (headline meaning telling INPUT_BYTES input left old new r ends)
+
+pub completes_so : (meaning : Meaning) (telling : Telling) (told left old new : Option (List ℕ)) (r : Result Finish Fault) (status : ℕ) → status ≡ status_of r →
+    IfSome told (λ input. EndsSo meaning telling INPUT_BYTES input left old r new) → (IsErrOf r Read → ⊥) → (IsErrOf r Write → ⊥) →
+    IfSome told (λ input. Completes meaning INPUT_BYTES input status)
+completes_so meaning telling None left old new r status status_is ends reads writes = tt
+completes_so meaning telling (Some input) left old new r status status_is ends reads writes =
+    subst (λ n. Completes meaning INPUT_BYTES input n) (sym status_is) (completes meaning telling INPUT_BYTES input left old new r ends reads writes)
+
 pub headline_asked : (asked : Option Settings) (s : Settings) (told left old new : Option (List ℕ)) (r : Result Finish Fault) (status : ℕ) →
     asked ≡ Some s → status ≡ status_of r → Ends s told left old r new →
     IfSome asked (λ s. IfSome (input_of s told) (λ input. Headline (meaning_of s) (telling_of s) INPUT_BYTES input (left_by s.generated left) old new status))
 headline_asked asked s told left old new r status is status_is ends =
-    asked_so (λ s. IfSome (input_of s told) (λ input. Headline (meaning_of s) (telling_of s) INPUT_BYTES input (left_by s.generated left) old new status)) asked s is (by_told (input_of s told) ends)
-  where
-    by_told : (told : Option (List ℕ)) → EndsBy s told left old r new
-        → IfSome told (λ input. Headline (meaning_of s) (telling_of s) INPUT_BYTES input (left_by s.generated left) old new status)
-    by_told None ends = tt
-    by_told (Some input) ends =
-        subst (λ n. Headline (meaning_of s) (telling_of s) INPUT_BYTES input (left_by s.generated left) old new n) (sym status_is)
-        (headline (meaning_of s) (telling_of s) INPUT_BYTES input (left_by s.generated left) old new r ends)
+    asked_so (λ s. IfSome (input_of s told) (λ input. Headline (meaning_of s) (telling_of s) INPUT_BYTES input (left_by s.generated left) old new status)) asked s is
+    (headline_so (meaning_of s) (telling_of s) (input_of s told) (left_by s.generated left) old new r status status_is ends)
 
 pub completes_asked : (asked : Option Settings) (s : Settings) (told left old new : Option (List ℕ)) (r : Result Finish Fault) (status : ℕ) →
     asked ≡ Some s → status ≡ status_of r → Ends s told left old r new → (IsErrOf r Read → ⊥) → (IsErrOf r Write → ⊥) →
     IfSome asked (λ s. IfSome (input_of s told) (λ input. Completes (meaning_of s) INPUT_BYTES input status))
 completes_asked asked s told left old new r status is status_is ends reads writes =
-    asked_so (λ s. IfSome (input_of s told) (λ input. Completes (meaning_of s) INPUT_BYTES input status)) asked s is (by_told (input_of s told) ends)
-  where
-    by_told : (told : Option (List ℕ)) → EndsBy s told left old r new → IfSome told (λ input. Completes (meaning_of s) INPUT_BYTES input status)
-    by_told None ends = tt
-    by_told (Some input) ends =
-        subst (λ n. Completes (meaning_of s) INPUT_BYTES input n) (sym status_is)
-        (completes (meaning_of s) (telling_of s) INPUT_BYTES input (left_by s.generated left) old new r ends reads writes)
+    asked_so (λ s. IfSome (input_of s told) (λ input. Completes (meaning_of s) INPUT_BYTES input status)) asked s is
+    (completes_so (meaning_of s) (telling_of s) (input_of s told) (left_by s.generated left) old new r status status_is ends reads writes)
 
 -- a status of a failed write
 is_write : (r : Result Finish Fault) → status_of r ≡ 5 → IsErrOf r Write
@@ -65,6 +70,29 @@ is_write (Err OutOfMemory) five = absurd (omega (arith, five))
 is_write (Err TooLong) five = absurd (omega (arith, five))
 
 -- what is told of the call, over the whole input
+pub told_so : (meaning : Meaning) (telling : Telling) (s : Settings) (told left : Option (List ℕ)) (r : Result Finish Fault) (status : ℕ) (t : Tally)
+    (old ran : Outputs) (after : Option (List ℕ)) (Sunk : Type 0) (n0 n1 n2 : ℕ) → status ≡ status_of r → IfSome told (λ input. EndsSo meaning telling INPUT_BYTES input left old.sink r ran.sink) →
+    RunTold telling (option_map (accepted_within meaning INPUT_BYTES) told) s (status_of r) t old ran →
+    EndsNotes (status_of r) ran.notes after n1 n2 → (IsErrOf r Write → Sunk ⊎ (IsTrue (has_notes s) × HasRisen n0 n1)) → ((IsErrOf r Write → ⊥) → n1 ≡ n0) →
+    CallTold telling (option_map (accepted meaning) told) s status t old (outputs_of ran.sink after) Sunk n0 n2
+told_so meaning telling s told left r status t old ran after Sunk n0 n1 n2 status_is ends run last cause steady =
+    subst (λ n. CallTold telling (option_map (accepted meaning) told) s n t old (outputs_of ran.sink after) Sunk n0 n2) (sym status_is)
+    (record {
+      ran = ran;
+      run = by_told told ends run;
+      sink = refl;
+      before = n1;
+      cause = λ five. cause (is_write r five);
+      steady = λ other. steady (λ is. other (ap status_of is));
+      last = last;
+    })
+  where
+    by_told : (told : Option (List ℕ)) → IfSome told (λ input. EndsSo meaning telling INPUT_BYTES input left old.sink r ran.sink)
+        → RunTold telling (option_map (accepted_within meaning INPUT_BYTES) told) s (status_of r) t old ran
+        → RunTold telling (option_map (accepted meaning) told) s (status_of r) t old ran
+    by_told None ends run = run
+    by_told (Some input) ends run = told_all meaning telling INPUT_BYTES input left old.sink ran.sink r t s old ran ends run
+
 pub told_asked : (asked : Option Settings) (s : Settings) (told left : Option (List ℕ)) (r : Result Finish Fault) (status : ℕ) (t : Tally)
     (old ran : Outputs) (after : Option (List ℕ)) (Sunk : Type 0) (n0 n1 n2 : ℕ) → asked ≡ Some s → status ≡ status_of r → Ends s told left old.sink r ran.sink →
     RunTold (telling_of s) (option_map (accepted_within (meaning_of s) INPUT_BYTES) (input_of s told)) s (status_of r) t old ran →
@@ -72,23 +100,7 @@ pub told_asked : (asked : Option Settings) (s : Settings) (told left : Option (L
     IfSome asked (λ s. CallTold (telling_of s) (option_map (accepted (meaning_of s)) (input_of s told)) s status t old (outputs_of ran.sink after) Sunk n0 n2)
 told_asked asked s told left r status t old ran after Sunk n0 n1 n2 is status_is ends run last cause steady =
     asked_so (λ s. CallTold (telling_of s) (option_map (accepted (meaning_of s)) (input_of s told)) s status t old (outputs_of ran.sink after) Sunk n0 n2) asked s is
-    (subst (λ n. CallTold (telling_of s) (option_map (accepted (meaning_of s)) (input_of s told)) s n t old (outputs_of ran.sink after) Sunk n0 n2) (sym status_is)
-    (record {
-      ran = ran;
-      run = by_told (input_of s told) ends run;
-      sink = refl;
-      before = n1;
-      cause = λ five. cause (is_write r five);
-      steady = λ other. steady (λ is. other (ap status_of is));
-      last = last;
-    }))
-  where
-    by_told : (told : Option (List ℕ)) → EndsBy s told left old.sink r ran.sink
-        → RunTold (telling_of s) (option_map (accepted_within (meaning_of s) INPUT_BYTES) told) s (status_of r) t old ran
-        → RunTold (telling_of s) (option_map (accepted (meaning_of s)) told) s (status_of r) t old ran
-    by_told None ends run = run
-    by_told (Some input) ends run =
-        told_all (meaning_of s) (telling_of s) INPUT_BYTES input (left_by s.generated left) old.sink ran.sink r t s old ran ends run
+    (told_so (meaning_of s) (telling_of s) s (input_of s told) (left_by s.generated left) r status t old ran after Sunk n0 n1 n2 status_is ends run last cause steady)
 
 -- the status of a run over an input that the program makes
 made_status : (r : Result Finish Fault) → EndsMade r → IsMadeStatus (status_of r)

@@ -24,8 +24,8 @@ use std::sync::Wait;
 use std::thread::Threads;
 use worker_gate::FreeGate;
 
-/// The words behind the program's name, as bytes.
-fn words_of(alloc: Global, args: &[String]) -> Result<List<List<u8>>, OutOfMemory>
+/// The words behind the program's name, which is the first of its arguments, as bytes.
+pub fn words_of(alloc: Global, args: &[String]) -> Result<List<List<u8>>, OutOfMemory>
     ensures { IfOk result (λ words. map (λ word. word.items) words.items ≡ words_behind args.now) }
 {
     let mut words = List::new(alloc);

@@ -2,14 +2,15 @@
 //! transaction, and the text of what became of them to a sink.
 //!
 //! [`morph()`] does all that the program does, over a source, a sink and notes of any kind, and [`program()`] gives it the
-//! words of the program's arguments. It stands on `run_text`, which reads the words and writes the lines, on the
-//! applications, as `ledger_app`, on `event_reader`, which cuts the input into batches, on `decision_model`, which
-//! chooses the strategy of a batch where that is asked for, on `morph_engine`, which runs them, on `batch_pipe`, which
-//! reads and plans ahead, on `snapshot_reader` and `run_checker`, by which a run is watched and checked, and on
-//! `morph_io`, which reads and writes.
+//! words of the program's arguments. [`run_application`] does the same for an application of the caller's own. They use
+//! `run_text`, which reads the words and writes the lines, the applications, as `ledger_app`, `event_reader`, which cuts
+//! the input into batches, `decision_model`, which chooses the strategy of a batch if that is asked for, `morph_engine`,
+//! which runs them, `batch_pipe`, which reads and plans ahead, `snapshot_reader` and `run_checker`, by which a run is
+//! watched and checked, and `morph_io`, which reads and writes.
 #![tactic(auto)]
 
 mod ahead;
+mod application;
 mod arguments;
 mod batch;
 mod checked;
@@ -26,7 +27,10 @@ mod tell;
 mod top_call;
 mod watching;
 
-pub use arguments::program;
+pub use application::run_application;
+pub use arguments::{program, words_of};
 pub use ended::Ended;
-pub use run_text::{App, Check, Generated, Planning, Settings, Tally, event_line, settings};
+pub use run_text::{
+    App, Check, Generated, Planning, Settings, Tally, event_line, own_settings, settings,
+};
 pub use top_call::morph;

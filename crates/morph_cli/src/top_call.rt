@@ -19,7 +19,7 @@ use crate::job::{Host, Job};
 use crate::note::{write_note, write_usage};
 use crate::run::{Finish, run};
 use event_reader::laws::generated_text_is_accepted;
-use event_reader::{EventApp, GenSource};
+use event_reader::{GenSource, MakesInput};
 use grep_app::Grep;
 use ledger_app::Ledger;
 use morph_base::List;
@@ -34,7 +34,7 @@ use worker_gate::Gate;
 /// Runs an application over the input that the settings ask for: the source's, or one that the program makes.
 fn run_over<
     R: Threads + Wait + Sync,
-    A: EventApp + Copy + Send,
+    A: MakesInput + Copy + Send,
     S: Source + Send,
     K: Sink,
     N: Sink,
@@ -84,7 +84,7 @@ fn run_over<
 }
 
 /// Runs an application over an input that the program makes.
-fn run_made<R: Threads + Wait + Sync, A: EventApp + Copy + Send, K: Sink, N: Sink, G: Gate>(
+fn run_made<R: Threads + Wait + Sync, A: MakesInput + Copy + Send, K: Sink, N: Sink, G: Gate>(
     job: &Job<'_, A, R, G>,
     generated: Generated,
     sink: &mut K,

@@ -5,6 +5,27 @@
 //! plan ([`Engine::plan`]) and runs it ([`Engine::run_batch`]), after which the state is the fold of the batch. What
 //! became of each event is read off the [`BatchEnd`], and the values in the end off [`Engine::state`].
 //!
+//! No text is needed: the events can be made in code, each with its time and its operations.
+//!
+//! ```text
+//! let ops = List::from_slice(alloc, &[
+//!     Op::new(Func::Sub, stock, &[], pieces),
+//!     Op::new(Func::Add, bill, &[], 20 * pieces),
+//! ])?;
+//! events.push(Event { ts, ops })?;
+//! let batch = Batch { events };
+//!
+//! let mut engine = Engine::new(alloc, layout)?;
+//! let plan = engine.plan(alloc, &batch)?;
+//! let strategy = choose(&profile(&plan, Last::default()));
+//! let end = engine.run_batch(&rt, alloc, plan, &strategy, workers, &FreeGate)?;
+//! let committed = end.settled.committed.get(0);
+//! let value = engine.state().get(stock);
+//! ```
+//!
+//! `plan` asks that the batch is valid and its keys are in the layout, which `Batch::is_valid` and `Batch::has_keys_in`
+//! test. `choose` and `profile` are those of `decision_model`; any other strategy does as well.
+//!
 //! A batch is run by any [`Strategy`](morph_base::Strategy): by operations or chains, explored by strata or by deques,
 //! with lazy or eager abort. That changes how often an operation is evaluated and by whom, and never the state, the
 //! values or the verdicts. The board of a batch, its runners and the passes of its exploring are those of `op_words`,

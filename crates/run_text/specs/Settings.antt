@@ -299,14 +299,26 @@ settings_by (Some input) (Some workers) None planning notes ahead watch check = 
 settings_by (Some input) None size planning notes ahead watch check = None
 settings_by None workers size planning notes ahead watch check = None
 
+-- what words ask for besides an application and its input, with these
+abbrev pub given_with : Option Input → List (List ℕ) → Option Settings
+given_with input words =
+    settings_by input (number_under Workers worker_counts 1 words) (number_under Size sizes 10000 words) (planning_of words) (switch_under Notes words)
+    (number_under Ahead ahead_counts 0 words) (switch_under Watch words) (check_under CheckName words)
+
 -- the settings: every word has a name that there is, no name is given twice, each value is one of its name's, and nothing is
 -- asked for together that may not go together
 abbrev pub settings_of : List (List ℕ) → Option Settings
-settings_of words =
-    if list_all is_known words && are_once words
-    then settings_by (input_of words) (number_under Workers worker_counts 1 words) (number_under Size sizes 10000 words) (planning_of words) (switch_under Notes words)
-    (number_under Ahead ahead_counts 0 words) (switch_under Watch words) (check_under CheckName words)
-    else None
+settings_of words = if list_all is_known words && are_once words then given_with (input_of words) words else None
+
+-- whether words say an application, or an input that the program makes
+abbrev pub is_input_given : List (List ℕ) → Bool
+is_input_given words = is_given AppName words || (is_given Own words || (is_given Seed words || is_given Events words))
+
+-- the settings of a program of one application, which reads its input: the same, where words say neither. No application is chosen, and the
+-- field that names one says nothing
+abbrev pub settings_of_own : List (List ℕ) → Option Settings
+settings_of_own words =
+    if list_all is_known words && (are_once words && not (is_input_given words)) then given_with (Some (record { app = Ledger; generated = None })) words else None
 
 -- the numbers of an input that the program makes are in their ranges
 abbrev pub AreFew : Option Generated → Type 0

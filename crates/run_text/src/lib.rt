@@ -4,7 +4,7 @@
 //! It stands on `event_reader` for numbers and names of tables, on `morph_engine` for the batches that were run, with
 //! `op_eval` for what they left, on `version_table` for their values, on `run_checker` for the lines of journals and on
 //! `morph_io` for what is written.
-//! [`settings()`] reads the words; the writing functions take a sink that bytes go to, and their contracts say which
+//! [`settings()`] reads the words, and [`own_settings`] those of a program of one application; the writing functions take a sink that bytes go to, and their contracts say which
 //! bytes these are.
 #![tactic(auto)]
 
@@ -26,5 +26,5 @@ pub use notes::{note_audit, note_batch, note_tally};
 pub use report::Report;
 pub use tally::Tally;
 pub use text::event_line;
-pub use words::settings;
+pub use words::{own_settings, settings};
 pub use writing::{write_closing, write_events, write_refused};

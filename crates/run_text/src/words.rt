@@ -1,4 +1,4 @@
-ghost use Rattle.std.specs.Prelude.{◌≡◌, ◌<◌, ◌≤◌, ◌^◌, map, count_by, length, true, false, MatchOption, IfSome};
+ghost use Rattle.std.specs.Prelude.{◌≡◌, ◌<◌, ◌≤◌, ◌^◌, map, count_by, length, true, false, None, Some, MatchOption, IfSome};
 ghost use Rattle.std.specs.List.{list_all};
 ghost use Rattle.event_reader.specs.declared.limits.TheConstants.{GREATEST_NUMBER};
 ghost use Rattle.run_text.specs.Settings.{has_name, value_in, is_known, is_once, are_once, value_under};
@@ -8,6 +8,7 @@ ghost use Rattle.run_text.specs.Settings.{unit_in, unit_under, explore_in, explo
 ghost use Rattle.run_text.specs.Settings.{auto_in, auto_under, strategy_of, planning_of, input_of};
 ghost use Rattle.run_text.specs.Settings.{read_input, made_input, is_alone};
 ghost use Rattle.run_text.specs.Settings.{AreFew, AreInRange, settings_of};
+ghost use Rattle.run_text.specs.Settings.{given_with, is_input_given, settings_of_own};
 ghost use Rattle.run_text.specs.NoSettings.{NoSettings};
 
 use crate::choices::{
@@ -412,23 +413,13 @@ fn can_check(check: Check, workers: u64, planning: Planning) -> bool
     !check.is_on() || (workers == 1 && is_lazy(planning))
 }
 
-/// The settings that the words ask for, or `None` where they ask for none.
-///
-/// They ask for none where a word is not `name=value` with one of the names, a name is given twice, a value is not
-/// one of its name's, not exactly one of `app` and `self` is given, `seed` or `events` is given without `self`,
-/// `unit`, `explore` or `abort` is given with `plan=auto`, more than one is asked for of batches that are read ahead,
-/// watched balances and checked journals, or journals are to be checked with several workers, eager abort or
-/// `plan=auto`.
-pub fn settings(words: &[List<u8>]) -> Option<Settings>
-    ensures asked { result ≡ settings_of (map (λ word. word.items) words.now) }
-    ensures none { (result ≡ None → NoSettings (map (λ word. word.items) words.now))
-        × (NoSettings (map (λ word. word.items) words.now) → result ≡ None) }
+/// What the words ask for besides an application and its input, with these.
+fn settings_with(words: &[List<u8>], input: Input) -> Option<Settings>
+    requires { AreFew input.generated }
+    ensures asked { result ≡ given_with (Some input) (map (λ word. word.items) words.now) }
     ensures fits { IfSome result AreInRange }
+    ensures input { IfSome result (λ s. s.generated ≡ input.generated) }
 {
-    if !are_known(words) || !are_once(words) {
-        return None;
-    }
-    let input = input_of(words)?;
     let workers = number_under(words, Name::Workers, WORKER_COUNTS, DEFAULT_WORKERS)?;
     let size = number_under(words, Name::Size, SIZES, DEFAULT_SIZE)?;
     let planning = planning_of(words)?;
@@ -450,4 +441,52 @@ pub fn settings(words: &[List<u8>]) -> Option<Settings>
         watch,
         check,
     })
+}
+
+/// The settings that the words ask for, or `None` where they ask for none.
+///
+/// They ask for none where a word is not `name=value` with one of the names, a name is given twice, a value is not
+/// one of its name's, not exactly one of `app` and `self` is given, `seed` or `events` is given without `self`,
+/// `unit`, `explore` or `abort` is given with `plan=auto`, more than one is asked for of batches that are read ahead,
+/// watched balances and checked journals, or journals are to be checked with several workers, eager abort or
+/// `plan=auto`.
+pub fn settings(words: &[List<u8>]) -> Option<Settings>
+    ensures asked { result ≡ settings_of (map (λ word. word.items) words.now) }
+    ensures none { (result ≡ None → NoSettings (map (λ word. word.items) words.now))
+        × (NoSettings (map (λ word. word.items) words.now) → result ≡ None) }
+    ensures fits { IfSome result AreInRange }
+{
+    if !are_known(words) || !are_once(words) {
+        return None;
+    }
+    settings_with(words, input_of(words)?)
+}
+
+/// Whether the words say an application or an input that the program makes.
+fn is_input_given(words: &[List<u8>]) -> bool
+    ensures { result ≡ is_input_given (map (λ word. word.items) words.now) }
+{
+    is_given(words, Name::App)
+        || is_given(words, Name::Own)
+        || is_given(words, Name::Seed)
+        || is_given(words, Name::Events)
+}
+
+/// The settings that the words ask for in a program of one application, which reads its input, or `None` where they ask
+/// for none.
+///
+/// They are those of [`settings`] without the names `app`, `self`, `seed` and `events`. The field `app` says nothing.
+pub fn own_settings(words: &[List<u8>]) -> Option<Settings>
+    ensures asked { result ≡ settings_of_own (map (λ word. word.items) words.now) }
+    ensures fits { IfSome result AreInRange }
+    ensures read { IfSome result (λ s. s.generated ≡ None) }
+{
+    if !are_known(words) || !are_once(words) || is_input_given(words) {
+        return None;
+    }
+    let input = Input {
+        app: App::Ledger,
+        generated: None,
+    };
+    settings_with(words, input)
 }

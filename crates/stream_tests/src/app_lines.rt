@@ -2,7 +2,7 @@
 ghost use Rattle.std.specs.Prelude.{◌≤◌};
 ghost use Rattle.event_reader.specs.Limits.{generated_events, generated_ids};
 
-use event_reader::{Cause, Draws, EventApp, LineFault, Version, Words};
+use event_reader::{Cause, Draws, EventApp, LineFault, MakesInput, Version, Words};
 use morph_base::{Event, Op};
 use morph_io::LineBuf;
 use std::alloc::Global;
@@ -71,7 +71,7 @@ pub(crate) fn check_refused<A: EventApp>(
 }
 
 /// The line of event `i` by these draws, where the tables have `size` ids.
-fn drawn<A: EventApp>(app: &A, draws: &mut Draws, i: u64, size: u32) -> LineBuf
+fn drawn<A: MakesInput>(app: &A, draws: &mut Draws, i: u64, size: u32) -> LineBuf
     requires event { 1 ≤ i }
     requires last { i ≤ generated_events }
     requires size { 1 ≤ size }
@@ -83,7 +83,7 @@ fn drawn<A: EventApp>(app: &A, draws: &mut Draws, i: u64, size: u32) -> LineBuf
 }
 
 /// Compares the lines of the first two events with those given: by a seed, where the tables have so many ids.
-pub(crate) fn check_drawn<A: EventApp>(
+pub(crate) fn check_drawn<A: MakesInput>(
     rt: &impl Abort,
     app: &A,
     rows: &[(u64, u32, &[u8], &[u8])],

@@ -1,4 +1,6 @@
-use event_reader::{Cause, Draws, EventApp, LineFault, Number, Version, Words, read_number};
+use event_reader::{
+    Cause, Draws, EventApp, LineFault, MakesInput, Number, Version, Words, read_number,
+};
 use morph_base::{Event, Func, Key, LATEST, List};
 use morph_io::LineBuf;
 use std::alloc::Global;
@@ -11,8 +13,8 @@ pub(crate) struct Counter;
 
 impl EventApp for Counter {
     ghost use Rattle.std.specs.Prelude.{codes};
-    ghost use Rattle.stream_tests.specs.Counter.{count_event, count_drawn};
-    ghost use Rattle.stream_tests.specs.CounterLaws.{count_valid, count_causes, count_generates};
+    ghost use Rattle.stream_tests.specs.Counter.{count_event};
+    ghost use Rattle.stream_tests.specs.CounterLaws.{count_valid, count_causes};
 
     ghost table_count = { λ _. 1 };
 
@@ -20,14 +22,9 @@ impl EventApp for Counter {
 
     ghost event_of = { λ _ size version words. count_event size version words };
 
-    ghost generated = { λ _ _ i state. count_drawn i state };
-
     ghost gives_valid = { λ _ size version words e. count_valid size version words e };
 
     ghost causes = { λ _ size version words cause. count_causes size version words cause };
-
-    ghost generates = { λ _ size i state some _ start last. count_generates size i state some start
-        last };
 
     fn tables(&self) -> u8 {
         1
@@ -60,6 +57,16 @@ impl EventApp for Counter {
             _ => Err(LineFault::Refused(Cause::Range)),
         }
     }
+}
+
+impl MakesInput for Counter {
+    ghost use Rattle.stream_tests.specs.Counter.{count_drawn};
+    ghost use Rattle.stream_tests.specs.CounterLaws.{count_generates};
+
+    ghost generated = { λ _ _ i state. count_drawn i state };
+
+    ghost generates = { λ _ size i state some _ start last. count_generates size i state some start
+        last };
 
     fn generate(&self, _draws: &mut Draws, i: u64, _size: u32, line: &mut LineBuf) {
         line.number(i);

@@ -3,7 +3,9 @@ ghost use Rattle.event_reader.specs.Limits.{input_bytes};
 
 use crate::app_lines::{check_refused, told};
 use crate::readings::{End, Outcome, outcome_of, read_batches, source_of};
-use event_reader::{Cause, Draws, EventApp, GenSource, INPUT_BYTES, ReaderFault, Version};
+use event_reader::{
+    Cause, Draws, EventApp, GenSource, INPUT_BYTES, MakesInput, ReaderFault, Version,
+};
 use ledger_app::{ACCOUNTS, ASSETS, Ledger};
 use morph_base::{Func, Key, Op, OutOfMemory};
 use morph_io::{LineBuf, Source};

@@ -4,7 +4,9 @@ ghost use Rattle.event_reader.specs.Reader.{GivesEvent};
 ghost use Rattle.toll_app.specs.Toll.{key, segments, table_name, reports, toll_event};
 
 use crate::generating::write_report;
-use event_reader::{Cause, Draws, EventApp, Form, LineFault, Range, TIMES, Version, Words};
+use event_reader::{
+    Cause, Draws, EventApp, Form, LineFault, MakesInput, Range, TIMES, Version, Words,
+};
 use morph_base::{Event, Func, Key, List};
 use morph_io::LineBuf;
 use std::alloc::Global;
@@ -71,9 +73,7 @@ fn report(alloc: Global, words: &Words<'_>, size: u32, version: Version) -> Resu
 }
 
 impl EventApp for Toll {
-    ghost use Rattle.toll_app.specs.TollDraws.{toll_drawn};
     ghost use Rattle.toll_app.specs.TollLaws.{toll_is_valid, toll_causes};
-    ghost use Rattle.toll_app.specs.DrawLaws.{toll_generates};
 
     ghost table_count = { λ _. 4 };
 
@@ -81,14 +81,9 @@ impl EventApp for Toll {
 
     ghost event_of = { λ _ size version words. toll_event size version words };
 
-    ghost generated = { λ _ size i state. toll_drawn size i state };
-
     ghost gives_valid = { λ _ size version words e. toll_is_valid size version words e };
 
     ghost causes = { λ _ size version words cause. toll_causes size version words cause };
-
-    ghost generates = { λ _ size i state some few start last. toll_generates size i state some
-        few start last };
 
     fn tables(&self) -> u8 {
         4
@@ -115,6 +110,16 @@ impl EventApp for Toll {
             _ => Err(LineFault::Refused(Cause::Form)),
         }
     }
+}
+
+impl MakesInput for Toll {
+    ghost use Rattle.toll_app.specs.TollDraws.{toll_drawn};
+    ghost use Rattle.toll_app.specs.DrawLaws.{toll_generates};
+
+    ghost generated = { λ _ size i state. toll_drawn size i state };
+
+    ghost generates = { λ _ size i state some few start last. toll_generates size i state some
+        few start last };
 
     fn generate(&self, draws: &mut Draws, i: u64, size: u32, line: &mut LineBuf) {
         write_report(draws, i, u64::from(size), line);

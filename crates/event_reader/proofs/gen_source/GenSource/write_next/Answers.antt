@@ -6,5 +6,5 @@ returns-clause-same g c =
     let end = rw (← c.self.view_is) at c.requires.end in
     let more = rw (← c.self.view_is) at c.requires.more in
     rw (← c.self.view_is)
-    (line_begun (g.A.EventApp.generated c.self.inside.app c.self.inside.size) _ c.write_event.new.line c.self.inside.count c.self.inside.next
+    (line_begun (g.A.MakesInput.generated c.self.inside.app c.self.inside.size) _ c.write_event.new.line c.self.inside.count c.self.inside.next
     c.self.inside.draws c.write_event.new.draws end more c.write_event.ensures.line c.write_event.ensures.state)

@@ -35,6 +35,8 @@ mod handing;
 #[cfg(test)]
 mod journals;
 #[cfg(test)]
+mod library;
+#[cfg(test)]
 mod machine;
 #[cfg(test)]
 mod many_events;

@@ -1,8 +1,8 @@
-//! The program `stock`: a shop's lines on standard input, each applied as one transaction, and the text of what became of
-//! them on standard output. An example of a program for an application of one's own.
+//! The program `stock`: a shop's lines on standard input, each applied as one transaction, and the text of the results
+//! on standard output. It is an example of a program for an application of one's own.
 //!
-//! All that it does is [`morph_cli::run_application`] over [`stock_app::Stock`]; its settings are those of `morph` without
-//! `app`, `self`, `seed` and `events`.
+//! All that it does is [`morph_cli::run_application`] over [`stock_app::Stock`]; its settings are those of `morph`
+//! without `app`, `self`, `seed` and `events`.
 #![tactic(auto)]
 
 ghost use Rattle.std.specs.Prelude.{◌≡◌, None, map, IfSome};

@@ -1,11 +1,14 @@
-ghost use Rattle.std.specs.Prelude.{◌≡◌, ◌^◌, ◌<◌, ◌≤◌, IfOk, [], ◌∷◌};
-ghost use Rattle.morph_base.specs.declared.operation.Func.TheVariants.{Add};
+ghost use Rattle.std.specs.Prelude.{◌≡◌, ℕ, ◌^◌, ◌<◌, ◌≤◌, All, IfOk, length};
 ghost use Rattle.event_reader.specs.Forms.{said_in};
 ghost use Rattle.event_reader.specs.Reader.{GivesEvent};
-ghost use Rattle.event_reader.specs.Versions.{greatest_of, op_in};
-ghost use Rattle.stock_app.specs.Stock.{bill, limit_check, taking, restocks, payments, orders_of_one, orders_of_two, has_two};
+ghost use Rattle.event_reader.specs.Versions.{greatest_of};
+ghost use Rattle.stock_app.specs.Stock.{IsItemNumber, IsPriced, limit_check, order, ordered};
+ghost use Rattle.stock_app.specs.Stock.{orders, payments, restocks};
 
-use event_reader::{Cause, EventApp, Form, LineFault, Range, TIMES, Version, Words, key_of};
+use crate::item::{Item, are_offered, cost_of, items_of, keys_of};
+use event_reader::{
+    Cause, EventApp, Form, LineFault, Range, TIMES, Version, Words, are_distinct, key_of,
+};
 use morph_base::{Event, Func, List, Op, OutOfMemory};
 use std::alloc::Global;
 
@@ -18,16 +21,10 @@ pub const BILLS: u8 = 1;
 /// The number of the table of the bills before the customers' last orders.
 pub const BEFORE: u8 = 2;
 
-/// The range of a quantity that is ordered.
-const QUANTITIES: Range = Range {
+/// The range of each number behind an order's limit.
+const ITEM_NUMBERS: Range = Range {
     least: 0,
     greatest: 1_000_000,
-};
-
-/// The range of a price.
-const PRICES: Range = Range {
-    least: 0,
-    greatest: 100_000,
 };
 
 /// The application of a shop.
@@ -76,91 +73,70 @@ fn limit_check(version: Version, customer: u64, limit: u64, cost: u64) -> Op
     version.op(Func::Sum, before, &[bill], limit - cost)
 }
 
-/// What an order does to its customer: the first operations, with room for those of two items.
-fn begin_order(
+/// The operations of an order.
+fn order_ops(
     alloc: Global,
     version: Version,
     customer: u64,
     limit: u64,
-    cost: u64,
+    items: &[Item],
 ) -> Result<List<Op>, OutOfMemory>
-    requires { customer < 2 ^ 32 }
-    ensures items { IfOk result (λ ops. ops.items ≡ limit_check version customer limit cost
-        ∷ op_in version Add (bill customer) [] cost ∷ []) }
-    ensures room { IfOk result (λ ops. 2 ≤ ops.room) }
+    requires customer { customer < 2 ^ 32 }
+    requires few { length items.now ≤ 5 }
+    requires ids { All (λ item. item.id < 2 ^ 32) items.now }
+    requires priced { All IsPriced items.now }
+    ensures { (ts : ℕ) → IfOk result (λ ops.
+        record { ts = ts; ops = ops.items } ≡ order version ts customer limit items.now) }
 {
-    let mut ops = List::with_room(alloc, 4)?;
+    let cost = cost_of(items);
+    let mut ops = List::with_room(alloc, items.len() + 2)?;
     ops.add(limit_check(version, customer, limit, cost));
     ops.add(version.op(Func::Add, key_of(BILLS, customer), &[], cost));
+    for item in items {
+        ops.add(item.taking(version));
+    }
     Ok(ops)
 }
 
-/// The operation that takes a quantity of an item from its stock.
-fn taking(version: Version, item: u64, quantity: u64) -> Op
-    requires { item < 2 ^ 32 }
-    ensures { result ≡ taking version item quantity }
-{
-    version.op(Func::Sub, key_of(ITEMS, item), &[], quantity)
-}
-
-/// Reads the words of an order of one item.
-fn order_one(
+/// The event of the numbers behind an order's limit, three for each item.
+fn order_of(
     alloc: Global,
-    words: &Words<'_>,
-    size: u32,
     version: Version,
-) -> Result<Event, LineFault>
-    ensures { GivesEvent (said_in (orders_of_one version size) words.now) result }
-{
-    let (ids, amounts) = (Range::ids(size), Range::amounts(version));
-    let places = [TIMES, ids, amounts, ids, QUANTITIES, PRICES];
-    let numbers = words.read(&Form::new(b'O', &places))?;
-    let [ts, customer, limit, item, quantity, price] = numbers.first();
-    let mut ops = begin_order(alloc, version, customer, limit, quantity * price)?;
-    ops.add(taking(version, item, quantity));
-    Ok(Event { ts, ops })
-}
-
-/// Reads the words of an order of two items.
-fn order_two(
-    alloc: Global,
-    words: &Words<'_>,
     size: u32,
-    version: Version,
+    ts: u64,
+    customer: u64,
+    limit: u64,
+    numbers: &[u64],
 ) -> Result<Event, LineFault>
-    ensures { GivesEvent (said_in (orders_of_two version size) words.now) result }
+    requires customer { customer < 2 ^ 32 }
+    requires few { length numbers.now ≤ 15 }
+    requires small { All IsItemNumber numbers.now }
+    ensures { GivesEvent (ordered version size ts customer limit numbers.now) result }
 {
-    let (ids, amounts) = (Range::ids(size), Range::amounts(version));
-    let places = [
-        TIMES, ids, amounts, ids, QUANTITIES, PRICES, ids, QUANTITIES, PRICES,
-    ];
-    let numbers = words.read(&Form::new(b'O', &places))?;
-    let [
-        ts,
-        customer,
-        limit,
-        item,
-        quantity,
-        price,
-        other,
-        more,
-        each,
-    ] = numbers.first();
-    if item == other {
+    if numbers.len() % 3 != 0 {
+        return Err(LineFault::Refused(Cause::Form));
+    }
+    let items = items_of(alloc, numbers)?;
+    if !are_offered(items.as_slice(), size) {
+        return Err(LineFault::Refused(Cause::Range));
+    }
+    let keys = keys_of(alloc, items.as_slice())?;
+    if !are_distinct(keys.as_slice()) {
         return Err(LineFault::Refused(Cause::Same));
     }
-    let cost = quantity * price + more * each;
-    let mut ops = begin_order(alloc, version, customer, limit, cost)?;
-    ops.add(taking(version, item, quantity));
-    ops.add(taking(version, other, more));
+    let ops = order_ops(alloc, version, customer, limit, items.as_slice())?;
     Ok(Event { ts, ops })
 }
 
-/// Whether there are as many words as an order of two items has.
-fn has_two(words: &Words<'_>) -> bool
-    ensures { result ≡ has_two words.now }
+/// Reads the words of an order.
+fn order(alloc: Global, words: &Words<'_>, size: u32, version: Version) -> Result<Event, LineFault>
+    ensures { GivesEvent (said_in (orders version size) words.now) result }
 {
-    words.count() == 10
+    let places = [TIMES, Range::ids(size), Range::amounts(version)];
+    let form = Form::new(b'O', &places).with_more(ITEM_NUMBERS, 3, 15);
+    let numbers = words.read(&form)?;
+    let [ts, customer, limit] = numbers.first();
+    order_of(alloc, version, size, ts, customer, limit, numbers.rest())
 }
 
 impl EventApp for Stock {
@@ -196,11 +172,10 @@ impl EventApp for Stock {
         size: u32,
         version: Version,
     ) -> Result<Event, LineFault> {
-        match (words.letter(), has_two(words)) {
-            (Some(b'R'), _) => restock(alloc, words, size, version),
-            (Some(b'B'), _) => pay(alloc, words, size, version),
-            (Some(b'O'), false) => order_one(alloc, words, size, version),
-            (Some(b'O'), true) => order_two(alloc, words, size, version),
+        match words.letter() {
+            Some(b'R') => restock(alloc, words, size, version),
+            Some(b'B') => pay(alloc, words, size, version),
+            Some(b'O') => order(alloc, words, size, version),
             _ => Err(LineFault::Refused(Cause::Form)),
         }
     }

@@ -12,8 +12,8 @@ use Rattle.abort_eager.specs.declared.answers.Target.{Target}
 use Rattle.abort_eager.specs.declared.answers.Target.TheVariants.{Spread, RollBack}
 use Rattle.abort_eager.specs.declared.cascade.Cascade.{Cascade}
 use Rattle.abort_eager.specs.Targets.{first_source, end_source, place_targets, reader_targets, sibling_targets, left_siblings, left_places, IsSibling, IsCascade}
-use Rattle.abort_eager.specs.Finding.{IsReader, IsFirstReader, IsFirstPlace, IsSiblingFrom}
-use Rattle.abort_eager.specs.Popping.{IsPopped, Pops, PlaceTells, PlacePops}
+use Rattle.abort_eager.specs.Finding.{IsReaderOfFirst, IsFirstReader, IsFirstPlace, IsSiblingFrom}
+use Rattle.abort_eager.specs.Popping.{IsPopped, Pops, PlaceIsPopped, PlacePops}
 use Rattle.abort_eager.proofs.Placing.{readers_first, readers_over, readers_end}
 use Rattle.abort_eager.proofs.Reading.{unread, has_place}
 
@@ -76,7 +76,7 @@ module _ (p : Plan) (a : Cascade) (valid : IsPlan p) (is : IsCascade p a) (s : �
       none' : left_siblings p b ≡ []
       none' = pops.siblings ∙ none
 
-      tell : (r : Option Target) → PlaceTells p a b r → Pops p a b r
+      tell : (r : Option Target) → PlaceIsPopped p a b r → Pops p a b r
       tell None tells = record { before = ap (λ ts. ts ++ left_places p a) none ∙ tells.before; after = ap (λ ts. ts ++ left_places p b) none' ∙ tells.after }
       tell (Some t) tells = record {
         left = ap (λ ts. ts ++ left_places p a) none ∙ tells.left ∙ ap (λ ts. t ∷ (ts ++ left_places p b)) (sym none');
@@ -115,7 +115,7 @@ module _ (p : Plan) (a : Cascade) (valid : IsValidPlan p) (is : IsCascade p a) w
       record { goes = record { cascade = is; op = refl; failed = refl }; siblings = refl; tells = record { before = nothing; after = nothing } }
 
   -- it is one of the next reader
-  module _ (q : ℕ) (next : IsReader p a.first a.end (a.reader + 1) q) where
+  module _ (q : ℕ) (next : IsReaderOfFirst p a.first a.end (a.reader + 1) q) where
     pub popped_next : (j : ℕ) → IsFirstPlace p a.first a.end a.reader a.place None → IsFirstPlace p a.first a.end q 0 (Some j)
         → PlacePops p a (record { op = a.op; failed = a.failed; first = a.first; end = a.end; sibling = a.sibling; reader = q; place = j + 1 }) (Some (RollBack q j))
     popped_next j here there =

@@ -10,7 +10,7 @@ use Rattle.std.proofs.lemmas.List.FromFn.{length-range_with_len, get_or-range_wi
 use Rattle.morph_base.specs.declared.plan.Plan.{Plan}
 use Rattle.morph_base.specs.Plans.{op_count}
 use Rattle.morph_base.specs.Graphs.{below, reads_from, IsGraph}
-use Rattle.abort_eager.specs.Finding.{IsFirstAt, IsLesser, AreNone, IsReader, IsFirstReader}
+use Rattle.abort_eager.specs.Finding.{IsFirstAt, IsLesser, AreNone, IsReaderOfFirst, IsFirstReader}
 use Rattle.abort_eager.proofs.Listing.{in_range, range_within}
 use Rattle.op_eval.proofs.Elements.{contains_filter}
 
@@ -119,7 +119,7 @@ module _ (p : Plan) (first k from : ℕ) (le : first ≤ k) where
   none_below : (a b to high : ℕ) → high ≤ to → AreNone p a b from to → AreNone p a b from high
   none_below a b to high less none t m low lt = none t m low (omega arith)
 
-  wider : (q : ℕ) (s : IsReader p first k from q) → AreNone p k (k + 1) from q → IsReader p first (k + 1) from q
+  wider : (q : ℕ) (s : IsReaderOfFirst p first k from q) → AreNone p k (k + 1) from q → IsReaderOfFirst p first (k + 1) from q
   wider q s none = record {
     low = s.low;
     in_range = s.in_range;
@@ -130,7 +130,7 @@ module _ (p : Plan) (first k from : ℕ) (le : first ≤ k) where
     none = both_none q s.none none;
   }
 
-  later : (q : ℕ) (s : IsReader p k (k + 1) from q) → AreNone p first k from q → IsReader p first (k + 1) from q
+  later : (q : ℕ) (s : IsReaderOfFirst p k (k + 1) from q) → AreNone p first k from q → IsReaderOfFirst p first (k + 1) from q
   later q s none = record {
     low = s.low;
     in_range = s.in_range;

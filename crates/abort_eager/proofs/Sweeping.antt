@@ -8,7 +8,7 @@ use Rattle.op_words.specs.declared.answers.Outcome.TheVariants.{Executed, Failed
 use Rattle.op_words.specs.declared.trail.Item.{Item}
 use Rattle.op_words.specs.declared.trail.View.{View}
 use Rattle.op_words.specs.Trails.{OwnOpen, IsReached}
-use Rattle.op_words.specs.Views.{Goes, IsAtRest, HasShownFailure}
+use Rattle.op_words.specs.Views.{AddsAndFrees, IsAtRest, HasShownFailure}
 use Rattle.op_words.proofs.Adding.{adds_none, goes_then}
 use Rattle.op_words.proofs.Trailing.{reached_more}
 use Rattle.op_eval.specs.declared.answers.Evaluation.{Evaluation}
@@ -25,7 +25,7 @@ use Rattle.abort_eager.specs.Sweeps.{cascade_for, SweepsFor, Attempts}
 -- words were added to the view, none of them settled, and nothing else changed
 pub record IsSweptOver (a b : Runner) : Type 0 where
   pub words : List Item
-  pub goes : Goes (hand_view a) (hand_view b) words
+  pub goes : AddsAndFrees (hand_view a) (hand_view b) words
   pub open_own : OwnOpen words
   pub answers : b.answers ≡ a.answers
   pub kept : b.kept ≡ a.kept
@@ -33,7 +33,7 @@ pub record IsSweptOver (a b : Runner) : Type 0 where
 pub swept_over : (p : Plan) (cap o : ℕ) (f : Option Bool) (a b : Runner) → IsAtRest (hand_view a) → SweepsFor p cap o f a b → IsSweptOver a b
 swept_over p cap o None a b rest same = record {
   words = [];
-  goes = subst (λ r. Goes (hand_view a) (hand_view r) []) (sym same) (record { adds = adds_none (hand_view a) rest.agree; free = rest.free });
+  goes = subst (λ r. AddsAndFrees (hand_view a) (hand_view r) []) (sym same) (record { adds = adds_none (hand_view a) rest.agree; free = rest.free });
   open_own = λ t inside. absurd (omega (arith, inside.1));
   answers = ap (λ r. r.answers) same;
   kept = ap (λ r. r.kept) same;
@@ -49,7 +49,7 @@ pub record IsAttempted (p : Plan) (cap o : ℕ) (a b : Runner) : Type 0 where
   pub tries : Tries p cap o a middle answer
   pub over : IsSweptOver middle b
   pub words : List Item
-  pub goes : Goes (hand_view a) (hand_view b) words
+  pub goes : AddsAndFrees (hand_view a) (hand_view b) words
   pub open_own : OwnOpen words
   pub reached : IsReached p o words
 

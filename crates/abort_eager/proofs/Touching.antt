@@ -12,7 +12,7 @@ use Rattle.op_words.specs.declared.trail.Item.{Item}
 use Rattle.op_words.specs.declared.trail.View.{View}
 use Rattle.op_words.specs.Retrying.{SpreadDoes, RollDoes, spread_steps, roll_steps}
 use Rattle.op_words.specs.Trails.{OwnOn, OwnOpen}
-use Rattle.op_words.specs.Views.{Goes, IsAtRest}
+use Rattle.op_words.specs.Views.{AddsAndFrees, IsAtRest}
 use Rattle.op_words.proofs.Adding.{adds_none, goes_then}
 use Rattle.abort_eager.specs.declared.answers.Target.{Target}
 use Rattle.abort_eager.specs.declared.answers.Target.TheVariants.{Spread, RollBack}
@@ -27,7 +27,7 @@ use Rattle.abort_eager.specs.Touching.{HasCause, CanTouch, Touches, Touching, Ne
 
 pub record IsOneTouched (g : Target) (v u : View) : Type 0 where
   pub words : List Item
-  pub goes : Goes v u words
+  pub goes : AddsAndFrees v u words
   pub own : OwnOn (op_of g) words
   pub open_own : OwnOpen words
 
@@ -42,7 +42,7 @@ cause_stays p cap g a b v u t cause goes touches failed =
     let one = touched_one p cap g v u t touches in
     record { entry = shown.entry; inside = one.goes.adds.published shown.entry shown.inside; op_is = shown.op_is ∙ sym goes.op; failed_is = shown.failed_is }
 
-at_rest_after : {v u : View} {xs : List Item} → Goes v u xs → IsAtRest u
+at_rest_after : {v u : View} {xs : List Item} → AddsAndFrees v u xs → IsAtRest u
 at_rest_after goes = record { free = goes.free; agree = goes.adds.agree }
 
 -- ---- all of a list
@@ -50,7 +50,7 @@ at_rest_after goes = record { free = goes.free; agree = goes.adds.agree }
 pub touched_all : (p : Plan) (cap : ℕ) (gs : List Target) (v u : View) → IsAtRest v → Touching p cap gs v u → CascadeDoes gs v u
 touched_all p cap [] v u rest same = record {
   words = [];
-  goes = subst (λ z. Goes v z []) (sym same) (record { adds = adds_none v rest.agree; free = rest.free });
+  goes = subst (λ z. AddsAndFrees v z []) (sym same) (record { adds = adds_none v rest.agree; free = rest.free });
   own = λ t inside is. absurd (not-suc-le-zero inside.1);
   open_own = λ t inside is. absurd (not-suc-le-zero inside.1);
 }

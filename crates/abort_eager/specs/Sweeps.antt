@@ -1,4 +1,4 @@
--- What stands behind an evaluation: under eager abort, the cascade of one that failed, or that was a second or later attempt.
+-- What follows an evaluation: under eager abort, the cascade of one that failed or was not a first attempt
 use Rattle.std.specs.Prelude.{◌≡◌, ℕ, Bool, true, false, nat_lt, if◌then◌else◌, Option, Some, None}
 use Rattle.morph_base.specs.declared.plan.Plan.{Plan}
 use Rattle.morph_base.specs.declared.strategy.Abort.{Abort}
@@ -12,7 +12,8 @@ use Rattle.op_eval.specs.Running.{hand_view}
 use Rattle.abort_eager.specs.Targets.{targets}
 use Rattle.abort_eager.specs.Touching.{Touching}
 
--- whether there is a cascade behind an answer, and whether it is that of a failure
+-- Whether a cascade follows this answer, and whether it is that of a failure. Under eager abort one follows an
+-- evaluation that failed, or that was a second or later attempt. Under lazy abort none does
 abbrev pub cascade_for : Abort → Evaluation → Option Bool
 cascade_for Lazy r = None
 cascade_for Eager (Evaluated a Failed) = Some true
@@ -22,21 +23,22 @@ cascade_for Eager (Busy w) = None
 cascade_for Eager (Already w) = None
 
 module _ (p : Plan) (cap : ℕ) where
-  -- all targets of operation o were touched, and nothing else changed
+  -- All targets of operation o's cascade were touched, and nothing else of the runner changed
   pub record IsSwept (o : ℕ) (failed : Bool) (a b : Runner) : Type 0 where
     pub touching : Touching p cap (targets p o failed) (hand_view a) (hand_view b)
     pub answers : b.answers ≡ a.answers
     pub kept : b.kept ≡ a.kept
 
+  -- The cascade was run if there is one, and else nothing changed
   abbrev pub SweepsFor : (o : ℕ) → Option Bool → Runner → Runner → Type 0
   SweepsFor o None a b = b ≡ a
   SweepsFor o (Some failed) a b = IsSwept o failed a b
 
   module _ (abort : Abort) (o : ℕ) where
-    -- what there is behind an answer was done
+    -- The cascade that follows answer r was run if there is one, and else nothing changed
     abbrev pub Sweeps : Evaluation → Runner → Runner → Type 0
     Sweeps r a b = SweepsFor o (cascade_for abort r) a b
 
-    -- an operation was tried, with what there is behind it
+    -- Operation o was tried with answer r, and then the cascade that follows was run
     abbrev pub Attempts : Runner → Runner → Evaluation → Type 0
     Attempts a b r = (m : Runner) × Tries p cap o a m r × Sweeps r m b

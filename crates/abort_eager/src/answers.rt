@@ -7,7 +7,7 @@ use op_words::{Rolled, Spreaded};
 /// What a cascade touches next.
 #[derive(Clone, Copy, Debug, PartialEq, Eq)]
 pub enum Target {
-    /// Another operation of the event of the one that failed: the failure is spread to it.
+    /// Another operation of the failed operation's event: the failure is spread to it.
     Spread { op: u32 },
     /// An operation is rolled back, for what it read at a place.
     RollBack { op: u32, place: u8 },
@@ -22,7 +22,8 @@ pub enum Touch {
     RolledBack,
     /// It read the value that its source has, and was left as it is.
     Fresh { value: u64 },
-    /// The word of operation `at`, itself or a source, stood in the way: see [`Spreaded::Not`] and [`Rolled::Not`].
+    /// The word of operation `at`, which is the target itself or a source, stood in the way: see [`Spreaded::Not`] and
+    /// [`Rolled::Not`].
     Not { at: u32, word: OpWord },
 }
 
@@ -36,7 +37,7 @@ pub struct Touched {
 }
 
 impl Touch {
-    /// What the board answered on spreading a failure to an operation.
+    /// The board's answer to spreading a failure to an operation.
     pub(crate) fn of_spread(op: u32, answer: Spreaded) -> Touch
         ensures { result ≡ spread_touch op answer }
     {
@@ -46,7 +47,7 @@ impl Touch {
         }
     }
 
-    /// What it answered on rolling one back.
+    /// The board's answer to rolling an operation back.
     pub(crate) fn of_roll(answer: Rolled) -> Touch
         ensures { result ≡ roll_touch answer }
     {

@@ -1,4 +1,4 @@
-//! When there is a cascade behind an evaluation.
+//! When a cascade follows an evaluation.
 ghost use Rattle.std.specs.Prelude.{◌≡◌};
 ghost use Rattle.abort_eager.specs.Sweeps.{cascade_for};
 
@@ -6,10 +6,10 @@ use morph_base::Abort;
 use op_eval::Evaluation;
 use op_words::Outcome;
 
-/// Whether there is a cascade behind an answer of [`evaluate`](op_eval::evaluate), and whether it is that of a failure.
+/// Whether a cascade follows an answer of [`evaluate`](op_eval::evaluate), and whether it is that of a failure.
 ///
-/// Under eager abort there is one behind each evaluation that failed, or that was a second or later attempt: what read
-/// the version before has to be looked at again. Under lazy abort there is none.
+/// Under eager abort a cascade follows each evaluation that failed, or that was a second or later attempt: what read
+/// the version before has to be looked at again. Under lazy abort none follows.
 pub fn cascade_behind(abort: Abort, answer: Evaluation) -> Option<bool>
     ensures { result ≡ cascade_for abort answer }
 {

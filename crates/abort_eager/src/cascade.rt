@@ -12,15 +12,15 @@ use crate::finding::{place_from, reader_from};
 use morph_base::Plan;
 use op_words::{Board, Hand};
 
-/// The targets of an operation that failed, or that ran again, by a position among them.
+/// The targets of an operation that failed, or that ran again, as a position among them.
 ///
-/// Where the operation failed, the failure is spread to each other operation of its event. Then what read from the
-/// operation or from one of these is rolled back, for each place at which it read from them. Where it did not fail,
-/// what read from the operation alone is rolled back.
+/// If the operation failed, the failure is spread to each other operation of its event. Then what read from one of
+/// these operations is rolled back, for each place at which it read from them. If the operation did not fail, only what
+/// read from the operation itself is rolled back.
 ///
-/// Its *sources* are the operations from `first` up to `end`. Left are those from `sibling` on but for `op`, to be
-/// spread; then the places of operation `reader` from `place` on, and all places of the operations behind it, that read
-/// from a source.
+/// Its *sources* are the operations from `first` up to `end`. The targets that are left are those from `sibling` on
+/// except `op`, which get the failure; then the places of operation `reader` from `place` on, and all places of later
+/// operations, if they read from a source.
 #[derive(Debug, Drop)]
 pub struct Cascade {
     op: u32,
@@ -46,7 +46,7 @@ fn sources(plan: &Plan, op: u32, failed: bool) -> (u32, u32)
     (event.first, event.first + event.count)
 }
 
-/// The first number from `from` on, and below `end`, that is not `op`; `end` where there is none.
+/// The first number from `from` on, and below `end`, that is not `op`. It is `end` if there is none.
 fn sibling_from(op: u32, from: u32, end: u32) -> u32
     requires { from ≤ end }
     ensures { IsSiblingFrom op from end result }
@@ -143,7 +143,7 @@ impl Cascade {
         }
     }
 
-    /// Takes the first place of the next reader, where the present one has none left.
+    /// Takes the first place of the next reader, once the present one has none left.
     fn pop_reader(&mut self, plan: &Plan) -> Option<Target>
         requires plan { IsValidPlan plan.now }
         requires cascade { IsCascade plan.now self.old }
@@ -162,10 +162,10 @@ impl Cascade {
         Some(Target::RollBack { op: reader, place })
     }
 
-    /// Touches the next target, and says what became of it; `None` exactly after the last one.
+    /// Touches the next target, and says what became of it. `None` means that all were touched.
     ///
-    /// Where the cascade was started for a failure, the hand has shown a failure of its operation. The hand holds
-    /// nothing before and after. The call takes no memory and waits for nobody.
+    /// If the cascade was started for a failure, the hand has shown a failure of its operation. The hand holds nothing
+    /// before and after. The call takes no memory and waits for nobody.
     pub fn next(&mut self, board: &Board, hand: &mut Hand, plan: &Plan) -> Option<Touched>
         requires hand { IsHandOf board.now hand.old }
         requires plan { plan.now ≡ plan_of board.now }

@@ -1,4 +1,4 @@
-//! What reads from some operations of a plan is found from a position on.
+//! Finds what reads from some operations of a plan, from a position on.
 ghost use Rattle.std.specs.Prelude.{◌≡◌, ℕ, ◌<◌, ◌≤◌};
 ghost use Rattle.std.specs.List.Sorted.{IsNonDecreasingBy};
 ghost use Rattle.morph_base.specs.Plans.{IsPlan, op_count};
@@ -22,7 +22,7 @@ fn first_at(list: &[u32], from: u32) -> Option<u32>
     }
 }
 
-/// The lesser of two numbers, where there are two.
+/// The lesser of two numbers, if there are two.
 fn lesser(a: Option<u32>, b: Option<u32>) -> Option<u32>
     ensures { IsLesser a b result }
 {

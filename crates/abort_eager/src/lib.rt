@@ -11,7 +11,7 @@
 //! }
 //! ```
 //!
-//! [`laws`] says what a whole cascade makes of a hand's view. Below it stand `op_words` and `interleaving_core`, for
+//! [`laws`] says what a whole cascade makes of a hand's view. The crate uses `op_words` and `interleaving_core`, for
 //! the board, and `morph_base`.
 #![tactic(auto)]
 

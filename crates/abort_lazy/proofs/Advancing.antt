@@ -22,7 +22,7 @@ use Rattle.abort_lazy.specs.declared.run.sweeping.Call.{Call}
 use Rattle.abort_lazy.specs.declared.run.sweeping.Call.TheVariants.{Took, Tried}
 use Rattle.op_eval.specs.Turns.{IsEnough}
 use Rattle.worker_gate.specs.Sharing.{shared_from}
-use Rattle.abort_lazy.specs.Sweeps.{IsThrough, Calls, Calling, Swept, AreSwept, FitsBoard, CanSweep, tried_by, taken_by, weight_at}
+use Rattle.abort_lazy.specs.Sweeps.{IsThrough, MakesCalls, MakesCall, Swept, AreSwept, FitsBoard, CanSweep, tried_by, taken_by, weight_at}
 use Rattle.abort_lazy.specs.Runs.{Rising, HasTried, IsSettling, AreSettling, events_of, event_in}
 use Rattle.abort_lazy.proofs.Alone.{settled_alone}
 use Rattle.abort_lazy.proofs.Levelling.{level_is, next_room, events_inside, events_few}
@@ -58,7 +58,7 @@ module _ (p : Plan) where
   later_only l c cs only k n found = only k n (contains_later c cs (Took k n) found)
 
   -- other counters are as they were
-  calls_times : (c l : ℕ) → c ≢ l → (cs : List Call) (a b : Runner) → ((k n : ℕ) → Contains cs (Took k n) → k ≡ l) → Calls p cs a b → times c (hand_view b).places ≡ times c (hand_view a).places
+  calls_times : (c l : ℕ) → c ≢ l → (cs : List Call) (a b : Runner) → ((k n : ℕ) → Contains cs (Took k n) → k ≡ l) → MakesCalls p cs a b → times c (hand_view b).places ≡ times c (hand_view a).places
   calls_times c l other [] a b only calls = ap (λ r. times c (hand_view r).places) calls
   calls_times c l other (Took k n ∷ cs) a b only calls =
       let same : k ≡ l = only k n (contains_first (Took k n) cs) in
@@ -116,8 +116,8 @@ module _ (p : Plan) (valid : IsPlan p) (graph : IsGraph p) (from level : ℕ) (l
     in_old : (x : Call) → Contains before.calls x → Contains (swept.calls ++ before.calls) x
     in_old x found = Contains-append_right swept.calls before.calls x found
 
-    made_all : Calls p (swept.calls ++ before.calls) a b
-    made_all = in_turn_append (Calling p) swept.calls before.calls a m b before.made swept.made
+    made_all : MakesCalls p (swept.calls ++ before.calls) a b
+    made_all = in_turn_append (MakesCall p) swept.calls before.calls a m b before.made swept.made
 
     rising_all : Rising p (swept.calls ++ before.calls)
     rising_all =
@@ -191,7 +191,7 @@ module _ (p : Plan) (valid : IsPlan p) (graph : IsGraph p) (from level : ℕ) (l
       joined = calls_joined p swept.calls m b swept.made ∙ old.joined;
     }
 
-  enough_hold : (c many : ℕ) (calls : List Call) (m b : Runner) → Calls p calls m b → IsEnough c many m → IsEnough c many b
+  enough_hold : (c many : ℕ) (calls : List Call) (m b : Runner) → MakesCalls p calls m b → IsEnough c many m → IsEnough c many b
   enough_hold c many calls m b made is =
       elim is [ inl none ↦ inl none | inr last ↦ inr (last.0, calls_hold p calls m b made (place c last.0) last.1, last.2) ]
 

@@ -12,7 +12,7 @@ use Rattle.op_words.specs.declared.trail.Item.{Item}
 use Rattle.op_words.specs.declared.trail.RecordSeen.{RecordSeen}
 use Rattle.op_words.specs.declared.trail.View.{View}
 use Rattle.op_words.specs.Counting.{taking}
-use Rattle.op_words.specs.Views.{IsLone, IsTrailNoted, IsSettledSeen, IsSourceSeen, Goes}
+use Rattle.op_words.specs.Views.{IsLone, IsTrailNoted, IsSettledSeen, IsSourceSeen, AddsAndFrees}
 use Rattle.op_words.proofs.Trailing.{calm_open}
 use Rattle.op_eval.specs.declared.runner.Runner.{Runner}
 use Rattle.op_eval.specs.Running.{hand_view}
@@ -22,7 +22,7 @@ use Rattle.abort_lazy.specs.declared.run.sweeping.Call.TheVariants.{Took, Tried}
 use Rattle.abort_lazy.specs.declared.transaction.TxnAnswer.{TxnAnswer}
 use Rattle.abort_lazy.specs.declared.transaction.TxnAnswer.TheVariants.{Settled as AllSettled, NotYet, Busy}
 use Rattle.abort_lazy.specs.Transactions.{IsSettledOn, is_all_settled}
-use Rattle.abort_lazy.specs.Sweeps.{left_of, Calls}
+use Rattle.abort_lazy.specs.Sweeps.{left_of, MakesCalls}
 use Rattle.abort_lazy.proofs.Ending.{of_event}
 use Rattle.abort_lazy.proofs.Trying.{calls_lone, calls_noted}
 
@@ -33,7 +33,7 @@ pub record KnowsMore (v u : View) : Type 0 where
   pub notes : (n : Item) → Contains v.notes n → Contains u.notes n
   pub records : (r : RecordSeen) → Contains v.records r → Contains u.records r
 
-goes_knows : {v u : View} {xs : List Item} → Goes v u xs → KnowsMore v u
+goes_knows : {v u : View} {xs : List Item} → AddsAndFrees v u xs → KnowsMore v u
 goes_knows {v} {u} {xs} goes = record {
   notes = λ n inside. subst (λ l. Contains l n) (sym goes.adds.notes) (Contains-append_left v.notes xs n inside);
   records = goes.adds.records;
@@ -113,7 +113,7 @@ kept_none i (Busy at w) none = absurd (let long = ap length none in omega (arith
 -- ---- a lone root
 
 -- one that tries an event sees no operation of another event settled that it had not seen so before
-other_unseen : {v u : View} {xs : List Item} (o : ℕ) → Goes v u xs → IsLone v → IsTrailNoted v → ((t : Item) → Contains xs t → t.own ≡ true → t.op ≡ o → ⊥)
+other_unseen : {v u : View} {xs : List Item} (o : ℕ) → AddsAndFrees v u xs → IsLone v → IsTrailNoted v → ((t : Item) → Contains xs t → t.own ≡ true → t.op ≡ o → ⊥)
     → (IsSettledSeen v o → ⊥) → IsSettledSeen u o → ⊥
 other_unseen {v} {u} {xs} o goes lone noted apart unseen seen =
     elim (Contains-append_cases v.notes xs seen.note (subst (λ l. Contains l seen.note) goes.adds.notes seen.inside)) [
@@ -125,7 +125,7 @@ other_unseen {v} {u} {xs} o goes lone noted apart unseen seen =
     ]
 
 module _ (p : Plan) (valid : IsPlan p) (o : ℕ) (lt : o < op_count p) where
-  pub settles_on : (cs : List Call) (a b : Runner) → IsLone (hand_view a) → IsTrailNoted (hand_view a) → Calls p cs a b → b.kept.items ≡ []
+  pub settles_on : (cs : List Call) (a b : Runner) → IsLone (hand_view a) → IsTrailNoted (hand_view a) → MakesCalls p cs a b → b.kept.items ≡ []
       → (IsSettledSeen (hand_view a) o → ⊥) → IsSettledSeen (hand_view b) o → IsSettledOn p (hand_view b) o
   settles_on [] a b lone noted calls none unseen seen = absurd (unseen (subst (λ r. IsSettledSeen (hand_view r) o) calls seen))
   settles_on (Took c n ∷ cs) a b lone noted calls none unseen seen =

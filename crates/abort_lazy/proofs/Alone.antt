@@ -16,7 +16,7 @@ use Rattle.abort_lazy.specs.declared.run.sweeping.Call.TheVariants.{Took, Tried}
 use Rattle.abort_lazy.specs.declared.transaction.TxnAnswer.{TxnAnswer}
 use Rattle.abort_lazy.specs.declared.transaction.TxnAnswer.TheVariants.{Settled as AllSettled, NotYet, Busy}
 use Rattle.abort_lazy.specs.Transactions.{is_all_settled}
-use Rattle.abort_lazy.specs.Sweeps.{left_of, Calls, Swept, IsThrough}
+use Rattle.abort_lazy.specs.Sweeps.{left_of, MakesCalls, Swept, IsThrough}
 use Rattle.abort_lazy.specs.Runs.{events_of, event_in, AreSettledUpTo, HasSettledAlone, AreSettling, IsSettledByRoot}
 use Rattle.abort_lazy.proofs.Carrying.{seen_more}
 use Rattle.abort_lazy.proofs.Levelling.{events_is, level_is, levels_len}
@@ -58,7 +58,7 @@ module _ (p : Plan) (valid : IsPlan p) (graph : IsGraph p) where
     pub now : (i : ℕ) → Contains cs (Tried i) → (o : ℕ) → InEvent p i o → IsSettledSeen (hand_view b) o
 
   calls_settle : (level : ℕ) (cs : List Call) (m b : Runner) → IsLone (hand_view m) → AreSettledUpTo p level (hand_view m) → ((i : ℕ) → Contains cs (Tried i) → (event_at p i).level ≡ level + 1)
-      → Calls p cs m b → IsDone level cs m b
+      → MakesCalls p cs m b → IsDone level cs m b
   calls_settle level [] m b lone up of_level calls = record {
     before = subst (λ r. AreSettledUpTo p level (hand_view r)) (sym calls) up;
     none = ap (λ r. r.kept.items) calls;

@@ -13,7 +13,7 @@ use Rattle.morph_base.specs.Words.{is_settled, is_idle, is_evaluated}
 use Rattle.op_words.specs.declared.trail.Item.{Item}
 use Rattle.op_words.specs.declared.trail.View.{View}
 use Rattle.op_words.specs.Trails.{loaded, HasLast, IsDisturbed, IsShaken, IsSteadyAt, IsCalmAt, NoneOwn}
-use Rattle.op_words.specs.Views.{IsSettledSeen, IsSourceSeen, IsRecordSeen, IsJudged, IsLone, Goes}
+use Rattle.op_words.specs.Views.{IsSettledSeen, IsSourceSeen, IsRecordSeen, IsJudged, IsLone, AddsAndFrees}
 use Rattle.op_words.specs.Calls.{IsSettledRead, IsSourceOpen}
 use Rattle.op_words.specs.Judging.{IsStaleAt}
 use Rattle.op_words.specs.Retrying.{IsOwnUnrolled, IsUpToDate}
@@ -23,7 +23,7 @@ use Rattle.op_eval.specs.Evaluations.{IsAlready}
 use Rattle.op_eval.proofs.Following.{one_is_last, one_none, found_other}
 use Rattle.abort_lazy.specs.Transactions.{AreSourcesSeen}
 
-module _ {v u : View} {xs : List Item} (goes : Goes v u xs) where
+module _ {v u : View} {xs : List Item} (goes : AddsAndFrees v u xs) where
   -- ---- what was seen is seen
 
   pub seen_more : {o : ℕ} → IsSettledSeen v o → IsSettledSeen u o

@@ -17,7 +17,7 @@ use Rattle.interleaving_core.proofs.Basics.{count_some}
 use Rattle.op_words.specs.declared.board.Board.{Board}
 use Rattle.op_words.specs.declared.trail.Item.{Item}
 use Rattle.op_words.specs.declared.trail.View.{View}
-use Rattle.op_words.specs.Closing.{HasTrail, Ends}
+use Rattle.op_words.specs.Closing.{HasTrail, EndsSound}
 use Rattle.op_words.specs.Hands.{counters_of}
 use Rattle.op_words.specs.Trails.{left}
 use Rattle.op_words.specs.Views.{HasSettled, IsSettledSeen}
@@ -35,7 +35,7 @@ use Rattle.abort_lazy.specs.declared.transaction.TxnAnswer.{TxnAnswer}
 use Rattle.abort_lazy.specs.declared.transaction.TxnAnswer.TheVariants.{Settled as AllSettled, NotYet, Busy}
 use Rattle.abort_lazy.specs.Ended.{AreAtStart, AreCauses, IsKept, causes_of}
 use Rattle.abort_lazy.specs.Runs.{IsLeft, IsSettling, AreSettling, root_view}
-use Rattle.abort_lazy.specs.Sweeps.{Calls, left_of, tried_by}
+use Rattle.abort_lazy.specs.Sweeps.{MakesCalls, left_of, tried_by}
 use Rattle.abort_lazy.specs.Transactions.{TxnDoes, is_all_settled}
 use Rattle.abort_lazy.proofs.Carrying.{seen_more}
 use Rattle.abort_lazy.proofs.Ending.{in_range}
@@ -68,7 +68,7 @@ kept_most i j (Busy at w) = let e = kept_one i j (Busy at w) refl in omega (arit
 
 module _ (p : Plan) (i : ℕ) where
   -- no more than the event was tried
-  calls_kept : (cs : List Call) (a b : Runner) → Calls p cs a b → kept_of i b.kept.items ≤ kept_of i a.kept.items + sum_by (tried_by (is_it i)) cs
+  calls_kept : (cs : List Call) (a b : Runner) → MakesCalls p cs a b → kept_of i b.kept.items ≤ kept_of i a.kept.items + sum_by (tried_by (is_it i)) cs
   calls_kept [] a b calls = let same = ap (λ r. kept_of i r.kept.items) calls in omega (arith, same)
   calls_kept (Took c n ∷ cs) a b calls =
       let before = calls_kept cs a calls.0 calls.1 in
@@ -92,7 +92,7 @@ module _ (p : Plan) (i : ℕ) where
   answer_told v u (NotYet at w) does = let e = kept_one i i (NotYet at w) refl in let is : is_it i i ≡ 1 = cond-true (eqb i i) 1 0 (eq-eqb i i refl) in inr (omega (arith, e, is))
   answer_told v u (Busy at w) does = let e = kept_one i i (Busy at w) refl in let is : is_it i i ≡ 1 = cond-true (eqb i i) 1 0 (eq-eqb i i refl) in inr (omega (arith, e, is))
 
-  calls_answered : (cs : List Call) (a b : Runner) → Calls p cs a b → Contains cs (Tried i) → IsAnswered b
+  calls_answered : (cs : List Call) (a b : Runner) → MakesCalls p cs a b → Contains cs (Tried i) → IsAnswered b
   calls_answered [] a b calls found = absurd (contains_none (Tried i) found)
   calls_answered (Took c n ∷ cs) a b calls found =
       elim (contains_cases (Took c n) cs (Tried i) found) [
@@ -151,7 +151,7 @@ count_has {X} q (x ∷ xs) some = split (q x) refl (count_has q xs)
         let found = rest (omega (arith, some, first, none)) in
         (found.0, contains_later x xs found.0 found.1, found.2)
 
-module _ {p : Plan} {cap counters : ℕ} {ws : List ℕ} {v : View} (end : Ends p cap counters ws v) where
+module _ {p : Plan} {cap counters : ℕ} {ws : List ℕ} {v : View} (end : EndsSound p cap counters ws v) where
   -- the root has the settling of a settled word, by the worker of that word
   pub settling_of : (o : ℕ) → o < op_count p → is_settled (end.core.word o).state ≡ true → (x : Settling) × Contains v.settlings x × (x.op ≡ o) × (x.by ≡ (end.core.word o).by)
   settling_of o lt now = (mine.0, mine.1, eqb-true mine.0.op o theirs.0, eqb-true mine.0.by (end.core.word o).by theirs.1)
@@ -203,11 +203,11 @@ module _ {p : Plan} {cap counters : ℕ} {ws : List ℕ} {v : View} (end : Ends 
 -- ---- all runners
 
 module _ (p : Plan) (valid : IsValidPlan p) (b : Board) (from : ℕ) (start rs : List Runner) (d : Runner) (begun : AreAtStart from start)
-    (settling : AreSettling b p from (length p.event_levels.items) start rs) (some : 0 < length rs) {cap : ℕ} {ws : List ℕ} (end : Ends p cap (counters_of b) ws (root_view d rs)) where
+    (settling : AreSettling b p from (length p.event_levels.items) start rs) (some : 0 < length rs) {cap : ℕ} {ws : List ℕ} (end : EndsSound p cap (counters_of b) ws (root_view d rs)) where
   abbrev calls : ℕ → List Call
   calls = calls_made p valid b from start rs d begun settling some end
 
-  made : (k : ℕ) → k < length rs → Calls p (calls k) (slice_index_or start k d) (slice_index_or rs k d)
+  made : (k : ℕ) → k < length rs → MakesCalls p (calls k) (slice_index_or start k d) (slice_index_or rs k d)
   made = made_of p b from (length p.event_levels.items) start rs d settling
 
   before : (k : ℕ) → k < length rs → k < length start

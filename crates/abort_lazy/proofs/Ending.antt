@@ -18,7 +18,7 @@ use Rattle.op_words.specs.declared.answers.Decided.TheVariants.{Committed, Abort
 use Rattle.op_words.specs.declared.trail.Item.{Item}
 use Rattle.op_words.specs.declared.trail.View.{View}
 use Rattle.op_words.specs.Trails.{loaded, left, HasLast, IsDisturbed, IsSourceOf, OwnOn, OwnIn, OwnOpen, NoneOwn, ComeFirst}
-use Rattle.op_words.specs.Views.{Agrees, IsSettledSeen, IsLone, IsTrailNoted, Goes}
+use Rattle.op_words.specs.Views.{Agrees, IsSettledSeen, IsLone, IsTrailNoted, AddsAndFrees}
 use Rattle.op_words.specs.Calls.{IsSourceOpen}
 use Rattle.op_words.specs.Judging.{IsOwnUnready, IsStaleWord, IsDone, IsOwnUnsettled, SettleDoes, DecideDoes}
 use Rattle.op_words.proofs.Trailing.{cases_word, calm_open, stays_or, disturbed_more, last_later, disturbed_later}
@@ -28,7 +28,7 @@ use Rattle.op_eval.proofs.Following.{found_other, open_append, none_open}
 use Rattle.abort_lazy.specs.declared.transaction.TxnAnswer.{TxnAnswer}
 use Rattle.abort_lazy.specs.declared.transaction.TxnAnswer.TheVariants.{Settled as AllSettled, NotYet, Busy}
 use Rattle.abort_lazy.specs.Transactions.{IsSettledOn, StopsAt, TxnDoes}
-use Rattle.abort_lazy.specs.Progress.{IsReadied, Stops, ReadyDoes, AllReadyDoes, IsReadyUpTo, DecidedDoes, DecidedTells, IsOneSettled, OneDoes, OneTells, RestDoes, IsSettledUpTo}
+use Rattle.abort_lazy.specs.Progress.{IsDealtWith, StopsWithCause, ReadyDoes, AllReadyDoes, IsReadyUpTo, DecidedDoes, DecidedTells, IsOneSettled, OneDoes, OneTells, RestDoes, IsSettledUpTo}
 use Rattle.abort_lazy.proofs.Carrying.{seen_more, more_note, judged_more, found_seen, found_note, lone_undisturbed}
 use Rattle.abort_lazy.proofs.Stopping.{source_open_later, stop_source, stop_busy, stop_shaken, stops_later, ready_more, undecided_disturbed, unsettled_disturbed}
 use Rattle.abort_lazy.proofs.Readying.{cases_claimed}
@@ -46,23 +46,23 @@ pub of_event : (p : Plan) (i o : ℕ) → IsPlan p → i < event_count p → InE
 of_event p i o valid lt inside = (valid.numbering.owned i o lt inside).1
 
 -- nothing yet
-pub goes_none : {v : View} → v.claim ≡ None → Agrees v → Goes v v []
+pub goes_none : {v : View} → v.claim ≡ None → Agrees v → AddsAndFrees v v []
 goes_none {v} free agree = record { adds = adds_none v agree; free = free }
 
 -- one more operation is ready
-pub all_ready_more : (p : Plan) (i first op : ℕ) {start v u : View} {xs : List Item} → Goes start v xs → ((o : ℕ) → first ≤ o → o < op → IsReadied p o v xs) → (does : ReadyDoes p i op v u None)
-    → (o : ℕ) → first ≤ o → o < op + 1 → IsReadied p o u (xs ++ does.words)
+pub all_ready_more : (p : Plan) (i first op : ℕ) {start v u : View} {xs : List Item} → AddsAndFrees start v xs → ((o : ℕ) → first ≤ o → o < op → IsDealtWith p o v xs) → (does : ReadyDoes p i op v u None)
+    → (o : ℕ) → first ≤ o → o < op + 1 → IsDealtWith p o u (xs ++ does.words)
 all_ready_more p i first op {start} {v} {u} {xs} goes ready does o from below =
     elim (cases_eq o op) [
       | inr other ↦ ready_more does.far.goes xs (λ t inside same. not_own t inside same other t.own refl) (ready o from (omega arith))
-      | inl same ↦ subst (λ n. IsReadied p n u (xs ++ does.words)) (sym same) (now does.tells)
+      | inl same ↦ subst (λ n. IsDealtWith p n u (xs ++ does.words)) (sym same) (now does.tells)
     ]
   where
     not_own : (t : Item) → Contains does.words t → t.op ≡ o → o ≢ op → (b : Bool) → t.own ≡ b → t.own ≡ false
     not_own t inside same other true is = let op_is : t.op ≡ op = does.far.own t inside is in absurd (other (sym same ∙ op_is))
     not_own t inside same other false is = is
 
-    now : IsReadied p op u does.words → IsReadied p op u (xs ++ does.words)
+    now : IsDealtWith p op u does.words → IsDealtWith p op u (xs ++ does.words)
     now is =
         elim is [
           | inl seen ↦ inl seen
@@ -215,7 +215,7 @@ settled_stops p i first op {begin} {v} {u} {r} inside up does = record {
   own = event_own p i op inside up.words does.words up.within does.own;
   goes = goes_then up.goes does.goes;
   tells = λ start xs far ready.
-      subst (λ zs. Stops p i start u zs r) (append_assoc xs up.words does.words)
+      subst (λ zs. StopsWithCause p i start u zs r) (append_assoc xs up.words does.words)
       (does.tells start (xs ++ up.words) (goes_then far up.goes)
       (λ o within same. ready_more up.goes xs (λ t found here. not_own t found (here ∙ same) t.own refl) (ready o within tt)));
 }
@@ -275,10 +275,10 @@ module _ (p : Plan) (cap i : ℕ) {v u : View} where
                 | inr open' ↦
                     elim (cases_claimed w.state) [
                       | inl claimed ↦
-                          subst (Stops p i start u (xs ++ does.words)) (sym (same_Some r (Busy at w) (stops.claimed claimed)))
+                          subst (StopsWithCause p i start u (xs ++ does.words)) (sym (same_Some r (Busy at w) (stops.claimed claimed)))
                           (stop_busy p i whole here (last_later xs last) there claimed)
                       | inr free ↦
-                          subst (Stops p i start u (xs ++ does.words)) (sym (same_Some r (NotYet at w) (stops.other open' free)))
+                          subst (StopsWithCause p i start u (xs ++ does.words)) (sym (same_Some r (NotYet at w) (stops.other open' free)))
                           (stop_shaken p i whole here (last_later xs last) there open' (inl (subst (λ o. IsDisturbed o (xs ++ does.words)) (sym same) disturbed)))
                     ]
               ]
@@ -333,7 +333,7 @@ module _ (p : Plan) (cap i : ℕ) {v u : View} where
           ]
 
 -- deciding again
-pub decided_then : (p : Plan) (i : ℕ) {v m u : View} {xs : List Item} {r : Result Bool TxnAnswer} → Goes v m xs → NoneOwn xs → DecidedDoes p i m u r → DecidedDoes p i v u r
+pub decided_then : (p : Plan) (i : ℕ) {v m u : View} {xs : List Item} {r : Result Bool TxnAnswer} → AddsAndFrees v m xs → NoneOwn xs → DecidedDoes p i m u r → DecidedDoes p i v u r
 decided_then p i {v} {m} {u} {xs} {r} goes none does = record {
   words = xs ++ does.words;
   goes = goes_then goes does.goes;
@@ -344,13 +344,13 @@ decided_then p i {v} {m} {u} {xs} {r} goes none does = record {
     at : (r : Result Bool TxnAnswer) → DecidedTells p i m u does.words r → DecidedTells p i v u (xs ++ does.words) r
     at (Ok b) is = is
     at (Err a) is = λ start ys far ready.
-        subst (λ zs. Stops p i start u zs a) (append_assoc ys xs does.words)
+        subst (λ zs. StopsWithCause p i start u zs a) (append_assoc ys xs does.words)
         (is start (ys ++ xs) (goes_then far goes) (λ o within here. ready_more goes ys (λ t found same. none t found) (ready o within tt)))
 
 -- ---- the whole
 
 -- a lone root whose own steps settle nothing comes to see nothing settled
-lone_unseen : {v u : View} {xs : List Item} → Goes v u xs → IsLone v → IsTrailNoted v → OwnOpen xs → (o : ℕ) → (IsSettledSeen v o → ⊥) → IsSettledSeen u o → ⊥
+lone_unseen : {v u : View} {xs : List Item} → AddsAndFrees v u xs → IsLone v → IsTrailNoted v → OwnOpen xs → (o : ℕ) → (IsSettledSeen v o → ⊥) → IsSettledSeen u o → ⊥
 lone_unseen {v} {u} {xs} goes alone trail open_own o unseen seen =
     elim (Contains-append_cases v.notes xs seen.note (subst (λ zs. Contains zs seen.note) goes.adds.notes seen.inside)) [
       | inl before ↦ unseen (record { note = seen.note; inside = before; op_is = seen.op_is; settled = seen.settled })
@@ -359,7 +359,7 @@ lone_unseen {v} {u} {xs} goes alone trail open_own o unseen seen =
           (Contains-append_right v.trail xs seen.note found) seen.op_is seen.settled
     ]
 
-txn_stops : {p : Plan} {i : ℕ} {v u : View} (xs : List Item) {r : TxnAnswer} → Goes v u xs → OwnIn p i xs → Stops p i v u xs r → TxnDoes p i v u r
+txn_stops : {p : Plan} {i : ℕ} {v u : View} (xs : List Item) {r : TxnAnswer} → AddsAndFrees v u xs → OwnIn p i xs → StopsWithCause p i v u xs r → TxnDoes p i v u r
 txn_stops {p} {i} {v} {u} xs {r} goes own stops = record {
   words = xs;
   goes = goes;
@@ -401,10 +401,10 @@ module _ {p : Plan} {i : ℕ} {v m n u : View} {b : Bool} (ready : AllReadyDoes 
     };
   }
     where
-      whole : Goes v u ((ready.words ++ decided.words) ++ does.words)
+      whole : AddsAndFrees v u ((ready.words ++ decided.words) ++ does.words)
       whole = goes_then (goes_then ready.goes decided.goes) does.goes
 
-      settled_on : IsLone v → IsTrailNoted v → (o : ℕ) → (IsSettledSeen v o → ⊥) → IsReadied p o n (ready.words ++ decided.words) → IsOneSettled p i o n u does.words → IsSettledOn p u o
+      settled_on : IsLone v → IsTrailNoted v → (o : ℕ) → (IsSettledSeen v o → ⊥) → IsDealtWith p o n (ready.words ++ decided.words) → IsOneSettled p i o n u does.words → IsSettledOn p u o
       settled_on alone trail o unseen is one =
           let so_far = goes_then ready.goes decided.goes in
           elim is [

@@ -8,7 +8,7 @@ use Rattle.morph_base.specs.Graphs.{below, IsGraph, IsValidPlan}
 use Rattle.morph_base.specs.Plans.{IsPlan, event_at, event_count}
 use Rattle.morph_base.proofs.LevelLaws.{event_level-range}
 use Rattle.op_words.specs.declared.board.Board.{Board}
-use Rattle.op_words.specs.Closing.{Ends}
+use Rattle.op_words.specs.Closing.{EndsSound}
 use Rattle.op_words.specs.Hands.{counters_of}
 use Rattle.op_words.proofs.Sizes.{sum_above, sum_below}
 use Rattle.op_eval.specs.declared.runner.Runner.{Runner}
@@ -16,7 +16,7 @@ use Rattle.op_eval.specs.Running.{hand_view}
 use Rattle.abort_lazy.specs.declared.run.sweeping.Call.{Call}
 use Rattle.abort_lazy.specs.Ended.{AreAtStart, AreTries}
 use Rattle.abort_lazy.specs.Runs.{HasTried, AreSettling, events_of, root_view}
-use Rattle.abort_lazy.specs.Sweeps.{Calls, taken_by, tried_by, weight_at}
+use Rattle.abort_lazy.specs.Sweeps.{MakesCalls, taken_by, tried_by, weight_at}
 use Rattle.abort_lazy.proofs.Levelling.{events_is, levels_len}
 use Rattle.abort_lazy.proofs.Summing.{below_same, sum_filter, sum_places, sum_swap}
 use Rattle.abort_lazy.proofs.Taking.{weights_of, all_taken, calls_taken, no_events, none_taken}
@@ -75,8 +75,8 @@ module _ (p : Plan) (b : Board) (from level : ℕ) (start rs : List Runner) (d :
   pub tried_of : (k : ℕ) → k < length rs → IsTriedBy k (calls_of k)
   tried_of k less = tried_at k less (cases_lt k (length rs))
 
-  pub made_of : (k : ℕ) → k < length rs → Calls p (calls_of k) (slice_index_or start k d) (slice_index_or rs k d)
-  made_of k less = let is = tried_of k less in subst (λ cs. Calls p cs (slice_index_or start k d) (slice_index_or rs k d)) is.1 is.0.made
+  pub made_of : (k : ℕ) → k < length rs → MakesCalls p (calls_of k) (slice_index_or start k d) (slice_index_or rs k d)
+  made_of k less = let is = tried_of k less in subst (λ cs. MakesCalls p cs (slice_index_or start k d) (slice_index_or rs k d)) is.1 is.0.made
 
   -- the weights of the events that all tried are those of the numbers that they took
   module _ (begun : AreAtStart from start) (weight : ℕ → ℕ) where
@@ -109,7 +109,7 @@ module _ (p : Plan) (b : Board) (from level : ℕ) (start rs : List Runner) (d :
 -- ---- once the board is closed
 
 module _ (p : Plan) (valid : IsValidPlan p) (b : Board) (from : ℕ) (start rs : List Runner) (d : Runner) (begun : AreAtStart from start)
-    (settling : AreSettling b p from (length p.event_levels.items) start rs) (some : 0 < length rs) {cap : ℕ} {ws : List ℕ} (end : Ends p cap (counters_of b) ws (root_view d rs)) where
+    (settling : AreSettling b p from (length p.event_levels.items) start rs) (some : 0 < length rs) {cap : ℕ} {ws : List ℕ} (end : EndsSound p cap (counters_of b) ws (root_view d rs)) where
   abbrev pub calls_made : ℕ → List Call
   calls_made = calls_of p b from (length p.event_levels.items) start rs d settling
 
@@ -137,12 +137,12 @@ module _ (p : Plan) (valid : IsValidPlan p) (b : Board) (from : ℕ) (start rs :
     calls = calls_made;
     made = λ k e lt.
         let less : k < length rs = subst (λ n. k < n) (sym settling.len) lt in
-        subst (λ r. Calls p (calls_made k) (slice_index_or start k e) r) (get_or_default rs k d e less)
-        (subst (λ r. Calls p (calls_made k) r (slice_index_or rs k d)) (get_or_default start k d e lt) (made_of p b from (length p.event_levels.items) start rs d settling k less));
+        subst (λ r. MakesCalls p (calls_made k) (slice_index_or start k e) r) (get_or_default rs k d e less)
+        (subst (λ r. MakesCalls p (calls_made k) r (slice_index_or rs k d)) (get_or_default start k d e lt) (made_of p b from (length p.event_levels.items) start rs d settling k less));
     once = λ weight. ap (λ n. sum_by (λ k. sum_by (tried_by weight) (calls_made k)) (below n)) (sym settling.len) ∙ tried_once weight;
   }
 
 pub all_tried : (p : Plan) → IsValidPlan p → (b : Board) (from : ℕ) (start rs : List Runner) → AreAtStart from start → AreSettling b p from (length p.event_levels.items) start rs → 0 < length rs
-    → {cap : ℕ} {ws : List ℕ} → ((d : Runner) → Ends p cap (counters_of b) ws (root_view d rs)) → AreTries p start rs
+    → {cap : ℕ} {ws : List ℕ} → ((d : Runner) → EndsSound p cap (counters_of b) ws (root_view d rs)) → AreTries p start rs
 all_tried p valid b from start [] begun settling some end = absurd (omega (arith, some))
 all_tried p valid b from start (r ∷ rs) begun settling some end = are_tries p valid b from start (r ∷ rs) r begun settling some (end r)

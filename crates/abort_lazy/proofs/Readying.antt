@@ -17,7 +17,7 @@ use Rattle.op_words.specs.declared.answers.Rolled.TheVariants.{Done as HasRolled
 use Rattle.op_words.specs.declared.trail.Item.{Item}
 use Rattle.op_words.specs.declared.trail.View.{View}
 use Rattle.op_words.specs.Trails.{loaded, HasLast, IsDisturbed, IsShaken, OwnOn, OwnOpen, ComeFirst}
-use Rattle.op_words.specs.Views.{Goes}
+use Rattle.op_words.specs.Views.{AddsAndFrees}
 use Rattle.op_words.specs.Calls.{IsSourceOpen, PeekDoes}
 use Rattle.op_words.specs.Judging.{IsGood, IsBad, VerdictDoes}
 use Rattle.op_words.specs.Retrying.{RollDoes}
@@ -88,7 +88,7 @@ ready_here p i o inside {start} {u} {xs} {w} {r} far last seen cause stops = rec
       ];
 }
 
-module _ (p : Plan) (i o : ℕ) (inside : InEvent p i o) {start v u : View} {ys xs : List Item} (far : SoFar o start v ys) (goes : Goes v u xs) (own : OwnOn o xs) (open_own : OwnOpen xs) where
+module _ (p : Plan) (i o : ℕ) (inside : InEvent p i o) {start v u : View} {ys xs : List Item} (far : SoFar o start v ys) (goes : AddsAndFrees v u xs) (own : OwnOn o xs) (open_own : OwnOpen xs) where
   pub ready_stop : {w : OpWord} {r : Option TxnAnswer} → HasLast o xs w → Contains xs (loaded o w) → (w.state ≡ Claimed) ⊎ IsShaken p o (ys ++ xs) → StopsAt o w r → ReadyDoes p i o start u r
   ready_stop {w} last seen cause stops = ready_here p i o inside (far_then far goes own open_own) (last_later ys last) (Contains-append_right ys xs (loaded o w) seen) cause stops
 

@@ -17,8 +17,8 @@ use Rattle.op_words.specs.declared.answers.Outcome.{Outcome}
 use Rattle.op_words.specs.declared.trail.Item.{Item}
 use Rattle.op_words.specs.declared.trail.View.{View}
 use Rattle.op_words.specs.Trails.{loaded, HasLast, IsDisturbed, IsSourceOf, IsShaken, OwnOn, NoneOwn, ComeFirst}
-use Rattle.op_words.specs.Views.{IsSettledSeen, IsRecordSeen, IsJudged, Goes}
-use Rattle.op_words.specs.Calls.{IsRead, IsSettledRead, IsSourceOpen}
+use Rattle.op_words.specs.Views.{IsSettledSeen, IsRecordSeen, IsJudged, AddsAndFrees}
+use Rattle.op_words.specs.Calls.{IsReadValue, IsSettledRead, IsSourceOpen}
 use Rattle.op_words.specs.Judging.{IsStaleAt, IsStaleWord, IsOwnUnready, IsOwnUnsettled}
 use Rattle.op_words.proofs.Trailing.{cases_word, last_later, one_last, disturbed_later, disturbed_more, stays_or, changed}
 use Rattle.op_words.proofs.Adding.{lone_more}
@@ -26,8 +26,8 @@ use Rattle.op_eval.specs.Evaluations.{IsEvaluated}
 use Rattle.op_eval.proofs.Following.{claimed_other, found_other}
 use Rattle.abort_lazy.specs.declared.transaction.TxnAnswer.{TxnAnswer}
 use Rattle.abort_lazy.specs.declared.transaction.TxnAnswer.TheVariants.{Settled as AllSettled, NotYet, Busy}
-use Rattle.abort_lazy.specs.Transactions.{HasCause}
-use Rattle.abort_lazy.specs.Progress.{Stops, IsJudgedLast, IsReadied}
+use Rattle.abort_lazy.specs.Transactions.{AnswersWithCause}
+use Rattle.abort_lazy.specs.Progress.{StopsWithCause, IsJudgedLast, IsDealtWith}
 use Rattle.abort_lazy.proofs.Carrying.{seen_more, judged_more, sources_more, not_seen, no_open_source, lone_unclaimed, lone_unshaken, judged_not_stale}
 
 pub source_open_later : {p : Plan} {cap o at : ℕ} {w : OpWord} {start v u : View} (ys : List Item) {xs : List Item} → IsSourceOpen p cap o v u xs at w → IsSourceOpen p cap o start u (ys ++ xs) at w
@@ -40,8 +40,8 @@ source_open_later {p} {cap} {o} {at} {w} ys {xs} is = record {
   open_own = is.open_own;
 }
 
-module _ (p : Plan) (i : ℕ) {start u : View} {xs : List Item} (goes : Goes start u xs) where
-  pub stop_source : {cap o at : ℕ} {w : OpWord} → InEvent p i o → IsSourceOpen p cap o start u xs at w → Stops p i start u xs (NotYet at w)
+module _ (p : Plan) (i : ℕ) {start u : View} {xs : List Item} (goes : AddsAndFrees start u xs) where
+  pub stop_source : {cap o at : ℕ} {w : OpWord} → InEvent p i o → IsSourceOpen p cap o start u xs at w → StopsWithCause p i start u xs (NotYet at w)
   stop_source {cap} {o} {at} {w} inside is = record {
     stopped = refl;
     cause = inl (record { reader = o; inside = inside; source = is.source; seen = is.inside; settled = is.settled });
@@ -49,7 +49,7 @@ module _ (p : Plan) (i : ℕ) {start u : View} {xs : List Item} (goes : Goes sta
     lone = λ alone seen. no_open_source goes (seen o inside) is;
   }
 
-  pub stop_busy : {o : ℕ} {w : OpWord} → InEvent p i o → HasLast o xs w → Contains xs (loaded o w) → w.state ≡ Claimed → Stops p i start u xs (Busy o w)
+  pub stop_busy : {o : ℕ} {w : OpWord} → InEvent p i o → HasLast o xs w → Contains xs (loaded o w) → w.state ≡ Claimed → StopsWithCause p i start u xs (Busy o w)
   stop_busy {o} {w} inside last seen claimed = record {
     stopped = refl;
     cause = record { inside = inside; last = last; seen = seen; claimed = claimed; other = claimed_other goes.adds seen claimed };
@@ -57,7 +57,7 @@ module _ (p : Plan) (i : ℕ) {start u : View} {xs : List Item} (goes : Goes sta
     lone = λ alone sources. lone_unclaimed goes alone seen claimed;
   }
 
-  pub stop_shaken : {o : ℕ} {w : OpWord} → InEvent p i o → HasLast o xs w → Contains xs (loaded o w) → is_settled w.state ≡ false → IsShaken p o xs → Stops p i start u xs (NotYet o w)
+  pub stop_shaken : {o : ℕ} {w : OpWord} → InEvent p i o → HasLast o xs w → Contains xs (loaded o w) → is_settled w.state ≡ false → IsShaken p o xs → StopsWithCause p i start u xs (NotYet o w)
   stop_shaken {o} {w} inside last there open' shaken = record {
     stopped = refl;
     cause = inr (record { inside = inside; last = last; seen = there; shaken = shaken });
@@ -66,7 +66,7 @@ module _ (p : Plan) (i : ℕ) {start u : View} {xs : List Item} (goes : Goes sta
   }
 
 -- what stops a call stops the one that it is a part of
-pub stops_later : {p : Plan} {i : ℕ} {start v u : View} {ys xs : List Item} {r : TxnAnswer} → Goes start v ys → Stops p i v u xs r → Stops p i start u (ys ++ xs) r
+pub stops_later : {p : Plan} {i : ℕ} {start v u : View} {ys xs : List Item} {r : TxnAnswer} → AddsAndFrees start v ys → StopsWithCause p i v u xs r → StopsWithCause p i start u (ys ++ xs) r
 stops_later {p} {i} {start} {v} {u} {ys} {xs} {r} far stops = record {
   stopped = stops.stopped;
   cause = still r stops.cause;
@@ -74,7 +74,7 @@ stops_later {p} {i} {start} {v} {u} {ys} {xs} {r} far stops = record {
   lone = λ alone seen. stops.lone (lone_more far.adds alone) (λ o inside. sources_more far (seen o inside));
 }
   where
-    still : (r : TxnAnswer) → HasCause p i v u xs r → HasCause p i start u (ys ++ xs) r
+    still : (r : TxnAnswer) → AnswersWithCause p i v u xs r → AnswersWithCause p i start u (ys ++ xs) r
     still (AllSettled committed) is = is
     still (NotYet s w) is =
         elim is [
@@ -101,10 +101,10 @@ stale_again {p} {cap} {o} {attempt} {j} {kept} {value} {r} {w} {f} {a} {v} {u} {
           ])
       | inl same ↦
           let kept_is : slice_index is.values j ≡ kept = stale.alike (slice_index is.values j) (subst (λ x. IsRecordSeen v o j x (slice_index is.values j)) same (is.records.each j stale.in_places)) in
-          at (origin_at p o j) refl (subst (IsRead ys (origin_at p o j)) kept_is (is.read j stale.in_places)) stale.source
+          at (origin_at p o j) refl (subst (IsReadValue ys (origin_at p o j)) kept_is (is.read j stale.in_places)) stale.source
     ]
   where
-    at : (q : Origin) → origin_at p o j ≡ q → IsRead ys q kept → IsSettledRead xs q value → IsShaken p o (ys ++ xs)
+    at : (q : Origin) → origin_at p o j ≡ q → IsReadValue ys q kept → IsSettledRead xs q value → IsShaken p o (ys ++ xs)
     at (Base b) same read settled = absurd (stale.differs (sym read ∙ settled))
     at (Written s) same read settled =
         let source : IsSourceOf p o s = record { place = j; in_places = stale.in_places; source_is = same } in
@@ -128,9 +128,9 @@ stale_again {p} {cap} {o} {attempt} {j} {kept} {value} {r} {w} {f} {a} {v} {u} {
 
 -- ---- while it is decided and settled
 
-module _ {p : Plan} {v u : View} {xs : List Item} (goes : Goes v u xs) where
+module _ {p : Plan} {v u : View} {xs : List Item} (goes : AddsAndFrees v u xs) where
   -- what was ready stays so, or was disturbed
-  pub ready_more : {o : ℕ} (ys : List Item) → ((t : Item) → Contains xs t → t.op ≡ o → t.own ≡ false) → IsReadied p o v ys → IsReadied p o u (ys ++ xs)
+  pub ready_more : {o : ℕ} (ys : List Item) → ((t : Item) → Contains xs t → t.op ≡ o → t.own ≡ false) → IsDealtWith p o v ys → IsDealtWith p o u (ys ++ xs)
   ready_more {o} ys loads is =
       elim is [
         | inl seen ↦ inl (seen_more goes seen)
@@ -146,7 +146,7 @@ module _ {p : Plan} {v u : View} {xs : List Item} (goes : Goes v u xs) where
       ]
 
   -- no decision yet: the operation that was ready was disturbed
-  pub undecided_disturbed : {cap o : ℕ} {w : OpWord} (ys : List Item) → NoneOwn xs → (IsSettledSeen v o → ⊥) → IsReadied p o v ys
+  pub undecided_disturbed : {cap o : ℕ} {w : OpWord} (ys : List Item) → NoneOwn xs → (IsSettledSeen v o → ⊥) → IsDealtWith p o v ys
       → IsOwnUnready p cap o v u xs w ⊎ IsStaleWord p cap o v u xs w → IsDisturbed o (ys ++ xs)
   undecided_disturbed {cap} {o} {w} ys none unseen is cause =
       elim is [
@@ -174,7 +174,7 @@ module _ {p : Plan} {v u : View} {xs : List Item} (goes : Goes v u xs) where
 
   -- not settled: the operation that was ready is claimed, settled or was disturbed
   pub unsettled_disturbed : {cap o : ℕ} {w : OpWord} (ys : List Item) → (verdict p (event_of p o) ≡ true → outcome p (final p) o ≡ None → ⊥) → w.state ≢ Claimed → is_settled w.state ≡ false
-      → IsReadied p o v ys → IsOwnUnsettled p cap o v u xs w → IsDisturbed o (ys ++ xs)
+      → IsDealtWith p o v ys → IsOwnUnsettled p cap o v u xs w → IsDisturbed o (ys ++ xs)
   unsettled_disturbed {cap} {o} {w} ys answers unclaimed open' is own =
       elim is [
         | inl seen ↦ absurd (not_seen goes own.last open' (seen_more goes seen))

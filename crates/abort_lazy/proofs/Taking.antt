@@ -7,7 +7,7 @@ use Rattle.morph_base.specs.declared.plan.Plan.{Plan}
 use Rattle.morph_base.specs.Graphs.{below}
 use Rattle.op_words.specs.declared.trail.Place.{Place}
 use Rattle.op_words.specs.declared.trail.View.{View}
-use Rattle.op_words.specs.Closing.{Ends}
+use Rattle.op_words.specs.Closing.{EndsSound}
 use Rattle.op_words.specs.Counting.{place, times}
 use Rattle.op_words.specs.Layout.{counter_base}
 use Rattle.op_words.specs.Rule.{of_counter, of_joined, one, taken}
@@ -20,7 +20,7 @@ use Rattle.op_eval.specs.Running.{hand_view}
 use Rattle.abort_lazy.specs.declared.run.sweeping.Call.{Call}
 use Rattle.abort_lazy.specs.declared.run.sweeping.Call.TheVariants.{Took, Tried}
 use Rattle.abort_lazy.specs.Runs.{root_view}
-use Rattle.abort_lazy.specs.Sweeps.{Calls, taken_by, weight_at}
+use Rattle.abort_lazy.specs.Sweeps.{MakesCalls, taken_by, weight_at}
 use Rattle.abort_lazy.proofs.Summing.{below_same, sum_map, sum_none, sum_places, sum_same}
 
 -- ---- one runner
@@ -30,7 +30,7 @@ abbrev pub weights_of : ℕ → (ℕ → ℕ) → Runner → ℕ
 weights_of c weight r = sum_by (of_counter c weight) (hand_view r).places
 
 module _ (c : ℕ) (weight : ℕ → ℕ) where
-  pub calls_taken : (p : Plan) (cs : List Call) (a b : Runner) → Calls p cs a b → weights_of c weight b ≡ weights_of c weight a + sum_by (taken_by c weight) cs
+  pub calls_taken : (p : Plan) (cs : List Call) (a b : Runner) → MakesCalls p cs a b → weights_of c weight b ≡ weights_of c weight a + sum_by (taken_by c weight) cs
   calls_taken p [] a b calls = let same = ap (weights_of c weight) calls in omega (arith, same)
   calls_taken p (Took k n ∷ cs) a b calls =
       let before = calls_taken p cs a calls.0 calls.1 in
@@ -119,7 +119,7 @@ sum_weights events weight m le =
     (λ k lt. cond-true (nat_lt k (length events)) (weight (get_or events k 0)) 0 (lt-ltb k (length events) lt))
     ∙ sym (sum_places weight events 0)
 
-module _ {p : Plan} {cap counters : ℕ} {ws : List ℕ} {v : View} (end : Ends p cap counters ws v) (c : ℕ) (lt : c < counters) where
+module _ {p : Plan} {cap counters : ℕ} {ws : List ℕ} {v : View} (end : EndsSound p cap counters ws v) (c : ℕ) (lt : c < counters) where
   -- a number that was taken is below what the counter shows in the end
   pub taken_below : (n : ℕ) → 1 ≤ taken c (is_it n) v → n < slice_index ws (counter_base p + c)
   taken_below n some =

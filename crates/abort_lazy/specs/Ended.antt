@@ -1,4 +1,4 @@
--- What is known of a batch once its board is closed: each event was tried once, and why some of them were left.
+-- What is known of a batch once its board is closed: each event was tried once, and why some were left
 use Rattle.std.specs.Prelude.{◌≡◌, ◌≢◌, ℕ, ◌+◌, ◌<◌, ◌≤◌, ◌==◌, ◌⊎◌, true, false, List, [], Contains, All, count_by, sum_by, length, slice_index_or}
 use Rattle.morph_base.specs.declared.plan.Plan.{Plan}
 use Rattle.morph_base.specs.declared.word.OpState.TheVariants.{Claimed}
@@ -15,35 +15,38 @@ use Rattle.op_eval.specs.declared.runner.Runner.{Runner}
 use Rattle.op_eval.specs.Exploring.{Unused}
 use Rattle.op_eval.specs.Running.{hand_view}
 use Rattle.abort_lazy.specs.declared.run.sweeping.Call.{Call}
-use Rattle.abort_lazy.specs.Sweeps.{Calls, tried_by}
+use Rattle.abort_lazy.specs.Sweeps.{MakesCalls, tried_by}
 
 -- ---- each event once
 
--- runners that took no number from the counter `from` or a later one, and left nothing yet; no hand was joined to the root, and
--- worker w has tag w
+-- The runners took no number from the counter `from` or a later one, and left nothing yet. No hand was joined to the
+-- root, and worker w has tag w
 pub record AreAtStart (from : ℕ) (start : List Runner) : Type 0 where
   pub unused : (c : ℕ) → from ≤ c → All (Unused c) start
   pub none_kept : All (λ r. r.kept.items ≡ []) start
   pub none_joined : (d : Runner) → (hand_view (slice_index_or start 0 d)).joined ≡ []
   pub tags : (k : ℕ) (d : Runner) → k < length start → (hand_view (slice_index_or start k d)).tag ≡ k + 1
 
--- over the calls of all runners, each event of the plan was tried once, and no other
+-- Over the calls of all runners, each event of the plan was tried once, and no other
 pub record AreTries (p : Plan) (start rs : List Runner) : Type 0 where
   pub calls : ℕ → List Call
-  pub made : (k : ℕ) (d : Runner) → k < length start → Calls p (calls k) (slice_index_or start k d) (slice_index_or rs k d)
-  pub once : (weight : ℕ → ℕ) → sum_by (λ k. sum_by (tried_by weight) (calls k)) (below (length start)) ≡ sum_by weight (below (event_count p))
+  pub made : (k : ℕ) (d : Runner) → k < length start
+      → MakesCalls p (calls k) (slice_index_or start k d) (slice_index_or rs k d)
+  pub once : (weight : ℕ → ℕ)
+      → sum_by (λ k. sum_by (tried_by weight) (calls k)) (below (length start)) ≡ sum_by weight (below (event_count p))
 
 -- ---- why events were left
 
--- how many causes are kept of an event, of all
+-- How many causes are kept of event i
 abbrev pub causes_of : ℕ → List (List Left) → ℕ
 causes_of i lists = sum_by (λ list. count_by (λ x. x.event == i) list) lists
 
+-- How many causes are kept of all events
 abbrev pub causes : List (List Left) → ℕ
 causes lists = sum_by length lists
 
 module _ (p : Plan) (c : Core) (v : View) (worker : ℕ) (x : Left) (trail : List Item) where
-  -- a source of an operation of the event was not settled, and this worker did not settle it
+  -- A source of an operation of the event was not settled, and this worker did not settle it
   pub record IsLeftForSource : Type 0 where
     pub reader : ℕ
     pub inside : InEvent p x.event reader
@@ -51,21 +54,23 @@ module _ (p : Plan) (c : Core) (v : View) (worker : ℕ) (x : Left) (trail : Lis
     pub settled : is_settled x.word.state ≡ false
     pub not_mine : is_settled (c.word x.at).state ≡ true → (c.word x.at).by ≢ worker
 
-  -- an operation of the event was held by another worker, or disturbed, or a source of it
+  -- An operation of the event was held by another worker, or it or a source of it was disturbed
   pub record IsLeftForOwn : Type 0 where
     pub inside : InEvent p x.event x.at
     pub cause : ((x.word.state ≡ Claimed) × (x.word.by ≢ worker)) ⊎ IsShaken p x.at trail
 
+  -- The worker loaded the word that it kept, in this trail of its own, and for that it left the event
   pub record IsKeptIn : Type 0 where
     pub trail_is : HasTrail v worker trail
     pub seen : Contains trail (loaded x.at x.word)
     pub cause : IsLeftForSource ⊎ IsLeftForOwn
 
--- the worker loaded the word of what it kept, in its trail as the closed board shows it, and that is why it left the event
+-- The worker loaded the word that it kept, in its trail as the closed board shows it, and for that it left the event
 abbrev pub IsKept : Plan → Core → View → (worker : ℕ) → Left → Type 0
 IsKept p c v worker x = (trail : List Item) × IsKeptIn p c v worker x trail
 
--- of the lists, worker 1 first: each cause is one, an event has one at most, and one where not all of it was settled
+-- Each cause in the lists, worker 1 first, is true. An event has at most one, and it has one if not all of it was
+-- settled
 pub record AreCauses (p : Plan) (c : Core) (v : View) (lists : List (List Left)) : Type 0 where
   pub each : (k : ℕ) (d : List Left) → k < length lists → All (IsKept p c v (k + 1)) (slice_index_or lists k d)
   pub once : (i : ℕ) → causes_of i lists ≤ 1

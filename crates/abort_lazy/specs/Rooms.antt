@@ -1,4 +1,4 @@
--- The memory of a `Settled`, and how far it is filled.
+-- The memory of a `Settled`, and how far it is filled
 use Rattle.std.specs.Prelude.{◌≡◌, ℕ, ◌+◌, ◌≤◌, [], map}
 use Rattle.morph_base.specs.declared.plan.Plan.{Plan}
 use Rattle.morph_base.specs.declared.plan.Settled.{Settled}
@@ -6,7 +6,7 @@ use Rattle.morph_base.specs.Graphs.{below}
 use Rattle.morph_base.specs.Plans.{op_count, event_count, verdict}
 use Rattle.abort_lazy.specs.declared.room.Room.{Room}
 
--- empty lists, with room for the operations and the events of the plan
+-- The lists are empty, and have room for the operations and the events of the plan
 pub record IsRoomFor (p : Plan) (r : Room) : Type 0 where
   pub no_value : r.values.items ≡ []
   pub no_verdict : r.committed.items ≡ []
@@ -15,7 +15,7 @@ pub record IsRoomFor (p : Plan) (r : Room) : Type 0 where
   pub verdicts : event_count p ≤ r.committed.room
   pub workers : op_count p ≤ r.by.room
 
--- the verdicts on the first i events stand there, and there is room for the others
+-- The list has the verdicts on the first i events, and room for the others
 pub record AreDecidedSoFar (p : Plan) (i : ℕ) (r : Settled) : Type 0 where
   pub verdicts : r.committed.items ≡ map (verdict p) (below i)
   pub room : event_count p ≤ r.committed.room + i

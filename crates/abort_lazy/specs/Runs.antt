@@ -1,4 +1,4 @@
--- What becomes of a batch that was explored: all events are tried, level by level.
+-- What becomes of a batch that was explored: all events are tried, level by level
 use Rattle.std.specs.Prelude.{◌≡◌, ◌≢◌, ℕ, ◌+◌, ◌<◌, ◌≤◌, ◌⊎◌, true, false, List, [], ◌∷◌, Contains, None, drop, map, filter, nat_lt, length, slice_index_or, sum_by}
 use Rattle.morph_base.specs.declared.plan.Plan.{Plan}
 use Rattle.morph_base.specs.declared.word.OpState.TheVariants.{Claimed}
@@ -24,12 +24,13 @@ use Rattle.abort_lazy.specs.declared.run.sweeping.Call.{Call}
 use Rattle.abort_lazy.specs.declared.run.sweeping.Call.TheVariants.{Took, Tried}
 use Rattle.op_eval.specs.Turns.{IsEnough}
 use Rattle.worker_gate.specs.Sharing.{shared_from}
-use Rattle.abort_lazy.specs.Sweeps.{Calls, tried_by, taken_by, weight_at}
+use Rattle.abort_lazy.specs.Sweeps.{MakesCalls, tried_by, taken_by, weight_at}
 
 -- ---- why an event was left, over the whole trail of the hand that tried it
 
 module _ (p : Plan) (i tag : ℕ) (trail : List Item) (at : ℕ) (w : OpWord) where
-  -- a source of an operation of the event was loaded, and was not settled; this hand did not settle it either, before or later
+  -- A source of an operation of the event was loaded, and was not settled. This hand did not settle it either, before
+  -- or later
   pub record IsLeftBySource : Type 0 where
     pub reader : ℕ
     pub inside : InEvent p i reader
@@ -38,33 +39,36 @@ module _ (p : Plan) (i tag : ℕ) (trail : List Item) (at : ℕ) (w : OpWord) wh
     pub settled : is_settled w.state ≡ false
     pub not_mine : (t : Item) → Contains trail t → t.own ≡ true → t.op ≡ at → is_settled t.word.state ≡ true → ⊥
 
-  -- an operation of the event was loaded, which another hand held, or which was disturbed, or a source of it
+  -- An operation of the event was loaded. Another hand held it, or it or a source of it was disturbed
   pub record IsLeftByOwn : Type 0 where
     pub inside : InEvent p i at
     pub seen : Contains trail (loaded at w)
     pub cause : ((w.state ≡ Claimed) × (w.by ≢ tag)) ⊎ IsShaken p at trail
 
+  -- Event i was left for one of these two causes, over the whole trail of the hand that tried it
   abbrev pub IsLeft : Type 0
   IsLeft = IsLeftBySource ⊎ IsLeftByOwn
 
 -- ---- levels of events
 
--- the events of the level of this number, from 0 on, and each of them
+-- The events of the level of this number, from 0 on
 abbrev pub events_of : Plan → ℕ → List ℕ
 events_of p l = slice_index_or (map (λ list. list.items) p.event_levels.items) l []
 
+-- The event with number n in this level
 abbrev pub event_in : Plan → ℕ → ℕ → ℕ
 event_in p l n = slice_index_or (events_of p l) n 0
 
--- how many events are of a level above this one
+-- How many events are of a level above this one
 abbrev pub to_come : Plan → ℕ → ℕ
 to_come p level = length (filter (λ i. nat_lt level (event_at p i).level) (below (event_count p)))
 
--- the view has a settled word of each operation of the events up to the level
+-- The hand saw each operation of the events up to the level settled
 abbrev pub AreSettledUpTo : Plan → ℕ → View → Type 0
-AreSettledUpTo p level v = (i : ℕ) → i < event_count p → (event_at p i).level ≤ level → (o : ℕ) → InEvent p i o → IsSettledSeen v o
+AreSettledUpTo p level v =
+    (i : ℕ) → i < event_count p → (event_at p i).level ≤ level → (o : ℕ) → InEvent p i o → IsSettledSeen v o
 
--- events are tried by rising level
+-- Events were tried by rising level
 abbrev pub Rising : Plan → List Call → Type 0
 Rising p [] = Unit {0}
 Rising p (Took c n ∷ cs) = Rising p cs
@@ -72,24 +76,28 @@ Rising p (Tried j ∷ cs) = ((i : ℕ) → Contains cs (Tried i) → (event_at p
 
 -- ---- the runners
 
--- what a runner did up to a level: it took numbers from the levels' counters, and tried the events of these numbers, each as often
--- as its number was taken, and no others
+-- The runner took numbers from the counters of the levels up to this one, and tried the events of these numbers, each
+-- as often as its number was taken, and no others
 pub record HasTried (p : Plan) (from level : ℕ) (a b : Runner) : Type 0 where
   pub calls : List Call
-  pub made : Calls p calls a b
+  pub made : MakesCalls p calls a b
   pub turns : (weight : ℕ → ℕ)
-      → sum_by (tried_by weight) calls ≡ sum_by (λ l. sum_by (taken_by (from + l) (weight_at (events_of p l) weight)) calls) (below level)
+      → sum_by (tried_by weight) calls
+      ≡ sum_by (λ l. sum_by (taken_by (from + l) (weight_at (events_of p l) weight)) calls) (below level)
   pub rising : Rising p calls
   pub below : (i : ℕ) → Contains calls (Tried i) → (event_at p i).level ≤ level
   pub only : (c n : ℕ) → Contains calls (Took c n) → (l : ℕ) × (l < level) × (c ≡ from + l)
-  pub tried : (l n : ℕ) → Contains calls (Took (from + l) n) → n < length (events_of p l) → Contains calls (Tried (event_in p l n))
+  pub tried : (l n : ℕ) → Contains calls (Took (from + l) n) → n < length (events_of p l)
+      → Contains calls (Tried (event_in p l n))
   pub inside : (i : ℕ) → Contains calls (Tried i)
-      → (l : ℕ) × (n : ℕ) × (l < level) × (n < length (events_of p l)) × (event_in p l n ≡ i) × Contains calls (Took (from + l) n)
-  -- each cause that it kept is that of an event that it tried, and true of its whole trail
+      → (l : ℕ) × (n : ℕ) × (l < level) × (n < length (events_of p l)) × (event_in p l n ≡ i)
+      × Contains calls (Took (from + l) n)
+  -- Each cause that it kept is that of an event that it tried, and is true of its whole trail
   pub left : (x : Left) → a.kept.items ≡ [] → Contains b.kept.items x
       → Contains calls (Tried x.event) × IsLeft p x.event (hand_view b).tag (hand_view b).trail x.at x.word
 
--- it holds nothing, took nothing from the counters of the levels to come, and has room for what their events leave
+-- The runner is between two levels: it holds nothing, took no number from the counters of the levels to come, and has
+-- room for what their events leave
 pub record IsSettling (b : Board) (p : Plan) (from level : ℕ) (before now : Runner) : Type 0 where
   pub tried : HasTried p from level before now
   pub hand : IsHandOf b now.hand
@@ -101,47 +109,53 @@ pub record IsSettling (b : Board) (p : Plan) (from level : ℕ) (before now : Ru
   pub journal_room : (hand_view now).room ≡ (hand_view before).room
   pub joined : (hand_view now).joined ≡ (hand_view before).joined
 
--- a lone root has settled all up to the level, and left nothing
+-- The lone root has settled everything up to the level, and left nothing
 pub record HasSettledAlone (p : Plan) (level : ℕ) (before now : Runner) : Type 0 where
   pub settled : AreSettledUpTo p level (hand_view now)
   pub none : now.kept.items ≡ before.kept.items
 
--- all runners; for each level, which has a counter of the board, one of them saw its counter at the end, and each of them where they
--- share the level. Of any other level the first alone took numbers
+-- All runners are between two levels. For each level passed, which has a counter of the board, one runner saw the
+-- counter run out, and each of them did if they share the level. In any other level only the first took numbers
 pub record AreSettling (b : Board) (p : Plan) (from level : ℕ) (start rs : List Runner) : Type 0 where
   pub counters : from + level ≤ counters_of b
   pub len : length rs ≡ length start
-  pub each : (k : ℕ) (d : Runner) → k < length rs → IsSettling b p from level (slice_index_or start k d) (slice_index_or rs k d)
-  pub enough : (l : ℕ) → l < level → (k : ℕ) × (k < length rs) × ((d : Runner) → IsEnough (from + l) (length (events_of p l)) (slice_index_or rs k d))
-  pub first : (l : ℕ) → l < level → length (events_of p l) < shared_from → (k : ℕ) (d : Runner) → 0 < k → k < length rs → Unused (from + l) (slice_index_or rs k d)
+  pub each : (k : ℕ) (d : Runner) → k < length rs
+      → IsSettling b p from level (slice_index_or start k d) (slice_index_or rs k d)
+  pub enough : (l : ℕ) → l < level
+      → (k : ℕ) × (k < length rs)
+      × ((d : Runner) → IsEnough (from + l) (length (events_of p l)) (slice_index_or rs k d))
+  pub first : (l : ℕ) → l < level → length (events_of p l) < shared_from → (k : ℕ) (d : Runner) → 0 < k → k < length rs
+      → Unused (from + l) (slice_index_or rs k d)
   pub shared : (l : ℕ) → l < level → shared_from ≤ length (events_of p l) → (k : ℕ) (d : Runner) → k < length rs
       → IsEnough (from + l) (length (events_of p l)) (slice_index_or rs k d)
   pub alone : length start ≡ 1 → (d : Runner) → IsLone (hand_view (slice_index_or start 0 d))
       → HasSettledAlone p level (slice_index_or start 0 d) (slice_index_or rs 0 d)
 
--- the runner has seen each operation settled, and left nothing
+-- The runner saw each operation settled, and left nothing
 pub record HasSettledAll (p : Plan) (r : Runner) : Type 0 where
   pub settled : (o : ℕ) → o < op_count p → IsSettledSeen (hand_view r) o
   pub none : r.kept.items ≡ []
 
--- where the root is the only hand ever made
+-- If the root is the only hand ever made, it has settled everything
 abbrev pub IsSettledByRoot : Plan → List Runner → List Runner → Type 0
 IsSettledByRoot p start rs =
-    length start ≡ 1 → (d : Runner) → IsLone (hand_view (slice_index_or start 0 d)) → HasSettledAll p (slice_index_or rs 0 d)
+    length start ≡ 1 → (d : Runner) → IsLone (hand_view (slice_index_or start 0 d))
+    → HasSettledAll p (slice_index_or rs 0 d)
 
 -- ---- the end
 
--- each hand that the root made is that of one of the runners, or was joined before
+-- Each hand that the root made is that of one of the runners, or was joined before
 abbrev pub AreAllHands : List Runner → Type 0
 AreAllHands rs =
     (t : ℕ) (d : Runner) → 1 < t → t ≤ (hand_view (slice_index_or rs 0 d)).made
-    → IsJoined (hand_view (slice_index_or rs 0 d)) t ⊎ ((k : ℕ) × (0 < k) × (k < length rs) × ((hand_view (slice_index_or rs k d)).tag ≡ t))
+    → IsJoined (hand_view (slice_index_or rs 0 d)) t
+    ⊎ ((k : ℕ) × (0 < k) × (k < length rs) × ((hand_view (slice_index_or rs k d)).tag ≡ t))
 
--- the runners can be gathered
+-- The runners can be gathered
 pub record IsSettledRun (r : SettledRun) : Type 0 where
   pub places : HasPlaces r.runners
   pub rest : AreAtRest r.board (runners_of r.runners)
 
--- the root's view after the others were joined into it
+-- The root's view after the other runners' hands were joined into it
 abbrev pub root_view : Runner → List Runner → View
 root_view d rs = gathered (hand_view (slice_index_or rs 0 d)) (map hand_view (drop 1 rs))

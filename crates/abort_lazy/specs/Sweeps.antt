@@ -1,4 +1,4 @@
--- Events tried in turn, by runners that take their numbers from counters.
+-- Events tried in turn, by runners that take their numbers from counters
 use Rattle.std.specs.Prelude.{◌≡◌, ℕ, ◌+◌, ◌<◌, ◌≤◌, ◌⊎◌, ◌^◌, true, false, if◌then◌else◌, nat_lt, ◌==◌, List, [], ◌∷◌, ◌++◌, Contains, None, All, length, slice_index_or, sum_by}
 use Rattle.morph_base.specs.declared.plan.Plan.{Plan}
 use Rattle.morph_base.specs.Plans.{event_at, event_count}
@@ -19,13 +19,14 @@ use Rattle.abort_lazy.specs.declared.transaction.TxnAnswer.{TxnAnswer}
 use Rattle.abort_lazy.specs.declared.transaction.TxnAnswer.TheVariants.{Settled as AllSettled, NotYet, Busy}
 use Rattle.abort_lazy.specs.Transactions.{TxnDoes, counted_all}
 
--- what is kept of an answer
+-- What is kept of an answer: nothing if all is settled, else its cause
 abbrev pub left_of : ℕ → TxnAnswer → List Left
 left_of i (AllSettled committed) = []
 left_of i (NotYet at w) = record { event = i; at = at; word = w; busy = false } ∷ []
 left_of i (Busy at w) = record { event = i; at = at; word = w; busy = true } ∷ []
 
--- the runner tried event i: it keeps of the answer what is to be kept, and counted what `evaluate` answered on the way
+-- The runner tried event i. It keeps the cause if the event was not settled, and counted what `evaluate` answered on
+-- the way
 pub record HasTriedOne (p : Plan) (i : ℕ) (a b : Runner) : Type 0 where
   pub answer : TxnAnswer
   pub does : TxnDoes p i (hand_view a) (hand_view b) answer
@@ -35,75 +36,84 @@ pub record HasTriedOne (p : Plan) (i : ℕ) (a b : Runner) : Type 0 where
   pub kept : b.kept.items ≡ a.kept.items ++ left_of i answer
   pub room : a.kept.room ≤ b.kept.room + 1
 
--- one call; and calls in turn, the last first
-abbrev pub Calling : Plan → Call → Runner → Runner → Type 0
-Calling p (Took c n) a b = TakesNumber c n a b
-Calling p (Tried i) a b = (i < event_count p) × HasTriedOne p i a b
+-- The call led from runner a to runner b: the runner took a number, or tried an event
+abbrev pub MakesCall : Plan → Call → Runner → Runner → Type 0
+MakesCall p (Took c n) a b = TakesNumber c n a b
+MakesCall p (Tried i) a b = (i < event_count p) × HasTriedOne p i a b
 
-abbrev pub Calls : Plan → List Call → Runner → Runner → Type 0
-Calls p = InTurn (Calling p)
+-- The calls, the last one first, led from runner a to runner b
+abbrev pub MakesCalls : Plan → List Call → Runner → Runner → Type 0
+MakesCalls p = InTurn (MakesCall p)
 
--- the weight of the event that a call tried, and of the number that it took from counter c
+-- The weight of the event that the call tried
 abbrev pub tried_by : (ℕ → ℕ) → Call → ℕ
 tried_by weight (Took c n) = 0
 tried_by weight (Tried i) = weight i
 
+-- The weight of the number that the call took from counter c
 abbrev pub taken_by : ℕ → (ℕ → ℕ) → Call → ℕ
 taken_by c weight (Took k n) = if k == c then weight n else 0
 taken_by c weight (Tried i) = 0
 
--- the weight of the event of this number, and 0 past the last one
+-- The weight of the event with this number in a level, or 0 past the last one
 abbrev pub weight_at : List ℕ → (ℕ → ℕ) → ℕ → ℕ
 weight_at events weight n = if nat_lt n (length events) then weight (slice_index_or events n 0) else 0
 
--- the board has the plan and the counter, and the events are the plan's
+-- The board has the plan and the counter, and the events are the plan's
 pub record FitsBoard (b : Board) (p : Plan) (c : ℕ) (events : List ℕ) : Type 0 where
   pub plan : p ≡ plan_of b
   pub counter : c < counters_of b
   pub inside : All (λ i. i < event_count p) events
   pub few : length events < 2 ^ 32
 
--- the runner holds nothing, took nothing from the counter, and has room for what the events leave
+-- The runner holds nothing, took no number from the counter, and has room for what the events leave
 pub record CanSweep (b : Board) (c : ℕ) (events : List ℕ) (r : Runner) : Type 0 where
   pub hand : IsHandOf b r.hand
   pub free : (hand_view r).claim ≡ None
   pub unused : Unused c r
   pub room : length events ≤ r.kept.room
 
--- it took numbers from the counter, and tried the events of these numbers, each as often as its number was taken, and no others
+-- The runner took numbers from the counter, and tried the events of these numbers, each as often as its number was
+-- taken, and no others
 pub record Swept (p : Plan) (c : ℕ) (events : List ℕ) (a b : Runner) : Type 0 where
   pub calls : List Call
-  pub made : Calls p calls a b
+  pub made : MakesCalls p calls a b
   pub only : (k n : ℕ) → Contains calls (Took k n) → k ≡ c
-  pub tried : (n : ℕ) → Contains calls (Took c n) → n < length events → Contains calls (Tried (slice_index_or events n 0))
+  pub tried :
+      (n : ℕ) → Contains calls (Took c n) → n < length events → Contains calls (Tried (slice_index_or events n 0))
   pub inside : (i : ℕ) → Contains calls (Tried i)
       → (n : ℕ) × (n < length events) × (slice_index_or events n 0 ≡ i) × Contains calls (Took c n)
   pub turns : (weight : ℕ → ℕ) → sum_by (tried_by weight) calls ≡ sum_by (taken_by c (weight_at events weight)) calls
   pub room : a.kept.room ≤ b.kept.room + length events
-  -- a lone root takes the numbers from 0 on
+  -- A lone root takes the numbers from 0 on
   pub whole : IsLone (hand_view a) → (n : ℕ) → n < times c (hand_view b).places → Contains calls (Took c n)
 
--- the runner saw the counter at or past the last event; a lone root took as many numbers as there are events
+-- The runner saw the counter run out. A lone root took at least as many numbers as there are events
 pub record IsThrough (c : ℕ) (events : List ℕ) (a b : Runner) : Type 0 where
   pub enough : IsEnough c (length events) b
   pub alone : IsLone (hand_view a) → length events ≤ times c (hand_view b).places
 
+-- The runner took numbers and tried events until it saw the counter run out
 pub record HasSwept (b : Board) (p : Plan) (c : ℕ) (events : List ℕ) (before after : Runner) : Type 0 where
   pub hand : IsHandOf b after.hand
   pub swept : Swept p c events before after
   pub through : IsThrough c events before after
 
--- all runners took part or none but the first, and one of them saw the counter at the end, or each of them where they share the level
+-- Each runner took numbers and tried events, and one of them saw the counter run out. If the level is shared, each of
+-- them did; else only the first took part
 pub record AreSwept (b : Board) (p : Plan) (c : ℕ) (events : List ℕ) (before after : List Runner) : Type 0 where
   pub len : length after ≡ length before
   pub hands : All (λ r. IsHandOf b r.hand) after
-  pub each : (k : ℕ) (d : Runner) → k < length before → Swept p c events (slice_index_or before k d) (slice_index_or after k d)
-  pub through : (k : ℕ) × (k < length before) × ((d : Runner) → IsThrough c events (slice_index_or before k d) (slice_index_or after k d))
-  pub first : length events < shared_from → (k : ℕ) (d : Runner) → 0 < k → k < length before → slice_index_or after k d ≡ slice_index_or before k d
+  pub each :
+      (k : ℕ) (d : Runner) → k < length before → Swept p c events (slice_index_or before k d) (slice_index_or after k d)
+  pub through : (k : ℕ) × (k < length before)
+      × ((d : Runner) → IsThrough c events (slice_index_or before k d) (slice_index_or after k d))
+  pub first : length events < shared_from → (k : ℕ) (d : Runner) → 0 < k → k < length before
+      → slice_index_or after k d ≡ slice_index_or before k d
   pub shared : shared_from ≤ length events → (k : ℕ) (d : Runner) → k < length before
       → IsThrough c events (slice_index_or before k d) (slice_index_or after k d)
 
--- after so many turns
+-- The runner has taken this many numbers so far
 pub record IsSweeping (b : Board) (p : Plan) (c : ℕ) (events : List ℕ) (turn : ℕ) (before now : Runner) : Type 0 where
   pub hand : IsHandOf b now.hand
   pub swept : Swept p c events before now

@@ -1,5 +1,4 @@
--- What the settling of one transaction on the shared board tells: of each answer its cause, by the words that were loaded and left
--- in the call.
+-- What settling one transaction says: the cause of each answer, by the words loaded and left in the call
 use Rattle.std.specs.Prelude.{◌≡◌, ◌↔◌, ◌≢◌, ℕ, ◌≤◌, ◌⊎◌, Bool, true, false, List, [], ◌∷◌, length, Contains, Option, Some, None}
 use Rattle.morph_base.specs.declared.plan.Plan.{Plan}
 use Rattle.morph_base.specs.declared.word.OpState.TheVariants.{Claimed}
@@ -9,7 +8,7 @@ use Rattle.morph_base.specs.Words.{is_settled}
 use Rattle.op_words.specs.declared.trail.Item.{Item}
 use Rattle.op_words.specs.declared.trail.View.{View}
 use Rattle.op_words.specs.Trails.{loaded, HasLast, IsSourceOf, IsShaken, OwnIn}
-use Rattle.op_words.specs.Views.{IsJudged, IsLone, IsSettledSeen, Goes}
+use Rattle.op_words.specs.Views.{IsJudged, IsLone, IsSettledSeen, AddsAndFrees}
 use Rattle.op_eval.specs.declared.answers.Answers.{Answers}
 use Rattle.op_eval.specs.declared.answers.Evaluation.{Evaluation}
 use Rattle.op_eval.specs.declared.runner.Runner.{Runner}
@@ -17,30 +16,32 @@ use Rattle.op_eval.specs.Running.{counted}
 use Rattle.abort_lazy.specs.declared.transaction.TxnAnswer.{TxnAnswer}
 use Rattle.abort_lazy.specs.declared.transaction.TxnAnswer.TheVariants.{Settled as AllSettled, NotYet, Busy}
 
--- the view has a settled word of each source of the operation
+-- The hand saw each source of operation o settled
 pub record AreSourcesSeen (p : Plan) (v : View) (o : ℕ) : Type 0 where
   pub each : (s : ℕ) → IsSourceOf p o s → IsSettledSeen v s
 
--- it was settled from the word at which it was judged
+-- Operation o was settled at the attempt of the word at which it was judged
 pub record IsSettledOn (p : Plan) (v : View) (o : ℕ) : Type 0 where
   pub word : OpWord
   pub judged : IsJudged p v o word
   pub seen : IsSettledSeen v o
   pub attempt_is : seen.note.word.attempt ≡ word.attempt
 
+-- The test whether the answer is that all is settled
 abbrev pub is_all_settled : TxnAnswer → Bool
 is_all_settled (AllSettled committed) = true
 is_all_settled (NotYet at w) = false
 is_all_settled (Busy at w) = false
 
--- what is answered where an operation was found with this word: nothing where it is settled, else busy or not yet
+-- The answer r fits an operation o that was found with word w: it is none if w is settled, busy if w is claimed, and
+-- else not yet
 pub record StopsAt (o : ℕ) (w : OpWord) (r : Option TxnAnswer) : Type 0 where
   pub settled : is_settled w.state ≡ true → r ≡ None
   pub claimed : w.state ≡ Claimed → r ≡ Some (Busy o w)
   pub other : is_settled w.state ≡ false → w.state ≢ Claimed → r ≡ Some (NotYet o w)
 
 module _ (p : Plan) (i : ℕ) (v u : View) (xs : List Item) where
-  -- a source of an operation of the event was loaded, and was not settled
+  -- The operation `at` is a source of an operation of event i, and was loaded with word w, which is not settled
   pub record IsSourceCause (at : ℕ) (w : OpWord) : Type 0 where
     pub reader : ℕ
     pub inside : InEvent p i reader
@@ -48,14 +49,14 @@ module _ (p : Plan) (i : ℕ) (v u : View) (xs : List Item) where
     pub seen : Contains xs (loaded at w)
     pub settled : is_settled w.state ≡ false
 
-  -- an operation of the event, or a source of it, was disturbed; w is its last word, which was loaded
+  -- The operation `at` of event i, or a source of it, was disturbed. The word w is the last one of `at`, and was loaded
   pub record IsShakenCause (at : ℕ) (w : OpWord) : Type 0 where
     pub inside : InEvent p i at
     pub last : HasLast at xs w
     pub seen : Contains xs (loaded at w)
     pub shaken : IsShaken p at xs
 
-  -- an operation of the event is held by another hand, as its last word says, which was loaded
+  -- The operation `at` of event i is held by another hand, as its last word w says, which was loaded
   pub record IsBusyCause (at : ℕ) (w : OpWord) : Type 0 where
     pub inside : InEvent p i at
     pub last : HasLast at xs w
@@ -63,36 +64,39 @@ module _ (p : Plan) (i : ℕ) (v u : View) (xs : List Item) where
     pub claimed : w.state ≡ Claimed
     pub other : w.by ≢ v.tag
 
-  abbrev pub HasCause : TxnAnswer → Type 0
-  HasCause (AllSettled committed) = committed ≡ verdict p i
-  HasCause (NotYet at w) = IsSourceCause at w ⊎ IsShakenCause at w
-  HasCause (Busy at w) = IsBusyCause at w
+  -- The answer of `settle_txn` has its cause in the words xs
+  abbrev pub AnswersWithCause : TxnAnswer → Type 0
+  AnswersWithCause (AllSettled committed) = committed ≡ verdict p i
+  AnswersWithCause (NotYet at w) = IsSourceCause at w ⊎ IsShakenCause at w
+  AnswersWithCause (Busy at w) = IsBusyCause at w
 
+  -- The answer r of `settle_txn` is right for event i
   pub record TxnTells (r : TxnAnswer) : Type 0 where
-    pub cause : HasCause r
-    -- settled exactly where the view has a settled word of each operation of the event
+    pub cause : AnswersWithCause r
+    -- The answer is that all is settled exactly if the hand saw each operation of the event settled
     pub exact : (is_all_settled r ≡ true) ↔ ((o : ℕ) → InEvent p i o → IsSettledSeen u o)
-    -- the only hand that was made settles an event all of whose sources it had seen settled
+    -- A hand that is the only one made settles an event if it had seen all of the event's sources settled
     pub lone : IsLone v → ((o : ℕ) → InEvent p i o → AreSourcesSeen p v o) → is_all_settled r ≡ true
-    -- and each operation that it had not seen settled from the word at which it judged it
+    -- It settles each operation that it had not seen settled at the attempt of the word at which it judged it
     pub agreed : IsLone v → is_all_settled r ≡ true
         → (o : ℕ) → InEvent p i o → (IsSettledSeen v o → ⊥) → IsSettledOn p u o
 
--- the call adds the words to the view; its own steps are on operations of the event alone
+-- The call `settle_txn` led from view v to view u: its own steps are on operations of event i alone, and its answer r
+-- is right
 pub record TxnDoes (p : Plan) (i : ℕ) (v u : View) (r : TxnAnswer) : Type 0 where
   pub words : List Item
-  pub goes : Goes v u words
+  pub goes : AddsAndFrees v u words
   pub own : OwnIn p i words
   pub tells : TxnTells p i v u words r
 
 -- ---- what a runner counts
 
--- answers of `evaluate`, counted one after another
+-- The counts after these answers of `evaluate`, one after another
 unfoldable pub counted_all : List Evaluation → Answers → Answers
 counted_all [] n = n
 counted_all (r ∷ rs) n = counted_all rs (counted r n)
 
--- the runner was given at most so many answers, and counted each; what it keeps is as it was
+-- The runner was given at most this many answers, and counted each. What it keeps is as it was
 pub record IsAnswered (most : ℕ) (before after : Runner) : Type 0 where
   pub answers : List Evaluation
   pub few : length answers ≤ most

@@ -1,4 +1,4 @@
-//! What is left of a plan on a closed board is completed on plain data.
+//! Completes what is left of a plan on a closed board, on plain data.
 ghost use Rattle.std.specs.Prelude.{◌≡◌, ℕ, ◌+◌, ◌<◌, slice_index};
 ghost use Rattle.morph_base.specs.Clean.{outcome};
 ghost use Rattle.morph_base.specs.Plans.{IsPlan, IsSettledOf, op_count, event_count, event_at, event_of, final, verdict};
@@ -12,10 +12,10 @@ use crate::sources::read_settled;
 use morph_base::{List, Plan, Settled, eval};
 use op_words::Closed;
 
-/// Completes a plan after its board is closed, however far workers came with it. It takes no memory.
+/// Completes a plan after its board is closed, however far workers got with it. It takes no memory.
 ///
-/// An operation that is settled on the board keeps its value, and the tag of the worker that settled it. The others
-/// are evaluated here, event by event, on the values of their sources; they have the tag 0, which is no worker's.
+/// An operation that is settled on the board keeps its value, and the tag of the worker that settled it. The others are
+/// evaluated here, event by event, on the values of their sources. They have the tag 0, which is no worker's.
 pub fn finish(closed: &Closed, plan: &Plan, room: Room) -> Settled
     requires plan { IsPlan plan.now }
     requires closed { (cap counters : ℕ) × (v : View)
@@ -60,7 +60,7 @@ fn finish_event(closed: &Closed, plan: &Plan, i: usize, settled: &mut Settled)
     settled.committed.add(committed);
 }
 
-/// Whether an event commits: as it was decided on the board, or where nobody decided by its operations' answers.
+/// Whether an event commits: as it was decided on the board, or by its operations' answers if nobody decided it.
 fn verdict_on(closed: &Closed, plan: &Plan, i: usize, values: &List<u64>) -> bool
     requires plan { IsPlan plan.now }
     requires closed { (cap counters : ℕ) × (v : View)
@@ -123,7 +123,7 @@ fn finish_ops(closed: &Closed, plan: &Plan, i: usize, committed: bool, settled: 
     }
 }
 
-/// Completes an operation: as it was settled on the board, else as the verdict on its event says.
+/// Completes an operation: as it was settled on the board, or as the verdict on its event says.
 fn finish_op(closed: &Closed, plan: &Plan, o: u32, committed: bool, settled: &mut Settled)
     requires plan { IsPlan plan.now }
     requires closed { (cap counters : ℕ) × (v : View)

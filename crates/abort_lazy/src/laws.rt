@@ -1,6 +1,6 @@
-//! How much is left where few causes are kept, as the contract of a function that does nothing.
+//! How much is left if few causes are kept, as the contract of a function that does nothing.
 //!
-//! A crate above cites the lemma behind it, which stands in `proofs/`.
+//! A crate above cites the lemma behind it, in `proofs/`.
 ghost use Rattle.std.specs.Prelude.{ℕ, ◌*◌, ◌≤◌, not, List, count_by};
 ghost use Rattle.morph_base.specs.declared.limits.TheConstants.{EVENT_OPS};
 ghost use Rattle.morph_base.specs.declared.plan.Plan.{Plan};
@@ -12,11 +12,11 @@ ghost use Rattle.op_words.specs.declared.trail.View.{View};
 ghost use Rattle.op_eval.specs.declared.answers.Left.{Left};
 ghost use Rattle.abort_lazy.specs.Ended.{AreCauses, causes};
 
-/// What [`SettledRun::close`](crate::SettledRun::close) tells of the causes bounds what is left: each operation that is
+/// What [`SettledRun::close`](crate::SettledRun::close) says of the causes bounds what is left: each operation that is
 /// not settled in the end is one of an event of which a cause is kept, and an event has at most
 /// [`EVENT_OPS`](morph_base::EVENT_OPS) operations.
 ///
-/// So where no cause is kept, all is settled.
+/// So if no cause is kept, all is settled.
 pub fn few_are_left()
     ensures { (p : Plan) (c : Core) (v : View) (lists : List (List Left)) → IsPlan p
         → AreCauses p c v lists

@@ -1,11 +1,11 @@
-//! Speculation with lazy abort: the events of a batch are settled on the board that workers share, after it was
-//! explored in whatever way, and the rest is completed.
+//! Speculation with lazy abort: settles the events of a batch on the board that workers share, after the batch was
+//! explored in whatever way, and completes the rest.
 //!
-//! [`settle_txn`] settles one transaction, by any runner: what rested on an aborted version is rolled back and
-//! evaluated again, then the event is decided and its operations are settled. [`settle_all`] tries each event of a
-//! batch once, by several workers, and keeps why an event was left. [`SettledRun::close`] ends the board, and tells
-//! that each event was tried once, and why some were left ([`laws`] bounds how much that is). [`finish`] completes
-//! what was left there, on plain data: what comes out is that of the fold, however far workers came.
+//! [`settle_txn`] settles one transaction, by any runner: it rolls back what rested on an aborted version and evaluates
+//! that again; then it decides the event and settles the event's operations. [`settle_all`] tries each event of a batch
+//! once, by several workers, and keeps why an event was left. [`SettledRun::close`] ends the board. Its contract says
+//! that each event was tried once, and why some were left ([`laws`] bounds how much that is). [`finish`] completes what
+//! was left, on plain data. The result is the fold's, however far workers got.
 //!
 //! ```text
 //! let room = Room::new(alloc, &plan)?;                  // all memory is taken before
@@ -14,7 +14,7 @@
 //! let settled = finish(&closed, &plan, room);
 //! ```
 //!
-//! Below it stand `op_eval`, `op_words` and `interleaving_core`, for the board, `worker_gate` and `morph_base`.
+//! It uses `op_eval`, `op_words` and `interleaving_core`, for the board; `worker_gate`; and `morph_base`.
 #![tactic(auto)]
 
 mod finishing;

@@ -4,7 +4,7 @@ ghost use Rattle.abort_lazy.specs.Rooms.{IsRoomFor};
 use morph_base::{List, OutOfMemory, Plan};
 use std::alloc::Global;
 
-/// The memory of a [`Settled`](morph_base::Settled) of a plan: it is taken before the plan is settled, so that settling
+/// The memory of a [`Settled`](morph_base::Settled) of a plan. It is taken before the plan is settled, so settling
 /// cannot fail.
 #[derive(Debug, Drop)]
 pub struct Room {
@@ -14,7 +14,7 @@ pub struct Room {
 }
 
 impl Room {
-    /// Room for what is settled of the plan: a value and a worker for each operation, a verdict for each event.
+    /// Makes room for what is settled of the plan: a value and a worker for each operation, a verdict for each event.
     pub fn new(alloc: Global, plan: &Plan) -> Result<Self, OutOfMemory>
         ensures { IfOk result (IsRoomFor plan.now) }
     {

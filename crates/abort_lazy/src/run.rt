@@ -1,11 +1,11 @@
-//! All events of a batch are settled on the shared board, event level by event level, by several runners.
+//! Settles all events of a batch on the shared board, event level by event level, by several runners.
 ghost use Rattle.std.specs.Prelude.{◌≡◌, ℕ, ◌+◌, ◌<◌, ◌≤◌, ◌^◌, List as Listed, length, map};
 ghost use Rattle.morph_base.specs.Graphs.{IsValidPlan};
 ghost use Rattle.op_words.specs.Closing.{IsClosed};
 ghost use Rattle.op_words.specs.Hands.{plan_of, cap_of, counters_of};
 ghost use Rattle.op_eval.specs.declared.runner.Runner.{Runner as R};
 ghost use Rattle.op_eval.specs.Gathering.{runners_of};
-ghost use Rattle.op_eval.specs.Exploring.{IsExplored};
+ghost use Rattle.op_eval.specs.Exploring.{IsExploredBoard};
 ghost use Rattle.abort_lazy.specs.Ended.{AreAtStart, AreTries, AreCauses};
 ghost use Rattle.abort_lazy.specs.Runs.{AreSettling, AreAllHands, IsSettledByRoot, IsSettledRun, root_view};
 
@@ -25,7 +25,7 @@ pub struct SettledRun {
     runners: Runners,
 }
 
-/// Tries the events of each level, from the lowest on, each level with a counter of its own.
+/// Tries the events of each level, from the lowest on. Each level has a counter of its own.
 fn settle_levels<T: Threads + Sync>(
     rt: &T,
     board: &Board,
@@ -55,12 +55,12 @@ fn settle_levels<T: Threads + Sync>(
 
 /// Settles what exploring left: each event is tried once, event level by event level.
 ///
-/// A level has a counter of its own, the first one `next_counter` of the run; its runners take numbers from it, and
-/// try the event of that number in the level. The first runner goes over a level of fewer than 8 events alone; over any
-/// other all go, each until it saw the counter at the end. Why an event was not settled is kept by the runner that
-/// tried it. The root alone, the only hand ever made, settles all.
+/// Each level has a counter of its own, the first one being `next_counter` of the run. Runners take numbers from it,
+/// and try the events with these numbers in the level. If a level has fewer than 8 events, the first runner goes over
+/// it alone. Else all go over it, each until it saw the counter run out. The runner that tried an event keeps why it
+/// was not settled. A root that is the only hand ever made settles all.
 pub fn settle_all<T: Threads + Sync>(rt: &T, run: Explored, plan: &Plan) -> SettledRun
-    requires explored { IsExplored run }
+    requires explored { IsExploredBoard run }
     requires plan { plan.now ≡ plan_of run.board }
     requires valid { IsValidPlan plan.now }
     requires counters { run.next_counter + length plan.now.event_levels.items
@@ -80,13 +80,13 @@ pub fn settle_all<T: Threads + Sync>(rt: &T, run: Explored, plan: &Plan) -> Sett
 }
 
 impl SettledRun {
-    /// Joins the hands into the root and closes the board. It gives the closed board, and why events were not settled
-    /// by the runners that tried them, worker 1 first. The runners' hands are all those of the board.
+    /// Joins the hands into the root and closes the board. Returns the closed board, and why events were not settled by
+    /// the runners that tried them, worker 1 first. The runners' hands are all those of the board.
     ///
-    /// Where the plan is valid, the run was settled by [`settle_all`], and its runners had left nothing before, each
+    /// If the plan is valid, the run was settled by [`settle_all`], and its runners had left nothing before, then each
     /// event was tried once, over all of them. A cause is true of the closed board: the worker that tried the event
-    /// loaded a word that kept it from settling all of it. An event has one at most, and one where not all of it is
-    /// settled.
+    /// loaded a word that kept it from settling all of the event. An event has at most one cause, and it has one if not
+    /// all of it is settled.
     ///
     /// It takes no memory.
     pub fn close(self, plan: &Plan) -> (Closed, List<List<Left>>)

@@ -4,7 +4,8 @@ ghost use Rattle.abort_lazy.specs.Finishing.{settled_sources, HasValues};
 
 use morph_base::{List, Plan, READS};
 
-/// The settled values of an operation's sources, place by place; 0 past them. `values` has those of all earlier events.
+/// The settled values of an operation's sources, place by place, and 0 past them. `values` has those of all earlier
+/// events.
 pub(crate) fn read_settled(plan: &Plan, o: usize, values: &List<u64>) -> [u64; READS]
     requires plan { IsPlan plan.now }
     requires op { o < op_count plan.now }

@@ -1,4 +1,4 @@
-//! Transactions are settled on the shared board, one at a time, by any runner.
+//! Settles transactions on the shared board, one at a time, by any runner.
 ghost use Rattle.std.specs.Prelude.{◌≡◌, ◌+◌, ◌<◌, None};
 ghost use Rattle.morph_base.specs.Plans.{IsPlan, event_at, event_count};
 ghost use Rattle.op_words.specs.Hands.{plan_of, cap_of, IsHandOf};
@@ -17,30 +17,30 @@ use deciding::decide_now;
 use ending::settle_rest;
 use preparing::prepare_all;
 
-/// What became of a transaction that a runner tried to settle.
+/// The outcome when a runner tries to settle a transaction.
 #[derive(Clone, Copy, Debug, PartialEq, Eq)]
 pub enum TxnAnswer {
-    /// The hand saw each of its operations settled, some of them perhaps by other hands; whether it is committed.
+    /// The hand saw each of its operations settled, some of them perhaps by other hands. `committed` says whether the
+    /// event is committed.
     Settled { committed: bool },
-    /// A source of one of its operations was not settled, as its word was loaded in the call; or one of its
-    /// operations, or a source of that, was changed by another hand during the call. The word is the last one that
-    /// was loaded there.
+    /// A source of one of its operations was not settled, as its word was loaded in the call; or another hand changed
+    /// one of its operations, or a source of one, during the call. The word is the last one that was loaded there.
     NotYet { at: u32, word: OpWord },
     /// Another hand holds this operation of the event, as the word that was loaded last shows.
     Busy { at: u32, word: OpWord },
 }
 
-/// Settles a transaction: each of its operations is made ready for the decision, then the event is decided, then
-/// each operation is settled.
+/// Settles a transaction: makes each of its operations ready for the decision, then decides the event, then settles
+/// each operation.
 ///
-/// To make one ready, it is judged. Where a record differs from its settled source, or its value was taken back by a
-/// failure, it is rolled back and evaluated again, and where it was not evaluated yet it is evaluated; then it is
-/// judged once more. Each operation is mended once at most: what stands in the way then is another hand's change.
+/// To make an operation ready, the call judges it. If a record differs from its settled source, or a failure took its
+/// value back, the operation is rolled back and evaluated again. If it was not evaluated yet, it is evaluated. Then it
+/// is judged once more. Each operation is mended at most once: what stands in the way then is another hand's change.
 ///
-/// [`TxnAnswer::Settled`] comes exactly where at the return the hand has seen a settled word of each operation; the
-/// other answers name what stands in the way, and the call may be made again. A root that is the only hand ever made
-/// is answered `Settled` where it has seen all sources settled. The runner holds nothing before and after. What
-/// `evaluate` answered on the way is counted in the runner's `answers`. The call takes no memory and waits for nobody.
+/// The answer is [`TxnAnswer::Settled`] exactly if at the return the hand has seen each operation settled. The other
+/// answers name what stands in the way, and the call may be made again. If a root is the only hand ever made and has
+/// seen all sources settled, the answer is `Settled`. The runner holds nothing before and after. Its `answers` count
+/// what `evaluate` answered on the way. The call takes no memory and waits for nobody.
 pub fn settle_txn(board: &Board, runner: &mut Runner, plan: &Plan, event: u32) -> TxnAnswer
     requires hand { IsHandOf board.now runner.old.hand }
     requires plan { plan.now ≡ plan_of board.now }
@@ -62,7 +62,7 @@ pub fn settle_txn(board: &Board, runner: &mut Runner, plan: &Plan, event: u32) -
     }
 }
 
-/// What is answered where an operation of the event was found with this word; none where it is settled.
+/// The answer if an operation of the event was found with this word. There is none if it is settled.
 fn stop(op: u32, word: OpWord) -> Option<TxnAnswer>
     ensures { StopsAt op word result }
 {
@@ -82,7 +82,7 @@ fn first_of(plan: &Plan, event: u32) -> u32
     plan.events.get(event as usize).first
 }
 
-/// The operation behind the last one of an event.
+/// The end of an event's operations: one more than the number of its last one.
 fn end_of(plan: &Plan, event: u32) -> u32
     requires valid { IsPlan plan.now }
     requires in_range { event < event_count plan.now }

@@ -14,7 +14,7 @@ use Rattle.rtrb.specs.declared.producer.Producer.{Producer}
 use Rattle.rtrb.specs.declared.consumer.Consumer.{Consumer}
 use Rattle.rtrb.specs.Ring.{SameProducer, SameConsumer}
 use Rattle.batch_pipe.specs.Reading.{Stand}
-use Rattle.batch_pipe.specs.Planning.{IsReady, AreNumbered, Plans, PlansAhead, Stops, layout_by, plans_of}
+use Rattle.batch_pipe.specs.Planning.{IsReadyPlan, AreNumbered, Plans, PlansAhead, StopsWithTail, layout_by, plans_of}
 use Rattle.batch_pipe.proofs.Givings.{plans_nothing, plans_both, plans_stop}
 
 pub numbered-append : (n : ℕ) (xs ys : List Sent) → AreNumbered n xs → AreNumbered (n + length xs) ys → AreNumbered n (xs ++ ys)
@@ -44,23 +44,23 @@ module _ {App : Type 0} (event_of : App → ℕ → Meaning) (layout : Layout) (
   }
 
   -- plans that are ready with one greatest value are so with another, which is it where there is a plan
-  pub ready_as : (high' : ℕ) (xs : List Sent) → (0 < length xs → high' ≡ high) → All (λ (x : Sent). IsReady layout high x.plan) xs → All (λ (x : Sent). IsReady layout high' x.plan) xs
-  ready_as high' [] is ready = All-nil (λ (x : Sent). IsReady layout high' x.plan)
-  ready_as high' (x ∷ xs) is ready = subst (λ n. All (λ (y : Sent). IsReady layout n y.plan) (x ∷ xs)) (sym (is (zero-lt-suc (length xs)))) ready
+  pub ready_as : (high' : ℕ) (xs : List Sent) → (0 < length xs → high' ≡ high) → All (λ (x : Sent). IsReadyPlan layout high x.plan) xs → All (λ (x : Sent). IsReadyPlan layout high' x.plan) xs
+  ready_as high' [] is ready = All-nil (λ (x : Sent). IsReadyPlan layout high' x.plan)
+  ready_as high' (x ∷ xs) is ready = subst (λ n. All (λ (y : Sent). IsReadyPlan layout n y.plan) (x ∷ xs)) (sym (is (zero-lt-suc (length xs)))) ready
 
   pub ahead_more : {a b c : Stand App} {before middle after : List Sent} {n m k : ℕ} (high' : ℕ) (x : Sent) (p : PlansAhead event_of layout high a before n None b middle m) →
-      Plans event_of b (x.plan ∷ []) None c → (0 < length p.more → high' ≡ high) → IsReady layout high' x.plan → after ≡ middle ++ x ∷ [] → x.number ≡ m + 1 → k ≡ m + 1 →
+      Plans event_of b (x.plan ∷ []) None c → (0 < length p.more → high' ≡ high) → IsReadyPlan layout high' x.plan → after ≡ middle ++ x ∷ [] → x.number ≡ m + 1 → k ≡ m + 1 →
       PlansAhead event_of layout high' a before n None c after k
   ahead_more {a} {b} {c} {before} {middle} {after} {n} {m} {k} high' x p q same ready is number next = record {
     more = p.more ++ x ∷ [];
     sent_is = is ∙ ap (λ l. l ++ x ∷ []) p.sent_is ∙ append_assoc before p.more (x ∷ []);
     plans = subst (λ (l : List Plan). Plans event_of a l None c) (sym (map-append (λ (y : Sent). y.plan) p.more (x ∷ []))) (plans_both event_of (plans_of p.more) (x.plan ∷ []) p.plans q);
-    ready = All-push (λ (y : Sent). IsReady layout high' y.plan) p.more x (ready_as high' p.more same p.ready) ready;
+    ready = All-push (λ (y : Sent). IsReadyPlan layout high' y.plan) p.more x (ready_as high' p.more same p.ready) ready;
     numbered = numbered-append n p.more (x ∷ []) p.numbered (numbered-one (n + length p.more) x (number ∙ ap (λ i. i + 1) p.number_is));
     number_is = let l = length-append p.more (x ∷ []) in let i = p.number_is in omega (arith, l, i, next);
   }
 
-  pub ahead_stop : {a b c : Stand App} {before after : List Sent} {n m : ℕ} (high' : ℕ) (tail : Tail) (p : PlansAhead event_of layout high a before n None b after m) → Stops event_of tail b c →
+  pub ahead_stop : {a b c : Stand App} {before after : List Sent} {n m : ℕ} (high' : ℕ) (tail : Tail) (p : PlansAhead event_of layout high a before n None b after m) → StopsWithTail event_of tail b c →
       (0 < length p.more → high' ≡ high) → PlansAhead event_of layout high' a before n (Some tail) c after m
   ahead_stop {a} {b} {c} high' tail p stops same = record {
     more = p.more;
@@ -89,7 +89,7 @@ same_ring {T} {A} {P} a b e = subst (λ (c : Consumer T A P). SameConsumer a c) 
 
 -- what waited is ready when the halves begin: where a batch was read first nothing waited, and else the reader is as it was
 pub waits_ready : {App : Type 0} (event_of : App → ℕ → Meaning) (layout : Layout) (r0 r1 : ReaderView App) (waiting : List Sent) (asked : Bool) → (asked ≡ true → length waiting ≡ 0) → (asked ≡ false → r1 ≡ r0)
-    → All (λ (x : Sent). IsReady layout (greatest_of r0.past.version) x.plan) waiting → All (λ (x : Sent). IsReady layout (greatest_of r1.past.version) x.plan) waiting
+    → All (λ (x : Sent). IsReadyPlan layout (greatest_of r0.past.version) x.plan) waiting → All (λ (x : Sent). IsReadyPlan layout (greatest_of r1.past.version) x.plan) waiting
 waits_ready {App} event_of layout r0 r1 waiting asked none idle ready =
     ready_as event_of layout (greatest_of r0.past.version) (greatest_of r1.past.version) waiting (by_asked asked refl) ready
   where

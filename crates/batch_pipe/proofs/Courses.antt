@@ -11,7 +11,7 @@ use Rattle.morph_base.specs.Flat.{Kept, contents}
 use Rattle.morph_base.specs.States.{State}
 use Rattle.morph_io.specs.Told.{ahead, ahead_ahead}
 use Rattle.event_reader.specs.Accepted.{Accepted, Ending, Ended, RefusedAt, CutOff, accepted_first, closed_batches}
-use Rattle.event_reader.specs.Reader.{ReaderView, new_reader, accepted_by, accepted_after, AnswersNext, Takes}
+use Rattle.event_reader.specs.Reader.{ReaderView, new_reader, accepted_by, accepted_after, AnswersNext, TakesBytes}
 use Rattle.event_reader.specs.Lines.{front}
 use Rattle.event_reader.specs.Steps.{Meaning}
 use Rattle.event_reader.specs.declared.fault.ReaderFault.TheVariants.{ReadFault, TooLong, OutOfMemory}
@@ -21,7 +21,7 @@ use Rattle.batch_pipe.specs.declared.items.Ran.{Ran}
 use Rattle.batch_pipe.specs.declared.tail.Tail.{Tail}
 use Rattle.batch_pipe.specs.declared.tail.Tail.TheVariants.{End, Refused, Fault, RunMemory}
 use Rattle.batch_pipe.specs.Reading.{Stand, stand, with_batches}
-use Rattle.batch_pipe.specs.Planning.{Plans, Stops, MayStop, ArePlansOf, AreNumbered, answer_of, plans_of}
+use Rattle.batch_pipe.specs.Planning.{Plans, StopsWithTail, MayStop, ArePlansOf, AreNumbered, answer_of, plans_of}
 use Rattle.batch_pipe.specs.Running.{Manner, AreRun, state_after, last_after}
 use Rattle.decision_model.specs.Choices.{no_last}
 use Rattle.batch_pipe.specs.Waiting.{PipeView, IsRound, IsGoing, new_pipe, number_before, or_else}
@@ -202,7 +202,7 @@ module _ {App : Type 0} (event_of : App → ℕ → Meaning) (m : Manner) where
     pub course_ends : (tail : Tail) (ending : Ending) → p.stop ≡ Some tail → ending_of tail ≡ Some ending →
         IfSome (accepted_by event_of reader left) (λ all. (all.ending ≡ ending) × (all.batches ≡ p.plans.batches))
     course_ends tail ending ends told =
-        let stops : Stops event_of tail p.plans.middle (stand b.reader left') = subst (λ (o : Option Tail). MayStop event_of o p.plans.middle (stand b.reader left')) ends p.plans.stops in
+        let stops : StopsWithTail event_of tail p.plans.middle (stand b.reader left') = subst (λ (o : Option Tail). MayStop event_of o p.plans.middle (stand b.reader left')) ends p.plans.stops in
         at (accepted_by event_of reader left) (accepted_by event_of p.plans.middle.reader p.plans.middle.left) p.plans.gives.next
         (answered tail (accepted_by event_of p.plans.middle.reader p.plans.middle.left) (accepted_by event_of b.reader left') told stops.answers)
       where
@@ -229,10 +229,10 @@ module _ {App : Type 0} (event_of : App → ℕ → Meaning) (m : Manner) where
 
     -- where a new reader's source failed, the batches that were read are those that are closed within the bytes taken
     pub course_cut : (app : App) (size limit : ℕ) → reader ≡ new_reader app size limit → p.stop ≡ Some (Fault ReadFault) →
-        Takes left left' (λ got. closed_batches (event_of app size) got ≡ p.plans.batches)
+        TakesBytes left left' (λ got. closed_batches (event_of app size) got ≡ p.plans.batches)
     course_cut app size limit new ends =
         let n = p.plans.middle in
-        let stops : Stops event_of (Fault ReadFault) n (stand b.reader left') = subst (λ (o : Option Tail). MayStop event_of o n (stand b.reader left')) ends p.plans.stops in
+        let stops : StopsWithTail event_of (Fault ReadFault) n (stand b.reader left') = subst (λ (o : Option Tail). MayStop event_of o n (stand b.reader left')) ends p.plans.stops in
         let first = p.plans.gives.shows in
         let last = stops.shows in
         let shown = first.shows (stops.asked refl) last.got in

@@ -8,7 +8,7 @@ use Rattle.morph_base.specs.Plans.{transactions}
 use Rattle.decision_model.specs.declared.counts.Last.{Last}
 use Rattle.batch_pipe.specs.declared.items.Sent.{Sent}
 use Rattle.batch_pipe.specs.declared.items.Ran.{Ran}
-use Rattle.batch_pipe.specs.Running.{Manner, AreRun, IsRun, state_after, last_after, came_of, somes, Desk, Runs}
+use Rattle.batch_pipe.specs.Running.{Manner, AreRun, IsSentRun, state_after, last_after, came_of, somes, Desk, Runs}
 
 pub state_after-append : (s : State) (xs ys : List Sent) → state_after s (xs ++ ys) ≡ state_after (state_after s xs) ys
 unfolding state_after
@@ -86,7 +86,7 @@ module _ (m : Manner) where
     many = refl;
   }
 
-  pub runs_one : (a b : Desk) (x : Sent) (r : Ran) → somes (drop a.next a.places) ≡ [] → a.next < length a.places → IsRun m a.state a.last x r →
+  pub runs_one : (a b : Desk) (x : Sent) (r : Ran) → somes (drop a.next a.places) ≡ [] → a.next < length a.places → IsSentRun m a.state a.last x r →
       b.state ≡ after_all a.state (transactions x.plan) → b.last ≡ came_of r → b.places ≡ slice_set a.places a.next (Some r) → b.next ≡ a.next + 1 → Runs m a (x ∷ []) b
   unfolding AreRun state_after last_after
   runs_one a b x r free lt run state last places next = record {

@@ -12,10 +12,10 @@ use Rattle.event_reader.specs.Lines.{front}
 use Rattle.event_reader.specs.Steps.{Meaning}
 use Rattle.event_reader.specs.Accepted.{Accepted, with_batch}
 use Rattle.event_reader.specs.declared.answers.Next.TheVariants.{Batch}
-use Rattle.event_reader.specs.Reader.{accepted_by, accepted_after, accepted_next, AnswersNext, ShowsNext, Takes, SameReader}
-use Rattle.batch_pipe.specs.Reading.{Stand, Gives, with_batches}
+use Rattle.event_reader.specs.Reader.{accepted_by, accepted_after, accepted_next, AnswersNext, ShowsNext, TakesBytes, SameReader}
+use Rattle.batch_pipe.specs.Reading.{Stand, GivesBatches, with_batches}
 use Rattle.batch_pipe.specs.declared.tail.Tail.{Tail}
-use Rattle.batch_pipe.specs.Planning.{Plans, Stops}
+use Rattle.batch_pipe.specs.Planning.{Plans, StopsWithTail}
 use Rattle.morph_base.specs.declared.plan.Plan.{Plan}
 use Rattle.morph_base.specs.Plans.{transactions}
 use Rattle.event_reader.proofs.Opening.{keeps_same, same_both}
@@ -43,7 +43,7 @@ four : (k f g more : List ℕ) → k ++ (f ++ g) ++ more ≡ k ++ f ++ (g ++ mor
 four k f g more = ap (λ l. l ++ more) (sym (append_assoc k f g)) ∙ append_assoc (k ++ f) g more
 
 module _ {App : Type 0} (event_of : App → ℕ → Meaning) where
-  pub gives_nothing : (a : Stand App) → Gives event_of a [] a
+  pub gives_nothing : (a : Stand App) → GivesBatches event_of a [] a
   gives_nothing a = record {
     next = sym (option_map-same (with_batches []) (λ all. refl) (accepted_by event_of a.reader a.left));
     shows = record {
@@ -58,7 +58,7 @@ module _ {App : Type 0} (event_of : App → ℕ → Meaning) where
     same = (refl, refl, refl, keeps_same a.reader);
   }
 
-  pub gives_both : {a b c : Stand App} (xs ys : List (List Transaction)) → Gives event_of a xs b → Gives event_of b ys c → Gives event_of a (xs ++ ys) c
+  pub gives_both : {a b c : Stand App} (xs ys : List (List Transaction)) → GivesBatches event_of a xs b → GivesBatches event_of b ys c → GivesBatches event_of a (xs ++ ys) c
   gives_both {a} {b} {c} xs ys p q = record {
     next = p.next ∙ ap (option_map (with_batches xs)) q.next
         ∙ option_map-twice (with_batches xs) (with_batches ys) (with_batches (xs ++ ys)) (with_batches-both xs ys) (accepted_by event_of c.reader c.left);
@@ -80,11 +80,11 @@ module _ {App : Type 0} (event_of : App → ℕ → Meaning) where
   }
 
   pub gives_one : (a b : Stand App) (batch : TheBatch) → AnswersNext (accepted_by event_of a.reader a.left) (Ok (Batch batch)) (accepted_by event_of b.reader b.left) →
-      Takes a.left b.left (ShowsNext event_of a.reader (Ok (Batch batch)) b.reader) →
+      TakesBytes a.left b.left (ShowsNext event_of a.reader (Ok (Batch batch)) b.reader) →
       0 < length batch.events.items → a.reader.lines.number + length batch.events.items ≤ b.reader.lines.number → b.reader.lines.number ≤ b.reader.lines.limit + 1 →
       (b.reader.lines.ended ≡ false → a.reader.lines.ended ≡ false) →
       SameReader a.reader b.reader →
-      Gives event_of a (transactions_of batch ∷ []) b
+      GivesBatches event_of a (transactions_of batch ∷ []) b
   gives_one a b batch answers shows some counted bound unended same =
       let es : List Transaction = transactions_of batch in
       let many : length es ≡ length batch.events.items = simp length-map in
@@ -113,7 +113,7 @@ module _ {App : Type 0} (event_of : App → ℕ → Meaning) where
 
   pub plans_both : {a b c : Stand App} {tail : Option Tail} (ps qs : List Plan) → Plans event_of a ps None b → Plans event_of b qs tail c → Plans event_of a (ps ++ qs) tail c
   plans_both {a} {b} {c} {tail} ps qs p q =
-      let first : Gives event_of a p.batches b = subst (Gives event_of a p.batches) (sym p.stops) p.gives in
+      let first : GivesBatches event_of a p.batches b = subst (GivesBatches event_of a p.batches) (sym p.stops) p.gives in
       record {
         batches = p.batches ++ q.batches;
         middle = q.middle;
@@ -122,11 +122,11 @@ module _ {App : Type 0} (event_of : App → ℕ → Meaning) where
         stops = q.stops;
       }
 
-  pub plans_stop : {a b c : Stand App} (ps : List Plan) (tail : Tail) → Plans event_of a ps None b → Stops event_of tail b c → Plans event_of a ps (Some tail) c
+  pub plans_stop : {a b c : Stand App} (ps : List Plan) (tail : Tail) → Plans event_of a ps None b → StopsWithTail event_of tail b c → Plans event_of a ps (Some tail) c
   plans_stop {a} {b} {c} ps tail p stops = record {
     batches = p.batches;
     middle = p.middle;
     gives = p.gives;
     plans_are = p.plans_are;
-    stops = subst (λ m. Stops event_of tail m c) p.stops stops;
+    stops = subst (λ m. StopsWithTail event_of tail m c) p.stops stops;
   }

@@ -20,7 +20,7 @@ use Rattle.batch_pipe.specs.declared.items.Ran.{Ran}
 use Rattle.batch_pipe.specs.declared.tail.Tail.{Tail}
 use Rattle.batch_pipe.specs.declared.tail.Tail.TheVariants.{RunMemory}
 use Rattle.batch_pipe.specs.Reading.{Stand, stand}
-use Rattle.batch_pipe.specs.Planning.{AreNumbered, Plans, PlansAhead, Stops, MayStop, plans_of}
+use Rattle.batch_pipe.specs.Planning.{AreNumbered, Plans, PlansAhead, StopsWithTail, MayStop, plans_of}
 use Rattle.batch_pipe.specs.Running.{Manner, AreRun, RunsWaiting, Desk, somes, one_or_none, state_after, last_after, came_of}
 use Rattle.batch_pipe.specs.Courses.{reads_left, steps_left}
 use Rattle.batch_pipe.specs.Waiting.{PipeView, IsRound, IsGoing, number_before, or_else}
@@ -149,7 +149,7 @@ module _ {App : Type 0} (event_of : App → ℕ → Meaning) (layout : Layout) (
       whole nothing (inr e) = absurd (let l = ap length nothing in let one_lost = r.refused e in omega (arith, l, one_lost))
 
   -- where the first batch is not planned, nothing runs
-  pub round_stopped : {a b : PipeView App} {left left' : Option (List ℕ)} (tail : Tail) → Stops event_of tail (stand a.reader left) (stand b.reader left') →
+  pub round_stopped : {a b : PipeView App} {left left' : Option (List ℕ)} (tail : Tail) → StopsWithTail event_of tail (stand a.reader left) (stand b.reader left') →
       a.tail ≡ None → a.waiting ≡ [] → a.rans ≡ [] → b.waiting ≡ a.waiting → b.rans ≡ a.rans → b.engine ≡ a.engine → b.last ≡ a.last → b.sent ≡ a.sent → b.tail ≡ Some tail → b.ahead ≡ a.ahead → tail ≢ RunMemory →
       AreNumbered (number_before a) a.waiting → IsRound event_of m a left b left'
   unfolding AreRun state_after last_after

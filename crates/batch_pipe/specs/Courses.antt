@@ -1,4 +1,4 @@
--- What the rounds of a whole run do, one after another.
+-- What the rounds of a whole run do, one after another
 use Rattle.std.specs.Prelude.{◌≡◌, ◌≢◌, ℕ, ◌+◌, ◌-◌, ◌*◌, ◌≤◌, List, [], ◌++◌, length, Option, None, Some}
 use Rattle.morph_base.specs.Flat.{Kept, contents}
 use Rattle.event_reader.specs.Accepted.{Ending, Ended, RefusedAt, CutOff}
@@ -15,15 +15,16 @@ use Rattle.batch_pipe.specs.Running.{Manner, AreRun, state_after, last_after}
 use Rattle.decision_model.specs.Choices.{no_last}
 use Rattle.batch_pipe.specs.Waiting.{PipeView, IsGoing}
 
--- so many rounds of a pipe that was new, with such a reader and engine, led to the pipe `b`. The plans that were sent, numbered from 1, are those
--- of the first batches that the reader gave, in order and each once; those that were run are the first of these; and `rans` is
--- what came of them, in order, whether it was taken out of the pipe or not
-pub record IsCourse {App : Type 0} (event_of : App → ℕ → Meaning) (m : Manner) (reader : ReaderView App) (engine : Kept) (left : Option (List ℕ)) (rounds : ℕ) (rans : List Ran) (b : PipeView App) (left' : Option (List ℕ)) : Type 0 where
+-- This many rounds of a new pipe, with this reader and engine, led to the pipe b. The plans that were sent, numbered
+-- from 1, are those of the first batches that the reader gave, in order and each once. Those that were run are the
+-- first of these, and `rans` are their results in order, whether they were taken out of the pipe or not
+pub record IsCourse {App : Type 0} (event_of : App → ℕ → Meaning) (m : Manner) (reader : ReaderView App) (engine : Kept)
+    (left : Option (List ℕ)) (rounds : ℕ) (rans : List Ran) (b : PipeView App) (left' : Option (List ℕ)) : Type 0 where
   pub more : List Sent
   pub stop : Option Tail
   pub plans : Plans event_of (stand reader left) (plans_of more) stop (stand b.reader left')
   pub runs : List Sent
-  -- the one for which memory was refused, if there is one
+  -- The plan for which memory was refused, if there is one
   pub lost : List Sent
   pub parts : more ≡ (runs ++ lost) ++ b.waiting
   pub run : AreRun m (contents engine) no_last runs rans
@@ -32,23 +33,25 @@ pub record IsCourse {App : Type 0} (event_of : App → ℕ → Meaning) (m : Man
   pub sent_is : b.sent ≡ length more
   pub numbered : AreNumbered 0 more
   pub layout : b.engine.layout ≡ engine.layout
-  -- where no memory was refused in running, the tail is that of the planner
+  -- If no memory was refused in running, the tail is that of the planner
   pub whole : b.tail ≢ Some RunMemory → lost ≡ []
   pub met : b.tail ≡ None → stop ≡ None
   pub tail_is : b.tail ≢ Some RunMemory → b.tail ≡ stop
-  -- each round but the last took a plan
+  -- Each round but the last took a plan
   pub few : rounds ≤ length runs + length lost + 1
   pub few_going : IsGoing b → rounds ≤ length runs
 
--- how many rounds there can still be, at most: a line that is not yet read may be the one of a batch
+-- A bound on the rounds that reading can still need: one, and two for each line not yet read, which may be the one of a
+-- batch; none after a tail
 abbrev pub reads_left : Option Tail → (lines : ℕ) → ℕ
 reads_left None lines = 1 + 2 * lines
 reads_left (Some tail) lines = 0
 
+-- A bound on the rounds that there can still be: one for each plan that waits, and those that reading can still need
 abbrev pub steps_left : {App : Type 0} → PipeView App → ℕ
 steps_left v = length v.waiting + reads_left v.tail (v.reader.lines.limit + 1 - v.reader.lines.number)
 
--- where an input ends, as a tail tells it
+-- How an input with this tail ends; None if the tail does not say
 abbrev pub ending_of : Tail → Option Ending
 ending_of End = Some Ended
 ending_of (Refused line cause) = Some (RefusedAt line cause)

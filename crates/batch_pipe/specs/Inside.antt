@@ -1,4 +1,4 @@
--- What a pipe keeps true.
+-- What a pipe keeps true
 use Rattle.std.specs.Prelude.{◌≡◌, ℕ, ◌+◌, ◌-◌, ◌≤◌, List, ◌++◌, length, All, None}
 use Rattle.morph_base.specs.Flat.{contents}
 use Rattle.morph_base.specs.States.{IsUpTo}
@@ -6,18 +6,20 @@ use Rattle.event_reader.specs.Versions.{greatest_of}
 use Rattle.rtrb.specs.Ring.{sent, received, known_items, known_free, producer_capacity, IsPair}
 use Rattle.batch_pipe.specs.declared.items.Sent.{Sent}
 use Rattle.batch_pipe.specs.declared.pipe.Pipe.TheInside.{Inside}
-use Rattle.batch_pipe.specs.Planning.{IsReady, AreNumbered, CanPlan, layout_by}
+use Rattle.batch_pipe.specs.Planning.{IsReadyPlan, AreNumbered, CanPlan, layout_by}
 use Rattle.batch_pipe.specs.Running.{somes}
 use Rattle.batch_pipe.specs.Waiting.{PipeView}
 
 module _ {A : Type 0} where
+  -- The plans that wait in the pipe
   abbrev pub waiting_in : Inside A → List Sent
   waiting_in p = known_items p.runner.ring
 
-  -- how many places there are for what comes of plans
+  -- The number of places for results
   abbrev pub places_in : Inside A → ℕ
   places_in p = length p.runner.rans.items
 
+  -- What contracts see of the pipe
   abbrev pub view_of : Inside A → PipeView A
   view_of p = record {
     reader = p.planner.reader;
@@ -30,8 +32,9 @@ module _ {A : Type 0} where
     ahead = places_in p;
   }
 
-  -- the two ends of its ring are brought together between two rounds: what was sent and not received is known to the one that pops, and
-  -- each free place to the one that pushes
+  -- Between two rounds the two ends of the ring are brought together: the runner's end knows everything that was sent
+  -- and not received, and the planner's end knows each free place. No value of the state is above the greatest value of
+  -- what waits
   pub record IsPipe (table_count : A → ℕ) (p : Inside A) : Type 0 where
     pub pair : IsPair p.planner.ring p.runner.ring
     pub fifo : received p.runner.ring ++ waiting_in p ≡ sent p.planner.ring
@@ -41,7 +44,7 @@ module _ {A : Type 0} where
     pub some : 1 ≤ places_in p
     pub few : places_in p ≤ 2
     pub small : IsUpTo (greatest_of p.planner.reader.past.version) (contents p.runner.engine)
-    pub ready : All (λ (x : Sent). IsReady p.runner.engine.layout (greatest_of p.planner.reader.past.version) x.plan) (waiting_in p)
+    pub ready : All (λ (x : Sent). IsReadyPlan p.runner.engine.layout (greatest_of p.planner.reader.past.version) x.plan) (waiting_in p)
     pub numbered : AreNumbered (p.planner.sent - length (waiting_in p)) (waiting_in p)
     pub number : length (waiting_in p) ≤ p.planner.sent
     pub layout : p.runner.engine.layout ≡ layout_by table_count p.planner.reader

@@ -1,4 +1,4 @@
--- Plans that are made of the batches that a reader gives.
+-- Plans that are made of the batches that a reader gives
 use Rattle.std.specs.Prelude.{false, ◌≡◌, ℕ, ◌+◌, ◌≤◌, List, [], ◌∷◌, ◌++◌, length, map, All, Option, Some, None, Result, Ok, Err, IsTrue}
 use Rattle.morph_base.specs.declared.key.Layout.{Layout}
 use Rattle.morph_base.specs.declared.plan.Plan.{Plan}
@@ -11,86 +11,93 @@ use Rattle.event_reader.specs.declared.answers.Next.{Next}
 use Rattle.event_reader.specs.declared.answers.Next.TheVariants.{End as NoBatch, Refused as RefusedLine}
 use Rattle.event_reader.specs.declared.fault.ReaderFault.{ReaderFault}
 use Rattle.event_reader.specs.declared.fault.ReaderFault.TheVariants.{OutOfMemory, ReadFault}
-use Rattle.event_reader.specs.Reader.{ReaderView, accepted_by, AnswersNext, ShowsNext, Takes, SameReader}
+use Rattle.event_reader.specs.Reader.{ReaderView, accepted_by, AnswersNext, ShowsNext, TakesBytes, SameReader}
 use Rattle.rtrb.specs.Ring.{sent, known_free}
 use Rattle.batch_pipe.specs.declared.items.Sent.{Sent}
 use Rattle.batch_pipe.specs.declared.planner.Planner.{Planner}
 use Rattle.batch_pipe.specs.declared.tail.Tail.{Tail}
 use Rattle.batch_pipe.specs.declared.tail.Tail.TheVariants.{End, Refused, Fault, RunMemory}
-use Rattle.batch_pipe.specs.Reading.{Stand, stand, Gives}
+use Rattle.batch_pipe.specs.Reading.{Stand, stand, GivesBatches}
 
--- the answer of a reader that a tail tells; want of memory says nothing
+-- The answer of a reader that a tail stands for. For `RunMemory` it is `OutOfMemory`, which says nothing
 abbrev pub answer_of : Tail → Result Next ReaderFault
 answer_of End = Ok NoBatch
 answer_of (Refused line cause) = Ok (RefusedLine line cause)
 answer_of (Fault fault) = Err fault
 answer_of RunMemory = Err OutOfMemory
 
--- a plan that can be run on a state of the layout with no value above its own greatest one, once its bases are filled in
-pub record IsReady (layout : Layout) (high : ℕ) (p : Plan) : Type 0 where
+-- The plan is valid, has the greatest value `high`, and its keys are in the layout. Once its bases are filled in, it
+-- can be run on a state of the layout with no value above `high`
+pub record IsReadyPlan (layout : Layout) (high : ℕ) (p : Plan) : Type 0 where
   pub valid : IsValidPlan p
   pub keys : PlanKeysIn p layout
   pub high_is : high_of p ≡ high
 
--- plans of these batches, in order
+-- The plans are those of these batches, in order
 abbrev pub ArePlansOf : List (List Transaction) → List Plan → Type 0
 ArePlansOf batches plans = map transactions plans ≡ map by_time batches
 
+-- The plans that were sent
 abbrev pub plans_of : List Sent → List Plan
 plans_of sent = map (λ (x : Sent). x.plan) sent
 
--- numbered on, where so many were numbered before
+-- What was sent is numbered on, after `before` earlier numbers
 unfoldable pub AreNumbered : ℕ → List Sent → Type 0
 AreNumbered before [] = Unit {0}
 AreNumbered before (x ∷ xs) = (x.number ≡ before + 1) × AreNumbered (before + 1) xs
 
--- the layout of the keys that a reader's events have
+-- The layout of the keys that a reader's events have
 abbrev pub layout_by : {App : Type 0} → (table_count : App → ℕ) → ReaderView App → Layout
 layout_by table_count r = record { tables = table_count r.app; size = r.size }
 
 module _ {App : Type 0} (event_of : App → ℕ → Meaning) where
-  -- a reader was asked and gave no batch, or its batch was not planned, and so the tail came
-  pub record Stops (tail : Tail) (a b : Stand App) : Type 0 where
+  -- The reader was asked and gave no batch, or its batch was not planned, and so this tail was met
+  pub record StopsWithTail (tail : Tail) (a b : Stand App) : Type 0 where
     pub answers : AnswersNext (accepted_by event_of a.reader a.left) (answer_of tail) (accepted_by event_of b.reader b.left)
-    pub shows : Takes a.left b.left (ShowsNext event_of a.reader (answer_of tail) b.reader)
+    pub shows : TakesBytes a.left b.left (ShowsNext event_of a.reader (answer_of tail) b.reader)
     pub asked : tail ≡ Fault ReadFault → a.reader.lines.ended ≡ false
     pub same : SameReader a.reader b.reader
 
+  -- The reader met this tail, or there is no tail and it was not asked
   abbrev pub MayStop : Option Tail → Stand App → Stand App → Type 0
   MayStop None a b = b ≡ a
-  MayStop (Some tail) a b = Stops tail a b
+  MayStop (Some tail) a b = StopsWithTail tail a b
 
-  -- plans were made of the next batches that the reader gave, in order and each once; and then the tail came, if there is one
+  -- Plans were made of the next batches that the reader gave, in order and each once, and then the tail was met, if
+  -- there is one
   pub record Plans (a : Stand App) (plans : List Plan) (tail : Option Tail) (b : Stand App) : Type 0 where
     pub batches : List (List Transaction)
     pub middle : Stand App
-    pub gives : Gives event_of a batches middle
+    pub gives : GivesBatches event_of a batches middle
     pub plans_are : ArePlansOf batches plans
     pub stops : MayStop tail middle b
 
-  -- and they were sent behind those that were sent before, numbered on
-  pub record PlansAhead (layout : Layout) (high : ℕ) (a : Stand App) (before : List Sent) (number : ℕ) (tail : Option Tail) (b : Stand App) (after : List Sent) (number' : ℕ) : Type 0 where
+  -- Plans were made of the next batches that the reader gave, and sent behind those that were sent before, numbered on
+  pub record PlansAhead (layout : Layout) (high : ℕ) (a : Stand App) (before : List Sent) (number : ℕ)
+      (tail : Option Tail) (b : Stand App) (after : List Sent) (number' : ℕ) : Type 0 where
     pub more : List Sent
     pub sent_is : after ≡ before ++ more
     pub plans : Plans a (plans_of more) tail b
-    pub ready : All (λ (x : Sent). IsReady layout high x.plan) more
+    pub ready : All (λ (x : Sent). IsReadyPlan layout high x.plan) more
     pub numbered : AreNumbered number more
     pub number_is : number' ≡ number + length more
 
-  -- a planner read and planned so far, and sent what it planned over its ring; then it met the tail, if there is one
-  abbrev pub HasPlanned : (table_count : App → ℕ) → Planner App → Option (List ℕ) → Option Tail → Planner App → Option (List ℕ) → Type 0
+  -- The planner read, planned, and sent what it planned over its ring, and then met the tail, if there is one
+  abbrev pub HasPlanned : (table_count : App → ℕ) → Planner App → Option (List ℕ) → Option Tail → Planner App
+      → Option (List ℕ) → Type 0
   HasPlanned table_count a left tail b left' =
       PlansAhead (layout_by table_count a.reader) (greatest_of b.reader.past.version) (stand a.reader left) (sent a.ring) a.sent tail (stand b.reader left') (sent b.ring) b.sent
 
--- a planner may go on, for which each number of a plan is at most that of a line
+-- The planner may go on, and has sent at most as many plans as its reader gave lines
 pub record CanPlan {App : Type 0} (p : Planner App) : Type 0 where
   pub live : IsTrue p.reader.live
   pub counted : p.sent ≤ p.reader.lines.number
 
--- all places that a planner knew to be free were filled
+-- All places that the planner knew to be free were filled
 abbrev pub HasFilled : {App : Type 0} → Planner App → Planner App → Type 0
 HasFilled a b = length (sent a.ring) + known_free a.ring ≤ length (sent b.ring)
 
--- a planner did nothing
-abbrev pub IsIdle : {App : Type 0} → Planner App → Option (List ℕ) → Option Tail → Planner App → Option (List ℕ) → Type 0
-IsIdle a left tail b left' = (tail ≡ None) × (sent b.ring ≡ sent a.ring) × (b.reader ≡ a.reader) × (left' ≡ left)
+-- The planner did nothing
+abbrev pub IsIdlePlanner : {App : Type 0} → Planner App → Option (List ℕ) → Option Tail → Planner App → Option (List ℕ)
+    → Type 0
+IsIdlePlanner a left tail b left' = (tail ≡ None) × (sent b.ring ≡ sent a.ring) × (b.reader ≡ a.reader) × (left' ≡ left)

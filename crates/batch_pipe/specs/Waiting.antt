@@ -1,4 +1,4 @@
--- What contracts see of a pipe, and what a round of it does.
+-- What contracts see of a pipe, and what a round of it does
 use Rattle.std.specs.Prelude.{◌≡◌, ◌≢◌, ℕ, ◌+◌, ◌-◌, ◌≤◌, ◌⊎◌, List, [], ◌++◌, length, take, Option, None, Some, IsSome, IfSome}
 use Rattle.morph_base.specs.Flat.{Kept, contents}
 use Rattle.event_reader.specs.Steps.{Meaning}
@@ -13,8 +13,9 @@ use Rattle.batch_pipe.specs.Planning.{Plans, AreNumbered, plans_of}
 use Rattle.batch_pipe.specs.Running.{Manner, AreRun, state_after, last_after}
 use Rattle.decision_model.specs.Choices.{no_last}
 
--- a pipe: its reader, the state of its engine, the plans that wait and what came of those that were run, in order, how many plans were sent,
--- what came of the batch run before, the tail, and how many plans the ring can hold
+-- A pipe: its reader, the state of its engine, the plans that wait, the results of those that were run and not yet
+-- taken out, in order, how many plans were sent, the outcome of the batch run before, the tail, and how many plans the
+-- ring can hold
 pub record PipeView (App : Type 0) : Type 0 where
   pub reader : ReaderView App
   pub engine : Kept
@@ -25,48 +26,53 @@ pub record PipeView (App : Type 0) : Type 0 where
   pub tail : Option Tail
   pub ahead : ℕ
 
--- a new pipe
+-- A new pipe
 abbrev pub new_pipe : {App : Type 0} → ReaderView App → Kept → (ahead : ℕ) → PipeView App
 new_pipe reader engine ahead =
     record { reader = reader; engine = engine; waiting = []; rans = []; sent = 0; last = no_last; tail = None; ahead = ahead }
 
--- a plan waits in the ring or there is no tail; and the tail isn't want of memory in a run
+-- A plan waits or there is no tail, and the tail is not that memory for a run was refused
 abbrev pub IsGoing : {App : Type 0} → PipeView App → Type 0
 IsGoing v = ((v.tail ≡ None) ⊎ (v.waiting ≢ [])) × (v.tail ≢ Some RunMemory)
 
--- the tail that was met first
+-- The tail that was met first
 abbrev pub or_else : Option Tail → Option Tail → Option Tail
 or_else None stop = stop
 or_else (Some tail) stop = Some tail
 
--- the number of the last plan that does not wait
+-- The number of the last plan that does not wait
 abbrev pub number_before : {App : Type 0} → PipeView App → ℕ
 number_before v = v.sent - length v.waiting
 
--- a round
-pub record IsRound {App : Type 0} (event_of : App → ℕ → Meaning) (m : Manner) (a : PipeView App) (left : Option (List ℕ)) (b : PipeView App) (left' : Option (List ℕ)) : Type 0 where
-  -- the plans that it sent, of the next batches that the reader gives, and the tail that it met
+-- A round of the pipe. The plans that it sent are of the next batches that the reader gives, in order and each once.
+-- Those that it ran are the first of all that waited, and the others wait. The state, the numbers and the strategies go
+-- on. If no memory was refused, all that waited were run. At least as many plans were sent as there were free places,
+-- unless a tail was met
+pub record IsRound {App : Type 0} (event_of : App → ℕ → Meaning) (m : Manner) (a : PipeView App)
+    (left : Option (List ℕ)) (b : PipeView App) (left' : Option (List ℕ)) : Type 0 where
+  -- The plans that the round sent, of the next batches that the reader gives, and the tail that it met
   pub more : List Sent
   pub stop : Option Tail
   pub plans : Plans event_of (stand a.reader left) (plans_of more) stop (stand b.reader left')
-  -- the plans that it ran, in order, and one for which memory was refused
+  -- The plans that the round ran, in order, and one for which memory was refused
   pub runs : List Sent
   pub lost : List Sent
   pub parts : a.waiting ++ more ≡ (runs ++ lost) ++ b.waiting
   pub run : AreRun m (contents a.engine) a.last runs b.rans
   pub state_is : contents b.engine ≡ state_after (contents a.engine) runs
   pub last_is : b.last ≡ last_after a.last b.rans
-  -- the numbers
+  -- The numbers go on
   pub sent_is : b.sent ≡ a.sent + length more
   pub numbered : AreNumbered (number_before a) (a.waiting ++ more)
-  -- nothing is read after a tail; else as many plans are sent as there were free places when the halves started
+  -- Nothing is read after a tail. Without one, at least as many plans are sent as there were free places when the
+  -- halves started
   pub idle : IsSome a.tail → (more ≡ []) × (stop ≡ None) × (b.reader ≡ a.reader) × (left' ≡ left)
   pub enough : a.tail ≡ None → stop ≡ None → a.ahead + (1 - length a.waiting) ≤ length a.waiting + length more
   pub stop_is : IfSome stop (λ tail. tail ≢ RunMemory)
-  -- where memory was there, all that waited were run, or the one that was read first
+  -- If no memory was refused, all that waited were run, or, if none did, the one that was read first
   pub whole : lost ≡ [] → runs ≡ a.waiting ++ take (1 - length a.waiting) more
   pub met : lost ≡ [] → b.tail ≡ or_else a.tail stop
   pub refused : lost ≢ [] → (length lost ≡ 1) × (b.tail ≡ Some RunMemory)
-  -- the rest stays
+  -- The rest stays
   pub layout : b.engine.layout ≡ a.engine.layout
   pub ahead_is : b.ahead ≡ a.ahead

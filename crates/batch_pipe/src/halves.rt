@@ -5,8 +5,8 @@ ghost use Rattle.morph_io.specs.Told.{HasRisen};
 ghost use Rattle.event_reader.specs.declared.fault.ReaderFault.TheVariants.{ReadFault};
 ghost use Rattle.rtrb.specs.Ring.{SameProducer};
 ghost use Rattle.event_reader.specs.Reader.{SameReader};
-ghost use Rattle.batch_pipe.specs.Planning.{HasPlanned, HasFilled, CanPlan, IsIdle};
-ghost use Rattle.batch_pipe.specs.Running.{CanRun, HasRun, manner, one_or_none};
+ghost use Rattle.batch_pipe.specs.Planning.{HasPlanned, HasFilled, CanPlan, IsIdlePlanner};
+ghost use Rattle.batch_pipe.specs.Running.{CanRun, HasRunWaiting, manner, one_or_none};
 
 use crate::items::Sent;
 use crate::planner::{Planner, plan_half};
@@ -17,8 +17,8 @@ use morph_io::Source;
 use std::thread::{Threads, join_mut};
 use worker_gate::Gate;
 
-/// A plan of so many operations is run side by side with reading and planning the next ones. Beside a smaller one the start
-/// of a thread would cost more than it brings: docs/PERFORMANCE.md.
+/// A plan of this many operations is run side by side with reading and planning the next ones. Beside a smaller one the
+/// start of a thread would cost more than it saves: docs/PERFORMANCE.md.
 const SHARED_OPS: usize = 16_384;
 
 /// The runner's half of a round.
@@ -30,7 +30,7 @@ fn run_half<R: Threads + Sync, G: Gate>(
     requires waiting { CanRun (one_or_none first.old) runner.old }
     requires some { 1 ≤ host.now.workers }
     requires few { host.now.workers ≤ most_workers }
-    ensures { HasRun (manner host.now.pick host.now.workers)
+    ensures { HasRunWaiting (manner host.now.pick host.now.workers)
         (one_or_none first.old) runner.old result runner.new }
 {
     let first = first.take();
@@ -46,8 +46,8 @@ fn first_ops(runner: &Runner, first: &Option<Sent>) -> usize {
     }
 }
 
-/// The two halves of a round: side by side, and neither waits for the other; or, if the first plan has fewer than 16,384
-/// operations, one after the other.
+/// The two halves of a round: side by side, and neither waits for the other; or, if the first plan has fewer than
+/// 16,384 operations, one after the other.
 pub(crate) fn run_halves<R: Threads + Sync, A: EventApp + Send, S: Source + Send, G: Gate>(
     host: &Host<'_, R, G>,
     planning: bool,
@@ -66,13 +66,13 @@ pub(crate) fn run_halves<R: Threads + Sync, A: EventApp + Send, S: Source + Send
     ensures filled { IsTrue planning → IfNone result.0 (HasFilled planner.old planner.new) }
     ensures able { IsTrue planning → IfNone result.0 (CanPlan planner.new) }
     ensures idle { planning ≡ false
-        → IsIdle planner.old (S.left source.old) result.0 planner.new (S.left source.new) }
+        → IsIdlePlanner planner.old (S.left source.old) result.0 planner.new (S.left source.new) }
     ensures planner { IfSome result.0 (λ tail. tail ≢ Tail.RunMemory) }
     ensures same { SameReader planner.old.reader planner.new.reader }
     ensures never_falls { S.faults source.old ≤ S.faults source.new }
     ensures cause { IfSome result.0 (λ tail. tail ≡ Tail.Fault ReadFault
         → HasRisen (S.faults source.old) (S.faults source.new)) }
-    ensures runs { HasRun (manner host.now.pick host.now.workers)
+    ensures runs { HasRunWaiting (manner host.now.pick host.now.workers)
         (one_or_none first) runner.old result.1 runner.new }
 {
     let mut first = first;
@@ -87,7 +87,7 @@ pub(crate) fn run_halves<R: Threads + Sync, A: EventApp + Send, S: Source + Send
         &mut || -> bool
             requires { IsSync R.row × CanRun (one_or_none first) runner.now
                 × (1 ≤ host.now.workers) × (host.now.workers ≤ most_workers) }
-            ensures { HasRun (manner host.entry.now.pick host.entry.now.workers)
+            ensures { HasRunWaiting (manner host.entry.now.pick host.entry.now.workers)
                 (one_or_none first.entry) runner.entry.now result runner.exit.now }
         { run_half(host, runner, &mut first) },
     )

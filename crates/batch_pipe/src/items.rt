@@ -15,28 +15,28 @@ pub struct Sent {
     pub plan: Plan,
 }
 
-/// What a batch came to.
+/// The result of a batch.
 #[derive(Drop)]
 pub struct Ran {
     /// The number of the batch, from 1 on.
     pub number: u64,
     /// The strategy that was picked for it.
     pub strategy: Strategy,
-    /// All that the engine tells of it.
+    /// All that the engine returns of it.
     pub end: BatchEnd,
 }
 
 /// How the strategy of each batch is picked.
 #[derive(Clone, Copy, Debug, PartialEq, Eq)]
 pub struct Picker {
-    /// Whether it is chosen by the batch's plan and by what came of the batch before.
+    /// Whether it is chosen by the batch's plan and by the outcome of the batch before.
     pub auto: bool,
-    /// The strategy of all batches, where it isn't.
+    /// The strategy of all batches, if it is not chosen for each.
     pub strategy: Strategy,
 }
 
 impl Picker {
-    /// The strategy for a valid plan, after a batch that came to `last`.
+    /// The strategy for a valid plan, after a batch with the outcome `last`.
     pub(crate) fn pick(&self, plan: &Plan, last: Last) -> Strategy
         requires { IsValidPlan plan.now }
         ensures { result ≡ picked self.now last plan.now }

@@ -1,11 +1,11 @@
-//! What the rounds of a whole run come to, as the contracts of functions that do nothing.
+//! What the rounds of a whole run do together, as the contracts of functions that do nothing.
 //!
-//! A crate above cites the lemmas behind them, which stand in `proofs/`.
+//! A crate above cites the lemmas in `proofs/` that prove them.
 ghost use Rattle.std.specs.Prelude.{◌≡◌, ◌≢◌, ℕ, ◌+◌, ◌*◌, ◌<◌, ◌≤◌, [], ◌++◌, List, length, Option, Some, IfSome};
 ghost use Rattle.morph_base.specs.Flat.{Kept};
 ghost use Rattle.morph_base.specs.Transactions.{Transaction};
 ghost use Rattle.event_reader.specs.Accepted.{Ending, closed_batches};
-ghost use Rattle.event_reader.specs.Reader.{ReaderView, accepted_by, new_reader, Takes};
+ghost use Rattle.event_reader.specs.Reader.{ReaderView, accepted_by, new_reader, TakesBytes};
 ghost use Rattle.event_reader.specs.declared.fault.ReaderFault.TheVariants.{ReadFault};
 ghost use Rattle.batch_pipe.specs.declared.items.Ran.{Ran};
 ghost use Rattle.batch_pipe.specs.declared.tail.Tail.{Tail};
@@ -17,8 +17,8 @@ ghost use Rattle.batch_pipe.specs.Waiting.{PipeView, IsGoing, IsRound, new_pipe}
 
 use event_reader::EventApp;
 
-/// Over a whole run the plans that are run are the first of those that are sent, in order, and these are the plans of
-/// the first accepted batches, each once, numbered from 1: a new pipe has such a course, and each round and each
+/// Over a whole run, the plans that are run are the first of those that are sent, in order, and these are the plans of
+/// the first accepted batches, each once, numbered from 1. A new pipe has such a course, and each round and each
 /// [`Pipe::next`](crate::Pipe::next) goes on with it.
 pub fn courses_go_on<A: EventApp>()
     ensures begins { (m : Manner) (reader : ReaderView A) (engine : Kept) (ahead : ℕ)
@@ -36,8 +36,8 @@ pub fn courses_go_on<A: EventApp>()
         → IsCourse A.event_of m reader engine left rounds rans new after }
 {}
 
-/// A run ends: each round leaves fewer that there can be, also where what came of a batch counts half a one; and there
-/// is at most one more than batches that were read.
+/// A run ends: each round lowers the number of rounds that there can still be, even if each result counts half a round.
+/// There is at most one more round than batches that were read.
 pub fn rounds_are_few<A: EventApp>()
     ensures fall { (m : Manner) (before after : Option (List ℕ)) (old new : PipeView A)
         → IsRound A.event_of m old before new after → IsGoing old
@@ -49,12 +49,12 @@ pub fn rounds_are_few<A: EventApp>()
         → rounds ≤ length course.plans.batches + 1 }
 {}
 
-/// What was read and what was run, when a run is over or before.
+/// What was read and what was run, at the end of a run or before.
 ///
-/// The batches that were read are the first of those that are accepted, and those of which plans were run are the first
-/// of these. Where the pipe isn't going, and memory to run a plan was not refused, all that were read were run. Where
-/// the input came to its end, a line was refused, or the limit was reached, they are all that are accepted. Where the
-/// source failed they are those that are closed within the bytes that were taken.
+/// The batches that were read are the first of those that are accepted, and the batches whose plans were run are the
+/// first of these. If the pipe is not going, and memory to run a plan was not refused, all that were read were run. If
+/// the input came to its end, a line was refused, or the limit was reached, they are all that are accepted. If the
+/// source failed, they are those that are closed within the bytes that were taken.
 pub fn courses_end<A: EventApp>()
     ensures front { (m : Manner) (reader : ReaderView A) (engine : Kept)
         (left after : Option (List ℕ)) (rounds : ℕ) (rans : List Ran) (v : PipeView A)
@@ -83,6 +83,6 @@ pub fn courses_end<A: EventApp>()
         (course : IsCourse A.event_of m reader engine left rounds rans v after)
         (app : A) (size limit : ℕ)
         → reader ≡ new_reader app size limit → course.stop ≡ Some (Fault ReadFault)
-        → Takes left after (λ got.
+        → TakesBytes left after (λ got.
         closed_batches (A.event_of app size) got ≡ course.plans.batches) }
 {}

@@ -1,13 +1,13 @@
 //! Planning ahead: the next batches are read and planned while one is run.
 //!
-//! Below it stand `event_reader`, which reads batches, `morph_engine`, which plans and runs them, `decision_model`,
-//! which chooses their strategies, and a ring of the crate `rtrb`, over which the plans go. A caller makes a [`Pipe`]
-//! of a reader and an engine. While it is [`Pipe::going`] a [`Pipe::round`] reads, plans and runs, and
-//! [`Pipe::next`] gives what came of each batch that was run, in the order of the input. [`Pipe::tail`] tells in the
-//! end why no further batch comes.
+//! It uses `event_reader`, which reads batches, `morph_engine`, which plans and runs them, `decision_model`, which
+//! chooses their strategies, and a ring of the crate `rtrb`, over which the plans go. A caller makes a [`Pipe`] of a
+//! reader and an engine. While it is [`Pipe::going`] a [`Pipe::round`] reads, plans and runs, and [`Pipe::next`]
+//! returns the result of each batch that was run, in the order of the input. At the end, [`Pipe::tail`] says why no
+//! further batch comes.
 //!
-//! The batches, their order, their plans but for the bases, and what comes of them do not depend on how far the planner
-//! came while another was run. What whole runs come to, round after round, is told in [`laws`].
+//! The batches, their order, their plans but for the bases, and their results do not depend on how far the planner got
+//! while another batch was run. [`laws`] says what whole runs do, round after round.
 #![tactic(auto)]
 
 mod halves;

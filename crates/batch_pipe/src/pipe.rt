@@ -30,8 +30,9 @@ use worker_gate::Gate;
 
 /// Batches that are read and planned ahead of the one that is run.
 ///
-/// Contracts see its reader, its engine, the plans that wait in its ring, what came of those that were run and not yet
-/// taken out, how many plans were sent, what came of the batch that was run last, the tail, and how many plans can wait.
+/// Contracts see its reader, its engine, the plans that wait in its ring, the results of those that were run and not
+/// yet taken out, how many plans were sent, the outcome of the batch that was run last, the tail, and how many plans
+/// can wait.
 #[derive(Drop)]
 pub struct Pipe<A: EventApp> {
     planner: Planner<A>,
@@ -51,7 +52,7 @@ impl<A: EventApp> Model for Pipe<A> {
     ghost invariant = { λ pipe. IsPipe A.table_count pipe };
 }
 
-/// Places for what comes of plans, all free.
+/// Places for results, all free.
 fn free_places(alloc: Global, ahead: usize) -> Result<List<Option<Ran>>, OutOfMemory>
     ensures { IfOk result (λ rans. rans.items ≡ replicate ahead None) }
 {
@@ -62,7 +63,7 @@ fn free_places(alloc: Global, ahead: usize) -> Result<List<Option<Ran>>, OutOfMe
     Ok(rans)
 }
 
-/// Takes out what stands at a place.
+/// Takes out the result at a place.
 fn take_at(rans: &mut List<Option<Ran>>, i: usize) -> Option<Ran>
     requires { i < length rans.old.items }
     ensures taken { (d : Option Ran) → result ≡ slice_index_or rans.old.items i d }
@@ -71,7 +72,7 @@ fn take_at(rans: &mut List<Option<Ran>>, i: usize) -> Option<Ran>
     rans.as_mut_slice()[i].take()
 }
 
-/// Takes out the first that is there.
+/// Takes out the first result that is there.
 fn take_first(rans: &mut List<Option<Ran>>) -> Option<Ran>
     ensures some { IfSome result (λ ran. somes rans.old.items ≡ ran ∷ somes rans.new.items) }
     ensures none { IfNone result ((somes rans.old.items ≡ []) × (somes rans.new.items ≡ [])) }
@@ -103,7 +104,7 @@ fn bring_together(producer: &mut Producer<Sent>, consumer: &mut Consumer<Sent>)
     consumer.slots_beside(producer);
 }
 
-/// Whether a batch is read before the halves begin: where no plan waits and there is no tail.
+/// Whether a batch is read before the halves begin: if no plan waits and there is no tail.
 fn asks_first(planning: bool, waiting: usize) -> bool
     ensures { IsTrue result ↔ (IsTrue planning × (waiting ≡ 0)) }
 {
@@ -174,7 +175,7 @@ impl<A: EventApp> Pipe<A> {
         (reads || self.runner.ring.cached_slots() > 0) && self.tail != Some(Tail::RunMemory)
     }
 
-    /// Takes out the next of what came of the plans, in order. There is none exactly where none waits.
+    /// Takes out the next result, in the order of the plans. There is none exactly if no result waits.
     pub fn next(&mut self) -> Option<Ran>
         ensures some { IfSome result (λ ran. (self.new ≡ record self.old { rans = self.new.rans })
             × (self.old.rans ≡ ran ∷ self.new.rans)) }
@@ -185,14 +186,14 @@ impl<A: EventApp> Pipe<A> {
 
     /// One round: the next batches are read and planned while the plans that wait are run, from 1 to 16 workers each.
     ///
-    /// Where no plan waits and there is no tail, one batch is read and planned first, and its plan goes to the runner
-    /// without the ring. Then two halves run side by side, of which neither waits for the other. The planner reads,
-    /// plans and sends until it sees no free place or meets a tail; it fills at least the places that were free when the
-    /// halves began. The runner takes the plans that waited then, in order, and picks the strategy of each.
+    /// If no plan waits and there is no tail, one batch is read and planned first, and its plan goes to the runner
+    /// without the ring. Then two halves run side by side; neither waits for the other. The planner reads, plans and
+    /// sends until it sees no free place or meets a tail; it fills at least the places that were free when the halves
+    /// began. The runner takes the plans that waited then, in order, and picks the strategy of each.
     ///
-    /// Want of memory to run a plan is told as [`Tail::RunMemory`], whatever tail the planner met: that plan is dropped,
-    /// and the engine stays as it was before it. Want of memory in planning is told as that of the reader, and the batch
-    /// is not sent.
+    /// If memory to run a plan is refused, the tail is [`Tail::RunMemory`], whatever tail the planner met. That plan is
+    /// dropped, and the engine stays as it was before it. If memory for planning is refused, the tail is that of the
+    /// reader, and the batch is not sent.
     pub fn round<R: Threads + Sync, S: Source + Send, G: Gate>(
         &mut self,
         rt: &R,

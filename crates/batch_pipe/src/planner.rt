@@ -6,7 +6,7 @@ ghost use Rattle.event_reader.specs.declared.fault.ReaderFault.TheVariants.{Read
 ghost use Rattle.rtrb.specs.Ring.{SameProducer};
 ghost use Rattle.batch_pipe.specs.Reading.{stand};
 ghost use Rattle.event_reader.specs.Reader.{SameReader};
-ghost use Rattle.batch_pipe.specs.Planning.{IsReady, Plans, Stops, PlansAhead, HasPlanned, HasFilled, CanPlan, IsIdle, layout_by};
+ghost use Rattle.batch_pipe.specs.Planning.{IsReadyPlan, Plans, StopsWithTail, PlansAhead, HasPlanned, HasFilled, CanPlan, IsIdlePlanner, layout_by};
 ghost use Rattle.batch_pipe.specs.Running.{one_or_none};
 
 use crate::items::Sent;
@@ -27,7 +27,7 @@ pub(crate) struct Planner<A> {
     pub(crate) sent: u64,
 }
 
-/// Reads the next batch and plans it, or tells why there is none.
+/// Reads the next batch and plans it, or says why there is none.
 fn read_plan<A: EventApp, S: Source>(
     alloc: Global,
     reader: &mut BatchReader<A>,
@@ -36,11 +36,11 @@ fn read_plan<A: EventApp, S: Source>(
     requires live { IsTrue reader.old.live }
     ensures plan { IfOk result (λ plan. Plans A.event_of
         (stand reader.old (S.left source.old)) (plan ∷ []) None (stand reader.new (S.left source.new))) }
-    ensures ready { IfOk result (IsReady (layout_by A.table_count reader.old)
+    ensures ready { IfOk result (IsReadyPlan (layout_by A.table_count reader.old)
         (greatest_of reader.new.past.version)) }
     ensures live { IfOk result (λ plan. IsTrue reader.new.live) }
     ensures counted { IfOk result (λ plan. reader.old.lines.number < reader.new.lines.number) }
-    ensures tail { IfErr result (λ tail. Stops A.event_of tail
+    ensures tail { IfErr result (λ tail. StopsWithTail A.event_of tail
         (stand reader.old (S.left source.old)) (stand reader.new (S.left source.new))) }
     ensures planner { IfErr result (λ tail. tail ≢ Tail.RunMemory) }
     ensures same { SameReader reader.old reader.new }
@@ -62,7 +62,7 @@ fn read_plan<A: EventApp, S: Source>(
     }
 }
 
-/// Reads and plans the first batch of a round, where it is asked for. Its plan goes to the runner without the ring.
+/// Reads and plans the first batch of a round, if it is asked for. Its plan goes to the runner without the ring.
 pub(crate) fn read_first<A: EventApp, S: Source>(
     alloc: Global,
     asked: bool,
@@ -75,7 +75,7 @@ pub(crate) fn read_first<A: EventApp, S: Source>(
         (greatest_of planner.new.reader.past.version)
         (stand planner.old.reader (S.left source.old)) [] planner.old.sent
         None (stand planner.new.reader (S.left source.new)) (one_or_none first) planner.new.sent) }
-    ensures stops { IfErr result (λ tail. Stops A.event_of tail
+    ensures stops { IfErr result (λ tail. StopsWithTail A.event_of tail
         (stand planner.old.reader (S.left source.old))
         (stand planner.new.reader (S.left source.new))) }
     ensures asked { IsTrue asked → IfOk result (λ first. length (one_or_none first) ≡ 1) }
@@ -104,7 +104,7 @@ pub(crate) fn read_first<A: EventApp, S: Source>(
     }))
 }
 
-/// Reads, plans and sends as long as it sees a free place, and tells the tail that it met.
+/// Reads, plans and sends as long as it sees a free place, and returns the tail that it met.
 ///
 /// It fills the places that it knew to be free, unless it meets a tail. It may see places that become free meanwhile.
 fn plan_ahead<A: EventApp, S: Source>(
@@ -139,7 +139,7 @@ fn plan_ahead<A: EventApp, S: Source>(
     }
 }
 
-/// The planner's half of a round: it plans ahead, or does nothing where a tail was met before.
+/// The planner's half of a round: it plans ahead, or does nothing if a tail was met before.
 pub(crate) fn plan_half<A: EventApp, S: Source>(
     alloc: Global,
     planning: bool,
@@ -153,7 +153,7 @@ pub(crate) fn plan_half<A: EventApp, S: Source>(
     ensures filled { IsTrue planning → IfNone result (HasFilled planner.old planner.new) }
     ensures able { IsTrue planning → IfNone result (CanPlan planner.new) }
     ensures idle { planning ≡ false
-        → IsIdle planner.old (S.left source.old) result planner.new (S.left source.new) }
+        → IsIdlePlanner planner.old (S.left source.old) result planner.new (S.left source.new) }
     ensures planner { IfSome result (λ tail. tail ≢ Tail.RunMemory) }
     ensures same { SameReader planner.old.reader planner.new.reader }
     ensures never_falls { S.faults source.old ≤ S.faults source.new }

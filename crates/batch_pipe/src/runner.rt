@@ -4,8 +4,8 @@ ghost use Rattle.morph_base.specs.Flat.{contents};
 ghost use Rattle.morph_base.specs.States.{after_all};
 ghost use Rattle.morph_base.specs.Plans.{IsPlan, IsSettledOf, transactions};
 ghost use Rattle.morph_engine.specs.Fates.{settled_fates};
-ghost use Rattle.batch_pipe.specs.Running.{IsRun, Runs, HasRun, HasPlace, IsRunnable};
-ghost use Rattle.batch_pipe.specs.Running.{CanRun, IsRefused, came_of, desk, manner, one_or_none};
+ghost use Rattle.batch_pipe.specs.Running.{IsSentRun, Runs, HasRunWaiting, HasPlace, IsRunnable};
+ghost use Rattle.batch_pipe.specs.Running.{CanRun, IsPlanRefused, came_of, desk, manner, one_or_none};
 ghost use Rattle.decision_model.specs.Choices.{last_of};
 
 use crate::items::{Picker, Ran, Sent};
@@ -17,7 +17,7 @@ use std::alloc::Global;
 use std::thread::Threads;
 use worker_gate::Gate;
 
-/// With what plans are run, and how.
+/// What plans are run with, and how.
 #[derive(Drop)]
 pub(crate) struct Host<'a, R, G> {
     pub(crate) rt: &'a R,
@@ -33,9 +33,9 @@ pub(crate) struct Host<'a, R, G> {
 pub(crate) struct Runner {
     pub(crate) engine: Engine,
     pub(crate) ring: Consumer<Sent>,
-    /// A place for what comes of each plan that can wait.
+    /// A place for the result of each plan that can wait.
     pub(crate) rans: List<Option<Ran>>,
-    /// What came of the batch that was run last.
+    /// The outcome of the batch that was run last.
     pub(crate) last: Last,
 }
 
@@ -46,7 +46,7 @@ fn aborts(verdicts: &[bool]) -> usize
     verdicts.iter().filter(|verdict| !**verdict).count()
 }
 
-/// What a batch came to, for the one behind it.
+/// The outcome of a batch, for the one behind it.
 fn last_by(end: &BatchEnd) -> Last
     requires settled { IsSettledOf end.now.plan end.now.settled }
     ensures { result ≡ last_of (settled_fates end.now.plan end.now.settled) }
@@ -67,7 +67,7 @@ fn run_one<R: Threads + Sync, G: Gate>(
     requires ready { IsRunnable engine.old sent.plan }
     requires some { 1 ≤ host.now.workers }
     requires few { host.now.workers ≤ most_workers }
-    ensures run { IfOk result (IsRun (manner host.now.pick host.now.workers)
+    ensures run { IfOk result (IsSentRun (manner host.now.pick host.now.workers)
         (contents engine.old) last.old sent) }
     ensures state { OnOk result (contents engine.new
         ≡ after_all (contents engine.old) (transactions sent.plan)) }
@@ -88,7 +88,7 @@ fn run_one<R: Threads + Sync, G: Gate>(
     })
 }
 
-/// Runs a plan, and puts what comes of it into the next place; it answers whether memory was there.
+/// Runs a plan, and puts the result into the next place. Returns whether memory was there.
 fn run_into<R: Threads + Sync, G: Gate>(
     host: &Host<'_, R, G>,
     runner: &mut Runner,
@@ -101,7 +101,7 @@ fn run_into<R: Threads + Sync, G: Gate>(
     requires few { host.now.workers ≤ most_workers }
     ensures run { IsTrue result → Runs (manner host.now.pick host.now.workers)
         (desk runner.old place.old) (sent ∷ []) (desk runner.new place.new) }
-    ensures refused { IsFalse result → IsRefused runner.old place.old runner.new place.new }
+    ensures refused { IsFalse result → IsPlanRefused runner.old place.old runner.new place.new }
     ensures ring { runner.new.ring ≡ runner.old.ring }
     ensures layout { runner.new.engine.layout ≡ runner.old.engine.layout }
 {
@@ -115,7 +115,7 @@ fn run_into<R: Threads + Sync, G: Gate>(
     }
 }
 
-/// Runs the plan that goes without the ring, if there is one.
+/// Runs the plan that does not go through the ring, if there is one.
 fn run_first<R: Threads + Sync, G: Gate>(
     host: &Host<'_, R, G>,
     runner: &mut Runner,
@@ -129,7 +129,7 @@ fn run_first<R: Threads + Sync, G: Gate>(
     ensures run { IsTrue result → Runs (manner host.now.pick host.now.workers)
         (desk runner.old place.old) (one_or_none first) (desk runner.new place.new) }
     ensures refused { IsFalse result → (length (one_or_none first) ≡ 1)
-        × IsRefused runner.old place.old runner.new place.new }
+        × IsPlanRefused runner.old place.old runner.new place.new }
     ensures ring { runner.new.ring ≡ runner.old.ring }
     ensures layout { runner.new.engine.layout ≡ runner.old.engine.layout }
 {
@@ -139,10 +139,10 @@ fn run_first<R: Threads + Sync, G: Gate>(
     }
 }
 
-/// Runs the plans that wait: the one that goes without the ring, if there is one, and those that are known to be in the
-/// ring. It pops no other.
+/// Runs the plans that wait: the one that does not go through the ring, if there is one, and those that are known to be
+/// in the ring. It pops no other.
 ///
-/// It answers whether all of them were run. One that memory was refused for is dropped, and those behind it stay.
+/// Returns whether all of them were run. A plan for which memory was refused is dropped, and those behind it stay.
 pub(crate) fn run_waiting<R: Threads + Sync, G: Gate>(
     host: &Host<'_, R, G>,
     runner: &mut Runner,
@@ -151,7 +151,7 @@ pub(crate) fn run_waiting<R: Threads + Sync, G: Gate>(
     requires waiting { CanRun (one_or_none first) runner.old }
     requires some { 1 ≤ host.now.workers }
     requires few { host.now.workers ≤ most_workers }
-    ensures { HasRun (manner host.now.pick host.now.workers)
+    ensures { HasRunWaiting (manner host.now.pick host.now.workers)
         (one_or_none first) runner.old result runner.new }
 {
     let mut place = 0;

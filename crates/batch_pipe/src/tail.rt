@@ -16,7 +16,7 @@ pub enum Tail {
     RunMemory,
 }
 
-/// The tail after a round: that of before, or the one that its planner met, or [`Tail::RunMemory`] where its runner did
+/// The tail after a round: the earlier one, or the one that its planner met, or [`Tail::RunMemory`] if its runner did
 /// not run all that it was to.
 pub(crate) fn tail_after(before: Option<Tail>, stop: Option<Tail>, all: bool) -> Option<Tail>
     ensures whole { IsTrue all → result ≡ or_else before stop }

@@ -1,4 +1,4 @@
-//! What viewers see of the balances before and after the four events were published.
+//! What viewers see of the balances before and after the four events are published.
 ghost use Rattle.std.specs.Prelude.{◌≡◌, [], IfOk};
 ghost use Rattle.morph_base.specs.Plans.{IsPlan, HasBases, IsSettledOf, PlanKeysIn};
 ghost use Rattle.morph_base.specs.States.{opening_state};
@@ -38,7 +38,7 @@ fn publish_four<R: Wait + Abort>(
     publisher.publish(rt, alloc, &plan, &settled)
 }
 
-/// What a viewer sees of account 0, and of the sums of both tables, one of them in a thread of its own.
+/// What a viewer sees of account 0, and of the sums of both tables. It looks at one of them in a thread of its own.
 fn look<R: Threads>(rt: &R, viewer: &mut Viewer) -> (Option<At>, [Option<Total>; 2]) {
     let account = viewer.value(Key::of(ACCOUNTS, 0));
     let accounts = viewer.total(ACCOUNTS);
@@ -47,7 +47,7 @@ fn look<R: Threads>(rt: &R, viewer: &mut Viewer) -> (Option<At>, [Option<Total>;
     (account, [accounts, assets])
 }
 
-/// What is seen after so many batches, where account 0 and the tables have these values.
+/// What is seen after this many batches, if account 0 and the tables have these values.
 fn seen(number: u64, account: u64, totals: [u64; 2]) -> (Option<At>, [Option<Total>; 2]) {
     let value = At {
         number,
@@ -72,7 +72,7 @@ fn viewers_see_whole_batches(rt: HostRuntime) -> Result<(), Fail> {
     assert_eq!(rt; published?, 1);
     assert_eq!(rt; before, Some(seen(0, 0, [0, 0])));
     assert_eq!(rt; after, Some(seen(1, 40, [100, 5])));
-    // It was told nothing, and may see either.
+    // Nobody told this viewer of the batch, so it may see either state.
     let is_either = untold == Some(seen(0, 0, [0, 0])) || untold == Some(seen(1, 40, [100, 5]));
     assert!(rt; is_either);
     Ok(())

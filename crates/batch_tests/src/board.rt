@@ -12,7 +12,7 @@ use op_words::{
 };
 use std::test::Fail;
 
-/// What the calls of one way through an operation answered, as far as it came.
+/// What the calls of one way through an operation returned, up to the call that ended it.
 #[derive(Clone, Copy, Debug, PartialEq, Eq)]
 pub(crate) struct Way {
     readied: Readied,
@@ -57,7 +57,7 @@ pub(crate) fn evaluate(board: &Board, hand: &mut Hand, plan: &Plan, op: u32) -> 
     way
 }
 
-/// Blocked at attempt 1.
+/// The word of an operation that is blocked at attempt 1.
 const BLOCKED: u64 = 0x0000_1000_0000_0000;
 
 fn word(state: OpState, value: u64, by: u8) -> OpWord {
@@ -79,7 +79,7 @@ fn whole(read: u64, outcome: Outcome) -> Way {
     }
 }
 
-/// Whether the hand's ways are as the rows say, one after another. A row has an operation, its way and its packed word
+/// Whether the hand's ways are as the rows say, one after another. A row has an operation, its way, and its packed word
 /// afterwards.
 fn held(board: &Board, hand: &mut Hand, plan: &Plan, rows: &[(u32, Way, u64)]) -> bool
     requires hand { IsHandOf board.now hand.old }
@@ -101,7 +101,8 @@ fn held(board: &Board, hand: &mut Hand, plan: &Plan, rows: &[(u32, Way, u64)]) -
     true
 }
 
-/// The operations of the first two events that read one place: what is read, the outcome, and the packed word.
+/// The rows have the operations of the first two events that read one place: what is read, the outcome, and the packed
+/// word.
 #[test]
 fn one_hand_evaluates(rt: HostRuntime) -> Result<(), Fail> {
     let plan = plan(&rt, rt.alloc())?;
@@ -131,7 +132,7 @@ fn one_hand_evaluates(rt: HostRuntime) -> Result<(), Fail> {
     Ok(())
 }
 
-/// Evaluates an operation that reads one place; whether it failed.
+/// Evaluates an operation that reads one place, and returns whether it failed.
 pub(crate) fn fails(board: &Board, hand: &mut Hand, plan: &Plan, op: u32) -> bool
     requires hand { IsHandOf board.now hand.old }
     requires plan { plan.now ≡ plan_of board.now }
@@ -147,8 +148,8 @@ pub(crate) fn fails(board: &Board, hand: &mut Hand, plan: &Plan, op: u32) -> boo
     }
 }
 
-/// Evaluates an operation that reads one place, and spreads its failure to another one of its event, twice; `None`
-/// where it did not fail.
+/// Evaluates an operation that reads one place, and spreads its failure to another one of its event, twice. Returns
+/// `None` if the operation did not fail.
 fn spread_twice(
     board: &Board,
     hand: &mut Hand,
@@ -176,7 +177,7 @@ fn spread_twice(
     Some((first, again))
 }
 
-/// Operation 3 fails, and takes operation 2 along, which operation 6 has read.
+/// Operation 3 fails, and its failure is spread to operation 2, which operation 6 has read.
 fn withdraw(board: &Board, hand: &mut Hand, plan: &Plan) -> Option<(Spreaded, Spreaded)>
     requires hand { IsHandOf board.now hand.old }
     requires plan { plan.now ≡ plan_of board.now }
@@ -194,7 +195,7 @@ fn withdraw(board: &Board, hand: &mut Hand, plan: &Plan) -> Option<(Spreaded, Sp
     spread_twice(board, hand, plan, 2, 3)
 }
 
-/// What rollbacks of operations 6, 3 and 2 come to then.
+/// The results of rolling back operations 6, 3 and 2 after that.
 fn roll_back(board: &Board, hand: &mut Hand, plan: &Plan) -> Option<(Rolled, Rolled, Rolled)>
     requires hand { IsHandOf board.now hand.old }
     requires plan { plan.now ≡ plan_of board.now }
@@ -210,7 +211,7 @@ fn roll_back(board: &Board, hand: &mut Hand, plan: &Plan) -> Option<(Rolled, Rol
     Some((stale, fresh, open))
 }
 
-/// A failure is spread, once; what has read the old value is stale then, what failed is fresh, and what was spread is
+/// A failure is spread once. Then what has read the old value is stale, what failed is fresh, and what was spread is
 /// evaluated again only on settled sources.
 #[test]
 fn a_failure_is_spread(rt: HostRuntime) -> Result<(), Fail> {
@@ -265,7 +266,7 @@ fn touch(board: &Board, hand: &mut Hand, plan: &Plan, op: u32) -> Claimed
     claimed
 }
 
-/// What one hand holds, and what the other meets there meanwhile; `None` where the one holds nothing.
+/// What one hand holds, and what the other finds there meanwhile. It is `None` if the one holds nothing.
 fn meet(
     board: &Board,
     one: &mut Hand,
@@ -297,7 +298,7 @@ fn meet(
     }
 }
 
-/// Two hands on the one deposit: what one holds the other finds claimed; after it was given back the other evaluates
+/// Two hands on the one deposit: what one holds, the other finds claimed. After it was given back, the other evaluates
 /// it.
 #[test]
 fn two_hands_meet(rt: HostRuntime) -> Result<(), Fail> {
@@ -327,7 +328,7 @@ fn two_hands_meet(rt: HostRuntime) -> Result<(), Fail> {
     Ok(())
 }
 
-/// Each number of a counter comes once; the level word has the lowest level that was put there.
+/// A counter gives each of its numbers once. The level word has the lowest level that was put there.
 #[test]
 fn counters_and_the_level_word(rt: HostRuntime) -> Result<(), Fail> {
     let plan = plan_at(&rt, rt.alloc(), &[1])?;
@@ -362,7 +363,7 @@ fn a_board_ends(rt: HostRuntime) -> Result<(), Fail> {
     Ok(())
 }
 
-/// Whether threads may share the one, and take the other along.
+/// Compiles only if threads may share the one and take over the other.
 fn crosses<S: Sync, T: Send>(_shared: &S, _taken: &T) {}
 
 #[test]

@@ -10,7 +10,7 @@ use morph_base::{OpState, OpWord, Plan};
 use op_words::{Board, Hand};
 use std::test::Fail;
 
-/// What becomes of the first three targets after operation 3 failed; `None` where it did not fail.
+/// What becomes of the first three targets after operation 3 failed. It is `None` if operation 3 did not fail.
 fn first_three(board: &Board, hand: &mut Hand, plan: &Plan) -> Option<[Option<Touched>; 3]>
     requires hand { IsHandOf board.now hand.old }
     requires plan { plan.now ≡ plan_of board.now }
@@ -33,7 +33,7 @@ fn first_three(board: &Board, hand: &mut Hand, plan: &Plan) -> Option<[Option<To
     Some([first, second, third])
 }
 
-/// The other withdrawal of the event takes its value back; what would have been paid in is not begun.
+/// The failure takes back the value of the event's other withdrawal. The event's deposits have not begun.
 #[test]
 fn a_failure_goes_through_its_event(rt: HostRuntime) -> Result<(), Fail> {
     let plan = plan(&rt, rt.alloc())?;

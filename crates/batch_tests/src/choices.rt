@@ -3,8 +3,8 @@ use decision_model::{Last, Profile, choose, profile};
 use morph_base::{Abort, Explore, Strategy, Unit};
 use std::test::Fail;
 
-/// What is chosen for so many operations, levels, and temporal and parametric dependencies, where so many of 10
-/// events before aborted.
+/// The strategy for this many operations, levels, and temporal and parametric dependencies, if this many of 10 events
+/// before aborted.
 fn chosen(ops: u64, levels: u64, temporal: u64, parametric: u64, aborted: u64) -> Strategy {
     choose(&Profile {
         ops,

@@ -1,4 +1,4 @@
-//! A transaction of which another hand holds an operation.
+//! A transaction while another hand holds one of its operations.
 ghost use Rattle.std.specs.Prelude.{◌≡◌, ◌<◌, None};
 ghost use Rattle.morph_base.specs.Plans.{op_count, event_count};
 ghost use Rattle.op_words.specs.Hands.{plan_of, view_of, IsHandOf};
@@ -11,8 +11,8 @@ use op_eval::{Runner, Runners};
 use op_words::{Board, Claimed, Hand};
 use std::test::Fail;
 
-/// What a runner is answered of the first event while another hand holds its first operation, and once that was given
-/// back; `None` where it cannot be held.
+/// The runner's answers when it tries to settle the first event, while another hand holds its first operation and once
+/// that was given back. There are none if the operation cannot be held.
 fn answers(
     board: &Board,
     holder: &mut Hand,
@@ -39,7 +39,8 @@ fn answers(
     }
 }
 
-/// The holder is the second hand, split off before the root became a runner's, and its tag is in the word that the runner found.
+/// The holder is the second hand, split off before the root became a runner's. Its tag is in the word that the runner
+/// found.
 #[test]
 fn a_transaction_waits_for_nobody(rt: HostRuntime) -> Result<(), Fail> {
     let plan = plan_at(&rt, rt.alloc(), &[1])?;

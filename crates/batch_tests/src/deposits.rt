@@ -13,15 +13,16 @@ use std::thread::Threads;
 use strata_explorer::{counters, explore};
 use worker_gate::HoldGate;
 
-/// Holds nobody, and has each worker run in a thread of its own.
+/// A gate that holds nobody, and has each worker run in a thread of its own.
 pub(crate) fn side_by_side() -> HoldGate {
     HoldGate::new(0, 0, 0)
 }
 
-/// How many accounts, and as many assets, there are deposits on.
+/// On how many accounts, and on how many assets, there are deposits.
 pub(crate) const IDS: u64 = 2_000;
 
-/// So many events, each a deposit on the account and on the asset of the next id, from 0 on again after the last one.
+/// Makes this many events, each a deposit on the account and on the asset of the next id. After the last id they begin
+/// at 0 again.
 pub(crate) fn batch_of(alloc: Global, count: u64) -> Result<Batch, OutOfMemory> {
     let mut events = List::new(alloc);
     for event in 0..count {
@@ -58,8 +59,8 @@ fn four_explore<R: Threads + Sync>(
     Ok(end == RunEnd::Whole && are_two_rounds(&words))
 }
 
-/// Whether two deposits on each id left these words: executed at attempt 1, those of the first with value 1, those of
-/// the second with 2.
+/// Whether two deposits on each id left these words: executed at attempt 1, with value 1 after the first and value 2
+/// after the second.
 pub(crate) fn are_two_rounds(words: &Vec<(OpState, u8, u64)>) -> bool {
     let all_ran = words.iter().enumerate().all(|(op, word)| {
         let value = if op as u64 / 2 < IDS { 1 } else { 2 };

@@ -12,8 +12,9 @@ use std::thread::Threads;
 use version_table::State;
 use worker_gate::FreeGate;
 
-/// What a batch came to: the verdicts, who settled each operation, how much was evaluated, spread and rolled back, how
-/// many causes were kept, whether the state is that of the fold, and the values of accounts 0 to 2 and assets 0 to 2.
+/// The outcome of a batch: the verdicts, who settled each operation, how much was evaluated, spread and rolled back,
+/// how many causes were kept, whether the state is that of the fold, and the values of accounts 0 to 2 and assets 0 to
+/// 2.
 #[derive(Drop)]
 struct Ran {
     committed: Vec<bool>,
@@ -77,7 +78,7 @@ fn run<R: Threads + Sync>(
     told(alloc, engine.state(), &end, &folded)
 }
 
-/// What a batch came to, as the tests compare it.
+/// The outcome of a batch, as the tests compare it.
 fn told(alloc: Global, state: &State, end: &BatchEnd, folded: &Values) -> Result<Ran, OutOfMemory> {
     Ok(Ran {
         committed: Vec::from_slice(alloc, end.settled.committed.as_slice())?,
@@ -94,8 +95,8 @@ fn told(alloc: Global, state: &State, end: &BatchEnd, folded: &Values) -> Result
     })
 }
 
-/// A level of fewer than 8 operations or events is worker 1's alone, and so is the settling of few events however they
-/// were explored.
+/// Worker 1 alone goes over a level of fewer than 8 operations or events, and so it settles these few events however
+/// they were explored.
 #[test]
 fn four_events_by_any_workers(rt: HostRuntime) -> Result<(), Fail> {
     let values = [Some(40), Some(0), Some(60), Some(0), Some(0), Some(5)];

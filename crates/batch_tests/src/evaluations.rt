@@ -19,7 +19,7 @@ fn word(state: OpState, value: u64) -> OpWord {
     }
 }
 
-/// Evaluated at the first attempt.
+/// An evaluation at the first attempt.
 fn first(outcome: Outcome) -> Evaluation {
     Evaluation::Evaluated {
         attempt: 1,
@@ -27,7 +27,7 @@ fn first(outcome: Outcome) -> Evaluation {
     }
 }
 
-/// The first of the rows whose answer is not the one that comes, where they are tried one after another. A row has an
+/// Tries the rows one after another, and returns the first one whose answer is not the one that comes. A row has an
 /// operation and its answer.
 fn first_unlike(
     board: &Board,
@@ -49,8 +49,8 @@ fn first_unlike(
     None
 }
 
-/// A withdrawal waits for the deposit before it. The first transfer withdraws 60 of 100, and 6 of 5 assets, which
-/// fails.
+/// A withdrawal waits for the deposit before it. The first transfer withdraws 60 of 100 from the account, and 6 of 5
+/// assets, which fails.
 #[test]
 fn one_runner_evaluates(rt: HostRuntime) -> Result<(), Fail> {
     let plan = plan(&rt, rt.alloc())?;
@@ -81,8 +81,8 @@ fn one_runner_evaluates(rt: HostRuntime) -> Result<(), Fail> {
     Ok(())
 }
 
-/// What a runner is answered of an operation that another hand makes ready and holds meanwhile; `None` where that
-/// cannot hold it.
+/// The runner's answer when it tries to evaluate an operation that another hand has made ready and holds. There is none
+/// if the other hand cannot hold the operation.
 fn answered(
     board: &Board,
     holder: &mut Hand,
@@ -111,7 +111,7 @@ fn answered(
     }
 }
 
-/// A runner is busy with what the root holds, and evaluates it once it was given back.
+/// A runner finds the operation busy while the root holds it, and evaluates it once it was given back.
 #[test]
 fn a_runner_is_busy(rt: HostRuntime) -> Result<(), Fail> {
     let plan = plan_at(&rt, rt.alloc(), &[1])?;

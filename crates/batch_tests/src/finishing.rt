@@ -1,4 +1,4 @@
-//! A board is closed early, and its plan completed.
+//! Completes the plan of a board that was closed early.
 ghost use Rattle.std.specs.Prelude.{IfOk};
 ghost use Rattle.morph_base.specs.Plans.{IsPlan, IsSettledOf};
 
@@ -9,7 +9,7 @@ use op_words::Board;
 use std::alloc::Global;
 use std::test::Fail;
 
-/// What a plan comes to where its board is closed before anybody evaluated an operation.
+/// The plan completed after its board was closed before anybody evaluated an operation.
 pub(crate) fn completed(alloc: Global, plan: &Plan) -> Result<Settled, OutOfMemory>
     requires { IsPlan plan.now }
     ensures { IfOk result (IsSettledOf plan.now) }

@@ -1,4 +1,4 @@
-//! A batch in which a failure comes late: under eager abort levels are passed again.
+//! A batch in which a failure comes late, so that under eager abort levels are passed again.
 ghost use Rattle.std.specs.Prelude.{◌<◌};
 ghost use Rattle.morph_base.specs.Graphs.{IsValidPlan};
 ghost use Rattle.morph_base.specs.Limits.{most_attempts};
@@ -32,9 +32,9 @@ fn deposit(
 }
 
 /// The operations of the event at a time. The transfer at 6 takes from account 0 at level 2, and finds at level 5 that
-/// there are 4 of asset 0 and not 6; that at 7 has taken from the same account at level 3 by then. The transfer at 16
-/// takes from account 20 at level 3, and finds at level 7 that there are 6 of asset 20 and not 60; that at 17 has taken
-/// from the same account at level 4 by then.
+/// there are 4 of asset 0 and not 6. By then the transfer at 7 has taken from the same account at level 3. The transfer
+/// at 16 takes from account 20 at level 3, and finds at level 7 that there are 6 of asset 20 and not 60. By then the
+/// transfer at 17 has taken from the same account at level 4.
 fn ops_at(alloc: Global, ts: u32) -> Result<List<Op>, OutOfMemory> {
     match ts {
         5 => deposit(alloc, 0, 100, 5, 1),
@@ -61,7 +61,7 @@ fn batch(alloc: Global, last: u32) -> Result<Batch, OutOfMemory> {
     Ok(Batch { events })
 }
 
-/// Why exploring a plan by one runner ended, after how many passes, and what it counted.
+/// Why exploring a plan by one runner ended, after how many passes, and what the runner counted.
 fn explored<R: Threads + Sync>(
     rt: &R,
     alloc: Global,
@@ -96,9 +96,9 @@ fn levels_are_passed_again(rt: HostRuntime) -> Result<(), Fail> {
     Ok(())
 }
 
-/// After the pass over level 5 exploring goes back to level 3, and after that over level 7 to level 4, and not to 3 once
-/// more: the level word of the first failure is gone by then. So there are 5 passes, then 5 from level 3 to level 7, and
-/// 5 from level 4 to level 8.
+/// After the pass over level 5 exploring goes back to level 3, and after that over level 7 to level 4. It does not go
+/// back to level 3 once more, since the level word of the first failure is gone by then. So there are 5 passes, then 5
+/// from level 3 to level 7, and 5 from level 4 to level 8.
 #[test]
 fn a_later_failure_goes_back_to_its_own_level(rt: HostRuntime) -> Result<(), Fail> {
     let plan = plan_for(&rt, rt.alloc(), &batch(rt.alloc(), 17)?)?;

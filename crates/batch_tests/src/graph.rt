@@ -6,7 +6,7 @@ use std::process::Abort;
 use std::test::Fail;
 use txn_splitter::split;
 
-/// Of each operation the event, the target, the constant, the sources of places 0 and 1, and the level.
+/// For each operation, the event, the target, the constant, the sources of places 0 and 1, and the level.
 const OPS: [(u32, u8, u32, u64, u32, u32, u32); 14] = [
     (0, 0, 0, 100, 99, 99, 1),
     (0, 1, 0, 5, 99, 99, 1),
@@ -24,7 +24,7 @@ const OPS: [(u32, u8, u32, u64, u32, u32, u32); 14] = [
     (3, 1, 2, 5, 99, 9, 4),
 ];
 
-/// Of each event the time, its first operation, how many it has, and the level.
+/// For each event, the time, its first operation, how many it has, and the level.
 const EVENTS: [(u64, u32, u32, u32); 4] = [(1, 0, 2, 1), (2, 2, 4, 2), (3, 6, 4, 3), (4, 10, 4, 4)];
 
 const EDGES: Edges = Edges {
@@ -71,7 +71,7 @@ fn events_of(alloc: Global, plan: &Plan) -> Result<Vec<(u64, u32, u32, u32)>, Ou
     Ok(rows)
 }
 
-/// Appends a list, and 99 behind it.
+/// Appends a list, and 99 after it.
 fn append(all: &mut Vec<u32>, list: &[u32]) -> Result<(), OutOfMemory> {
     for n in list {
         all.push(*n)?;
@@ -80,7 +80,7 @@ fn append(all: &mut Vec<u32>, list: &[u32]) -> Result<(), OutOfMemory> {
     Ok(())
 }
 
-/// The lists, joined, each ended by 99.
+/// The lists joined into one, each ended by 99.
 fn joined(alloc: Global, lists: &List<List<u32>>) -> Result<Vec<u32>, OutOfMemory> {
     let mut all = Vec::new(alloc);
     for list in lists.as_slice() {
@@ -89,7 +89,7 @@ fn joined(alloc: Global, lists: &List<List<u32>>) -> Result<Vec<u32>, OutOfMemor
     Ok(all)
 }
 
-/// The rows, joined, each ended by 99.
+/// The rows joined into one list, each ended by 99.
 fn joined_rows(alloc: Global, rows: &Rows) -> Result<Vec<u32>, OutOfMemory> {
     let mut all = Vec::new(alloc);
     for i in 0..rows.len() {

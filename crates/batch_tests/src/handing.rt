@@ -1,4 +1,4 @@
-//! Batches explored by deques of operations, which workers hand on and steal.
+//! Batches explored by deques of operations, which workers hand out and steal.
 ghost use Rattle.std.specs.Prelude.{◌≤◌};
 ghost use Rattle.morph_base.specs.Graphs.{IsValidPlan};
 ghost use Rattle.morph_base.specs.Limits.{most_workers};
@@ -18,7 +18,7 @@ use std::thread::Threads;
 use steal_explorer::{Deques, explore};
 use worker_gate::{FreeGate, Gate};
 
-/// What exploring came to: why it ended, how many items were handed out and stolen, and the words that it left.
+/// The outcome of exploring: why it ended, how many items were handed out and stolen, and the words that it left.
 #[derive(Drop)]
 struct Explored {
     end: RunEnd,
@@ -27,7 +27,7 @@ struct Explored {
     words: Vec<(OpState, u8, u64)>,
 }
 
-/// Explores a plan by deques, by so many workers under a gate.
+/// Explores a plan by deques, by this many workers under a gate.
 fn explore_by<R: Threads + Sync, G: Gate>(
     rt: &R,
     alloc: Global,
@@ -55,7 +55,7 @@ fn explore_by<R: Threads + Sync, G: Gate>(
     })
 }
 
-/// The four events' first level has two operations; each other operation is made ready once.
+/// The first level of the four events has two operations. Each other operation is made ready once.
 #[test]
 fn one_worker_is_handed_each_operation_once(rt: HostRuntime) -> Result<(), Fail> {
     let plan = plan(&rt, rt.alloc())?;
@@ -75,7 +75,7 @@ fn one_worker_is_handed_each_operation_once(rt: HostRuntime) -> Result<(), Fail>
     Ok(())
 }
 
-/// Whichever worker an operation comes to, it is handed out once and executed at attempt 1.
+/// Whichever worker gets an operation, it is handed out once and executed at attempt 1.
 #[test]
 fn four_workers_hand_out_two_rounds(rt: HostRuntime) -> Result<(), Fail> {
     let plan = plan_for(&rt, rt.alloc(), &batch_of(rt.alloc(), 2 * IDS)?)?;
@@ -85,7 +85,7 @@ fn four_workers_hand_out_two_rounds(rt: HostRuntime) -> Result<(), Fail> {
     Ok(())
 }
 
-/// How many operations each of so many deques got at the start.
+/// How many operations each of this many deques has at the start.
 fn dealt_to(alloc: Global, plan: &Plan, workers: u32) -> Result<Vec<u64>, OutOfMemory>
     requires valid { IsValidPlan plan.now }
     requires some { 1 ≤ workers }
@@ -99,7 +99,7 @@ fn dealt_to(alloc: Global, plan: &Plan, workers: u32) -> Result<Vec<u64>, OutOfM
     Ok(dealt)
 }
 
-/// The first level is dealt in turn: of five deposits on five ids ten operations.
+/// The first level is dealt in turn. Five deposits on five ids have ten operations there.
 #[test]
 fn a_level_is_dealt_in_turn(rt: HostRuntime) -> Result<(), Fail> {
     let plan = plan_for(&rt, rt.alloc(), &batch_of(rt.alloc(), 5)?)?;
@@ -117,8 +117,8 @@ fn a_level_is_dealt_in_turn(rt: HostRuntime) -> Result<(), Fail> {
 /// The most loads of one hold.
 const LOADS: u64 = 200_000_000;
 
-/// It holds worker 2 at its turn 0 until worker 1 has ended its own, and worker 1 at its turn 1 until worker 2 has called
-/// `evaluate`.
+/// A gate that holds worker 2 at its turn 0 until worker 1 has ended its own, and worker 1 at its turn 1 until worker 2
+/// has called `evaluate`.
 #[derive(Drop)]
 struct Robbed {
     /// Worker 1 came to its turn 1.
@@ -137,7 +137,7 @@ impl Robbed {
         }
     }
 
-    /// Holds a worker until something has come, or the limit is reached.
+    /// Holds a worker until the flag is set, or the limit is reached.
     fn hold_until(&self, came: &AtomicBool) {
         for _ in 0..LOADS {
             if came.load(Ordering::SeqCst) {
@@ -172,7 +172,7 @@ impl Gate for Robbed {
     }
 }
 
-/// A cell is set, and then so many cells are made its sum: the set alone stands on level 1.
+/// A cell is set, and then this many cells become its sum. Only the set is on level 1.
 fn set_and_sums(alloc: Global, sums: u32) -> Result<Batch, OutOfMemory> {
     let first = Key::of(ACCOUNTS, 0);
     let mut events = List::new(alloc);
@@ -189,8 +189,8 @@ fn set_and_sums(alloc: Global, sums: u32) -> Result<Batch, OutOfMemory> {
     Ok(Batch { events })
 }
 
-/// Worker 1 has the only operation of level 1, and with that all others. It goes on once worker 2 has evaluated one, which it can
-/// get by a steal alone.
+/// Worker 1 has the only operation of level 1, and so gets all others. It goes on once worker 2 has evaluated one,
+/// which worker 2 can get only by stealing.
 #[test]
 fn a_worker_with_nothing_steals(rt: HostRuntime) -> Result<(), Fail> {
     let plan = plan_for(&rt, rt.alloc(), &set_and_sums(rt.alloc(), 40)?)?;

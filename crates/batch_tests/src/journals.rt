@@ -1,4 +1,4 @@
-//! Journals of runs, and what the checker says where something of one was changed.
+//! Journals of runs, and what the checker says if something in one was changed.
 ghost use Rattle.morph_base.specs.Plans.{IsPlan};
 ghost use Rattle.morph_base.specs.Transactions.{IsBatch, BatchKeysIn};
 
@@ -15,8 +15,8 @@ use std::thread::Threads;
 const JOURNAL: &[u8] =
     b"R 0\nC 0 1\nF 0 0 1 0\nN 0 1\nR 1\nC 1 1\nF 1 0 1 0\nN 1 1\nD 0 c\nT 0 1\nT 1 1\n";
 
-/// What is said of the journal without the event at a place, or of the whole where it has none there, beside these
-/// values.
+/// What the checker says of the journal without the event at a place, beside these values. If the journal has no event
+/// there, it is the whole one.
 fn said(
     alloc: Global,
     plan: &Plan,
@@ -70,7 +70,7 @@ fn a_changed_journal_is_found_out(rt: HostRuntime) -> Result<(), Fail> {
     Ok(())
 }
 
-/// The journal that a run by one worker kept of a batch, and what the checker says of it.
+/// The journal of a run of a batch by one worker, and what the checker says of it.
 fn kept<R: Threads + Sync>(
     rt: &R,
     alloc: Global,

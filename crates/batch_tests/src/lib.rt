@@ -1,9 +1,9 @@
-//! Tests of the crates that plan, try and settle a batch, and of the board that workers share, over their public
-//! calls alone.
+//! Tests of the crates that plan, try and settle a batch, and of the board that workers share, over their public calls
+//! alone.
 //!
-//! They stand together, so that none of these crates is proved again with its tests, and so that all of them are
-//! tried on the same four events: 100 and 5 are paid in on account 0 and asset 0; then 60 and 6 are to go from there
-//! to account and asset 1, of which there is not enough; then 60 and 5 go from 0 to 1, and from 1 to 2.
+//! They are in one crate, so that none of those crates is proved again with its tests, and so that all of them are
+//! tried on the same four events: 100 and 5 are paid in on account 0 and asset 0; then 60 and 6 are to go from there to
+//! account and asset 1, but there is not enough of the asset; then 60 and 5 go from 0 to 1, and from 1 to 2.
 #![tactic(auto)]
 
 #[cfg(test)]

@@ -32,7 +32,7 @@ const OWN: Strategy = Strategy {
     abort: Abort::Eager,
 };
 
-/// An item is stocked, and ordered three times; the last order is of more than is left.
+/// An item is stocked, and ordered three times. The last order is for more than is left.
 fn batch(alloc: Global) -> Result<Batch, OutOfMemory> {
     let mut events = List::new(alloc);
     let ops = List::from_slice(alloc, &[Op::new(Func::Add, STOCK, &[], 10)])?;
@@ -59,7 +59,8 @@ fn value(state: &State, key: Key) -> Option<u64> {
     }
 }
 
-/// Whether each event committed, by rising time, the values of the stock and the bill, and the strategy of the batch.
+/// The outcome of a batch: whether each event committed, by rising time; the values of the stock and the bill; and the
+/// strategy.
 #[derive(Drop)]
 struct Came {
     committed: Vec<bool>,
@@ -67,8 +68,8 @@ struct Came {
     strategy: Strategy,
 }
 
-/// Plans a batch and runs it on a new engine by so many workers: with this strategy, or with one chosen by the counts of
-/// the plan.
+/// Plans a batch and runs it on a new engine by this many workers, with this strategy, or with one chosen by the counts
+/// of the plan.
 fn run<R: Threads + Sync>(
     rt: &R,
     alloc: Global,
@@ -97,7 +98,7 @@ fn run<R: Threads + Sync>(
 
 #[test]
 fn a_batch_is_made_planned_and_run_without_text(rt: HostRuntime) -> Result<(), Fail> {
-    // 5 of the 7 operations follow another on their key, no parameter is written, and the levels are narrow.
+    // 5 of the 7 operations follow another one on their key, no parameter is written, and the levels are narrow.
     let chosen = Strategy {
         unit: Unit::Chain,
         explore: Explore::Steal,

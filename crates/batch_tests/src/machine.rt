@@ -7,7 +7,7 @@ use interleaving_core::{CoreEvent, CoreState, Step};
 use morph_base::{OpState, OpWord, Plan};
 use std::test::Fail;
 
-/// A step; a worker that is not told is worker 1, and a place that is not told is place 0.
+/// A step. The worker is worker 1 if none is named, and the place is place 0.
 #[derive(Clone, Copy, Debug)]
 enum Act {
     Ready(u32),
@@ -39,7 +39,7 @@ fn event(act: Act) -> CoreEvent {
 /// A step, whether it is taken, an operation, and its state, attempt and value after the step.
 type Row = (Act, bool, u32, OpState, u8, u64);
 
-/// Makes a step, and tells whether it was taken, and the word of an operation after it.
+/// Makes a step, and returns whether it was taken, and the word of an operation after it.
 fn step(state: &mut CoreState, plan: &Plan, event: &CoreEvent, op: u32) -> (bool, Option<OpWord>)
     requires plan { IsPlan plan.now }
     requires state { IsStateOf plan.now state.old }
@@ -52,7 +52,7 @@ fn step(state: &mut CoreState, plan: &Plan, event: &CoreEvent, op: u32) -> (bool
     (taken, Some(state.word(op)))
 }
 
-/// The first of the rows that does not hold, where they are tried one after another.
+/// Tries the rows one after another, and returns the first one that does not hold.
 fn first_unlike(state: &mut CoreState, plan: &Plan, rows: &[Row]) -> Option<usize>
     requires plan { IsPlan plan.now }
     requires state { IsStateOf plan.now state.old }
@@ -72,9 +72,9 @@ fn first_unlike(state: &mut CoreState, plan: &Plan, rows: &[Row]) -> Option<usiz
     None
 }
 
-/// Account 0 and asset 0 are paid in; the transfer of too many assets fails, and what stands beside it is spread
-/// and, once its source is settled, blocked again. What read the failed transfer's account is rolled back for the
-/// version after it.
+/// Account 0 and asset 0 are paid in. The transfer of too many assets fails. The failure is spread to the operation
+/// beside it, which is blocked again once its source is settled. What read the failed transfer's account is rolled back
+/// for the version after it.
 const SEVEN: &[Row] = &[
     (Act::Claim(0, 1), false, 0, OpState::Blocked, 1, 0),
     (Act::Ready(0), true, 0, OpState::Ready, 1, 0),
@@ -124,8 +124,8 @@ fn seven_attempts_more(rt: HostRuntime) -> Result<(), Fail> {
     Ok(())
 }
 
-/// The first transfer is aborted, and settled with what its account had before. What read the value that it had
-/// taken is rolled back, and reads the settled one at its last attempt.
+/// The first transfer is aborted, and settled with what its account had before. What read the value that it had left is
+/// rolled back, and reads the settled one at its last attempt.
 const ONE: &[Row] = &[
     (Act::Ready(0), true, 0, OpState::Ready, 1, 0),
     (Act::Claim(0, 1), true, 0, OpState::Claimed, 1, 0),
@@ -177,7 +177,7 @@ fn one_attempt_more(rt: HostRuntime) -> Result<(), Fail> {
     Ok(())
 }
 
-/// What is decided on an event.
+/// The decision on an event, if there is one.
 fn state_decision(state: &CoreState, plan: &Plan, event: u32) -> Option<bool>
     requires { IsStateOf plan.now state.now }
 {

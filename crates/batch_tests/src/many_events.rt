@@ -1,4 +1,4 @@
-//! A batch of many events: deposits on accounts and assets, and transfers, of which some are aborted.
+//! A batch of many events: deposits on accounts and assets, and transfers, some of which are aborted.
 ghost use Rattle.std.specs.Prelude.{IfOk};
 ghost use Rattle.morph_base.specs.Graphs.{IsValidPlan};
 
@@ -26,7 +26,7 @@ fn ops_of(alloc: Global, event: u64) -> Result<List<Op>, OutOfMemory> {
     }
 }
 
-/// Their plan.
+/// The plan of these events.
 pub(crate) fn plan(rt: &impl Abort, alloc: Global) -> Result<Plan, OutOfMemory>
     ensures { IfOk result IsValidPlan }
 {

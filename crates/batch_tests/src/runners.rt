@@ -4,7 +4,8 @@ ghost use Rattle.morph_base.specs.Limits.{most_workers};
 ghost use Rattle.morph_base.specs.Plans.{IsPlan};
 ghost use Rattle.op_words.specs.Hands.{plan_of, IsHandOf};
 ghost use Rattle.op_eval.specs.Gathering.{AreAtRest};
-ghost use Rattle.batch_tests.specs.Resting.{IsAtRest, StaysAtRest};
+ghost use Rattle.batch_tests.specs.Resting.{StaysAtRest};
+ghost use Rattle.op_eval.specs.Running.{IsFreeRunner};
 
 use crate::many_events::{EVENTS, plan};
 use morph_base::{OpState, OutOfMemory, Plan};
@@ -15,8 +16,8 @@ use std::test::Fail;
 use std::thread::Threads;
 use worker_gate::{Job, run_all};
 
-/// The operations of a level, shared out among workers: each has those whose place there leaves its tag, divided by
-/// the number of workers.
+/// The operations of a level, shared out among workers. A worker has those whose place, divided by the number of
+/// workers, has its tag as the remainder.
 #[derive(Drop)]
 struct Level<'a> {
     board: &'a Board,
@@ -26,7 +27,7 @@ struct Level<'a> {
 }
 
 impl Job<Runner> for Level<'_> {
-    ghost can_run = { λ job runner. (job.plan.now ≡ plan_of job.board.now) × IsAtRest job.board.now runner };
+    ghost can_run = { λ job runner. (job.plan.now ≡ plan_of job.board.now) × IsFreeRunner job.board.now runner };
 
     ghost changes = { λ job before after. StaysAtRest job.board.now before after };
 
@@ -68,8 +69,8 @@ fn evaluate_levels<R: Threads + Sync>(rt: &R, board: &Board, plan: &Plan, runner
     }
 }
 
-/// What came of a batch: how often an operation was evaluated, as the runners' answers and as the root's counts
-/// tell, and each operation's state, attempt and value.
+/// The outcome of a batch: how often an operation was evaluated, by the runners' answers and by the root's counts, and
+/// each operation's state, attempt and value.
 #[derive(Drop)]
 struct Ran {
     answered: u64,
@@ -95,7 +96,7 @@ pub(crate) fn words_of(
     Ok(words)
 }
 
-/// Evaluates the operations of a plan by so many workers.
+/// Evaluates the operations of a plan by this many workers.
 fn evaluate_all<R: Threads + Sync>(
     rt: &R,
     alloc: Global,
@@ -122,7 +123,7 @@ fn evaluate_all<R: Threads + Sync>(
     })
 }
 
-/// Four runners come to the values of one, and each operation is evaluated once, at its first attempt.
+/// Four runners get the same values as one, and each operation is evaluated once, at its first attempt.
 #[test]
 fn four_runners_come_to_what_one_does(rt: HostRuntime) -> Result<(), Fail> {
     let plan = plan(&rt, rt.alloc())?;

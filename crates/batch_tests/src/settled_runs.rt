@@ -2,7 +2,7 @@
 ghost use Rattle.std.specs.Prelude.{◌≡◌, ◌≤◌, IfOk, length};
 ghost use Rattle.morph_base.specs.Graphs.{IsValidPlan};
 ghost use Rattle.op_words.specs.Hands.{plan_of, counters_of};
-ghost use Rattle.op_eval.specs.Exploring.{IsExplored};
+ghost use Rattle.op_eval.specs.Exploring.{IsExploredBoard};
 ghost use Rattle.op_eval.specs.Gathering.{runners_of};
 ghost use Rattle.abort_lazy.specs.Runs.{AreAllHands};
 
@@ -14,10 +14,10 @@ use op_words::Board;
 use std::alloc::Global;
 use std::test::Fail;
 
-/// A run of one runner on a board with so many counters, in which nothing was evaluated.
+/// A run of one runner on a board with this many counters, in which nothing was evaluated.
 fn unexplored(alloc: Global, plan: &Plan, counters: u32) -> Result<Explored, OutOfMemory>
     requires plan { IsValidPlan plan.now }
-    ensures explored { IfOk result IsExplored }
+    ensures explored { IfOk result IsExploredBoard }
     ensures plan { IfOk result (λ run. plan.now ≡ plan_of run.board) }
     ensures counters { IfOk result (λ run. counters_of run.board ≡ counters) }
     ensures next { IfOk result (λ run. run.next_counter ≡ 0) }

@@ -9,8 +9,8 @@ use morph_base::{OpState, OpWord, Plan};
 use op_words::{Board, Counts, Decided, Hand, SettleAnswer, Verdict};
 use std::test::Fail;
 
-/// What the hand decides on the event of an operation, and how it settles the operation then; `None` where nothing is
-/// decided.
+/// What the hand decides on the event of an operation, and how it then settles the operation. The second is `None` if
+/// nothing is decided.
 fn settle(board: &Board, hand: &mut Hand, plan: &Plan, op: u32) -> (Decided, Option<SettleAnswer>)
     requires hand { IsHandOf board.now hand.old }
     requires plan { plan.now ≡ plan_of board.now }
@@ -31,7 +31,7 @@ fn settle(board: &Board, hand: &mut Hand, plan: &Plan, op: u32) -> (Decided, Opt
     (decided, answer)
 }
 
-/// Both operations of a deposit are evaluated and settled once each; what is settled stays.
+/// Both operations of a deposit are evaluated and settled once each. What is settled stays.
 #[test]
 fn a_deposit_is_settled(rt: HostRuntime) -> Result<(), Fail> {
     let plan = plan_at(&rt, rt.alloc(), &[1])?;

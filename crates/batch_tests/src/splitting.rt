@@ -5,10 +5,10 @@ use std::process::Abort;
 use std::test::Fail;
 use txn_splitter::{Txns, split};
 
-/// Of each event the time, its first operation and how many it has.
+/// For each event, the time, its first operation and how many it has.
 const EVENTS: [(u64, u32, u32); 4] = [(1, 0, 2), (2, 2, 4), (3, 6, 4), (4, 10, 4)];
 
-/// Of each operation the event, the target and the constant.
+/// For each operation, the event, the target and the constant.
 const OPS: [(u32, u8, u32, u64); 14] = [
     (0, 0, 0, 100),
     (0, 1, 0, 5),

@@ -12,7 +12,7 @@ use std::process::Abort;
 use std::test::Fail;
 use version_table::State;
 
-/// The value of a key of the layout, or none.
+/// The value of a key, if it is in the layout.
 fn value(state: &State, key: Key) -> Option<u64> {
     if !state.layout().contains(key) {
         return None;

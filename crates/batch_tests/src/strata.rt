@@ -9,8 +9,8 @@ use std::test::Fail;
 use strata_explorer::{counters, explore};
 use worker_gate::FreeGate;
 
-/// The state and the value of each operation. The deposits of 100 and 5 come first; of the first transfer the assets
-/// fail, of the second the accounts, which find what the first left.
+/// The state and the value of each operation. The deposits of 100 and 5 come first. In the first transfer the assets
+/// fail. In the second transfer the accounts fail, since they find what the first one left.
 const FIRST: [(OpState, u64); 14] = [
     (OpState::Executed, 100),
     (OpState::Executed, 5),

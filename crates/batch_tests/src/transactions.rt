@@ -10,7 +10,7 @@ use op_eval::{Answers, Runner};
 use op_words::Board;
 use std::test::Fail;
 
-/// The first of the rows whose event is not settled as it says, where they are tried one after another. A row has an
+/// Tries the rows one after another, and returns the first one whose event is not settled as it says. A row has an
 /// event and whether it commits.
 fn first_unlike(
     board: &Board,

@@ -4,7 +4,7 @@ use morph_base::{OutOfMemory, Unit};
 use std::alloc::Global;
 use std::test::Fail;
 
-/// The units one after the other, each ended by 99.
+/// The units joined into one list, each ended by 99.
 fn joined(alloc: Global, units: &Units) -> Result<Vec<u32>, OutOfMemory> {
     let mut all = Vec::new(alloc);
     for u in 0..units.len() {
@@ -16,7 +16,7 @@ fn joined(alloc: Global, units: &Units) -> Result<Vec<u32>, OutOfMemory> {
     Ok(all)
 }
 
-/// Takes what threads may share and take over.
+/// Compiles only if threads may share the value and take it over.
 fn share<T: Send + Sync>(_value: &T) {}
 
 #[test]

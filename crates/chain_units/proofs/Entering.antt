@@ -6,7 +6,7 @@ use Rattle.std.proofs.lemmas.List.{get_or_past, get_or-map, get_or-set_same, get
 use Rattle.std.proofs.lemmas.Option.{slice_get_within, slice_get-get_or}
 use Rattle.morph_base.specs.Contents.{Contents}
 use Rattle.chain_units.specs.declared.places.Place.{Place}
-use Rattle.chain_units.specs.Places.{StandsAt, IsPartition, AreFew, IsIndexed, AreEntered, place_in}
+use Rattle.chain_units.specs.Places.{StandsAt, IsPartition, AreFewUnits, IsIndexed, AreEntered, place_in}
 
 abbrev no_place : Place
 no_place = record { unit = 0; at = 0 }
@@ -76,7 +76,7 @@ one_entered units n u i places ops partition long unit inside entered v k o befo
     ]
 
 -- all units are entered
-pub all_entered : (units : List (List ℕ)) (places : List Place) (u : ℕ) → AreFew units → IsPartition units (length places) → length units ≤ u → AreEntered units u 0 places
+pub all_entered : (units : List (List ℕ)) (places : List Place) (u : ℕ) → AreFewUnits units → IsPartition units (length places) → length units ≤ u → AreEntered units u 0 places
     → IsIndexed units places
 all_entered units places u few partition past entered = record {
   few = few.unit_numbers;

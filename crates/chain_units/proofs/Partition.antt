@@ -23,7 +23,7 @@ use Rattle.morph_base.specs.Graphs.{below}
 use Rattle.morph_base.proofs.KeyLaws.{same_key-true, same_key-from}
 use Rattle.chain_units.specs.Chains.{key_cmp}
 use Rattle.chain_units.specs.Units.{chain, targets_in_order, units_of}
-use Rattle.chain_units.specs.Places.{StandsAt, IsPartition, AreFew}
+use Rattle.chain_units.specs.Places.{StandsAt, IsPartition, AreFewUnits}
 use Rattle.chain_units.proofs.KeyOrder.{key_itself}
 use Rattle.chain_units.proofs.Insertion.{ordered_rises, ordered_any, ordered_few}
 
@@ -256,7 +256,7 @@ made_few f xs d n few u = elim (cases_lt u (length xs)) [
   | inr past ↦ subst (λ (unit : List ℕ). length unit ≤ n) (sym (get_or_past (map f xs) u [] (omega (arith, length-map xs f)))) (omega arith)
 ]
 
-pub few_units : (p : Plan) (unit : UnitKind) → op_count p < 2 ^ 32 → AreFew (units_of p unit)
+pub few_units : (p : Plan) (unit : UnitKind) → op_count p < 2 ^ 32 → AreFewUnits (units_of p unit)
 few_units p Op small = record {
   unit_numbers = omega (arith, length-map-range_with_len (λ o. o ∷ []) 0 (op_count p));
   places = λ u. omega (arith, made_few (λ o. o ∷ []) (below (op_count p)) 0 1 (λ o. omega arith) u);

@@ -4,7 +4,7 @@ use morph_base::{List, OutOfMemory};
 use std::alloc::Global;
 use std::marker::Model;
 
-/// Operations of which each is a unit of its own number, which contracts see as how many there are.
+/// Operations, each of which is a unit of its own number. Contracts see how many there are.
 ///
 /// It takes one piece of memory however many they are.
 #[derive(Debug, Drop)]
@@ -26,7 +26,7 @@ impl Model for Alone {
 }
 
 impl Alone {
-    /// So many operations.
+    /// Makes units of this many operations.
     pub(crate) fn new(alloc: Global, ops: usize) -> Result<Self, OutOfMemory>
         requires { ops < 2 ^ 32 }
         ensures { IfOk result (λ alone. alone ≡ ops) }
@@ -38,14 +38,14 @@ impl Alone {
         Ok(Alone { ops: numbers })
     }
 
-    /// How many there are.
+    /// How many operations there are.
     pub(crate) fn len(&self) -> u32
         ensures { result ≡ self.now }
     {
         self.ops.len() as u32
     }
 
-    /// The unit of an operation, which is alone in it.
+    /// The unit of an operation: the operation alone.
     pub(crate) fn unit(&self, op: u32) -> &[u32]
         requires { op < self.now }
         ensures { result.now ≡ op ∷ [] }

@@ -1,5 +1,5 @@
 ghost use Rattle.std.specs.Prelude.{◌≡◌, ℕ, ◌<◌, [], length, map, slice_index_or, IfOk};
-ghost use Rattle.chain_units.specs.Places.{StandsAt, IsPartition, AreFew};
+ghost use Rattle.chain_units.specs.Places.{StandsAt, IsPartition, AreFewUnits};
 
 use crate::places::{Place, places};
 use morph_base::{List, OutOfMemory};
@@ -26,13 +26,13 @@ impl Model for Chained {
 }
 
 impl Chained {
-    /// The units of so many operations, of which each is in exactly one.
+    /// Makes the units of this many operations, each of which is in exactly one unit.
     pub(crate) fn new(
         alloc: Global,
         units: List<List<u32>>,
         ops: usize,
     ) -> Result<Self, OutOfMemory>
-        requires few { AreFew (map (λ unit. unit.items) units.items) }
+        requires few { AreFewUnits (map (λ unit. unit.items) units.items) }
         requires partition { IsPartition (map (λ unit. unit.items) units.items) ops }
         ensures units { IfOk result (λ made. made.units ≡ map (λ unit. unit.items) units.items) }
         ensures ops { IfOk result (λ made. made.ops ≡ ops) }

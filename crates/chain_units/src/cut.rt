@@ -4,7 +4,7 @@ use crate::chained::Chained;
 /// How operations are cut into units.
 #[derive(Debug, Drop)]
 pub(crate) enum Cut {
-    /// Each is a unit of its own number.
+    /// Each operation is a unit of its own number.
     Alone(Alone),
     /// Units have any length.
     Chained(Chained),

@@ -9,10 +9,10 @@ use crate::grouping::Units;
 use morph_base::{OutOfMemory, Plan, Unit};
 use std::alloc::Global;
 
-/// The operations of a plan in units. A valid plan has fewer than the 2^32 that may be numbered.
+/// Cuts the operations of a plan into units. A valid plan has fewer than the 2^32 that may be numbered.
 ///
-/// With [`Unit::Op`] each operation is a unit of its own number. With [`Unit::Chain`] there is one for each key that an
-/// operation changes, in the order of keys, with all operations that change it, by rising number.
+/// With [`Unit::Op`] each operation is a unit of its own number. With [`Unit::Chain`] there is a unit for each key that
+/// an operation changes, in the order of keys, with all operations that change it, by rising number.
 pub fn units(alloc: Global, plan: &Plan, unit: Unit) -> Result<Units, OutOfMemory>
     requires { op_count plan.now < 2 ^ 32 }
     ensures units { IfOk result (λ units. units.units ≡ units_of plan.now unit) }

@@ -6,7 +6,7 @@ use crate::chained::Chained;
 use crate::cut::Cut;
 use std::marker::Model;
 
-/// Operations in units, which contracts see as a list of lists.
+/// Operations in units. Contracts see a list of lists.
 ///
 /// Units are numbered from 0, and so are the places of a unit.
 #[derive(Debug, Drop)]
@@ -27,7 +27,7 @@ impl Units {
     ghost use Rattle.std.specs.Prelude.{map, ◌∷◌};
     ghost use Rattle.morph_base.specs.Graphs.{below};
 
-    /// Each operation alone.
+    /// Makes units with one operation each.
     pub(crate) fn alone(ops: Alone) -> Self
         ensures units { result.units ≡ map (λ o. o ∷ []) (below ops) }
         ensures ops { result.ops ≡ ops }
@@ -37,7 +37,7 @@ impl Units {
         }
     }
 
-    /// Operations in these units.
+    /// Makes units of any length.
     pub(crate) fn chained(units: Chained) -> Self
         ensures { result ≡ units }
     {

@@ -1,4 +1,4 @@
-//! What the units of a plan amount to.
+//! What holds of the units of a plan.
 ghost use Rattle.std.specs.Prelude.{◌≡◌, ℕ, ◌<◌, ◌↔◌, [], Contains, slice_index_or};
 ghost use Rattle.std.specs.List.Sorted.{IsStrictlySortedBy, IsStrictlyIncreasing};
 ghost use Rattle.morph_base.specs.declared.key.Key.{Key};
@@ -11,7 +11,7 @@ ghost use Rattle.chain_units.specs.Units.{units_of, targets_in_order};
 
 /// Each operation of a plan stands in exactly one unit at one place, and the operations of a unit rise.
 ///
-/// So a worker that takes each unit once takes each operation once, and goes up a key's versions.
+/// So a worker that takes each unit once takes each operation once, and follows a key's versions in order.
 pub fn each_in_one()
     ensures partition { (p : Plan) (unit : UnitKind) → IsPartition (units_of p unit) (op_count p) }
     ensures rises { (p : Plan) (unit : UnitKind) (u : ℕ)

@@ -1,15 +1,15 @@
 //! The units of scheduling: what a worker takes as a whole.
 //!
 //! [`units`] cuts the operations of a plan into [`Units`]: each operation alone, or for each key the chain of the
-//! operations that change it, by rising number. Each operation is in exactly one unit, and [`laws`] shows it. A
-//! caller asks for the operations of a unit, and for the unit of an operation and its place there:
+//! operations that change it, by rising number. Each operation is in exactly one unit, as [`laws`] shows. A caller asks
+//! for the operations of a unit, and for the unit of an operation and its place there:
 //!
 //! ```text
 //! let units = units(alloc, &plan, Unit::Chain)?;
 //! let rest = &units.ops(units.unit_of(op))[units.place_of(op) as usize..];
 //! ```
 //!
-//! Below stands `morph_base`, whose plans are cut.
+//! The crate uses `morph_base`, whose plans it cuts.
 #![tactic(auto)]
 
 mod alone;

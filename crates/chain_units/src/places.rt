@@ -1,5 +1,5 @@
 ghost use Rattle.std.specs.Prelude.{◌≡◌, ◌+◌, ◌^◌, ◌<◌, [], length, map, slice_index_or, IfOk};
-ghost use Rattle.chain_units.specs.Places.{AreFew, IsPartition, IsIndexed, AreEntered};
+ghost use Rattle.chain_units.specs.Places.{AreFewUnits, IsPartition, IsIndexed, AreEntered};
 
 use morph_base::{List, OutOfMemory};
 use std::alloc::Global;
@@ -11,13 +11,13 @@ pub struct Place {
     pub at: u32,
 }
 
-/// Where each of so many operations stands.
+/// Finds where each of this many operations stands.
 pub fn places(
     alloc: Global,
     units: &List<List<u32>>,
     ops: usize,
 ) -> Result<List<Place>, OutOfMemory>
-    requires few { AreFew (map (λ unit. unit.items) units.now.items) }
+    requires few { AreFewUnits (map (λ unit. unit.items) units.now.items) }
     requires partition { IsPartition (map (λ unit. unit.items) units.now.items) ops }
     ensures len { IfOk result (λ places. length places.items ≡ ops) }
     ensures indexed { IfOk result
@@ -30,7 +30,7 @@ pub fn places(
     Ok(places)
 }
 
-/// A place for each of so many operations.
+/// Makes a place for each of this many operations.
 fn blank(alloc: Global, ops: usize) -> Result<List<Place>, OutOfMemory>
     ensures { IfOk result (λ places. length places.items ≡ ops) }
 {
@@ -44,7 +44,7 @@ fn blank(alloc: Global, ops: usize) -> Result<List<Place>, OutOfMemory>
 /// Enters where the operations of unit `u` stand.
 fn enter(units: &List<List<u32>>, u: usize, places: &mut List<Place>)
     requires unit { u < length units.now.items }
-    requires few { AreFew (map (λ unit. unit.items) units.now.items) }
+    requires few { AreFewUnits (map (λ unit. unit.items) units.now.items) }
     requires partition { IsPartition (map (λ unit. unit.items) units.now.items)
         (length places.old.items) }
     requires before { AreEntered (map (λ unit. unit.items) units.now.items) u 0 places.old.items }

@@ -1,4 +1,4 @@
--- The profile of a batch, and the strategy that is chosen for it.
+-- The profile of a batch, and the strategy that is chosen for it
 use Rattle.std.specs.Prelude.{◌*◌, ◌&&◌, nat_le, not, if◌then◌else◌, List, count_by, length}
 use Rattle.morph_base.specs.declared.plan.Plan.{Plan}
 use Rattle.morph_base.specs.declared.strategy.Strategy.{Strategy}
@@ -11,22 +11,23 @@ use Rattle.morph_base.specs.Graphs.{op_depth}
 use Rattle.decision_model.specs.declared.counts.Last.{Last}
 use Rattle.decision_model.specs.declared.counts.Profile.{Profile}
 
--- what came of a batch: how many events it had, and how many of them aborted
+-- How many events a batch had, and how many of them aborted, by their fates
 abbrev pub last_of : List Fate → Last
 last_of fs = record { events = length fs; aborted = count_by (λ f. not f.committed) fs }
 
--- there was no batch before
+-- There was no batch before
 abbrev pub no_last : Last
 no_last = record { events = 0; aborted = 0 }
 
--- the counts of a plan: its operations, the levels of these, and its temporal and parametric dependencies
+-- The counts of a plan: its operations, their levels, and its temporal and parametric dependencies. They come with how
+-- the batch before went
 abbrev pub profile_of : Plan → Last → Profile
 profile_of p last =
     record { ops = op_count p; levels = op_depth p; temporal = p.edges.temporal; parametric = p.edges.parametric; last = last }
 
--- chains exactly where the temporal dependencies are at least twice the parametric ones and twice their number is at least
--- that of the operations; strata exactly where 32 times the levels are at most the operations; lazy exactly where 10 times
--- the events that aborted before are at most the events before
+-- The strategy for a profile. It takes chains exactly if the temporal dependencies are at least twice the parametric
+-- ones and twice their number is at least that of the operations. It takes strata exactly if 32 times the levels are at
+-- most the operations. It is lazy exactly if 10 times the events that aborted before are at most the events before
 abbrev pub strategy_for : Profile → Strategy
 strategy_for p = record {
   unit = if nat_le (2 * p.parametric) p.temporal && nat_le p.ops (2 * p.temporal) then Chain else Op;

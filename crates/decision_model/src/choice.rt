@@ -4,11 +4,11 @@ ghost use Rattle.decision_model.specs.Choices.{strategy_for};
 use crate::counts::Profile;
 use morph_base::{Abort, Explore, Strategy, Unit};
 
-/// The strategy for a batch.
+/// Chooses the strategy for a batch.
 ///
-/// It takes chains where at least half of the operations follow an earlier one on their key and these are at least
-/// twice the parameters that were written; strata where a level has 32 operations or more on average; and it deals
-/// with failures late where at most a tenth of the events before aborted.
+/// It takes chains if at least half of the operations follow an earlier one on their key and these are at least twice
+/// the parameters that were written. It takes strata if a level has 32 operations or more on average. It deals with
+/// failures late if at most a tenth of the events before aborted.
 pub fn choose(profile: &Profile) -> Strategy
     ensures { result ≡ strategy_for profile.now }
 {

@@ -5,7 +5,7 @@ ghost use Rattle.decision_model.specs.Choices.{profile_of};
 use crate::counts::{Last, Profile};
 use morph_base::Plan;
 
-/// The counts of a valid plan, with what came of the batch before.
+/// The counts of a valid plan, with how the batch before went.
 pub fn profile(plan: &Plan, last: Last) -> Profile
     requires { IsValidPlan plan.now }
     ensures { result ≡ profile_of plan.now last }

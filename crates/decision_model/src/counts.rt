@@ -1,10 +1,9 @@
-/// What came of the batch that was run before: the number of its events, and how many of them aborted. Both are 0 where
-/// there was none.
+/// How the batch before went: the number of its events, and how many of them aborted. Both are 0 if there was none.
 #[derive(Clone, Copy, Debug, Default, PartialEq, Eq)]
 pub struct Last {
     /// All its events.
     pub events: u64,
-    /// Those of them that aborted.
+    /// Those that aborted.
     pub aborted: u64,
 }
 
@@ -19,6 +18,6 @@ pub struct Profile {
     pub temporal: u64,
     /// The number of parameters that were written by an earlier event.
     pub parametric: u64,
-    /// What came of the batch before.
+    /// How the batch before went.
     pub last: Last,
 }

@@ -1,8 +1,8 @@
-//! The choice of a strategy for a batch, from counts of its plan and from what came of the batch before.
+//! Chooses a strategy for a batch, from counts of its plan and from how the batch before went.
 //!
 //! [`profile`] takes the counts of a [`Plan`](morph_base::Plan), and [`choose`] makes a
-//! [`Strategy`](morph_base::Strategy) of them by fixed thresholds. The choice changes how a batch is run and never
-//! what it comes to. Below stands `morph_base`.
+//! [`Strategy`](morph_base::Strategy) of them by fixed thresholds. The choice changes how a batch is run and never its
+//! result. The crate uses `morph_base` alone.
 #![tactic(auto)]
 
 mod choice;

@@ -14,21 +14,21 @@ use Rattle.event_reader.specs.declared.fault.ReaderFault.TheVariants.{ReadFault,
 use Rattle.event_reader.specs.Decisions.{DecidesLine}
 use Rattle.event_reader.proofs.Goings.{GoesOn}
 use Rattle.event_reader.specs.Limits.{buffer_bytes}
-use Rattle.event_reader.specs.Asking.{bytes_asked, is_last, CameWith, AsksOnce, Asks, no_read, one_more, AsksForLine}
+use Rattle.event_reader.specs.Asking.{bytes_asked, is_last, CameWith, AsksOnce, ReadsInOrder, no_read, one_more, AsksForLine}
 use Rattle.event_reader.specs.Filling.{KeepsRead, FillsBy}
 
 module _ {S : Type 0} (left_of : S → Option (List ℕ)) (reads : S → ℕ → Result ℕ ReadFailed → S → Type 0) (before : LinesView) (source₀ : S) where
   -- it has read so far, and what it keeps decides nothing yet
   abbrev pub AskedSoFar : LinesView → S → Type 0
-  AskedSoFar now source = Asks left_of reads before.kept (before.limit - before.taken) before.ended source₀ now.kept (now.limit - now.taken) now.ended source
+  AskedSoFar now source = ReadsInOrder left_of reads before.kept (before.limit - before.taken) before.ended source₀ now.kept (now.limit - now.taken) now.ended source
 
   pub asked_nothing : AskedSoFar before source₀
   asked_nothing = no_read
 
   -- a read more
   same_state : (kept kept' : List ℕ) (room room' : ℕ) (last last' : Bool) (source : S) → kept ≡ kept' → room ≡ room' → last ≡ last'
-      → Asks left_of reads before.kept (before.limit - before.taken) before.ended source₀ kept room last source
-      → Asks left_of reads before.kept (before.limit - before.taken) before.ended source₀ kept' room' last' source
+      → ReadsInOrder left_of reads before.kept (before.limit - before.taken) before.ended source₀ kept room last source
+      → ReadsInOrder left_of reads before.kept (before.limit - before.taken) before.ended source₀ kept' room' last' source
   same_state kept kept' room room' last last' source e f g h = rw (e, f, g) at h
 
   pub asked_more : (now next : LinesView) (source source' : S) → AskedSoFar now source → now.ended ≡ false → decided_lines now.kept ≡ []
@@ -41,13 +41,13 @@ module _ {S : Type 0} (left_of : S → Option (List ℕ)) (reads : S → ℕ →
 
   -- the bytes that it keeps are those from the start and those that it got
   asked_with : (now : LinesView) (source : S) (h : GoesOn before (left_of source₀) now (left_of source)) → AskedSoFar now source
-      → Asks left_of reads before.kept (before.limit - before.taken) before.ended source₀ (before.kept ++ h.got) (now.limit - now.taken) now.ended source
+      → ReadsInOrder left_of reads before.kept (before.limit - before.taken) before.ended source₀ (before.kept ++ h.got) (now.limit - now.taken) now.ended source
   asked_with now source h asked = same_state now.kept (before.kept ++ h.got) (now.limit - now.taken) (now.limit - now.taken) now.ended now.ended source h.kept refl refl asked
 
   -- a read that was the last of a call without an answer
   last_read : (now : LinesView) (source source' : S) (h : GoesOn before (left_of source₀) now (left_of source)) → AskedSoFar now source → now.ended ≡ false → decided_lines now.kept ≡ []
       → (bytes : List ℕ) → AsksOnce left_of reads (length now.kept) (now.limit - now.taken) source bytes true source'
-      → Asks left_of reads before.kept (before.limit - before.taken) before.ended source₀ (before.kept ++ (h.got ++ bytes)) (now.limit - now.taken - length bytes) true source'
+      → ReadsInOrder left_of reads before.kept (before.limit - before.taken) before.ended source₀ (before.kept ++ (h.got ++ bytes)) (now.limit - now.taken - length bytes) true source'
   last_read now source source' h asked unended none bytes once =
       same_state (now.kept ++ bytes) (before.kept ++ (h.got ++ bytes)) (now.limit - now.taken - length bytes) (now.limit - now.taken - length bytes) true true source'
       (ap (λ kept. kept ++ bytes) h.kept ∙ append_assoc before.kept h.got bytes) refl refl

@@ -19,7 +19,7 @@ use Rattle.event_reader.specs.declared.version.Version.{Version}
 use Rattle.event_reader.specs.Steps.{Meaning}
 use Rattle.event_reader.specs.Accepted.{accepted_behind}
 use Rattle.event_reader.specs.Reader.{LinesView, reading_of}
-use Rattle.event_reader.specs.Asking.{AsksOnce, Asks, no_read, one_more, AsksForLine, AsksBatch, not_yet, once_more, AsksForBatch}
+use Rattle.event_reader.specs.Asking.{AsksOnce, ReadsInOrder, no_read, one_more, AsksForLine, AsksBatch, not_yet, once_more, AsksForBatch}
 use Rattle.event_reader.proofs.Cutting.{line_at}
 use Rattle.event_reader.proofs.Batching.{Reads, reads_nothing, shows_failed, reads_as, reads_line, reads_more}
 
@@ -109,7 +109,7 @@ module _ {S : Type 0} (left_of : S → Option (List ℕ)) (reads : S → ℕ →
   same_once n n' r r' source bytes last source' e f h = rw (e, f) at h
 
   follows : (v : Version) (batch : List Transaction) (now : LinesView) (source : S) (h : AskedTo v batch now source) (kept : List ℕ) (room : ℕ) (last : Bool) (source' : S)
-      → Asks left_of reads now.kept (now.limit - now.taken) now.ended source kept room last source'
+      → ReadsInOrder left_of reads now.kept (now.limit - now.taken) now.ended source kept room last source'
       → Follows h.has_read.got now kept room last source'
   follows v batch now source h _ _ _ _ no_read = record {
     more = [];

@@ -22,10 +22,10 @@ use Rattle.event_reader.specs.declared.version.Version.TheVariants.{One, Two}
 use Rattle.event_reader.specs.Versions.{greatest_of, is_version_line, has_version_line}
 use Rattle.event_reader.specs.Steps.{Rules, Meaning, rules_of, Step, step_of}
 use Rattle.event_reader.specs.Accepted.{Accepted, Ended, RefusedAt, CutOff, with_batch, at_last, led_by, accepted_lines, accepted_from, accepted_behind}
-use Rattle.event_reader.specs.Pending.{IsSound}
+use Rattle.event_reader.specs.Pending.{IsSoundBatch}
 use Rattle.event_reader.specs.VersionLaws.{long_plain}
 use Rattle.event_reader.proofs.Goings.{end_told, at_end_for}
-use Rattle.event_reader.specs.Reader.{LinesView, room, left_for, reading_of, Takes, AnswersLine, ShowsLine, accepted_next, accepted_at, AnswersNext, ShowsBatch}
+use Rattle.event_reader.specs.Reader.{LinesView, room, left_for, reading_of, TakesBytes, AnswersLine, ShowsLine, accepted_next, accepted_at, AnswersNext, ShowsBatch}
 
 -- what is still to be given is `F` of the lines that come after `now`
 pub record HasReadTo (meaning : Meaning) (past : Past) (before : LinesView) (left : Option (List ℕ)) (F : Reading → Accepted) (now : LinesView) (left' : Option (List ℕ)) : Type 0 where
@@ -78,7 +78,7 @@ reads_as meaning past before left F G now left' h same = record {
 -- a line more
 unfoldable pub reads_line : (meaning : Meaning) (past : Past) (before : LinesView) (left : Option (List ℕ)) (F : Reading → Accepted) (now : LinesView) (left' : Option (List ℕ)) (next : LinesView) (left'' : Option (List ℕ))
     → HasReadTo meaning past before left F now left' → reading_of now left' ≡ option_map (with_line next.line) (reading_of next left'')
-    → Takes left' left'' (ShowsLine now (Ok Line) next) → (next.ended ≡ false → now.ended ≡ false)
+    → TakesBytes left' left'' (ShowsLine now (Ok Line) next) → (next.ended ≡ false → now.ended ≡ false)
     → HasReadTo meaning past before left (λ r. F (with_line next.line r)) next left''
 reads_line meaning past before left F now left' next left'' h told takes unended = record {
   told = h.told ∙ ap (option_map F) told ∙ map_map F (λ r. F (with_line next.line r)) (with_line next.line) (reading_of next left'') (λ r. refl);
@@ -226,7 +226,7 @@ module _ (m : Meaning) (past : Past) (before : LinesView) (left : Option (List �
 
 -- where no line was added to what was read, it has read more bytes
 pub takes_more : (m : Meaning) (past : Past) (before : LinesView) (left : Option (List ℕ)) (F : Reading → Accepted) (now : LinesView) (left' left'' : Option (List ℕ)) (Shows Shows' : List ℕ → Type 0)
-    → (h : HasReadTo m past before left F now left') → Takes left' left'' Shows → ((got : List ℕ) → Shows got → Shows' (h.got ++ got)) → Takes left left'' Shows'
+    → (h : HasReadTo m past before left F now left') → TakesBytes left' left'' Shows → ((got : List ℕ) → Shows got → Shows' (h.got ++ got)) → TakesBytes left left'' Shows'
 takes_more m past before left F now left' left'' Shows Shows' h takes shows = record {
   got = h.got ++ takes.got;
   taken = h.taken ∙ ap (ahead h.got) takes.taken ∙ ahead_ahead h.got takes.got left'';
@@ -242,7 +242,7 @@ module _ (m : Meaning) (past : Past) (before : LinesView) (left : Option (List �
   answers_fault_next OutOfMemory line after later h answer = tt
 
   pub shows_fault_next : (fault : ReaderFault) (past' : Past) → Reads m past before left v batch now left' → now.ended ≡ false
-      → Takes left' left'' (ShowsLine now (Err fault) next) → Takes left left'' (ShowsBatch m past before (Err fault) past' next)
+      → TakesBytes left' left'' (ShowsLine now (Err fault) next) → TakesBytes left left'' (ShowsBatch m past before (Err fault) past' next)
   shows_fault_next ReadFault past' h unended takes =
       takes_more m past before left (accepted_behind m v now.number past.closed batch) now left' left'' _ _ h takes
       (λ got none. shows_failed m past before left v batch now left' got h unended none)
@@ -251,7 +251,7 @@ module _ (m : Meaning) (past : Past) (before : LinesView) (left : Option (List �
 
   -- after a line that leads on
   unfoldable pub reads_more : (v' : Version) (batch' : List Transaction) → Reads m past before left v batch now left' → reading_of now left' ≡ option_map (with_line next.line) (reading_of next left'')
-      → Takes left' left'' (ShowsLine now (Ok Line) next) → (next.ended ≡ false → now.ended ≡ false) → next.number ≡ now.number + 1
+      → TakesBytes left' left'' (ShowsLine now (Ok Line) next) → (next.ended ≡ false → now.ended ≡ false) → next.number ≡ now.number + 1
       → ((r : Reading) → accepted_behind m v now.number past.closed batch (with_line next.line r) ≡ accepted_behind m v' (now.number + 1) past.closed batch' r)
       → Reads m past before left v' batch' next left''
   reads_more v' batch' h told takes unended counts leads =
@@ -271,9 +271,9 @@ module _ (m : Meaning) (past : Past) (before : LinesView) (left : Option (List �
       ∙ split_map (λ r. with_batch batch (accepted_next m past' next r)) (with_batch batch) (accepted_next m past' next) (reading_of next left'') (λ r. refl)
 
   pub shows_batch : (past' : Past) → Reads m past before left v batch now left' → reading_of now left' ≡ option_map (with_line next.line) (reading_of next left'')
-      → Takes left' left'' (ShowsLine now (Ok Line) next) → (next.ended ≡ false → now.ended ≡ false) → next.number ≡ now.number + 1
+      → TakesBytes left' left'' (ShowsLine now (Ok Line) next) → (next.ended ≡ false → now.ended ≡ false) → next.number ≡ now.number + 1
       → ((r : Reading) → accepted_behind m v now.number past.closed batch (with_line next.line r) ≡ with_batch batch (accepted_behind m past'.version (now.number + 1) past'.closed [] r))
-      → Takes left left''
+      → TakesBytes left left''
       (λ got. next.ended ≡ false → (more : List ℕ) → accepted_next m past before (front (before.kept ++ got ++ more))
       ≡ with_batch batch (accepted_next m past' next (front (next.kept ++ more))))
   shows_batch past' h told takes unended counts leads =
@@ -303,7 +303,7 @@ module _ (m : Meaning) (past : Past) (before : LinesView) (left : Option (List �
 pub reads_from : (m : Meaning) (past : Past) (v : LinesView) (left : Option (List ℕ)) (batch : List Transaction) → batch ≡ [] → Reads m past v left past.version batch v left
 reads_from m past v left batch none = rw none (reads_nothing m past v left)
 
-pub nothing_sound : (version : Version) (layout : Layout) (batch : List Transaction) → batch ≡ [] → IsSound version layout batch
+pub nothing_sound : (version : Version) (layout : Layout) (batch : List Transaction) → batch ≡ [] → IsSoundBatch version layout batch
 unfolding IsDistinct
 nothing_sound version layout batch none = rw none record {
   valid = record { few = omega arith; valid = All-nil IsTransaction; times = tt; alike = All-nil (HasHigh MAX) };
@@ -313,7 +313,7 @@ nothing_sound version layout batch none = rw none record {
 
 -- it has read some bytes
 pub reads_some : (m : Meaning) (past : Past) (before : LinesView) (left : Option (List ℕ)) (v : Version) (batch : List Transaction) (now : LinesView) (left' left'' : Option (List ℕ)) (Shows Shows' : List ℕ → Type 0)
-    → Reads m past before left v batch now left' → Takes left' left'' Shows → ((got : List ℕ) → Shows' got) → Takes left left'' Shows'
+    → Reads m past before left v batch now left' → TakesBytes left' left'' Shows → ((got : List ℕ) → Shows' got) → TakesBytes left left'' Shows'
 reads_some m past before left v batch now left' left'' Shows Shows' h takes shows =
     takes_more m past before left (accepted_behind m v now.number past.closed batch) now left' left'' Shows Shows' h takes (λ got _. shows (h.got ++ got))
 

@@ -12,7 +12,7 @@ use Rattle.event_reader.specs.Limits.{longest_line}
 use Rattle.event_reader.specs.declared.fault.ReaderFault.{ReaderFault}
 use Rattle.event_reader.specs.declared.fault.ReaderFault.TheVariants.{ReadFault, TooLong, OutOfMemory}
 use Rattle.event_reader.specs.Filling.{KeepsMore, KeepsAll, Fills}
-use Rattle.event_reader.specs.Reader.{LinesView, room, left_for, reading_of, Takes, AnswersLine, ShowsLine}
+use Rattle.event_reader.specs.Reader.{LinesView, room, left_for, reading_of, TakesBytes, AnswersLine, ShowsLine}
 
 -- a reader that has gone on from `before`: it has taken `got` and decided nothing
 pub record GoesOn (before : LinesView) (left : Option (List ℕ)) (now : LinesView) (left' : Option (List ℕ)) : Type 0 where
@@ -220,7 +220,7 @@ answers_fault before left now left' next left'' OutOfMemory h bound none fills =
 -- and what the bytes show that it took
 pub shows_fault : (before : LinesView) (left : Option (List ℕ)) (now : LinesView) (left' : Option (List ℕ)) (next : LinesView) (left'' : Option (List ℕ)) (fault : ReaderFault)
     → GoesOn before left now left' → DecidesNone now.kept now.ended → Fills now left' (Err fault) next left''
-    → Takes left left'' (ShowsLine before (Err fault) next)
+    → TakesBytes left left'' (ShowsLine before (Err fault) next)
 shows_fault before left now left' next left'' ReadFault h none fills = record {
   got = h.got;
   taken = h.from ∙ ap (ahead h.got) fills.1;

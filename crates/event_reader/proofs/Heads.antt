@@ -2,18 +2,21 @@
 use Rattle.std.proofs.Common.{◌≡◌, ℕ, ◌<◌, ◌≤◌, true, List, [], ◌∷◌, length, map, take, drop, get_or, refl, sym, ◌∙◌, ap, subst, arith}
 use Rattle.std.specs.List.{All, IsDistinct}
 use Rattle.std.proofs.lemmas.List.{length-map, take_all}
-use Rattle.std.proofs.lemmas.List.Elements.{All-cons, All-map}
+use Rattle.std.proofs.lemmas.List.Elements.{All-cons, All-map, All-weaker}
 use Rattle.morph_base.specs.declared.limits.TheConstants.{EVENT_OPS}
 use Rattle.morph_base.specs.Limits.{latest_time}
 use Rattle.morph_base.specs.declared.key.Key.{Key}
 use Rattle.morph_base.specs.declared.key.Layout.{Layout}
+use Rattle.morph_base.specs.declared.operation.Func.{Func}
 use Rattle.morph_base.specs.declared.operation.Op.{Op}
-use Rattle.morph_base.specs.Operations.{IsShaped, InLayout, reads, same_key}
+use Rattle.morph_base.specs.Operations.{IsShaped, InLayout, least_params, reads, same_key}
 use Rattle.morph_base.specs.Transactions.{Transaction}
+use Rattle.morph_base.proofs.ShapeLaws.{all_of}
 use Rattle.event_reader.specs.declared.version.Version.{Version}
 use Rattle.event_reader.specs.Keys.{key_of, are_distinct}
 use Rattle.event_reader.specs.Reader.{IsEventOf}
-use Rattle.event_reader.specs.Versions.{greatest_of}
+use Rattle.event_reader.specs.VersionLaws.{op_in-shaped}
+use Rattle.event_reader.specs.Versions.{greatest_of, op_in}
 use Rattle.event_reader.proofs.LineKeys.{differ}
 
 -- an operation of an event: its shape, its keys and its greatest value
@@ -27,6 +30,31 @@ pub record IsOpOf (version : Version) (layout : Layout) (op : Op) : Type 0 where
   pub shaped : IsShaped op
   pub inside : ReadsIn layout op
   pub greatest : HasGreatest version op
+
+-- a time and operations of the version that change different keys are an event
+pub ops_valid : (version : Version) (layout : Layout) (ts : ℕ) (ops : List Op) → 0 < ts → ts ≤ latest_time → 0 < length ops → length ops ≤ EVENT_OPS
+    → All (IsOpOf version layout) ops → IsDistinct same_key (map (λ op. op.key) ops) → IsEventOf version layout (record { ts = ts; ops = ops })
+ops_valid version layout ts ops start end some few all apart = (
+  record {
+    after_start = start;
+    latest = end;
+    some = some;
+    few = few;
+    shaped = All-weaker (IsOpOf version layout) IsShaped (λ op is. is.shaped) ops all;
+    distinct = apart;
+  },
+  All-weaker (IsOpOf version layout) (ReadsIn layout) (λ op is. is.inside) ops all,
+  All-weaker (IsOpOf version layout) (HasGreatest version) (λ op is. is.greatest) ops all,
+)
+
+-- an operation that reads its target alone
+pub plain_op : (version : Version) (layout : Layout) (func : Func) (key : Key) (c : ℕ) → least_params func ≤ 0 → c ≤ greatest_of version → InLayout layout key
+    → IsOpOf version layout (op_in version func key [] c)
+plain_op version layout func key c none small inside = record {
+  shaped = op_in-shaped version func key [] c none (omega arith) small;
+  inside = all_of (InLayout layout) (key ∷ []) (inside, tt);
+  greatest = refl;
+}
 
 abbrev pub headed : (ts : ℕ) → (first : Op) → (of : Key → Op) → (keys : List Key) → Transaction
 headed ts first of keys = record { ts = ts; ops = first ∷ map of keys }

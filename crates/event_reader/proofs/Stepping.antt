@@ -21,7 +21,7 @@ use Rattle.event_reader.specs.Lines.{Reading, with_line}
 use Rattle.event_reader.specs.Words.{words_of}
 use Rattle.event_reader.specs.Steps.{Rules, Step, Ignored, Closes, Adds, Refuses, latest_with, has_time, joining, event_step, said_by, is_ignored, is_punctuation, step_of}
 use Rattle.event_reader.specs.Accepted.{RefusedAt, accepted_from, with_batch}
-use Rattle.event_reader.specs.Pending.{IsSound}
+use Rattle.event_reader.specs.Pending.{IsSoundBatch}
 use Rattle.event_reader.proofs.Batching.{leads}
 
 module _ (m : Rules) (closed : ℕ) (batch : List Transaction) (line : List ℕ) (short : length line ≤ longest_line) where
@@ -108,8 +108,8 @@ distinct_more batch e fresh distinct =
     (IsPermutation-sym _ _ (IsPermutation-to_front (map time batch) e.ts)) apart)
 
 -- a batch with one event more stays sound
-pub sound_more : (version : Version) (layout : Layout) (closed : ℕ) (batch : List Transaction) (e : Transaction) (batch' : List Transaction) → IsSound version layout batch
-    → IsEventOf version layout e → joining (most_events version) closed batch e ≡ Adds e → batch' ≡ batch ++ e ∷ [] → IsSound version layout batch'
+pub sound_more : (version : Version) (layout : Layout) (closed : ℕ) (batch : List Transaction) (e : Transaction) (batch' : List Transaction) → IsSoundBatch version layout batch
+    → IsEventOf version layout e → joining (most_events version) closed batch e ≡ Adds e → batch' ≡ batch ++ e ∷ [] → IsSoundBatch version layout batch'
 sound_more version layout closed batch e batch' h event joins more =
     let when = joins_when e (nat_le e.ts closed) (has_time batch e.ts) (nat_le (most_events version) (length batch)) joins in
     let few : length batch < most_events version = grind (arith, nat_tests, when.1) in

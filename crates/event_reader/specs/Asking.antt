@@ -1,4 +1,4 @@
--- How a reader of lines asks its source for bytes.
+-- How a reader of lines asks its source for bytes
 use Rattle.std.specs.Prelude.{◌≡◌, ℕ, ◌-◌, Bool, true, false, ◌==◌, ◌||◌, min, if◌then◌else◌, List, [], ◌++◌, length, Option, Result, Ok, Err, IfOk}
 use Rattle.morph_io.specs.Told.{ahead}
 use Rattle.morph_io.specs.declared.source.ReadFailed.{ReadFailed}
@@ -12,72 +12,88 @@ use Rattle.event_reader.specs.declared.answers.LineNext.TheVariants.{Line}
 use Rattle.event_reader.specs.declared.fault.ReaderFault.{ReaderFault}
 use Rattle.event_reader.specs.Reader.{LinesView, ReaderView, ShowsLine, accepted_next}
 
--- how many bytes it asks for in one read, where it keeps so many and the limit leaves so many: as many as are free in its
--- buffer, at most as many as the limit leaves, and one where it leaves none
+-- The number of bytes that a reader asks for in one read, if it keeps `kept` bytes and the limit leaves `room`: as many
+-- as are free in its buffer, at most as many as the limit leaves, and one if it leaves none
 abbrev pub bytes_asked : (kept room : ℕ) → ℕ
 bytes_asked kept room = if room == 0 then 1 else min (buffer_bytes - kept) room
 
--- whether it asks no more after an answer: the read failed, it came to the end of the input, or the limit was reached before
+-- The test whether a reader asks no more after an answer: the read failed, it came to the end of the input, or the
+-- limit was reached before
 abbrev pub is_last : (room : ℕ) → Result ℕ ReadFailed → Bool
 is_last room (Ok count) = count == 0 || room == 0
 is_last room (Err _) = true
 
--- the bytes that came with an answer
+-- The bytes are those that came with the answer
 abbrev pub CameWith : Result ℕ ReadFailed → List ℕ → Type 0
 CameWith (Ok count) bytes = length bytes ≡ count
 CameWith (Err _) bytes = bytes ≡ []
 
--- one read, where the reader keeps so many bytes and the limit leaves so many: what came of it, and whether it was the last
-pub record AsksOnce {S : Type 0} (left_of : S → Option (List ℕ)) (reads : S → ℕ → Result ℕ ReadFailed → S → Type 0) (kept room : ℕ) (source : S) (bytes : List ℕ) (last : Bool) (source' : S) : Type 0 where
+-- One read, if the reader keeps `kept` bytes and the limit leaves `room`: its bytes, and whether it was the last
+pub record AsksOnce {S : Type 0} (left_of : S → Option (List ℕ)) (reads : S → ℕ → Result ℕ ReadFailed → S → Type 0)
+    (kept room : ℕ) (source : S) (bytes : List ℕ) (last : Bool) (source' : S) : Type 0 where
   pub answer : Result ℕ ReadFailed
   pub does : reads source (bytes_asked kept room) answer source'
   pub came : CameWith answer bytes
   pub told : left_of source ≡ ahead bytes (left_of source')
   pub ends : last ≡ is_last room answer
 
--- reads one after another, from the bytes kept at the start, those that the limit left then, and whether the input had
--- ended: each one only where the bytes kept until then decide no line, and none came that was the last
-pub data Asks {S : Type 0} (left_of : S → Option (List ℕ)) (reads : S → ℕ → Result ℕ ReadFailed → S → Type 0) (kept₀ : List ℕ) (room₀ : ℕ) (ended₀ : Bool) (source₀ : S) : (kept : List ℕ) (room : ℕ) (last : Bool) (source : S) → Type 0 where
-  no_read : Asks left_of reads kept₀ room₀ ended₀ source₀ kept₀ room₀ ended₀ source₀
-  one_more : (kept bytes : List ℕ) (room : ℕ) (last : Bool) (source source' : S) → Asks left_of reads kept₀ room₀ ended₀ source₀ kept room false source
+-- Reads one after another, from the bytes kept at the start, those that the limit left then, and whether the input had
+-- ended. Each one is made only if the bytes kept until then decide no line and none before it was the last
+pub data ReadsInOrder {S : Type 0} (left_of : S → Option (List ℕ)) (reads : S → ℕ → Result ℕ ReadFailed → S → Type 0)
+    (kept₀ : List ℕ) (room₀ : ℕ) (ended₀ : Bool) (source₀ : S) : (kept : List ℕ) (room : ℕ) (last : Bool)
+    (source : S) → Type 0 where
+  no_read : ReadsInOrder left_of reads kept₀ room₀ ended₀ source₀ kept₀ room₀ ended₀ source₀
+  one_more : (kept bytes : List ℕ) (room : ℕ) (last : Bool) (source source' : S)
+      → ReadsInOrder left_of reads kept₀ room₀ ended₀ source₀ kept room false source
       → decided_lines kept ≡ [] → AsksOnce left_of reads (length kept) room source bytes last source'
-      → Asks left_of reads kept₀ room₀ ended₀ source₀ (kept ++ bytes) (room - length bytes) last source'
+      → ReadsInOrder left_of reads kept₀ room₀ ended₀ source₀ (kept ++ bytes) (room - length bytes) last source'
 
--- where a line was given before the input ended, the reader keeps what stands behind whole lines
+-- If a line was given before the input ended, the reader keeps what comes behind whole lines
 abbrev pub KeepsBehind : (bytes : List ℕ) → Result LineNext ReaderFault → LinesView → Type 0
-KeepsBehind bytes (Ok Line) after = after.ended ≡ false → (used : List ℕ) × (bytes ≡ used ++ after.kept) × (behind_last_feed used ≡ [])
+KeepsBehind bytes (Ok Line) after =
+    after.ended ≡ false → (used : List ℕ) × (bytes ≡ used ++ after.kept) × (behind_last_feed used ≡ [])
 KeepsBehind bytes _ after = Unit {0}
 
--- the reads for a line, with what their bytes show: with an answer the last of them came to the end of the input exactly
--- where the reader says so
-pub record AsksForLine {S : Type 0} (left_of : S → Option (List ℕ)) (reads : S → ℕ → Result ℕ ReadFailed → S → Type 0) (before : LinesView) (source : S) (answer : Result LineNext ReaderFault) (after : LinesView) (source' : S) : Type 0 where
+-- The reads of one call for a line, with what their bytes show. If the call is answered, the last read came to the end
+-- of the input exactly if the reader says so
+pub record AsksForLine {S : Type 0} (left_of : S → Option (List ℕ)) (reads : S → ℕ → Result ℕ ReadFailed → S → Type 0)
+    (before : LinesView) (source : S) (answer : Result LineNext ReaderFault) (after : LinesView)
+    (source' : S) : Type 0 where
   pub got : List ℕ
   pub taken : left_of source ≡ ahead got (left_of source')
   pub shows : ShowsLine before answer after got
   pub room : ℕ
   pub last : Bool
-  pub asks : Asks left_of reads before.kept (before.limit - before.taken) before.ended source (before.kept ++ got) room last source'
+  pub asks : ReadsInOrder left_of reads before.kept (before.limit - before.taken) before.ended source (before.kept ++ got) room last source'
   pub ends : IfOk answer (λ _. (last ≡ after.ended) × (room ≡ after.limit - after.taken))
   pub keeps : KeepsBehind (before.kept ++ got) answer after
 
--- reads one after another for a batch: each one only where the bytes got until then show no closed batch and no refused
--- line, and none came that was the last. The reader keeps what stands behind the last LF
-pub data AsksBatch {S : Type 0} (left_of : S → Option (List ℕ)) (reads : S → ℕ → Result ℕ ReadFailed → S → Type 0) (meaning : Meaning) (past : Past) (before : LinesView) (source₀ : S) : (got : List ℕ) (last : Bool) (source : S) → Type 0 where
+-- Reads one after another for a batch. Each one is made only if the bytes got until then show no closed batch and no
+-- refused line, and none before it was the last. The number of bytes asked for follows from those behind the last LF,
+-- which the reader keeps
+pub data AsksBatch {S : Type 0} (left_of : S → Option (List ℕ)) (reads : S → ℕ → Result ℕ ReadFailed → S → Type 0)
+    (meaning : Meaning) (past : Past) (before : LinesView) (source₀ : S) : (got : List ℕ) (last : Bool)
+    (source : S) → Type 0 where
   not_yet : AsksBatch left_of reads meaning past before source₀ [] before.ended source₀
-  once_more : (got bytes : List ℕ) (last : Bool) (source source' : S) → AsksBatch left_of reads meaning past before source₀ got false source
+  once_more : (got bytes : List ℕ) (last : Bool) (source source' : S)
+      → AsksBatch left_of reads meaning past before source₀ got false source
       → accepted_next meaning past before (front (before.kept ++ got)) ≡ record { batches = []; ending = CutOff }
       → AsksOnce left_of reads (length (behind_last_feed (before.kept ++ got))) (before.limit - before.taken - length got) source bytes last source'
       → AsksBatch left_of reads meaning past before source₀ (got ++ bytes) last source'
 
--- the reads for a batch, of which the last came to the end of the input exactly where the reader says so
-pub record AsksForBatch {S A : Type 0} (left_of : S → Option (List ℕ)) (reads : S → ℕ → Result ℕ ReadFailed → S → Type 0) (meaning : Meaning) (past : Past) (before : LinesView) (source : S) (answer : Result A ReaderFault) (after : LinesView) (source' : S) : Type 0 where
+-- The reads of one call for a batch. If the call is answered, the last read came to the end of the input exactly if the
+-- reader says so
+pub record AsksForBatch {S A : Type 0} (left_of : S → Option (List ℕ))
+    (reads : S → ℕ → Result ℕ ReadFailed → S → Type 0) (meaning : Meaning) (past : Past) (before : LinesView)
+    (source : S) (answer : Result A ReaderFault) (after : LinesView) (source' : S) : Type 0 where
   pub got : List ℕ
   pub taken : left_of source ≡ ahead got (left_of source')
   pub last : Bool
   pub asks : AsksBatch left_of reads meaning past before source got last source'
   pub ends : IfOk answer (λ _. last ≡ after.ended)
 
--- the same of a reader of batches
-abbrev pub AsksForNext : {S App A : Type 0} → (S → Option (List ℕ)) → (S → ℕ → Result ℕ ReadFailed → S → Type 0) → (App → ℕ → Meaning) → ReaderView App → S → Result A ReaderFault → ReaderView App → S → Type 0
+-- The reads of one call of a reader of batches
+abbrev pub AsksForNext : {S App A : Type 0} → (S → Option (List ℕ)) → (S → ℕ → Result ℕ ReadFailed → S → Type 0)
+    → (App → ℕ → Meaning) → ReaderView App → S → Result A ReaderFault → ReaderView App → S → Type 0
 AsksForNext left_of reads event_of before source answer after source' =
     AsksForBatch left_of reads (event_of before.app before.size) before.past before.lines source answer after.lines source'

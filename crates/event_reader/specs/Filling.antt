@@ -1,4 +1,4 @@
--- What a reader of lines has after it asked its source for more bytes.
+-- What a reader of lines has after it asked its source for more bytes
 use Rattle.std.specs.Prelude.{◌≡◌, ℕ, ◌+◌, ◌-◌, ◌<◌, ◌≤◌, true, false, IsTrue, List, [], ◌∷◌, ◌++◌, length, Option, Result, Ok, Err}
 use Rattle.morph_io.specs.Told.{ahead, IsAtEnd}
 use Rattle.event_reader.specs.declared.fault.ReaderFault.{ReaderFault}
@@ -7,8 +7,9 @@ use Rattle.morph_io.specs.declared.source.ReadFailed.{ReadFailed}
 use Rattle.event_reader.specs.Reader.{LinesView}
 use Rattle.event_reader.specs.Asking.{AsksOnce}
 
--- it keeps `got` more bytes, or the source came to its end
-pub record KeepsMore (before : LinesView) (left : Option (List ℕ)) (after : LinesView) (left' : Option (List ℕ)) : Type 0 where
+-- The reader keeps `got` more bytes, or the source came to its end
+pub record KeepsMore (before : LinesView) (left : Option (List ℕ)) (after : LinesView)
+    (left' : Option (List ℕ)) : Type 0 where
   pub got : List ℕ
   pub told : left ≡ ahead got left'
   pub kept : after.kept ≡ before.kept ++ got
@@ -21,7 +22,7 @@ pub record KeepsMore (before : LinesView) (left : Option (List ℕ)) (after : Li
   pub at_end : IsTrue after.ended → IsAtEnd left'
   pub short : after.line ≡ []
 
--- it was refused bytes, and keeps what it kept
+-- The reader was refused bytes, and keeps what it kept
 pub record KeepsAll (before after : LinesView) : Type 0 where
   pub kept : after.kept ≡ before.kept
   pub taken : after.taken ≡ before.taken
@@ -31,26 +32,31 @@ pub record KeepsAll (before after : LinesView) : Type 0 where
   pub ended : after.ended ≡ false
   pub short : after.line ≡ []
 
--- the source gave bytes beyond the limit
+-- The source gave bytes beyond the limit
 pub record GivesMore (left left' : Option (List ℕ)) : Type 0 where
   pub byte : ℕ
   pub more : List ℕ
   pub told : left ≡ ahead (byte ∷ more) left'
 
+-- What a reader has after it asked its source for bytes: more bytes or the end; what it had, at a fault; and evidence
+-- of one more byte if the input is too long
 abbrev pub Fills : LinesView → Option (List ℕ) → Result (Unit {0}) ReaderFault → LinesView → Option (List ℕ) → Type 0
 Fills before left (Ok _) after left' = KeepsMore before left after left'
 Fills before left (Err ReadFault) after left' = KeepsAll before after × (left ≡ left')
 Fills before left (Err TooLong) after left' = KeepsAll before after × GivesMore left left' × (after.taken ≡ after.limit)
 Fills before left (Err OutOfMemory) after left' = ⊥
 
--- it was filled by one read, whose bytes it keeps, and which was the last where the input ended or it was refused
-pub record KeepsRead {S : Type 0} (left_of : S → Option (List ℕ)) (reads : S → ℕ → Result ℕ ReadFailed → S → Type 0) (before : LinesView) (source : S) (after : LinesView) (source' : S) : Type 0 where
+-- The reader was filled by one read. It keeps that read's bytes, and the read was the last if the input ended
+pub record KeepsRead {S : Type 0} (left_of : S → Option (List ℕ)) (reads : S → ℕ → Result ℕ ReadFailed → S → Type 0)
+    (before : LinesView) (source : S) (after : LinesView) (source' : S) : Type 0 where
   pub bytes : List ℕ
   pub asks : AsksOnce left_of reads (length before.kept) (before.limit - before.taken) source bytes after.ended source'
   pub kept : after.kept ≡ before.kept ++ bytes
   pub room : after.limit - after.taken ≡ before.limit - before.taken - length bytes
 
-abbrev pub FillsBy : {S : Type 0} → (S → Option (List ℕ)) → (S → ℕ → Result ℕ ReadFailed → S → Type 0) → LinesView → S → Result (Unit {0}) ReaderFault → LinesView → S → Type 0
+-- By which read the reader was filled or refused
+abbrev pub FillsBy : {S : Type 0} → (S → Option (List ℕ)) → (S → ℕ → Result ℕ ReadFailed → S → Type 0) → LinesView → S
+    → Result (Unit {0}) ReaderFault → LinesView → S → Type 0
 FillsBy left_of reads before source (Ok _) after source' = KeepsRead left_of reads before source after source'
 FillsBy left_of reads before source (Err ReadFault) after source' =
     AsksOnce left_of reads (length before.kept) (before.limit - before.taken) source [] true source'

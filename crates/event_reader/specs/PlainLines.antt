@@ -1,11 +1,11 @@
--- Lines of one letter and numbers.
+-- Lines of one letter and numbers
 use Rattle.std.specs.Prelude.{ℕ, List, [], ◌∷◌, ◌++◌, decimal}
 
--- the decimal digits of each number, with one space in front of each
+-- The decimal digits of each number, with one space in front of each number
 unfoldable pub spaced : List ℕ → List ℕ
 spaced [] = []
 spaced (n ∷ ns) = 32 ∷ (decimal n ++ spaced ns)
 
--- the letter, and the numbers behind it
+-- The letter, followed by the numbers
 abbrev pub plain_line : (letter : ℕ) → List ℕ → List ℕ
 plain_line letter ns = letter ∷ spaced ns

@@ -1,4 +1,4 @@
--- What a line is, after the accepted lines before it.
+-- What a line does, after the accepted lines before it
 use Rattle.std.specs.Prelude.{ℕ, Bool, ◌||◌, ◌==◌, nat_le, nat_lt, max, fold, if◌then◌else◌, List, [], ◌∷◌, length, slice_index, Option, Some, None, Result, Ok, Err}
 use Rattle.std.specs.List.{list_any}
 use Rattle.std.specs.Str.{bytes_eq}
@@ -10,61 +10,64 @@ use Rattle.event_reader.specs.declared.cause.Cause.TheVariants.{Long, Form, Late
 use Rattle.event_reader.specs.Versions.{most_events}
 use Rattle.event_reader.specs.Words.{words_of}
 
--- what an application makes of the words of a line: its event, or the first of the causes form, range and same
+-- What an application makes of the words of a line: its event, or the first of the causes form, range and same
 abbrev pub Saying : Type 0
 Saying = List (List ℕ) → Result Transaction Cause
 
--- the same in an input of each version
+-- What an application makes of the words of a line in an input of each version
 abbrev pub Meaning : Type 0
 Meaning = Version → Saying
 
--- what lines of one version may be: what their words say, and the most events of a batch
+-- The rules of lines of one version: what their words say, and the most events of a batch
 pub record Rules : Type 0 where
   pub says : Saying
   pub most : ℕ
 
+-- The rules of the lines of a version
 abbrev pub rules_of : Meaning → Version → Rules
 rules_of meaning version = record { says = meaning version; most = most_events version }
 
--- what a line does: nothing, close the batch, add an event to it, or end the reading
+-- What a line does: nothing, close the batch, add an event to it, or end the reading
 pub data Step : Type 0 where
   Ignored : Step
   Closes : Step
   Adds : Transaction → Step
   Refuses : Cause → Step
 
--- the greatest timestamp of the closed batches when this batch is closed too, from what it was before; 0 without any
+-- The greatest timestamp of the closed batches once this batch is closed too, from what it was before; 0 if there is
+-- none
 abbrev pub latest_with : List Transaction → ℕ → ℕ
 latest_with batch closed = fold (λ latest e. max latest e.ts) closed batch
 
--- whether an event of the batch has this timestamp
+-- The test whether an event of the batch has this timestamp
 abbrev pub has_time : List Transaction → ℕ → Bool
 has_time batch ts = list_any (λ e. e.ts == ts) batch
 
--- what an event does: it is late, there twice, or one too many, or it joins the batch
+-- What an event does: it is late, it is there twice, it is one too many, or it joins the batch
 abbrev pub joining : (most closed : ℕ) → List Transaction → Transaction → Step
 joining most closed batch e =
     if nat_le e.ts closed then Refuses Late else (if has_time batch e.ts then Refuses Twice
     else (if nat_le most (length batch) then Refuses Full else Adds e))
 
--- what an event line does: its words are no form, the application refuses them, or they are an event
+-- What an event line does: the application refuses its words, or they are an event
 abbrev pub event_step : (most closed : ℕ) → List Transaction → Result Transaction Cause → Step
 event_step most closed batch (Ok e) = joining most closed batch e
 event_step most closed batch (Err cause) = Refuses cause
 
+-- What an application says of words, and the cause form if they are no words
 abbrev pub said_by : Saying → Option (List (List ℕ)) → Result Transaction Cause
 said_by saying (Some words) = saying words
 said_by saying None = Err Form
 
--- an empty line, or a comment: its first byte is `#`
+-- The test whether a line is empty or a comment, which begins with `#`
 abbrev pub is_ignored : List ℕ → Bool
 is_ignored line = length line == 0 || slice_index line 0 == 35
 
--- a punctuation: exactly `P`
+-- The test whether a line is a punctuation: exactly `P`
 abbrev pub is_punctuation : List ℕ → Bool
 is_punctuation line = bytes_eq line (80 ∷ [])
 
--- what a line does, where `closed` is the greatest timestamp of the batches closed before it, and `batch` has the events
+-- What a line does, if `closed` is the greatest timestamp of the batches closed before it, and `batch` has the events
 -- of the unfinished batch, in order of arrival
 unfoldable pub step_of : Rules → (closed : ℕ) → List Transaction → List ℕ → Step
 step_of rules closed batch line =

@@ -19,8 +19,8 @@ pub trait EventApp {
     /// The printed name of a table.
     ghost name_of: { Self → ℕ → List ℕ };
 
-    /// What the words of a line say where each table has so many ids, in an input of each version: an event, or the
-    /// first of the causes form, range and same that applies.
+    /// What the words of a line say if each table has this many ids, in an input of each version: an event, or the
+    /// first that applies of the causes form, range and same.
     ghost event_of: { Self → ℕ → Version → List (List ℕ) → Result Transaction Cause };
 
     /// The number of tables, which are numbered from 0.
@@ -33,7 +33,7 @@ pub trait EventApp {
         ensures name { result.now ≡ name_of self.now table }
         ensures short { length result.now ≤ name_bytes };
 
-    /// Reads the words of an event line of an input of this version, where each table has `size` ids.
+    /// Reads the words of an event line of an input of this version. Each table has `size` ids.
     fn read_event(
         &self,
         alloc: Global,

@@ -2,7 +2,7 @@ ghost use Rattle.std.specs.Prelude.{◌≡◌, ◌↔◌, ℕ, ◌+◌, ◌<◌,
 ghost use Rattle.morph_io.specs.Told.{IsAtEnd, HasRisen};
 ghost use Rattle.event_reader.specs.declared.version.Version.TheVariants.{One};
 ghost use Rattle.event_reader.specs.Reader.{accepted_at, reading_of, AnswersNext, KnowsVersion, ShowsBatch};
-ghost use Rattle.event_reader.specs.Reader.{Takes, IsValidNext, event_count, goes_on};
+ghost use Rattle.event_reader.specs.Reader.{TakesBytes, IsValidNext, event_count, goes_on};
 ghost use Rattle.event_reader.specs.Asking.{AsksForBatch};
 ghost use Rattle.event_reader.specs.Versions.{is_version_line};
 
@@ -27,8 +27,8 @@ fn says_version(lines: &Lines) -> bool
     lines.number() == 1 && is_version(lines.line())
 }
 
-/// Reads the next batch of an application whose tables have `size` ids each. What was read before becomes that with the
-/// version line, and with the timestamps of the batch where one is given.
+/// Reads the next batch of an application whose tables have `size` ids each. The version line, and the timestamps of
+/// the batch if one is returned, are added to what was read before.
 fn read_batch<A: EventApp, S: Source>(
     alloc: Global,
     app: &A,
@@ -42,7 +42,7 @@ fn read_batch<A: EventApp, S: Source>(
     ensures answers { let meaning = A.event_of app.now size in
         AnswersNext (accepted_at meaning past.old lines.old (S.left source.old)) result
         (accepted_at meaning past.new lines.new (S.left source.new)) }
-    ensures shows { Takes (S.left source.old) (S.left source.new)
+    ensures shows { TakesBytes (S.left source.old) (S.left source.new)
         (ShowsBatch (A.event_of app.now size) past.old lines.old result past.new lines.new) }
     ensures valid { IfOk result (IsValidNext past.new.version
         (record { tables = A.table_count app.now; size = size })) }
@@ -181,11 +181,12 @@ impl<A: EventApp> BatchReader<A> {
 
     /// Reads the next batch.
     ///
-    /// A [`Next::Batch`] has an event at least, is valid, and has the greatest value of the version. The answer is
-    /// [`Next::End`] exactly at the end of the input with no event pending, and [`Next::Refused`] exactly at the
-    /// first refused line. [`ReaderFault::ReadFault`] comes only where the source's count of faults rose in this
-    /// call, which it does with no other answer, and [`ReaderFault::TooLong`] exactly where as many bytes as the limit were taken, none of their lines is
-    /// refused, and the source gave one more. After every other answer than a batch it may not be asked again.
+    /// A [`Next::Batch`] has at least one event, is valid, and has the greatest value of the version. The answer is
+    /// [`Next::End`] exactly at the end of the input with no event pending, and [`Next::Refused`] exactly at the first
+    /// refused line. [`ReaderFault::ReadFault`] is returned only if the source's count of faults rose in this call, and
+    /// the count rises with no other answer. [`ReaderFault::TooLong`] is returned exactly if as many bytes as the limit
+    /// were taken, none of their lines is refused, and the source gave one more. After any answer but a batch the
+    /// reader may not be asked again.
     pub fn next_batch<S: Source>(
         &mut self,
         alloc: Global,
@@ -194,7 +195,7 @@ impl<A: EventApp> BatchReader<A> {
         requires live { IsTrue self.old.live }
         ensures answers { AnswersNext (accepted_by A.event_of self.old (S.left source.old)) result
             (accepted_by A.event_of self.new (S.left source.new)) }
-        ensures shows { Takes (S.left source.old) (S.left source.new)
+        ensures shows { TakesBytes (S.left source.old) (S.left source.new)
             (ShowsNext A.event_of self.old result self.new) }
         ensures valid { IfOk result (IsValidNext self.new.past.version
             (record { tables = A.table_count self.old.app; size = self.old.size })) }

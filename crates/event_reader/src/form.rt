@@ -6,7 +6,7 @@ ghost use Rattle.event_reader.specs.Numbers.{are_in};
 use crate::ranges::{NOTHING, Range};
 use std::marker::Model;
 
-/// A form of event line: a letter, `N` numbers in their places, and as many more numbers behind them as it allows.
+/// A form of event line: a letter, `N` numbers in their places, and then as many more numbers as it allows.
 ///
 /// Contracts see it as its letter, the ranges of its places, the range of the numbers behind them, and the least and
 /// the most count of these.
@@ -80,7 +80,7 @@ impl<'a, const N: usize> Form<'a, N> {
         self.letter
     }
 
-    /// Whether its lines can have so many numbers.
+    /// Whether its lines can have `count` numbers.
     pub(crate) fn has_count(&self, count: usize) -> bool
         ensures { result ≡ has_count self.now count }
     {

@@ -1,5 +1,5 @@
 ghost use Rattle.std.specs.Prelude.{◌≡◌, ◌+◌, ◌<◌, ◌≤◌, [], ◌++◌, length, take, Some, IsOk, IfOk};
-ghost use Rattle.morph_io.specs.InMemory.{Gives};
+ghost use Rattle.morph_io.specs.InMemory.{GivesBytes};
 ghost use Rattle.event_reader.specs.Limits.{generated_events, generated_ids};
 ghost use Rattle.event_reader.specs.GeneratedText.{with_end, new_generator, generated_left};
 
@@ -46,7 +46,7 @@ impl<A> Model for GenSource<A> {
     ghost invariant = { IsGenerator };
 }
 
-/// Writes the line of event `i` with its LF, and the line of a punctuation behind it where the event ends a batch.
+/// Writes the line of event `i` with its LF, and then the line of a punctuation if the event ends a batch.
 fn write_event<A: MakesInput>(app: &A, draws: &mut Draws, i: u64, size: u32, line: &mut LineBuf)
     requires event { 1 ≤ i }
     requires last { i ≤ generated_events }
@@ -102,7 +102,7 @@ impl<A: MakesInput> GenSource<A> {
         self.next += 1;
     }
 
-    /// Begins the next line where the one before it was given whole, if there is one more.
+    /// Begins the next line if the one before it was given whole and there is one more.
     fn begin_line(&mut self)
         ensures same { generated_left A.generated self.new ≡ generated_left A.generated self.old }
         ensures last { self.new.rest ≡ [] → generated_left A.generated self.new ≡ [] }
@@ -119,7 +119,7 @@ impl<A: MakesInput> Source for GenSource<A> {
     ghost faults = { λ _. 0 };
 
     ghost reads = { λ old asked answer new.
-        Gives (generated_left A.generated old) asked answer (generated_left A.generated new) };
+        GivesBytes (generated_left A.generated old) asked answer (generated_left A.generated new) };
 
     /// Gives as much of one line as the buffer has room for. It never fails.
     fn read(&mut self, buf: &mut [u8]) -> Result<usize, ReadFailed>

@@ -16,7 +16,7 @@ pub fn key_of(table: u8, id: u64) -> Key
     }
 }
 
-/// The keys of ids in a table, of which there are at most `N`, with that of id 0 in the places behind them.
+/// The keys of at most `N` ids in a table. The places behind them have the key of id 0.
 pub fn keys_of<const N: usize>(table: u8, ids: &[u64]) -> [Key; N]
     requires few { length ids.now ≤ N }
     requires small { All (λ id. id < 2 ^ 32) ids.now }
@@ -36,8 +36,8 @@ pub fn has_key(keys: &[Key], key: Key) -> bool
     keys.iter().any(|other| key == *other)
 }
 
-/// Whether no two of the keys are the same. It compares each with all behind it, so it is meant for the few keys of a
-/// line.
+/// Whether no two of the keys are the same. It compares each key with all behind it, so it is meant for the few keys of
+/// a line.
 pub fn are_distinct(keys: &[Key]) -> bool
     ensures { result ≡ are_distinct keys.now }
 {

@@ -14,10 +14,10 @@ ghost use Rattle.event_reader.specs.GeneratedText.{generated_text};
 
 use crate::makes_input::MakesInput;
 
-/// No line of a generated text is refused, whatever the seed: its batches have as many events as were asked for. The
-/// text never meets the greatest length of an input.
+/// No line of a generated text is refused, whatever the seed. Its batches have as many events as were asked for, and
+/// the text never reaches the greatest length of an input.
 ///
-/// So a run on a generated text reads all of it.
+/// A run on a generated text therefore reads all of it.
 pub fn generated_text_is_accepted<A: MakesInput>()
     ensures ended { (app : A) (size seed events : ℕ) → 0 < size → size ≤ generated_ids
         → events ≤ generated_events
@@ -38,11 +38,11 @@ pub fn generated_text_is_accepted<A: MakesInput>()
         ≡ accepted (A.event_of app size) text }
 {}
 
-/// The batches of an input of which no line is refused are the events between its punctuations, where there are any.
-/// One after another they are all events that its lines say, in order.
+/// If no line of an input is refused, its batches are the events between its punctuations, wherever there are any. One
+/// after another they are all events that its lines say, in order.
 ///
-/// Where a line is refused, or the lines are cut off, they are the events in front of the punctuations that come
-/// before: those of the unfinished batch are left out.
+/// If a line is refused, or the lines are cut off, the batches are the events in front of the punctuations before that
+/// place. The events of the unfinished batch are left out.
 pub fn batches_stand_between_punctuations()
     ensures between { (meaning : Meaning) (input : List ℕ) → (accepted meaning input).ending ≡ Ended
         → (accepted meaning input).batches
@@ -71,9 +71,9 @@ pub fn timestamps_rise_from_batch_to_batch()
         (accepted_first meaning 0 [] reading).batches }
 {}
 
-/// A line is refused exactly where it is the first to which a cause applies, and its cause is the least that does, in
-/// the order long, form, range, same, late, twice, full. The version line is not refused, and all others are lines of
-/// its version.
+/// A line is refused exactly if it is the first to which a cause applies, and its cause is the least that does, in the
+/// order long, form, range, same, late, twice, full. The version line is not refused, and all others are lines of its
+/// version.
 pub fn the_first_line_with_a_cause_is_refused()
     ensures { (meaning : Meaning) (reading : Reading) (line : ℕ) (cause : Cause)
         → HasCauses meaning

@@ -1,10 +1,10 @@
 //! Lines, events and batches: from the bytes of a source to the batches of an application.
 //!
-//! An [`EventApp`] is an application: its tables, and what the words of its event lines say. A [`BatchReader`] cuts
-//! the bytes of a source into [`Lines`] and a line into [`Words`], asks the application what these say, and gives the
-//! events between two punctuations as a batch, or the first line that is refused, with its [`Cause`]. What it gives
-//! does not depend on the pieces in which the source gives its bytes. The first line tells the [`Version`] of an input,
-//! which is 2 where it is `morph 2`. A caller asks until the answer is no batch:
+//! An [`EventApp`] is an application: its tables, and what the words of its event lines say. A [`BatchReader`] cuts the
+//! bytes of a source into [`Lines`] and a line into [`Words`], and asks the application what these say. It returns the
+//! events between two punctuations as a batch, or the first line that is refused, with its [`Cause`]. The result does
+//! not depend on the pieces in which the source gives its bytes. The first line shows the [`Version`] of an input,
+//! which is 2 if the line is `morph 2`. A caller asks until the answer is no batch:
 //!
 //! ```text
 //! let mut reader = BatchReader::new(alloc, Ledger, 10_000, INPUT_BYTES)?;
@@ -18,10 +18,10 @@
 //!
 //! An application has a [`Form`] for each kind of line, and reads its numbers by [`Words::read`], each within a
 //! [`Range`]. One that is [`MakesInput`] also writes lines of its own for runs of any size: a [`GenSource`] is a source
-//! of its generated text, of which [`laws`] say that no line is refused. [`Draws`] are the random numbers of that, and
-//! [`write_line`] puts a line of a letter and numbers into a buffer.
+//! of its generated text, and [`laws`] say that no line of it is refused. [`Draws`] are the random numbers of that
+//! text, and [`write_line`] puts a line of a letter and numbers into a buffer.
 //!
-//! The definitions stand in `specs/`: `Accepted` has the batches of an input, `Steps` what a line does. Below stand
+//! The definitions stand in `specs/`: `Accepted` has the batches of an input, `Steps` what a line does. The crate uses
 //! `morph_io`, whose sources give the bytes, `morph_base`, whose events and batches are made, and the kit's `memchr`
 //! and `thiserror`.
 #![tactic(auto)]

@@ -22,7 +22,7 @@ pub const GREATEST_NUMBER: u64 = 10_000_000_000_000;
 /// The most bytes of an input: 2^30.
 pub const INPUT_BYTES: u64 = 1_073_741_824;
 
-/// How many bytes a reader keeps at most between the source and its lines.
+/// The most bytes that a reader keeps between the source and its lines.
 pub const BUFFER_BYTES: usize = 4_096;
 
 /// The most events of a generated text: 10^6.

@@ -12,7 +12,7 @@ use std::marker::Model;
 
 /// A reader of lines over one buffer of [`BUFFER_BYTES`].
 ///
-/// It asks a source only where the bytes that it keeps decide no line, and never again after the end of the input.
+/// It asks a source only if the bytes that it keeps decide no line, and never again after the end of the input.
 #[derive(Debug, Drop)]
 pub struct Lines {
     buffer: Vec<u8>,
@@ -61,7 +61,7 @@ fn to_front(buffer: &mut [u8], start: usize, end: usize)
     }
 }
 
-/// Reads at most `most` bytes from the source to behind the first `end` bytes.
+/// Reads at most `most` bytes from the source into the buffer, behind its first `end` bytes.
 fn read_behind<S: Source>(
     source: &mut S,
     buffer: &mut [u8],
@@ -84,8 +84,8 @@ fn read_behind<S: Source>(
     source.read(&mut buffer[end..end + most])
 }
 
-/// How many bytes to ask for: as many as are free in the buffer, at most as many as the limit leaves, and one byte
-/// where it leaves none.
+/// How many bytes to ask for: as many as are free in the buffer, at most as many as the limit leaves, and one byte if
+/// it leaves none.
 fn asked_bytes(free: usize, left: u64) -> usize
     requires { 0 < free }
     ensures some { 0 < result }
@@ -106,7 +106,7 @@ impl Lines {
     ghost use Rattle.std.specs.Prelude.{◌≡◌, ℕ, ◌+◌, ◌<◌, ◌≤◌, List, [], ◌++◌, length, take, drop, IsTrue, IfOk, OnOk, IsErrOf, false, Ok, OnErr};
     ghost use Rattle.morph_io.specs.Told.{ahead, IsAtEnd, HasRisen};
     ghost use Rattle.event_reader.specs.Limits.{longest_line, deciding_bytes, input_bytes};
-    ghost use Rattle.event_reader.specs.Reader.{LinesView, new_lines, reading_of, AnswersLine, ShowsLine, Takes, is_line, lines_given};
+    ghost use Rattle.event_reader.specs.Reader.{LinesView, new_lines, reading_of, AnswersLine, ShowsLine, TakesBytes, is_line, lines_given};
     ghost use Rattle.event_reader.specs.Filling.{Fills, FillsBy};
     ghost use Rattle.event_reader.specs.Asking.{AsksForLine};
 
@@ -153,7 +153,7 @@ impl Lines {
         self.live
     }
 
-    /// The bytes that no line was given of.
+    /// The bytes from which no line was given yet.
     fn kept(&self) -> &[u8]
         ensures bytes { result.now ≡ self.now.kept }
         ensures bound { self.now.taken ≤ self.now.limit }
@@ -199,14 +199,15 @@ impl Lines {
     /// Gives the next line.
     ///
     /// The answer is [`LineNext::End`] exactly at the end of the input with no line pending, and [`LineNext::Long`]
-    /// exactly where the next line is too long. [`ReaderFault::ReadFault`] comes only where the source's count of
-    /// faults rose in this call, which it does with no other answer, and [`ReaderFault::TooLong`] exactly where as many bytes as the limit were taken, none
-    /// of their lines is too long, and the source gave one more. It takes no memory.
+    /// exactly if the next line is too long. [`ReaderFault::ReadFault`] is returned only if the source's count of
+    /// faults rose in this call, and the count rises with no other answer. [`ReaderFault::TooLong`] is returned exactly
+    /// if as many bytes as the limit were taken, none of their lines is too long, and the source gave one more. The
+    /// call takes no memory.
     pub fn next_line<S: Source>(&mut self, source: &mut S) -> Result<LineNext, ReaderFault>
         requires live { IsTrue self.old.live }
         ensures answers { AnswersLine (reading_of self.old (S.left source.old)) result self.new.line
             (reading_of self.new (S.left source.new)) }
-        ensures shows { Takes (S.left source.old) (S.left source.new)
+        ensures shows { TakesBytes (S.left source.old) (S.left source.new)
             (ShowsLine self.old result self.new) }
         ensures at_end { self.old.ended ≡ false → IsTrue self.new.ended
             → IsAtEnd (S.left source.new) }

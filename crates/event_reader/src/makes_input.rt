@@ -8,14 +8,14 @@ use morph_io::LineBuf;
 
 /// An application that makes input of its own, for runs of any size without a source.
 ///
-/// An application whose input is read alone needs none of this.
+/// An application whose input is only read needs none of this.
 pub trait MakesInput: EventApp {
-    /// What the generator writes as the line of event i, where each table has so many ids, from a state of its draws:
-    /// the line without its LF, and the state after it.
+    /// What the generator writes as the line of event i if each table has `size` ids, from a state of its draws: the
+    /// line without its LF, and the state after it.
     ghost generated: { Self → (size i state : ℕ) → Drawn };
 
-    /// Writes the line of event `i` without its LF into an empty buffer, by draws in their order, where each table has
-    /// `size` ids.
+    /// Writes the line of event `i` without its LF into an empty buffer, by draws in their order. Each table has `size`
+    /// ids.
     fn generate(&self, draws: &mut Draws, i: u64, size: u32, line: &mut LineBuf)
         requires empty { line.old ≡ [] }
         requires event { 1 ≤ i }

@@ -10,7 +10,7 @@ pub enum Number {
     Value(u64),
     /// A number above [`GREATEST_NUMBER`](crate::GREATEST_NUMBER), however many digits it has.
     TooGreat,
-    /// No number: not one or more decimal digits, or a zero stands in front of other digits.
+    /// No number: not one or more decimal digits, or a zero in front of other digits.
     NotNumber,
 }
 

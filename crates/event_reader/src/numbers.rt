@@ -19,13 +19,13 @@ pub struct Numbers<const N: usize> {
 
 impl<const N: usize> Model for Numbers<N> {
     ghost use Rattle.std.specs.Prelude.{ℕ, List, take};
-    ghost use Rattle.event_reader.specs.Forms.{HasFirst};
+    ghost use Rattle.event_reader.specs.Forms.{HasFirstNumbers};
 
     ghost Value = { List ℕ };
 
     ghost view = { λ numbers. take numbers.count numbers.numbers };
 
-    ghost invariant = { λ numbers. HasFirst N numbers.count };
+    ghost invariant = { λ numbers. HasFirstNumbers N numbers.count };
 }
 
 impl<const N: usize> Numbers<N> {
@@ -38,14 +38,14 @@ impl<const N: usize> Numbers<N> {
         first
     }
 
-    /// The numbers behind those.
+    /// The numbers behind those in places of their own.
     pub fn rest(&self) -> &[u64]
         ensures { result.now ≡ drop N self.now }
     {
         &self.numbers[N..self.count]
     }
 
-    /// All of them.
+    /// All numbers of the line.
     pub(crate) fn all(&self) -> &[u64]
         ensures { result.now ≡ self.now }
     {
@@ -53,7 +53,7 @@ impl<const N: usize> Numbers<N> {
     }
 }
 
-/// The number that a word says, or one more than the greatest where it is greater; `None` where it is no number.
+/// The number that a word says, or one more than the greatest if it is greater; `None` if the word is no number.
 fn cut_number(word: &[u8]) -> Option<u64>
     ensures { result ≡ cut_number word.now }
 {
@@ -77,8 +77,8 @@ impl Words<'_> {
         }
     }
 
-    /// The numbers that the words after the first say, each cut at one more than the greatest; `None` where a word is
-    /// no number.
+    /// The numbers that the words after the first say, each cut at one more than the greatest; `None` if a word is no
+    /// number.
     fn cut_numbers<const N: usize>(&self) -> Option<Numbers<N>>
         requires { N + 1 ≤ length self.now }
         ensures { MatchOption result (list_all is_number (drop 1 self.now)
@@ -94,8 +94,8 @@ impl Words<'_> {
 
     /// Reads the words as a line of the form: the numbers behind its letter.
     ///
-    /// The cause is [`Cause::Form`] where the letter or the count is not the form's or a word is no number, and else
-    /// [`Cause::Range`] where a number is out of the range of its place.
+    /// The cause is [`Cause::Form`] if the letter or the count is not the form's or a word is no number, and else
+    /// [`Cause::Range`] if a number is out of the range of its place.
     pub fn read<const N: usize>(&self, form: &Form<'_, N>) -> Result<Numbers<N>, Cause>
         ensures { result ≡ numbers_by form.now self.now }
     {

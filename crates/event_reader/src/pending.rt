@@ -47,7 +47,7 @@ fn is_punctuation_line(line: &[u8]) -> bool
 }
 
 impl Pending {
-    ghost use Rattle.event_reader.specs.Pending.{batch_of, Notes, IsSound, Joins, TakesLine};
+    ghost use Rattle.event_reader.specs.Pending.{batch_of, Notes, IsSoundBatch, Joins, TakesLine};
 
     /// No events, after batches whose greatest timestamp is `closed`.
     pub(crate) fn new(alloc: Global, closed: u64) -> Self
@@ -61,7 +61,7 @@ impl Pending {
         }
     }
 
-    /// Adds an event, or answers the first of the causes late, twice and full that applies.
+    /// Adds an event, or returns the first of the causes late, twice and full that applies.
     fn join(&mut self, past: Past, event: Event) -> Result<Option<Cause>, OutOfMemory>
         requires { Notes past.closed self.old }
         ensures { IfOk result (Joins (most_events past.version) past.closed self.old
@@ -92,7 +92,7 @@ impl Pending {
     ) -> Result<LineEffect, OutOfMemory>
         requires short { length line.now ≤ longest_line }
         requires notes { Notes past.closed self.old }
-        requires sound { IsSound past.version
+        requires sound { IsSoundBatch past.version
             (record { tables = A.table_count app.now; size = size }) (batch_of self.old) }
         ensures { IfOk result
             (TakesLine (rules_of (A.event_of app.now size) past.version) past.version

@@ -6,7 +6,7 @@ use morph_io::LineBuf;
 
 /// Writes a line of one letter and numbers, with one space in front of each number, into an empty buffer.
 ///
-/// The line has as many words as an event line can have at most.
+/// The line has at most as many words as an event line can have.
 pub fn write_line(letter: u8, numbers: &[u64], line: &mut LineBuf)
     requires empty { line.old ≡ [] }
     requires few { length numbers.now < line_words }

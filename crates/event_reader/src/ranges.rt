@@ -4,13 +4,13 @@ ghost use Rattle.event_reader.specs.Numbers.{is_in};
 use crate::version::Version;
 use morph_base::LATEST;
 
-/// The numbers that may stand in one place of a line: those from `least` to `greatest`, and none where `least` is the
-/// greater of the two.
+/// The numbers that one place of a line may have: those from `least` to `greatest`, and none if `least` is the greater
+/// of the two.
 #[derive(Clone, Copy, Debug, PartialEq, Eq)]
 pub struct Range {
-    /// The least number that may stand there.
+    /// The least number that the place may have.
     pub least: u64,
-    /// The greatest one.
+    /// The greatest number that the place may have.
     pub greatest: u64,
 }
 
@@ -39,7 +39,7 @@ impl Range {
         }
     }
 
-    /// The range of an id where a table has `size` of them. No number is in it where a table has none.
+    /// The range of an id if a table has `size` ids. No number is in it if a table has none.
     pub fn ids(size: u32) -> Range
         ensures { result ≡ ids size }
     {

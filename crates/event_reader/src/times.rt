@@ -39,7 +39,7 @@ impl Times {
         }
     }
 
-    /// Adds a timestamp, which is not 0, and tells whether it is new.
+    /// Adds a timestamp, which is not 0, and says whether it is new.
     pub(crate) fn add(&mut self, ts: u64) -> Result<bool, OutOfMemory>
         ensures fresh { IfOk result (λ fresh. fresh ≡ not (is_among self.old ts)) }
         ensures added { OnOk result

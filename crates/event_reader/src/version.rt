@@ -44,7 +44,7 @@ impl Version {
     }
 }
 
-/// Whether a line, as the first of an input, makes that one of version 2.
+/// Whether an input with this first line is of version 2.
 pub(crate) fn is_version(line: &[u8]) -> bool
     ensures { result ≡ is_version_line line.now }
 {

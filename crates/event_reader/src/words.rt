@@ -21,7 +21,7 @@ impl<'a> Model for Words<'a> {
     ghost invariant = { λ w. w.count ≤ line_words };
 }
 
-/// Where the first space of a line stands.
+/// Where the first space of a line is.
 fn first_space(line: &[u8]) -> Option<usize>
     ensures { result ≡ position is_space line.now }
 {
@@ -29,7 +29,7 @@ fn first_space(line: &[u8]) -> Option<usize>
     line.iter().position(|byte| *byte == b' ')
 }
 
-/// The part of a line in front of its first space, and what follows that space; the whole line where there is none.
+/// The part of a line in front of its first space, and what follows that space; the whole line if it has none.
 fn first_part(line: &[u8]) -> (&[u8], Option<&[u8]>)
     ensures { MatchOption result.1 (parts_of line.now ≡ result.0.now ∷ [])
         (λ rest. parts_of line.now
@@ -49,8 +49,8 @@ fn only(word: &[u8]) -> Option<u8>
 }
 
 impl<'a> Words<'a> {
-    /// Cuts a line at its spaces. `None` exactly where one space does not stand between each two words: where a word
-    /// would be empty, at either end too, or where there are more than [`LINE_WORDS`].
+    /// Cuts a line at its spaces. The result is `None` exactly if the words are not separated by one space each: if a
+    /// word would be empty, also at either end, or if there are more than [`LINE_WORDS`].
     pub fn split(line: &'a [u8]) -> Option<Words<'a>>
         ensures { result ≡ words_of line.now }
     {
@@ -83,7 +83,7 @@ impl<'a> Words<'a> {
         self.count
     }
 
-    /// The letter that the line begins with: the only byte of the first word. `None` where this has more.
+    /// The letter that the line begins with: the only byte of the first word. `None` if that word has more bytes.
     pub fn letter(&self) -> Option<u8>
         ensures { result ≡ letter_of self.now }
     {

@@ -1,4 +1,4 @@
--- Each line that the generator of GrepSum writes is an event's.
+-- Each line that the generator of GrepSum writes is an event's
 use Rattle.std.proofs.Common.{◌≡◌, ℕ, zero, suc, ◌+◌, ◌-◌, ◌%◌, ◌<◌, ◌≤◌, Bool, true, false, List, [], ◌∷◌, length, map, replicate, refl, sym, ◌∙◌, ap, arith, inl, inr, Result, Ok}
 use Rattle.std.specs.Prelude.{◌==◌, ◌||◌, if◌then◌else◌, nat_le, nat_lt}
 use Rattle.std.specs.List.{All}
@@ -26,7 +26,7 @@ use Rattle.grep_app.specs.GrepDraws.{summed, drawn_setting, drawn_sum, grep_draw
 abbrev ok : Transaction → Result Transaction Cause
 ok e = Ok e
 
--- the line that sets a cell
+-- The line that sets a cell
 setting_form : (size : ℕ) → size ≤ generated_ids → IsForm (settings One size).form
 setting_form size few =
     is_form (settings One size).form (omega arith) (omega arith) (omega arith, (omega arith, (omega arith, tt))) (omega arith)
@@ -48,7 +48,7 @@ setting_line size i k v few start last inside small =
     kind_line (grep_kinds One size) (settings One size) i (i ∷ k ∷ v ∷ []) (setting One i k v) (setting_form size few)
     (setting_fits size i k v start last inside small) (omega arith) (omega arith) refl refl refl
 
--- of numbers below twice the size, two that are less than the size apart differ modulo the size
+-- Of the numbers below twice the size, two that are less than the size apart differ modulo the size
 once_around : (size n : ℕ) → size ≤ n → n < size + size → n % size ≡ n - size
 once_around size n low high =
     let sum : n ≡ n - size + size = omega arith in
@@ -66,7 +66,7 @@ apart size n m less near high = elim (cases_lt n size) [
       rw (once_around size n back (omega arith), once_around size m (omega arith) high) differ
 ]
 
--- so a cell and the cells after it are not the same
+-- A cell and the cells after it therefore differ
 unlike : (size k n m : ℕ) → k < size → n < m → m < size → ((k + n) % size == (k + m) % size) ≡ false
 unlike size k n m inside less near = apart size (k + n) (k + m) (omega arith) (omega arith) (omega arith)
 
@@ -75,7 +75,7 @@ unlike_first size k n inside some near =
     let here : (k + 0) % size ≡ k = ap (λ m. m % size) (let same : k + 0 ≡ k = omega arith in same) ∙ mod-eq_of_lt inside in
     ap (λ m. m == (k + n) % size) (sym here) ∙ unlike size k 0 n inside some near
 
--- cells that differ
+-- Cells that differ
 two_apart : (k a : ℕ) → (k == a) ≡ false → are_distinct (cell k ∷ cell a ∷ []) ≡ true
 unfolding are_distinct
 two_apart k a h = rw h refl
@@ -89,7 +89,7 @@ four_apart : (k a b c : ℕ) → (k == a) ≡ false → (k == b) ≡ false → (
 unfolding are_distinct
 four_apart k a b c h1 h2 h3 h4 h5 h6 = rw (h1, h2, h3, h4, h5, h6) refl
 
--- the line that sums cells: its numbers are in their ranges, and say the sum where the cells differ
+-- The line that sums cells: its numbers are in their ranges, and say the sum if the cells differ
 sum_is_form : (size : ℕ) → size ≤ generated_ids → IsForm (sums One size).form
 sum_is_form size few =
     is_form (sums One size).form (omega arith) (omega arith) (omega arith, (omega arith, (omega arith, tt))) (omega arith)
@@ -163,6 +163,7 @@ sum_line size i k many limit four few start last inside some small = by_many man
         (later 1 2 (omega arith) (omega arith)) (later 1 3 (omega arith) (omega arith)) (later 2 3 (omega arith) (omega arith)))
     by_many (suc (suc (suc n))) below = absurd (omega arith)
 
+-- Each line that the generator writes is an event's, at the time of its number
 pub grep_generates : (size i state : ℕ) → 0 < size → size ≤ generated_ids → 0 < i → i ≤ generated_events
     → IsEventLine (grep_event size One) i (grep_drawn size i state).line
 grep_generates size i state some few start last = by_choice (draw_at state 1 2 == 0) (nat_lt size 4) refl

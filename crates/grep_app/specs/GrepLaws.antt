@@ -1,4 +1,4 @@
--- Every event of GrepSum is valid, and its refusals are form, range and same.
+-- Every event of GrepSum is valid, and its refusals are form, range and same
 use Rattle.std.proofs.Common.{◌≡◌, ℕ, ◌-◌, ◌<◌, ◌≤◌, true, not, List, [], ◌∷◌, length, map, drop, get_or, refl, sym, subst, arith, zero-le, Ok, Err}
 use Rattle.std.specs.Prelude.{slice_index}
 use Rattle.std.specs.List.{All, IsDistinct}
@@ -26,18 +26,18 @@ use Rattle.event_reader.proofs.Heads.{IsOpOf, headed_valid}
 use Rattle.event_reader.proofs.Forms.{Fits, IsInRange, IsSound, place, count_of, rest_in, unless_ok, unless_err, events_valid, events_causes}
 use Rattle.grep_app.specs.Grep.{cell, setting, setting_of, keep, most_cells, gathering, gather_of, settings, sums, grep_kinds, grep_event}
 
--- the layout of GrepSum
+-- The layout of GrepSum
 abbrev grep_layout : (size : ℕ) → Layout
 grep_layout size = record { tables = 1; size = size }
 
 cell_in : (size id : ℕ) → id < size → InLayout (grep_layout size) (cell id)
 cell_in size id inside = record { table = omega arith; id = inside }
 
--- the keys that an operation reads are in the layout
-abbrev ReadsIn : (size : ℕ) → Op → Type 0
-ReadsIn size op = All (InLayout (grep_layout size)) (reads op)
+-- The keys that an operation reads are in the layout
+abbrev GrepReadsIn : (size : ℕ) → Op → Type 0
+GrepReadsIn size op = All (InLayout (grep_layout size)) (reads op)
 
--- a line that sets a cell is valid where its numbers are in range
+-- A line that sets a cell is valid if its numbers are in range
 setting_is_valid : (version : Version) (size ts k v : ℕ) → 0 < ts → ts ≤ latest_time → k < size → v ≤ greatest_of version
     → IsEventOf version (grep_layout size) (setting version ts k v)
 unfolding IsDistinct
@@ -50,12 +50,12 @@ setting_is_valid version size ts k v start end inside small = (
     shaped = all_of IsShaped (setting version ts k v).ops (op_in-shaped version Set (cell k) [] v (omega arith) (omega arith) small, tt);
     distinct = (tt, tt);
   },
-  All-cons (ReadsIn size) (op_in version Set (cell k) [] v) []
-      (All-cons (InLayout (grep_layout size)) (cell k) [] (cell_in size k inside) (All-nil (InLayout (grep_layout size)))) (All-nil (ReadsIn size)),
+  All-cons (GrepReadsIn size) (op_in version Set (cell k) [] v) []
+      (All-cons (InLayout (grep_layout size)) (cell k) [] (cell_in size k inside) (All-nil (InLayout (grep_layout size)))) (All-nil (GrepReadsIn size)),
   all_of (λ op. op.high ≡ greatest_of version) (setting version ts k v).ops (refl, tt),
 )
 
--- so is one that sums cells that differ
+-- A line that sums is valid if its numbers are in range and its cells differ
 sum_op : (version : Version) (size limit : ℕ) (target : Key) (cells : List Key) → limit ≤ greatest_of version → 0 < length cells → length cells ≤ PARAMS → InLayout (grep_layout size) target
     → All (InLayout (grep_layout size)) cells → IsOpOf version (grep_layout size) (op_in version Sum target cells limit)
 sum_op version size limit target cells small some few inside all = record {
@@ -78,13 +78,13 @@ gathering_is_valid version size ts limit target cells start end small some few i
     headed_valid version (grep_layout size) ts (op_in version Sum target cells limit) (keep version) cells start end (omega (arith, few)) (sum_op version size limit target cells small some few inside all)
     (keep_op version size) (λ key. refl) all apart
 
--- ids in range name cells of the layout
+-- Ids in range name cells of the layout
 cells_in : (size : ℕ) (cells : List ℕ) → All (IsInRange (ids size)) cells → All (InLayout (grep_layout size)) (map cell cells)
 cells_in size cells inside =
     All-map (InLayout (grep_layout size)) cell cells
     (λ i d here. let bounds = inside i d here in cell_in size (get_or cells i d) (omega (arith, bounds.0, bounds.1)))
 
--- numbers in the places of a line that sets a cell
+-- The numbers in the places of a line that sets a cell
 setting_numbers : (version : Version) (size : ℕ) (ns : List ℕ) (e : Transaction) → Fits (settings version size).form ns → setting_of version ns ≡ Ok e
     → IsEventOf version (grep_layout size) e
 setting_numbers version size ns e fits is =
@@ -101,12 +101,12 @@ setting_sound version size = record {
   causes = λ ns cause is. absurd (cc);
 }
 
--- a line sums at most as many cells as an operation has parameters
+-- A line sums at most as many cells as an operation has parameters
 pub cells_at_most : (version : Version) → most_cells version ≤ PARAMS
 cells_at_most One = omega arith
 cells_at_most Two = omega arith
 
--- numbers in the places of a line that sums
+-- The numbers in the places of a line that sums
 gather_numbers : (version : Version) (size : ℕ) (ns : List ℕ) (e : Transaction) → Fits (sums version size).form ns → gather_of version ns ≡ Ok e
     → IsEventOf version (grep_layout size) e
 gather_numbers version size ns e fits is =
@@ -127,8 +127,10 @@ gather_sound version size = record {
   causes = λ ns cause is. subst IsOfWords (unless_err (not (are_distinct (cell (slice_index ns 1) ∷ map cell (drop 3 ns)))) _ cause is) tt;
 }
 
+-- Each event that words say is valid, with its keys in the tables and with the greatest value of the version
 pub grep_is_valid : (size : ℕ) (version : Version) (words : List (List ℕ)) (e : Transaction) → grep_event size version words ≡ Ok e → IsEventOf version (record { tables = 1; size = size }) e
 grep_is_valid size version words e is = events_valid version (grep_layout size) (grep_kinds version size) (setting_sound version size, (gather_sound version size, tt)) words e is
 
+-- Words have no other causes than form, range and same
 pub grep_causes : (size : ℕ) (version : Version) (words : List (List ℕ)) (cause : Cause) → grep_event size version words ≡ Err cause → IsOfWords cause
 grep_causes size version words cause is = events_causes version (grep_layout size) (grep_kinds version size) (setting_sound version size, (gather_sound version size, tt)) words cause is

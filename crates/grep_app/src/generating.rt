@@ -12,7 +12,7 @@ const DRAWN_VALUES: u64 = 1_000;
 /// The limits that are drawn are below this number.
 const DRAWN_LIMITS: u64 = 4_000;
 
-/// Writes the line of event `i` that sets a cell, where there are `size` cells.
+/// Writes the line of event `i` that sets a cell. There are `size` cells.
 pub(crate) fn write_setting(draws: &mut Draws, i: u64, size: u64, line: &mut LineBuf)
     requires empty { line.old ≡ [] }
     requires size { 1 ≤ size }
@@ -24,7 +24,7 @@ pub(crate) fn write_setting(draws: &mut Draws, i: u64, size: u64, line: &mut Lin
     write_line(b'W', &[i, k, v], line);
 }
 
-/// Writes the line of event `i` that sums one to three cells, where there are `size` cells.
+/// Writes the line of event `i` that sums one to three cells. There are `size` cells.
 pub(crate) fn write_sum(draws: &mut Draws, i: u64, size: u64, line: &mut LineBuf)
     requires empty { line.old ≡ [] }
     requires some { 1 ≤ size }

@@ -42,7 +42,7 @@ fn set(alloc: Global, words: &Words<'_>, size: u32, version: Version) -> Result<
     Ok(Event { ts, ops })
 }
 
-/// The event that puts the sum of some cells into another, where it is at most the limit, and keeps those cells.
+/// The event that puts the sum of some cells into another one if it is at most the limit, and keeps those cells.
 fn gather(
     alloc: Global,
     version: Version,

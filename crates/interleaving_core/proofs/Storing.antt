@@ -28,7 +28,7 @@ use Rattle.interleaving_core.specs.Steps.{MayFinish, MaySpread, MaySettle, after
 use Rattle.interleaving_core.specs.Soundness.{IsSound}
 use Rattle.interleaving_core.proofs.Finishing.{held_small, finishing_keeps}
 use Rattle.interleaving_core.proofs.Retrying.{spreading_keeps}
-use Rattle.interleaving_core.specs.Stored.{held_of, core_of, Fits, AllFit, IsSameShape, IsStateOf}
+use Rattle.interleaving_core.specs.Stored.{held_of, core_of, HasClaimedValues, AllFit, IsSameShape, IsStateOf}
 use Rattle.interleaving_core.proofs.Basics.{put_here, put_else}
 use Rattle.interleaving_core.proofs.Machine.{start_sound, step_keeps, few_attempts, few_settlings}
 
@@ -111,7 +111,7 @@ claim_set s claims t k lt is =
 
 -- a fitting claim leaves all fitting
 pub claims_fit : (s : CoreState) (claims : Contents (Option Claim)) (t : ℕ) (k : Option Claim) → t < length s.claims.items → claims.items ≡ set s.claims.items t k
-    → ((m : Claim) → k ≡ Some m → Fits m) → AllFit s → AllFit (record s { claims = claims })
+    → ((m : Claim) → k ≡ Some m → HasClaimedValues m) → AllFit s → AllFit (record s { claims = claims })
 claims_fit s claims t k lt is fits all i m at =
     let found : get_or (set s.claims.items t k) i None ≡ Some m = ap (λ xs. get_or xs i None) (sym is) ∙ at in
     elim (cases_eq i t) [

@@ -1,5 +1,4 @@
--- The state of the machine: the words, records and decisions that all workers share, what each worker holds, and all that
--- was ever shown and settled.
+-- The state of the machine: what all workers share, what each one holds, and all that was ever shown and settled
 use Rattle.std.specs.Prelude.{◌≡◌, ℕ, Bool, true, ◌&&◌, ◌==◌, ◌⊎◌, if◌then◌else◌, List, [], length, Contains, Option, Some, None, count_by}
 use Rattle.morph_base.specs.declared.plan.Origin.{Origin}
 use Rattle.morph_base.specs.declared.plan.Origin.TheVariants.{Base, Op as Written}
@@ -15,74 +14,78 @@ use Rattle.interleaving_core.specs.declared.entry.Held.{Held}
 use Rattle.interleaving_core.specs.declared.entry.Entry.{Entry}
 use Rattle.interleaving_core.specs.declared.entry.Settling.{Settling}
 
+-- A state of the machine: a word for each operation, records, decisions on events, what workers hold, and all values
+-- shown and settlings
 pub record Core : Type 0 where
-  -- the word of each operation, and its record at each place, if there is one
+  -- The word of each operation, and its record at each place, if there is one
   pub word : ℕ → OpWord
   pub recorded : ℕ → ℕ → Option Record
-  -- what each worker holds
+  -- What each worker holds
   pub claim : ℕ → Option Held
-  -- what is decided on each event: whether it commits
+  -- The decision on each event, if there is one: whether it commits
   pub decision : ℕ → Option Bool
-  -- all values that were ever shown, and all settlings
+  -- All values that were ever shown, and all settlings
   pub published : List Entry
   pub settlings : List Settling
 
--- a function with another value at one number
+-- The function f with the value a at number i
 unfoldable pub put : {A : Type 0} → (ℕ → A) → ℕ → A → ℕ → A
 put f i a j = if j == i then a else f j
 
 -- ---- entries
 
--- the entry that shows a word
+-- The entry that shows word w of operation o
 abbrev pub entry_of : ℕ → OpWord → Entry
 entry_of o w = record { op = o; attempt = w.attempt; value = w.value; failed = is_failed w.state }
 
--- how often an operation was shown at an attempt, and how often it was settled
+-- How often operation o was shown at attempt a
 abbrev pub entries_at : ℕ → ℕ → List Entry → ℕ
 entries_at o a es = count_by (λ e. (e.op == o) && (e.attempt == a)) es
 
+-- How often operation o was settled
 abbrev pub settlings_at : ℕ → List Settling → ℕ
 settlings_at o xs = count_by (λ x. x.op == o) xs
 
--- the value was shown for operation o
+-- The value x was shown for operation o
 pub record HasShown (es : List Entry) (o x : ℕ) : Type 0 where
   pub entry : Entry
   pub inside : Contains es entry
   pub op_is : entry.op ≡ o
   pub value_is : entry.value ≡ x
 
--- what a worker fetched so far for the operation that it holds
+-- The values that a worker has fetched for the operation that it holds
 abbrev pub fetched : Option Held → List ℕ
 fetched None = []
 fetched (Some h) = h.values
 
--- the value of a record, if there is one
+-- The value of a record, or 0 if there is none
 abbrev pub record_value : Option Record → ℕ
 record_value None = 0
 record_value (Some r) = r.value
 
 -- ---- sources
 
--- how many places an operation reads
+-- How many places operation o reads
 abbrev pub places : Plan → ℕ → ℕ
 places p o = length (keys_of p o)
 
--- the operation is settled, and the value that it has now
+-- Operation o is settled
 abbrev pub IsSettledIn : Core → ℕ → Type 0
 IsSettledIn c o = is_settled (c.word o).state ≡ true
 
+-- The value that operation o has now
 abbrev pub value_in : Core → ℕ → ℕ
 value_in c o = (c.word o).value
 
--- the source is settled with this value; a base counts as settled with its own
+-- The source is settled with the value x. A base counts as settled, with its own value
 abbrev pub IsSettledAs : Core → Origin → ℕ → Type 0
 IsSettledAs c origin x = IsKnown (IsSettledIn c) origin × (from (value_in c) origin ≡ x)
 
--- a version of the source: its settled value, or one that was shown for it
+-- The value x is a version of the source: its settled value, or one that was shown for it
 abbrev pub IsVersion : Core → Origin → ℕ → Type 0
 IsVersion c (Base v) x = v ≡ x
 IsVersion c (Written s) x = IsSettledAs c (Written s) x ⊎ HasShown c.published s x
 
--- the state at the start
+-- The state at the start
 abbrev pub start : Core
 start = record { word = λ o. blocked 1; recorded = λ o j. None; claim = λ t. None; decision = λ i. None; published = []; settlings = [] }

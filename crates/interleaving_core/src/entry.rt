@@ -1,6 +1,6 @@
 use std::collections::LinkedList;
 
-/// What was read at a place of an operation, and at which attempt.
+/// What was read at a place of an operation, and at which attempt of the operation.
 #[derive(Clone, Copy, Debug, PartialEq, Eq)]
 pub struct Record {
     /// The version of the source that was read.
@@ -9,17 +9,17 @@ pub struct Record {
     pub attempt: u8,
 }
 
-/// A claim as contracts see it: the operation that a worker holds, the attempt, and the values that it fetched so far,
-/// place by place.
+/// A claim as contracts see it: the operation that a worker holds, the attempt, and the values that it has fetched so
+/// far, place by place.
 ///
-/// No value of it is made: it stands here so that what contracts see of a worker can hold it.
+/// No value of this type is made: it is here so that what contracts see of a worker can hold it.
 #[derive(Drop)]
 pub struct Held {
     /// The operation, by its number in the plan.
     pub op: u32,
     /// The attempt at which it was claimed.
     pub attempt: u8,
-    /// From place 0 on.
+    /// The values from place 0 on.
     pub values: LinkedList<u64>,
 }
 
@@ -28,15 +28,15 @@ pub struct Held {
 pub struct Entry {
     /// The operation, by its number in the plan.
     pub op: u32,
-    /// The attempt, at which it shows one value and no other.
+    /// The attempt. Each attempt shows at most one value.
     pub attempt: u8,
-    /// Its function's value, or where that failed what was read for its target.
+    /// The value of its function, or if that failed, the value that was read for its target.
     pub value: u64,
     /// Whether its function failed on what was read.
     pub failed: bool,
 }
 
-/// That a worker settled an operation.
+/// A note that a worker settled an operation.
 #[derive(Clone, Copy, Debug, PartialEq, Eq)]
 pub struct Settling {
     /// The operation, by its number in the plan.

@@ -1,4 +1,4 @@
-/// A step of the machine. Operations and events are those of the plan, by number, and `by` is a worker from 1 to 16.
+/// A step of the machine. Operations and events are those of the plan, by number. `by` is a worker from 1 to 16.
 #[derive(Clone, Copy, Debug, PartialEq, Eq)]
 pub enum CoreEvent {
     /// A blocked operation becomes ready.
@@ -9,13 +9,13 @@ pub enum CoreEvent {
     Fetch { op: u32, j: u8, by: u8, value: u64 },
     /// The worker shows the operation's answer on all that it fetched, and lets the operation go.
     Finish { op: u32, by: u8 },
-    /// The worker lets the operation go; it is blocked again.
+    /// The worker lets the operation go, and it is blocked again.
     GiveBack { op: u32, by: u8 },
-    /// An executed operation takes its target's value, as another operation of its event failed.
+    /// An executed operation takes its target's value, because another operation of its event failed.
     Spread { op: u32, sibling: u32 },
     /// An evaluated operation is blocked again, at its next attempt.
     RollBack { op: u32, j: u8 },
-    /// It is decided whether an event commits.
+    /// An event is decided: whether it commits.
     Decide { event: u32, committed: bool },
     /// A worker settles an operation of a decided event.
     Settle { op: u32, by: u8 },

@@ -1,7 +1,7 @@
-//! The laws of the machine: what its definitions come to, as the contracts of functions that do nothing.
+//! The laws of the machine: what follows from its definitions, as the contracts of functions that do nothing.
 //!
 //! They hold for every valid plan and every cap below [`ATTEMPTS`](morph_base::ATTEMPTS), whatever the order of steps
-//! and however many workers make them. A crate above cites the lemmas behind them, which stand in `proofs/`.
+//! and however many workers make them. A crate above cites the lemmas behind them, in `proofs/`.
 ghost use Rattle.std.specs.Prelude.{◌≡◌, ℕ, ◌+◌, ◌*◌, ◌<◌, ◌≤◌, Bool, List, ◌++◌, reverse, Contains, Some, count_by, sum_by};
 ghost use Rattle.morph_base.specs.declared.plan.Plan.{Plan};
 ghost use Rattle.morph_base.specs.Limits.{most_attempts};
@@ -23,9 +23,9 @@ ghost use Rattle.interleaving_core.specs.Sightings.{IsNoted, IsRecordNoted};
 ghost use Rattle.morph_base.specs.declared.word.OpWord.{OpWord};
 ghost use Rattle.interleaving_core.specs.Schedules.{RestsOnAborted, IsFold, IsSettledOnce, HasFewAttempts, TellsSteps, settles};
 
-/// The start is sound; a step that may be made keeps a sound state sound, and loses nothing that was seen before it.
+/// The start is sound. A step that may be made keeps a sound state sound, and loses nothing that was seen before it.
 ///
-/// Whoever shares the words between threads uses it one step at a time.
+/// Whoever shares the words between threads uses this law one step at a time.
 pub fn one_step()
     ensures start { (p : Plan) (cap : ℕ) → cap < most_attempts → IsSound p cap start }
     ensures sound { (p : Plan) (cap : ℕ) (c : Core) (e : CoreEvent) → IsPlan p → cap < most_attempts
@@ -34,10 +34,9 @@ pub fn one_step()
         → IsSound p cap c → May p cap c e → Grows p c (after p c e) }
 {}
 
-/// After every list of steps that can be made one after another the state is sound. Therefore no settled value rests
-/// on an aborted version; settled values and decisions are the fold's; each operation is settled at most once, by one
-/// worker; each attempt is shown at most once, there are at most cap + 1 of them, and the last rests on settled
-/// values alone.
+/// After every list of steps that can be made one after another, the state is sound. So no settled value rests on an
+/// aborted version. Settled values and decisions are the fold's. Each operation is settled at most once, by one worker.
+/// Each attempt is shown at most once, there are at most cap + 1 of them, and the last rests on settled values alone.
 pub fn every_schedule()
     ensures sound { (p : Plan) (cap : ℕ) (es : List CoreEvent) (c : Core) → IsPlan p
         → cap < most_attempts
@@ -59,8 +58,8 @@ pub fn every_schedule()
         → TellsSteps es c }
 {}
 
-/// Two schedules that settle the same operation settle it with the same value, and two that decide on the same event
-/// decide the same.
+/// Two schedules that settle the same operation settle it with the same value. Two that decide on the same event decide
+/// the same.
 pub fn schedules_agree()
     ensures values { (p : Plan) (cap m : ℕ) (es fs : List CoreEvent) (c d : Core) (o : ℕ) → IsPlan p
         → cap < most_attempts → m < most_attempts
@@ -72,8 +71,8 @@ pub fn schedules_agree()
         → Run p cap es c → Run p m fs d → c.decision i ≡ Some a → d.decision i ≡ Some b → a ≡ b }
 {}
 
-/// What a sound state comes to: the same, told of one state. Besides, each word is in range, so that it can be
-/// packed, and an operation is in at most one claim.
+/// What [`every_schedule`] says, for one sound state. Besides, each word is in range, so that it can be packed, and an
+/// operation is in at most one claim.
 pub fn sound_states()
     ensures none_rests { (p : Plan) (cap : ℕ) (c : Core) (o : ℕ) → IsPlan p
         → IsSound p cap c → o < op_count p
@@ -90,9 +89,9 @@ pub fn sound_states()
         → c.claim t ≡ Some h → g.op ≡ h.op → s ≡ t }
 {}
 
-/// What every list of steps counts: an operation's attempt is one more than its spreads and rollbacks. There are at
-/// most cap of these for each operation, at most cap + 1 evaluations and spreads, and no spread where the cap is 1.
-/// The evaluations are the rollbacks, and one for each operation whose present attempt was shown; so there is one for
+/// What every list of steps counts. An operation's attempt is one more than its spreads and rollbacks. There are at
+/// most cap of these for each operation, at most cap + 1 evaluations and spreads, and no spread if the cap is 1. There
+/// is one evaluation for each rollback, and one for each operation whose present attempt was shown. So there is one for
 /// each operation that was settled in a committed event.
 pub fn counts()
     ensures attempts { (p : Plan) (cap o : ℕ) (es : List CoreEvent) (c : Core) → Run p cap es c
@@ -117,9 +116,9 @@ pub fn counts()
         → count_by (λ o. is_committed (c.word o).state) (below (op_count p)) ≤ evaluated es }
 {}
 
-/// Where all operations were evaluated once at attempt 1 by first steps `fs`, later steps `es` roll back as many as
-/// have a source whose guess is not its value, if at the end those still at attempt 1 have the fold's values of their
-/// sources as records.
+/// Suppose that all operations were evaluated once at attempt 1 by first steps `fs`. Later steps `es` roll back as many
+/// operations as have a source whose guess is not its value, if at the end those still at attempt 1 have the fold's
+/// values of their sources as records.
 ///
 /// So one worker that settles the events in order counts as many rollbacks as there are wrong guesses.
 pub fn stale_guesses_are_rolled_back()
@@ -128,7 +127,7 @@ pub fn stale_guesses_are_rolled_back()
         → rolled (es ++ fs) ≡ stale_count p }
 {}
 
-/// A list of steps tells the state that it leads to. It can be read in the order in which the steps are made: from
+/// A list of steps determines the state that it leads to. It can be read in the order in which the steps are made: from
 /// the start, and on from the state after other steps.
 pub fn steps_in_order()
     ensures same { (p : Plan) (cap : ℕ) (es : List CoreEvent) (c d : Core) → Run p cap es c
@@ -139,8 +138,8 @@ pub fn steps_in_order()
         → Leads p cap b fs c → Run p cap (reverse fs ++ es) c }
 {}
 
-/// What a worker saw of a word, and of a record under a word, stays true as the state grows; and the present word may
-/// be seen. As long as an attempt that was shown is the present one, its operation has a record at each place.
+/// What a worker saw of a word, and of a record under a word, stays true as the state grows. The present word may be
+/// seen. As long as an attempt that was shown is the present one, its operation has a record at each place.
 pub fn sightings()
     ensures words { (p : Plan) (c d : Core) (o : ℕ) (w : OpWord) → Grows p c d → IsNoted c o w
         → IsNoted d o w }

@@ -1,9 +1,9 @@
 //! The machine of operation words, over all schedules: what workers may do to the words, records and decisions of a
-//! plan, one step at a time, and that every order of such steps settles the fold's values.
+//! plan, one step at a time. Every order of such steps settles the fold's values.
 //!
-//! It stands on `morph_base` alone. [`CoreState`] runs the machine on plain data; [`laws`] says what holds after
-//! every list of steps. A layer that shares the words between threads shows each of its atomic steps to be a step of
-//! this machine.
+//! [`CoreState`] runs the machine on plain data, and [`laws`] says what holds after every list of steps. A layer that
+//! shares the words between threads shows that each of its atomic steps is a step of this machine. The crate uses
+//! `morph_base` alone.
 #![tactic(auto)]
 
 mod claim;

@@ -33,7 +33,7 @@ pub struct CoreState {
     words: List<OpWord>,
     /// The places of operation 0, then those of operation 1 and so on, [`READS`] of each.
     records: List<Option<Record>>,
-    /// By worker, from 1 on.
+    /// The claims by worker, from 1 on.
     claims: List<Option<Claim>>,
     decisions: List<Option<bool>>,
     published: Published,
@@ -41,8 +41,8 @@ pub struct CoreState {
 }
 
 impl CoreState {
-    /// The state at the start, where every operation is blocked at attempt 1. Operations have at most `cap` + 1
-    /// attempts.
+    /// Makes the state at the start, in which every operation is blocked at attempt 1. Operations have at most `cap` +
+    /// 1 attempts.
     ///
     /// All memory that steps ever need is taken here.
     pub fn new(alloc: Global, plan: &Plan, cap: u8) -> Result<CoreState, OutOfMemory>
@@ -64,10 +64,10 @@ impl CoreState {
         })
     }
 
-    /// Makes a step, where it may be made: its numbers are in range, the state that it goes from is there, and its
-    /// guard holds. Else it is refused, and nothing changes. Numbers are in range where operation and event are the
-    /// plan's, the place is one that the operation reads, the worker is from 1 to [`WORKERS`], and the sibling is
-    /// another operation of the same event.
+    /// Makes a step, if it may be made: its numbers are in range, the state that it goes from is there, and its guard
+    /// holds. Else it is refused, and nothing changes. Numbers are in range if operation and event are the plan's, the
+    /// place is one that the operation reads, the worker is from 1 to [`WORKERS`], and the sibling is another operation
+    /// of the same event.
     ///
     /// It takes no memory.
     pub fn step(&mut self, plan: &Plan, event: &CoreEvent) -> Step
@@ -96,7 +96,7 @@ impl CoreState {
         *self.words.get(op as usize)
     }
 
-    /// Whether an event of the plan commits, `None` exactly where it is not decided.
+    /// Whether an event of the plan commits. `None` means that it is not decided.
     pub fn decision(&self, event: u32) -> Option<bool>
         requires { event < decision_count self.now }
         ensures { result ≡ (core_of self.now).decision event }

@@ -1,4 +1,4 @@
--- Each line that the ledger's generator writes is an event's.
+-- Each line that the ledger's generator writes is an event's
 use Rattle.std.proofs.Common.{◌≡◌, ℕ, ◌+◌, ◌%◌, ◌<◌, ◌≤◌, Bool, true, false, [], ◌∷◌, refl, ◌∙◌, ap, arith, inl, inr, Result, Ok}
 use Rattle.std.specs.Prelude.{◌==◌, ◌||◌, if◌then◌else◌, nat_lt}
 use Rattle.std.proofs.Math.Nat.{mod_self, mod-eq_of_lt}
@@ -23,7 +23,7 @@ use Rattle.ledger_app.specs.LedgerDraws.{apart, drawn_amounts, drawn_deposit, dr
 abbrev ok : Transaction → Result Transaction Cause
 ok e = Ok e
 
--- the line of a deposit
+-- The line of a deposit
 deposit_form : (size : ℕ) → size ≤ generated_ids → IsForm (deposits One size).form
 deposit_form size few =
     is_form (deposits One size).form (omega arith) (omega arith) (omega arith, (omega arith, (omega arith, (omega arith, (omega arith, tt))))) (omega arith)
@@ -48,7 +48,7 @@ deposit_line size i acct ast a b few start last in1 in2 small small' =
     kind_line (ledger_kinds One size) (deposits One size) i (i ∷ acct ∷ ast ∷ a ∷ b ∷ []) (deposit One i acct ast a b)
     (deposit_form size few) (deposit_fits size i acct ast a b start last in1 in2 small small') (omega arith) (omega arith) refl refl refl
 
--- two ids that are brought apart differ
+-- Two ids that are brought apart differ
 apart_below : (size first second : ℕ) → first < size → second < size → apart size first second < size
 apart_below size first second in1 in2 = grind (arith, nat_tests)
 
@@ -68,7 +68,7 @@ apart_differs size first second two inside = by_test (first == second) refl
     by_test true same = next_differs size first two inside
     by_test false differ = differ
 
--- the line of a transfer
+-- The line of a transfer
 transfer_form : (size : ℕ) → size ≤ generated_ids → IsForm (transfers One size).form
 transfer_form size few =
     is_form (transfers One size).form (omega arith) (omega arith) (omega arith, (omega arith, (omega arith, (omega arith, (omega arith, (omega arith, (omega arith, tt))))))) (omega arith)
@@ -96,6 +96,7 @@ transfer_line size i src dst asrc adst a b few start last in1 in2 in3 in4 small 
     kind_line (ledger_kinds One size) (transfers One size) i (i ∷ src ∷ dst ∷ asrc ∷ adst ∷ a ∷ b ∷ []) (moving One i src dst asrc adst a b 0)
     (transfer_form size few) (transfer_fits size i src dst asrc adst a b start last in1 in2 in3 in4 small small') (omega arith) (omega arith) refl apart refl
 
+-- Each line that the generator writes is an event's, at the time of its number
 pub ledger_generates : (size i state : ℕ) → 0 < size → size ≤ generated_ids → 0 < i → i ≤ generated_events
     → IsEventLine (ledger_event size One) i (ledger_drawn size i state).line
 ledger_generates size i state some few start last = by_choice (nat_lt (draw_at state 1 4) 2) (nat_lt size 2) refl

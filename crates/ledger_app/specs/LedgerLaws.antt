@@ -1,4 +1,4 @@
--- Every event of the ledger is valid, and its refusals are form, range and same.
+-- Every event of the ledger is valid, and its refusals are form, range and same
 use Rattle.std.proofs.Common.{◌≡◌, ℕ, ◌*◌, ◌-◌, ◌<◌, ◌≤◌, Bool, true, false, not, ◌||◌, List, [], ◌∷◌, length, map, drop, get_or, refl, subst, arith, zero-le, Result, Ok, Err}
 use Rattle.std.specs.Prelude.{◌==◌, nat_lt, if◌then◌else◌, slice_index}
 use Rattle.std.specs.List.{All, IsDistinct}
@@ -27,7 +27,7 @@ use Rattle.event_reader.proofs.Forms.{Fits, IsInRange, IsSound, AreSound, place,
 use Rattle.event_reader.proofs.Heads.{IsOpOf, headed_valid}
 use Rattle.ledger_app.specs.Ledger.{account, asset, change, receipt, deposit, moving, paying, deposit_of, transfer_of, payout_of, most_paid, deposits, transfers, payouts, ledger_kinds, ledger_event}
 
--- the layout of the ledger
+-- The layout of the ledger
 abbrev ledger_layout : (size : ℕ) → Layout
 ledger_layout size = record { tables = 2; size = size }
 
@@ -37,11 +37,11 @@ account_in size id inside = record { table = omega arith; id = inside }
 asset_in : (size id : ℕ) → id < size → InLayout (ledger_layout size) (asset id)
 asset_in size id inside = record { table = omega arith; id = inside }
 
--- the keys that an operation reads are in the layout
-abbrev ReadsIn : (size : ℕ) → Op → Type 0
-ReadsIn size op = All (InLayout (ledger_layout size)) (reads op)
+-- The keys that an operation reads are in the layout
+abbrev LedgerReadsIn : (size : ℕ) → Op → Type 0
+LedgerReadsIn size op = All (InLayout (ledger_layout size)) (reads op)
 
--- a deposit is valid where its numbers are in range
+-- A deposit is valid if its numbers are in range
 deposit_is_valid : (version : Version) (size ts acct ast a b : ℕ) → 0 < ts → ts ≤ latest_time → acct < size → ast < size → a ≤ greatest_of version → b ≤ greatest_of version
     → IsEventOf version (ledger_layout size) (deposit version ts acct ast a b)
 unfolding IsDistinct
@@ -57,14 +57,14 @@ deposit_is_valid version size ts acct ast a b start end inside inside' small sma
     );
     distinct = ((refl, tt), (tt, tt));
   },
-  all_of (ReadsIn size) (deposit version ts acct ast a b).ops (
+  all_of (LedgerReadsIn size) (deposit version ts acct ast a b).ops (
     all_of (InLayout (ledger_layout size)) (account acct ∷ []) (account_in size acct inside, tt),
     (all_of (InLayout (ledger_layout size)) (asset ast ∷ []) (asset_in size ast inside', tt), tt),
   ),
   all_of (λ op. op.high ≡ greatest_of version) (deposit version ts acct ast a b).ops (refl, (refl, tt)),
 )
 
--- so is a transfer whose accounts and assets differ
+-- A transfer is valid if its numbers are in range, and its accounts and assets differ
 transfer_is_valid : (version : Version) (size ts src dst asrc adst a b f : ℕ) → 0 < ts → ts ≤ latest_time → src < size → dst < size → asrc < size → adst < size → a ≤ greatest_of version → b ≤ greatest_of version → f ≤ greatest_of version
     → (src == dst) ≡ false → (asrc == adst) ≡ false
     → IsEventOf version (ledger_layout size) (moving version ts src dst asrc adst a b f)
@@ -87,7 +87,7 @@ transfer_is_valid version size ts src dst asrc adst a b f start end i1 i2 i3 i4 
     );
     distinct = ((refl, (differ, (refl, tt))), ((refl, (differ', tt)), ((refl, tt), (tt, tt))));
   },
-  all_of (ReadsIn size) (moving version ts src dst asrc adst a b f).ops (
+  all_of (LedgerReadsIn size) (moving version ts src dst asrc adst a b f).ops (
     all_of (InLayout (ledger_layout size)) (account src ∷ []) (account_in size src i1, tt),
     (
       all_of (InLayout (ledger_layout size)) (asset asrc ∷ []) (asset_in size asrc i3, tt),
@@ -100,7 +100,7 @@ transfer_is_valid version size ts src dst asrc adst a b f start end i1 i2 i3 i4 
   all_of (λ op. op.high ≡ greatest_of version) (moving version ts src dst asrc adst a b f).ops (refl, (refl, (refl, (refl, tt)))),
 )
 
--- numbers in the places of a deposit
+-- The numbers in the places of a deposit
 deposit_numbers : (version : Version) (size : ℕ) (ns : List ℕ) (e : Transaction) → Fits (deposits version size).form ns → deposit_of version ns ≡ Ok e
     → IsEventOf version (ledger_layout size) e
 deposit_numbers version size ns e fits is =
@@ -119,7 +119,7 @@ deposit_sound version size = record {
   causes = λ ns cause is. absurd (cc);
 }
 
--- what has to stay is an amount, where it is given
+-- What has to stay is an amount, if it is given
 floor_fits : (version : Version) (size : ℕ) (ns : List ℕ) → Fits (transfers version size).form ns → slice_index ns 7 ≤ greatest_of version
 floor_fits version size ns fits = subst (λ f. f ≤ greatest_of version) (get_or-drop 7 ns 0 0) (first_fits (drop 7 ns) (rest_in (transfers version size).form ns fits))
   where
@@ -127,7 +127,7 @@ floor_fits version size ns fits = subst (λ f. f ≤ greatest_of version) (get_o
     first_fits [] inside = zero-le
     first_fits (f ∷ fs) inside = (inside 0 0 (omega arith)).1
 
--- numbers in the places of a transfer
+-- The numbers in the places of a transfer
 transfer_numbers : (version : Version) (size : ℕ) (ns : List ℕ) (e : Transaction) → Fits (transfers version size).form ns → transfer_of version ns ≡ Ok e
     → IsEventOf version (ledger_layout size) e
 transfer_numbers version size ns e fits is =
@@ -149,7 +149,7 @@ transfer_sound version size = record {
   causes = λ ns cause is. subst IsOfWords (unless_err (slice_index ns 1 == slice_index ns 2 || slice_index ns 3 == slice_index ns 4) _ cause is) tt;
 }
 
--- so is a payout, where all of it is no more than the greatest value and the accounts differ
+-- A payout is valid if all of it is at most the greatest value and the accounts differ
 pays_op : (version : Version) (size c : ℕ) (src : Key) → c ≤ greatest_of version → InLayout (ledger_layout size) src → IsOpOf version (ledger_layout size) (change version Sub src c 0)
 pays_op version size c src small inside = record {
   shaped = op_in-shaped version Sub src [] c (omega arith) (omega arith) small;
@@ -172,13 +172,13 @@ payout_is_valid version size ts a src accounts start end small whole few inside 
     headed_valid version (ledger_layout size) ts (change version Sub src (length accounts * a) 0) (receipt version src a) accounts start end (omega (arith, few))
     (pays_op version size (length accounts * a) src whole inside) (λ dst here. gets_op version size a src dst small inside here) (λ dst. refl) all apart
 
--- ids in range name accounts of the layout
+-- Ids in range name accounts of the layout
 accounts_in : (size : ℕ) (ns : List ℕ) → All (IsInRange (ids size)) ns → All (InLayout (ledger_layout size)) (map account ns)
 accounts_in size ns inside =
     All-map (InLayout (ledger_layout size)) account ns
     (λ i d here. let bounds = inside i d here in account_in size (get_or ns i d) (omega (arith, bounds.0, bounds.1)))
 
--- what is refused where it is too much
+-- What is refused because it is too much
 within_ok : (over : Bool) (r : Result Transaction Cause) (e : Transaction) → (if over then Err Range else r) ≡ Ok e → (over ≡ false) × (r ≡ Ok e)
 within_ok true r e is = absurd (cc)
 within_ok false r e is = (refl, is)
@@ -187,7 +187,7 @@ within_err : (over : Bool) (r : Result Transaction Cause) (cause : Cause) → (i
 within_err true r cause is other = let same : Range ≡ cause = cc in subst IsOfWords same tt
 within_err false r cause is other = other is
 
--- numbers in the places of a payout
+-- The numbers in the places of a payout
 payout_numbers : (version : Version) (size : ℕ) (ns : List ℕ) (e : Transaction) → Fits (payouts version size).form ns → payout_of version ns ≡ Ok e
     → IsEventOf version (ledger_layout size) e
 payout_numbers version size ns e fits is =
@@ -215,8 +215,10 @@ kinds_sound : (version : Version) (size : ℕ) → AreSound version (ledger_layo
 kinds_sound One size = (deposit_sound One size, (transfer_sound One size, tt))
 kinds_sound Two size = (deposit_sound Two size, (transfer_sound Two size, (payout_sound Two size, tt)))
 
+-- Each event that words say is valid, with its keys in the tables and with the greatest value of the version
 pub ledger_is_valid : (size : ℕ) (version : Version) (words : List (List ℕ)) (e : Transaction) → ledger_event size version words ≡ Ok e → IsEventOf version (record { tables = 2; size = size }) e
 ledger_is_valid size version words e is = events_valid version (ledger_layout size) (ledger_kinds version size) (kinds_sound version size) words e is
 
+-- Words have no other causes than form, range and same
 pub ledger_causes : (size : ℕ) (version : Version) (words : List (List ℕ)) (cause : Cause) → ledger_event size version words ≡ Err cause → IsOfWords cause
 ledger_causes size version words cause is = events_causes version (ledger_layout size) (ledger_kinds version size) (kinds_sound version size) words cause is

@@ -9,7 +9,7 @@ use morph_io::LineBuf;
 /// The amounts that are drawn are below this number.
 const DRAWN_AMOUNTS: u64 = 1_000;
 
-/// The second of two ids, or the id after the first where they are the same.
+/// The second of two ids, or the id after the first if they are the same.
 fn apart(size: u64, first: u64, second: u64) -> u64
     requires { first < size }
     ensures { result ≡ apart size first second }
@@ -21,7 +21,7 @@ fn apart(size: u64, first: u64, second: u64) -> u64
     }
 }
 
-/// Writes the deposit of event `i`, where each table has `size` ids.
+/// Writes the deposit of event `i`. Each table has `size` ids.
 pub(crate) fn write_deposit(draws: &mut Draws, i: u64, size: u64, line: &mut LineBuf)
     requires empty { line.old ≡ [] }
     requires size { 1 ≤ size }
@@ -35,7 +35,7 @@ pub(crate) fn write_deposit(draws: &mut Draws, i: u64, size: u64, line: &mut Lin
     write_line(b'D', &[i, account, asset, a, b], line);
 }
 
-/// Writes the transfer of event `i`, where each table has `size` ids.
+/// Writes the transfer of event `i`. Each table has `size` ids.
 pub(crate) fn write_transfer(draws: &mut Draws, i: u64, size: u64, line: &mut LineBuf)
     requires empty { line.old ≡ [] }
     requires size { 1 ≤ size }

@@ -44,7 +44,8 @@ fn deposit(
     Ok(Event { ts, ops })
 }
 
-/// How many numbers a transfer may have behind those that each has: what has to stay on the account, in version 2.
+/// How many numbers a transfer may have behind those that every transfer has: in version 2 one, which says what has to
+/// stay on the account.
 fn most_floors(version: Version) -> usize
     ensures { result ≡ most_floors version }
 {
@@ -54,7 +55,7 @@ fn most_floors(version: Version) -> usize
     }
 }
 
-/// The first of these numbers, and 0 where there is none.
+/// The first of these numbers, or 0 if there is none.
 fn first_or_none(numbers: &[u64]) -> u64
     ensures { result ≡ slice_index numbers.now 0 }
 {

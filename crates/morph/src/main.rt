@@ -1,5 +1,5 @@
-//! The program `morph`: events as lines on standard input, each applied as one transaction, and the text of what became
-//! of them on standard output.
+//! The program `morph`: events as lines on standard input, each applied as one transaction, and the text of the results
+//! on standard output.
 //!
 //! All that it does is [`morph_cli::program`], which `main` gives its arguments and the standard streams.
 #![tactic(auto)]
@@ -12,7 +12,7 @@ use std::process::ExitCode;
 use std::rt::Env;
 use std::{env, io};
 
-/// The program's arguments; none where one of them is not UTF-8.
+/// The program's arguments; none if one of them is not UTF-8.
 fn arguments(rt: &(impl Env + Alloc<A = Global>)) -> Result<Vec<String>, OutOfMemory> {
     match env::args(rt) {
         Ok(args) => Ok(args.collect(rt.alloc())?),

@@ -7,7 +7,7 @@ use Rattle.morph_base.specs.declared.event.Batch.{Batch}
 use Rattle.morph_base.specs.declared.plan.Plan.{Plan}
 use Rattle.morph_base.specs.Operations.{same_key}
 use Rattle.morph_base.specs.States.{State, after_all, fold_batch, overwritten}
-use Rattle.morph_base.specs.Sources.{Writes}
+use Rattle.morph_base.specs.Sources.{WritesKey}
 use Rattle.morph_base.specs.Plans.{IsPlan, IsPlanOf, event_count, op_count, event_of, target, HasBases, IsLastWriterIn, IsUnwrittenIn, transactions, state_at, final}
 use Rattle.morph_base.proofs.KeyLaws.{cases_key, same_key-from, same_key-different}
 use Rattle.morph_base.proofs.PlanLaws.{length-transactions}
@@ -89,7 +89,7 @@ overwritten-state_at p s n i valid based front = fun_ext (λ key. at_key key (la
     at_key key (inl (o, is)) =
         let few = front.0 in
         let lt = is.in_range in
-        let itself : Writes (op_count p) (target p) (event_of p) i key o = record { in_range = omega arith; earlier = front.1 o lt; target_is = is.target_is } in
+        let itself : WritesKey (op_count p) (target p) (event_of p) i key o = record { in_range = omega arith; earlier = front.1 o lt; target_is = is.target_is } in
         let last : IsLastWriterIn p i key o = record { itself = itself; last = λ t writes. is.last t (below_n t writes.in_range writes.earlier) writes.target_is } in
         overwritten-last (target p) (final p) s n key o is ∙ sym (end_written p s i key o valid based last)
     at_key key (inr none) =

@@ -6,7 +6,7 @@ use Rattle.morph_base.specs.declared.plan.Origin.{Origin}
 use Rattle.morph_base.specs.declared.plan.Origin.TheVariants.{Base, Op as Written}
 use Rattle.morph_base.specs.declared.plan.Plan.{Plan}
 use Rattle.morph_base.specs.States.{State}
-use Rattle.morph_base.specs.Sources.{Writes}
+use Rattle.morph_base.specs.Sources.{WritesKey}
 use Rattle.morph_base.specs.Plans.{IsPlan, op_count, event_of, target, keys_of, key_at, origin_at, HasBases, IsLastWriterIn, IsUnwrittenIn, IsSourceIn, state_at, value_at}
 use Rattle.morph_base.specs.Clean.{from, source}
 use Rattle.morph_base.proofs.PlanLaws.{state_at-zero, state_at-kept}
@@ -20,7 +20,7 @@ state_at-written p s valid (suc i) key w last =
       | inl same ↦ ap (λ n. state_at p s n key) (sym (add-one (event_of p w) ∙ ap suc same)) ∙ ap (state_at p s (event_of p w + 1)) (sym last.itself.target_is)
       | inr different ↦
           let earlier : event_of p w < i = (let below = last.itself.earlier in omega arith) in
-          let itself : Writes (op_count p) (target p) (event_of p) i key w = record { in_range = last.itself.in_range; earlier = earlier; target_is = last.itself.target_is } in
+          let itself : WritesKey (op_count p) (target p) (event_of p) i key w = record { in_range = last.itself.in_range; earlier = earlier; target_is = last.itself.target_is } in
           let before : IsLastWriterIn p i key w =
           record { itself = itself; last = λ t writes. last.last t (record { in_range = writes.in_range; earlier = (let below = writes.earlier in omega arith); target_is = writes.target_is }) } in
           state_at-kept p s i key valid

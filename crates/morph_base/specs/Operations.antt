@@ -1,4 +1,4 @@
--- What an operation reads, and which operations have a valid shape.
+-- What an operation reads, and which operations have a valid shape
 use Rattle.std.specs.Prelude.{◌≡◌, ℕ, ◌-◌, ◌≤◌, ◌<◌, ◌⊎◌, Bool, ◌&&◌, ◌==◌, List, ◌∷◌, ◌++◌, take, replicate, length, slice_index_or}
 use Rattle.morph_base.specs.declared.limits.TheConstants.{FIRST_MAX, MAX, PARAMS, READS}
 use Rattle.morph_base.specs.declared.key.Key.{Key}
@@ -7,27 +7,27 @@ use Rattle.morph_base.specs.declared.operation.Func.{Func}
 use Rattle.morph_base.specs.declared.operation.Func.TheVariants.{Keep, Add, Sub, MoveIn, Sum, Blend, Set, Enter, Charge}
 use Rattle.morph_base.specs.declared.operation.Op.{Op}
 
--- whether two keys are the same
+-- The test whether two keys have the same table and the same id
 abbrev pub same_key : Key → Key → Bool
 same_key a b = (a.table == b.table) && (a.id == b.id)
 
--- the key that stands in places that are not used
+-- The key with table 0 and id 0, which fills the places that an operation does not use
 abbrev pub no_key : Key
 no_key = record { table = 0; id = 0 }
 
--- what stands past the end of a list of operations
+-- The operation that is read past the end of a list of operations
 abbrev pub no_op : Op
 no_op = record { key = no_key; params = replicate PARAMS no_key; n_params = 0; func = Keep; c = 0; low = 0; high = MAX }
 
--- the greatest value of some operations: that of the first, and MAX where there is none
+-- The greatest value of some operations: that of the first one, or MAX if there is none
 abbrev pub high_in : List Op → ℕ
 high_in ops = (slice_index_or ops 0 no_op).high
 
--- the greatest values that there are: that of version 1 and that of version 2
+-- The number `high` is the greatest value of a version: FIRST_MAX or MAX
 abbrev pub IsLimit : ℕ → Type 0
 IsLimit high = (high ≡ FIRST_MAX) ⊎ (high ≡ MAX)
 
--- the least and the greatest number of parameters of a function
+-- The least number of parameters that a function takes
 abbrev pub least_params : Func → ℕ
 least_params Keep = 0
 least_params Add = 0
@@ -39,25 +39,27 @@ least_params Set = 0
 least_params Enter = 1
 least_params Charge = 2
 
+-- The greatest number of parameters that a function takes: PARAMS for `Sum`, and for the others the least number
 abbrev pub most_params : Func → ℕ
 most_params Sum = PARAMS
 most_params f = least_params f
 
--- the operation of version 1 of these parts, with no floor, and no key in the places that it does not use
+-- The operation of version 1 with this function, target, parameters and constant. It has no floor, FIRST_MAX as its
+-- greatest value, and `no_key` in the places that it does not use
 abbrev pub op_of : Func → Key → List Key → (c : ℕ) → Op
 op_of func key params c =
     record { key = key; params = params ++ replicate (PARAMS - length params) no_key; n_params = length params; func = func; c = c; low = 0; high = FIRST_MAX }
 
--- the operation with this floor and this greatest value
+-- The operation with the floor `low` and the greatest value `high`
 abbrev pub limited_to : (low high : ℕ) → Op → Op
 limited_to low high op = record op { low = low; high = high }
 
--- the keys that an operation reads, place by place: its target, then its parameters
+-- The keys that an operation reads, place by place: its target, then its parameters
 abbrev pub reads : Op → List Key
 reads op = op.key ∷ take op.n_params op.params
 
--- an operation has as many parameters as its function takes, a constant and a floor within its range of values, which is that of
--- one of the versions, and no key in the places that it does not use
+-- The operation has as many parameters as its function takes. Its constant and its floor are at most its greatest
+-- value, which is that of a version, and its unused places hold `no_key`
 pub record IsShaped (op : Op) : Type 0 where
   pub at_least : least_params op.func ≤ op.n_params
   pub at_most : op.n_params ≤ most_params op.func
@@ -68,7 +70,7 @@ pub record IsShaped (op : Op) : Type 0 where
   pub limit : IsLimit op.high
   pub blank : (j : ℕ) (d : Key) → op.n_params ≤ j → j < length op.params → slice_index_or op.params j d ≡ no_key
 
--- the key is one of the layout's
+-- The key's table is one of the layout's tables, and its id is below the layout's size
 pub record InLayout (layout : Layout) (key : Key) : Type 0 where
   pub table : key.table < layout.tables
   pub id : key.id < layout.size

@@ -1,5 +1,5 @@
--- The word of an operation in a shared table: its value, its attempt, its state and the worker it belongs to, and how they
--- stand in one number.
+-- The word of an operation in a shared table: its value, its attempt, its state and its worker, and how they are packed
+-- in one number
 use Rattle.std.specs.Prelude.{◌≡◌, ℕ, ◌+◌, ◌*◌, ◌≤◌, Bool, true, false, List, Option, Some, None, slice_index, slice_index_or}
 use Rattle.morph_base.specs.declared.limits.TheConstants.{MAX}
 use Rattle.morph_base.specs.declared.operation.Op.{Op}
@@ -9,7 +9,7 @@ use Rattle.morph_base.specs.declared.word.OpWord.{OpWord}
 use Rattle.morph_base.specs.Functions.{value_of}
 use Rattle.morph_base.specs.Limits.{most_attempts, most_workers, value_room}
 
--- the number of a state in a packed word
+-- The number of a state in a packed word
 abbrev pub code_of : OpState → ℕ
 code_of Blocked = 0
 code_of Ready = 1
@@ -20,7 +20,7 @@ code_of Spread = 5
 code_of Settled = 6
 code_of SettledAborted = 7
 
--- the operation has no value at this attempt yet
+-- The operation has no value at this attempt yet: it is blocked, ready or claimed
 abbrev pub is_idle : OpState → Bool
 is_idle Blocked = true
 is_idle Ready = true
@@ -31,7 +31,7 @@ is_idle Spread = false
 is_idle Settled = false
 is_idle SettledAborted = false
 
--- it has a value that may still be taken back
+-- The operation has a value that may still be taken back: it is executed, failed or spread
 abbrev pub is_evaluated : OpState → Bool
 is_evaluated Blocked = false
 is_evaluated Ready = false
@@ -42,7 +42,7 @@ is_evaluated Spread = true
 is_evaluated Settled = false
 is_evaluated SettledAborted = false
 
--- it has its value for good
+-- The operation has its value for good: it is settled, or settled as aborted
 abbrev pub is_settled : OpState → Bool
 is_settled Blocked = false
 is_settled Ready = false
@@ -53,7 +53,7 @@ is_settled Spread = false
 is_settled Settled = true
 is_settled SettledAborted = true
 
--- the word names a worker: the one that holds the operation, or that settled it
+-- The word names a worker, which holds the operation or settled it
 abbrev pub has_worker : OpState → Bool
 has_worker Blocked = false
 has_worker Ready = false
@@ -64,7 +64,7 @@ has_worker Spread = false
 has_worker Settled = true
 has_worker SettledAborted = true
 
--- executed or failed: its function was run on its records
+-- The operation's function was run on its records: it is executed or failed
 abbrev pub has_run : OpState → Bool
 has_run Blocked = false
 has_run Ready = false
@@ -75,7 +75,7 @@ has_run Spread = false
 has_run Settled = false
 has_run SettledAborted = false
 
--- its value at this attempt was shown
+-- The operation's value at this attempt was shown: it is executed, failed, spread or settled
 abbrev pub is_shown : OpState → Bool
 is_shown Blocked = false
 is_shown Ready = false
@@ -86,6 +86,7 @@ is_shown Spread = true
 is_shown Settled = true
 is_shown SettledAborted = false
 
+-- The operation is failed
 abbrev pub is_failed : OpState → Bool
 is_failed Blocked = false
 is_failed Ready = false
@@ -96,7 +97,7 @@ is_failed Spread = false
 is_failed Settled = false
 is_failed SettledAborted = false
 
--- nobody holds it, and it is not settled
+-- Nobody holds the operation, and it is not settled
 abbrev pub is_open : OpState → Bool
 is_open Blocked = true
 is_open Ready = true
@@ -107,7 +108,8 @@ is_open Spread = true
 is_open Settled = false
 is_open SettledAborted = false
 
--- the words that there are: attempts from 1 on, no value before there is one, a worker exactly where the state has one
+-- The word is one that occurs: its attempt is from 1 to `most_attempts`, it has no value while it is idle, its value is
+-- at most MAX, and it names a worker exactly if its state has one
 pub record IsWord (w : OpWord) : Type 0 where
   pub small : w.value ≤ MAX
   pub first : 1 ≤ w.attempt
@@ -116,48 +118,58 @@ pub record IsWord (w : OpWord) : Type 0 where
   pub by_worker : has_worker w.state ≡ true → (1 ≤ w.by) × (w.by ≤ most_workers)
   pub by_none : has_worker w.state ≡ false → w.by ≡ 0
 
--- one number for a word: 44 bits of value, 4 of attempt, 4 of state, and the worker above them
+-- The word as one number: 44 bits of value, 4 of attempt, 4 of state, and the worker above them
 abbrev pub packed : OpWord → ℕ
 packed w = w.value + value_room * (w.attempt + 16 * (code_of w.state + 16 * w.by))
 
 -- ---- the words of an operation at an attempt
 
+-- The word of a blocked operation at attempt a
 abbrev pub blocked : ℕ → OpWord
 blocked a = record { value = 0; attempt = a; state = Blocked; by = 0 }
 
+-- The word of a ready operation at attempt a
 abbrev pub ready : ℕ → OpWord
 ready a = record { value = 0; attempt = a; state = Ready; by = 0 }
 
+-- The word of an operation that worker t claimed at attempt a
 abbrev pub claimed : ℕ → ℕ → OpWord
 claimed a t = record { value = 0; attempt = a; state = Claimed; by = t }
 
+-- The word of an operation that was executed at attempt a, with value v
 abbrev pub executed : ℕ → ℕ → OpWord
 executed a v = record { value = v; attempt = a; state = Executed; by = 0 }
 
+-- The word of an operation that failed at attempt a, and carries the value v
 abbrev pub failed : ℕ → ℕ → OpWord
 failed a v = record { value = v; attempt = a; state = Failed; by = 0 }
 
+-- The word of an operation at attempt a that carries the value v since another operation of its event failed: it is
+-- spread
 abbrev pub spread : ℕ → ℕ → OpWord
 spread a v = record { value = v; attempt = a; state = Spread; by = 0 }
 
+-- The word of an operation that worker t settled at attempt a, with value v, in a committed event
 abbrev pub settled : ℕ → ℕ → ℕ → OpWord
 settled a v t = record { value = v; attempt = a; state = Settled; by = t }
 
+-- The word of an operation that worker t settled at attempt a, with value v, in an aborted event
 abbrev pub settled_aborted : ℕ → ℕ → ℕ → OpWord
 settled_aborted a v t = record { value = v; attempt = a; state = SettledAborted; by = t }
 
--- what an operation comes to: executed with its answer, or failed with the value of its target before
+-- The word after an evaluation: executed with the answer, or failed with the value `before` if there is no answer
 abbrev pub word_of : (attempt : ℕ) → (answer : Option ℕ) → (before : ℕ) → OpWord
 word_of a (Some v) before = executed a v
 word_of a None before = failed a before
 
--- where its places read the values xs
+-- The word after an evaluation with this answer, if the places read the values xs
 abbrev pub ended : ℕ → List ℕ → Option ℕ → OpWord
 ended a xs answer = word_of a answer (slice_index xs 0)
 
+-- The word after the operation was evaluated on the values xs of its places
 abbrev pub finished : Op → ℕ → List ℕ → OpWord
 finished op a xs = ended a xs (value_of op xs)
 
--- the value of each operation's word
+-- The value of the word of operation o in a list of words
 abbrev pub value_of_word : List OpWord → ℕ → ℕ
 value_of_word words o = (slice_index_or words o (blocked 1)).value

@@ -10,10 +10,10 @@ use crate::word::{OpState, OpWord};
 #[cfg(test)]
 mod tests;
 
-/// The new value of an operation's target, or `None` where the operation fails, as [`Func`] says for each function.
+/// The new value of an operation's target, or `None` if the operation fails, as [`Func`] says for each function.
 ///
 /// `xs` has the value of the target and then those of the parameters, each at most [`MAX`], and the operation has a
-/// valid shape. Where each is at most the operation's greatest value, so is the answer.
+/// valid shape. If each value is at most the operation's greatest value, so is the answer.
 #[tactic(auto, unfolding(crate::specs::Functions::value_of))]
 pub fn eval(op: &Op, xs: &[u64]) -> Option<u64>
     requires shaped { IsShaped op.now }
@@ -53,7 +53,7 @@ pub fn eval(op: &Op, xs: &[u64]) -> Option<u64>
 
 /// The word that an attempt at an operation leaves, on the values of its places.
 ///
-/// It is executed with the operation's answer, or failed with the value of place 0 where there is none. `xs` and the
+/// It is executed with the operation's answer, or failed with the value of place 0 if there is none. `xs` and the
 /// operation are as for [`eval`]. Attempts are numbered from 1, up to [`ATTEMPTS`](crate::ATTEMPTS).
 pub fn evaluate(op: &Op, xs: &[u64], attempt: u8) -> OpWord
     requires shaped { IsShaped op.now }
@@ -73,7 +73,7 @@ pub fn evaluate(op: &Op, xs: &[u64], attempt: u8) -> OpWord
     }
 }
 
-/// The value, unless it is above the limit.
+/// The value, or `None` if it is above the limit.
 fn at_most(limit: u64, value: u64) -> Option<u64>
     ensures { result ≡ at_most_of limit value }
 {

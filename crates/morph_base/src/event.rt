@@ -6,10 +6,10 @@ use crate::memory::OutOfMemory;
 use crate::operation::Op;
 use std::alloc::Global;
 
-/// What came at one time: operations that are done together or not at all.
+/// The operations that came at one time, which are done together or not at all.
 ///
-/// It is valid where its timestamp is from 1 to [`LATEST`](crate::LATEST) and it has 1 to
-/// [`EVENT_OPS`](crate::EVENT_OPS) operations of valid shape, whose targets differ.
+/// It is valid if its timestamp is from 1 to [`LATEST`](crate::LATEST) and it has 1 to [`EVENT_OPS`](crate::EVENT_OPS)
+/// operations of valid shape, whose targets differ.
 #[derive(Debug, Drop)]
 pub struct Event {
     /// Its timestamp, by which the events of a batch are applied.
@@ -20,10 +20,10 @@ pub struct Event {
 
 /// The events between two punctuations, in order of arrival.
 ///
-/// It is valid where its events are valid, at most [`EVENTS`](crate::EVENTS) in number, and their timestamps differ.
+/// It is valid if its events are valid, at most [`EVENTS`](crate::EVENTS) in number, and their timestamps differ.
 #[derive(Debug, Drop)]
 pub struct Batch {
-    /// In order of arrival.
+    /// The events, in order of arrival.
     pub events: List<Event>,
 }
 

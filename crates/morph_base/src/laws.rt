@@ -1,6 +1,6 @@
-//! The laws of the vocabulary: what its definitions amount to, as the contracts of functions that do nothing.
+//! The laws of the vocabulary: what follows from its definitions, as the contracts of functions that do nothing.
 //!
-//! A crate above cites the lemmas behind them, which stand in `proofs/`; the contracts show what they come to.
+//! A crate above cites the lemmas in `proofs/` that prove them. The contracts show what the lemmas say.
 pub mod limits;
 pub mod order;
 pub mod plans;

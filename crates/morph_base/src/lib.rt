@@ -1,14 +1,13 @@
 //! The vocabulary of `morph`: values, keys, operations, events, batches and plans, and what they mean.
 //!
 //! A [`Key`] names a place where a value from 0 to [`MAX`] is kept. An [`Op`] changes one key, by a [`Func`] of the
-//! values before its [`Event`]; the operations of an event are done together or not at all. A [`Batch`] has the
-//! events between two punctuations, in order of arrival. What it comes to is its fold: its events one at a time by
-//! rising timestamp.
+//! values before its [`Event`]. The operations of an event are done together or not at all. A [`Batch`] has the events
+//! between two punctuations, in order of arrival. Its meaning is its fold: its events one at a time by rising
+//! timestamp.
 //!
-//! The definitions stand in `specs/`, and docs/DEFINITIONS.md has them in plain words; [`laws`] shows what they
-//! amount to. [`eval`] is the function table, and [`plain::fold`] the fold of a batch on [`Values`]. The crates above
-//! plan a batch as a [`Plan`], run it by a [`Strategy`] and tell what it came to as a [`Settled`], which is that of
-//! the fold.
+//! The definitions stand in `specs/`, and docs/DEFINITIONS.md has them in plain words; [`laws`] shows what follows from
+//! them. [`eval`] is the function table, and [`plain::fold`] the fold of a batch on [`Values`]. The crates above plan a
+//! batch as a [`Plan`], run it by a [`Strategy`], and return the result as a [`Settled`], which is that of the fold.
 //!
 //! A caller builds events from operations, and folds them:
 //!
@@ -21,8 +20,8 @@
 //! let outcomes = plain::fold(alloc, &mut values, &Batch { events })?;
 //! ```
 //!
-//! [`Op`], [`Event`] and [`Batch`] say when they are valid: calls ask for valid ones, with their keys in the layout
-//! of the values. Below stands std alone.
+//! [`Op`], [`Event`] and [`Batch`] say when they are valid. Calls ask for valid ones, with their keys in the layout of
+//! the values. This crate uses std alone.
 #![tactic(auto)]
 
 mod evaluation;

@@ -1,5 +1,5 @@
-//! The limits of values, events, batches and words. Each is checked against the definitions, which have numbers of their
-//! own: to raise one, raise both.
+//! The limits of values, events, batches and words. Each is checked against the definitions, which have numbers of
+//! their own: to raise one, raise both.
 
 /// The greatest value that a key can hold, and the greatest constant of an operation: 10^13, that of version 2.
 pub const MAX: u64 = 10_000_000_000_000;

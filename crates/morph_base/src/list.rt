@@ -7,8 +7,8 @@ use std::marker::Model;
 
 /// A growable list whose contracts see its items and its spare room.
 ///
-/// It is `Vec` with two differences: where room was taken beforehand, [`List::add`] appends without being
-/// able to fail, and a refused [`List::push`] drops the item and leaves the list as it was.
+/// It is `Vec` with two differences: if room was taken beforehand, [`List::add`] appends without being able to fail,
+/// and a refused [`List::push`] drops the item and leaves the list as it was.
 #[derive(Debug, Drop)]
 pub struct List<T> {
     vec: Vec<T>,
@@ -48,7 +48,7 @@ impl<T> List<T> {
         })
     }
 
-    /// Appends an item. Where memory is refused the item is dropped and the list stays.
+    /// Appends an item. If memory is refused, the item is dropped and the list stays as it was.
     pub fn push(&mut self, item: T) -> Result<(), OutOfMemory>
     where
         T: Drop,
@@ -61,7 +61,7 @@ impl<T> List<T> {
         Ok(())
     }
 
-    /// Appends an item where there is spare room, and takes no memory.
+    /// Appends an item if there is spare room, and takes no memory.
     pub fn add(&mut self, item: T)
         requires { 0 < self.old.room }
         ensures items { self.new.items ≡ self.old.items ++ item ∷ [] }
@@ -132,7 +132,7 @@ impl<T> List<T> {
         self.vec.as_slice()
     }
 
-    /// Lends the items for change in place; afterwards the list has what was left there.
+    /// Lends the items for change in place. Afterwards the list has what was left there.
     pub fn as_mut_slice(&mut self) -> &mut [T]
         ensures* lends { sem 𝓛
             (Lends (the_row T.row) (Array T.row 0) self.entry result (with_items self.old)) }
@@ -152,7 +152,7 @@ impl<T: Copy> List<T> {
         })
     }
 
-    /// A list of `n` times the same item.
+    /// A list of `n` copies of the same item.
     pub fn filled(alloc: Global, n: usize, item: T) -> Result<Self, OutOfMemory>
         ensures { IfOk result (λ list. list.items ≡ replicate n item) }
     {

@@ -4,9 +4,9 @@ use std::alloc::{AllocError, AllocFailed};
 use std::error::Error;
 use std::fmt;
 
-/// Memory that was asked for was refused.
+/// A request for memory was refused.
 ///
-/// It is the one answer of this project that no contract ties to a cause: a contract says what stands after it.
+/// It is the one answer of this project whose cause no contract states. A contract says what holds after it.
 #[derive(Clone, Copy, Debug, PartialEq, Eq, Hash)]
 pub struct OutOfMemory;
 

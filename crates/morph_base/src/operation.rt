@@ -15,26 +15,26 @@ pub enum Func {
     Keep,
     /// x + c. It fails above high.
     Add,
-    /// x - c. It fails where x is below c + low.
+    /// x - c. It fails if x is below c + low.
     Sub,
-    /// x + c, with one parameter. It fails where p1 is below c + low, or above high.
+    /// x + c, with one parameter. It fails if p1 is below c + low, or if the result is above high.
     MoveIn,
-    /// The sum of its parameters, which are one to [`PARAMS`](crate::PARAMS). It fails above c.
+    /// The sum of its parameters, which are one to [`PARAMS`](crate::PARAMS). It fails if the sum is above c.
     Sum,
-    /// c where x is 0, else half of x + c, rounded down. It never fails.
+    /// c if x is 0, else half of x + c, rounded down. It never fails.
     Blend,
     /// c. It never fails.
     Set,
-    /// x where p1 is c, else x + 1, with one parameter. It fails above high.
+    /// x if p1 is c, else x + 1, with one parameter. It fails above high.
     Enter,
-    /// x and the toll, with two parameters: p1 is the average speed of a segment in hundredths of a mile per hour,
-    /// p2 its count of entries. The toll is 2 * (p2 - 50)^2 where p1 is below 4000 and p2 above 50, else 0, as in
-    /// Linear Road (Arasu and others, VLDB 2004). It fails above c.
+    /// x and the toll, with two parameters: p1 is the average speed of a segment in hundredths of a mile per hour, p2
+    /// its count of entries. The toll is 2 * (p2 - 50)^2 if p1 is below 4000 and p2 above 50, else 0, as in Linear Road
+    /// (Arasu and others, VLDB 2004). It fails above c.
     Charge,
 }
 
 impl Func {
-    /// Whether the function takes so many parameters.
+    /// Whether the function takes this many parameters.
     pub fn takes(self, params: usize) -> bool
         ensures { IsTrue result ↔ ((least_params self ≤ params) × (params ≤ most_params self)) }
     {
@@ -49,9 +49,9 @@ impl Func {
 
 /// One change of one key, by a function of the values before its event.
 ///
-/// It has a valid shape where the number of its parameters is its function's, `c` and `low` are at most `high`, `high`
-/// is [`FIRST_MAX`](crate::FIRST_MAX) or [`MAX`](crate::MAX), and the places of `params` from `n_params` on hold the
-/// key of table 0 and id 0.
+/// It has a valid shape if the number of its parameters is its function's, `c` and `low` are at most `high`, `high` is
+/// [`FIRST_MAX`](crate::FIRST_MAX) or [`MAX`](crate::MAX), and the places of `params` from `n_params` on hold the key
+/// of table 0 and id 0.
 #[derive(Clone, Copy, Debug, PartialEq, Eq)]
 pub struct Op {
     /// The target, whose value changes.
@@ -64,7 +64,7 @@ pub struct Op {
     pub func: Func,
     /// The constant of its function.
     pub c: u64,
-    /// The floor: what must stay where it takes from a value, or moves in what another takes.
+    /// The floor: what must be left when the function takes from a value, or moves in what another operation takes.
     pub low: u64,
     /// The greatest value, which is that of its input's version.
     pub high: u64,
@@ -73,7 +73,7 @@ pub struct Op {
 impl Op {
     /// An operation of version 1 with these parameters, in the first places, and no floor.
     ///
-    /// It has a valid shape where its function takes as many parameters and `c` is at most
+    /// It has a valid shape if its function takes this many parameters and `c` is at most
     /// [`FIRST_MAX`](crate::FIRST_MAX).
     pub fn new(func: Func, key: Key, params: &[Key], c: u64) -> Self
         requires few { length params.now ≤ PARAMS }
@@ -101,7 +101,7 @@ impl Op {
 
     /// The operation with this floor and this greatest value.
     ///
-    /// It has a valid shape where it has as many parameters as its function takes, `low` and its constant are at most
+    /// It has a valid shape if it has as many parameters as its function takes, `low` and its constant are at most
     /// `high`, and that is the greatest value of a version.
     pub fn limited(self, low: u64, high: u64) -> Self
         ensures parts { result ≡ limited_to low high self }

@@ -7,7 +7,7 @@ use crate::list::List;
 pub struct Outcome {
     /// Its timestamp.
     pub ts: u64,
-    /// Whether it was done; where it was not it changed nothing.
+    /// Whether it was done. If not, it changed nothing.
     pub committed: bool,
     /// One for each of its operations.
     pub values: List<u64>,

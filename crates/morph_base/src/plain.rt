@@ -21,10 +21,10 @@ use std::alloc::Global;
 #[cfg(test)]
 mod tests;
 
-/// Folds a batch into the values, and tells what became of each event, by rising timestamp.
+/// Folds a batch into the values, and returns the outcome of each event, by rising timestamp.
 ///
-/// The batch is valid, and its keys are in the layout of the values. Where memory is refused, the values are those
-/// after some first events by rising timestamp.
+/// The batch is valid, and its keys are in the layout of the values. If memory is refused, the values are those after
+/// the first few events by rising timestamp.
 pub fn fold(alloc: Global, values: &mut Values, batch: &Batch) -> Result<List<Outcome>, OutOfMemory>
     requires batch { IsBatch batch.now }
     requires keys { BatchKeysIn values.old.layout batch.now }
@@ -44,7 +44,7 @@ pub fn fold(alloc: Global, values: &mut Values, batch: &Batch) -> Result<List<Ou
     Ok(outcomes)
 }
 
-/// Does one event, or leaves the values where it aborts or memory is refused.
+/// Does one event. If it aborts or memory is refused, the values stay as they were.
 fn apply(alloc: Global, values: &mut Values, event: &Event) -> Result<Outcome, OutOfMemory>
     requires event { IsTransaction (transaction_of event.now) }
     requires keys { HasKeysIn values.old.layout (transaction_of event.now) }
@@ -66,7 +66,7 @@ fn apply(alloc: Global, values: &mut Values, event: &Event) -> Result<Outcome, O
     })
 }
 
-/// Changes the values by an event, and tells whether it committed.
+/// Changes the values by an event, and says whether it committed.
 fn transact(alloc: Global, values: &mut Values, event: &Event) -> Result<bool, OutOfMemory>
     requires event { IsTransaction (transaction_of event.now) }
     requires keys { HasKeysIn values.old.layout (transaction_of event.now) }
@@ -87,7 +87,7 @@ fn transact(alloc: Global, values: &mut Values, event: &Event) -> Result<bool, O
     }
 }
 
-/// The answers of the operations, all on the present values, or `None` where one fails.
+/// The answers of the operations, all on the present values, or `None` if one fails.
 fn answers(alloc: Global, values: &Values, ops: &[Op]) -> Result<Option<List<u64>>, OutOfMemory>
     requires shaped { All IsShaped ops.now }
     requires keys { All (λ op. All (InLayout values.now.layout) (reads op)) ops.now }

@@ -10,7 +10,7 @@ use crate::operation::Op;
 use crate::rows::Rows;
 use crate::word::OpWord;
 
-/// Where a place of an operation gets its value.
+/// Where a place of an operation gets its value from.
 #[derive(Clone, Copy, Debug, PartialEq, Eq)]
 pub enum Origin {
     /// The value of the key before the batch.
@@ -20,7 +20,7 @@ pub enum Origin {
 }
 
 impl Origin {
-    /// The value of the source, where `values` has those of operations: a base stands for itself.
+    /// The value of the source, if `values` has those of operations. A base has its own value.
     pub fn value_in(self, values: &List<u64>) -> u64
         requires { IsKnown (λ t. t < length values.now.items) self }
         ensures { result ≡ from (slice_index values.now.items) self }
@@ -31,7 +31,7 @@ impl Origin {
         }
     }
 
-    /// The same, where `words` has the words of operations.
+    /// The value of the source, if `words` has the words of operations.
     pub fn word_value_in(self, words: &List<OpWord>) -> u64
         requires { IsKnown (λ t. t < length words.now.items) self }
         ensures { result ≡ from (value_of_word words.now.items) self }
@@ -52,7 +52,7 @@ pub struct PlanOp {
     pub event: u32,
     /// The source of each place that it reads; the others hold `Base(0)`.
     pub origins: [Origin; READS],
-    /// 1 and the greatest level of the operations that it reads from; 1 where there is none.
+    /// One more than the greatest level of the operations that it reads from; 1 if there are none.
     pub level: u32,
 }
 
@@ -77,7 +77,7 @@ pub struct PlanEvent {
     pub first: u32,
     /// How many operations it has: 1 to [`EVENT_OPS`](crate::EVENT_OPS).
     pub count: u32,
-    /// 1 and the greatest level of the events that its operations read from; 1 where there is none.
+    /// One more than the greatest level of the events that its operations read from; 1 if there are none.
     pub level: u32,
 }
 
@@ -109,11 +109,11 @@ pub struct Plan {
     pub edges: Edges,
 }
 
-/// What a plan came to: the value of each operation, the verdict on each event, and the worker that settled each
-/// operation, where 0 stands for none.
+/// The result of a plan: the value of each operation, the verdict on each event, and the worker that settled each
+/// operation, or 0 for none.
 #[derive(Debug, Drop)]
 pub struct Settled {
-    /// By operation: the value that it leaves, which is its target's before the event where that aborted.
+    /// By operation, the value after it. If the event aborted, that is its target's value before the event.
     pub values: List<u64>,
     /// By event: whether it committed.
     pub committed: List<bool>,

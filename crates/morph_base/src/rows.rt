@@ -6,7 +6,7 @@ use std::marker::Model;
 
 /// Rows of numbers, one behind another in a single list.
 ///
-/// Contracts see it as the list of its rows. It takes two pieces of memory however many rows there are, where a list of
+/// Contracts see it as the list of its rows. It takes two pieces of memory however many rows there are, while a list of
 /// lists takes one for each.
 #[derive(Debug, Drop)]
 pub struct Rows {
@@ -38,8 +38,8 @@ fn start_of(ends: &List<usize>, i: usize) -> usize
 }
 
 impl Rows {
-    /// The rows of these items, of which each ends at its place in `ends`; the first begins at 0, and each other one
-    /// where the one before it ends.
+    /// The rows of these items. Each row ends at its place in `ends`; the first begins at 0, and each other one where
+    /// the one before it ends.
     pub fn new(ends: List<usize>, items: List<u32>) -> Self
         requires { AreRows ends.items items.items }
         ensures { result ≡ rows_of ends.items items.items }

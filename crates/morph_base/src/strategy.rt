@@ -1,7 +1,7 @@
 /// What is scheduled as a whole: one operation, or the chain of a key's operations by rising timestamp.
 #[derive(Clone, Copy, Debug, PartialEq, Eq)]
 pub enum Unit {
-    /// Each operation alone.
+    /// Each operation by itself.
     Op,
     /// All operations on a key, by rising timestamp.
     Chain,
@@ -21,7 +21,7 @@ pub enum Explore {
 pub enum Abort {
     /// Events are looked at when they are settled.
     Lazy,
-    /// The others of its event hear of it, and what read from them is rolled back, while others still explore.
+    /// The other operations of its event are told, and what read from them is rolled back, while others still explore.
     Eager,
 }
 
@@ -30,7 +30,7 @@ pub enum Abort {
 pub struct Strategy {
     /// What a worker takes as a whole.
     pub unit: Unit,
-    /// How workers come to operations.
+    /// How workers find operations.
     pub explore: Explore,
     /// How workers deal with failures.
     pub abort: Abort,

@@ -16,7 +16,7 @@ mod tests;
 impl Batch {
     /// Whether the batch is valid.
     ///
-    /// It compares each time with all others, so it is meant for the small batches that are put together by hand.
+    /// It compares each time with all others, so it is meant for small batches that are put together by hand.
     pub fn is_valid(&self) -> bool
         ensures { IsTrue result ↔ IsBatch self.now }
     {
@@ -60,7 +60,7 @@ fn are_alike(events: &[Event]) -> bool
     events.iter().all(|event| has_high(event, high))
 }
 
-/// The greatest value of the first operation, or that of all where there is none.
+/// The greatest value of the first operation, or [`MAX`](crate::MAX) if there is none.
 fn high_of(events: &[Event]) -> u64
     ensures { result ≡ high_of_all (map transaction_of events.now) }
 {
@@ -189,7 +189,7 @@ fn reads_in(op: &Op, layout: Layout) -> bool
     layout.contains(op.key) && are_in(params, layout)
 }
 
-/// The first `n` keys, or all where there are fewer.
+/// The first `n` keys, or all of them if there are fewer.
 fn first(keys: &[Key], n: usize) -> &[Key]
     ensures { result.now ≡ take n keys.now }
 {

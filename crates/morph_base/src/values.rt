@@ -67,14 +67,14 @@ impl Values {
     }
 }
 
-/// So many zeros.
+/// A list of `len` zeros.
 fn zeros(alloc: Global, len: usize) -> Result<Vec<u64>, OutOfMemory>
     ensures { IfOk result (λ values. values.items ≡ replicate len 0) }
 {
     Ok(vec![in alloc; 0; len]?)
 }
 
-/// Where the value of a key stands.
+/// The place of a key's value.
 fn place(layout: Layout, key: Key) -> usize
     requires { InLayout layout key }
     ensures place { result ≡ place_of layout key }

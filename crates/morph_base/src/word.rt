@@ -8,7 +8,7 @@ use crate::limits::{MAX, VALUES, WORKERS};
 /// The most attempts at an operation, which are numbered from 1.
 pub const ATTEMPTS: u8 = 8;
 
-/// Where an operation stands.
+/// The state of an operation.
 #[derive(Clone, Copy, Debug, PartialEq, Eq)]
 pub enum OpState {
     /// A source may have no value yet.
@@ -29,18 +29,18 @@ pub enum OpState {
     SettledAborted,
 }
 
-/// What is told of an operation at once: its value, at which attempt, its state, and the worker that it belongs to.
+/// What is known of an operation at once: its value, at which attempt, its state, and the worker that it belongs to.
 ///
 /// In range are attempts from 1 to [`ATTEMPTS`] and values of at most [`MAX`], 0 in the states blocked, ready and
-/// claimed. A worker, from 1 to [`WORKERS`], stands in the states claimed, settled and settled-aborted, and 0 in all
-/// others.
+/// claimed. A word in the states claimed, settled and settled-aborted has a worker, from 1 to [`WORKERS`]; in all
+/// others it has 0.
 #[derive(Clone, Copy, Debug, PartialEq, Eq)]
 pub struct OpWord {
     /// What others read of it.
     pub value: u64,
     /// Its present attempt, from 1 on.
     pub attempt: u8,
-    /// How far it has come.
+    /// Its state.
     pub state: OpState,
     /// The worker that holds it or settled it.
     pub by: u8,
@@ -61,7 +61,7 @@ impl OpState {
         matches!(self, OpState::Executed | OpState::Failed | OpState::Spread)
     }
 
-    /// Whether the value stands for good: settled or settled-aborted.
+    /// Whether the value is final: settled or settled-aborted.
     pub fn is_settled(self) -> bool
         ensures { result ≡ is_settled_in self }
     {
@@ -109,7 +109,7 @@ impl OpState {
         }
     }
 
-    /// The state of a number that one has.
+    /// The state with this number, which is below 8.
     fn at_code(code: u64) -> OpState
         requires { code < 8 }
         ensures { code_of result ≡ code }
@@ -126,7 +126,7 @@ impl OpState {
         }
     }
 
-    /// The state of this number.
+    /// The state with this number, or `None` if there is none.
     fn of_code(code: u64) -> Option<OpState>
         ensures state { IfSome result (λ state. code_of state ≡ code) }
         ensures every { (state : OpState) → code_of state ≡ code → result ≡ Some state }
@@ -181,7 +181,7 @@ impl OpWord {
         self.value + VALUES * (u64::from(self.attempt) + 16 * state)
     }
 
-    /// The word in range that packs to this number, where it is known that one does: nothing is checked of it.
+    /// The word in range that packs to this number, if one is known to. Nothing is checked.
     pub fn of_packed(n: u64) -> OpWord
         requires { (w : OpWord) × IsWord w × (packed w ≡ n) }
         ensures { (w : OpWord) → IsWord w → packed w ≡ n → result ≡ w }
@@ -195,7 +195,7 @@ impl OpWord {
         }
     }
 
-    /// The word in range that packs to this number; `None` exactly where there is none.
+    /// The word in range that packs to this number, or `None` exactly if there is none.
     pub fn unpack(n: u64) -> Option<OpWord>
         ensures word { IfSome result (λ w. IsWord w × (packed w ≡ n)) }
         ensures every { (w : OpWord) → IsWord w → packed w ≡ n → result ≡ Some w }

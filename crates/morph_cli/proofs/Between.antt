@@ -22,7 +22,7 @@ use Rattle.event_reader.specs.declared.answers.Next.{Next}
 use Rattle.event_reader.specs.declared.answers.Next.TheVariants.{Batch}
 use Rattle.event_reader.specs.Accepted.{Accepted}
 use Rattle.event_reader.specs.Steps.{Meaning}
-use Rattle.event_reader.specs.Reader.{ReaderView, new_reader, accepted_by, Takes, AnswersNext, ShowsNext, ShowsBatch}
+use Rattle.event_reader.specs.Reader.{ReaderView, new_reader, accepted_by, TakesBytes, AnswersNext, ShowsNext, ShowsBatch}
 use Rattle.run_text.specs.declared.tally.Tally.{Tally}
 use Rattle.morph_cli.specs.declared.fault.Fault.{Fault}
 use Rattle.morph_cli.specs.declared.fault.Fault.TheVariants.{Write, OutOfMemory as RunMemory}
@@ -30,10 +30,10 @@ use Rattle.morph_cli.specs.declared.run.Finish.{Finish}
 use Rattle.morph_cli.specs.Faults.{fault_of}
 use Rattle.run_text.specs.Reports.{report_of}
 use Rattle.run_text.specs.Text.{told_lines, told_values, counts_line}
-use Rattle.run_text.specs.Counts.{Adds, HasRoom, no_tally}
+use Rattle.run_text.specs.Counts.{CountsBatch, HasRoom, no_tally}
 use Rattle.morph_cli.specs.Strategies.{strategy_by}
 use Rattle.decision_model.specs.Choices.{last_of, no_last}
-use Rattle.morph_cli.specs.Tallies.{IsMadeOf, IsSound}
+use Rattle.morph_cli.specs.Tallies.{IsMadeOf, IsSoundAccount}
 use Rattle.morph_cli.specs.Outputs.{Outputs, with_both, IsCutIn}
 use Rattle.morph_cli.specs.Status.{status_of}
 use Rattle.morph_cli.specs.Apps.{telling_by}
@@ -134,7 +134,7 @@ module _ {App : Type 0} where
 
   -- the numbers of the tally have room for one batch more
   pub room_for : {c : Course App} {now : Option Accepted} {new : Outputs} {s : State} {tally : Tally} (a : Account) → Goes c now new s tally →
-      tally.committed + tally.aborted ≤ c.limit + 1 → c.limit ≤ 1073741824 → IsPlan a.plan → IsSound c.settings.workers a → HasRoom tally a
+      tally.committed + tally.aborted ≤ c.limit + 1 → c.limit ≤ 1073741824 → IsPlan a.plan → IsSoundAccount c.settings.workers a → HasRoom tally a
   room_for {c} {now} {new} {s} {tally} a goes told short valid sound =
       let t = goes.tallied in
       let events = t.balanced.events in
@@ -158,7 +158,7 @@ module _ {App : Type 0} where
       }
 
   pub has_room : {c : Course App} {left : Option (List ℕ)} {new : Outputs} {r : ReaderView App} {values : Kept} {tally : Tally} {out : List ℕ} {last : Last} (a : Account) →
-      Between c left new r values tally out last → c.limit ≤ 1073741824 → IsPlan a.plan → IsSound c.settings.workers a → HasRoom tally a
+      Between c left new r values tally out last → c.limit ≤ 1073741824 → IsPlan a.plan → IsSoundAccount c.settings.workers a → HasRoom tally a
   has_room a b short valid sound = let counted = b.counted in let number = b.number in room_for a b.goes (omega (arith, counted, number)) short valid sound
 
   pub meaning_is : (c : Course App) (r : ReaderView App) → r.app ≡ c.app → r.size ≡ c.size → c.event_of r.app r.size ≡ meaning_in c
@@ -167,13 +167,13 @@ module _ {App : Type 0} where
   pub between_batch : {c : Course App} {left left' : Option (List ℕ)} {new newer : Outputs} {r r' : ReaderView App} {values values' : Kept} {tally tally' : Tally} {out out' : List ℕ} {last last' : Last}
       (batch : TheBatch) (told : List Fate) (a : Account) (audit : Option Total) → Between c left new r values tally out last →
       AnswersNext (accepted_by c.event_of r left) (Ok (Batch batch)) (accepted_by c.event_of r' left') →
-      Takes left left' (ShowsNext c.event_of r (Ok (Batch batch)) r') →
+      TakesBytes left left' (ShowsNext c.event_of r (Ok (Batch batch)) r') →
       0 < length batch.events.items → r.lines.number + length batch.events.items ≤ r'.lines.number → r'.lines.number ≤ r'.lines.limit + 1 →
       (r'.app ≡ r.app) × (r'.size ≡ r.size) × (r'.lines.limit ≡ r.lines.limit) →
       (r'.lines.ended ≡ false → r.lines.ended ≡ false) → r'.live ≡ true → values'.layout ≡ values.layout →
       contents values' ≡ fold_batch batch (contents values) → told ≡ fates (contents values) (by_time (transactions_of batch)) →
       newer ≡ with_both new (told_lines c.telling.report told) (told_note c.settings tally'.batches audit a) → out' ≡ [] → IsAudit c.settings (contents values) tally.batches audit a →
-      Adds tally tally' a told → IsSound c.settings.workers a → IsMadeOf (contents values) (transactions_of batch) a.plan → a.strategy ≡ strategy_by c.settings.planning a.plan last →
+      CountsBatch tally tally' a told → IsSoundAccount c.settings.workers a → IsMadeOf (contents values) (transactions_of batch) a.plan → a.strategy ≡ strategy_by c.settings.planning a.plan last →
       last' ≡ last_of told → Between c left' newer r' values' tally' out' last'
   unfolding goes_batch
   between_batch {c} {left} {left'} {new} {newer} {r} {r'} {values} {values'} {tally} {tally'} {out} {out'} {last} {last'} batch told a audit b answers shows some counted bound same unended live layout_is
@@ -181,7 +181,7 @@ module _ {App : Type 0} where
         goes = goes_batch c _ (accepted_by c.event_of r' left') new newer (contents values) (contents values') tally tally' (transactions_of batch) told a audit b.goes (simp length-map some) answers
             state fates_are written seen adds sound made (chosen ∙ ap (strategy_by c.settings.planning a.plan) b.last_is) (some_fates (contents values) batch told fates_are some);
         takes = takes_batch (meaning_in c) c.input left left' r.past r'.past r.lines r'.lines b.goes.done batch b.takes (simp length-map some) unended
-            (subst (λ m. Takes left left' (ShowsBatch m r.past r.lines (Ok (Batch batch)) r'.past r'.lines)) (meaning_is c r b.app_is b.size_is) shows);
+            (subst (λ m. TakesBytes left left' (ShowsBatch m r.past r.lines (Ok (Batch batch)) r'.past r'.lines)) (meaning_is c r b.app_is b.size_is) shows);
         layout = layout_is ∙ b.layout;
         app_is = same.0 ∙ b.app_is;
         size_is = same.1 ∙ b.size_is;
@@ -204,14 +204,14 @@ module _ {App : Type 0} where
   pub ends_fault : {c : Course App} {left : Option (List ℕ)} {new : Outputs} {r : ReaderView App} {values : Kept} {tally : Tally} {out : List ℕ} {last : Last} {x : Result Finish Fault}
       (left' : Option (List ℕ)) (r' : ReaderView App) (e : ReaderFault) → x ≡ Err (fault_of e) → Between c left new r values tally out last →
       AnswersNext (accepted_by c.event_of r left) (Err e) (accepted_by c.event_of r' left') →
-      Takes left left' (ShowsNext c.event_of r (Err e) r') → (IsErrOf {T = Next} (Err e) ReadFault → r.lines.ended ≡ false) → Ends c left' x new
+      TakesBytes left left' (ShowsNext c.event_of r (Err e) r') → (IsErrOf {T = Next} (Err e) ReadFault → r.lines.ended ≡ false) → Ends c left' x new
   ends_fault {c} {left} {new} {r} {values} {tally} {out} {last} {x} left' r' e failed b answers shows asked = subst (λ y. Ends c left' y new) (sym failed) (by_fault e answers shows asked)
     where
       by_fault : (e : ReaderFault) → AnswersNext (accepted_by c.event_of r left) (Err e) (accepted_by c.event_of r' left') →
-          Takes left left' (ShowsNext c.event_of r (Err e) r') → (IsErrOf {T = Next} (Err e) ReadFault → r.lines.ended ≡ false) → Ends c left' (Err (fault_of e)) new
+          TakesBytes left left' (ShowsNext c.event_of r (Err e) r') → (IsErrOf {T = Next} (Err e) ReadFault → r.lines.ended ≡ false) → Ends c left' (Err (fault_of e)) new
       by_fault ReadFault answers shows asked =
           ends_read c _ new (contents values) tally left left' r.past r.lines b.goes b.takes (asked refl)
-          (subst (λ m. Takes left left' (ShowsBatch m r.past r.lines (Err ReadFault) r'.past r'.lines)) (meaning_is c r b.app_is b.size_is) shows)
+          (subst (λ m. TakesBytes left left' (ShowsBatch m r.past r.lines (Err ReadFault) r'.past r'.lines)) (meaning_is c r b.app_is b.size_is) shows)
       by_fault LongInput answers shows asked = ends_long c _ new (contents values) tally left' b.goes answers
       by_fault NoMemory answers shows asked = ends_memory left' refl b.goes
 
@@ -232,7 +232,7 @@ module _ {App : Type 0} where
       (left' : Option (List ℕ)) (newer : Outputs) (r' : ReaderView App) (batch : TheBatch) (told : List Fate) (a : Account) (audit : Option Total) → x ≡ Err Write → Between c left new r values tally out last →
       AnswersNext (accepted_by c.event_of r left) (Ok (Batch batch)) (accepted_by c.event_of r' left') → 0 < length batch.events.items →
       told ≡ fates (contents values) (by_time (transactions_of batch)) →
-      Adds tally tally' a told → IsSound c.settings.workers a → IsMadeOf (contents values) (transactions_of batch) a.plan → a.strategy ≡ strategy_by c.settings.planning a.plan last →
+      CountsBatch tally tally' a told → IsSoundAccount c.settings.workers a → IsMadeOf (contents values) (transactions_of batch) a.plan → a.strategy ≡ strategy_by c.settings.planning a.plan last →
       IsAudit c.settings (contents values) tally.batches audit a → IsCutIn new (told_lines c.telling.report told) (told_note c.settings tally'.batches audit a) newer → IsTold c (status_of x) tally' newer
   told_cut_in_batch {c} {left} {new} {r} {values} {tally} {tally'} {out} {last} {x} left' newer r' batch told a audit failed b answers some fates_are adds sound made chosen seen cut =
       told_in_batch (accepted_by c.event_of r' left') newer (transactions_of batch) audit failed b.goes answers (simp length-map some) fates_are

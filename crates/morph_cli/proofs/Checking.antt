@@ -10,7 +10,7 @@ use Rattle.interleaving_core.specs.Orders.{Leads}
 use Rattle.op_words.specs.declared.closed.Closed.{Closed}
 use Rattle.op_words.specs.Journals.{IsJournalOf}
 use Rattle.morph_engine.specs.Accounts.{Account}
-use Rattle.morph_engine.specs.Runs.{IsKept, journal_room}
+use Rattle.morph_engine.specs.Runs.{IsJournalledRun, journal_room}
 use Rattle.run_checker.specs.declared.checked.Checked.{Checked}
 use Rattle.run_checker.specs.declared.checked.Checked.TheVariants.{Yes}
 use Rattle.run_checker.specs.Answers.{AreFold, Answers, SettlesWholeFold}
@@ -22,7 +22,7 @@ use Rattle.morph_cli.specs.Tallies.{IsChecked}
 not_cut : (p : Plan) (js : List CoreEvent) → is_cut p js ≡ false → length js ≢ journal_room p
 not_cut p js off same = absurd (true≢false (sym (eq-eqb (length js) (journal_room p) same) ∙ off))
 
-module _ (p : Plan) (closed : Closed) (js : List CoreEvent) (valid : IsPlan p) (kept : IsKept p Lazy (journal_room p) closed) (journal : IsJournalOf p 1 kept.view.room js kept.ended.ends.core) (few : length js ≤ kept.view.room) where
+module _ (p : Plan) (closed : Closed) (js : List CoreEvent) (valid : IsPlan p) (kept : IsJournalledRun p Lazy (journal_room p) closed) (journal : IsJournalOf p 1 kept.view.room js kept.ended.ends.core) (few : length js ≤ kept.view.room) where
   -- a journal that is not cut off leads to what the board shows, where all is settled
   whole_leads : is_cut p js ≡ false → Leads p 1 start js kept.ended.ends.core
   whole_leads off =

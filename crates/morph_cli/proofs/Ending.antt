@@ -11,7 +11,7 @@ use Rattle.event_reader.specs.Steps.{Meaning}
 use Rattle.event_reader.specs.Lines.{front, within}
 use Rattle.event_reader.specs.Accepted.{Accepted, Ending, Ended, RefusedAt, CutOff, with_batch, accepted_within}
 use Rattle.event_reader.specs.declared.past.Past.{Past}
-use Rattle.event_reader.specs.Reader.{LinesView, new_reader, accepted_by, accepted_after, accepted_next, Takes}
+use Rattle.event_reader.specs.Reader.{LinesView, new_reader, accepted_by, accepted_after, accepted_next, TakesBytes}
 use Rattle.morph_engine.specs.Accounts.{Account}
 use Rattle.run_text.specs.Checks.{is_checked}
 use Rattle.run_text.specs.declared.choices.Settings.{Settings}
@@ -25,9 +25,9 @@ use Rattle.snapshot_reader.specs.declared.viewer.Total.{Total}
 use Rattle.morph_cli.specs.Outputs.{Outputs, note_of, with_both, with_batches, AreAudits, IsCutIn, IsAtLast}
 use Rattle.morph_cli.specs.Runs.{EndsSo}
 use Rattle.morph_cli.specs.Status.{status_of}
-use Rattle.run_text.specs.Counts.{Adds, no_tally}
+use Rattle.run_text.specs.Counts.{CountsBatch, no_tally}
 use Rattle.morph_cli.specs.Strategies.{strategy_by}
-use Rattle.morph_cli.specs.Tallies.{IsMadeOf, IsSound, RunTold, IsChecked}
+use Rattle.morph_cli.specs.Tallies.{IsMadeOf, IsSoundAccount, RunTold, IsChecked}
 use Rattle.run_text.specs.Text.{Telling, event_lines, told_lines, run_state, end_text}
 use Rattle.morph_cli.proofs.Noting.{IsNoted, notes_of, noted_nothing, noted_more, IsAudit, told_note, told_note_is, no_audits, audits_more, as_many, checked_more}
 use Rattle.morph_cli.proofs.Running.{RunsOn, IsLast, fronts, runs_start, runs_batch, runs_ended, runs_done, runs_cut, runs_short, runs_cut_in_batch, whole_more, told_more, last_is}
@@ -164,7 +164,7 @@ module _ {App : Type 0} where
 
   -- a batch was run, and counted
   pub tallied_batch : (c : Course App) (now : Option Accepted) (new : Outputs) (s : State) (tally tally' : Tally) (batch : List Transaction) (told : List Fate)
-      (a : Account) → (goes : Goes c now new s tally) → told ≡ fates s (by_time batch) → Adds tally tally' a told → IsSound c.settings.workers a → IsMadeOf s batch a.plan → IsChosen c goes.done a → 0 < length told →
+      (a : Account) → (goes : Goes c now new s tally) → told ≡ fates s (by_time batch) → CountsBatch tally tally' a told → IsSoundAccount c.settings.workers a → IsMadeOf s batch a.plan → IsChosen c goes.done a → 0 < length told →
       Tallied c.settings.planning c.settings.workers (goes.done ++ batch ∷ []) (goes.accounts ++ a ∷ []) tally'
   tallied_batch c now new s tally tally' batch told a goes told_is adds sound made chosen events =
       tallied_more c.settings.planning c.settings.workers goes.done goes.accounts tally tally' batch a told goes.tallied adds sound (subst (λ q. IsMadeOf q batch a.plan) goes.runs.state made) chosen
@@ -174,7 +174,7 @@ module _ {App : Type 0} where
   unfoldable pub goes_batch : (c : Course App) (now next : Option Accepted) (new newer : Outputs) (s t : State) (tally tally' : Tally) (batch : List Transaction)
       (told : List Fate) (a : Account) (audit : Option Total) → (goes : Goes c now new s tally) → 0 < length batch → now ≡ option_map (with_batch batch) next →
       t ≡ after_all s (by_time batch) → told ≡ fates s (by_time batch) → newer ≡ with_both new (told_lines c.telling.report told) (told_note c.settings tally'.batches audit a) →
-      IsAudit c.settings s tally.batches audit a → Adds tally tally' a told → IsSound c.settings.workers a → IsMadeOf s batch a.plan → IsChosen c goes.done a → 0 < length told → Goes c next newer t tally'
+      IsAudit c.settings s tally.batches audit a → CountsBatch tally tally' a told → IsSoundAccount c.settings.workers a → IsMadeOf s batch a.plan → IsChosen c goes.done a → 0 < length told → Goes c next newer t tally'
   goes_batch c now next new newer s t tally tally' batch told a audit goes some was state told_is written seen adds sound made chosen events = record {
     done = goes.done ++ batch ∷ [];
     accounts = goes.accounts ++ a ∷ [];
@@ -229,7 +229,7 @@ module _ {App : Type 0} where
   -- reading failed
   pub ends_read : (c : Course App) (now : Option Accepted) (new : Outputs) (s : State) (tally : Tally) (left left' : Option (List ℕ)) (past : Past) (lines : LinesView) →
       (goes : Goes c now new s tally) → TakesOn (meaning_in c) c.input left past lines goes.done → lines.ended ≡ false →
-      Takes left left' (λ got. accepted_next (meaning_in c) past lines (front (lines.kept ++ got)) ≡ record { batches = []; ending = CutOff }) → Ends c left' (Err Read) new
+      TakesBytes left left' (λ got. accepted_next (meaning_in c) past lines (front (lines.kept ++ got)) ≡ record { batches = []; ending = CutOff }) → Ends c left' (Err Read) new
   ends_read c now new s tally left left' past lines goes takes unended took =
       over_input c (λ input. EndsSo (meaning_in c) c.telling c.limit input left' c.old.sink (Err Read) new.sink) (λ input is.
       takes_failed c.telling (meaning_in c) input left left' c.old.sink new.sink past lines goes.done
@@ -304,7 +304,7 @@ module _ {App : Type 0} where
   pub told_in_batch : {c : Course App} {now : Option Accepted} {new : Outputs} {s : State} {tally tally' : Tally} {x : Result Finish Fault}
       {a : Account} {told : List Fate} (next : Option Accepted) (newer : Outputs) (batch : List Transaction) (audit : Option Total) → x ≡ Err Write → (goes : Goes c now new s tally) →
       now ≡ option_map (with_batch batch) next → 0 < length batch → told ≡ fates s (by_time batch) →
-      Adds tally tally' a told → IsSound c.settings.workers a → IsMadeOf s batch a.plan → IsChosen c goes.done a → 0 < length told →
+      CountsBatch tally tally' a told → IsSoundAccount c.settings.workers a → IsMadeOf s batch a.plan → IsChosen c goes.done a → 0 < length told →
       IsAudit c.settings s tally.batches audit a → IsCutIn new (told_lines c.telling.report told) (told_note c.settings tally'.batches audit a) newer → IsTold c (status_of x) tally' newer
   told_in_batch {c} {now} {new} {s} {tally} {tally'} {x} {a} {told} next newer batch audit failed goes was some told_is adds sound made chosen events seen cut =
       let tallied = tallied_batch c now new s tally tally' batch told a goes told_is adds sound made chosen events in

@@ -17,7 +17,7 @@ use Rattle.decision_model.specs.declared.counts.Last.{Last}
 use Rattle.morph_engine.specs.Accounts.{account_of}
 use Rattle.morph_engine.specs.Fates.{settled_fates}
 use Rattle.event_reader.specs.Accepted.{Accepted, with_batch}
-use Rattle.event_reader.specs.Reader.{new_reader, accepted_by, accepted_after, accepted_next, Takes, ShowsBatch, SameReader}
+use Rattle.event_reader.specs.Reader.{new_reader, accepted_by, accepted_after, accepted_next, TakesBytes, ShowsBatch, SameReader}
 use Rattle.batch_pipe.specs.declared.items.Sent.{Sent}
 use Rattle.batch_pipe.specs.declared.items.Ran.{Ran}
 use Rattle.batch_pipe.specs.declared.tail.Tail.{Tail}
@@ -29,15 +29,15 @@ use Rattle.morph_io.specs.Told.{HasRisen}
 use Rattle.std.proofs.lemmas.Bool.{cases_lt}
 use Rattle.morph_cli.specs.Faults.{fault_of}
 use Rattle.event_reader.specs.Lines.{front as front_lines}
-use Rattle.batch_pipe.specs.Reading.{Stand, stand, Gives, with_batches}
-use Rattle.batch_pipe.specs.Planning.{Stops, MayStop, ArePlansOf, plans_of}
-use Rattle.batch_pipe.specs.Running.{Manner, IsRun, AreRun, picked, state_after, came_of, last_after as pipe_last}
+use Rattle.batch_pipe.specs.Reading.{Stand, stand, GivesBatches, with_batches}
+use Rattle.batch_pipe.specs.Planning.{StopsWithTail, MayStop, ArePlansOf, plans_of}
+use Rattle.batch_pipe.specs.Running.{Manner, IsSentRun, AreRun, picked, state_after, came_of, last_after as pipe_last}
 use Rattle.batch_pipe.specs.Waiting.{PipeView, IsGoing, IsRound, new_pipe, or_else}
 use Rattle.batch_pipe.proofs.Desks.{empty_is, all_middle}
 use Rattle.batch_pipe.proofs.Givings.{gives_nothing, gives_both}
 use Rattle.batch_pipe.proofs.Rounds.{zero_or}
 use Rattle.run_text.specs.declared.tally.Tally.{Tally}
-use Rattle.run_text.specs.Counts.{Adds, HasRoom, no_tally}
+use Rattle.run_text.specs.Counts.{CountsBatch, HasRoom, no_tally}
 use Rattle.run_text.specs.Text.{told_lines}
 use Rattle.morph_cli.specs.declared.fault.Fault.{Fault}
 use Rattle.morph_cli.specs.declared.fault.Fault.TheVariants.{Read, Write}
@@ -45,7 +45,7 @@ use Rattle.morph_cli.specs.declared.run.Finish.{Finish}
 use Rattle.morph_cli.specs.Outputs.{Outputs, with_both, IsCutIn}
 use Rattle.morph_cli.specs.Status.{status_of}
 use Rattle.morph_cli.specs.Strategies.{strategy_by}
-use Rattle.morph_cli.specs.Tallies.{IsMadeOf, IsSound}
+use Rattle.morph_cli.specs.Tallies.{IsMadeOf, IsSoundAccount}
 use Rattle.morph_cli.proofs.Between.{room_for, meaning_is}
 use Rattle.morph_cli.proofs.Taking.{TakesOn}
 use Rattle.morph_cli.proofs.Turns.{cut_text}
@@ -102,7 +102,7 @@ module _ {App : Type 0} where
   -- the pipe stands where its last batch ended, or met its tail behind that
   abbrev pub HasStopped : Course App → Option Tail → (middle at : Stand App) → Type 0
   HasStopped c None middle at = at ≡ middle
-  HasStopped c (Some tail) middle at = tail ≢ RunMemory → Stops c.event_of tail middle at
+  HasStopped c (Some tail) middle at = tail ≢ RunMemory → StopsWithTail c.event_of tail middle at
 
   abbrev pub start_of : Course App → Stand App
   start_of c = stand (new_reader c.app c.size c.limit) c.input
@@ -116,7 +116,7 @@ module _ {App : Type 0} where
     pub state : State
     pub last : Last
     pub goes : Goes c (from_there c (front ++ behind) middle) new state tally
-    pub read : Gives c.event_of (start_of c) ((goes.done ++ front) ++ behind) middle
+    pub read : GivesBatches c.event_of (start_of c) ((goes.done ++ front) ++ behind) middle
     pub stops : HasStopped c b.tail middle (stand b.reader left)
     pub runs : List Sent
     pub front_are : ArePlansOf front (plans_of runs)
@@ -205,8 +205,8 @@ module _ {App : Type 0} where
     -- where the pipe stands after it, and what it has read
     record Onward : Type 0 where
       middle : Stand App
-      read : Gives c.event_of (start_of c) (((p.goes.done ++ p.front) ++ p.behind) ++ q.plans.batches) middle
-      next : Gives c.event_of p.middle q.plans.batches middle
+      read : GivesBatches c.event_of (start_of c) (((p.goes.done ++ p.front) ++ p.behind) ++ q.plans.batches) middle
+      next : GivesBatches c.event_of p.middle q.plans.batches middle
       stops : HasStopped c b'.tail middle (stand b'.reader left')
 
     stopped_by : (tail : Option Tail) (middle at : Stand App) → b'.tail ≡ tail → HasStopped c tail middle at → HasStopped c b'.tail middle at
@@ -222,7 +222,7 @@ module _ {App : Type 0} where
     onward : (t : Option Tail) → b.tail ≡ t → Onward
     onward None is =
         let here : stand b.reader left ≡ p.middle = subst (λ (t : Option Tail). HasStopped c t p.middle (stand b.reader left)) is p.stops in
-        let next = subst (λ (s : Stand App). Gives c.event_of s q.plans.batches q.plans.middle) here q.plans.gives in
+        let next = subst (λ (s : Stand App). GivesBatches c.event_of s q.plans.batches q.plans.middle) here q.plans.gives in
         record {
           middle = q.plans.middle;
           read = gives_both c.event_of ((p.goes.done ++ p.front) ++ p.behind) q.plans.batches p.read next;
@@ -243,8 +243,8 @@ module _ {App : Type 0} where
         subst (λ (s : Stand App). HasStopped c (Some tail) p.middle s) same (subst (λ (t : Option Tail). HasStopped c t p.middle (stand b.reader left)) is p.stops) in
         record {
           middle = p.middle;
-          read = subst (λ l. Gives c.event_of (start_of c) l p.middle) (sym (append-nil ((p.goes.done ++ p.front) ++ p.behind)) ∙ ap (λ l. ((p.goes.done ++ p.front) ++ p.behind) ++ l) (sym nothing)) p.read;
-          next = subst (λ l. Gives c.event_of p.middle l p.middle) (sym nothing) (gives_nothing c.event_of p.middle);
+          read = subst (λ l. GivesBatches c.event_of (start_of c) l p.middle) (sym (append-nil ((p.goes.done ++ p.front) ++ p.behind)) ∙ ap (λ l. ((p.goes.done ++ p.front) ++ p.behind) ++ l) (sym nothing)) p.read;
+          next = subst (λ l. GivesBatches c.event_of p.middle l p.middle) (sym nothing) (gives_nothing c.event_of p.middle);
           stops = by_lost there (lost_or (zero_or (length q.lost)));
         }
       where
@@ -290,7 +290,7 @@ module _ {App : Type 0} where
             audited = p.goes.audited;
             noted = p.goes.noted;
           };
-          read = subst (λ l. Gives c.event_of (start_of c) l o.middle) (parts_are p.goes.done) o.read;
+          read = subst (λ l. GivesBatches c.event_of (start_of c) l o.middle) (parts_are p.goes.done) o.read;
           stops = o.stops;
           runs = q.runs;
           front_are = cut.3;
@@ -328,7 +328,7 @@ module _ {App : Type 0} where
     pub runs_is : p_runs ≡ x ∷ xs
     pub of_batch : transactions x.plan ≡ by_time batch
     pub rest_are : ArePlansOf rest (plans_of xs)
-    pub run : IsRun m s last x r
+    pub run : IsSentRun m s last x r
     pub later : AreRun m (after_all s (transactions x.plan)) (came_of r) xs rs
 
   next_of : (c : Course App) (m : Manner) (front : List (List Transaction)) (runs : List Sent) (s : State) (last : Last) (r : Ran) (rs : List Ran) →
@@ -364,8 +364,8 @@ module _ {App : Type 0} where
     pub is_made : IsMadeOf p.state next.batch r.end.plan
     is_made = record { valid = next.run.valid; events = next.run.events ∙ next.of_batch; bases = next.run.bases }
 
-    pub is_sound : IsSound c.settings.workers (account_of r.end)
-    is_sound = subst (λ n. IsSound n (account_of r.end)) workers next.run.account
+    pub is_sound : IsSoundAccount c.settings.workers (account_of r.end)
+    is_sound = subst (λ n. IsSoundAccount n (account_of r.end)) workers next.run.account
 
     pub is_chosen : IsChosen c p.goes.done (account_of r.end)
     is_chosen = next.run.run_by ∙ next.run.strategy ∙ picks p.last r.end.plan ∙ ap (strategy_by c.settings.planning r.end.plan) p.last_told
@@ -405,7 +405,7 @@ module _ {App : Type 0} where
     ends_in_run left' newer note failed cut_there =
         ends_batch_cut after left' newer next.batch told failed p.goes some_events was told_is (cut_text new (told_lines c.telling.report told) note newer cut_there)
 
-    pub told_in_run : {x : Result Finish Fault} (newer : Outputs) (tally' : Tally) → is_checked c.settings.check ≡ false → x ≡ Err Write → Adds tally tally' (account_of r.end) told →
+    pub told_in_run : {x : Result Finish Fault} (newer : Outputs) (tally' : Tally) → is_checked c.settings.check ≡ false → x ≡ Err Write → CountsBatch tally tally' (account_of r.end) told →
         IsCutIn new (told_lines c.telling.report told) (told_note c.settings tally'.batches None (account_of r.end)) newer → IsTold c (status_of x) tally' newer
     told_in_run newer tally' off failed adds cut_there =
         told_in_batch after newer next.batch None failed p.goes was some_events told_is adds is_sound is_made is_chosen some_told (unseen c.settings p.state tally.batches (account_of r.end) off) cut_there
@@ -413,7 +413,7 @@ module _ {App : Type 0} where
     -- it was written
     pub piped_told : (b' : PipeView App) (newer : Outputs) (tally' : Tally) (out' : List ℕ) → is_checked c.settings.check ≡ false → b' ≡ record b { rans = rs } →
         newer ≡ with_both new (told_lines c.telling.report told) (told_note c.settings tally'.batches None (account_of r.end)) → out' ≡ [] →
-        Adds tally tally' (account_of r.end) told → Piped c m b' left newer tally' out'
+        CountsBatch tally tally' (account_of r.end) told → Piped c m b' left newer tally' out'
     unfolding goes_batch state_after pipe_last
     piped_told b' newer tally' out' off same written empty adds =
         subst (λ (v : PipeView App). Piped c m v left newer tally' out') (sym same) record {
@@ -424,7 +424,7 @@ module _ {App : Type 0} where
           last = came_of r;
           goes = goes_batch c (from_there c (p.front ++ p.behind) p.middle) after new newer p.state (after_all p.state (transactions next.x.plan)) tally tally' next.batch told (account_of r.end) None p.goes
               some_events was (ap (after_all p.state) next.of_batch) told_is written (unseen c.settings p.state tally.batches (account_of r.end) off) adds is_sound is_made is_chosen some_told;
-          read = subst (λ l. Gives c.event_of (start_of c) l p.middle)
+          read = subst (λ l. GivesBatches c.event_of (start_of c) l p.middle)
               (all_is p.goes.done ∙ sym (append_assoc p.goes.done (next.batch ∷ []) (next.rest ++ p.behind)) ∙ sym (append_assoc (p.goes.done ++ next.batch ∷ []) next.rest p.behind)) p.read;
           stops = p.stops;
           runs = next.xs;
@@ -453,8 +453,8 @@ module _ {App : Type 0} where
   -- the run is over: no batch is left to tell, and this is where the reader stopped
   pub record IsOverAt (c : Course App) (tail : Tail) (middle at : Stand App) (new : Outputs) (s : State) (tally : Tally) : Type 0 where
     pub goes : Goes c (accepted_by c.event_of middle.reader middle.left) new s tally
-    pub read : Gives c.event_of (start_of c) goes.done middle
-    pub stops : Stops c.event_of tail middle at
+    pub read : GivesBatches c.event_of (start_of c) goes.done middle
+    pub stops : StopsWithTail c.event_of tail middle at
 
   module _ {c : Course App} {m : Manner} {b : PipeView App} {left : Option (List ℕ)} {new : Outputs} {tally : Tally} {out : List ℕ}
       (p : Piped c m b left new tally out) (none : b.rans ≡ []) where
@@ -495,7 +495,7 @@ module _ {App : Type 0} where
             audited = p.goes.audited;
             noted = p.goes.noted;
           };
-          read = subst (λ l. Gives c.event_of (start_of c) l p.middle) done p.read;
+          read = subst (λ l. GivesBatches c.event_of (start_of c) l p.middle) done p.read;
           stops = (subst (λ (t : Option Tail). HasStopped c t p.middle (stand b.reader left)) is p.stops) other;
         }
 
@@ -521,7 +521,7 @@ module _ {App : Type 0} where
       subst (λ y. Ends c at.left y new) (sym failed)
       (ends_read c (accepted_by c.event_of middle.reader middle.left) new s tally middle.left at.left middle.reader.past middle.reader.lines o.goes
       (takes_over c (Unread ReadFault) middle at new s tally o) (o.stops.asked refl)
-      (subst (λ m. Takes middle.left at.left (ShowsBatch m middle.reader.past middle.reader.lines (Err ReadFault) at.reader.past at.reader.lines)) (meaning_is c middle.reader o.read.same.0 o.read.same.1) o.stops.shows))
+      (subst (λ m. TakesBytes middle.left at.left (ShowsBatch m middle.reader.past middle.reader.lines (Err ReadFault) at.reader.past at.reader.lines)) (meaning_is c middle.reader o.read.same.0 o.read.same.1) o.stops.shows))
 
   -- ---- the ends of a run
 

@@ -8,7 +8,7 @@ use Rattle.event_reader.specs.Steps.{Meaning}
 use Rattle.event_reader.specs.Accepted.{Accepted, CutOff, accepted_first, closed_batches}
 use Rattle.event_reader.specs.declared.answers.Next.TheVariants.{Batch}
 use Rattle.event_reader.specs.declared.past.Past.{Past}
-use Rattle.event_reader.specs.Reader.{LinesView, new_lines, no_past, accepted_next, Takes, ShowsBatch}
+use Rattle.event_reader.specs.Reader.{LinesView, new_lines, no_past, accepted_next, TakesBytes, ShowsBatch}
 use Rattle.run_text.specs.Text.{Telling, event_lines}
 use Rattle.morph_cli.specs.Runs.{AppendsClosed}
 use Rattle.morph_cli.proofs.Running.{fronts, with_batch-fronts}
@@ -29,7 +29,7 @@ takes_start meaning limit input = record { taken = []; parts = sym (ahead_nil in
 pub takes_batch : (meaning : Meaning) (input left left' : Option (List ℕ)) (past past' : Past) (lines lines' : LinesView)
     (done : List (List Transaction)) (batch : TheBatch) → TakesOn meaning input left past lines done → 0 < length (transactions_of batch) →
     (lines'.ended ≡ false → lines.ended ≡ false) →
-    Takes left left' (ShowsBatch meaning past lines (Ok (Batch batch)) past' lines') →
+    TakesBytes left left' (ShowsBatch meaning past lines (Ok (Batch batch)) past' lines') →
     TakesOn meaning input left' past' lines' (done ++ transactions_of batch ∷ [])
 takes_batch meaning input left left' past past' lines lines' done batch on some unended more_taken = record {
   taken = on.taken ++ more_taken.got;
@@ -49,7 +49,7 @@ nothing_told input front back e = cc
 -- the source failed: what was done are the batches that are closed within the bytes taken
 pub takes_failed : (telling : Telling) (meaning : Meaning) (input : List ℕ) (left left' old new : Option (List ℕ)) (past : Past) (lines : LinesView)
     (done : List (List Transaction)) → TakesOn meaning (Some input) left past lines done → lines.ended ≡ false →
-    Takes left left' (λ got. accepted_next meaning past lines (front (lines.kept ++ got)) ≡ record { batches = []; ending = CutOff }) →
+    TakesBytes left left' (λ got. accepted_next meaning past lines (front (lines.kept ++ got)) ≡ record { batches = []; ending = CutOff }) →
     new ≡ behind old (event_lines telling.report done) → AppendsClosed telling.report meaning input left' old new
 takes_failed telling meaning input left None old new past lines done on unended last appended =
     absurd (let e = on.parts ∙ ap (ahead on.taken) last.taken in nothing_told input on.taken last.got e)

@@ -11,7 +11,7 @@ use Rattle.decision_model.specs.declared.counts.Last.{Last}
 use Rattle.morph_engine.specs.Accounts.{account_of}
 use Rattle.morph_engine.specs.Fates.{settled_fates}
 use Rattle.event_reader.specs.declared.answers.Next.TheVariants.{Batch}
-use Rattle.event_reader.specs.Reader.{ReaderView, accepted_by, AnswersNext, ShowsNext, Takes}
+use Rattle.event_reader.specs.Reader.{ReaderView, accepted_by, AnswersNext, ShowsNext, TakesBytes}
 use Rattle.run_text.specs.declared.choices.Settings.{Settings}
 use Rattle.run_text.specs.declared.tally.Tally.{Tally}
 use Rattle.run_text.specs.Reports.{report_of}
@@ -20,7 +20,7 @@ use Rattle.snapshot_reader.specs.Steady.{Posted}
 use Rattle.morph_cli.specs.declared.fault.Fault.{Fault}
 use Rattle.morph_cli.specs.declared.fault.Fault.TheVariants.{Read, Write, OutOfMemory as NoMemory, TooLong}
 use Rattle.morph_cli.specs.declared.run.Finish.{Finish}
-use Rattle.morph_cli.specs.Batches.{IsShown, IsTaken, IsTakenWhole, TakesBatch, TellsBatch, also_posted, note_of_batch}
+use Rattle.morph_cli.specs.Batches.{IsShown, IsBatchTaken, IsTakenWhole, TakesBatch, TellsBatch, also_posted, note_of_batch}
 use Rattle.morph_cli.specs.Outputs.{Outputs, with_both, IsCutIn}
 use Rattle.morph_cli.specs.Status.{status_of}
 use Rattle.morph_cli.specs.Strategies.{strategy_by}
@@ -55,7 +55,7 @@ few_batches b short =
 
 -- a batch that was run, and then told so, was taken so
 module _ {s : Settings} {last : Last} {before : Kept} {posted posted'' : Option Posted} {batch : TheBatch} {t t' : Tally} (old new : Outputs) (last' : Last) (after : Kept) (posted' : Option Posted)
-    (taken : IsTaken s last before posted batch t t') (state : contents after ≡ fold_batch batch (contents before)) (same : posted'' ≡ posted) where
+    (taken : IsBatchTaken s last before posted batch t t') (state : contents after ≡ fold_batch batch (contents before)) (same : posted'' ≡ posted) where
   pub takes_told : (x : Result (Unit {0}) Fault) → TellsBatch x s taken.end taken.audit posted'' posted' t'.batches last' old new → TakesBatch x s last before after posted posted' batch t t' last' old new
   takes_told (Ok done) tells = (record { taken = taken; state = state; written = tells.0 }, tells.1, tells.2 ∙ ap (also_posted taken.end.plan) same)
   takes_told (Err Write) tells = (taken, tells)
@@ -81,14 +81,14 @@ module _ {App : Type 0} {c : Course App} {left : Option (List ℕ)} {new : Outpu
     (shown : IfSome posted (IsShown values.layout tally.batches (contents values))) (watch : IsSome posted → IsTrue c.settings.watch)
     (answers : AnswersNext (accepted_by c.event_of r left) (Ok (Batch batch)) (accepted_by c.event_of r' left')) (some : 0 < length batch.events.items) where
   -- what was seen beside it is the audit of the values before it
-  audit_taken : {tally' : Tally} (t : IsTaken c.settings last values posted batch tally tally') → IsAudit c.settings (contents values) tally.batches t.audit (account_of t.end)
+  audit_taken : {tally' : Tally} (t : IsBatchTaken c.settings last values posted batch tally tally') → IsAudit c.settings (contents values) tally.batches t.audit (account_of t.end)
   audit_taken t = audit_is values.layout tally.batches (contents values) c.settings posted t.audit (account_of t.end) shown watch (ap (λ (l : _). l.size) b.layout ∙ size) t.seen t.ran.checked
 
-  some_told : {tally' : Tally} (t : IsTaken c.settings last values posted batch tally tally') → 0 < length (settled_fates t.end.plan t.end.settled)
+  some_told : {tally' : Tally} (t : IsBatchTaken c.settings last values posted batch tally tally') → 0 < length (settled_fates t.end.plan t.end.settled)
   some_told t = let many = fates-many (contents values) batch (settled_fates t.end.plan t.end.settled) t.ran.fates_are in omega (arith, many, some)
 
   -- a write failed in it
-  cut_taken : {tally' : Tally} {newer : Outputs} (t : IsTaken c.settings last values posted batch tally tally') →
+  cut_taken : {tally' : Tally} {newer : Outputs} (t : IsBatchTaken c.settings last values posted batch tally tally') →
       IsCutIn new (told_lines (report_of c.settings) (settled_fates t.end.plan t.end.settled)) (note_of_batch c.settings tally'.batches t.audit t.end) newer →
       IsCutIn new (told_lines c.telling.report (settled_fates t.end.plan t.end.settled)) (note_of_batch c.settings tally'.batches t.audit t.end) newer
   cut_taken {tally'} {newer} t cut = subst (λ q. IsCutIn new (told_lines q (settled_fates t.end.plan t.end.settled)) (note_of_batch c.settings tally'.batches t.audit t.end) newer) report cut
@@ -129,7 +129,7 @@ module _ {App : Type 0} {c : Course App} {left : Option (List ℕ)} {new : Outpu
   -- and what holds behind it
   pub between_taken : (u : Unit {0}) (values' : Kept) (posted' : Option Posted) (tally' : Tally) (out' : List ℕ) (last' : Last) (newer : Outputs) →
       TakesBatch (Ok u) c.settings last values values' posted posted' batch tally tally' last' new newer →
-      Takes left left' (ShowsNext c.event_of r (Ok (Batch batch)) r') → r.lines.number + length batch.events.items ≤ r'.lines.number → r'.lines.number ≤ r'.lines.limit + 1 →
+      TakesBytes left left' (ShowsNext c.event_of r (Ok (Batch batch)) r') → r.lines.number + length batch.events.items ≤ r'.lines.number → r'.lines.number ≤ r'.lines.limit + 1 →
       (r'.app ≡ r.app) × (r'.size ≡ r.size) × (r'.lines.limit ≡ r.lines.limit) →
       (r'.lines.ended ≡ false → r.lines.ended ≡ false) → r'.live ≡ true → values'.layout ≡ values.layout → out' ≡ [] → Between c left' newer r' values' tally' out' last'
   between_taken u values' posted' tally' out' last' newer takes shows counted bound same unended live layout_is empty =

@@ -25,17 +25,17 @@ use Rattle.run_text.specs.declared.choices.Planning.{Planning}
 use Rattle.run_text.specs.declared.choices.Planning.TheVariants.{Fixed}
 use Rattle.run_text.specs.declared.tally.Tally.{Tally}
 use Rattle.run_text.specs.Text.{in_order, run_state, run_fates, committed_in, aborted_in}
-use Rattle.run_text.specs.Counts.{Adds, counted_to, no_tally}
+use Rattle.run_text.specs.Counts.{CountsBatch, counted_to, no_tally}
 use Rattle.run_text.proofs.Workers.{counted_more, counts_of_none, settled_beyond}
 use Rattle.steal_explorer.specs.Dealing.{level_one}
 use Rattle.morph_cli.specs.Strategies.{last_from, strategy_by}
 use Rattle.decision_model.specs.Choices.{last_of, no_last}
-use Rattle.morph_cli.specs.Tallies.{IsMadeOf, AreRunFrom, IsSound, AreLazy, AreExploredBy, IsTallyOf, IsLazyTally, IsFounded, IsBalancedBy, IsBalanced, committed_by_workers, dealt_by, dealt_count}
+use Rattle.morph_cli.specs.Tallies.{IsMadeOf, AreRunFrom, IsSoundAccount, AreLazy, AreExploredBy, IsTallyOf, IsLazyTally, IsFounded, IsBalancedBy, IsBalanced, committed_by_workers, dealt_by, dealt_count}
 
 -- between two batches: the accounts of those that were done, and their tally with the bounds of its numbers
 pub record Tallied (planning : Planning) (workers : ℕ) (done : List (List Transaction)) (accounts : List Account) (t : Tally) : Type 0 where
   pub ran : AreRunFrom planning opening_state no_last done accounts
-  pub sound : All (IsSound workers) accounts
+  pub sound : All (IsSoundAccount workers) accounts
   pub counts : IsTallyOf done accounts t
   pub founded : IsFounded workers accounts t
   pub balanced : IsBalanced planning workers t
@@ -116,7 +116,7 @@ balanced_start planning workers = record {
 at_start : (planning : Planning) (workers : ℕ) → Tallied planning workers [] [] no_tally
 at_start planning workers = record {
   ran = nothing_ran planning;
-  sound = All-nil (IsSound workers);
+  sound = All-nil (IsSoundAccount workers);
   counts = record {
     batches = refl;
     events = refl;
@@ -176,14 +176,14 @@ all_last P [] x all = all 0 x (omega arith)
 all_last P (y ∷ ys) x all = all_last P ys x (All-tail P y (ys ++ x ∷ []) all)
 
 -- an account of a batch is as its way to abort and its way to explore say
-at_lazy : (workers : ℕ) (a : Account) → IsSound workers a → a.strategy.abort ≡ Lazy → (a.counts.evaluated + a.counts.spread ≤ 2 * op_count a.plan) × (a.counts.spread + a.counts.rolled ≤ op_count a.plan)
+at_lazy : (workers : ℕ) (a : Account) → IsSoundAccount workers a → a.strategy.abort ≡ Lazy → (a.counts.evaluated + a.counts.spread ≤ 2 * op_count a.plan) × (a.counts.spread + a.counts.rolled ≤ op_count a.plan)
 at_lazy workers a sound is =
     let cap : cap_for a.strategy.abort ≡ 1 = ap cap_for is in
     let evaluated : a.counts.evaluated + a.counts.spread ≤ (1 + 1) * op_count a.plan = subst (λ n. a.counts.evaluated + a.counts.spread ≤ (n + 1) * op_count a.plan) cap sound.evaluated in
     let rolled : a.counts.spread + a.counts.rolled ≤ 1 * op_count a.plan = subst (λ n. a.counts.spread + a.counts.rolled ≤ n * op_count a.plan) cap sound.rolled in
     (omega (arith, evaluated), omega (arith, rolled))
 
-pub at_any : (workers : ℕ) (a : Account) → IsSound workers a → (a.counts.evaluated + a.counts.spread ≤ 8 * op_count a.plan) × (a.counts.spread + a.counts.rolled ≤ 7 * op_count a.plan)
+pub at_any : (workers : ℕ) (a : Account) → IsSoundAccount workers a → (a.counts.evaluated + a.counts.spread ≤ 8 * op_count a.plan) × (a.counts.spread + a.counts.rolled ≤ 7 * op_count a.plan)
 at_any workers a sound =
     let cap = cap_most a.strategy.abort in
     let evaluated = sound.evaluated in
@@ -192,7 +192,7 @@ at_any workers a sound =
     let some : cap_for a.strategy.abort * op_count a.plan ≤ 7 * op_count a.plan = mul-le-mul_right (op_count a.plan) cap in
     (omega (arith, evaluated, more), omega (arith, rolled, some))
 
-dealt_few : (workers : ℕ) (a : Account) → IsSound workers a → dealt_count a ≤ a.handed
+dealt_few : (workers : ℕ) (a : Account) → IsSoundAccount workers a → dealt_count a ≤ a.handed
 dealt_few workers a sound = by_explore a.strategy.explore sound.dealt
   where
     by_explore : (e : Explore) → (e ≡ Steal → length (level_one a.plan) ≤ a.handed) → dealt_by e a.plan ≤ a.handed
@@ -200,7 +200,7 @@ dealt_few workers a sound = by_explore a.strategy.explore sound.dealt
     by_explore Steal dealt = dealt refl
 
 module _ (planning : Planning) (workers : ℕ) (done : List (List Transaction)) (accounts : List Account) (t t' : Tally) (batch : List Transaction) (a : Account) (fs : List Fate)
-    (so_far : Tallied planning workers done accounts t) (adds : Adds t t' a fs) (sound : IsSound workers a) where
+    (so_far : Tallied planning workers done accounts t) (adds : CountsBatch t t' a fs) (sound : IsSoundAccount workers a) where
   counts_more : run_fates (done ++ batch ∷ []) ≡ run_fates done ++ fs → IsTallyOf (done ++ batch ∷ []) (accounts ++ a ∷ []) t'
   counts_more told =
       let counts = so_far.counts in
@@ -309,7 +309,7 @@ module _ (planning : Planning) (workers : ℕ) (done : List (List Transaction)) 
       let ran = ran_more planning opening_state no_last done accounts batch a so_far.ran made chosen in
       record {
         ran = ran;
-        sound = All-append (IsSound workers) accounts (a ∷ []) so_far.sound (All-cons (IsSound workers) a [] sound (All-nil (IsSound workers)));
+        sound = All-append (IsSoundAccount workers) accounts (a ∷ []) so_far.sound (All-cons (IsSoundAccount workers) a [] sound (All-nil (IsSoundAccount workers)));
         counts = counts_more told;
         founded = founded_more;
         balanced = balanced_more ran;

@@ -3,7 +3,7 @@ use Rattle.std.proofs.Common.{◌≡◌, inl, inr, ℕ, List, Option, Result, Ok
 use Rattle.std.specs.Prelude.{IsErr, OnOk, OnErr}
 use Rattle.morph_io.specs.Told.{behind, AppendsPrefix, HasRisen}
 use Rattle.morph_io.specs.Writing.{AppendsPart, part_is_prefix}
-use Rattle.morph_cli.specs.Outputs.{Outputs, outputs_of, with_both, IsCutIn, Tells}
+use Rattle.morph_cli.specs.Outputs.{Outputs, outputs_of, with_both, IsCutIn, WritesBoth}
 use Rattle.morph_cli.specs.Status.{EndsWith}
 use Rattle.morph_cli.proofs.Noting.{prefix_all}
 
@@ -27,13 +27,13 @@ both_as old old' text text' note note' new old_is text_is note_is written =
 
 -- the text was written, and of the note this came
 pub tells_behind : {T E : Type 0} (r : Result T E) (sink sink' notes notes' : Option (List ℕ)) (text note : List ℕ) → sink' ≡ behind sink text →
-    OnOk r (notes' ≡ behind notes note) → OnErr r (AppendsPart notes note notes') → Tells r (outputs_of sink notes) text note (outputs_of sink' notes')
+    OnOk r (notes' ≡ behind notes note) → OnErr r (AppendsPart notes note notes') → WritesBoth r (outputs_of sink notes) text note (outputs_of sink' notes')
 tells_behind (Ok done) sink sink' notes notes' text note written noted cut = both_is (outputs_of sink' notes') (behind sink text) (behind notes note) written noted
 tells_behind (Err fault) sink sink' notes notes' text note written noted cut = inr (written, cut)
 
 -- a write of the text failed
 pub tells_cut : {T E : Type 0} (r : Result T E) (sink sink' notes : Option (List ℕ)) (text note : List ℕ) → IsErr r →
-    AppendsPart sink text sink' → Tells r (outputs_of sink notes) text note (outputs_of sink' notes)
+    AppendsPart sink text sink' → WritesBoth r (outputs_of sink notes) text note (outputs_of sink' notes)
 tells_cut (Ok done) sink sink' notes text note failed cut = absurd (cc)
 tells_cut (Err fault) sink sink' notes text note failed cut = inl (cut, refl)
 

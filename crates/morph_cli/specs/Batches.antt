@@ -1,4 +1,4 @@
--- What came of a batch that was run, and what was seen of the balances beside it.
+-- The result of a batch that was run, and what was seen of the balances beside it
 use Rattle.std.specs.Prelude.{◌≡◌, ℕ, ◌⊎◌, List, [], ◌∷◌, ◌++◌, length, Option, Some, None, IfSome, IsTrue, Result, Ok, Err}
 use Rattle.morph_base.specs.declared.event.Batch.{Batch}
 use Rattle.morph_base.specs.declared.key.Layout.{Layout}
@@ -15,7 +15,7 @@ use Rattle.morph_engine.specs.Fates.{settled_fates}
 use Rattle.decision_model.specs.Choices.{last_of}
 use Rattle.run_text.specs.declared.choices.Settings.{Settings}
 use Rattle.run_text.specs.declared.tally.Tally.{Tally}
-use Rattle.run_text.specs.Counts.{Adds}
+use Rattle.run_text.specs.Counts.{CountsBatch}
 use Rattle.run_text.specs.Checks.{is_checked}
 use Rattle.run_text.specs.Reports.{report_of}
 use Rattle.run_text.specs.Text.{told_lines}
@@ -27,78 +27,89 @@ use Rattle.morph_cli.specs.declared.fault.Fault.{Fault}
 use Rattle.morph_cli.specs.declared.fault.Fault.TheVariants.{Read, Write, OutOfMemory as NoMemory, TooLong}
 use Rattle.morph_cli.specs.Outputs.{Outputs, audit_of, own_note, with_both, IsCutIn}
 use Rattle.morph_cli.specs.Strategies.{strategy_by}
-use Rattle.morph_cli.specs.Tallies.{IsMadeOf, IsSound, IsChecked}
+use Rattle.morph_cli.specs.Tallies.{IsMadeOf, IsSoundAccount, IsChecked}
 
--- a batch was run on these values as the settings ask for; `last` is what came of the batch before it
+-- A batch was run on these values as the settings ask for: the fates of its events, its plan, what was settled, its
+-- strategy and its account, whose journal was checked if journals are. `last` is the outcome of the batch before it
 pub record IsEndOf (s : Settings) (last : Last) (before : Kept) (batch : Batch) (end : BatchEnd) : Type 0 where
   pub fates_are : settled_fates end.plan end.settled ≡ fates (contents before) (by_time (transactions_of batch))
   pub made : IsMadeOf (contents before) (transactions_of batch) end.plan
   pub keys : PlanKeysIn end.plan before.layout
   pub settled : IsSettledOf end.plan end.settled
   pub strategy : end.strategy ≡ strategy_by s.planning end.plan last
-  pub account : IsSound s.workers (account_of end)
+  pub account : IsSoundAccount s.workers (account_of end)
   pub checked : IsTrue (is_checked s.check) → IsChecked (account_of end)
 
--- what a viewer saw are the balances after all batches that were published: how many these are, and the sum of the first table.
--- Where nothing is published nothing is seen
+-- What a viewer saw are the balances after all batches that were published: how many these are, and the sum of the
+-- first table. If nothing is published, nothing is seen
 abbrev pub IsSeen : Option Posted → Total → Type 0
 IsSeen None total = ⊥
-IsSeen (Some posted) total = (total.number ≡ length posted.plans) × (total.total ≡ total_of (after_plans posted.plans) 0 posted.layout.size)
+IsSeen (Some posted) total =
+    (total.number ≡ length posted.plans) × (total.total ≡ total_of (after_plans posted.plans) 0 posted.layout.size)
 
--- what is published once one batch more is, where anything is
+-- What is published once one more batch is
 abbrev pub with_plan : Plan → Posted → Posted
 with_plan plan posted = record posted { plans = posted.plans ++ plan ∷ [] }
 
+-- What is published once one more batch is, if anything is published at all
 abbrev pub also_posted : Plan → Option Posted → Option Posted
 also_posted plan None = None
 also_posted plan (Some posted) = Some (with_plan plan posted)
 
--- the balances that are shown are a state, after so many batches
+-- The balances that are shown are those of the state s, after this many batches
 pub record IsShown (layout : Layout) (batches : ℕ) (s : State) (posted : Posted) : Type 0 where
   pub layout_is : posted.layout ≡ layout
   pub count : length posted.plans ≡ batches
   pub state : after_plans posted.plans ≡ s
 
--- a batch was run, told and counted: how it was run, and what was seen beside it
-pub record IsTaken (s : Settings) (last : Last) (before : Kept) (posted : Option Posted) (batch : Batch) (t t' : Tally) : Type 0 where
+-- A batch was run and counted: how it was run, and what was seen beside it
+pub record IsBatchTaken (s : Settings) (last : Last) (before : Kept) (posted : Option Posted) (batch : Batch)
+    (t t' : Tally) : Type 0 where
   pub end : BatchEnd
   pub audit : Option Total
   pub ran : IsEndOf s last before batch end
   pub seen : IfSome audit (IsSeen posted)
-  pub adds : Adds t t' (account_of end) (settled_fates end.plan end.settled)
+  pub adds : CountsBatch t t' (account_of end) (settled_fates end.plan end.settled)
 
--- its lines, and what stands of it in the notes
+-- The lines of a batch that was run
 abbrev pub lines_of_batch : Settings → BatchEnd → List ℕ
 lines_of_batch s end = told_lines (report_of s) (settled_fates end.plan end.settled)
 
+-- What the notes have of a batch: what was seen beside it, and what is noted of the batch itself
 abbrev pub note_of_batch : Settings → (number : ℕ) → Option Total → BatchEnd → List ℕ
 note_of_batch s number audit end = audit_of audit ++ own_note s number (account_of end)
 
--- the batch was taken whole: it was written and noted, and the values are those behind it
-pub record IsTakenWhole (s : Settings) (last : Last) (before after : Kept) (posted : Option Posted) (batch : Batch) (t t' : Tally) (old new : Outputs) : Type 0 where
-  pub taken : IsTaken s last before posted batch t t'
+-- The batch was taken whole: it was written and noted, and the values are those after it
+pub record IsTakenWhole (s : Settings) (last : Last) (before after : Kept) (posted : Option Posted) (batch : Batch)
+    (t t' : Tally) (old new : Outputs) : Type 0 where
+  pub taken : IsBatchTaken s last before posted batch t t'
   pub state : contents after ≡ fold_batch batch (contents before)
   pub written : new ≡ with_both old (lines_of_batch s taken.end) (note_of_batch s t'.batches taken.audit taken.end)
 
--- what a call did that tells a batch which was run, with its number: all of it, and it was published; or a write failed; or memory was
--- refused to publish it
-abbrev pub TellsBatch : {T : Type 0} → Result T Fault → Settings → BatchEnd → Option Total → (posted posted' : Option Posted) → (number : ℕ) → (last : Last) → (old new : Outputs) → Type 0
+-- What a call did that writes a batch which was run, with its number. Either all of it was written and the batch was
+-- published, or a write failed, and a part of it was written, or memory was refused to publish it
+abbrev pub TellsBatch : {T : Type 0} → Result T Fault → Settings → BatchEnd → Option Total
+    → (posted posted' : Option Posted) → (number : ℕ) → (last : Last) → (old new : Outputs) → Type 0
 TellsBatch (Ok done) s end audit posted posted' number last old new =
     (new ≡ with_both old (lines_of_batch s end) (note_of_batch s number audit end))
     × (last ≡ last_of (settled_fates end.plan end.settled)) × (posted' ≡ also_posted end.plan posted)
-TellsBatch (Err Write) s end audit posted posted' number last old new = IsCutIn old (lines_of_batch s end) (note_of_batch s number audit end) new
-TellsBatch (Err NoMemory) s end audit posted posted' number last old new = new ≡ with_both old (lines_of_batch s end) (note_of_batch s number audit end)
+TellsBatch (Err Write) s end audit posted posted' number last old new =
+    IsCutIn old (lines_of_batch s end) (note_of_batch s number audit end) new
+TellsBatch (Err NoMemory) s end audit posted posted' number last old new =
+    new ≡ with_both old (lines_of_batch s end) (note_of_batch s number audit end)
 TellsBatch (Err Read) s end audit posted posted' number last old new = ⊥
 TellsBatch (Err TooLong) s end audit posted posted' number last old new = ⊥
 
--- what a call did that takes a batch: all of it, and it was published; or a write failed; or memory was refused, to run it, where nothing was done,
--- or to publish it
-abbrev pub TakesBatch : {T : Type 0} → Result T Fault → Settings → (last : Last) → (before after : Kept) → (posted posted' : Option Posted) → Batch → (t t' : Tally) → (last' : Last) → (old new : Outputs) → Type 0
+-- What a call did that takes a batch. Either all was done and the batch was published, or a write failed, and a part of
+-- it was written, or memory was refused: to run it, and then nothing was done, or to publish it, and then all else was
+abbrev pub TakesBatch : {T : Type 0} → Result T Fault → Settings → (last : Last) → (before after : Kept)
+    → (posted posted' : Option Posted) → Batch → (t t' : Tally) → (last' : Last) → (old new : Outputs) → Type 0
 TakesBatch (Ok done) s last before after posted posted' batch t t' last' old new =
     (whole : IsTakenWhole s last before after posted batch t t' old new)
-    × (last' ≡ last_of (settled_fates whole.taken.end.plan whole.taken.end.settled)) × (posted' ≡ also_posted whole.taken.end.plan posted)
+    × (last' ≡ last_of (settled_fates whole.taken.end.plan whole.taken.end.settled))
+    × (posted' ≡ also_posted whole.taken.end.plan posted)
 TakesBatch (Err Write) s last before after posted posted' batch t t' last' old new =
-    (taken : IsTaken s last before posted batch t t') × IsCutIn old (lines_of_batch s taken.end) (note_of_batch s t'.batches taken.audit taken.end) new
+    (taken : IsBatchTaken s last before posted batch t t') × IsCutIn old (lines_of_batch s taken.end) (note_of_batch s t'.batches taken.audit taken.end) new
 TakesBatch (Err NoMemory) s last before after posted posted' batch t t' last' old new =
     ((new ≡ old) × (t' ≡ t)) ⊎ IsTakenWhole s last before after posted batch t t' old new
 TakesBatch (Err Read) s last before after posted posted' batch t t' last' old new = ⊥

@@ -1,5 +1,6 @@
--- What stands in the sink and in the notes, by the order of the writes: the lines of a batch, its audit line and its own line in the notes, then the
--- lines of the next one; at the end the closing or the refused text, and then the tally.
+-- What stands in the sink and in the notes, by the order of the writes: the lines of a batch, its audit line and its
+-- own line in the notes, then those of the next batch, and at the end the closing or the refused text, and then the
+-- tally
 use Rattle.std.specs.Prelude.{◌≡◌, ℕ, ◌+◌, ◌⊎◌, ◌||◌, Bool, true, false, All, List, [], ◌∷◌, ◌++◌, length, Option, Some, None, IfSome, Result, Ok, Err}
 use Rattle.morph_base.specs.Transactions.{Transaction, by_time}
 use Rattle.morph_engine.specs.Accounts.{Account}
@@ -16,69 +17,77 @@ use Rattle.run_text.specs.Checks.{is_checked}
 use Rattle.snapshot_reader.specs.declared.viewer.Total.{Total}
 use Rattle.version_table.specs.Totals.{total_of}
 
--- what the sink and the notes tell of the bytes that were written to them
+-- The bytes that the sink and the notes reveal to have been written to them
 pub record Outputs : Type 0 where
   pub sink : Option (List ℕ)
   pub notes : Option (List ℕ)
 
+-- The outputs of this sink and these notes
 abbrev pub outputs_of : (sink notes : Option (List ℕ)) → Outputs
 outputs_of sink notes = record { sink = sink; notes = notes }
 
--- a text was written, and then a note
+-- The outputs after a text was written to the sink, and then a note to the notes
 abbrev pub with_both : Outputs → (text note : List ℕ) → Outputs
 with_both old text note = outputs_of (behind old.sink text) (behind old.notes note)
 
--- one of the two writes failed: of the text a part stands, and nothing of the note; or the whole text, and of the note a part
+-- One of the two writes failed: either a part of the text was written and nothing of the note, or the whole text and a
+-- part of the note. Something is missing of what was cut
 abbrev pub IsCutIn : Outputs → (text note : List ℕ) → Outputs → Type 0
 IsCutIn old text note new =
     (AppendsPart old.sink text new.sink × (new.notes ≡ old.notes)) ⊎ ((new.sink ≡ behind old.sink text) × AppendsPart old.notes note new.notes)
 
--- both by the answer of the call that writes them
-abbrev pub Tells : {T E : Type 0} → Result T E → Outputs → (text note : List ℕ) → Outputs → Type 0
-Tells (Ok done) old text note new = new ≡ with_both old text note
-Tells (Err fault) old text note new = IsCutIn old text note new
+-- The text and the note were written, if the call's answer is a success, and else one of the two writes failed
+abbrev pub WritesBoth : {T E : Type 0} → Result T E → Outputs → (text note : List ℕ) → Outputs → Type 0
+WritesBoth (Ok done) old text note new = new ≡ with_both old text note
+WritesBoth (Err fault) old text note new = IsCutIn old text note new
 
--- whether a batch is told in the notes: where they are on, the balances are watched, or journals are checked
+-- The test whether a batch is mentioned in the notes: if they are on, the balances are watched, or journals are checked
 abbrev pub has_notes : Settings → Bool
 has_notes s = s.notes || (s.watch || is_checked s.check)
 
--- the audit line of what was seen; where nothing was, nothing
+-- The audit line of what was seen; nothing if nothing was seen
 abbrev pub audit_of : Option Total → List ℕ
 audit_of None = []
 audit_of (Some seen) = audit_note seen.number seen.total
 
--- the audit line of a batch, where it has one: how many batches are before it, and the sum of the first table in the state before it
+-- The audit line of a batch, if it has one: how many batches are before it, and the sum of the first table in the state
+-- before it
 abbrev pub audit_before : (size : ℕ) → State → (before : ℕ) → (audited : Bool) → List ℕ
 audit_before size s before true = audit_note before (total_of s 0 size)
 audit_before size s before false = []
 
--- the line of a batch, where the notes are on, and what came of its journal behind it, where journals are checked
+-- The line of a batch, if the notes are on, and then the outcome of its journal, if journals are checked
 abbrev pub own_note : Settings → (number : ℕ) → Account → List ℕ
 own_note s number a = noted s.notes (batch_note number a.plan a.strategy) ++ check_notes s.check number a.plan a.journal
 
--- what stands in the notes of a batch: its audit line, where it has one, and behind it what is noted of itself
+-- What the notes have of a batch: its audit line, if it has one, and then what is noted of the batch itself
 abbrev pub note_of : Settings → State → (before : ℕ) → (audited : Bool) → Account → List ℕ
 note_of s state before audited a = audit_before s.size state before audited ++ own_note s (before + 1) a
 
--- those of batches that are run one after another from a state with so many batches before
-unfoldable pub notes_from : Settings → State → (before : ℕ) → List (List Transaction) → List Account → (audits : List Bool) → List ℕ
+-- What the notes have of batches that are run one after another from a state, with `before` batches before them
+unfoldable pub notes_from : Settings → State → (before : ℕ) → List (List Transaction) → List Account
+    → (audits : List Bool) → List ℕ
 notes_from s state before [] accounts audits = []
 notes_from s state before (batch ∷ batches) [] audits = []
 notes_from s state before (batch ∷ batches) (a ∷ accounts) [] = []
 notes_from s state before (batch ∷ batches) (a ∷ accounts) (audited ∷ audits) =
     note_of s state before audited a ++ notes_from s (after_all state (by_time batch)) (before + 1) batches accounts audits
 
--- which of the batches that were run have an audit line: none where the balances are not watched
+-- For each of the batches that were run, `audits` says whether it has an audit line. None has one if the balances are
+-- not watched
 pub record AreAudits (s : Settings) (accounts : List Account) (audits : List Bool) : Type 0 where
   pub each : length audits ≡ length accounts
   pub unwatched : s.watch ≡ false → All (λ audited. audited ≡ false) audits
 
--- batches that were run with these accounts were written and noted, whole
-abbrev pub with_batches : Outputs → Report → Settings → List (List Transaction) → List Account → (audits : List Bool) → Outputs
-with_batches old report s batches accounts audits = with_both old (event_lines report batches) (notes_from s opening_state 0 batches accounts audits)
+-- The outputs after batches that were run with these accounts were written and noted, whole
+abbrev pub with_batches : Outputs → Report → Settings → List (List Transaction) → List Account → (audits : List Bool)
+    → Outputs
+with_batches old report s batches accounts audits =
+    with_both old (event_lines report batches) (notes_from s opening_state 0 batches accounts audits)
 
--- a write failed at the last of the batches that were run; those before it were written and noted, whole
-pub record IsCutInBatch (report : Report) (s : Settings) (done : List (List Transaction)) (accounts : List Account) (audits : List Bool) (old new : Outputs) : Type 0 where
+-- A write failed at the last of the batches that were run. Those before it were written and noted whole
+pub record IsCutInBatch (report : Report) (s : Settings) (done : List (List Transaction)) (accounts : List Account)
+    (audits : List Bool) (old new : Outputs) : Type 0 where
   pub before : List (List Transaction)
   pub before_accounts : List Account
   pub before_audits : List Bool
@@ -91,7 +100,7 @@ pub record IsCutInBatch (report : Report) (s : Settings) (done : List (List Tran
   pub cut : IsCutIn (with_batches old report s before before_accounts before_audits) (told_lines report (fates (run_state before) (by_time batch)))
       (note_of s (run_state before) (length before) audited account) new
 
--- the end of the input or a refused line was reached, and no batch is left
+-- The end of the input or a refused line was reached, and no batch is left
 pub record IsAtLast (told : Option Accepted) (rest : List (List Transaction)) : Type 0 where
   pub ending : Ending
   pub ends : IfSome told (λ all. all.ending ≡ ending)

@@ -1,4 +1,4 @@
--- The statuses, and the last line of the notes.
+-- The statuses, and the last line of the notes
 use Rattle.std.specs.Prelude.{◌≡◌, ℕ, ◌≤◌, ◌⊎◌, ◌==◌, if◌then◌else◌, List, [], codes, Option, Result, Ok, Err}
 use Rattle.morph_cli.specs.declared.fault.Fault.{Fault}
 use Rattle.morph_cli.specs.declared.fault.Fault.TheVariants.{Read, Write, OutOfMemory, TooLong}
@@ -8,7 +8,7 @@ use Rattle.morph_io.specs.Told.{behind, HasRisen}
 use Rattle.morph_io.specs.Writing.{AppendsPart}
 use Rattle.run_text.specs.Text.{line}
 
--- the status of a run
+-- The status of a run, by its answer
 abbrev pub status_of : Result Finish Fault → ℕ
 status_of (Ok Complete) = 0
 status_of (Ok Refused) = 3
@@ -17,7 +17,7 @@ status_of (Err Write) = 5
 status_of (Err OutOfMemory) = 6
 status_of (Err TooLong) = 7
 
--- the last line of the notes by the status: at 0 and 3 there is none
+-- The last line of the notes, by the status. At 0 and 3 there is none
 abbrev pub note_at : (status : ℕ) → List ℕ
 note_at status =
     if status == 2 then line (codes "usage: morph app=ledger|grep|toll [name=value ...]")
@@ -26,18 +26,20 @@ note_at status =
     else (if status == 6 then line (codes "morph: out of memory")
     else (if status == 7 then line (codes "morph: input too long") else []))))
 
--- a last line stands in the notes behind what stood there, and none of its writes failed; or one failed, and a part of it stands there
+-- The notes end with this last line behind what stood there, and none of its writes failed; or one failed, and a part
+-- of the line stands there
 abbrev pub EndsWith : (line : List ℕ) → (old new : Option (List ℕ)) → (faults faults' : ℕ) → Type 0
-EndsWith line old new faults faults' = ((new ≡ behind old line) × (faults' ≡ faults)) ⊎ (AppendsPart old line new × HasRisen faults faults')
+EndsWith line old new faults faults' =
+    ((new ≡ behind old line) × (faults' ≡ faults)) ⊎ (AppendsPart old line new × HasRisen faults faults')
 
--- it is the last line of the status
+-- The notes end with the last line of the status
 abbrev pub EndsNotes : (status : ℕ) → (old new : Option (List ℕ)) → (faults faults' : ℕ) → Type 0
 EndsNotes status old new faults faults' = EndsWith (note_at status) old new faults faults'
 
--- the statuses: 0, and 2 to 7
+-- The number is a status: 0, or from 2 to 7
 abbrev pub IsStatus : ℕ → Type 0
 IsStatus status = (status ≤ 7) × (status ≡ 1 → ⊥)
 
--- those of a run over an input that the program makes
+-- The number is a status of a run over an input that the program makes: 0, 5 or 6
 abbrev pub IsMadeStatus : ℕ → Type 0
 IsMadeStatus status = (status ≡ 0) ⊎ (status ≡ 5) ⊎ (status ≡ 6)

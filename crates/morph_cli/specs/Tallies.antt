@@ -1,4 +1,4 @@
--- What was done in a run: the accounts of the batches that were run, and the numbers that are told of them.
+-- What was done in a run: the accounts of the batches that were run, and the numbers that are counted from them
 use Rattle.std.specs.Prelude.{◌≡◌, ℕ, ◌+◌, ◌*◌, ◌<◌, ◌≤◌, ◌⊎◌, Bool, false, All, List, [], ◌∷◌, ◌++◌, count_by, length, slice_index, sum, sum_by, Option, IfSome, IsTrue}
 use Rattle.morph_base.specs.Limits.{most_workers}
 use Rattle.morph_base.specs.declared.limits.TheConstants.{EVENT_OPS}
@@ -34,14 +34,14 @@ use Rattle.morph_cli.specs.Strategies.{strategy_by}
 use Rattle.decision_model.specs.Choices.{last_of, no_last}
 use Rattle.run_text.specs.Text.{Telling, run_fates, committed_in, aborted_in, end_text}
 
--- a valid plan of the events of a batch, from the state before it
+-- The plan is a valid one of the events of a batch, from the state before it
 pub record IsMadeOf (s : State) (batch : List Transaction) (p : Plan) : Type 0 where
   pub valid : IsValidPlan p
   pub events : transactions p ≡ by_time batch
   pub bases : HasBases p s
 
--- batches that are run one after another from a state, each by the plan and the strategy of its account; `last` is what came of the
--- batch before them
+-- The batches are run one after another from a state, each by the plan and the strategy of its account. `last` is the
+-- outcome of the batch before them
 unfoldable pub AreRunFrom : Planning → State → (last : Last) → List (List Transaction) → List Account → Type 0
 AreRunFrom planning s last [] [] = Unit {0}
 AreRunFrom planning s last [] (a ∷ accounts) = ⊥
@@ -49,36 +49,40 @@ AreRunFrom planning s last (batch ∷ batches) [] = ⊥
 AreRunFrom planning s last (batch ∷ batches) (a ∷ accounts) =
     IsMadeOf s batch a.plan × (a.strategy ≡ strategy_by planning a.plan last) × AreRunFrom planning (after_all s (by_time batch)) (last_of (fates s (by_time batch))) batches accounts
 
--- the numbers of a batch go together
-abbrev pub IsSound : (workers : ℕ) → Account → Type 0
-IsSound workers a = IsAccount a.strategy.explore a.strategy.abort workers a
+-- The numbers of a batch go together, by the strategy that it was run with
+abbrev pub IsSoundAccount : (workers : ℕ) → Account → Type 0
+IsSoundAccount workers a = IsAccount a.strategy.explore a.strategy.abort workers a
 
--- the machine takes the journal of a batch step by step; where it is not cut off, that settles each operation, with the fold's value
+-- The machine takes the journal of the batch step by step. If the journal is not cut off, it settles each operation,
+-- with the fold's value
 pub record IsChecked (a : Account) : Type 0 where
   pub state : Core
   pub leads : Leads a.plan 1 start a.journal state
   pub right : is_cut a.plan a.journal ≡ false → SettlesWholeFold a.plan 1 a.journal
 
--- all batches aborted lazily; all were explored so
+-- All batches were run with lazy abort
 abbrev pub AreLazy : List Account → Type 0
 AreLazy accounts = All (λ a. a.strategy.abort ≡ Lazy) accounts
 
+-- All batches were explored in this way
 abbrev pub AreExploredBy : Explore → List Account → Type 0
 AreExploredBy explore accounts = All (λ a. a.strategy.explore ≡ explore) accounts
 
--- how many operations of committed events a worker settled
+-- The number of operations of committed events that a worker settled
 abbrev pub committed_by_workers : Account → ℕ
 committed_by_workers a = count_by (is_committed_by_worker a.plan a.by) (below (op_count a.plan))
 
--- how many operations of level 1 its plan has, where it was explored by deques
+-- The number of operations of level 1 of a plan, if it is explored by deques, and else 0
 abbrev pub dealt_by : Explore → Plan → ℕ
 dealt_by Strata p = 0
 dealt_by Steal p = length (level_one p)
 
+-- The number of operations of level 1 of a batch's plan, if it was explored by deques, and else 0
 abbrev pub dealt_count : Account → ℕ
 dealt_count a = dealt_by a.strategy.explore a.plan
 
--- the tally of batches that were run: what became of their events, and the sums over their accounts
+-- The tally is that of the batches that were run: the verdicts on their events, and the sums over their accounts. What
+-- was left, handed out and stolen is counted up to the greatest number
 pub record IsTallyOf (done : List (List Transaction)) (accounts : List Account) (t : Tally) : Type 0 where
   pub batches : t.batches ≡ length done
   pub events : t.events ≡ t.committed + t.aborted
@@ -88,23 +92,23 @@ pub record IsTallyOf (done : List (List Transaction)) (accounts : List Account) 
   pub evaluated : t.evaluated ≡ sum_by (λ a. a.counts.evaluated) accounts
   pub spread : t.spread ≡ sum_by (λ a. a.counts.spread) accounts
   pub rolled : t.rolled ≡ sum_by (λ a. a.counts.rolled) accounts
-  -- by each worker, and by the plain finish at 0
+  -- Operations are counted for each worker, and at 0 for the plain finish
   pub settled : (w : ℕ) → w ≤ most_workers → slice_index t.settled_by w ≡ sum_by (λ a. settled_by a.by w) accounts
   pub workers : length t.settled_by ≡ most_workers + 1
   pub left : t.left ≡ counted_to (sum_by (λ a. a.left) accounts)
   pub handed : t.handed ≡ counted_to (sum_by (λ a. a.handed) accounts)
   pub stolen : t.stolen ≡ counted_to (sum_by (λ a. a.stolen) accounts)
 
--- where each batch aborted lazily there are at most twice as many evaluations as operations, and nothing is spread
+-- There are at most twice as many evaluations as operations, at most as many rollbacks, and nothing is spread
 pub record IsLazyTally (t : Tally) : Type 0 where
   pub evaluated : t.evaluated ≤ 2 * t.ops
   pub rolled : t.rolled ≤ t.ops
   pub spread : t.spread ≡ 0
 
--- the laws of a tally that name its batches: each operation of a committed event that a worker settled was evaluated; where batches
--- were explored by deques each operation of level 1 was handed out, and where none was nothing is. With one worker and lazy abort
--- what was rolled back are the operations with a source whose guess is not its value, each of which is evaluated once more; and by
--- deques each operation is handed out once
+-- The laws of a tally that name its batches. Each operation of a committed event that a worker settled was evaluated.
+-- Of the batches explored by deques each operation of level 1 was handed out; if there are none, nothing was. If all
+-- aborted lazily, the tally is a lazy one. With one worker and lazy abort, the operations rolled back are those with a
+-- source whose guess is not its value, each evaluated once more; and by deques each operation is handed out once
 pub record IsFounded (workers : ℕ) (accounts : List Account) (t : Tally) : Type 0 where
   pub committed : sum_by committed_by_workers accounts ≤ t.evaluated
   pub dealt : counted_to (sum_by dealt_count accounts) ≤ t.handed
@@ -114,23 +118,24 @@ pub record IsFounded (workers : ℕ) (accounts : List Account) (t : Tally) : Typ
   pub rolled : workers ≡ 1 → AreLazy accounts → t.rolled ≡ sum_by (λ a. stale_count a.plan) accounts
   pub handed : workers ≡ 1 → AreLazy accounts → AreExploredBy Steal accounts → t.handed ≡ t.ops
 
--- with one worker nothing is left, it settles all, and nothing is stolen
+-- With one worker nothing is left, it settles all operations, and nothing is stolen
 pub record IsBalancedAlone (t : Tally) : Type 0 where
   pub none : t.left ≡ 0
   pub mine : slice_index t.settled_by 1 ≡ t.ops
   pub stolen : t.stolen ≡ 0
 
--- where all batches are run with one strategy: by strata nothing is handed out; with lazy abort there are at most twice as many
--- evaluations as operations; and with one worker besides each operation is evaluated once, and once more where it was rolled back,
--- and by deques each is handed out once
+-- How the numbers of a tally go together if all batches are run with one strategy. By strata nothing is handed out.
+-- With lazy abort the tally is a lazy one. With one worker besides, each operation is evaluated once, and once more if
+-- it was rolled back, and by deques each is handed out once
 pub record IsBalancedBy (s : Strategy) (workers : ℕ) (t : Tally) : Type 0 where
   pub by_strata : s.explore ≡ Strata → t.handed ≡ 0
   pub lazy : s.abort ≡ Lazy → IsLazyTally t
   pub evaluated : workers ≡ 1 → s.abort ≡ Lazy → t.evaluated ≡ t.ops + t.rolled
   pub handed : workers ≡ 1 → s.abort ≡ Lazy → s.explore ≡ Steal → t.handed ≡ t.ops
 
--- how the numbers of a tally go together where the strategy of each batch is found so and there are so many workers, whatever is
--- told of the input
+-- How the numbers of a tally go together, by how the strategy of each batch is found and by the number of workers,
+-- whatever is revealed of the input. Among others, there are at most 8 times as many evaluations and spreads as
+-- operations, and 7 times as many spreads and rollbacks, and no more operations are stolen than handed out
 pub record IsBalanced (planning : Planning) (workers : ℕ) (t : Tally) : Type 0 where
   pub events : t.committed + t.aborted ≡ t.events
   pub settled : sum t.settled_by ≡ t.ops
@@ -142,10 +147,13 @@ pub record IsBalanced (planning : Planning) (workers : ℕ) (t : Tally) : Type 0
   pub alone : workers ≡ 1 → IsBalancedAlone t
   pub by : (s : Strategy) → planning ≡ Fixed s → IsBalancedBy s workers t
 
--- what is told of a run by its status: some first ones of the accepted batches were run, each by a valid plan from the state
--- before it, these are counted, and the lines and the notes of these, in turn, are what was written, with an audit line in front of the
--- note of some of them where the balances are watched. At 0 and 3 they are all
-pub record RunTold (telling : Telling) (told : Option Accepted) (s : Settings) (status : ℕ) (t : Tally) (old new : Outputs) : Type 0 where
+-- What is known of a run by its status. The first few accepted batches were run, each by a valid plan from the state
+-- before it, and these are counted. Their lines and their notes, each batch's in turn, are what was written, with an
+-- audit line in front of the note of some of them if the balances are watched. At 0 and 3 these are all accepted
+-- batches, and the end follows. At 4, 6 and 7 nothing follows. At 5 a write failed at the last of these batches or at
+-- the end, and everything before it was written whole
+pub record RunTold (telling : Telling) (told : Option Accepted) (s : Settings) (status : ℕ) (t : Tally)
+    (old new : Outputs) : Type 0 where
   pub done : List (List Transaction)
   pub rest : List (List Transaction)
   pub accounts : List Account
@@ -153,28 +161,29 @@ pub record RunTold (telling : Telling) (told : Option Accepted) (s : Settings) (
   pub parts : IfSome told (λ all. all.batches ≡ done ++ rest)
   pub ran : AreRunFrom s.planning opening_state no_last done accounts
   pub audited : AreAudits s accounts audits
-  pub sound : All (IsSound s.workers) accounts
+  pub sound : All (IsSoundAccount s.workers) accounts
   pub checked : IsTrue (is_checked s.check) → All IsChecked accounts
   pub counts : IsTallyOf done accounts t
   pub founded : IsFounded s.workers accounts t
   pub balanced : IsBalanced s.planning s.workers t
-  -- the end was written behind the batches, and the tally was noted
+  -- At 0 and 3 the end was written behind the batches, and the tally was noted
   pub whole : (status ≡ 0) ⊎ (status ≡ 3) → (last : IsAtLast told rest)
       × (new ≡ with_both (with_batches old telling.report s done accounts audits) (end_text telling done last.ending) (noted s.notes (closing_notes s.workers t)))
-  -- reading failed, memory was refused or the input is too long: that was between two batches
+  -- At 4, 6 and 7 reading failed, memory was refused or the input is too long, between two batches
   pub short : (status ≡ 4) ⊎ (status ≡ 6) ⊎ (status ≡ 7) → new ≡ with_batches old telling.report s done accounts audits
-  -- a write failed: at the last of these batches, or at the end
+  -- At 5 a write failed, at the last of these batches or at the end
   pub cut : status ≡ 5 → IsCutInBatch telling.report s done accounts audits old new ⊎ ((last : IsAtLast told rest)
       × IsCutIn (with_batches old telling.report s done accounts audits) (end_text telling done last.ending) (noted s.notes (closing_notes s.workers t)) new)
 
--- what is told of a call: what its run wrote, and the last line of the notes behind that. `HasSunk` is that a write to the sink failed,
--- and the notes' count of faults went from the one number to the other. A fault of the last line changes nothing: the status is 5 only
--- where a write failed before it
-pub record CallTold (telling : Telling) (told : Option Accepted) (s : Settings) (status : ℕ) (t : Tally) (old new : Outputs) (HasSunk : Type 0) (faults faults' : ℕ) : Type 0 where
+-- What is known of a call: what its run wrote, and the last line of the notes behind that. `HasSunk` says that a write
+-- to the sink failed. The notes' count of faults went from `faults` to `faults'`. A fault of the last line changes
+-- nothing: the status is 5 only if a write failed before it
+pub record CallTold (telling : Telling) (told : Option Accepted) (s : Settings) (status : ℕ) (t : Tally)
+    (old new : Outputs) (HasSunk : Type 0) (faults faults' : ℕ) : Type 0 where
   pub ran : Outputs
   pub run : RunTold telling told s status t old ran
   pub sink : new.sink ≡ ran.sink
-  -- the notes' count of faults before the last line
+  -- The notes' count of faults before the last line
   pub before : ℕ
   pub cause : status ≡ 5 → HasSunk ⊎ (IsTrue (has_notes s) × HasRisen faults before)
   pub steady : (status ≡ 5 → ⊥) → before ≡ faults

@@ -16,13 +16,13 @@ ghost use Rattle.batch_pipe.specs.Running.{picked};
 ghost use Rattle.batch_pipe.specs.Waiting.{new_pipe};
 ghost use Rattle.run_text.specs.Checks.{is_checked};
 ghost use Rattle.run_text.specs.Settings.{AreInRange};
-ghost use Rattle.run_text.specs.Counts.{Adds, HasRoom, no_tally};
+ghost use Rattle.run_text.specs.Counts.{CountsBatch, HasRoom, no_tally};
 ghost use Rattle.run_text.specs.Notes.{noted, closing_notes};
 ghost use Rattle.run_text.specs.Reports.{report_of};
 ghost use Rattle.run_text.specs.Text.{told_values, counts_line};
 ghost use Rattle.morph_cli.specs.Apps.{telling_for};
 ghost use Rattle.morph_cli.specs.Batches.{lines_of_batch, note_of_batch};
-ghost use Rattle.morph_cli.specs.Outputs.{has_notes, outputs_of, Tells};
+ghost use Rattle.morph_cli.specs.Outputs.{has_notes, outputs_of, WritesBoth};
 ghost use Rattle.morph_cli.specs.Endings.{EndsBy};
 ghost use Rattle.morph_cli.specs.Runs.{EndsSo, layout_of};
 ghost use Rattle.morph_cli.specs.Status.{status_of};
@@ -44,7 +44,7 @@ use run_text::{Planning, Settings, Tally};
 use std::thread::Threads;
 use worker_gate::Gate;
 
-/// How far a run that reads ahead has come: its pipe, and what is not yet written.
+/// How far a run that reads ahead has got: its pipe, and what is not yet written.
 #[derive(Drop)]
 pub struct Ahead<A: EventApp> {
     pub pipe: Pipe<A>,
@@ -52,7 +52,7 @@ pub struct Ahead<A: EventApp> {
 }
 
 impl<A: EventApp + Copy> Ahead<A> {
-    /// That of a run which has not begun, and is to read as many batches ahead as its settings say.
+    /// The state of a run which has not begun, and is to read as many batches ahead as its settings say.
     pub fn new<R, G>(job: &Job<'_, A, R, G>) -> Result<Self, OutOfMemory>
         requires settings { AreInRange job.now.settings }
         requires ahead { 0 < job.now.settings.ahead }
@@ -97,7 +97,7 @@ fn picker(planning: Planning) -> Picker
     }
 }
 
-/// Counts and tells the next batch that was run, and says what came of it.
+/// Counts and writes the next batch that was run, and returns its outcome.
 fn tell_next<K: Sink, N: Sink>(
     out: &mut Out,
     sink: &mut K,
@@ -111,9 +111,9 @@ fn tell_next<K: Sink, N: Sink>(
     requires settled { IsSettledOf ran.end.plan ran.end.settled }
     requires unchecked { is_checked settings.now.check ≡ false }
     requires room { HasRoom tally.old (account_of ran.end) }
-    ensures adds { Adds tally.old tally.new (account_of ran.end)
+    ensures adds { CountsBatch tally.old tally.new (account_of ran.end)
         (settled_fates ran.end.plan ran.end.settled) }
-    ensures told { Tells result (outputs_of (K.written sink.old) (N.written notes.old))
+    ensures told { WritesBoth result (outputs_of (K.written sink.old) (N.written notes.old))
         (lines_of_batch settings.now ran.end)
         (note_of_batch settings.now tally.new.batches None ran.end)
         (outputs_of (K.written sink.new) (N.written notes.new)) }
@@ -132,7 +132,8 @@ fn tell_next<K: Sink, N: Sink>(
     tell_counted(out, sink, notes, settings, tally, &ran)
 }
 
-/// Ends a run that reads ahead, by the tail that its pipe met: tells the end or the refused line, or answers the fault.
+/// Ends a run that reads ahead, by the tail that its pipe met: writes the end or the refused line, or returns the
+/// fault.
 fn end_ahead<R, A: EventApp + Copy, K: Sink, N: Sink, G>(
     job: &Job<'_, A, R, G>,
     ahead: &mut Ahead<A>,
@@ -175,10 +176,10 @@ fn end_ahead<R, A: EventApp + Copy, K: Sink, N: Sink, G>(
     }
 }
 
-/// Runs an application from the opening state over what the pipe's reader reads: in rounds, of which each reads and plans
-/// batches while those that were planned before are run. What came of each batch is told before the next round begins,
-/// so where a read fails or the limit is met the batches before are written first, and where a write fails the run ends,
-/// whatever the pipe met.
+/// Runs an application from the opening state over what the pipe's reader reads, in rounds. Each round reads and plans
+/// batches while those that were planned before are run. The result of each batch is written before the next round
+/// begins. If a read fails or the limit is met, the batches before are therefore written first, and if a write fails,
+/// the run ends, whatever the pipe met.
 pub fn run_ahead<
     R: Threads + Sync,
     A: EventApp + Copy + Send,

@@ -26,10 +26,10 @@ use worker_gate::Gate;
 /// Does all that a program of one application does: reads the settings from its words, runs the application over the
 /// source, writes the text to the sink, and the last line to the notes if there is one.
 ///
-/// It is [`morph`](crate::morph()) for an application of the caller's own. The settings are those of
-/// [`own_settings`], without the names `app`, `self`, `seed` and `events`. If the words are no settings, the last line
-/// of the notes is `usage`, which names the program; the other last lines are those of `morph`. The text, the notes, the
-/// statuses and the tally are the same.
+/// It is [`morph`](crate::morph()) for an application of the caller's own. The settings are those of [`own_settings`],
+/// without the names `app`, `self`, `seed` and `events`. If the words are no settings, the last line of the notes is
+/// `usage`, which names the program; the other last lines are those of `morph`. The text, the notes, the statuses and
+/// the tally are the same.
 pub fn run_application<
     R: Threads + Wait + Sync,
     A: EventApp + Copy + Send,
@@ -66,12 +66,12 @@ pub fn run_application<
         ⊎ (IsTrue (has_notes s) × HasRisen (N.faults notes.old) (N.faults notes.new))) }
     ensures statuses { IsStatus result.status }
 
-    // No fault comes in a call where the status does not name it.
+    // No fault occurs in a call unless the status names it.
     ensures steady { (result.status ≡ 5 → ⊥) → K.faults sink.new ≡ K.faults sink.old }
     ensures unread { IfSome (settings_of_own (map (λ word. word.items) words.now)) (λ s.
         s.ahead ≡ 0 → (result.status ≡ 4 → ⊥) → S.faults source.new ≡ S.faults source.old) }
 
-    // Where nothing is read ahead the source is read for the next batch alone, and not behind the end of the run.
+    // If nothing is read ahead, the source is read for the next batch only, and not beyond the end of the run.
     ensures asks { IfSome (settings_of_own (map (λ word. word.items) words.now)) (λ s.
         s.ahead ≡ 0 → IsReadBy S.left S.reads (A.event_of app s.size) source.old source.new) }
     ensures told { IfSome (settings_of_own (map (λ word. word.items) words.now)) (λ s.

@@ -49,11 +49,12 @@ fn end_without_memory<N: Sink>(notes: &mut N) -> ExitCode
     ExitCode::from(status(&end))
 }
 
-/// Does all that the program does, with its arguments, of which the first is its own name, or for want of memory
-/// none; and answers the status that it ends with, which is that of [`morph`] for the words behind the name.
+/// Does all that the program does, with its arguments, and returns the status that it ends with, which is that of
+/// [`morph`] for the words behind the name. The first argument is the program's own name. There are no arguments if
+/// memory for them was refused.
 ///
-/// Where memory for the words is refused, or they are no settings, nothing is read, nothing goes to the sink, and the
-/// notes get their last line alone.
+/// If memory for the words is refused, or they are no settings, nothing is read, nothing goes to the sink, and the
+/// notes get only their last line.
 pub fn program<R: Threads + Wait + Sync, S: Source + Send, K: Sink, N: Sink>(
     rt: &R,
     alloc: Global,

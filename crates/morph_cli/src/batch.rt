@@ -17,8 +17,8 @@ use std::thread::Threads;
 use worker_gate::Gate;
 
 /// Makes the plan of a batch and runs it on the engine, with the workers of the settings and the strategy that they ask
-/// for. No value of the state may be above the greatest value of the batch. Where its journal is to be checked it is
-/// kept and checked. Where memory is refused the engine stays, but where it is refused to check a journal.
+/// for. No value of the state may be above the greatest value of the batch. If its journal is to be checked, it is kept
+/// and checked. If memory is refused, the engine stays as it was, except if it is refused to check a journal.
 pub fn run_batch<R: Threads + Sync, G: Gate>(
     host: &Host<'_, R, G>,
     engine: &mut Engine,

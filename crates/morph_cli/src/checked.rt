@@ -8,7 +8,7 @@ ghost use Rattle.morph_base.specs.Plans.{HasBases, IsPlan, IsSettledOf, PlanKeys
 ghost use Rattle.morph_base.specs.Plans.{event_count, state_at, transactions};
 ghost use Rattle.morph_engine.specs.Accounts.{IsAccount, account_of};
 ghost use Rattle.morph_engine.specs.Fates.{settled_fates};
-ghost use Rattle.morph_engine.specs.Runs.{IsKept, journal_room};
+ghost use Rattle.morph_engine.specs.Runs.{IsJournalledRun, journal_room};
 ghost use Rattle.morph_cli.specs.Tallies.{IsChecked};
 
 use crate::job::Host;
@@ -19,7 +19,7 @@ use run_text::is_cut;
 use std::alloc::Global;
 use std::thread::Threads;
 
-/// Runs a plan by one worker who keeps a journal, and checks it. Where memory is refused to check it the engine has run
+/// Runs a plan by one worker who keeps a journal, and checks it. If memory is refused to check it, the engine has run
 /// the batch all the same.
 pub fn run_checked<R: Threads + Sync, G>(
     host: &Host<'_, R, G>,
@@ -48,11 +48,11 @@ pub fn run_checked<R: Threads + Sync, G>(
     Ok(end)
 }
 
-/// Checks the journal of a run, where it is not cut off. The machine takes it, and it settles what was settled.
+/// Checks the journal of a run, if it is not cut off. The machine takes it, and it settles what was settled.
 fn confirm(alloc: Global, end: &BatchEnd) -> Result<(), OutOfMemory>
     requires plan { IsPlan end.now.plan }
     requires settled { IsSettledOf end.now.plan end.now.settled }
-    requires kept { IsKept end.now.plan Lazy (journal_room end.now.plan) end.now.closed }
+    requires kept { IsJournalledRun end.now.plan Lazy (journal_room end.now.plan) end.now.closed }
     ensures checked { OnOk result (IsChecked (account_of end.now)) }
 {
     let journal = end.closed.journal();

@@ -8,17 +8,17 @@ use run_text::Tally;
 /// How the program ends.
 #[derive(Clone, Copy, Debug, PartialEq, Eq)]
 pub struct Ended {
-    /// 0 where all was read, applied and written; 2 usage; 3 a refused line; 4 a read failed; 5 a write failed; 6
-    /// want of memory; 7 the input is too long.
+    /// 0: all was read, applied and written; 2: usage; 3: a refused line; 4: a read failed; 5: a write failed; 6: out
+    /// of memory; 7: the input is too long.
     pub status: u8,
     /// What was done until then.
     pub tally: Tally,
 }
 
-/// The status where the words are no settings.
+/// The status if the words are no settings.
 pub const USAGE_STATUS: u8 = 2;
 
-/// The last line of the notes where the words are no settings.
+/// The last line of the notes if the words are no settings.
 pub const USAGE: &[u8] = b"usage: morph app=ledger|grep|toll [name=value ...]\n";
 
 /// The status of a run.
@@ -35,7 +35,7 @@ pub fn status(end: &Result<Finish, Fault>) -> u8
     }
 }
 
-/// The last line of the notes of a run: of one without a fault, nothing.
+/// The last line of the notes of a run; nothing if the run had no fault.
 pub fn note_of(end: &Result<Finish, Fault>) -> &'static [u8]
     ensures { result.now ≡ note_at (status_of end.now) }
 {

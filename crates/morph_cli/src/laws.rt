@@ -8,8 +8,8 @@ ghost use Rattle.run_text.specs.Checks.{is_checked};
 ghost use Rattle.run_text.specs.Notes.{noted, batch_notes};
 ghost use Rattle.morph_cli.specs.Outputs.{AreAudits, notes_from};
 
-/// Where the balances are not watched and no journal is checked, what stands in the notes are the lines of the batches
-/// alone, where they are on.
+/// If the balances are not watched and no journal is checked, the notes have only the lines of the batches, if they are
+/// on.
 pub fn unwatched_runs_have_no_audit_lines()
     ensures { (s : Settings) (state : State) (before : ℕ) (done : List (List Transaction))
         (accounts : List Account) (audits : List Bool) → s.watch ≡ false

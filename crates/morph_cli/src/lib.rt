@@ -1,12 +1,12 @@
 //! The run of the program `morph` from its words to its status: events as lines from a source, each applied as one
-//! transaction, and the text of what became of them to a sink.
+//! transaction, and the text of the results to a sink.
 //!
-//! [`morph()`] does all that the program does, over a source, a sink and notes of any kind, and [`program()`] gives it the
-//! words of the program's arguments. [`run_application`] does the same for an application of the caller's own. They use
-//! `run_text`, which reads the words and writes the lines, the applications, as `ledger_app`, `event_reader`, which cuts
-//! the input into batches, `decision_model`, which chooses the strategy of a batch if that is asked for, `morph_engine`,
-//! which runs them, `batch_pipe`, which reads and plans ahead, `snapshot_reader` and `run_checker`, by which a run is
-//! watched and checked, and `morph_io`, which reads and writes.
+//! [`morph()`] does all that the program does, over a source, a sink and notes of any kind, and [`program()`] gives it
+//! the words of the program's arguments. [`run_application`] does the same for an application of the caller's own. They
+//! use `run_text`, which reads the words and writes the lines, the applications, such as `ledger_app`, `event_reader`,
+//! which cuts the input into batches, `decision_model`, which chooses the strategy of a batch if that is asked for,
+//! `morph_engine`, which runs them, `batch_pipe`, which reads and plans ahead, `snapshot_reader` and `run_checker`, by
+//! which a run is watched and checked, and `morph_io`, which reads and writes.
 #![tactic(auto)]
 
 mod ahead;

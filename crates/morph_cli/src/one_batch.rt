@@ -7,12 +7,12 @@ ghost use Rattle.morph_engine.specs.Accounts.{Account, account_of};
 ghost use Rattle.morph_engine.specs.Fates.{settled_fates};
 ghost use Rattle.morph_io.specs.Told.{HasRisen};
 ghost use Rattle.run_text.specs.Checks.{is_checked};
-ghost use Rattle.run_text.specs.Counts.{Adds, HasRoom};
+ghost use Rattle.run_text.specs.Counts.{CountsBatch, HasRoom};
 ghost use Rattle.run_text.specs.Settings.{AreInRange};
 ghost use Rattle.snapshot_reader.specs.Batches.{after_plans};
 ghost use Rattle.morph_cli.specs.Batches.{IsShown, TakesBatch, TellsBatch};
 ghost use Rattle.morph_cli.specs.Outputs.{has_notes, outputs_of};
-ghost use Rattle.morph_cli.specs.Tallies.{IsSound};
+ghost use Rattle.morph_cli.specs.Tallies.{IsSoundAccount};
 
 use crate::fault::Fault;
 use crate::job::Job;
@@ -27,7 +27,7 @@ use std::sync::Wait;
 use std::thread::Threads;
 use worker_gate::Gate;
 
-/// Runs a batch, tells and counts it, and publishes it where the balances are watched.
+/// Runs a batch, writes and counts it, and publishes it if the balances are watched.
 pub fn take_batch<R: Threads + Wait + Sync, A: EventApp, K: Sink, N: Sink, G: Gate>(
     job: &Job<'_, A, R, G>,
     progress: &mut Progress<A>,
@@ -41,7 +41,7 @@ pub fn take_batch<R: Threads + Wait + Sync, A: EventApp, K: Sink, N: Sink, G: Ga
     requires keys { BatchKeysIn progress.old.engine.layout batch.now }
     requires small { IsUpTo (high_of_all (transactions_of batch.now)) (contents progress.old.engine) }
     requires empty { progress.old.out ≡ [] }
-    requires room { (a : Account) → IsPlan a.plan → IsSound job.now.settings.workers a
+    requires room { (a : Account) → IsPlan a.plan → IsSoundAccount job.now.settings.workers a
         → HasRoom tally.old a }
     requires few { tally.old.batches + 1 < 2 ^ 64 }
     requires shown { IfSome progress.old.watching (IsShown progress.old.engine.layout
@@ -70,8 +70,8 @@ pub fn take_batch<R: Threads + Wait + Sync, A: EventApp, K: Sink, N: Sink, G: Ga
     tell_and_publish(job, progress, &ran, sink, notes, tally)
 }
 
-/// Tells and counts a batch that was run, and publishes it where the balances are watched. What was run is lent, so
-/// that it is dropped in one place.
+/// Writes and counts a batch that was run, and publishes it if the balances are watched. The result is lent, so that it
+/// is dropped in one place.
 fn tell_and_publish<R: Wait, A: EventApp, K: Sink, N: Sink, G>(
     job: &Job<'_, A, R, G>,
     progress: &mut Progress<A>,
@@ -89,7 +89,7 @@ fn tell_and_publish<R: Wait, A: EventApp, K: Sink, N: Sink, G>(
     requires bases { IfSome progress.old.watching
         (λ posted. HasBases ran.now.end.plan (after_plans posted.plans)) }
     requires few { IfSome progress.old.watching (λ posted. length posted.plans + 1 < 2 ^ 64) }
-    ensures adds { Adds tally.old tally.new (account_of ran.now.end)
+    ensures adds { CountsBatch tally.old tally.new (account_of ran.now.end)
         (settled_fates ran.now.end.plan ran.now.end.settled) }
     ensures tells { TellsBatch result job.now.settings ran.now.end ran.now.audit
         progress.old.watching progress.new.watching tally.new.batches progress.new.last

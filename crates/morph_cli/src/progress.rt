@@ -26,7 +26,7 @@ pub struct Opening<A> {
 }
 
 impl<A: EventApp + Copy> Opening<A> {
-    /// That of a run which has not begun.
+    /// The start of a run which has not begun.
     pub fn new<R, G>(job: &Job<'_, A, R, G>) -> Result<Self, OutOfMemory>
         requires { AreInRange job.now.settings }
         ensures reader { IfOk result (λ new.
@@ -46,7 +46,7 @@ impl<A: EventApp + Copy> Opening<A> {
     }
 }
 
-/// How far a run has come: the state of its engine, what was read, what is not yet written, what came of the last
+/// How far a run has got: the state of its engine, what was read, what is not yet written, the outcome of the last
 /// batch, and what watches its balances.
 pub struct Progress<A> {
     pub engine: Engine,
@@ -57,7 +57,7 @@ pub struct Progress<A> {
 }
 
 impl<A: EventApp + Copy> Progress<A> {
-    /// That of a run which has not begun, and whose balances are watched where its settings ask for it.
+    /// The progress of a run which has not begun. Its balances are watched if its settings ask for it.
     pub fn new<R, G>(job: &Job<'_, A, R, G>) -> Result<Self, OutOfMemory>
         requires { AreInRange job.now.settings }
         ensures reader { IfOk result (λ new.

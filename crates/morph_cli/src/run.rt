@@ -29,7 +29,7 @@ use std::sync::Wait;
 use std::thread::Threads;
 use worker_gate::Gate;
 
-/// How a run came to an end.
+/// How a run ended.
 #[derive(Clone, Copy, Debug, PartialEq, Eq)]
 pub enum Finish {
     /// The input was read to its end, and the closing text was written.
@@ -38,12 +38,13 @@ pub enum Finish {
     Refused,
 }
 
-/// Runs an application over an input: batch by batch, each written whole before the next is run. With `ahead` 0 the next
-/// is read then too, otherwise it is read and planned while one is run. Where the balances are watched they are
-/// published after each batch, and a viewer looks at them while the next one is run; publishing may wait for it.
+/// Runs an application over an input: batch by batch, each written whole before the next is run. If `ahead` is 0, the
+/// next batch is read only then; otherwise it is read and planned while one is run. If the balances are watched, they
+/// are published after each batch, and a viewer looks at them while the next one is run; publishing may wait for it.
 ///
-/// The batches that were run are counted in the tally, also those of a run that is cut off. Where the notes are on each
-/// is told there once it is written, and the tally at the end; where the balances are watched, what was seen too.
+/// The batches that were run are counted in the tally, also those of a run that is cut off. If the notes are on, they
+/// get a line for each batch once it is written, and the tally at the end. If the balances are watched, they also get
+/// what was seen.
 pub fn run<
     R: Threads + Wait + Sync,
     A: EventApp + Copy + Send,
@@ -96,8 +97,8 @@ pub fn run<
     end
 }
 
-/// Runs an application from the opening state over what the reader reads, batch by batch; each is published once it was
-/// told.
+/// Runs an application from the opening state over what the reader reads, batch by batch. Each batch is published once
+/// it was written.
 fn run_batches<R: Threads + Wait + Sync, A: EventApp + Copy, S: Source, K: Sink, N: Sink, G: Gate>(
     job: &Job<'_, A, R, G>,
     progress: &mut Progress<A>,

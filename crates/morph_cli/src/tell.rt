@@ -9,11 +9,11 @@ ghost use Rattle.morph_io.specs.Told.{behind, HasRisen};
 ghost use Rattle.morph_io.specs.Writing.{AppendsPart};
 ghost use Rattle.run_text.specs.declared.choices.TheConstants.{GREATEST_SIZE};
 ghost use Rattle.run_text.specs.Checks.{is_checked};
-ghost use Rattle.run_text.specs.Counts.{Adds, HasRoom};
+ghost use Rattle.run_text.specs.Counts.{CountsBatch, HasRoom};
 ghost use Rattle.run_text.specs.Reports.{report_of};
 ghost use Rattle.run_text.specs.Notes.{noted, closing_notes};
 ghost use Rattle.morph_cli.specs.Batches.{lines_of_batch, note_of_batch};
-ghost use Rattle.morph_cli.specs.Outputs.{audit_of, own_note, outputs_of, Tells};
+ghost use Rattle.morph_cli.specs.Outputs.{audit_of, own_note, outputs_of, WritesBoth};
 ghost use Rattle.run_text.specs.Text.{told_lines, told_values, counts_line, refused_text};
 
 use crate::job::Job;
@@ -37,8 +37,8 @@ pub struct Refusal {
     pub cause: Cause,
 }
 
-/// Tells a batch that was run, with its number: its lines to the sink, and behind them to the notes
-/// the audit line, where balances were seen beside it, and the batch's own line, where the notes are on.
+/// Writes a batch that was run, with its number: its lines to the sink, and then to the notes the audit line, if
+/// balances were seen beside it, and the batch's own line, if the notes are on.
 fn tell_batch<K: Sink, N: Sink>(
     out: &mut Out,
     sink: &mut K,
@@ -50,7 +50,7 @@ fn tell_batch<K: Sink, N: Sink>(
     requires empty { out.old ≡ [] }
     requires plan { IsPlan ran.now.end.plan }
     requires settled { IsSettledOf ran.now.end.plan ran.now.end.settled }
-    ensures told { Tells result (outputs_of (K.written sink.old) (N.written notes.old))
+    ensures told { WritesBoth result (outputs_of (K.written sink.old) (N.written notes.old))
         (told_lines (report_of settings.now) (settled_fates ran.now.end.plan ran.now.end.settled))
         (audit_of ran.now.audit ++ own_note settings.now number (account_of ran.now.end))
         (outputs_of (K.written sink.new) (N.written notes.new)) }
@@ -68,7 +68,7 @@ fn tell_batch<K: Sink, N: Sink>(
     note_ran(out, notes, settings, number, ran)
 }
 
-/// Counts a batch that was run, tells it with its number, and says what came of it.
+/// Counts a batch that was run, writes it with its number, and returns its outcome.
 pub fn tell_counted<K: Sink, N: Sink>(
     out: &mut Out,
     sink: &mut K,
@@ -81,11 +81,11 @@ pub fn tell_counted<K: Sink, N: Sink>(
     requires plan { IsPlan ran.now.end.plan }
     requires settled { IsSettledOf ran.now.end.plan ran.now.end.settled }
     requires room { HasRoom tally.old (account_of ran.now.end) }
-    ensures adds { Adds tally.old tally.new (account_of ran.now.end)
+    ensures adds { CountsBatch tally.old tally.new (account_of ran.now.end)
         (settled_fates ran.now.end.plan ran.now.end.settled) }
     ensures last { IfOk result
         (λ last. last ≡ last_of (settled_fates ran.now.end.plan ran.now.end.settled)) }
-    ensures told { Tells result (outputs_of (K.written sink.old) (N.written notes.old))
+    ensures told { WritesBoth result (outputs_of (K.written sink.old) (N.written notes.old))
         (lines_of_batch settings.now ran.now.end)
         (note_of_batch settings.now tally.new.batches ran.now.audit ran.now.end)
         (outputs_of (K.written sink.new) (N.written notes.new)) }
@@ -104,7 +104,7 @@ pub fn tell_counted<K: Sink, N: Sink>(
     Ok(last)
 }
 
-/// Tells the notes of a batch that was run: what was seen beside it, and what is noted of itself.
+/// Writes to the notes what was seen beside a batch that was run, and what is noted of the batch itself.
 fn note_ran<N: Sink>(
     out: &mut Out,
     notes: &mut N,
@@ -130,7 +130,7 @@ fn note_ran<N: Sink>(
     note_own(out, notes, settings, number, &ran.end)
 }
 
-/// Tells the notes of a batch its line, where they are on, and behind it what came of its journal, where journals are
+/// Writes to the notes the line of a batch, if they are on, and then the outcome of its journal, if journals are
 /// checked.
 fn note_own<N: Sink>(
     out: &mut Out,
@@ -157,7 +157,7 @@ fn note_own<N: Sink>(
     note_check(out, notes, settings.check, number, &end.plan, journal)
 }
 
-/// Tells the notes what was seen of the balances, where anything was.
+/// Writes to the notes what was seen of the balances, if anything was.
 fn note_seen<N: Sink>(notes: &mut N, audit: &Option<Total>) -> Result<(), WriteFailed>
     ensures written { OnOk result (N.written notes.new
         ≡ behind (N.written notes.old) (audit_of audit.now)) }
@@ -174,7 +174,7 @@ fn note_seen<N: Sink>(notes: &mut N, audit: &Option<Total>) -> Result<(), WriteF
     }
 }
 
-/// Tells the end of the input: the closing text to the sink, and behind it the tally to the notes, where these are on.
+/// Writes the end of the input: the closing text to the sink, and then the tally to the notes, if these are on.
 pub fn tell_closing<A: EventApp, R, G, K: Sink, N: Sink>(
     out: &mut Out,
     sink: &mut K,
@@ -189,7 +189,7 @@ pub fn tell_closing<A: EventApp, R, G, K: Sink, N: Sink>(
     requires few { job.now.settings.workers ≤ WORKERS }
     requires all { length tally.now.settled_by ≡ 17 }
     ensures told { let settings = job.now.settings in
-        Tells result (outputs_of (K.written sink.old) (N.written notes.old))
+        WritesBoth result (outputs_of (K.written sink.old) (N.written notes.old))
         (told_values (report_of settings) values.now.layout (A.name_of job.now.app)
         (contents values.now) ++ counts_line tally.now.committed tally.now.aborted)
         (noted settings.notes (closing_notes settings.workers tally.now))
@@ -206,7 +206,7 @@ pub fn tell_closing<A: EventApp, R, G, K: Sink, N: Sink>(
     note_tally(notes, settings.notes, settings.workers, tally)
 }
 
-/// Tells a refused line: the refused text to the sink, and behind it the tally to the notes, where these are on.
+/// Writes a refused line: the refused text to the sink, and then the tally to the notes, if these are on.
 pub fn tell_refused<K: Sink, N: Sink>(
     out: &mut Out,
     sink: &mut K,
@@ -218,7 +218,7 @@ pub fn tell_refused<K: Sink, N: Sink>(
     requires empty { out.old ≡ [] }
     requires few { settings.now.workers ≤ WORKERS }
     requires all { length tally.now.settled_by ≡ 17 }
-    ensures told { Tells result (outputs_of (K.written sink.old) (N.written notes.old))
+    ensures told { WritesBoth result (outputs_of (K.written sink.old) (N.written notes.old))
         (refused_text refusal.now.line refusal.now.cause)
         (noted settings.now.notes (closing_notes settings.now.workers tally.now))
         (outputs_of (K.written sink.new) (N.written notes.new)) }

@@ -184,12 +184,12 @@ fn run_app<R: Threads + Wait + Sync, S: Source + Send, K: Sink, N: Sink, G: Gate
 }
 
 /// Does all that the program does: reads the settings from its words, runs the application over the source or over an
-/// input that it makes itself, writes the text to the sink, and the last line to the notes where there is one.
+/// input that it makes itself, writes the text to the sink, and the last line to the notes if there is one.
 ///
 /// The text is that of applying the events one transaction at a time, in the order of time within each batch, to a map
 /// that is zero everywhere, for every strategy and number of workers and whatever the gate holds. The statuses are
-/// those of [`Ended`]. A fault of writing the last line of the notes changes nothing, with notes on too: the status is 5
-/// only where a write failed before it.
+/// those of [`Ended`]. A fault of writing the last line of the notes changes nothing, with notes on too: the status is
+/// 5 only if a write failed before it.
 pub fn morph<R: Threads + Wait + Sync, S: Source + Send, K: Sink, N: Sink, G: Gate>(
     rt: &R,
     alloc: Global,
@@ -222,12 +222,12 @@ pub fn morph<R: Threads + Wait + Sync, S: Source + Send, K: Sink, N: Sink, G: Ga
         ⊎ (IsTrue (has_notes s) × HasRisen (N.faults notes.old) (N.faults notes.new))) }
     ensures statuses { IsStatus result.status }
 
-    // No fault comes in a call where the status does not name it.
+    // No fault occurs in a call unless the status names it.
     ensures steady { (result.status ≡ 5 → ⊥) → K.faults sink.new ≡ K.faults sink.old }
     ensures unread { IfSome (settings_of (map (λ word. word.items) words.now)) (λ s. s.ahead ≡ 0
         → (result.status ≡ 4 → ⊥) → S.faults source.new ≡ S.faults source.old) }
 
-    // Where nothing is read ahead the source is read for the next batch alone, and not behind the end of the run.
+    // If nothing is read ahead, the source is read for the next batch only, and not beyond the end of the run.
     ensures asks { IfSome (settings_of (map (λ word. word.items) words.now)) (λ s. s.ahead ≡ 0
         → IsReadBy S.left S.reads (meaning_of s) source.old source.new) }
     ensures told { IfSome (settings_of (map (λ word. word.items) words.now)) (λ s.

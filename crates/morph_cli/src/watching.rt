@@ -31,7 +31,7 @@ use worker_gate::Gate;
 #[derive(Drop)]
 pub struct Watched {
     pub end: BatchEnd,
-    /// The sum of the first table before the batch, with the number of batches before it; none where nothing was seen.
+    /// The sum of the first table before the batch, with the number of batches before it; none if nothing was seen.
     pub audit: Option<Total>,
 }
 
@@ -56,7 +56,7 @@ impl Model for Watching {
 }
 
 impl Watching {
-    /// One that has published nothing, of balances that are all 0.
+    /// A watch that has published nothing, of balances that are all 0.
     pub fn new(alloc: Global, layout: Layout) -> Result<Self, OutOfMemory>
         requires { layout.size ≤ most_ids }
         ensures layout { IfOk result (λ made. made.layout ≡ layout) }
@@ -67,7 +67,7 @@ impl Watching {
         Ok(Watching { publisher, viewer })
     }
 
-    /// One for a run, where its settings ask for one.
+    /// The watch of a run, if its settings ask for one.
     pub fn asked<A: EventApp, R, G>(job: &Job<'_, A, R, G>) -> Result<Option<Self>, OutOfMemory>
         requires { AreInRange job.now.settings }
         ensures asked { IfOk result (λ made. IsSome made ↔ IsTrue job.now.settings.watch) }
@@ -81,7 +81,7 @@ impl Watching {
         Ok(Some(Watching::new(job.host.alloc, job.layout())?))
     }
 
-    /// Ends it, its viewer first. It may wait for a viewer that is reading.
+    /// Ends the watch, its viewer first. It may wait for a viewer that is reading.
     pub fn end<R: Wait>(self, rt: &R) {
         let Watching { publisher, viewer } = self;
         drop(viewer);
@@ -89,7 +89,7 @@ impl Watching {
     }
 }
 
-/// The sum of the first table as a viewer sees it, where that is after as many batches as it was told of.
+/// The sum of the first table as a viewer sees it, if that is after as many batches as the viewer was told of.
 fn look(viewer: &mut Viewer, told: u64) -> Option<Total>
     requires { viewer.old.sees ≡ true → told ≡ length viewer.old.told }
     ensures seen { IfSome result (λ seen. (viewer.old.sees ≡ true) × (seen.number ≡ told)
@@ -104,11 +104,11 @@ fn look(viewer: &mut Viewer, told: u64) -> Option<Total>
     }
 }
 
-/// In a batch of so many events a viewer looks in a thread of its own. In a smaller one that would take longer than the
-/// look.
+/// In a batch of this many events a viewer looks in a thread of its own. In a smaller one that would take longer than
+/// the look.
 const THREAD_EVENTS: usize = 4_096;
 
-/// Does a job for a batch of so many events. If the balances are watched the viewer is told of all batches that were
+/// Does a job for a batch of this many events. If the balances are watched, the viewer is told of all batches that were
 /// published, and looks in a thread of its own while the job is done, or before it if the batch is small.
 pub fn look_beside<R: Threads, F: FnMut() -> T, T>(
     rt: &R,
@@ -133,7 +133,7 @@ pub fn look_beside<R: Threads, F: FnMut() -> T, T>(
     join_mut(rt, &mut || look(viewer, told), job)
 }
 
-/// Makes the plan of a batch and runs it, as [`run_batch`], beside a look where the balances are watched.
+/// Makes the plan of a batch and runs it, as [`run_batch`] does, beside a look if the balances are watched.
 pub fn run_watched<R: Threads + Sync, G: Gate>(
     host: &Host<'_, R, G>,
     watching: &mut Option<Watching>,
@@ -167,8 +167,8 @@ pub fn run_watched<R: Threads + Sync, G: Gate>(
     Ok(Watched { end: end?, audit })
 }
 
-/// Publishes the balances after a batch that was run, where they are watched. It may wait for the viewer. Where memory
-/// is refused nothing was published.
+/// Publishes the balances after a batch that was run, if they are watched. It may wait for the viewer. If memory is
+/// refused, nothing was published.
 pub fn publish<R: Wait>(
     rt: &R,
     alloc: Global,

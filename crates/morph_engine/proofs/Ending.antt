@@ -18,7 +18,7 @@ use Rattle.interleaving_core.specs.Counts.{evaluated, rolled}
 use Rattle.op_words.specs.declared.board.Board.{Board}
 use Rattle.op_words.specs.declared.closed.Closed.{Closed}
 use Rattle.op_words.specs.declared.trail.View.{View}
-use Rattle.op_words.specs.Closing.{Ends, IsClosed, words_of}
+use Rattle.op_words.specs.Closing.{EndsSound, IsClosed, words_of}
 use Rattle.op_words.specs.Hands.{plan_of, cap_of}
 use Rattle.op_words.specs.Trails.{IsCalm}
 use Rattle.op_words.specs.Views.{IsLone, IsSettledSeen}
@@ -42,7 +42,7 @@ use Rattle.abort_lazy.proofs.Made.{places_some}
 use Rattle.morph_engine.specs.declared.prepared.Prepared.{Prepared}
 use Rattle.morph_engine.specs.Caps.{cap_for}
 use Rattle.morph_engine.specs.Exploring.{HavePassed, HaveHanded, HasExploredBy}
-use Rattle.morph_engine.specs.Runs.{AreFirst, IsPrepared, HasJournalRoom, HavePassedLevels, IsHandedOut, HasRunAlone, HasRun, IsKept}
+use Rattle.morph_engine.specs.Runs.{AreFirstRunners, IsPrepared, HasJournalRoom, HavePassedLevels, IsHandedOut, HasRunAlone, HasRun, IsJournalledRun}
 use Rattle.morph_engine.proofs.Alone.{IsLoneRun, evaluated_alone, rolled_alone}
 use Rattle.morph_engine.proofs.Reaching.{item_reached, places_reached}
 
@@ -75,12 +75,12 @@ closed_at p cap b n v c plan same is = subst (λ (z : Plan × ℕ). IsClosed z.0
 
 -- ---- hands that further hands come from
 
-further_first : (before rs : List Runner) → AreFurther before rs → AreFirst before → (k : ℕ) (d : Runner) → k < length rs → (hand_view (slice_index_or rs k d)).tag ≡ k + 1
+further_first : (before rs : List Runner) → AreFurther before rs → AreFirstRunners before → (k : ℕ) (d : Runner) → k < length rs → (hand_view (slice_index_or rs k d)).tag ≡ k + 1
 further_first before rs further first k d lt =
     let less : k < length before = subst (λ n. k < n) further.len lt in
     (further.each k d less).tag ∙ first.tags k d less
 
-further_all : (before rs : List Runner) → 0 < length before → AreFurther before rs → AreFirst before → AreAllHands rs
+further_all : (before rs : List Runner) → 0 < length before → AreFurther before rs → AreFirstRunners before → AreAllHands rs
 further_all before rs some further first t d above most =
     let made = (further.each 0 d some).made ∙ first.made d in
     let less : t - 1 < length rs = (let many = further.len in omega arith) in
@@ -182,7 +182,7 @@ module _ (p : Plan) (valid : IsValidPlan p) (x : Prepared) (prepared : IsPrepare
       ap (λ (w : OpWord). is_settled w.state) (noted_present is.ends.noted present) ∙ present.settled
 
   -- the journal that it kept
-  pub kept_run : (room : ℕ) → HasJournalRoom room x → length before ≡ 1 → (counters : ℕ) (closed : Closed) → IsClosed p (cap_for x.abort) counters (root_view any rs) closed → IsKept p x.abort room closed
+  pub kept_run : (room : ℕ) → HasJournalRoom room x → length before ≡ 1 → (counters : ℕ) (closed : Closed) → IsClosed p (cap_for x.abort) counters (root_view any rs) closed → IsJournalledRun p x.abort room closed
   kept_run room fits one counters closed is = record {
     counters = counters;
     view = root_view any rs;
@@ -212,8 +212,8 @@ module _ (p : Plan) (valid : IsValidPlan p) (x : Prepared) (prepared : IsPrepare
       run = lone_run one any lazy
 
       -- the closed board as that of the only hand, with the cap of lazy abort
-      abbrev At : ((cap : ℕ) (v : View) → Ends p cap counters (words_of closed) v → Type 0) → ℕ × View → Type 0
-      At Of z = (end : Ends p z.0 counters (words_of closed) z.1) → Of z.0 z.1 end
+      abbrev At : ((cap : ℕ) (v : View) → EndsSound p cap counters (words_of closed) v → Type 0) → ℕ × View → Type 0
+      At Of z = (end : EndsSound p z.0 counters (words_of closed) z.1) → Of z.0 z.1 end
 
       own : ◌≡◌ {A = ℕ × View} (1, hand_view (slice_index_or rs 0 any)) (cap_for x.abort, root_view any rs)
       own a = (sym (ap cap_for lazy) a, sym (single_root any rs (many ∙ one)) a)

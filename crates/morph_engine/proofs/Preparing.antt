@@ -6,7 +6,7 @@ use Rattle.op_words.specs.declared.trail.View.{View}
 use Rattle.op_eval.specs.declared.runner.Runner.{Runner}
 use Rattle.op_eval.specs.Gathering.{AreNew}
 use Rattle.op_eval.specs.Running.{hand_view}
-use Rattle.morph_engine.specs.Runs.{AreFirst}
+use Rattle.morph_engine.specs.Runs.{AreFirstRunners}
 
 -- a hand that did nothing yet, the first of its board
 pub record IsUntouched (v : View) : Type 0 where
@@ -17,7 +17,7 @@ pub record IsUntouched (v : View) : Type 0 where
   pub notes : v.notes ≡ []
 
 module _ (b : Board) (v : View) (workers events : ℕ) (rs : List Runner) (new : AreNew b v workers events rs) (untouched : IsUntouched v) where
-  pub first_runners : 0 < workers → AreFirst rs
+  pub first_runners : 0 < workers → AreFirstRunners rs
   first_runners some = record {
     tags = tags;
     made = λ d. ap (λ (u : View). u.made) (new.root d) ∙ (let one = untouched.made in let many = new.len in omega arith);

@@ -11,7 +11,7 @@ use Rattle.morph_base.specs.Plans.{op_count}
 use Rattle.op_words.specs.declared.board.Board.{Board}
 use Rattle.op_words.specs.declared.trail.Place.{Place}
 use Rattle.op_words.specs.declared.trail.View.{View}
-use Rattle.op_words.specs.Closing.{Ends}
+use Rattle.op_words.specs.Closing.{EndsSound}
 use Rattle.op_words.specs.Counting.{place}
 use Rattle.op_words.specs.Layout.{counter_base}
 use Rattle.op_words.specs.Rule.{of_counter}
@@ -24,12 +24,12 @@ use Rattle.op_eval.specs.declared.runner.Runner.{Runner}
 use Rattle.op_eval.specs.Gathering.{gathered}
 use Rattle.op_eval.specs.Running.{hand_view}
 use Rattle.op_eval.proofs.Elements.{contains_first, contains_later}
-use Rattle.strata_explorer.specs.Levels.{ops_of, op_of, level_of, AreStrata, IsWhole}
+use Rattle.strata_explorer.specs.Levels.{ops_of, op_of, level_of, AreStrata, IsWholeCounter}
 use Rattle.strata_explorer.proofs.Climbing.{union}
 use Rattle.abort_lazy.specs.declared.run.sweeping.Call.{Call}
 use Rattle.abort_lazy.specs.declared.run.sweeping.Call.TheVariants.{Took, Tried}
 use Rattle.abort_lazy.specs.Runs.{AreSettling, root_view}
-use Rattle.abort_lazy.specs.Sweeps.{Calls}
+use Rattle.abort_lazy.specs.Sweeps.{MakesCalls}
 use Rattle.abort_lazy.proofs.Gathered.{gathered_has, gathered_tag, gathered_trail}
 use Rattle.abort_lazy.proofs.Summing.{below_has, below_some, sum_places}
 use Rattle.abort_lazy.proofs.Taking.{weights_of, root_taken, taken_below}
@@ -40,7 +40,7 @@ use Rattle.morph_engine.specs.Runs.{HasHand, IsPlaceReached, IsItemReached}
 
 module _ (p : Plan) where
   -- a place of a counter that was not used then was taken before
-  calls_back : (c n : ℕ) (cs : List Call) (a b : Runner) → ((m : ℕ) → Contains cs (Took c m) → ⊥) → Calls p cs a b → Contains (hand_view b).places (place c n) → Contains (hand_view a).places (place c n)
+  calls_back : (c n : ℕ) (cs : List Call) (a b : Runner) → ((m : ℕ) → Contains cs (Took c m) → ⊥) → MakesCalls p cs a b → Contains (hand_view b).places (place c n) → Contains (hand_view a).places (place c n)
   calls_back c n [] a b unused calls found = subst (λ r. Contains (hand_view r).places (place c n)) calls found
   calls_back c n (Took k m ∷ cs) a b unused calls found =
       elim (Contains-append_cases (hand_view calls.0).places (place k m ∷ []) (place c n) (subst (λ (v : View). Contains v.places (place c n)) calls.2.view found)) [
@@ -59,7 +59,7 @@ module _ (p : Plan) where
       calls_back c n cs a calls.0 (λ j inside. unused j (contains_later (Tried i) cs (Took c j) inside)) calls.1 (subst (λ xs. Contains xs (place c n)) does.goes.adds.places found)
 
   -- what was reached stays so
-  calls_reached : (o : ℕ) (cs : List Call) (a b : Runner) → Calls p cs a b → IsReached p o (hand_view a).trail → IsReached p o (hand_view b).trail
+  calls_reached : (o : ℕ) (cs : List Call) (a b : Runner) → MakesCalls p cs a b → IsReached p o (hand_view a).trail → IsReached p o (hand_view b).trail
   calls_reached o [] a b calls is = subst (λ r. IsReached p o (hand_view r).trail) (sym calls) is
   calls_reached o (Took c n ∷ cs) a b calls is = subst (λ (v : View). IsReached p o v.trail) (sym calls.2.view) (calls_reached o cs a calls.0 calls.1 is)
   calls_reached o (Tried i ∷ cs) a b calls is =
@@ -135,7 +135,7 @@ place_counts c n xs found =
     omega (arith, inside, it, is)
 
 module _ (b : Board) (p : Plan) (levels : List ℕ) (level : ℕ) (start rs : List Runner) (settling : AreSettling b p (length levels) level start rs) (strata : AreStrata p levels start) {cap counters : ℕ} {ws : List ℕ} (d : Runner)
-    (end : Ends p cap counters ws (root_view d rs)) (fits : length levels ≤ counters) (some : 0 < length rs) (none : (hand_view (slice_index_or rs 0 d)).joined ≡ []) where
+    (end : EndsSound p cap counters ws (root_view d rs)) (fits : length levels ≤ counters) (some : 0 < length rs) (none : (hand_view (slice_index_or rs 0 d)).joined ≡ []) where
   in_counters : (c : ℕ) → c < length levels → c < counters
   in_counters c lt = omega (arith, lt, fits)
 
@@ -158,7 +158,7 @@ module _ (b : Board) (p : Plan) (levels : List ℕ) (level : ℕ) (start rs : Li
       (one.0, one.1, some_place c n (hand_view (slice_index_or rs one.0 d)).places one.2)
 
   -- the numbers of a pass's counter are those below what it shows in the end
-  whole : (c : ℕ) → c < length levels → IsWhole c start
+  whole : (c : ℕ) → c < length levels → IsWholeCounter c start
   whole c low = record {
     end = slice_index ws (counter_base p + c);
     below = λ k e less n found.

@@ -1,4 +1,4 @@
--- What a batch counts: who settled its operations, and how the numbers go together.
+-- What a batch counts: who settled its operations, and how the numbers fit together
 use Rattle.std.specs.Prelude.{◌≡◌, ℕ, ◌+◌, ◌*◌, ◌≤◌, ◌==◌, ◌&&◌, Bool, not, List, All, length, count_by, sum_by, slice_index}
 use Rattle.morph_base.specs.declared.limits.TheConstants.{EVENT_OPS}
 use Rattle.morph_base.specs.declared.plan.Plan.{Plan}
@@ -17,9 +17,10 @@ use Rattle.steal_explorer.specs.Dealing.{level_one}
 use Rattle.morph_engine.specs.declared.engine.BatchEnd.{BatchEnd}
 use Rattle.morph_engine.specs.Caps.{cap_for}
 
--- of a batch: its plan and the strategy that it was run with, for each operation the worker that settled it, or 0 where the plain
--- finish did, how often operations were evaluated, spread and rolled back, how many causes were kept why an event was left to the
--- plain finish, how many operations were handed out to workers and stolen, and the journal, which is empty where none was kept
+-- The numbers of a batch: its plan and its strategy; for each operation the worker that settled it, or 0 if the plain
+-- finish did; how often operations were evaluated, spread and rolled back; how many causes were kept why an event was
+-- left to the plain finish; how many operations were handed out to workers and stolen; and the journal, which is empty
+-- if none was kept
 pub record Account : Type 0 where
   pub plan : Plan
   pub strategy : Strategy
@@ -30,6 +31,7 @@ pub record Account : Type 0 where
   pub stolen : ℕ
   pub journal : List CoreEvent
 
+-- The numbers of a batch's end
 abbrev pub account_of : BatchEnd → Account
 account_of e = record {
   plan = e.plan;
@@ -42,16 +44,16 @@ account_of e = record {
   journal = journal_of e.closed;
 }
 
--- how many operations this worker settled
+-- How many operations this worker settled
 abbrev pub settled_by : List ℕ → ℕ → ℕ
 settled_by by worker = count_by (λ t. t == worker) by
 
--- whether the operation is one of a committed event, and a worker settled it
+-- The test whether the operation is one of a committed event, and a worker settled it
 abbrev pub is_committed_by_worker : Plan → List ℕ → ℕ → Bool
 is_committed_by_worker p by o = verdict p (event_of p o) && not (slice_index by o == 0)
 
--- with one worker nothing is left, it settles all, and nothing is stolen. Under lazy abort what is evaluated twice are the operations
--- with a source whose guess is not its value, and by deques each operation is handed out once
+-- If there is one worker, nothing is left, it settles everything, and nothing is stolen. Under lazy abort it evaluates
+-- twice the operations with a source whose guess is not its value, and by deques each operation is handed out once
 pub record IsAccountAlone (explore : Explore) (abort : Abort) (a : Account) : Type 0 where
   pub none : a.left ≡ 0
   pub mine : settled_by a.by 1 ≡ op_count a.plan
@@ -60,7 +62,10 @@ pub record IsAccountAlone (explore : Explore) (abort : Abort) (a : Account) : Ty
   pub rolled : abort ≡ Lazy → a.counts.rolled ≡ stale_count a.plan
   pub handed : abort ≡ Lazy → explore ≡ Steal → a.handed ≡ op_count a.plan
 
--- how the numbers of a batch go together that was explored so, with this abort, and that so many workers ran
+-- The numbers of a batch fit together, if it was explored in this way, with this abort, and run by this many workers.
+-- Only these workers settled operations, or 0 stands for the plain finish. The cap of the abort bounds the counts, and
+-- nothing is spread under lazy abort. At most `EVENT_OPS` operations are left for each cause. No more operations are
+-- stolen than handed out. By deques at least level 1 is handed out, and by strata nothing
 pub record IsAccount (explore : Explore) (abort : Abort) (workers : ℕ) (a : Account) : Type 0 where
   pub each : length a.by ≡ op_count a.plan
   pub inside : All (λ t. t ≤ workers) a.by

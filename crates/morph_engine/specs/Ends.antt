@@ -1,4 +1,4 @@
--- What a batch came to.
+-- The outcome of a batch
 use Rattle.std.specs.Prelude.{◌≡◌, ℕ, map}
 use Rattle.morph_base.specs.Contents.{Contents}
 use Rattle.morph_base.specs.Outcomes.{fates}
@@ -16,12 +16,15 @@ use Rattle.morph_engine.specs.Fates.{settled_fates}
 use Rattle.morph_engine.specs.Runs.{HasRun}
 use Rattle.morph_engine.specs.declared.engine.BatchEnd.{BatchEnd}
 
--- a plan was run from state s on, with this strategy and by so many workers
+-- The plan was run from state s on, with this strategy and by this many workers. What was settled gives the fate of
+-- each event, and the board, the counts and the numbers are those of such a run
 pub record IsEnd (p : Plan) (strategy : Strategy) (workers : ℕ) (s : State) (end : BatchEnd) : Type 0 where
   pub plan : end.plan ≡ p
   pub strategy_is : end.strategy ≡ strategy
   pub settled : IsSettledOf p end.settled
   pub fates_are : settled_fates p end.settled ≡ fates s (transactions p)
-  pub run : HasRun p strategy.explore strategy.abort workers end.closed (map (λ (l : Contents Left). l.items) end.left.items) end.settled.by.items end.handed end.stolen
-  pub counts : (counters : ℕ) (v : View) (is : IsClosed p (cap_for strategy.abort) counters v end.closed) → end.counts ≡ counts_of is.ends.history
+  pub run : HasRun p strategy.explore strategy.abort workers end.closed
+      (map (λ (l : Contents Left). l.items) end.left.items) end.settled.by.items end.handed end.stolen
+  pub counts : (counters : ℕ) (v : View) (is : IsClosed p (cap_for strategy.abort) counters v end.closed)
+      → end.counts ≡ counts_of is.ends.history
   pub account : IsAccount strategy.explore strategy.abort workers (account_of end)

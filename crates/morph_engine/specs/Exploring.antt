@@ -1,4 +1,4 @@
--- What workers take operations from while they explore, and what became of these operations.
+-- What workers take operations from while they explore, and what became of these operations
 use Rattle.std.specs.Prelude.{◌≡◌, ◌⊎◌, ℕ, ◌+◌, ◌<◌, ◌≤◌, List, [], All, Contains, length, sum_by}
 use Rattle.morph_base.specs.declared.plan.Plan.{Plan}
 use Rattle.morph_base.specs.declared.strategy.Abort.{Abort}
@@ -21,27 +21,28 @@ use Rattle.morph_engine.specs.declared.exploring.Supply.TheVariants.{Counters, D
 
 -- ---- before
 
--- how a batch is explored with it
+-- The way in which a batch is explored with this supply
 abbrev pub explore_of : Supply → Explore
 explore_of Counters = Strata
 explore_of (Deques crew) = Steal
 
--- deques are those of a crew of so many workers
+-- If the supply has deques, they are those of a crew of this many workers
 abbrev pub IsSupply : Plan → (workers : ℕ) → Supply → Type 0
 IsSupply p workers Counters = Unit {0}
 IsSupply p workers (Deques crew) = IsCrew p workers crew
 
 -- ---- operations that were handed out
 
--- those that were pushed, those that a worker took, those that nobody did, and those that another worker took than had pushed them
+-- The operations that were pushed, those that a worker took, those that nobody took, and those that were taken by
+-- another worker than the one that had pushed them
 pub record Items : Type 0 where
   pub pushed : List ℕ
   pub taken : List ℕ
   pub unserved : List ℕ
   pub stolen : List ℕ
 
--- whatever operations weigh, what was pushed weighs as much as what was taken and what was not, and among it is level 1; and these
--- are the numbers of what was pushed and what was stolen
+-- Whatever operations weigh, what was pushed weighs as much as what was taken and what was not. Level 1 is among what
+-- was pushed, and what was stolen is among what was taken. These are the numbers of what was pushed and stolen
 pub record AreBalanced (p : Plan) (x : Items) (handed stolen : ℕ) : Type 0 where
   pub balance : (h : ℕ → ℕ) → sum_by h x.pushed ≡ sum_by h x.taken + sum_by h x.unserved
   pub dealt : (h : ℕ → ℕ) → sum_by h (level_one p) ≤ sum_by h x.pushed
@@ -49,7 +50,7 @@ pub record AreBalanced (p : Plan) (x : Items) (handed stolen : ℕ) : Type 0 whe
   pub handed_is : handed ≡ up_to (length x.pushed)
   pub stolen_is : stolen ≡ up_to (length x.stolen)
 
--- one worker stole nothing; under lazy abort it pushed each operation of the plan once, and took all of them
+-- One worker stole nothing. Under lazy abort it pushed each operation of the plan once, and took all of them
 pub record AreOwn (p : Plan) (abort : Abort) (x : Items) : Type 0 where
   pub own : x.stolen ≡ []
   pub once : abort ≡ Lazy → (h : ℕ → ℕ) → sum_by h x.pushed ≡ sum_by h (below (op_count p))
@@ -57,17 +58,18 @@ pub record AreOwn (p : Plan) (abort : Abort) (x : Items) : Type 0 where
 
 -- ---- levels that passes were made over
 
--- of the list of them, the last first: each level is in it, or there were as many passes as there are counters for them. Under lazy
--- abort each level was passed once, from the lowest on
+-- Passes were made over these levels, the last one first: over each level of the plan, or as many as there are counters
+-- for them. Under lazy abort each level was passed once, from the lowest on
 pub record ArePassed (p : Plan) (abort : Abort) (levels : List ℕ) : Type 0 where
   pub few : length levels ≤ counters_for p
   pub inside : All (λ l. l < length p.op_levels.items) levels
   pub all : ((l : ℕ) → l < length p.op_levels.items → Contains levels l) ⊎ (length levels ≡ counters_for p)
-  pub lazy : abort ≡ Lazy → (length levels ≡ length p.op_levels.items) × ((k : ℕ) → k < length levels → level_of levels k ≡ k)
+  pub lazy :
+      abort ≡ Lazy → (length levels ≡ length p.op_levels.items) × ((k : ℕ) → k < length levels → level_of levels k ≡ k)
 
 -- ---- runners after exploring
 
--- passes were made over levels, each with a counter, and nothing was handed out
+-- Passes were made over levels, each with a counter, and nothing was handed out
 pub record HavePassed (p : Plan) (abort : Abort) (e : Explored) (handed stolen : ℕ) : Type 0 where
   pub levels : List ℕ
   pub passed : ArePassed p abort levels
@@ -76,7 +78,7 @@ pub record HavePassed (p : Plan) (abort : Abort) (e : Explored) (handed stolen :
   pub none_handed : handed ≡ 0
   pub none_stolen : stolen ≡ 0
 
--- operations were handed out, and what a worker took was reached by one
+-- Operations were handed out, and what a worker took was reached by one
 pub record HaveHanded (p : Plan) (abort : Abort) (start : List Runner) (e : Explored) (handed stolen : ℕ) : Type 0 where
   pub items : Items
   pub balanced : AreBalanced p items handed stolen
@@ -84,6 +86,7 @@ pub record HaveHanded (p : Plan) (abort : Abort) (start : List Runner) (e : Expl
   pub reached : AreReached p items.taken (runners_of e.runners)
   pub alone : IsNewRoot start → AreOwn p abort items
 
+-- The runners have explored in this way
 abbrev pub HasExploredBy : Explore → Plan → Abort → (start : List Runner) → Explored → (handed stolen : ℕ) → Type 0
 HasExploredBy Strata p abort start e handed stolen = HavePassed p abort e handed stolen
 HasExploredBy Steal p abort start e handed stolen = HaveHanded p abort start e handed stolen

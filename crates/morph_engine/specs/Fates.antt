@@ -1,4 +1,4 @@
--- What became of each event of a plan, read off what was settled.
+-- What became of each event of a plan, as it was settled
 use Rattle.std.specs.Prelude.{ℕ, List, false, map, take, drop, slice_index_or}
 use Rattle.morph_base.specs.declared.plan.Plan.{Plan}
 use Rattle.morph_base.specs.declared.plan.Settled.{Settled}
@@ -6,7 +6,7 @@ use Rattle.morph_base.specs.Plans.{event_at, event_count}
 use Rattle.morph_base.specs.Graphs.{below}
 use Rattle.morph_base.specs.Outcomes.{Fate}
 
--- of event i: its time, its verdict, and the values of its operations, which stand from its first on
+-- The fate of event i: its time, its verdict, and the values of its operations
 abbrev pub settled_fate : Plan → Settled → ℕ → Fate
 settled_fate p r i = record {
   ts = (event_at p i).ts;
@@ -14,6 +14,6 @@ settled_fate p r i = record {
   values = take (event_at p i).count (drop (event_at p i).first r.values.items);
 }
 
--- of all events, in the plan's order
+-- The fates of all events, in the plan's order
 abbrev pub settled_fates : Plan → Settled → List Fate
 settled_fates p r = map (settled_fate p r) (below (event_count p))

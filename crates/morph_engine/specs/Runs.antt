@@ -1,4 +1,4 @@
--- What a batch takes its memory for, and what its board shows after its end.
+-- What a batch takes its memory for, and what its board shows after its end
 use Rattle.std.specs.Prelude.{◌≡◌, ℕ, ◌+◌, ◌*◌, ◌<◌, ◌⊎◌, List, [], Contains, length, slice_index, slice_index_or}
 use Rattle.morph_base.specs.declared.plan.Plan.{Plan}
 use Rattle.morph_base.specs.declared.strategy.Abort.{Abort}
@@ -35,16 +35,16 @@ use Rattle.morph_engine.specs.Exploring.{IsSupply, Items, AreBalanced, AreOwn, A
 
 -- ---- before
 
--- the runners' hands are all that were made, worker w has tag w, and they have loaded, left and joined nothing
-pub record AreFirst (rs : List Runner) : Type 0 where
+-- The runners' hands are all that were made, worker w has tag w, and they have loaded, left and joined nothing
+pub record AreFirstRunners (rs : List Runner) : Type 0 where
   pub tags : (k : ℕ) (d : Runner) → k < length rs → (hand_view (slice_index_or rs k d)).tag ≡ k + 1
   pub made : (d : Runner) → (hand_view (slice_index_or rs 0 d)).made ≡ length rs
   pub joined : (d : Runner) → (hand_view (slice_index_or rs 0 d)).joined ≡ []
   pub trail : (d : Runner) → (hand_view (slice_index_or rs 0 d)).trail ≡ []
   pub notes : (d : Runner) → (hand_view (slice_index_or rs 0 d)).notes ≡ []
 
--- a board for the plan with the cap of its abort and counters for all passes and the levels of events, units, runners that can
--- explore, what they take operations from, and room for what is settled
+-- The memory for a batch is taken: a board for the plan, with the cap of its abort and counters for all passes and the
+-- levels of events; units; runners that can explore; what they take operations from; and room for what is settled
 pub record IsPrepared (p : Plan) (x : Prepared) : Type 0 where
   pub plan : plan_of x.board ≡ p
   pub cap : cap_of x.board ≡ cap_for x.abort
@@ -52,23 +52,23 @@ pub record IsPrepared (p : Plan) (x : Prepared) : Type 0 where
   pub partition : IsPartition x.units.units (op_count p)
   pub number : x.units.ops ≡ op_count p
   pub ready : AreExplored x.board 0 x.runners
-  pub first : AreFirst (runners_of x.runners)
+  pub first : AreFirstRunners (runners_of x.runners)
   pub supply : IsSupply p (length (runners_of x.runners)) x.supply
   pub room : IsRoomFor p x.room
 
--- the root's hand has so much room for its journal
+-- The root's hand has room for n steps in its journal
 abbrev pub HasJournalRoom : ℕ → Prepared → Type 0
 HasJournalRoom n x = (d : Runner) → (hand_view (slice_index_or (runners_of x.runners) 0 d)).room ≡ n
 
 -- ---- after
 
--- the root, or a hand that was joined into it, has this tag, and left this trail and these places
+-- The root, or a hand that was joined into it, has this tag, and left this trail and these places
 abbrev pub HasHand : View → (tag : ℕ) → List Item → List Place → Type 0
 HasHand v tag trail places =
     ((v.tag ≡ tag) × (v.trail ≡ trail) × (v.places ≡ places))
     ⊎ ((x : Joined) × Contains v.joined x × (x.tag ≡ tag) × (x.trail ≡ trail) × (x.places ≡ places))
 
--- place n of counter c was taken by a hand, in whose trail operation n of level l was reached
+-- Place n of counter c was taken by a hand, and operation n of level l was reached in that hand's trail
 pub record IsPlaceReached (p : Plan) (v : View) (c l n : ℕ) : Type 0 where
   pub tag : ℕ
   pub trail : List Item
@@ -77,13 +77,14 @@ pub record IsPlaceReached (p : Plan) (v : View) (c l n : ℕ) : Type 0 where
   pub taken : Contains places (place c n)
   pub reached : IsReached p (op_of p l n) trail
 
--- passes were made over levels, the last first in the list, and of each pass every place was taken, and its operation reached
+-- Passes were made over levels. In each pass every place was taken, and its operation was reached
 pub record HavePassedLevels (p : Plan) (abort : Abort) (v : View) : Type 0 where
   pub levels : List ℕ
   pub passed : ArePassed p abort levels
-  pub places : (c n : ℕ) → c < length levels → n < length (ops_of p (level_of levels c)) → IsPlaceReached p v c (level_of levels c) n
+  pub places : (c n : ℕ) → c < length levels → n < length (ops_of p (level_of levels c))
+      → IsPlaceReached p v c (level_of levels c) n
 
--- operation o was reached in the trail of a hand
+-- Operation o was reached in the trail of a hand
 pub record IsItemReached (p : Plan) (v : View) (o : ℕ) : Type 0 where
   pub in_range : o < op_count p
   pub tag : ℕ
@@ -92,26 +93,26 @@ pub record IsItemReached (p : Plan) (v : View) (o : ℕ) : Type 0 where
   pub hand : HasHand v tag trail places
   pub reached : IsReached p o trail
 
--- operations were handed out to so many workers, and what one took was reached. One alone stole nothing, and under lazy abort it
--- pushed and took each once
+-- Operations were handed out to this many workers, and each that one took was reached. One worker alone stole nothing,
+-- and under lazy abort it pushed and took each operation once
 pub record IsHandedOut (p : Plan) (abort : Abort) (workers : ℕ) (v : View) (handed stolen : ℕ) : Type 0 where
   pub items : Items
   pub balanced : AreBalanced p items handed stolen
   pub reached : (x : ℕ) → Contains items.taken x → IsItemReached p v x
   pub alone : workers ≡ 1 → AreOwn p abort items
 
--- a lone root leaves nothing, and settles all; under lazy abort what is evaluated twice are the operations with a source whose guess
--- is not its value
+-- A lone root leaves nothing, and settles everything. Under lazy abort it evaluates twice the operations with a source
+-- whose guess is not its value
 pub record HasRunAlone (p : Plan) (abort : Abort) (history : List CoreEvent) (lists : List (List Left)) (by : List ℕ) : Type 0 where
   pub none : causes lists ≡ 0
   pub mine : (o : ℕ) → o < op_count p → slice_index by o ≡ 1
   pub evaluated_is : abort ≡ Lazy → evaluated history ≡ op_count p + rolled history
   pub rolled_is : abort ≡ Lazy → rolled history ≡ stale_count p
 
--- a batch was explored so, with this abort, and run by so many workers: the closed board is that of its plan, and `view` is the one that
--- it shows; each operation has the worker that settled it there, 0 where nobody did; why events were left, by worker; and how many
--- operations were handed out and stolen. By strata passes were made over levels, and each place of a pass was taken, and its operation
--- reached
+-- The plan was explored in this way, with this abort, by this many workers, and settled. The closed board is that of
+-- the plan, and shows a view. Each operation has the worker that settled it there, or 0, and the lists say by worker
+-- why events were left. By strata every place of each pass was taken and reached. By deques each operation that one
+-- took was reached
 pub record HasRun (p : Plan) (explore : Explore) (abort : Abort) (workers : ℕ) (closed : Closed) (lists : List (List Left)) (by : List ℕ) (handed stolen : ℕ) : Type 0 where
   pub counters : ℕ
   pub view : View
@@ -125,9 +126,9 @@ pub record HasRun (p : Plan) (explore : Explore) (abort : Abort) (workers : ℕ)
   pub handed_out : explore ≡ Steal → IsHandedOut p abort workers view handed stolen
   pub alone : workers ≡ 1 → HasRunAlone p abort ended.ends.history lists by
 
--- the root, whose view the closed board shows, was the only hand made, kept a journal with so much room, and settled each operation on
--- the board
-pub record IsKept (p : Plan) (abort : Abort) (room : ℕ) (closed : Closed) : Type 0 where
+-- The root, whose view the closed board shows, was the only hand made. It kept a journal with this room, and settled
+-- each operation on the board
+pub record IsJournalledRun (p : Plan) (abort : Abort) (room : ℕ) (closed : Closed) : Type 0 where
   pub counters : ℕ
   pub view : View
   pub ended : IsClosed p (cap_for abort) counters view closed
@@ -135,6 +136,6 @@ pub record IsKept (p : Plan) (abort : Abort) (room : ℕ) (closed : Closed) : Ty
   pub room_is : view.room ≡ room
   pub settled : (o : ℕ) → o < op_count p → IsSettledIn ended.ends.core o
 
--- the room of the journal of a kept run, in steps
+-- How many steps the journal of a kept run has room for: 32 for each operation, and 64 more
 abbrev pub journal_room : Plan → ℕ
 journal_room p = 32 * op_count p + 64

@@ -8,7 +8,7 @@ ghost use Rattle.morph_base.specs.Plans.{op_count};
 ghost use Rattle.morph_engine.specs.Crews.{IsCrew, AreWaiting};
 ghost use Rattle.morph_engine.specs.Exploring.{HaveHanded};
 ghost use Rattle.op_eval.specs.Alone.{IsNewRoot, HasRunAll};
-ghost use Rattle.op_eval.specs.Exploring.{AreExplored, IsExplored};
+ghost use Rattle.op_eval.specs.Exploring.{AreExplored, IsExploredBoard};
 ghost use Rattle.op_eval.specs.Further.{AreFurther};
 ghost use Rattle.op_eval.specs.Gathering.{runners_of, spare, HasPlaces};
 ghost use Rattle.op_words.specs.Hands.{plan_of, cap_of, counters_of};
@@ -23,7 +23,8 @@ use std::thread::Threads;
 use steal_explorer::{Deques, pieces};
 use worker_gate::{Gate, threads_for};
 
-/// How many workers a batch has work for: one for each thread that it is worth, or all of them if each is to have one.
+/// How many workers a batch has work for: one for each thread that it is worth, or all of them if each is to have a
+/// thread.
 fn working_for(plan: &Plan, workers: u32, side_by_side: bool) -> u32
     requires some { 1 ≤ workers }
     requires few { workers ≤ most_workers }
@@ -40,7 +41,7 @@ fn working_for(plan: &Plan, workers: u32, side_by_side: bool) -> u32
 /// explored.
 ///
 /// A worker with a deque looks into all of them 64 times before it ends. In a small batch that would take longer than
-/// the batch.
+/// the batch itself.
 #[derive(Drop)]
 pub(crate) struct Crew {
     deques: Deques,
@@ -67,7 +68,7 @@ fn set_aside(runners: &mut Runners, count: u32, waiting: &mut List<Runner>)
     }
 }
 
-/// Puts runners behind those that are there, the last one first.
+/// Puts runners back after those that are there, the last one first.
 fn bring_back(runners: &mut Runners, waiting: &mut List<Runner>)
     requires room { length waiting.old.items ≤ spare runners.old }
     ensures all { runners_of runners.new ≡ runners_of runners.old ++ reverse waiting.old.items }
@@ -81,12 +82,12 @@ fn bring_back(runners: &mut Runners, waiting: &mut List<Runner>)
     }
 }
 
-/// What was explored, with the runners of those who waited behind the others.
+/// What was explored, with the runners of those who waited after the others.
 fn with_waiting(explored: Explored, waiting: List<Runner>) -> Explored
-    requires explored { IsExplored explored }
+    requires explored { IsExploredBoard explored }
     requires room { length waiting.items ≤ spare explored.runners }
     requires waiting { AreWaiting explored.board (reverse waiting.items) }
-    ensures explored { IsExplored result }
+    ensures explored { IsExploredBoard result }
     ensures board { result.board ≡ explored.board }
     ensures next { result.next_counter ≡ explored.next_counter }
     ensures runners { runners_of result.runners
@@ -121,7 +122,7 @@ impl Crew {
         })
     }
 
-    /// Explores a batch by deques. The runners that have none take no part.
+    /// Explores a batch by deques. Runners without a deque take no part.
     pub(crate) fn explore<R: Threads + Sync, G: Gate>(
         self,
         rt: &R,
@@ -139,7 +140,7 @@ impl Crew {
         requires cap { 1 ≤ cap_of board }
         requires ready { AreExplored board 0 runners }
         requires crew { IsCrew plan.now (length (runners_of runners)) self }
-        ensures explored { IsExplored result.0 }
+        ensures explored { IsExploredBoard result.0 }
         ensures board { result.0.board ≡ board }
         ensures hands { AreFurther (runners_of runners) (runners_of result.0.runners) }
         ensures ran { abort ≡ Lazy → IsNewRoot (runners_of runners)

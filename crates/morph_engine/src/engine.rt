@@ -11,7 +11,7 @@ ghost use Rattle.morph_base.specs.Graphs.{IsValidPlan};
 ghost use Rattle.morph_engine.specs.Accounts.{IsAccount, account_of};
 ghost use Rattle.morph_engine.specs.Caps.{cap_for};
 ghost use Rattle.morph_engine.specs.Fates.{settled_fates};
-ghost use Rattle.morph_engine.specs.Runs.{IsPrepared, HasJournalRoom, HasRun, IsKept};
+ghost use Rattle.morph_engine.specs.Runs.{IsPrepared, HasJournalRoom, HasRun, IsJournalledRun};
 ghost use Rattle.morph_engine.specs.Ends.{IsEnd};
 ghost use Rattle.morph_engine.specs.Exploring.{explore_of};
 ghost use Rattle.op_eval.specs.Gathering.{runners_of};
@@ -31,9 +31,9 @@ use txn_splitter::split;
 use version_table::State;
 use worker_gate::Gate;
 
-/// The plan of a valid batch, from no state: all its bases are 0 until [`Engine::rebase`] fills them in.
+/// Makes the plan of a valid batch without a state: all its bases are 0 until [`Engine::rebase`] fills them in.
 ///
-/// Its keys are in each layout that the keys of the batch are in.
+/// If the keys of the batch are in a layout, so are those of the plan.
 pub fn plan_batch(alloc: Global, batch: &Batch) -> Result<Plan, OutOfMemory>
     requires batch { IsBatch batch.now }
     ensures valid { IfOk result IsValidPlan }
@@ -53,7 +53,7 @@ pub struct Engine {
     state: State,
 }
 
-/// What a batch came to: its plan, what was settled of it, and how.
+/// The outcome of a batch: its plan, what was settled, and how.
 ///
 /// Event `i` of the plan has its timestamp there, its verdict at `committed[i]`, and the values of its operations in
 /// `values` from its `first` on, `count` of them.
@@ -71,9 +71,9 @@ pub struct BatchEnd {
     pub left: List<List<Left>>,
     /// How often operations were evaluated, spread and rolled back on the board.
     pub counts: Counts,
-    /// How many operations were handed out to workers by deques: 0 where a batch is explored by strata.
+    /// How many operations were handed out to workers by deques. It is 0 if the batch was explored by strata.
     pub handed: u64,
-    /// How many of these a worker took from another's deque.
+    /// How many of these a worker took from another worker's deque.
     pub stolen: u64,
 }
 
@@ -86,7 +86,7 @@ impl Model for Engine {
 }
 
 impl Engine {
-    /// An engine in the state at the start: all values 0.
+    /// Makes an engine in the state at the start: all values are 0.
     pub fn new(alloc: Global, layout: Layout) -> Result<Self, OutOfMemory>
         ensures layout { IfOk result (λ engine. engine.layout ≡ layout) }
         ensures opening { IfOk result (λ engine. contents engine ≡ opening_state) }
@@ -103,7 +103,7 @@ impl Engine {
         &self.state
     }
 
-    /// The plan of a valid batch, all of whose keys are in the layout, from the present state.
+    /// Makes the plan of a valid batch, all of whose keys are in the layout, from the present state.
     ///
     /// No value of the state may be above the greatest value of the batch.
     pub fn plan(&self, alloc: Global, batch: &Batch) -> Result<Plan, OutOfMemory>
@@ -120,11 +120,11 @@ impl Engine {
         Ok(plan)
     }
 
-    /// Fills the bases of a plan in from the present state, whatever state they were of before; everything else of the
+    /// Fills in the bases of a plan from the present state, whatever state they were of before. Everything else of the
     /// plan stays.
     ///
-    /// It may be run then, until another batch is run. No value of the state may be above the greatest value of the
-    /// plan.
+    /// The plan may then be run, until another batch is run. No value of the state may be above the greatest value of
+    /// the plan.
     pub fn rebase(&self, plan: &mut Plan)
         requires plan { IsValidPlan plan.old }
         requires keys { PlanKeysIn plan.old self.now.layout }
@@ -141,23 +141,23 @@ impl Engine {
     ///
     /// There are 1 to [`WORKERS`](morph_base::WORKERS) workers. They share a board with a word for each operation.
     /// First they explore: they evaluate the operations, on the values that their sources show at the time. By strata
-    /// they go level by level, and take the operations of each from a counter. Where they steal, each has a deque of
-    /// operations: those of level 1 are dealt to all, what an evaluation made ready is pushed, and a worker with
+    /// they go level by level, and take the operations of each level from a counter. By deques each worker has a deque
+    /// of operations: those of level 1 are dealt to all, what an evaluation made ready is pushed, and a worker with
     /// nothing left steals from another. Then they settle the events, each tried once: what rested on an aborted
-    /// version is rolled back and evaluated again. What a worker left since another one was in the way is completed in
-    /// the end, on plain data.
+    /// version is rolled back and evaluated again. Whatever a worker skipped because another was in its way is
+    /// completed in the end, on plain data.
     ///
-    /// Under lazy abort a failure waits for settling. Under eager abort its cascade is run at once, and what that
-    /// rolled back is explored again: by strata from a lower level on, and by deques as an operation that is pushed.
-    /// So an operation may be evaluated up to eight times, and twice under lazy abort. Neither that nor the number of
-    /// workers, the rest of the strategy or the gate changes the state, the values and the verdicts.
+    /// Under lazy abort a failure waits for settling. Under eager abort its cascade is run at once, and what the
+    /// cascade rolled back is explored again: by strata from a lower level on, and by deques as an operation that is
+    /// pushed. So an operation may be evaluated up to eight times, and up to twice under lazy abort. Neither that nor
+    /// the number of workers, the rest of the strategy or the gate changes the state, the values and the verdicts.
     ///
-    /// The closed board tells how it was done: the worker that settled an operation, its number of evaluations, and
-    /// why an event was left. With one worker nothing is. What exploring took was reached in a worker's trail: by
-    /// strata each place of each pass, and by deques each operation that was handed out and did not stay behind. By
-    /// strata each level was passed, or as many passes were made as the board has counters for.
+    /// The closed board shows how it was done: the worker that settled an operation, the number of evaluations, and why
+    /// an event was left. With one worker none is left. What exploring took was reached in a worker's trail: by strata
+    /// each place of each pass, and by deques each operation that was handed out and taken. By strata each level was
+    /// passed, or as many passes were made as the board has counters for.
     ///
-    /// All memory is taken before the first worker runs. Where it is refused the state stays, and the plan is dropped.
+    /// All memory is taken before the first worker runs. If it is refused, the state stays, and the plan is dropped.
     pub fn run_batch<R: Threads + Sync, G: Gate>(
         &mut self,
         rt: &R,
@@ -179,7 +179,7 @@ impl Engine {
         ensures strategy { IfOk result (λ end. end.strategy ≡ strategy.now) }
         ensures settled { IfOk result (λ end. IsSettledOf plan end.settled) }
 
-        // What was settled tells what becomes of each event.
+        // What was settled says what becomes of each event.
         ensures fates { IfOk result (λ end. settled_fates plan end.settled
             ≡ fates (contents self.old) (transactions plan)) }
         ensures run { IfOk result
@@ -198,7 +198,7 @@ impl Engine {
         Ok(self.run_prepared(rt, prepared, plan, strategy, gate))
     }
 
-    /// Runs a plan that all memory is taken for, and carries what was settled into the state.
+    /// Runs a plan that all memory is taken for, and applies what was settled to the state.
     pub(crate) fn run_prepared<R: Threads + Sync, G: Gate>(
         &mut self,
         rt: &R,
@@ -219,7 +219,7 @@ impl Engine {
             (contents self.old) result }
         ensures kept { (room : ℕ) → HasJournalRoom room prepared
             → length (runners_of prepared.runners) ≡ 1
-            → IsKept plan strategy.now.abort room result.closed }
+            → IsJournalledRun plan strategy.now.abort room result.closed }
     {
         let Ran {
             settled,

@@ -1,4 +1,4 @@
-//! What workers take operations from while they explore, and exploring by it.
+//! What workers take operations from while they explore, and exploring with it.
 ghost use Rattle.std.specs.Prelude.{◌≡◌, ◌≤◌, IfOk, length};
 ghost use Rattle.chain_units.specs.Places.{IsPartition};
 ghost use Rattle.morph_base.specs.declared.strategy.Abort.TheVariants.{Lazy};
@@ -7,7 +7,7 @@ ghost use Rattle.morph_base.specs.Limits.{most_workers};
 ghost use Rattle.morph_base.specs.Plans.{op_count};
 ghost use Rattle.morph_engine.specs.Exploring.{explore_of, IsSupply, HasExploredBy};
 ghost use Rattle.op_eval.specs.Alone.{IsNewRoot, HasRunAll};
-ghost use Rattle.op_eval.specs.Exploring.{AreExplored, IsExplored};
+ghost use Rattle.op_eval.specs.Exploring.{AreExplored, IsExploredBoard};
 ghost use Rattle.op_eval.specs.Further.{AreFurther};
 ghost use Rattle.op_eval.specs.Gathering.{runners_of};
 ghost use Rattle.op_words.specs.Hands.{plan_of, cap_of, counters_of};
@@ -27,7 +27,7 @@ use worker_gate::Gate;
 pub(crate) enum Supply {
     /// The counters of the board, one for each pass.
     Counters,
-    /// Deques, each worker of a crew from its own or by a steal.
+    /// Deques: each worker of a crew takes from its own, or steals.
     Deques(Crew),
 }
 
@@ -39,7 +39,7 @@ pub(crate) struct Tallied {
 }
 
 impl Supply {
-    /// Takes the memory that exploring needs beside the board: none by strata.
+    /// Takes the memory that exploring needs beside the board. By strata it needs none.
     pub(crate) fn new(
         alloc: Global,
         plan: &Plan,
@@ -82,7 +82,7 @@ pub(crate) fn explore_by<R: Threads + Sync, G: Gate>(
     requires cap { 1 ≤ cap_of board }
     requires ready { AreExplored board 0 runners }
     requires supply { IsSupply plan.now (length (runners_of runners)) supply }
-    ensures explored { IsExplored result.0 }
+    ensures explored { IsExploredBoard result.0 }
     ensures plan { plan_of result.0.board ≡ plan_of board }
     ensures cap { cap_of result.0.board ≡ cap_of board }
     ensures counters { counters_of result.0.board ≡ counters_of board }

@@ -7,7 +7,7 @@ ghost use Rattle.morph_base.specs.Graphs.{IsValidPlan};
 ghost use Rattle.morph_engine.specs.Accounts.{IsAccount, account_of};
 ghost use Rattle.morph_engine.specs.Caps.{cap_for};
 ghost use Rattle.morph_engine.specs.Fates.{settled_fates};
-ghost use Rattle.morph_engine.specs.Runs.{HasRun, IsKept, journal_room};
+ghost use Rattle.morph_engine.specs.Runs.{HasRun, IsJournalledRun, journal_room};
 ghost use Rattle.op_words.specs.Closing.{IsClosed};
 ghost use Rattle.op_words.specs.Hands.{counts_of};
 ghost use Rattle.op_words.specs.declared.trail.View.{View as RootView};
@@ -19,7 +19,7 @@ use std::alloc::Global;
 use std::thread::Threads;
 use worker_gate::FreeGate;
 
-/// How many steps a journal has room for, by the number of operations: enough for eight evaluations of each.
+/// How many steps a journal has room for, for this many operations: enough for eight evaluations of each.
 fn room_for(ops: usize) -> usize
     requires { ops < 2 ^ 32 }
     ensures { result ≡ 32 * ops + 64 }
@@ -28,10 +28,10 @@ fn room_for(ops: usize) -> usize
 }
 
 impl Engine {
-    /// Runs a plan as [`Engine::run_batch`] does, by one worker that writes down its steps, of which the closed board
-    /// has the journal ([`Closed::journal`](op_words::Closed::journal)).
+    /// Runs a plan as [`Engine::run_batch`] does, by one worker that writes down its steps. The closed board has the
+    /// journal ([`Closed::journal`](op_words::Closed::journal)).
     ///
-    /// The journal has room for 32 steps an operation, and 64. Where that is not enough it has the first ones.
+    /// The journal has room for 32 steps for each operation, and 64 more. If that is not enough, it has the first ones.
     pub fn run_kept<R: Threads + Sync>(
         &mut self,
         rt: &R,
@@ -59,7 +59,7 @@ impl Engine {
         ensures account { IfOk result
             (λ end. IsAccount strategy.now.explore strategy.now.abort 1 (account_of end)) }
         ensures kept { IfOk result
-            (λ end. IsKept plan strategy.now.abort (journal_room plan) end.closed) }
+            (λ end. IsJournalledRun plan strategy.now.abort (journal_room plan) end.closed) }
         ensures refused { OnErr result (self.new ≡ self.old) }
     {
         let room = room_for(plan.ops.len());

@@ -1,9 +1,9 @@
 //! The engine: a state, and batches that are run on it one at a time.
 //!
-//! Below it stand `txn_splitter` and `precedence_graph`, which make a plan of a batch, and `version_table`, which
-//! keeps the state between batches. A caller makes an [`Engine`] of a layout; then, for each valid batch, it makes a
-//! plan ([`Engine::plan`]) and runs it ([`Engine::run_batch`]), after which the state is the fold of the batch. What
-//! became of each event is read off the [`BatchEnd`], and the values in the end off [`Engine::state`].
+//! It uses `txn_splitter` and `precedence_graph`, which make a plan of a batch, and `version_table`, which keeps the
+//! state between batches. A caller makes an [`Engine`] of a layout. Then, for each valid batch, it makes a plan
+//! ([`Engine::plan`]) and runs it ([`Engine::run_batch`]), after which the state is the fold of the batch. The
+//! [`BatchEnd`] says what became of each event, and [`Engine::state`] has the values in the end.
 //!
 //! No text is needed: the events can be made in code, each with its time and its operations.
 //!
@@ -23,13 +23,13 @@
 //! let value = engine.state().get(stock);
 //! ```
 //!
-//! `plan` asks that the batch is valid and its keys are in the layout, which `Batch::is_valid` and `Batch::has_keys_in`
-//! test. `choose` and `profile` are those of `decision_model`; any other strategy does as well.
+//! `plan` requires that the batch is valid and its keys are in the layout. `Batch::is_valid` and `Batch::has_keys_in`
+//! test this. `choose` and `profile` are those of `decision_model`; any other strategy will do as well.
 //!
 //! A batch is run by any [`Strategy`](morph_base::Strategy): by operations or chains, explored by strata or by deques,
 //! with lazy or eager abort. That changes how often an operation is evaluated and by whom, and never the state, the
 //! values or the verdicts. The board of a batch, its runners and the passes of its exploring are those of `op_words`,
-//! `op_eval`, `strata_explorer` and `steal_explorer`; `abort_lazy` settles what was explored, and completes it.
+//! `op_eval`, `strata_explorer` and `steal_explorer`. `abort_lazy` settles what was explored, and completes it.
 #![tactic(auto)]
 
 mod crew;

@@ -1,4 +1,4 @@
-//! What a batch takes its memory for, and its run on that, which takes none.
+//! What a batch takes its memory for, and its run with that, which takes none.
 ghost use Rattle.std.specs.Prelude.{◌≡◌, ℕ, ◌≤◌, ◌<◌, IfOk, length, map};
 ghost use Rattle.morph_base.specs.Graphs.{IsValidPlan};
 ghost use Rattle.morph_base.specs.Limits.{most_attempts, most_workers};
@@ -9,7 +9,7 @@ ghost use Rattle.op_words.specs.Rule.{first_view};
 ghost use Rattle.op_eval.specs.Gathering.{runners_of};
 ghost use Rattle.morph_engine.specs.Caps.{cap_for};
 ghost use Rattle.morph_engine.specs.Exploring.{explore_of};
-ghost use Rattle.morph_engine.specs.Runs.{IsPrepared, HasJournalRoom, HasRun, IsKept};
+ghost use Rattle.morph_engine.specs.Runs.{IsPrepared, HasJournalRoom, HasRun, IsJournalledRun};
 
 use crate::exploring::{Supply, Tallied, explore_by};
 use abort_lazy::{Room, finish, settle_all};
@@ -22,10 +22,11 @@ use std::thread::Threads;
 use strata_explorer::counters;
 use worker_gate::Gate;
 
-/// The last attempt at which an operation may read what is not settled; behind it each has one more, on settled values.
+/// The last attempt at which an operation may read what is not settled. After it each operation has one more attempt,
+/// on settled values.
 ///
-/// Under lazy abort one is enough. Under eager abort an operation is evaluated again while others explore, on what may
-/// be rolled back once more.
+/// Under lazy abort one is enough. Under eager abort an operation is evaluated again while others explore, on values
+/// that may be rolled back once more.
 fn cap_of(abort: Abort) -> u8
     ensures { result ≡ cap_for abort }
 {
@@ -35,7 +36,7 @@ fn cap_of(abort: Abort) -> u8
     }
 }
 
-/// The board of a plan and its root, which keeps a journal where there is to be room for one.
+/// Makes the board of a plan and its root, which keeps a journal if there is to be room for one.
 fn board_for(
     alloc: Global,
     plan: &Plan,
@@ -80,8 +81,8 @@ pub(crate) struct Ran {
 }
 
 impl Prepared {
-    /// Takes the memory for a plan, by a strategy and for so many workers, whose root has so much room for a journal. They
-    /// are to work side by side, or in as many threads as the plan is worth.
+    /// Takes the memory for a plan, for this strategy and this many workers. The root has this much room for a journal.
+    /// The workers are to work side by side, or in as many threads as the plan is worth.
     pub(crate) fn new(
         alloc: Global,
         plan: &Plan,
@@ -126,7 +127,7 @@ impl Prepared {
             result.tallied.handed result.tallied.stolen }
         ensures kept { (room : ℕ) → HasJournalRoom room self
             → length (runners_of self.runners) ≡ 1
-            → IsKept plan.now self.abort room result.closed }
+            → IsJournalledRun plan.now self.abort room result.closed }
     {
         let Prepared {
             abort,

@@ -1,7 +1,7 @@
 ghost use Rattle.std.specs.Prelude.{◌≡◌, ◌+◌, ◌↔◌, IsTrue, Contains};
 ghost use Rattle.morph_io.specs.InMemory.{counted};
 
-/// Whether the call after the first `calls` ones has a number among `numbers`, where the first call has number 1.
+/// Whether the number of the next call, after `calls` earlier ones, is among `numbers`. The first call has number 1.
 pub(crate) fn is_next_call_among(numbers: &[u64], calls: u64) -> bool
     ensures { IsTrue result ↔ Contains numbers.now (calls + 1) }
 {

@@ -8,12 +8,12 @@ pub(crate) fn copy_to(buf: &mut [u8], at: usize, bytes: &[u8])
     buf[at..at + bytes.len()].copy_from_slice(bytes);
 }
 
-/// Appends `bytes` where there is room for them.
+/// Appends `bytes` if there is room for them.
 pub(crate) fn append(kept: &mut Vec<u8>, bytes: &[u8])
     requires { vec_len kept.old + length bytes.now ≤ vec_capacity kept.old }
     ensures items { kept.new.items ≡ kept.old.items ++ bytes.now }
     ensures capacity { vec_capacity kept.old ≤ vec_capacity kept.new }
 {
-    // With that room no memory is asked for, so the call cannot be refused.
+    // The room is there, so no memory is asked for and the call cannot be refused.
     let _ = kept.extend_from_slice(bytes);
 }

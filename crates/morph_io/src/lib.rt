@@ -1,12 +1,12 @@
 //! Bytes in and bytes out.
 //!
 //! [`Source`] and [`Sink`] are what the layers above read from and write to. Their contracts speak of the bytes that
-//! are left or written, where the object tells them, and of a count of faults: an error comes only where that count
+//! are left or written, if the object reveals them, and of a count of faults: an error is returned only if that count
 //! rose.
 //!
-//! [`MemSource`], [`RepeatSource`] and [`MemSink`] hold their bytes in memory and tell everything; [`StdSource`] and
-//! [`StdSink`] stand over the readers and writers of std, and tell nothing. A caller builds a line in a [`LineBuf`],
-//! puts it into an [`Out`], and flushes that at the end:
+//! [`MemSource`], [`RepeatSource`] and [`MemSink`] hold their bytes in memory and reveal all of them; [`StdSource`] and
+//! [`StdSink`] use the readers and writers of std, and reveal nothing. A caller builds a line in a [`LineBuf`], puts it
+//! into an [`Out`], and flushes that at the end:
 //!
 //! ```text
 //! let mut sink = StdSink::new(rt.stdout());
@@ -19,7 +19,7 @@
 //! out.flush(&mut sink)?;
 //! ```
 //!
-//! Below stands `morph_base`, of which only `List` and `OutOfMemory` are used.
+//! It uses only `List` and `OutOfMemory` of `morph_base`.
 #![tactic(auto)]
 
 mod calls;

@@ -8,7 +8,7 @@ use morph_base::{List, OutOfMemory};
 use std::alloc::Global;
 use std::marker::Model;
 
-/// A sink that keeps the bytes in memory, takes them in pieces, and fails at chosen calls or where its room ends.
+/// A sink that keeps the bytes in memory, takes them in pieces, and fails at chosen calls or when its room ends.
 ///
 /// Contracts see it as a `Store`: the bytes written, the room left, the greatest piece, the numbers of the calls
 /// that fail and of those that stall, and the calls and faults so far.
@@ -43,8 +43,8 @@ impl Model for MemSink {
 }
 
 impl MemSink {
-    /// An empty sink with memory for `room` bytes, of which a call takes at most `piece`. The calls whose number,
-    /// from 1, is in `fail` or in `stall` append nothing and fail.
+    /// An empty sink with memory for `room` bytes. A call takes at most `piece` of them. The calls whose number, from
+    /// 1, is in `fail` or in `stall` append nothing and fail.
     pub fn new(
         alloc: Global,
         room: usize,
@@ -89,8 +89,8 @@ impl Sink for MemSink {
 
     ghost writes = { StoreWrites };
 
-    /// Takes as many bytes as `piece` and the room allow, or fails where there is no room or the number of the call
-    /// is among the chosen ones.
+    /// Takes as many bytes as `piece` and the room allow. Fails if there is no room or the number of the call is among
+    /// the chosen ones.
     fn write(&mut self, piece: &[u8]) -> Result<usize, WriteFailed>
         requires { 0 < length piece.now }
         ensures fails { IsErr result ↔ IsRefused self.old }

@@ -39,7 +39,7 @@ impl Model for MemSource {
 }
 
 impl MemSource {
-    /// A source of `bytes`, of which a call gives at most `piece`. The calls whose number, from 1, is in `fail` fail.
+    /// A source of `bytes`. A call gives at most `piece` of them. The calls whose number, from 1, is in `fail` fail.
     pub fn new(bytes: List<u8>, piece: usize, fail: List<u64>) -> Self
         requires { 0 < piece }
         ensures { result ≡ record
@@ -63,8 +63,8 @@ impl Source for MemSource {
 
     ghost reads = { SupplyReads };
 
-    /// Gives as many bytes as `piece`, the buffer and the bytes left allow, or fails where the number of the call is
-    /// among the chosen ones.
+    /// Gives as many bytes as `piece`, the buffer and the bytes left allow. Fails if the number of the call is among
+    /// the chosen ones.
     fn read(&mut self, buf: &mut [u8]) -> Result<usize, ReadFailed>
         requires { 0 < length buf.old }
         ensures fails { IsErr result ↔ Contains self.old.fail (self.old.calls + 1) }

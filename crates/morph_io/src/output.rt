@@ -16,8 +16,8 @@ pub const OUT_BYTES: usize = 8192;
 /// A buffer of [`OUT_BYTES`] bytes between lines and a [`Sink`], which contracts see as the list of the bytes that it
 /// keeps.
 ///
-/// The sink is called only with a full buffer, or at a [`Out::flush`]. After a [`WriteFailed`] the sink has a part of all
-/// that was put, from the front, what the buffer kept is dropped, and the `Out` is not used again.
+/// The sink is called only with a full buffer, or at a [`Out::flush`]. After a [`WriteFailed`] the sink has a part of
+/// all that was put, from the front, what the buffer kept is dropped, and the `Out` is not used again.
 #[derive(Debug, Drop)]
 pub struct Out {
     kept: Vec<u8>,
@@ -82,10 +82,10 @@ impl Out {
         })
     }
 
-    /// Appends the bytes of `line`, and writes the buffer where that fills it.
+    /// Appends the bytes of `line`, and writes the buffer if that fills it.
     ///
-    /// The line has its line feed, if it is to have one. `Err` comes only where the sink's count of faults rose in
-    /// this call; the sink has then a part of all that was put, and the buffer is not used again.
+    /// The line has its line feed, if it is to have one. `Err` is returned only if the sink's count of faults rose in
+    /// this call. The sink then has a part of all that was put, and the buffer is not used again.
     pub fn put<K: Sink>(&mut self, sink: &mut K, line: &LineBuf) -> Result<(), WriteFailed>
         ensures puts { OnOk result
             (Puts (K.written sink.old) self.old line.now (K.written sink.new) self.new) }
@@ -116,8 +116,8 @@ impl Out {
 
     /// Writes all that the buffer keeps.
     ///
-    /// `Err` comes only where the sink's count of faults rose in this call; the sink has then a part of all that
-    /// was put, and the buffer is not used again.
+    /// `Err` is returned only if the sink's count of faults rose in this call. The sink then has a part of all that was
+    /// put, and the buffer is not used again.
     pub fn flush<K: Sink>(&mut self, sink: &mut K) -> Result<(), WriteFailed>
         ensures all { OnOk result (K.written sink.new ≡ behind (K.written sink.old) self.old) }
         ensures puts { OnOk result

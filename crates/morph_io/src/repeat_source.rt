@@ -1,5 +1,5 @@
 ghost use Rattle.std.specs.Prelude.{◌≡◌, ◌<◌, ◌≤◌, [], ◌++◌, length, take, Some, IsOk, IfOk};
-ghost use Rattle.morph_io.specs.InMemory.{Gives, repeated, left_from};
+ghost use Rattle.morph_io.specs.InMemory.{GivesBytes, repeated, left_from};
 
 use crate::copying::copy_to;
 use crate::source::{ReadFailed, Source};
@@ -26,7 +26,7 @@ impl Model for RepeatSource {
     ghost invariant = { λ s. s.at ≤ length s.line.items };
 }
 
-/// The place at which the next bytes stand, and how many times come after it: at the line's end the next time begins.
+/// The place of the next bytes, and how many repetitions come after it: at the line's end the next one begins.
 fn next_place(line: &[u8], at: usize, times: u64) -> (usize, u64)
     requires { at ≤ length line.now }
     ensures within { result.0 ≤ length line.now }
@@ -55,7 +55,7 @@ impl Source for RepeatSource {
 
     ghost faults = { λ _. 0 };
 
-    ghost reads = { Gives };
+    ghost reads = { GivesBytes };
 
     /// Gives as much of one line as the buffer has room for. It never fails.
     fn read(&mut self, buf: &mut [u8]) -> Result<usize, ReadFailed>

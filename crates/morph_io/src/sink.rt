@@ -21,22 +21,22 @@ impl Error for WriteFailed {}
 
 /// Where bytes go.
 ///
-/// Its meanings are the bytes written, where it tells them, a count of faults that never falls, and what one write may do.
-/// The count is a `u64`: where it stands at its last value it counts as risen in every call.
+/// Its meanings are the bytes written, if it reveals them, a count of faults that never falls, and what one write may
+/// do. The count is a `u64`: at its last value it is taken to have risen in every call.
 pub trait Sink {
-    /// The bytes that were written so far, or `None` where the sink tells nothing of them.
+    /// The bytes that were written so far, or `None` if the sink reveals nothing of them.
     ghost written: { Self → Option (List ℕ) };
 
-    /// How many writes have failed so far.
+    /// The number of writes that have failed so far.
     ghost faults: { Self → ℕ };
 
-    /// What one write of these bytes may do, from the sink before to its answer and the sink after; `Unit` where the
-    /// sink says nothing more of it than the clauses of [`write`](Sink::write).
+    /// What one write of these bytes may do, from the sink before to its answer and the sink after. It is `Unit` if the
+    /// sink says no more of it than the clauses of [`write`](Sink::write).
     ghost writes: { Self → (piece : List ℕ) → Result ℕ WriteFailed → Self → Type 0 };
 
-    /// Appends the first bytes of `piece`, and answers how many: at least one, and at most all.
+    /// Appends the first bytes of `piece`, and returns how many: at least one, and at most all.
     ///
-    /// `Err` comes only where the count of faults rose in this call, and nothing was appended then. `Ok` leaves the
+    /// `Err` is returned only if the count of faults rose in this call, and nothing was appended then. `Ok` leaves the
     /// count as it was.
     fn write(&mut self, piece: &[u8]) -> Result<usize, WriteFailed>
         requires { 0 < length piece.now }

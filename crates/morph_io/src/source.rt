@@ -21,24 +21,24 @@ impl Error for ReadFailed {}
 
 /// Where bytes come from.
 ///
-/// Its meanings are the bytes left, where it tells them, a count of faults that never falls, and what one read may do.
-/// The count is a `u64`: where it stands at its last value it counts as risen in every call.
+/// Its meanings are the bytes left, if it reveals them, a count of faults that never falls, and what one read may do.
+/// The count is a `u64`: at its last value it is taken to have risen in every call.
 pub trait Source {
-    /// The bytes that are still to be read, or `None` where the source tells nothing of them.
+    /// The bytes that are still to be read, or `None` if the source reveals nothing of them.
     ghost left: { Self → Option (List ℕ) };
 
-    /// How many reads have failed so far.
+    /// The number of reads that have failed so far.
     ghost faults: { Self → ℕ };
 
-    /// What one read for so many bytes may do, from the source before to its answer and the source after; `Unit`
-    /// where the source says nothing more of it than the clauses of [`read`](Source::read).
+    /// What one read for `asked` bytes may do, from the source before to its answer and the source after. It is `Unit`
+    /// if the source says no more of it than the clauses of [`read`](Source::read).
     ghost reads: { Self → (asked : ℕ) → Result ℕ ReadFailed → Self → Type 0 };
 
-    /// Moves the first bytes that are left into the front of `buf`, and answers how many: at least one, or 0 at the
-    /// end of the input.
+    /// Moves the first bytes that are left into the front of `buf`, and returns how many: at least one, or 0 at the end
+    /// of the input.
     ///
-    /// `Err` comes only where the count of faults rose in this call, and the bytes left are then as before. `Ok` leaves
-    /// the count as it was.
+    /// `Err` is returned only if the count of faults rose in this call, and the bytes left are then as before. `Ok`
+    /// leaves the count as it was.
     fn read(&mut self, buf: &mut [u8]) -> Result<usize, ReadFailed>
         requires { 0 < length buf.old }
         ensures bound { IfOk result (λ n. n ≤ length buf.new) }

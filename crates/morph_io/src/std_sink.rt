@@ -7,12 +7,12 @@ use crate::sink::{Sink, WriteFailed};
 use std::io::Write;
 use std::marker::Model;
 
-/// Standard output, standard error or another writer of std's, as a [`Sink`] that tells nothing of its bytes.
+/// Standard output, standard error or another writer of std's, as a [`Sink`] that reveals nothing of its bytes.
 ///
 /// Contracts see it as its count of faults.
 ///
 /// The writer is flushed after each write. A call that is interrupted is tried again, at most [`MAX_RETRIES`] times in
-/// one write; the next interruption counts as a fault, and so does a write that takes none of the bytes.
+/// one write. The next interruption counts as a fault, and so does a write that takes none of the bytes.
 #[derive(Debug, Drop)]
 pub struct StdSink<W> {
     writer: W,
@@ -27,7 +27,7 @@ impl<W> Model for StdSink<W> {
     ghost view = { λ s. s.faults };
 }
 
-/// One write, tried again where it is interrupted; `None` is a fault, and one is that no byte was taken.
+/// One write, tried again if it is interrupted. `None` is a fault; it is one if no byte was taken.
 fn write_retrying<W: Write>(writer: &mut W, piece: &[u8], retries: &mut u32) -> Option<usize>
     ensures some { IfSome result (λ n. 0 < n) }
     ensures bound { IfSome result (λ n. n ≤ length piece.now) }
@@ -45,7 +45,7 @@ fn write_retrying<W: Write>(writer: &mut W, piece: &[u8], retries: &mut u32) -> 
     }
 }
 
-/// One flush, tried again where it is interrupted; `None` is a fault.
+/// One flush, tried again if it is interrupted; `None` is a fault.
 fn flush_retrying<W: Write>(writer: &mut W, retries: &mut u32) -> Option<()> {
     'tries: loop {
         match writer.flush() {

@@ -7,7 +7,7 @@ use crate::source::{ReadFailed, Source};
 use std::io::{Read, Stdin};
 use std::marker::Model;
 
-/// Standard input, or another reader of std's, as a [`Source`] that tells nothing of its bytes.
+/// Standard input, or another reader of std's, as a [`Source`] that reveals nothing of its bytes.
 ///
 /// Contracts see it as its count of faults.
 ///
@@ -27,7 +27,7 @@ impl<R> Model for StdSource<R> {
     ghost view = { λ s. s.faults };
 }
 
-/// One read, tried again where it is interrupted; `None` is a fault.
+/// One read, tried again if it is interrupted; `None` is a fault.
 fn read_retrying<R: Read>(reader: &mut R, buf: &mut [u8]) -> Option<usize>
     ensures bound { IfSome result (λ n. n ≤ length buf.new) }
 {

@@ -12,7 +12,7 @@ use Rattle.op_words.specs.declared.answers.Outcome.{Outcome}
 use Rattle.op_words.specs.declared.trail.Item.{Item}
 use Rattle.op_words.specs.declared.trail.View.{View}
 use Rattle.op_words.specs.Trails.{loaded, last_word, HasLast, IsDisturbed, IsSourceOf, IsCalmAt, IsCalm, Along, ComeFirst, OwnOn, NoneOwn}
-use Rattle.op_words.specs.Views.{IsLone, Goes}
+use Rattle.op_words.specs.Views.{IsLone, AddsAndFrees}
 use Rattle.op_words.proofs.Trailing.{last-none, last-append, last-one, last-skip, last_or, along_contains, calm_undisturbed}
 use Rattle.morph_base.specs.Plans.{IsPlan, op_count}
 use Rattle.morph_base.proofs.OutcomeLaws.{source_precedes}
@@ -25,10 +25,10 @@ use Rattle.op_eval.specs.Alone.{Ran, NotBegun}
 pub come_first : (p : Plan) (o : ℕ) → IsPlan p → o < op_count p → ComeFirst p o
 come_first p o valid lt s source = (source_precedes p o source.place s valid lt source.in_places source.source_is).number_before
 
-pub lone_unclaimed : {v u : View} {xs : List Item} → Goes v u xs → IsLone v → {o : ℕ} {w : OpWord} → Contains xs (loaded o w) → w.state ≡ Claimed → ⊥
+pub lone_unclaimed : {v u : View} {xs : List Item} → AddsAndFrees v u xs → IsLone v → {o : ℕ} {w : OpWord} → Contains xs (loaded o w) → w.state ≡ Claimed → ⊥
 lone_unclaimed {v} {u} {xs} goes lone {o} {w} found claimed = let at = along_contains IsCalmAt v.trail xs (goes.adds.calm lone) (loaded o w) found in at.3.free refl claimed
 
-pub lone_undisturbed : {v u : View} {xs : List Item} → Goes v u xs → IsLone v → {o : ℕ} → IsDisturbed o xs → ⊥
+pub lone_undisturbed : {v u : View} {xs : List Item} → AddsAndFrees v u xs → IsLone v → {o : ℕ} → IsDisturbed o xs → ⊥
 lone_undisturbed {v} {u} {xs} goes lone {o} is = calm_undisturbed v.trail xs (goes.adds.calm lone) o is
 
 -- ---- what a lone root loads
@@ -126,7 +126,7 @@ calm_last s pre xs calm loads =
     ]
 
 -- what calls make of a lone root's words, whose own steps are on one operation alone
-module _ {v u : View} {xs : List Item} (goes : Goes v u xs) (lone : IsLone v) where
+module _ {v u : View} {xs : List Item} (goes : AddsAndFrees v u xs) (lone : IsLone v) where
   pub knew_first : (o : ℕ) (w : OpWord) (rest : List Item) → xs ≡ loaded o w ∷ rest → w ≡ last_word o (blocked 1) v.trail
   knew_first o w rest begins = head_known v.trail o w rest (subst (IsCalm v.trail) begins (goes.adds.calm lone))
 

@@ -12,7 +12,7 @@ use Rattle.interleaving_core.specs.Counts.{evaluated, is_finish}
 use Rattle.op_words.specs.declared.trail.Item.{Item}
 use Rattle.op_words.specs.declared.trail.View.{View}
 use Rattle.op_words.specs.Trails.{loaded, HasLast, IsDisturbed, IsSteadyAt, OwnOn, OwnOpen, NoneOwn}
-use Rattle.op_words.specs.Views.{Adds, Goes}
+use Rattle.op_words.specs.Views.{Adds, AddsAndFrees}
 use Rattle.op_words.proofs.Trailing.{along_contains, last_later, one_last, last-one, stays_or}
 use Rattle.op_words.proofs.Adding.{goes_then}
 use Rattle.op_eval.specs.Evaluations.{SoFar}
@@ -60,5 +60,5 @@ open_append xs ys first second t inside is = elim (Contains-append_cases xs ys t
 pub none_open : (xs : List Item) → NoneOwn xs → OwnOpen xs
 none_open xs none t inside is = absurd (false≢true (sym (none t inside) ∙ is))
 
-pub far_then : {o : ℕ} {start v u : View} {ys xs : List Item} → SoFar o start v ys → Goes v u xs → OwnOn o xs → OwnOpen xs → SoFar o start u (ys ++ xs)
+pub far_then : {o : ℕ} {start v u : View} {ys xs : List Item} → SoFar o start v ys → AddsAndFrees v u xs → OwnOn o xs → OwnOpen xs → SoFar o start u (ys ++ xs)
 far_then {o} {start} {v} {u} {ys} {xs} far goes own open_own = record { goes = goes_then far.goes goes; own = own_append ys xs far.own own; open_own = open_append ys xs far.open_own open_own }

@@ -4,7 +4,7 @@ use Rattle.std.specs.Prelude.{slice_index_or}
 use Rattle.std.proofs.lemmas.List.Elements.{Contains-append_cases}
 use Rattle.op_words.specs.declared.trail.Item.{Item}
 use Rattle.op_words.specs.Trails.{OwnOpen, IsCalm, IsCalmAt}
-use Rattle.op_words.specs.Views.{Goes}
+use Rattle.op_words.specs.Views.{AddsAndFrees}
 use Rattle.op_words.proofs.Rows.{no_more}
 use Rattle.op_words.proofs.Trailing.{along_none, along-append}
 use Rattle.op_eval.specs.declared.runner.Runner.{Runner}
@@ -25,7 +25,7 @@ same_further a b same = record {
 }
 
 -- words that settle nothing were added to its view
-pub goes_further : (a b : Runner) (words : List Item) → Goes (hand_view a) (hand_view b) words → OwnOpen words → IsFurther a b
+pub goes_further : (a b : Runner) (words : List Item) → AddsAndFrees (hand_view a) (hand_view b) words → OwnOpen words → IsFurther a b
 goes_further a b words goes open_own = record {
   tag = goes.adds.tag;
   made = goes.adds.made;

@@ -24,20 +24,20 @@ use Rattle.op_words.specs.declared.answers.Claimed.TheVariants.{Held as HeldAt, 
 use Rattle.op_words.specs.declared.answers.Readied.TheVariants.{Made, Not as Unmade}
 use Rattle.op_words.specs.declared.answers.Outcome.{Outcome}
 use Rattle.op_words.specs.Trails.{loaded, left, HasLast, IsDisturbed, IsReached, IsSourceOf, OwnOn, OwnOpen, NoneOwn}
-use Rattle.op_words.specs.Views.{Agrees, Adds, Goes, Holds, looked, looking}
-use Rattle.op_words.specs.Calls.{Elsewhere, IsRead, IsUsed, IsTaken, PeekDoes, MakeDoes, ClaimDoes, FetchDoes, FinishDoes, GiveBackDoes}
+use Rattle.op_words.specs.Views.{Agrees, Adds, AddsAndFrees, Holds, looked, looking}
+use Rattle.op_words.specs.Calls.{Elsewhere, IsReadValue, IsUsed, IsPlaceTaken, PeekDoes, MakeDoes, ClaimDoes, FetchDoes, FinishDoes, GiveBackDoes}
 use Rattle.op_words.proofs.Trailing.{cases_word, last_item, last_later, one_last, disturbed_later, disturbed_more}
 use Rattle.op_eval.specs.declared.answers.Evaluation.TheVariants.{Evaluated, Blocked as BlockedOn, Busy as BusyAt, Already}
-use Rattle.op_eval.specs.Evaluations.{fetches, IsReadied, IsClaimedWith, EvaluationDoes, IsEvaluatingSoFar, SoFar, IsFetchedUpTo, IsStopped}
+use Rattle.op_eval.specs.Evaluations.{fetches, IsReadiedOrNot, IsClaimedWith, EvaluationDoes, IsEvaluatingSoFar, SoFar, IsFetchedUpTo, IsStopped}
 use Rattle.op_words.proofs.Adding.{adds_then, adds_none}
 use Rattle.op_eval.proofs.Stepping.{fetches-nil, fetches-snoc, count_quiet, readied_quiet, claimed_quiet}
 use Rattle.op_eval.proofs.Following.{claimed_other, one_is_last, one_none, found_other, own_append, none_own, open_append, none_open, far_then}
 
-pub read_more : (xs ys : List Item) (q : Origin) (x : ℕ) → IsRead xs q x → IsRead (xs ++ ys) q x
+pub read_more : (xs ys : List Item) (q : Origin) (x : ℕ) → IsReadValue xs q x → IsReadValue (xs ++ ys) q x
 read_more xs ys (Base b) x read = read
 read_more xs ys (Written s) x read = (read.0, Contains-append_left xs ys (loaded s read.0) read.1, read.2)
 
-pub read_later : (xs ys : List Item) (q : Origin) (x : ℕ) → IsRead ys q x → IsRead (xs ++ ys) q x
+pub read_later : (xs ys : List Item) (q : Origin) (x : ℕ) → IsReadValue ys q x → IsReadValue (xs ++ ys) q x
 read_later xs ys (Base b) x read = read
 read_later xs ys (Written s) x read = (read.0, Contains-append_right xs ys (loaded s read.0) read.1, read.2)
 
@@ -61,17 +61,17 @@ fetched_more p cap o a j {v} {m} {u} {x} up does =
       read = λ k lt.
           elim (cases_eq k j) [
             | inl same ↦
-                subst (λ n. IsRead (up.words ++ does.words) (origin_at p o n) (get_or (up.values ++ x ∷ []) n 0)) (sym same)
-                (subst (IsRead (up.words ++ does.words) (origin_at p o j)) (sym (last_value up.values j count)) (read_later up.words does.words (origin_at p o j) x tells.read))
+                subst (λ n. IsReadValue (up.words ++ does.words) (origin_at p o n) (get_or (up.values ++ x ∷ []) n 0)) (sym same)
+                (subst (IsReadValue (up.words ++ does.words) (origin_at p o j)) (sym (last_value up.values j count)) (read_later up.words does.words (origin_at p o j) x tells.read))
             | inr other ↦
                 let less : k < j = omega arith in
-                subst (IsRead (up.words ++ does.words) (origin_at p o k)) (sym (get_or-append up.values (x ∷ []) 0 k (omega arith)))
+                subst (IsReadValue (up.words ++ does.words) (origin_at p o k)) (sym (get_or-append up.values (x ∷ []) 0 k (omega arith)))
                 (read_more up.words does.words (origin_at p o k) (slice_index up.values k) (up.read k less))
           ];
       valued = λ k s lt is.
           elim (cases_eq k j) [
             | inl same ↦
-                let used : IsUsed p cap o m u does.words a s x = subst (λ q. IsTaken p cap o m u does.words a q x) (subst (λ n. origin_at p o n ≡ Written s) same is) tells.taken in
+                let used : IsUsed p cap o m u does.words a s x = subst (λ q. IsPlaceTaken p cap o m u does.words a q x) (subst (λ n. origin_at p o n ≡ Written s) same is) tells.taken in
                 (used.word, Contains-append_right up.words does.words (loaded s used.word) (subst (λ zs. Contains zs (loaded s used.word)) (sym used.words) (0, omega arith, refl)), used.shown)
             | inr other ↦
                 let less : k < j = omega arith in
@@ -221,12 +221,12 @@ module _ (p : Plan) (cap o : ℕ) {start u : View} where
 
 module _ (p : Plan) (cap o : ℕ) {start v : View} {xs : List Item} {w : OpWord} (far : IsEvaluatingSoFar o start v xs w) where
   -- its own word was found otherwise than it was last
-  busy_found : {u : View} {z : OpWord} (ys : List Item) → Goes v u ys → NoneOwn ys → HasLast o ys z → Contains ys (loaded o z) → (z ≢ w) ⊎ IsDisturbed o ys → u ≡ looking ys v → EvaluationDoes p cap o start u (BusyAt z)
+  busy_found : {u : View} {z : OpWord} (ys : List Item) → AddsAndFrees v u ys → NoneOwn ys → HasLast o ys z → Contains ys (loaded o z) → (z ≢ w) ⊎ IsDisturbed o ys → u ≡ looking ys v → EvaluationDoes p cap o start u (BusyAt z)
   busy_found {u} {z} ys goes none last seen cause view =
       let whole : SoFar o start u (xs ++ ys) = far_then far.far goes (none_own ys none) (none_open ys none) in
       let there : IsDisturbed o (xs ++ ys) = elim cause [ inl other ↦ found_other xs ys far.last last (λ same. other (sym same)) none | inr within ↦ disturbed_later xs within ] in
       let inside : Contains (xs ++ ys) (loaded o z) = Contains-append_right xs ys (loaded o z) seen in
-      let readied : IsReadied o start.events u.events = subst (IsReadied o start.events) (sym (ap (λ (y : View). y.events) view)) far.readied in
+      let readied : IsReadiedOrNot o start.events u.events = subst (IsReadiedOrNot o start.events) (sym (ap (λ (y : View). y.events) view)) far.readied in
       record {
         words = xs ++ ys;
         goes = whole.goes;

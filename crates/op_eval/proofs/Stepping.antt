@@ -4,7 +4,7 @@ use Rattle.std.specs.Prelude.{count_by}
 use Rattle.std.proofs.lemmas.List.Sums.{sum_by-cons}
 use Rattle.interleaving_core.specs.declared.event.CoreEvent.{CoreEvent}
 use Rattle.interleaving_core.specs.declared.event.CoreEvent.TheVariants.{Ready as ReadyStep, Claim, Fetch}
-use Rattle.op_eval.specs.Evaluations.{fetches, IsReadied, IsClaimedWith}
+use Rattle.op_eval.specs.Evaluations.{fetches, IsReadiedOrNot, IsClaimedWith}
 
 pub fetches-nil : (o tag k : ℕ) (es : List CoreEvent) → fetches o tag k [] es ≡ es
 unfolding fetches
@@ -31,7 +31,7 @@ unfolding fetches
 fetches_quiet q o tag quiet k [] es = refl
 fetches_quiet q o tag quiet k (x ∷ xs) es = fetches_quiet q o tag quiet (k + 1) xs (Fetch o k tag x ∷ es) ∙ count_quiet q (Fetch o k tag x) es (quiet k x)
 
-pub readied_quiet : (q : CoreEvent → Bool) (o : ℕ) {es fs : List CoreEvent} → IsReadied o es fs → q (ReadyStep o) ≡ false → count_by q fs ≡ count_by q es
+pub readied_quiet : (q : CoreEvent → Bool) (o : ℕ) {es fs : List CoreEvent} → IsReadiedOrNot o es fs → q (ReadyStep o) ≡ false → count_by q fs ≡ count_by q es
 readied_quiet q o {es} {fs} is quiet = elim is [ inl same ↦ ap (count_by q) same | inr more ↦ ap (count_by q) more ∙ count_quiet q (ReadyStep o) es quiet ]
 
 pub claimed_quiet : (q : CoreEvent → Bool) (o tag : ℕ) (xs : List ℕ) {es fs : List CoreEvent} → IsClaimedWith o tag xs es fs → q (ReadyStep o) ≡ false → q (Claim o tag) ≡ false

@@ -1,4 +1,4 @@
--- What evaluating an operation tells: of each answer its cause, by the words that were loaded and left in the call.
+-- What evaluating an operation says: the cause of each answer, by the words loaded and left in the call
 use Rattle.std.specs.Prelude.{◌≡◌, ◌≢◌, ℕ, ◌+◌, ◌<◌, ◌⊎◌, true, false, List, [], ◌∷◌, length, Contains, Option, Some, None, slice_index}
 use Rattle.morph_base.specs.declared.plan.Plan.{Plan}
 use Rattle.morph_base.specs.declared.plan.Origin.TheVariants.{Op as Written}
@@ -15,8 +15,8 @@ use Rattle.op_words.specs.declared.answers.Outcome.{Outcome}
 use Rattle.op_words.specs.declared.trail.Item.{Item}
 use Rattle.op_words.specs.declared.trail.View.{View}
 use Rattle.op_words.specs.Trails.{loaded, left, HasLast, IsDisturbed, IsReached, IsSourceOf, OwnOn, OwnOpen}
-use Rattle.op_words.specs.Views.{Adds, Goes, Holds, HasRecordsSeen}
-use Rattle.op_words.specs.Calls.{answer_of, Elsewhere, IsRead, IsSourceOpen}
+use Rattle.op_words.specs.Views.{Adds, AddsAndFrees, Holds, HasRecordsSeen}
+use Rattle.op_words.specs.Calls.{answer_of, Elsewhere, IsReadValue, IsSourceOpen}
 use Rattle.op_eval.specs.declared.answers.Evaluation.{Evaluation}
 use Rattle.op_eval.specs.declared.answers.Evaluation.TheVariants.{Evaluated, Blocked as BlockedOn, Busy as BusyAt, Already}
 use Rattle.op_eval.specs.declared.evaluating.Stopped.{Stopped}
@@ -25,32 +25,34 @@ use Rattle.op_eval.specs.Running.{hand_view, counted}
 
 -- ---- the steps of an evaluation, the last one first
 
--- the values xs were fetched from place k on by the hand of this tag, after the steps es
+-- The steps after es and then the fetches of the values xs for operation o, from place k on, by the hand of this tag
 unfoldable pub fetches : ℕ → ℕ → ℕ → List ℕ → List CoreEvent → List CoreEvent
 fetches o tag k [] es = es
 fetches o tag k (x ∷ xs) es = fetches o tag (k + 1) xs (Fetch o k tag x ∷ es)
 
--- the operation was made ready after the steps es, or nothing was done yet
-abbrev pub IsReadied : ℕ → List CoreEvent → List CoreEvent → Type 0
-IsReadied o es fs = (fs ≡ es) ⊎ (fs ≡ ReadyStep o ∷ es)
+-- The steps fs are es, or es and then the step that makes operation o ready
+abbrev pub IsReadiedOrNot : ℕ → List CoreEvent → List CoreEvent → Type 0
+IsReadiedOrNot o es fs = (fs ≡ es) ⊎ (fs ≡ ReadyStep o ∷ es)
 
--- it was made ready or was so, it was claimed, and the values xs were fetched
+-- The steps fs are es, then perhaps the step that makes operation o ready, its claim, and the fetches of the values xs
 abbrev pub IsClaimedWith : ℕ → ℕ → List ℕ → List CoreEvent → List CoreEvent → Type 0
-IsClaimedWith o tag xs es fs = (begun : List CoreEvent) × IsReadied o es begun × (fs ≡ fetches o tag 0 xs (Claim o tag ∷ begun))
+IsClaimedWith o tag xs es fs =
+    (begun : List CoreEvent) × IsReadiedOrNot o es begun × (fs ≡ fetches o tag 0 xs (Claim o tag ∷ begun))
 
--- and then it was given back
+-- The steps fs are those of a claim and of fetches after es, and then the step that gives operation o back
 abbrev pub IsGivenUp : ℕ → ℕ → List CoreEvent → List CoreEvent → Type 0
-IsGivenUp o tag es fs = (xs : List ℕ) × (held : List CoreEvent) × IsClaimedWith o tag xs es held × (fs ≡ GiveBack o tag ∷ held)
+IsGivenUp o tag es fs =
+    (xs : List ℕ) × (held : List CoreEvent) × IsClaimedWith o tag xs es held × (fs ≡ GiveBack o tag ∷ held)
 
 -- ---- what each answer says
 
--- operation s was loaded with a value
+-- Operation s was loaded with a value
 abbrev pub IsValued : List Item → ℕ → Type 0
 IsValued xs s = (w : OpWord) × Contains xs (loaded s w) × (is_idle w.state ≡ false)
 
 module _ (p : Plan) (cap o : ℕ) (v u : View) (xs : List Item) where
-  -- evaluated: it was found idle, and left as what its function makes of the values that were loaded of its sources. `first`
-  -- is the word that the call loaded first
+  -- Operation o was evaluated: it was found idle, and left as what its function makes of the values that were loaded of
+  -- its sources. `first` is the word that the call loaded first
   pub record IsEvaluated (first : OpWord) (attempt : ℕ) (r : Outcome) : Type 0 where
     pub word : OpWord
     pub last : HasLast o xs word
@@ -63,51 +65,53 @@ module _ (p : Plan) (cap o : ℕ) (v u : View) (xs : List Item) where
     pub word_is : word ≡ finished (op_at p o).op attempt values
     pub outcome_is : r ≡ answer_of (value_of (op_at p o).op values)
     pub shown : Contains u.published (entry_of o word)
-    -- its last step is the one finish; the others make it ready, claim it, and fetch these values
+    -- The last step is the finish. The steps before it make o ready, claim it and fetch these values
     pub held : List CoreEvent
     pub claimed_with : IsClaimedWith o v.tag values v.events held
     pub steps : u.events ≡ Finish o v.tag ∷ held
     pub finished_more : evaluated u.events ≡ evaluated v.events + 1
     pub records : HasRecordsSeen p u o word values
-    pub read : (j : ℕ) → j < places p o → IsRead xs (origin_at p o j) (slice_index values j)
+    pub read : (j : ℕ) → j < places p o → IsReadValue xs (origin_at p o j) (slice_index values j)
     pub sources : (s : ℕ) → IsSourceOf p o s → IsValued xs s
 
-  -- a source has no value, or at the last attempt is not settled
+  -- Operation o was not evaluated: the word w of its source `at` has no value, or is not settled at the last attempt
   pub record IsBlocked (first : OpWord) (at : ℕ) (w : OpWord) : Type 0 where
     pub began : is_idle first.state ≡ true
     pub source : IsSourceOpen p cap o v u xs at w
     pub other : at ≢ o
-    -- the claim was given back, or never made
+    -- The claim was given back, or never made
     pub back : (z : OpWord) → HasLast o xs z → (z ≡ blocked first.attempt) ⊎ IsDisturbed o xs
     pub cause : (is_idle w.state ≡ true) ⊎ ((first.attempt ≡ cap + 1) ⊎ IsDisturbed o xs)
     pub at_last : (is_idle w.state ≡ true) ⊎ Contains xs (left o (claimed (cap + 1) v.tag))
     pub steps : (u.events ≡ v.events) ⊎ IsGivenUp o v.tag v.events u.events
 
-  -- it was seen claimed by another hand, or another hand changed it during the call
+  -- Operation o was seen claimed by another hand, or another hand changed it during the call
   pub record IsBusy (first : OpWord) (w : OpWord) : Type 0 where
     pub began : is_idle first.state ≡ true
     pub last : HasLast o xs w
     pub seen : Contains xs (loaded o w)
     pub cause : (w.state ≡ Claimed) ⊎ IsDisturbed o xs
     pub by_another : w.state ≡ Claimed → w.by ≢ v.tag
-    pub steps : IsReadied o v.events u.events
+    pub steps : IsReadiedOrNot o v.events u.events
 
-  -- its word, as it was loaded first and alone, was evaluated or settled
+  -- Operation o was evaluated or settled before, as its word w says, the only one that was loaded
   pub record IsAlready (w : OpWord) : Type 0 where
     pub only : xs ≡ loaded o w ∷ []
     pub there : is_idle w.state ≡ false
     pub stays : u.events ≡ v.events
 
+  -- The answer of `evaluate` has its cause in the words xs
   abbrev pub EvaluationTells : OpWord → Evaluation → Type 0
   EvaluationTells first (Evaluated attempt r) = IsEvaluated first attempt r
   EvaluationTells first (BlockedOn source w) = IsBlocked first source w
   EvaluationTells first (BusyAt w) = IsBusy first w
   EvaluationTells first (Already w) = IsAlready w
 
--- the call adds the words to the view. Its own steps are on this operation alone, and settle, spread and roll back nothing
+-- The call `evaluate` led from view v to view u: its own steps are on operation o alone, and settle, spread and roll
+-- back nothing, and o is reached
 pub record EvaluationDoes (p : Plan) (cap o : ℕ) (v u : View) (r : Evaluation) : Type 0 where
   pub words : List Item
-  pub goes : Goes v u words
+  pub goes : AddsAndFrees v u words
   pub own : OwnOn o words
   pub open_own : OwnOpen words
   pub first : OpWord
@@ -118,7 +122,8 @@ pub record EvaluationDoes (p : Plan) (cap o : ℕ) (v u : View) (r : Evaluation)
   pub no_spread : spreads u.events ≡ spreads v.events
   pub no_roll : rolled u.events ≡ rolled v.events
 
--- what it makes of a runner: its view, the count of its answers, and nothing else
+-- The call `evaluate` led from runner `before` to runner `after`: its view and the count of its answers changed, and
+-- nothing else
 pub record Tries (p : Plan) (cap o : ℕ) (before after : Runner) (r : Evaluation) : Type 0 where
   pub in_range : o < op_count p
   pub does : EvaluationDoes p cap o (hand_view before) (hand_view after) r
@@ -127,13 +132,14 @@ pub record Tries (p : Plan) (cap o : ℕ) (before after : Runner) (r : Evaluatio
 
 -- ---- on the way
 
--- own steps so far are on operation o alone, and settle nothing
+-- The call has added the words xs so far. Its own steps are on operation o alone, and settle nothing
 pub record SoFar (o : ℕ) (start v : View) (xs : List Item) : Type 0 where
-  pub goes : Goes start v xs
+  pub goes : AddsAndFrees start v xs
   pub own : OwnOn o xs
   pub open_own : OwnOpen xs
 
--- it began with a load of an idle word, and the last word is w, at that attempt where nothing was disturbed
+-- The call began with a load of an idle word, and w is the last word of operation o. It is at the attempt of the first
+-- one, unless o was disturbed
 pub record IsEvaluatingSoFar (o : ℕ) (start v : View) (xs : List Item) (w : OpWord) : Type 0 where
   pub far : SoFar o start v xs
   pub first : OpWord
@@ -142,10 +148,10 @@ pub record IsEvaluatingSoFar (o : ℕ) (start v : View) (xs : List Item) (w : Op
   pub began : is_idle first.state ≡ true
   pub last : HasLast o xs w
   pub kept : (w.attempt ≡ first.attempt) ⊎ IsDisturbed o xs
-  pub readied : IsReadied o start.events v.events
+  pub readied : IsReadiedOrNot o start.events v.events
   pub unready : w.state ≡ Blocked → v.events ≡ start.events
 
--- the values fetched so far, each as it was loaded since the claim
+-- The values of the places before j were fetched, each as it was loaded since the claim
 pub record IsFetchedUpTo (p : Plan) (o a j : ℕ) (v u : View) : Type 0 where
   pub words : List Item
   pub adds : Adds v u words
@@ -153,11 +159,11 @@ pub record IsFetchedUpTo (p : Plan) (o a j : ℕ) (v u : View) : Type 0 where
   pub values : List ℕ
   pub holds : Holds u o a values
   pub count : length values ≡ j
-  pub read : (k : ℕ) → k < j → IsRead words (origin_at p o k) (slice_index values k)
+  pub read : (k : ℕ) → k < j → IsReadValue words (origin_at p o k) (slice_index values k)
   pub valued : (k s : ℕ) → k < j → origin_at p o k ≡ Written s → IsValued words s
   pub steps : u.events ≡ fetches o v.tag 0 values v.events
 
--- a source stopped it
+-- The source `at` stopped the call: its word w has no value, or is not settled at the last attempt
 pub record IsStopped (p : Plan) (cap o a : ℕ) (v u : View) (at : ℕ) (w : OpWord) : Type 0 where
   pub words : List Item
   pub adds : Adds v u words
@@ -170,7 +176,7 @@ pub record IsStopped (p : Plan) (cap o a : ℕ) (v u : View) (at : ℕ) (w : OpW
   pub cause : (is_idle w.state ≡ true) ⊎ (a ≡ cap + 1)
   pub steps : u.events ≡ fetches o v.tag 0 values v.events
 
--- all places were fetched, or a source stopped it
+-- All places were fetched, or the answer is the source that stopped it
 abbrev pub FetchAllTells : Plan → ℕ → ℕ → ℕ → View → View → Option Stopped → Type 0
 FetchAllTells p cap o a v u None = IsFetchedUpTo p o a (places p o) v u
 FetchAllTells p cap o a v u (Some s) = IsStopped p cap o a v u s.source s.word

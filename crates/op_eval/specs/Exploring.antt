@@ -1,4 +1,4 @@
--- Runners while a batch is explored, and what is handed on to settling.
+-- Runners while a batch is explored, and what is handed on to settling
 use Rattle.std.specs.Prelude.{◌≡◌, ℕ, ◌+◌, ◌≤◌, Bool, not, [], All, count_by}
 use Rattle.morph_base.specs.declared.plan.Plan.{Plan}
 use Rattle.morph_base.specs.Plans.{event_count}
@@ -16,42 +16,46 @@ use Rattle.op_eval.specs.declared.runners.Runners.{Runners}
 use Rattle.op_eval.specs.Running.{hand_view}
 use Rattle.op_eval.specs.Gathering.{runners_of, HasPlaces, AreAtRest}
 
--- how many answers were no evaluation
+-- How many answers were no evaluation
 abbrev pub stopped : Answers → ℕ
 stopped n = n.blocked + n.busy + n.already
 
--- all answers
+-- How many answers there were
 abbrev pub total : Answers → ℕ
 total n = n.evaluated + n.blocked + n.busy + n.already
 
--- how many words the hand loaded
+-- The test whether an item of a trail is a load
 abbrev pub is_load : Item → Bool
 is_load t = not t.own
 
+-- How many words the hand loaded
 abbrev pub loads : View → ℕ
 loads v = count_by is_load v.trail
 
--- its answers are no more than its hand's own steps and loads can have had, and it has room for what the plan's events leave
+-- The runner has no more answers than its hand's own steps and loads can have brought. It keeps nothing yet, and has
+-- room for what the plan's events leave
 pub record IsExploring (p : Plan) (r : Runner) : Type 0 where
   pub finishes : r.answers.evaluated ≤ evaluated (hand_view r).events
   pub stops : stopped r.answers ≤ loads (hand_view r)
   pub kept : r.kept.items ≡ []
   pub room : event_count p ≤ r.kept.room
 
--- it took no number from the counter
+-- The runner took no number from counter c
 abbrev pub Unused : ℕ → Runner → Type 0
 Unused c r = times c (hand_view r).places ≡ 0
 
--- the runners of a board after exploring, of which none took a number from the counter `next` or a later one
+-- The runners of a board after exploring are at rest, and none of them took a number from the counter `next` or a later
+-- one
 pub record AreExplored (b : Board) (next : ℕ) (rs : Runners) : Type 0 where
   pub places : HasPlaces rs
   pub rest : AreAtRest b (runners_of rs)
   pub exploring : All (IsExploring (plan_of b)) (runners_of rs)
   pub unused : (c : ℕ) → next ≤ c → All (Unused c) (runners_of rs)
 
--- the parts that a value was made of, as they were asked for
+-- The parts that `Explored::new` put together
 abbrev pub parts_of : Explored → Board × Runners × RunEnd × ℕ
 parts_of e = (e.board, e.runners, e.end, e.next_counter)
 
-abbrev pub IsExplored : Explored → Type 0
-IsExplored e = AreExplored e.board e.next_counter e.runners
+-- The parts meet what `Explored::new` asks of them
+abbrev pub IsExploredBoard : Explored → Type 0
+IsExploredBoard e = AreExplored e.board e.next_counter e.runners

@@ -1,4 +1,4 @@
--- The runners of a board: how they begin, and what the root has once they are gathered.
+-- The runners of a board: how they begin, and what the root has once they are gathered
 use Rattle.std.specs.Prelude.{◌≡◌, ℕ, ◌+◌, ◌-◌, ◌<◌, ◌≤◌, List, [], ◌∷◌, None, All, length, slice_index_or}
 use Rattle.op_words.specs.declared.board.Board.{Board}
 use Rattle.op_words.specs.declared.trail.View.{View}
@@ -8,29 +8,30 @@ use Rattle.op_eval.specs.declared.runner.Runner.{Runner}
 use Rattle.op_eval.specs.declared.runners.Runners.{Runners}
 use Rattle.op_eval.specs.Running.{hand_view, no_answers}
 
--- the runners that are there, worker 1 first, and how many more can be put behind them
+-- The runners that are there, worker 1 first
 abbrev pub runners_of : Runners → List Runner
 runners_of rs = rs.runners.items
 
+-- How many more runners can be added
 abbrev pub spare : Runners → ℕ
 spare rs = rs.runners.room
 
--- the list of what is left has a place for each runner, and nothing in it yet
+-- The list of what is left has a place for each runner, and nothing in it yet
 pub record HasPlaces (rs : Runners) : Type 0 where
   pub none : rs.left.items ≡ []
   pub room : length rs.runners.items + rs.runners.room ≤ rs.left.room
 
--- the view of a root that made so many more hands
+-- The view of a root that made k more hands
 abbrev pub raised : ℕ → View → View
 raised k v = record v { made = v.made + k }
 
--- a runner that was asked nothing yet, and has room for what `events` events leave
+-- The runner was asked nothing yet, and has room for what this many events leave
 pub record HasBegun (events : ℕ) (r : Runner) : Type 0 where
   pub answers : r.answers ≡ no_answers
   pub kept : r.kept.items ≡ []
   pub room : events ≤ r.kept.room
 
--- runner 1 has the root, which had view v, and each other one a hand that the root made, one after the other
+-- Runner 1 has the root, whose view was v, and each other runner has a hand that the root made, one after the other
 pub record AreNew (b : Board) (v : View) (workers events : ℕ) (rs : List Runner) : Type 0 where
   pub len : length rs ≡ workers
   pub hands : All (λ r. IsHandOf b r.hand) rs
@@ -38,14 +39,14 @@ pub record AreNew (b : Board) (v : View) (workers events : ℕ) (rs : List Runne
   pub root : (d : Runner) → hand_view (slice_index_or rs 0 d) ≡ raised (workers - 1) v
   pub others : (k : ℕ) (d : Runner) → 0 < k → k < workers → hand_view (slice_index_or rs k d) ≡ child (raised (k - 1) v)
 
--- runners whose hands can be joined: they are of the board and hold nothing, and the first is the root
+-- The hands of the runners can be joined: they are of the board and hold nothing, and the first is the root
 pub record AreAtRest (b : Board) (rs : List Runner) : Type 0 where
   pub some : 0 < length rs
   pub hands : All (λ r. IsHandOf b r.hand) rs
   pub free : All (λ r. (hand_view r).claim ≡ None) rs
   pub root : (d : Runner) → (hand_view (slice_index_or rs 0 d)).tag ≡ 1
 
--- the root's view after it was joined with others, one after the other
+-- The root's view after the hands with these views were joined into it, one after the other
 unfoldable pub gathered : View → List View → View
 gathered v [] = v
 gathered v (w ∷ ws) = gathered (merged v w) ws

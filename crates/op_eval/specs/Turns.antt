@@ -1,21 +1,21 @@
--- What calls of the board make of a runner, one after another.
+-- What calls of the board make of a runner, one after another
 use Rattle.std.specs.Prelude.{◌≡◌, ℕ, ◌+◌, ◌≤◌, ◌⊎◌, List, [], ◌∷◌, Contains}
-use Rattle.op_words.specs.Counting.{place, taking, Takes}
+use Rattle.op_words.specs.Counting.{place, taking, IsNumberTaken}
 use Rattle.op_eval.specs.declared.runner.Runner.{Runner}
 use Rattle.op_eval.specs.Running.{hand_view}
 
--- calls in turn, the last first, of which each makes of a runner what the relation says
+-- The calls, the last one first, lead from runner a to runner b: each makes of a runner what the relation says
 abbrev pub InTurn : {C : Type 0} → (C → Runner → Runner → Type 0) → List C → Runner → Runner → Type 0
 InTurn makes [] a b = b ≡ a
 InTurn makes (c ∷ cs) a b = (m : Runner) × InTurn makes cs a m × makes c m b
 
--- number n was taken from counter c, and nothing else of the runner changed
+-- The number n was taken from counter c, and nothing else of the runner changed
 pub record TakesNumber (c n : ℕ) (a b : Runner) : Type 0 where
   pub view : hand_view b ≡ taking c n (hand_view a)
-  pub takes : Takes c n (hand_view a)
+  pub takes : IsNumberTaken c n (hand_view a)
   pub answers : b.answers ≡ a.answers
   pub kept : b.kept ≡ a.kept
 
--- the runner saw the counter at or past the last of so many numbers
+-- The runner saw counter c run out: it took the last of this many numbers or a later one, or there are none
 abbrev pub IsEnough : ℕ → ℕ → Runner → Type 0
 IsEnough c many r = (many ≡ 0) ⊎ ((n : ℕ) × Contains (hand_view r).places (place c n) × (many ≤ n + 1))

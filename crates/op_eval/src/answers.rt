@@ -1,20 +1,20 @@
 use morph_base::OpWord;
 use op_words::Outcome;
 
-/// What became of an operation that a runner tried to evaluate.
+/// The outcome when a runner tries to evaluate an operation.
 #[derive(Clone, Copy, Debug, PartialEq, Eq)]
 pub enum Evaluation {
     /// It was evaluated at this attempt.
     Evaluated { attempt: u8, outcome: Outcome },
-    /// The named source, as its word was loaded here, had no value; at the last attempt it was not settled.
+    /// The word of the source, as loaded in this call, had no value, or was not settled at the last attempt.
     Blocked { source: u32, word: OpWord },
-    /// Another hand holds the operation, or changed it during the call; the word is the one that shows it.
+    /// Another hand holds the operation, or changed it during the call. The word is the one that shows this.
     Busy { word: OpWord },
-    /// It was evaluated or settled before.
+    /// The operation was evaluated or settled before.
     Already { word: OpWord },
 }
 
-/// How often each answer of `evaluate` came to a runner. Each number stops at the greatest u64.
+/// How often `evaluate` gave a runner each answer. Each number stops at the greatest u64.
 #[derive(Clone, Copy, Debug, PartialEq, Eq)]
 pub struct Answers {
     /// [`Evaluation::Evaluated`].
@@ -61,7 +61,7 @@ impl Answers {
 pub struct Left {
     /// The event, by its number in the plan.
     pub event: u32,
-    /// The operation whose word stood in the way, one of the event or one of their sources.
+    /// The operation whose word stood in the way: one of the event, or a source of one.
     pub at: u32,
     /// That word, as the worker saw it.
     pub word: OpWord,

@@ -22,7 +22,7 @@ pub(crate) struct Stopped {
     pub(crate) word: OpWord,
 }
 
-/// Fetches all places of the operation that the hand holds, or up to the first source that stops it.
+/// Fetches all places of the operation that the hand holds, and stops at the first source that stands in the way.
 fn fetch_all(board: &Board, hand: &mut Hand, plan: &Plan, op: u32) -> Option<Stopped>
     requires hand { IsHandOf board.now hand.old }
     requires plan { plan.now ≡ plan_of board.now }
@@ -42,8 +42,8 @@ fn fetch_all(board: &Board, hand: &mut Hand, plan: &Plan, op: u32) -> Option<Sto
     None
 }
 
-/// Claims an operation that was found or made ready, fetches its places and finishes it, or gives it back where a
-/// source stops that.
+/// Claims an operation that is ready, fetches its places and finishes it. If a source stops this, the operation is
+/// given back.
 fn hold(board: &Board, hand: &mut Hand, plan: &Plan, op: u32) -> Evaluation
     requires hand { IsHandOf board.now hand.old }
     requires plan { plan.now ≡ plan_of board.now }
@@ -70,7 +70,7 @@ fn hold(board: &Board, hand: &mut Hand, plan: &Plan, op: u32) -> Evaluation
     }
 }
 
-/// Makes an operation ready that was found blocked, and goes on.
+/// Makes a blocked operation ready, and goes on.
 fn make(board: &Board, hand: &mut Hand, plan: &Plan, op: u32) -> Evaluation
     requires hand { IsHandOf board.now hand.old }
     requires plan { plan.now ≡ plan_of board.now }
@@ -94,7 +94,7 @@ fn make(board: &Board, hand: &mut Hand, plan: &Plan, op: u32) -> Evaluation
     }
 }
 
-/// Loads an operation's word, and evaluates it where it is idle.
+/// Loads an operation's word, and evaluates the operation if it is idle.
 fn evaluate_by(board: &Board, hand: &mut Hand, plan: &Plan, op: u32) -> Evaluation
     requires hand { IsHandOf board.now hand.old }
     requires plan { plan.now ≡ plan_of board.now }
@@ -117,14 +117,16 @@ fn evaluate_by(board: &Board, hand: &mut Hand, plan: &Plan, op: u32) -> Evaluati
     }
 }
 
-/// Evaluates an operation: it is made ready where it is blocked, claimed, its places are fetched in order, and it is
-/// finished. Where a source stops that, the claim is given back.
+/// Evaluates an operation: makes it ready if it is blocked, claims it, fetches its places in order, and finishes it. If
+/// a source stops this, the operation is given back.
 ///
-/// [`Evaluation::Blocked`] comes only where the named source, as its word was loaded here, was neither evaluated nor
-/// settled, or not settled at the last attempt; [`Evaluation::Busy`] only where the operation was seen claimed by
-/// another hand or was changed by one during the call; [`Evaluation::Already`] exactly where the word loaded first
-/// was evaluated or settled. The runner holds nothing before and after. The answer is counted in the runner's
-/// `answers`. The call takes no memory and waits for nobody.
+/// The answer is [`Evaluation::Blocked`] only if the named source, as its word was loaded here, was neither evaluated
+/// nor settled, or was not settled at the last attempt. It is [`Evaluation::Busy`] only if the operation was seen
+/// claimed by another hand, or was changed by one during the call. It is [`Evaluation::Already`] exactly if the word
+/// that was loaded first was evaluated or settled.
+///
+/// The runner holds nothing before and after. Its `answers` count the answer. The call takes no memory and waits for
+/// nobody.
 pub fn evaluate(board: &Board, runner: &mut Runner, plan: &Plan, op: u32) -> Evaluation
     requires hand { IsHandOf board.now runner.old.hand }
     requires plan { plan.now ≡ plan_of board.now }

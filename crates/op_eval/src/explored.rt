@@ -20,23 +20,23 @@ pub struct Explored {
     board: Board,
     runners: Runners,
     end: RunEnd,
-    /// The first counter from which no runner took a number.
+    /// The first of the counters that no runner took a number from.
     next_counter: u32,
 }
 
 impl Explored {
     ghost use Rattle.std.specs.Prelude.{◌≡◌};
-    ghost use Rattle.op_eval.specs.Exploring.{parts_of, AreExplored, IsExplored};
+    ghost use Rattle.op_eval.specs.Exploring.{parts_of, AreExplored, IsExploredBoard};
 
     /// Puts together what is handed on to settling: runners of the board that hold nothing, the first with the root.
     ///
-    /// Of each runner `evaluated` is at most the number of its hand's finish steps, the other three answers together
-    /// are at most the number of words that it loaded, and `kept` is empty, with room for what the plan's events
-    /// leave. No runner took a number from the counter `next_counter` or a later one.
+    /// In each runner, `evaluated` is at most the number of its hand's finish steps, the other three answers together
+    /// are at most the number of words that it loaded, and `kept` is empty, with room for what the plan's events leave.
+    /// No runner took a number from the counter `next_counter` or a later one.
     pub fn new(board: Board, runners: Runners, end: RunEnd, next_counter: u32) -> Explored
         requires { AreExplored board next_counter runners }
         ensures parts { parts_of result ≡ (board, runners, end, next_counter) }
-        ensures explored { IsExplored result }
+        ensures explored { IsExploredBoard result }
     {
         Explored {
             board,
@@ -46,9 +46,9 @@ impl Explored {
         }
     }
 
-    /// Gives the four parts back. What [`Explored::new`] asked of them holds.
+    /// Returns the four parts. What [`Explored::new`] asked of them holds.
     pub fn parts(self) -> (Board, Runners, RunEnd, u32)
-        requires { IsExplored self }
+        requires { IsExploredBoard self }
         ensures parts { result ≡ parts_of self }
         ensures explored { AreExplored result.0 result.3 result.1 }
     {

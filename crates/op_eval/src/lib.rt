@@ -1,9 +1,9 @@
-//! Evaluating operations on the shared board, by runners: a worker's hand, what it was answered, and what it left.
+//! Evaluates operations on the shared board, by runners: a worker's hand, its answers, and what it left.
 //!
-//! [`evaluate`] takes a runner's way through one operation: it is made ready where it is blocked, claimed, its
-//! places are fetched in order, and it is finished; where a source stops that, the claim is given back. The answer
-//! names the cause, with the word that shows it, and the runner counts it. [`Runners`] are the runners of a board:
-//! one for the root and one for each hand that is split off for a worker.
+//! [`evaluate`] takes a runner through one operation: it makes the operation ready if it is blocked, claims it, fetches
+//! its places in order, and finishes it. If a source stops this, the operation is given back. The answer names the
+//! cause, with the word that shows it, and the runner counts it. [`Runners`] are the runners of a board: one for the
+//! root, and one for each hand that is split off for a worker.
 //!
 //! ```text
 //! let (board, root) = Board::new(alloc, &plan, 1, 0)?;
@@ -12,7 +12,7 @@
 //! let (root, left) = runners.gather(&board);
 //! ```
 //!
-//! Below it stand `op_words`, the board, `interleaving_core`, whose words its contracts cite, and `morph_base`.
+//! It uses `op_words`, the board; `interleaving_core`, whose words its contracts cite; and `morph_base`.
 #![tactic(auto)]
 
 mod answers;

@@ -2,16 +2,16 @@ use crate::answers::{Answers, Left};
 use morph_base::List;
 use op_words::{Board, Hand};
 
-/// A worker's hand, what `evaluate` answered to it, and why events that it tried were not settled.
+/// A worker's hand, the answers of `evaluate`, and why events that the worker tried were not settled.
 ///
-/// Calls of the board are made with its field `hand`.
+/// Calls of the board use its field `hand`.
 #[derive(Drop)]
 pub struct Runner {
     /// The worker's right to change the board.
     pub hand: Hand,
-    /// What `evaluate` answered.
+    /// The answers of `evaluate`.
     pub answers: Answers,
-    /// Why events were not settled, one entry for each at most.
+    /// Why events were not settled, with at most one entry for each event.
     pub kept: List<Left>,
 }
 

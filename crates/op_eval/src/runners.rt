@@ -14,7 +14,7 @@ use std::alloc::Global;
 
 /// The runners of a board, worker 1 first. Worker 1 has the root.
 ///
-/// What its runners hold may be changed at will; [`Runners::gather`] asks what it needs of them.
+/// What the runners hold may be changed at will: [`Runners::gather`] states what it needs of them.
 #[derive(Drop)]
 pub struct Runners {
     runners: List<Runner>,
@@ -22,7 +22,7 @@ pub struct Runners {
     left: List<List<Left>>,
 }
 
-/// So many empty lists, each with room for what `events` events leave.
+/// Makes this many empty lists, each with room for what `events` events leave.
 fn empty_lists(alloc: Global, count: usize, events: usize) -> Result<List<List<Left>>, OutOfMemory>
     ensures len { IfOk result (λ lists. length lists.items ≡ count) }
     ensures empty { IfOk result
@@ -36,7 +36,7 @@ fn empty_lists(alloc: Global, count: usize, events: usize) -> Result<List<List<L
     Ok(lists)
 }
 
-/// A runner that was asked nothing yet.
+/// Makes a runner that was asked nothing yet.
 fn begin(hand: Hand, kept: List<Left>) -> Runner
     ensures { result ≡ record { hand = hand; answers = no_answers; kept = kept } }
 {
@@ -47,7 +47,7 @@ fn begin(hand: Hand, kept: List<Left>) -> Runner
     }
 }
 
-/// Makes a runner of the root and of hands that it makes, one for each list, and puts them behind each other.
+/// Makes a runner of the root and of each hand that the root splits off, one for each list, in order.
 fn seat_all(board: &Board, root: Hand, runners: &mut List<Runner>, lists: &mut List<List<Left>>)
     requires root { IsHandOf board.now root }
     requires tag { (view_of root).tag ≡ 1 }
@@ -77,7 +77,7 @@ fn seat_all(board: &Board, root: Hand, runners: &mut List<Runner>, lists: &mut L
     runners.as_mut_slice().rotate_right(1);
 }
 
-/// Joins the hands of runners into the root, the last one first, and puts what each left into the list.
+/// Joins the hands of runners into the root, the last one first, and puts what each runner left into the list.
 fn join_all(board: &Board, root: &mut Hand, runners: &mut List<Runner>, left: &mut List<List<Left>>)
     requires root { IsHandOf board.now root.old }
     requires tag { (view_of root.old).tag ≡ 1 }
@@ -105,11 +105,11 @@ impl Runners {
     ghost use Rattle.op_eval.specs.Exploring.{AreExplored};
     ghost use Rattle.op_eval.specs.Lending.{LendsRunner, LendsRunners};
 
-    /// Runners for the workers from 1 on, of whom there are `workers`, each with room for what `events` events
-    /// leave. The first has the root, and each other one a hand that the root makes here.
+    /// Makes a runner for each worker from 1 to `workers`, with room for what `events` events leave. The first has the
+    /// root, and each other one a hand that the root splits off here.
     ///
-    /// It takes its memory first; where that is refused, the root is dropped and no hand was made. A batch can be
-    /// explored with these runners, where the root took no number from a counter yet.
+    /// It takes its memory first. If that is refused, the root is dropped and no hand was made. A batch can be explored
+    /// with these runners if the root took no number from a counter yet.
     pub fn new(
         alloc: Global,
         board: &Board,
@@ -137,7 +137,7 @@ impl Runners {
         Ok(Runners { runners, left })
     }
 
-    /// Lends the runner of a number, of those that are there.
+    /// Lends the runner of a number, if it is there.
     pub fn runner(&mut self, number: u32) -> &mut Runner
         requires some { 1 ≤ number }
         requires inside { number ≤ length (runners_of self.old) }
@@ -147,7 +147,7 @@ impl Runners {
         self.runners.get_mut(number as usize - 1)
     }
 
-    /// Lends the runners.
+    /// Lends all runners.
     pub fn as_mut_slice(&mut self) -> &mut [Runner]
         ensures* lends { sem 𝓛 (LendsRunners self.entry result) }
         ensures items { result.now ≡ runners_of self.old }
@@ -155,7 +155,7 @@ impl Runners {
         self.runners.as_mut_slice()
     }
 
-    /// Takes out the runner of the greatest number, `None` exactly where there is none.
+    /// Takes out the runner of the greatest number. `None` means that there is none.
     pub fn pop(&mut self) -> Option<Runner>
         ensures empty { IsNone result ↔ (runners_of self.old ≡ []) }
         ensures last { IfSome result
@@ -167,7 +167,7 @@ impl Runners {
         self.runners.pop()
     }
 
-    /// Puts a runner behind the others, where fewer are there than were made.
+    /// Adds a runner after the others, if fewer are there than were made.
     pub fn add(&mut self, runner: Runner)
         requires { 0 < spare self.old }
         ensures items { runners_of self.new ≡ runners_of self.old ++ runner ∷ [] }
@@ -177,7 +177,7 @@ impl Runners {
         self.runners.add(runner);
     }
 
-    /// Joins the hands of the others into the root, and gives the root and what each runner left, worker 1 first. It
+    /// Joins the hands of the others into the root, and returns the root and what each runner left, worker 1 first. It
     /// takes no memory.
     pub fn gather(self, board: &Board) -> (Hand, List<List<Left>>)
         requires places { HasPlaces self }

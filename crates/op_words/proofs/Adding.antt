@@ -6,8 +6,8 @@ use Rattle.morph_base.specs.declared.plan.Plan.{Plan}
 use Rattle.morph_base.specs.declared.word.OpWord.{OpWord}
 use Rattle.op_words.specs.declared.trail.Item.{Item}
 use Rattle.op_words.specs.declared.trail.View.{View}
-use Rattle.op_words.specs.Trails.{loaded, left, last_word, HasLast, Along, IsSteadyAt, IsSteady, IsCalmAt, IsCalm, NoneOwn}
-use Rattle.op_words.specs.Views.{Agrees, IsApart, IsLone, Adds, Goes, looked}
+use Rattle.op_words.specs.Trails.{loaded, left, last_word, HasLast, Along, IsSteadyAt, IsSteadyTrail, IsCalmAt, IsCalm, NoneOwn}
+use Rattle.op_words.specs.Views.{Agrees, IsApart, IsLone, Adds, AddsAndFrees, looked}
 use Rattle.op_words.specs.Plays.{Looks}
 use Rattle.op_words.specs.Calls.{PeekDoes}
 use Rattle.op_words.proofs.Rows.{no_more, one_inside}
@@ -59,11 +59,11 @@ adds_then {v} {u} {w} {xs} {ys} first second = record {
     second.events.2 ∙ ap (λ es. second.events.0 ++ es) first.events.2 ∙ sym (append_assoc second.events.0 first.events.0 v.own),
   );
   agree = second.agree;
-  steady = along-append (IsSteadyAt v.tag) v.notes xs ys first.steady (subst (λ zs. IsSteady v.tag zs ys) first.notes (subst (λ t. IsSteady t u.notes ys) first.tag second.steady));
+  steady = along-append (IsSteadyAt v.tag) v.notes xs ys first.steady (subst (λ zs. IsSteadyTrail v.tag zs ys) first.notes (subst (λ t. IsSteadyTrail t u.notes ys) first.tag second.steady));
   calm = λ lone. along-append IsCalmAt v.trail xs ys (first.calm lone) (subst (λ zs. IsCalm zs ys) first.trail (second.calm (lone_more first lone)));
 }
 
-pub goes_then : {v u w : View} {xs ys : List Item} → Goes v u xs → Goes u w ys → Goes v w (xs ++ ys)
+pub goes_then : {v u w : View} {xs ys : List Item} → AddsAndFrees v u xs → AddsAndFrees u w ys → AddsAndFrees v w (xs ++ ys)
 goes_then first second = record { adds = adds_then first.adds second.adds; free = second.free }
 
 -- a load

@@ -15,7 +15,7 @@ use Rattle.op_words.specs.Layout.{counter_base, decision_base, packed_decision}
 use Rattle.morph_base.specs.Plans.{op_count, event_count}
 use Rattle.morph_base.specs.Words.{IsWord, packed}
 use Rattle.op_words.specs.Rule.{Seats, live, tags, taken, Lawful}
-use Rattle.op_words.specs.Closing.{IsJoined, Ends}
+use Rattle.op_words.specs.Closing.{IsJoined, EndsSound}
 use Rattle.op_words.proofs.Rows.{here_long, sum_range_more}
 use Rattle.op_words.proofs.Sizes.{sum_inside, sum_two, total_one}
 
@@ -87,7 +87,7 @@ module _ {p : Plan} {cap counters : ℕ} (s : Seats) (lawful : Lawful p cap coun
   pub events_of_root : (h : CoreEvent → ℕ) → sum_by h v.events ≡ sum_by h lawful.history
   events_of_root h = sym (total (λ (x : View). sum_by h x.events)) ∙ lawful.sums.events h
 
-  pub ends : Ends p cap counters s.words v
+  pub ends : EndsSound p cap counters s.words v
   ends = record {
     core = lawful.core;
     history = lawful.history;
@@ -106,8 +106,8 @@ module _ {p : Plan} {cap counters : ℕ} (s : Seats) (lawful : Lawful p cap coun
 
 -- of the words that the closed table has
 pub closed_ends : {p : Plan} {cap counters id : ℕ} {v : View} {ws : List ℕ} (xs : List (Unit {0})) → Final (Seen (Lawful p cap counters) id (Some v)) ws xs
-    → v.tag ≡ 1 → ((t : ℕ) → 1 < t → t ≤ v.made → IsJoined v t) → Ends p cap counters ws v
-closed_ends {p} {cap} {counters} {id} {v} {ws} xs final root all = subst (λ (l : List ℕ). Ends p cap counters l v) final.2 (ends final.0 final.1.0 id v final.1.1 root all)
+    → v.tag ≡ 1 → ((t : ℕ) → 1 < t → t ≤ v.made → IsJoined v t) → EndsSound p cap counters ws v
+closed_ends {p} {cap} {counters} {id} {v} {ws} xs final root all = subst (λ (l : List ℕ). EndsSound p cap counters l v) final.2 (ends final.0 final.1.0 id v final.1.1 root all)
 
 -- ---- what is read of the closed words
 
@@ -116,7 +116,7 @@ row_at [] i n at = absurd (some-ne-none n (sym at))
 row_at (w ∷ ws) zero n at = some-injective w n at
 row_at (w ∷ ws) (suc i) n at = row_at ws i n at
 
-module _ {p : Plan} {cap counters : ℕ} {v : View} (ws : List ℕ) (end : Ends p cap counters ws v) where
+module _ {p : Plan} {cap counters : ℕ} {v : View} (ws : List ℕ) (end : EndsSound p cap counters ws v) where
   pub closed_word : (o n : ℕ) → o < op_count p → get_elem? ws o ≡ some n → IsWord (end.core.word o) × (packed (end.core.word o) ≡ n)
   closed_word o n lt at = ((end.sound.each_op o lt).range.word, sym (end.shows.ops o lt) ∙ row_at ws o n at)
 

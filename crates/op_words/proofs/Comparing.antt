@@ -23,7 +23,7 @@ use Rattle.op_words.specs.Calls.{IsSettledRead}
 use Rattle.op_words.specs.Hands.{view_of, IsHandOf}
 use Rattle.op_words.specs.Stepping.{Recalled, IsWalk}
 use Rattle.op_words.specs.Grounds.{IsSourceLoaded, SourceDoes}
-use Rattle.op_words.specs.Comparing.{IsSourceRight, IsLoadedAt, IsEqualAt, IsNotedLast, PlaceTells, IsComparedAt, IsComparedUpTo, AllTells, IsCompared}
+use Rattle.op_words.specs.Comparing.{IsSourceRight, IsLoadedAt, IsEqualAt, IsNotedLast, PlaceIsCompared, IsComparedAt, IsComparedUpTo, AllTells, IsCompared}
 use Rattle.op_words.proofs.Rows.{not_inside}
 use Rattle.op_words.proofs.Walking.{walk_none, walk_then, walk_row, walk_recall, walk_last, recalled_seen}
 
@@ -114,7 +114,7 @@ module _ (b : Board) (p : Plan) (o j : ℕ) where
         fold = at.tells.fold;
       }
 
-      pub compared_here : (r : Compared) → ((w : OpWord) → IsNotedLast o (view_of h) w → PlaceTells p o w j (at.words ++ []) (view_of k) r) → IsComparedAt b p o j h k r
+      pub compared_here : (r : Compared) → ((w : OpWord) → IsNotedLast o (view_of h) w → PlaceIsCompared p o w j (at.words ++ []) (view_of k) r) → IsComparedAt b p o j h k r
       compared_here r tells = record { words = at.words ++ []; walk = walked; sources = sources_then p o at.words [] at.sources (sources_none p o); tells = tells }
 
       pub equal_here : y ≡ x → IsComparedAt b p o j h k Equal
@@ -158,7 +158,7 @@ module _ (b : Board) (p : Plan) (o : ℕ) where
       tells = λ w last. by_result w r other (here.tells w (noted w last));
     }
       where
-        by_result : (w : OpWord) (x : Compared) → x ≢ Equal → PlaceTells p o w j here.words (view_of k) x → AllTells p o w (far.words ++ here.words) (view_of k) x
+        by_result : (w : OpWord) (x : Compared) → x ≢ Equal → PlaceIsCompared p o w j here.words (view_of k) x → AllTells p o w (far.words ++ here.words) (view_of k) x
         by_result w Equal not is = absurd (not refl)
         by_result w (Open stop) not is = record {
           source = record { place = j; in_places = lt; source_is = is.source_is };

@@ -26,7 +26,7 @@ use Rattle.op_words.specs.declared.board.Board.{Board}
 use Rattle.op_words.specs.declared.board.Hand.{Hand}
 use Rattle.op_words.specs.Trails.{IsSteadyAt, IsCalmAt}
 use Rattle.op_words.specs.Hands.{plan_of, view_in, view_of, held_of, IsHandOf}
-use Rattle.op_words.specs.Views.{IsSourceSeen, IsDecisionSeen, Goes, learning, deciding}
+use Rattle.op_words.specs.Views.{IsSourceSeen, IsDecisionSeen, AddsAndFrees, learning, deciding}
 use Rattle.op_words.specs.Layout.{Shows, record_index, decision_base, packed_record, packed_decision}
 use Rattle.op_words.specs.Rule.{Seats, Knows, Lawful, Steps}
 use Rattle.op_words.specs.Plays.{Sat, IsTold, decides}
@@ -244,7 +244,7 @@ module _ (b : Board) (h g : Hand) (is : IsHandOf b h) (table : g.seat.table_id �
       still b h g (deciding e committed (view_of h)) is table me refl refl
       (kept_step h g (deciding e committed (view_of h)) (Decide e committed) (kept is) tag made counts noted refl refl refl refl refl refl refl refl refl (ap held_of held ∙ is.held) (λ k same. is.fits k (sym held ∙ same))) told_after
 
-  goes_deciding : IsTold (deciding e committed (view_of h)) → Goes (view_of h) (deciding e committed (view_of h)) []
+  goes_deciding : IsTold (deciding e committed (view_of h)) → AddsAndFrees (view_of h) (deciding e committed (view_of h)) []
   goes_deciding told_after = record {
     adds = record {
       trail = no_more (view_of h).trail;
@@ -266,7 +266,7 @@ module _ (b : Board) (h g : Hand) (is : IsHandOf b h) (table : g.seat.table_id �
     free = free;
   }
 
-  goes_learning : Goes (view_of h) (learning e (Some committed) (view_of h)) []
+  goes_learning : AddsAndFrees (view_of h) (learning e (Some committed) (view_of h)) []
   goes_learning = record { adds = adds_learning (view_of h) e (Some committed) is.told.agree; free = free }
 
   known_after : (v : View) → IsDecisionSeen (learning e (Some committed) v) e committed
@@ -281,7 +281,7 @@ module _ (b : Board) (h g : Hand) (is : IsHandOf b h) (table : g.seat.table_id �
             let view : view_of g ≡ deciding e committed (view_of h) = ap (λ (m : Sat). view_in m.0) me in
             record {
               hand = made_hand (noted hit.0) me hit.2;
-              goes = subst (λ (u : View). Goes (view_of h) u []) (sym view) (goes_deciding hit.2);
+              goes = subst (λ (u : View). AddsAndFrees (view_of h) u []) (sym view) (goes_deciding hit.2);
               steps = inr (ap (λ (u : View). u.events) view);
               right = right;
               known = subst (λ (u : View). IsDecisionSeen u e committed) (sym view) (known_after (view_of h));
@@ -291,7 +291,7 @@ module _ (b : Board) (h g : Hand) (is : IsHandOf b h) (table : g.seat.table_id �
             let view : view_of g ≡ learning e (Some committed) (view_of h) = ap (λ (m : Sat). view_in m.0) me in
             record {
               hand = learned_still b h g is table tag made held counts (same (λ zero. let some = some_decided committed in omega (arith, some, zero, missed.0))) e (Some committed) me;
-              goes = subst (λ (u : View). Goes (view_of h) u []) (sym view) goes_learning;
+              goes = subst (λ (u : View). AddsAndFrees (view_of h) u []) (sym view) goes_learning;
               steps = inl (ap (λ (u : View). u.events) view);
               right = right;
               known = subst (λ (u : View). IsDecisionSeen u e committed) (sym view) (known_after (view_of h));

@@ -23,10 +23,10 @@ use Rattle.op_words.specs.declared.trail.Item.{Item}
 use Rattle.op_words.specs.declared.trail.View.{View}
 use Rattle.op_words.specs.Trails.{loaded, left, IsSteadyAt, IsCalmAt}
 use Rattle.op_words.specs.Views.{Agrees, Adds, Holds, IsApart, records_from, fetching, finishing}
-use Rattle.op_words.specs.Calls.{Elsewhere, IsRead, IsTaken, FetchDoes, FinishDoes, answer_of, outcome_of}
+use Rattle.op_words.specs.Calls.{Elsewhere, IsReadValue, IsPlaceTaken, FetchDoes, FinishDoes, answer_of, outcome_of}
 use Rattle.op_words.specs.Plays.{Leaves}
 use Rattle.op_words.specs.Hands.{view_of}
-use Rattle.op_words.specs.Stepping.{Looked, Left, Kept, IsUsable}
+use Rattle.op_words.specs.Stepping.{Looked, Left, IsPlaceKept, IsUsable}
 use Rattle.op_words.proofs.Rows.{no_more, not_inside, one_inside}
 use Rattle.op_words.proofs.Trailing.{along_none}
 use Rattle.op_words.proofs.Adding.{adds_then, adds_look, along_one, calm_left}
@@ -54,13 +54,13 @@ adds_fetching v k x agree = record {
 }
 
 module _ (b : Board) (p : Plan) (cap o j : ℕ) where
-  adds_kept : (a x : ℕ) (ys : List ℕ) (h g : Hand) → Kept b o a ys x h g → Adds (view_of h) (view_of g) []
+  adds_kept : (a x : ℕ) (ys : List ℕ) (h g : Hand) → IsPlaceKept b o a ys x h g → Adds (view_of h) (view_of g) []
   adds_kept a x ys h g did =
       subst (λ (u : View). Adds (view_of h) u []) (sym did.view) (adds_fetching (view_of h) (held_at o a ys) x (subst Agrees did.view did.hand.told.agree))
 
   module _ (h g : Hand) (a x : ℕ) (ys : List ℕ) (holds : Holds (view_of h) o a ys) where
     -- a base
-    pub fetched_base : origin_at p o j ≡ Base x → ((n : ℕ) (zs : List ℕ) → Holds (view_of h) o n zs → Kept b o n zs x h g) → FetchDoes p cap o (view_of h) (view_of g) j (Value x)
+    pub fetched_base : origin_at p o j ≡ Base x → ((n : ℕ) (zs : List ℕ) → Holds (view_of h) o n zs → IsPlaceKept b o n zs x h g) → FetchDoes p cap o (view_of h) (view_of g) j (Value x)
     fetched_base is did = record {
       words = [];
       adds = adds_kept a x ys h g (did a ys holds);
@@ -68,9 +68,9 @@ module _ (b : Board) (p : Plan) (cap o j : ℕ) where
       tells = λ n zs held.
           let step = did n zs held in
           record {
-            read = subst (λ (q : Origin). IsRead [] q x) (sym is) refl;
+            read = subst (λ (q : Origin). IsReadValue [] q x) (sym is) refl;
             holds = ap (λ (v : View). v.claim) step.view;
-            taken = subst (λ (q : Origin). IsTaken p cap o (view_of h) (view_of g) [] n q x) (sym is) (refl, refl);
+            taken = subst (λ (q : Origin). IsPlaceTaken p cap o (view_of h) (view_of g) [] n q x) (sym is) (refl, refl);
             view_is = step.view ∙ ap (fetching (held_at o n zs) x) (looking-none (view_of h));
           };
     }
@@ -98,7 +98,7 @@ module _ (b : Board) (p : Plan) (cap o j : ℕ) where
           value_is = refl;
         })
 
-    pub fetched_source : (k : Hand) → is_idle w.state ≡ false → (a ≡ cap + 1 → is_settled w.state ≡ true) → ((n : ℕ) (zs : List ℕ) → Holds (view_of g) o n zs → Kept b o n zs w.value g k)
+    pub fetched_source : (k : Hand) → is_idle w.state ≡ false → (a ≡ cap + 1 → is_settled w.state ≡ true) → ((n : ℕ) (zs : List ℕ) → Holds (view_of g) o n zs → IsPlaceKept b o n zs w.value g k)
         → FetchDoes p cap o (view_of h) (view_of k) j (Value w.value)
     fetched_source k shown last kept = record {
       words = loaded s w ∷ [];
@@ -108,9 +108,9 @@ module _ (b : Board) (p : Plan) (cap o j : ℕ) where
           let step = kept n zs (still_holds n zs held) in
           let same : n ≡ a = ap (λ (z : Held). z.attempt) (same_Some (held_at o n zs) (held_at o a ys) (sym held ∙ holds)) in
           record {
-            read = subst (λ (q : Origin). IsRead (loaded s w ∷ []) q w.value) (sym is) (w, (0, omega arith, refl), refl);
+            read = subst (λ (q : Origin). IsReadValue (loaded s w ∷ []) q w.value) (sym is) (w, (0, omega arith, refl), refl);
             holds = ap (λ (v : View). v.claim) step.view;
-            taken = subst (λ (q : Origin). IsTaken p cap o (view_of h) (view_of k) (loaded s w ∷ []) n q w.value) (sym is)
+            taken = subst (λ (q : Origin). IsPlaceTaken p cap o (view_of h) (view_of k) (loaded s w ∷ []) n q w.value) (sym is)
                 (record { word = w; words = refl; shown = shown; at_last = λ at. last (sym same ∙ at); value_is = refl });
             view_is = step.view ∙ ap (fetching (held_at o n zs) w.value) did.view;
           };

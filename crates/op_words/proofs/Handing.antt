@@ -30,7 +30,7 @@ use Rattle.op_words.specs.Plays.{Sat, IsTold, Looks, Leaves, Swaps}
 use Rattle.op_words.specs.Stepping.{Looked, Left}
 use Rattle.op_words.specs.Rule.{first_view}
 use Rattle.op_words.specs.Journals.{room_in, steps_in, IsJournal}
-use Rattle.op_words.specs.Hands.{plan_of, cap_of, view_in, view_of, held_of, up_to, counts_of, Fits, IsHandOf}
+use Rattle.op_words.specs.Hands.{plan_of, cap_of, view_in, view_of, held_of, up_to, counts_of, HasHeldValues, IsHandOf}
 use Rattle.op_words.proofs.Journaling.{HasNoted, journal_same, journal_step, journal_other}
 use Rattle.op_words.proofs.Rows.{not_inside}
 use Rattle.op_words.proofs.Trailing.{last-none}
@@ -42,7 +42,7 @@ pub record IsKept (g : Hand) (u : View) : Type 0 where
   pub tag : g.tag ≡ u.tag
   pub made : g.made ≡ u.made
   pub held : held_of g.held ≡ u.claim
-  pub fits : (k : Holding) → g.held ≡ Some k → Fits k
+  pub fits : (k : Holding) → g.held ≡ Some k → HasHeldValues k
   pub counts : g.counts ≡ counts_of u.events
   pub journal : IsJournal u g.journal
 
@@ -217,7 +217,7 @@ kept_looked h g o w is tag made held counts journal = record {
 -- and after a quiet step, with what it holds then
 pub kept_step : (h g : Hand) (u : View) (e : CoreEvent) → IsKept h (view_of h) → g.tag ≡ h.tag → g.made ≡ h.made → g.counts ≡ h.counts → HasNoted h.journal g.journal e → u.room ≡ (view_of h).room
     → u.tag ≡ (view_of h).tag → u.made ≡ (view_of h).made → u.joined ≡ (view_of h).joined → u.events ≡ e ∷ (view_of h).events → u.own ≡ e ∷ (view_of h).own → is_finish e ≡ false → is_spread e ≡ false → is_roll e ≡ false
-    → held_of g.held ≡ u.claim → ((k : Holding) → g.held ≡ Some k → Fits k) → IsKept g u
+    → held_of g.held ≡ u.claim → ((k : Holding) → g.held ≡ Some k → HasHeldValues k) → IsKept g u
 kept_step h g u e is tag made counts noted same_room same_tag same_made same_joined events own f s r held fits = record {
   worker = subst IsWorker (sym same_tag) is.worker;
   counted = λ root. subst (λ n. 1 ≤ n) (sym same_made) (is.counted (sym same_tag ∙ root));

@@ -14,7 +14,7 @@ use Rattle.morph_base.specs.declared.plan.Plan.{Plan}
 use Rattle.interleaving_core.specs.declared.entry.Settling.{Settling}
 use Rattle.op_words.specs.declared.trail.Joined.{Joined}
 use Rattle.op_words.specs.declared.trail.View.{View}
-use Rattle.op_words.specs.Views.{IsBooked, joined_of, merged}
+use Rattle.op_words.specs.Views.{IsBookedInView, joined_of, merged}
 use Rattle.op_words.specs.Rule.{Seats, live, taken, tags, of_counter, of_joined, one, Knows, Sums, HasNumbers, Lawful, Stays}
 use Rattle.op_words.specs.Plays.{both}
 use Rattle.op_words.proofs.Rows.{sum_set, here_long, not_inside}
@@ -75,14 +75,14 @@ module _ {p : Plan} {cap counters : ℕ} (s : Seats) (lawful : Lawful p cap coun
   left_sum : (k : ℕ) (h : ℕ → ℕ) → sum_by (of_joined k h) (merged v w).joined ≡ sum_by (of_joined k h) v.joined + sum_by (of_counter k h) w.places
   left_sum k h = sum_by_push (of_joined k h) v.joined (joined_of w)
 
-  booked_mine : (x : Settling) → IsBooked v x → IsBooked (merged v w) x
+  booked_mine : (x : Settling) → IsBookedInView v x → IsBookedInView (merged v w) x
   booked_mine x is =
       elim is [
         | inl own ↦ inl own
         | inr other ↦ inr (record { of_tag = other.of_tag; inside = Contains-append_left v.joined (joined_of w ∷ []) other.of_tag other.inside; tag_is = other.tag_is; settled = other.settled })
       ]
 
-  booked_its : (x : Settling) → IsBooked w x → IsBooked (merged v w) x
+  booked_its : (x : Settling) → IsBookedInView w x → IsBookedInView (merged v w) x
   booked_its x is =
       elim is [
         | inl own ↦ inr (record { of_tag = joined_of w; inside = Contains-append_right v.joined (joined_of w ∷ []) (joined_of w) (0, omega arith, refl); tag_is = own.0; settled = own.1 })

@@ -10,7 +10,7 @@ use Rattle.interleaving_core.specs.Steps.{after}
 use Rattle.interleaving_core.proofs.Ordering.{run_leads}
 use Rattle.op_words.specs.declared.journal.Journal.{Journal}
 use Rattle.op_words.specs.declared.trail.View.{View}
-use Rattle.op_words.specs.Closing.{Ends}
+use Rattle.op_words.specs.Closing.{EndsSound}
 use Rattle.op_words.specs.Journals.{room_in, steps_in, IsUnjoined, IsJournal, IsJournalOf}
 
 -- a step was written down, where there was room
@@ -71,7 +71,7 @@ module _ (p : Plan) (cap : ℕ) where
       let rest = front_leads n es (after p b e) c leads.1 in
       (rest.0, (leads.0, rest.1), λ le. rest.2 (omega (arith, le)))
 
-  pub journal_leads : (counters : ℕ) (ws : List ℕ) (v : View) (j : Option Journal) (is : Ends p cap counters ws v) → IsJournal v j → v.made ≡ 1 → IsJournalOf p cap v.room (steps_in j) is.core
+  pub journal_leads : (counters : ℕ) (ws : List ℕ) (v : View) (j : Option Journal) (is : EndsSound p cap counters ws v) → IsJournal v j → v.made ≡ 1 → IsJournalOf p cap v.room (steps_in j) is.core
   journal_leads counters ws v j is journal one =
       let mine : is.history ≡ v.own = is.only one ∙ journal.alone (inl one) in
       let all : Leads p cap start (reverse v.own) is.core = subst (λ es. Leads p cap start (reverse es) is.core) mine (run_leads p cap is.history is.core is.run) in

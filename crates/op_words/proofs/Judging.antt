@@ -24,7 +24,7 @@ use Rattle.op_words.specs.declared.trail.View.{View}
 use Rattle.op_words.specs.Trails.{loaded, OfSources, HasLast, NoneOwn}
 use Rattle.op_words.specs.Views.{IsJudged, IsRecordSeen, IsSourceSeen, Adds}
 use Rattle.op_words.specs.Calls.{IsSettledRead}
-use Rattle.op_words.specs.Plays.{HasRun, IsSight}
+use Rattle.op_words.specs.Plays.{IsRunResult, IsSight}
 use Rattle.op_words.specs.Judging.{verdict_of, IsStaleAt, IsGood, IsBad, VerdictTells}
 use Rattle.op_words.specs.Hands.{plan_of, cap_of, view_of, IsHandOf}
 use Rattle.op_words.specs.Stepping.{Looked, IsWalk}
@@ -111,7 +111,7 @@ stale_again b p o plan v k m front hand free adds z again ran j kept value {xs} 
     sight : IsSight p (cap_of b) (view_of k) o z
     sight = sight_of b p o k m z hand plan again
 
-    run : HasRun p (cap_of b) (view_of k) o z
+    run : IsRunResult p (cap_of b) (view_of k) o z
     run = sight.run ran
 
     adds_again : Adds (view_of k) (view_of m) (loaded o z ∷ [])
@@ -255,7 +255,7 @@ module _ (b : Board) (p : Plan) (o : ℕ) (plan : p ≡ plan_of b) (lt : o < op_
         ran_again : has_run z.state ≡ true
         ran_again = ap (λ (x : OpWord). has_run x.state) same ∙ ran
 
-        run : HasRun p cap (view_of k) o z
+        run : IsRunResult p cap (view_of k) o z
         run = (sight_of b p o k m z walk.hand plan again).run ran_again
 
         -- all records are right

@@ -16,7 +16,7 @@ use Rattle.op_words.specs.declared.trail.Place.{Place}
 use Rattle.op_words.specs.declared.trail.RecordSeen.{RecordSeen}
 use Rattle.op_words.specs.declared.trail.View.{View}
 use Rattle.op_words.specs.Trails.{left}
-use Rattle.op_words.specs.Views.{IsBooked}
+use Rattle.op_words.specs.Views.{IsBookedInView}
 use Rattle.op_words.specs.Evidence.{AreNoted}
 use Rattle.op_words.proofs.Rows.{no_more}
 use Rattle.op_words.specs.Rule.{Knows, of_counter, of_joined, one, most_taken}
@@ -78,7 +78,7 @@ pub record HasMore (v u : View) (xs : List Item) : Type 0 where
   pub trail : u.trail ≡ v.trail ++ xs
   pub learned : List DecisionSeen
   pub decisions : u.decisions ≡ v.decisions ++ learned
-  pub settlings : (x : Settling) → Contains u.settlings x → Contains v.settlings x ⊎ IsBooked u x
+  pub settlings : (x : Settling) → Contains u.settlings x → Contains v.settlings x ⊎ IsBookedInView u x
   pub joined : u.joined ≡ v.joined
   pub places : u.places ≡ v.places
 
@@ -97,7 +97,7 @@ words_more {v} {u} {xs} is = record {
   places = is.places;
 }
 
-booked_more : {v u : View} {xs : List Item} → HasMore v u xs → (x : Settling) → IsBooked v x → IsBooked u x
+booked_more : {v u : View} {xs : List Item} → HasMore v u xs → (x : Settling) → IsBookedInView v x → IsBookedInView u x
 booked_more {v} {u} {xs} more x is =
     elim is [
       | inl own ↦ inl (

@@ -20,7 +20,7 @@ use Rattle.op_words.specs.Views.{IsApart, IsSourceSeen}
 use Rattle.op_words.specs.Hands.{plan_of, view_of, IsHandOf}
 use Rattle.std.specs.Result.{result_err}
 use Rattle.op_words.specs.Stepping.{Looked, SoughtAt}
-use Rattle.op_words.specs.Grounds.{IsSourceLoaded, IsLoadedAs, SourceDoes, OpenDoes, IsSettledUpTo}
+use Rattle.op_words.specs.Grounds.{IsSourceLoaded, IsLoadedAs, SourceDoes, OpenDoes, IsSettledUpToPlace}
 use Rattle.op_words.proofs.Rows.{not_inside, one_inside}
 use Rattle.op_words.proofs.Seeking.{row_none, row_then, row_look}
 
@@ -72,10 +72,10 @@ module _ (b : Board) (p : Plan) (o : ℕ) where
   pub open_none : (h : Hand) → IsHandOf b h → OpenDoes b p o false h h None
   open_none h is = record { words = []; row = row_none b o h is; tells = λ asked. absurd (false≢true asked) }
 
-  pub settled_none : (h : Hand) → IsHandOf b h → IsSettledUpTo b p o 0 h h
+  pub settled_none : (h : Hand) → IsHandOf b h → IsSettledUpToPlace b p o 0 h h
   settled_none h is = record { words = []; row = row_none b o h is; settled = λ k lt. absurd (omega (arith, lt)) }
 
-  pub settled_more : {h g k : Hand} {x : ℕ} (j : ℕ) → IsSettledUpTo b p o j h g → SourceDoes b p o j true g k (Ok x) → IsSettledUpTo b p o (j + 1) h k
+  pub settled_more : {h g k : Hand} {x : ℕ} (j : ℕ) → IsSettledUpToPlace b p o j h g → SourceDoes b p o j true g k (Ok x) → IsSettledUpToPlace b p o (j + 1) h k
   settled_more {h} {g} {k} {x} j far here = record {
     words = far.words ++ here.words;
     row = row_then b o far.row here.row;
@@ -89,7 +89,7 @@ module _ (b : Board) (p : Plan) (o : ℕ) where
         ];
   }
 
-  pub settled_stop : {h g k : Hand} {stop : Stop} (j : ℕ) → j < places p o → IsSettledUpTo b p o j h g → SourceDoes b p o j true g k (Err stop) → OpenDoes b p o true h k (Some stop)
+  pub settled_stop : {h g k : Hand} {stop : Stop} (j : ℕ) → j < places p o → IsSettledUpToPlace b p o j h g → SourceDoes b p o j true g k (Err stop) → OpenDoes b p o true h k (Some stop)
   settled_stop {h} {g} {k} {stop} j lt far here = record {
     words = far.words ++ here.words;
     row = row_then b o far.row here.row;
@@ -101,7 +101,7 @@ module _ (b : Board) (p : Plan) (o : ℕ) where
     };
   }
 
-  pub settled_all : {h g : Hand} → IsSettledUpTo b p o (places p o) h g → OpenDoes b p o true h g None
+  pub settled_all : {h g : Hand} → IsSettledUpToPlace b p o (places p o) h g → OpenDoes b p o true h g None
   settled_all far = record { words = far.words; row = far.row; tells = λ asked s source. far.settled source.place source.in_places s source.source_is }
 
 -- ---- up to the first that has no value

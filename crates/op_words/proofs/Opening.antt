@@ -14,12 +14,12 @@ use Rattle.interleaving_core.specs.Core.{start, blocked}
 use Rattle.interleaving_core.proofs.Machine.{start_sound}
 use Rattle.op_words.specs.declared.trail.View.{View}
 use Rattle.op_words.specs.Views.{IsPresent}
-use Rattle.op_words.specs.Layout.{Shows, AreFirst, record_index, decision_base}
+use Rattle.op_words.specs.Layout.{Shows, AreFirstWords, record_index, decision_base}
 use Rattle.op_words.specs.Rule.{Knows, first_view, Lawful}
 use Rattle.op_words.proofs.Rows.{not_inside}
 use Rattle.op_words.proofs.Trailing.{last-none}
 
-shows_start : (p : Plan) (counters : ℕ) (ws : List ℕ) → AreFirst p counters ws → Shows p counters start ws
+shows_start : (p : Plan) (counters : ℕ) (ws : List ℕ) → AreFirstWords p counters ws → Shows p counters start ws
 shows_start p counters ws first = record {
   long = first.long;
   ops = first.ops;
@@ -31,7 +31,7 @@ only_view : (a v : View) (i : ℕ) → get_elem? (Some a ∷ []) i ≡ some (Som
 only_view a v zero is = (refl, same_Some a v (some-injective (Some a) (Some v) is))
 only_view a v (suc i) is = absurd (some-ne-none (Some v) (sym is))
 
-module _ (cap counters : ℕ) (plan : Snapshot Plan) (ws : List ℕ) (valid : IsPlan plan.value) (few : cap < most_attempts) (words : AreFirst plan.value counters ws) where
+module _ (cap counters : ℕ) (plan : Snapshot Plan) (ws : List ℕ) (valid : IsPlan plan.value) (few : cap < most_attempts) (words : AreFirstWords plan.value counters ws) where
   knows_first : Knows plan.value cap start 1 0 (first_view plan cap)
   knows_first = record {
     plan = refl;

@@ -24,7 +24,7 @@ use Rattle.op_words.specs.declared.trail.RecordSeen.{RecordSeen}
 use Rattle.op_words.specs.declared.trail.View.{View}
 use Rattle.op_words.specs.Trails.{loaded, left, last_word, HasLast, IsSourceOf, NoneOwn}
 use Rattle.op_words.specs.Views.{Adds, IsRecordSeen, IsSourceSeen, last_place, rolling_back}
-use Rattle.op_words.specs.Calls.{IsRead}
+use Rattle.op_words.specs.Calls.{IsReadValue}
 use Rattle.op_words.specs.Hands.{plan_of, cap_of, view_of, IsHandOf}
 use Rattle.op_words.specs.Stepping.{Looked, Left, Recalled, IsUsable, IsWalk}
 use Rattle.op_words.specs.Retrying.{IsSpreadAside, RollDoes}
@@ -75,7 +75,7 @@ source_seen_more v u xs more (Written t) y is = record {
 }
 
 -- what was loaded of a source is read in a longer list, and the next attempt may read it
-read_more : (xs ys : List Item) (needed : Bool) (q : Origin) (x : ℕ) → ((t : Item) → Contains xs t → Contains ys t) → IsSourceLoaded xs needed q x → IsRead ys q x
+read_more : (xs ys : List Item) (needed : Bool) (q : Origin) (x : ℕ) → ((t : Item) → Contains xs t → Contains ys t) → IsSourceLoaded xs needed q x → IsReadValue ys q x
 read_more xs ys needed (Base c) x more is = is
 read_more xs ys needed (Written t) x more is = (is.word, more (loaded t is.word) is.inside, is.value_is)
 
@@ -210,7 +210,7 @@ module _ (b : Board) (p : Plan) (o j : ℕ) (h g : Hand) (w : OpWord) (free : (v
 
       -- the same word was found, under which the record is right
       pub found_fresh : (x : ℕ) → p ≡ plan_of b → j < places p o → w.state ≢ Spread → IsRecordSeen (view_of k) o j w x → Looked b o k m w
-          → IsRead (front ++ loaded o w ∷ []) (origin_at p o j) x → ((y : ℕ) → IsSourceSeen (view_of h) (origin_at p o j) y → y ≡ x) → RollDoes p (cap_of b) o (view_of h) (view_of m) j (Fresh x)
+          → IsReadValue (front ++ loaded o w ∷ []) (origin_at p o j) x → ((y : ℕ) → IsSourceSeen (view_of h) (origin_at p o j) y → y ≡ x) → RollDoes p (cap_of b) o (view_of h) (view_of m) j (Fresh x)
       found_fresh x plan below other seen step read known = record {
         words = front ++ loaded o w ∷ [];
         goes = record {
@@ -249,7 +249,7 @@ module _ (b : Board) (p : Plan) (o j : ℕ) (h g k m : Hand) (w : OpWord) (kept 
   pub record_rolled : IsRecordSeen (view_of m) o j w kept
   record_rolled = recalled_seen b o j k m kept w (walk_last b o (blocked 1) w (walk_row b o source_did.row) (look_last b o h g w (blocked 1) did)) record_did
 
-  pub source_read : IsRead ((loaded o w ∷ source_did.words ++ []) ++ loaded o w ∷ []) (origin_at p o j) x
+  pub source_read : IsReadValue ((loaded o w ∷ source_did.words ++ []) ++ loaded o w ∷ []) (origin_at p o j) x
   source_read =
       read_more words_source ((loaded o w ∷ words_source ++ []) ++ loaded o w ∷ []) needed (origin_at p o j) x
       (λ t inside. Contains-append_left (loaded o w ∷ words_source ++ []) (loaded o w ∷ []) t (Contains-append_right (loaded o w ∷ []) (words_source ++ []) t (Contains-append_left words_source [] t inside)))

@@ -26,7 +26,7 @@ use Rattle.op_words.specs.Plays.{Leaves}
 use Rattle.op_words.specs.Judging.{IsStaleWord, SettleDoes}
 use Rattle.op_words.specs.Hands.{plan_of, cap_of, view_of}
 use Rattle.op_words.specs.Stepping.{Looked, Left, Learned, IsWalk}
-use Rattle.op_words.specs.Comparing.{IsNotedLast, IsOtherAt, IsOpened, IsSealed}
+use Rattle.op_words.specs.Comparing.{IsNotedLast, IsOtherAt, BeginsWithLoad, IsSealed}
 use Rattle.op_words.proofs.Trailing.{last_later}
 use Rattle.op_words.proofs.Adding.{adds_then, adds_look, along_one, calm_left, free_apart, last_one, none_one}
 use Rattle.op_words.proofs.Making.{last_else, found_disturbed, none_elsewhere, none_then, own_none, own_left}
@@ -53,7 +53,7 @@ adds_settling v o z tells = record {
   calm = λ lone. along_one IsCalmAt v.trail (left o z) (calm_left v.trail o z);
 }
 
-module _ (b : Board) (p : Plan) (o : ℕ) (v : View) (h : Hand) (w : OpWord) (opened : IsOpened p o v (view_of h) w) where
+module _ (b : Board) (p : Plan) (o : ℕ) (v : View) (h : Hand) (w : OpWord) (opened : BeginsWithLoad p o v (view_of h) w) where
   abbrev cap : ℕ
   cap = cap_of b
 
@@ -213,7 +213,7 @@ closed_cases Settled is = inr refl
 closed_cases SettledAborted is = inr refl
 
 module _ (b : Board) (p : Plan) (o : ℕ) (h g : Hand) (w : OpWord) (free : (view_of h).claim ≡ None) (did : Looked b o h g w) where
-  pub opened_first : IsOpened p o (view_of h) (view_of g) w
+  pub opened_first : BeginsWithLoad p o (view_of h) (view_of g) w
   opened_first = record {
     goes = record {
       adds = subst (λ (u : View). Adds (view_of h) u (loaded o w ∷ [])) (sym did.view) (adds_look o _ (view_of h) w (free_apart (view_of h) o free) did.tells);
@@ -225,7 +225,7 @@ module _ (b : Board) (p : Plan) (o : ℕ) (h g : Hand) (w : OpWord) (free : (vie
 
   -- then the decision was loaded
   module _ (e : ℕ) (k : Hand) (committed : Bool) (learned : Learned b e g k (Some committed)) where
-    pub opened_then : IsOpened p o (view_of h) (view_of k) w
+    pub opened_then : BeginsWithLoad p o (view_of h) (view_of k) w
     opened_then =
         let walk = walk_learn b o did.hand learned in
         record {

@@ -23,7 +23,7 @@ use Rattle.interleaving_core.proofs.Sources.{settled_right}
 use Rattle.interleaving_core.proofs.Machine.{step_keeps}
 use Rattle.op_words.specs.declared.trail.View.{View}
 use Rattle.op_words.specs.Trails.{left}
-use Rattle.op_words.specs.Views.{HasSettled, IsBooked, IsRecordSeen, settling}
+use Rattle.op_words.specs.Views.{HasSettled, IsBookedInView, IsRecordSeen, settling}
 use Rattle.op_words.specs.Rule.{Seats, Knows, Lawful, Steps}
 use Rattle.op_words.specs.Plays.{Sat, Leaves, Swaps, settles}
 use Rattle.op_words.specs.Comparing.{IsToCommit, IsToAbort, MaySettleIt}
@@ -39,7 +39,7 @@ module _ {p : Plan} {cap counters : ℕ} (s : Seats) (lawful : Lawful p cap coun
 
   module _ (o : ℕ) (lt : o < op_count p) (z : OpWord) where
     -- what a settled word is in the view
-    is_booked : is_settled z.state ≡ true → (x : Settling) → Contains (settling o z v).settlings x → Contains v.settlings x ⊎ IsBooked (settling o z v) x
+    is_booked : is_settled z.state ≡ true → (x : Settling) → Contains (settling o z v).settlings x → Contains v.settlings x ⊎ IsBookedInView (settling o z v) x
     is_booked stands x inside =
         elim (Contains-append_cases v.settlings (record { op = o; by = v.tag } ∷ []) x inside) [
           | inl old ↦ inl old

@@ -16,7 +16,7 @@ use Rattle.interleaving_core.proofs.Stale.{run_shown}
 use Rattle.op_words.specs.declared.trail.View.{View}
 use Rattle.op_words.specs.Views.{IsSettledSeen, IsSourceSeen, IsRecordSeen}
 use Rattle.op_words.specs.Rule.{Seats, Knows, Lawful}
-use Rattle.op_words.specs.Plays.{HasRun, IsSight}
+use Rattle.op_words.specs.Plays.{IsRunResult, IsSight}
 use Rattle.op_words.proofs.Noting.{noted_present, noted_source}
 
 module _ {p : Plan} {cap counters : ℕ} (s : Seats) (lawful : Lawful p cap counters s) (i : ℕ) (v : View) (at : get_elem? s.views i ≡ some (Some v)) where
@@ -52,7 +52,7 @@ module _ {p : Plan} {cap counters : ℕ} (s : Seats) (lawful : Lawful p cap coun
     pub record_present : (j x : ℕ) → is_shown (lawful.core.word o).state ≡ true → IsRecordSeen v o j (lawful.core.word o) x → (k : Record) × (lawful.core.recorded o j ≡ Some k) × (k.value ≡ x)
     record_present j x shown seen = (knows.noted.records _ seen).same shown refl
 
-    has_run_at : has_run (lawful.core.word o).state ≡ true → HasRun p cap v o (lawful.core.word o)
+    has_run_at : has_run (lawful.core.word o).state ≡ true → IsRunResult p cap v o (lawful.core.word o)
     has_run_at ran =
         let run = here.follows.run ran in
         record {

@@ -13,7 +13,7 @@ use Rattle.morph_base.specs.declared.plan.Plan.{Plan}
 use Rattle.interleaving_core.specs.declared.entry.Settling.{Settling}
 use Rattle.interleaving_core.specs.Core.{Core}
 use Rattle.op_words.specs.declared.trail.View.{View}
-use Rattle.op_words.specs.Views.{IsBooked, parent, child}
+use Rattle.op_words.specs.Views.{IsBookedInView, parent, child}
 use Rattle.op_words.specs.Rule.{Seats, live, taken, tags, Knows, Lawful, Stays}
 use Rattle.op_words.specs.Plays.{staying, going}
 use Rattle.op_words.proofs.Rows.{here_long, snoc_cases, not_inside, sum_range_more}
@@ -86,7 +86,7 @@ module _ {p : Plan} {cap counters : ℕ} (s : Seats) (lawful : Lawful p cap coun
         | inr new ↦ absurd (none-some (child v) (sym new.1))
       ]
 
-  booked_parent : (x : Settling) → IsBooked v x → IsBooked (parent v) x
+  booked_parent : (x : Settling) → IsBookedInView v x → IsBookedInView (parent v) x
   booked_parent x is =
       elim is [
         | inl own ↦ inl own

@@ -14,8 +14,8 @@ use Rattle.op_words.specs.declared.trail.View.{View}
 use Rattle.op_words.specs.Views.{Holds, fetching}
 use Rattle.op_words.specs.Plays.{Sat, IsTold}
 use Rattle.op_words.specs.Layout.{record_index}
-use Rattle.op_words.specs.Hands.{plan_of, view_of, view_in, held_of, fetched_of, Fits, IsHandOf}
-use Rattle.op_words.specs.Stepping.{Kept}
+use Rattle.op_words.specs.Hands.{plan_of, view_of, view_in, held_of, fetched_of, HasHeldValues, IsHandOf}
+use Rattle.op_words.specs.Stepping.{IsPlaceKept}
 use Rattle.op_words.proofs.Journaling.{HasNoted}
 use Rattle.op_words.proofs.Handing.{kept, kept_step, still, held_parts}
 
@@ -27,7 +27,7 @@ places_few p o valid lt =
     omega (arith, n, few)
 
 -- as many values were fetched as the hand counts
-pub count_is : (k : Holding) (xs : List ℕ) → Fits k → fetched_of k ≡ xs → k.count ≡ length xs
+pub count_is : (k : Holding) (xs : List ℕ) → HasHeldValues k → fetched_of k ≡ xs → k.count ≡ length xs
 count_is k xs fits values =
     let few = fits.count in let len = fits.len in
     let n : length (fetched_of k) ≡ k.count = length-take-le k.count k.values (omega (arith, few, len)) in
@@ -45,7 +45,7 @@ module _ (b : Board) (h : Hand) (is : IsHandOf b h) (k : Holding) (some : h.held
   -- with a value more
   pub kept_hand : (g : Hand) (m : Holding) (x : ℕ) → g.seat.table_id ≡ h.seat.table_id → g.seat.me ≡ (Some (fetching (record { op = o; attempt = a; values = xs }) x (view_of h)), h.seat.me.1)
       → IsTold (fetching (record { op = o; attempt = a; values = xs }) x (view_of h)) → g.tag ≡ h.tag → g.made ≡ h.made → g.counts ≡ h.counts → HasNoted h.journal g.journal (Fetch k.op k.count h.tag x) → g.held ≡ Some m
-      → m.op ≡ k.op → m.attempt ≡ k.attempt → fetched_of m ≡ fetched_of k ++ x ∷ [] → Fits m → Kept b o a xs x h g
+      → m.op ≡ k.op → m.attempt ≡ k.attempt → fetched_of m ≡ fetched_of k ++ x ∷ [] → HasHeldValues m → IsPlaceKept b o a xs x h g
   kept_hand g m x table me told tag made counts noted held op attempt values fits =
       let u : View = fetching (record { op = o; attempt = a; values = xs }) x (view_of h) in
       let parts = held_parts h k o a xs (kept is) some holds in
@@ -56,6 +56,6 @@ module _ (b : Board) (h : Hand) (is : IsHandOf b h) (k : Holding) (some : h.held
       subst (HasNoted h.journal g.journal) (ap (λ (z : ℕ × ℕ × ℕ). Fetch z.0 z.1 z.2 x) (λ i. (parts.0 i, count_kept i, is.tag i))) noted in
       record {
         hand = still b h g u is table me_now refl refl
-            (kept_step h g u _ (kept is) tag made counts noted_so refl refl refl refl refl refl refl refl refl claim (λ n same. subst Fits (same_Some m n (sym held ∙ same)) fits)) told;
+            (kept_step h g u _ (kept is) tag made counts noted_so refl refl refl refl refl refl refl refl refl claim (λ n same. subst HasHeldValues (same_Some m n (sym held ∙ same)) fits)) told;
         view = ap (λ (y : Sat). view_in y.0) me_now;
       }

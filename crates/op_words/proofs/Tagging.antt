@@ -8,7 +8,7 @@ use Rattle.interleaving_core.proofs.Stale.{one_only}
 use Rattle.op_words.specs.declared.trail.Item.{Item}
 use Rattle.op_words.specs.declared.trail.Joined.{Joined}
 use Rattle.op_words.specs.declared.trail.View.{View}
-use Rattle.op_words.specs.Closing.{HasTrail, Ends}
+use Rattle.op_words.specs.Closing.{HasTrail, EndsSound}
 use Rattle.op_words.proofs.Closing.{is_it, range_once}
 use Rattle.op_words.proofs.Rows.{sum_range_more}
 use Rattle.op_words.proofs.Sizes.{sum_inside}
@@ -27,7 +27,7 @@ range_has m a (suc n) some =
     ]
 
 -- each tag has one trail
-module _ {p : Plan} {cap counters : ℕ} {ws : List ℕ} {v : View} (end : Ends p cap counters ws v) where
+module _ {p : Plan} {cap counters : ℕ} {ws : List ℕ} {v : View} (end : EndsSound p cap counters ws v) where
   abbrev of_tag : ℕ → Joined → ℕ
   of_tag t x = is_it t x.tag
 

@@ -18,7 +18,7 @@ use Rattle.op_words.specs.Rule.{Seats, live, tags, taken, of_counter, of_joined,
 use Rattle.op_words.specs.declared.board.Hand.{Hand}
 use Rattle.op_words.specs.Hands.{view_of, held_of}
 use Rattle.op_words.specs.Plays.{Sat, IsTold}
-use Rattle.op_words.specs.Counting.{place, taking, times, Takes, takes, passes}
+use Rattle.op_words.specs.Counting.{place, taking, times, IsNumberTaken, takes, passes}
 use Rattle.op_words.proofs.Rows.{sum_set, sum_has, set_apart}
 use Rattle.op_words.proofs.Sizes.{sum_most, sum_inside, single_sum, sum_ones, none_left, sum_below, range_size, sum_above}
 use Rattle.op_words.proofs.Handing.{IsKept}
@@ -161,7 +161,7 @@ module _ {p : Plan} {cap counters : ℕ} (s : Seats) (lawful : Lawful p cap coun
         (λ single first. record { each = (lawful.alone single v (subst (λ m. get_elem? s.views m ≡ some (Some v)) first at)).each })
 
     -- the number is above those that the hand took, and a lone root takes them from 0 on
-    pub takes_so : Takes k n v
+    pub takes_so : IsNumberTaken k n v
     takes_so = record {
       rises = λ x found same.
           elim (cases_lt x.number n) [
@@ -215,7 +215,7 @@ module _ {p : Plan} {cap counters : ℕ} where
           let plan : x.plan.value ≡ p = ap (λ (y : View). y.plan.value) (sym e) ∙ (lawful.hands id v there).plan in
           let number : k ≡ j = omega (arith, index, ap counter_base plan) in
           let m : ℕ = slice_index s.words (counter_base p + k) in
-          (subst (λ i. Takes i m x) number (subst (Takes k m) e (takes_so s lawful id v there k below)), ap (λ (y : View). (Some (taking k m y), me.1)) e ∙ ap (λ (i : ℕ). (Some (taking i m x), me.1)) number)
+          (subst (λ i. IsNumberTaken i m x) number (subst (IsNumberTaken k m) e (takes_so s lawful id v there k below)), ap (λ (y : View). (Some (taking k m y), me.1)) e ∙ ap (λ (i : ℕ). (Some (taking i m x), me.1)) number)
 
 -- what is told of a view does not speak of numbers taken
 pub taking_told : (k n : ℕ) (v : View) → IsTold v → IsTold (taking k n v)

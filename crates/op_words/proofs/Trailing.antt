@@ -10,7 +10,7 @@ use Rattle.morph_base.specs.Words.{is_settled, code_of}
 use Rattle.morph_base.proofs.WordLaws.{one_state}
 use Rattle.interleaving_core.specs.Core.{blocked}
 use Rattle.op_words.specs.declared.trail.Item.{Item}
-use Rattle.op_words.specs.Trails.{loaded, last_word, HasLast, IsDisturbed, IsReached, Along, IsSteady, IsCalmAt, IsCalm}
+use Rattle.op_words.specs.Trails.{loaded, last_word, HasLast, IsDisturbed, IsReached, Along, IsSteadyTrail, IsCalmAt, IsCalm}
 
 -- ---- words are equal or not
 
@@ -182,7 +182,7 @@ calm_undisturbed pre xs calm o is =
 
 -- ---- settled words stay
 
-pub settled_last : (tag : ℕ) (pre xs : List Item) → IsSteady tag pre xs → (o : ℕ) (n : Item) → n.op ≡ o → is_settled n.word.state ≡ true
+pub settled_last : (tag : ℕ) (pre xs : List Item) → IsSteadyTrail tag pre xs → (o : ℕ) (n : Item) → n.op ≡ o → is_settled n.word.state ≡ true
     → Contains (pre ++ xs) n → (d : OpWord) → (Contains pre n → d ≡ n.word) → last_word o d xs ≡ n.word
 unfolding Along last_word
 settled_last tag pre [] steady o n same settled inside d first = first (subst (λ zs. Contains zs n) (append_none pre) inside)

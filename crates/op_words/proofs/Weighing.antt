@@ -24,10 +24,10 @@ use Rattle.op_words.specs.declared.trail.View.{View}
 use Rattle.op_words.specs.Trails.{loaded, HasLast, IsDisturbed, IsSourceOf, NoneOwn}
 use Rattle.op_words.specs.Views.{IsDecisionSeen, IsSettledSeen, Adds}
 use Rattle.op_words.specs.Calls.{IsSettledRead, Elsewhere}
-use Rattle.op_words.specs.Judging.{decided_as, IsStaleWord, IsOwnUnready, IsJudgedGood, IsDoubtful, IsInDoubt, IsDecided, MayDecide, DecideSteps, DecideTells, DecideDoes}
+use Rattle.op_words.specs.Judging.{decided_as, IsStaleWord, IsOwnUnready, IsJudgedGood, IsDoubtful, IsInDoubt, IsDecided, MayHaveDecided, DecideSteps, DecideTells, DecideDoes}
 use Rattle.op_words.specs.Hands.{plan_of, view_of, IsHandOf}
 use Rattle.op_words.specs.Stepping.{Learned}
-use Rattle.op_words.specs.Comparing.{OfReads, IsJudgedAs, WeighTells, IsWeighed, HasDoubt, GroundsTell, HasGrounds, MaySayOf, IsConcluded}
+use Rattle.op_words.specs.Comparing.{OfReads, IsJudgedAs, WeighTells, IsWeighed, HasDoubt, GroundsTell, HasFoundGrounds, MaySayOf, IsConcluded}
 use Rattle.op_words.proofs.Rows.{not_inside}
 use Rattle.op_words.proofs.Trailing.{last_later, disturbed_later, disturbed_more}
 use Rattle.op_words.proofs.Adding.{adds_none, goes_then}
@@ -181,7 +181,7 @@ apart_reads p i o n ys valid lt mine other apart none reads t inside = (none t i
         omega (arith, before, one, two, three)
 
 module _ (b : Board) (p : Plan) (cap i start : ℕ) (valid : IsPlan p) (lt : i < event_count p) (first_is : (event_at p i).first ≤ start) where
-  pub grounds_none : (h : Hand) → IsHandOf b h → (view_of h).claim ≡ None → HasGrounds b p cap i start start h h Committed
+  pub grounds_none : (h : Hand) → IsHandOf b h → (view_of h).claim ≡ None → HasFoundGrounds b p cap i start start h h Committed
   grounds_none h is free = record {
     hand = is;
     words = [];
@@ -191,8 +191,8 @@ module _ (b : Board) (p : Plan) (cap i start : ℕ) (valid : IsPlan p) (lt : i <
     tells = λ o low high. absurd (omega (arith, low, high));
   }
 
-  module _ {h g k : Hand} (n : ℕ) (within : InEvent p i n) (far : Decided) (next : Decided) (all : HasGrounds b p cap i start n h g far) (here : IsWeighed b p cap n g k next) where
-    grounds_with : (r : Decided) → GroundsTell p cap i start (n + 1) (view_of h) (view_of k) (all.words ++ here.words) r → HasGrounds b p cap i start (n + 1) h k r
+  module _ {h g k : Hand} (n : ℕ) (within : InEvent p i n) (far : Decided) (next : Decided) (all : HasFoundGrounds b p cap i start n h g far) (here : IsWeighed b p cap n g k next) where
+    grounds_with : (r : Decided) → GroundsTell p cap i start (n + 1) (view_of h) (view_of k) (all.words ++ here.words) r → HasFoundGrounds b p cap i start (n + 1) h k r
     grounds_with r tells = record { hand = here.hand; words = all.words ++ here.words; goes = goes_then all.goes here.goes; none = none_then all.words here.words all.none here.none; stays = here.stays ∙ all.stays; tells = tells }
 
     -- the operation is not loaded while another one of the event is judged
@@ -288,10 +288,10 @@ module _ (b : Board) (p : Plan) (cap i start : ℕ) (valid : IsPlan p) (lt : i <
         apart : Undecided at w ≡ Committed → ⊥
         apart same = cc
 
-    pub grounds_more : (far ≡ Aborted → ⊥) → (next ≡ Aborted → ⊥) → (r : Decided) → (far ≡ Committed → r ≡ next) → ((far ≡ Committed → ⊥) → r ≡ far) → HasGrounds b p cap i start (n + 1) h k r
+    pub grounds_more : (far ≡ Aborted → ⊥) → (next ≡ Aborted → ⊥) → (r : Decided) → (far ≡ Committed → r ≡ next) → ((far ≡ Committed → ⊥) → r ≡ far) → HasFoundGrounds b p cap i start (n + 1) h k r
     grounds_more fine good r first doubt = grounds_with r (tells_more far next good all.tells here.tells r fine first doubt)
 
-    pub grounds_bad : next ≡ Aborted → (end : ℕ) → HasGrounds b p cap i start end h k next
+    pub grounds_bad : next ≡ Aborted → (end : ℕ) → HasFoundGrounds b p cap i start end h k next
     grounds_bad bad end = record {
       hand = here.hand;
       words = all.words ++ here.words;
@@ -316,11 +316,11 @@ decided_tells : {p : Plan} {cap i : ℕ} {v u : View} {xs : List Item} (committe
 decided_tells true is = is
 decided_tells false is = is
 
-decide_steps : (i : ℕ) (v u : View) (committed : Bool) → MayDecide i committed v u → DecideSteps i v u (decided_as committed)
+decide_steps : (i : ℕ) (v u : View) (committed : Bool) → MayHaveDecided i committed v u → DecideSteps i v u (decided_as committed)
 decide_steps i v u true is = is
 decide_steps i v u false is = is
 
-decide_later : (i : ℕ) (committed : Bool) (v n u : View) → n.events ≡ v.events → MayDecide i committed n u → MayDecide i committed v u
+decide_later : (i : ℕ) (committed : Bool) (v n u : View) → n.events ≡ v.events → MayHaveDecided i committed n u → MayHaveDecided i committed v u
 decide_later i committed v n u stays is = elim is [ inl same ↦ inl (same ∙ stays) | inr more ↦ inr (more ∙ ap (λ (es : List CoreEvent). Decide i committed ∷ es) stays) ]
 
 module _ (b : Board) (p : Plan) (cap i : ℕ) (plan : p ≡ plan_of b) (h g : Hand) (learned : Learned b i h g None) (is : IsHandOf b h) where
@@ -332,7 +332,7 @@ module _ (b : Board) (p : Plan) (cap i : ℕ) (plan : p ≡ plan_of b) (h g : Ha
 
   module _ (k : Hand) where
     -- it is not decided, and an operation is in doubt
-    pub undecided : (at : ℕ) (w : OpWord) → HasGrounds b p cap i (event_at p i).first ((event_at p i).first + (event_at p i).count) g k (Undecided at w)
+    pub undecided : (at : ℕ) (w : OpWord) → HasFoundGrounds b p cap i (event_at p i).first ((event_at p i).first + (event_at p i).count) g k (Undecided at w)
         → DecideDoes p cap i (view_of h) (view_of k) (Undecided at w)
     undecided at w all = subst (λ (v : View). DecideDoes p cap i v (view_of k) (Undecided at w)) view_same (record {
       words = all.words;
@@ -353,7 +353,7 @@ module _ (b : Board) (p : Plan) (cap i : ℕ) (plan : p ≡ plan_of b) (h g : Ha
   module _ (k : Hand) (start end : ℕ) where
     -- a decision was made, or found
     module _ (m : Hand) where
-      pub decided_now : (committed : Bool) (r : Decided) → HasGrounds b p cap i start end g k r → IsConcluded b p i k m committed → DecideDoes p cap i (view_of h) (view_of m) (decided_as committed)
+      pub decided_now : (committed : Bool) (r : Decided) → HasFoundGrounds b p cap i start end g k r → IsConcluded b p i k m committed → DecideDoes p cap i (view_of h) (view_of m) (decided_as committed)
       decided_now committed r all stands = subst (λ (v : View). DecideDoes p cap i v (view_of m) (decided_as committed)) view_same (record {
         words = all.words ++ [];
         goes = goes_then all.goes stands.goes;
@@ -376,7 +376,7 @@ decided_before b p cap i h g committed plan is free did =
     }
 
 -- what the grounds say
-pub may_say : (b : Board) (p : Plan) (cap i : ℕ) (g k : Hand) (r : Decided) (committed : Bool) → r ≡ decided_as committed → HasGrounds b p cap i (event_at p i).first ((event_at p i).first + (event_at p i).count) g k r → MaySayOf p (view_of k) i committed
+pub may_say : (b : Board) (p : Plan) (cap i : ℕ) (g k : Hand) (r : Decided) (committed : Bool) → r ≡ decided_as committed → HasFoundGrounds b p cap i (event_at p i).first ((event_at p i).first + (event_at p i).count) g k r → MaySayOf p (view_of k) i committed
 may_say b p cap i g k r true same all = λ o inside.
     let good = (subst (GroundsTell p cap i (event_at p i).first ((event_at p i).first + (event_at p i).count) (view_of g) (view_of k) all.words) same all.tells) o inside.from inside.below in
     (good.0, record { sources = λ j below. (_, good.1.judged.sources j below); answer_is = good.1.answer })

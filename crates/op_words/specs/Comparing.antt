@@ -1,4 +1,4 @@
--- An operation's records beside its settled sources, and what a hand has to have seen to decide and to settle.
+-- Records of an operation beside its settled sources, and what a hand has to have seen to decide and settle
 use Rattle.std.specs.Prelude.{◌≡◌, ◌≢◌, ℕ, ◌≤◌, ◌<◌, ◌⊎◌, Bool, true, false, List, [], ◌∷◌, Contains, None, Result, Ok, Err}
 use Rattle.morph_base.specs.declared.plan.Plan.{Plan}
 use Rattle.morph_base.specs.declared.plan.Origin.TheVariants.{Op as Written}
@@ -22,86 +22,95 @@ use Rattle.op_words.specs.declared.board.Hand.{Hand}
 use Rattle.op_words.specs.declared.trail.Item.{Item}
 use Rattle.op_words.specs.declared.trail.View.{View}
 use Rattle.op_words.specs.Trails.{loaded, left, last_word, IsSourceOf, OfSources, NoneOwn}
-use Rattle.op_words.specs.Views.{IsDecisionSeen, IsRecordSeen, IsSourceSeen, Goes, settling}
+use Rattle.op_words.specs.Views.{IsDecisionSeen, IsRecordSeen, IsSourceSeen, AddsAndFrees, settling}
 use Rattle.op_words.specs.Calls.{IsSettledRead}
-use Rattle.op_words.specs.Judging.{MayDecide, IsStaleAt, VerdictTells, IsAnswerSeen, IsGoodSeen, IsJudgedGood, IsDoubtful, IsInDoubt}
+use Rattle.op_words.specs.Judging.{MayHaveDecided, IsStaleAt, VerdictTells, IsAnswerSeen, IsGoodSeen, IsJudgedGood, IsDoubtful, IsInDoubt}
 use Rattle.op_words.specs.Hands.{plan_of, view_of, IsHandOf}
 use Rattle.op_words.specs.Stepping.{Looked, Left, IsWalk}
 
--- of the operation itself too
+-- All words in xs are of operation o or of sources of it
 abbrev pub OfReads : Plan → ℕ → List Item → Type 0
 OfReads p o xs = (t : Item) → Contains xs t → (t.op ≡ o) ⊎ IsSourceOf p o t.op
 
 -- ---- one place
 
--- its source was loaded settled, or is a base, with value x, which is the fold's
+-- The source of operation o at place j was loaded settled, or is a base, with value x, which is the fold's
 pub record IsSourceRight (p : Plan) (o j : ℕ) (xs : List Item) (u : View) (x : ℕ) : Type 0 where
   pub read : IsSettledRead xs (origin_at p o j) x
   pub seen : IsSourceSeen u (origin_at p o j) x
   pub fold : x ≡ source p (final p) o j
 
--- its source was loaded, and is not settled
+-- The source of operation o at place j was loaded, and is not settled
 pub record IsOpenAt (p : Plan) (o j : ℕ) (xs : List Item) (stop : Stop) : Type 0 where
   pub source_is : origin_at p o j ≡ Written stop.source
   pub inside : Contains xs (loaded stop.source stop.word)
   pub settled : is_settled stop.word.state ≡ false
 
+-- The answer is the settled value of the source at place j, or the source with its word that is not settled
 abbrev pub SettledTells : Plan → ℕ → ℕ → List Item → View → Result ℕ Stop → Type 0
 SettledTells p o j xs u (Ok x) = IsSourceRight p o j xs u x
 SettledTells p o j xs u (Err stop) = IsOpenAt p o j xs stop
 
+-- The source of operation o at place j was loaded, and this is the answer
 pub record IsLoadedAt (b : Board) (p : Plan) (o j : ℕ) (h g : Hand) (r : Result ℕ Stop) : Type 0 where
   pub words : List Item
   pub walk : IsWalk b o h g words
   pub sources : OfSources p o words
   pub tells : SettledTells p o j words (view_of g) r
 
--- under word w, its record is the fold's value of its source, which is settled
+-- Under word w of operation o, the record at place j is the fold's value of its source, which is settled
 pub record IsEqualAt (p : Plan) (o : ℕ) (w : OpWord) (u : View) (j : ℕ) : Type 0 where
   pub seen : IsSourceSeen u (origin_at p o j) (source p (final p) o j)
   pub recorded : IsRecordSeen u o j w (source p (final p) o j)
 
--- it is another one
+-- Under word w of operation o, the record at place j has the value `kept`, which is not that of its settled source
 pub record IsOtherAt (p : Plan) (o : ℕ) (w : OpWord) (xs : List Item) (u : View) (j kept value : ℕ) : Type 0 where
   pub in_places : j < places p o
   pub right : IsSourceRight p o j xs u value
   pub recorded : IsRecordSeen u o j w kept
   pub differs : kept ≢ value
 
--- the word of the operation that was noted last
+-- The word w of operation o is the one that was noted last
 abbrev pub IsNotedLast : ℕ → View → OpWord → Type 0
 IsNotedLast o v w = last_word o (blocked 1) v.notes ≡ w
 
-abbrev pub PlaceTells : Plan → ℕ → OpWord → ℕ → List Item → View → Compared → Type 0
-PlaceTells p o w j xs u Equal = IsEqualAt p o w u j
-PlaceTells p o w j xs u (Open stop) = IsOpenAt p o j xs stop
-PlaceTells p o w j xs u (Differs k kept value) = IsOtherAt p o w xs u k kept value
+-- The answer says that the record at place j is equal to its settled source, that the source is not settled, or that
+-- the record differs
+abbrev pub PlaceIsCompared : Plan → ℕ → OpWord → ℕ → List Item → View → Compared → Type 0
+PlaceIsCompared p o w j xs u Equal = IsEqualAt p o w u j
+PlaceIsCompared p o w j xs u (Open stop) = IsOpenAt p o j xs stop
+PlaceIsCompared p o w j xs u (Differs k kept value) = IsOtherAt p o w xs u k kept value
 
+-- The record of operation o at place j was compared with its source, and this is the answer
 pub record IsComparedAt (b : Board) (p : Plan) (o j : ℕ) (h g : Hand) (r : Compared) : Type 0 where
   pub words : List Item
   pub walk : IsWalk b o h g words
   pub sources : OfSources p o words
-  pub tells : (w : OpWord) → IsNotedLast o (view_of h) w → PlaceTells p o w j words (view_of g) r
+  pub tells : (w : OpWord) → IsNotedLast o (view_of h) w → PlaceIsCompared p o w j words (view_of g) r
 
 -- ---- all places
 
--- the places below j are equal
+-- The records of operation o at the places before j are equal to their sources
 pub record IsComparedUpTo (b : Board) (p : Plan) (o j : ℕ) (h g : Hand) : Type 0 where
   pub words : List Item
   pub walk : IsWalk b o h g words
   pub sources : OfSources p o words
   pub equal : (w : OpWord) → IsNotedLast o (view_of h) w → (k : ℕ) → k < j → IsEqualAt p o w (view_of g) k
 
+-- A source of operation o was loaded, and is not settled
 pub record IsStoppedAt (p : Plan) (o : ℕ) (xs : List Item) (stop : Stop) : Type 0 where
   pub source : IsSourceOf p o stop.source
   pub inside : Contains xs (loaded stop.source stop.word)
   pub settled : is_settled stop.word.state ≡ false
 
+-- The answer says that each record is equal to its settled source, that a source is not settled, or that a record
+-- differs
 abbrev pub AllTells : Plan → ℕ → OpWord → List Item → View → Compared → Type 0
 AllTells p o w xs u Equal = (j : ℕ) → j < places p o → IsEqualAt p o w u j
 AllTells p o w xs u (Open stop) = IsStoppedAt p o xs stop
 AllTells p o w xs u (Differs j kept value) = IsOtherAt p o w xs u j kept value
 
+-- The records of operation o were compared with their sources, and this is the answer
 pub record IsCompared (b : Board) (p : Plan) (o : ℕ) (h g : Hand) (r : Compared) : Type 0 where
   pub words : List Item
   pub walk : IsWalk b o h g words
@@ -110,17 +119,20 @@ pub record IsCompared (b : Board) (p : Plan) (o : ℕ) (h g : Hand) (r : Compare
 
 -- ---- the word again
 
+-- Operation o was loaded again, with word w. If this is the first word, the verdict stays; else o is not ready to be
+-- judged
 pub record IsConfirmed (b : Board) (o : ℕ) (h g : Hand) (first : OpWord) (verdict : Verdict) (w : OpWord) (r : Verdict) : Type 0 where
   pub looked : Looked b o h g w
   pub tells : ((w ≡ first) × (r ≡ verdict)) ⊎ ((w ≢ first) × (r ≡ Unready o w))
 
 -- ---- a verdict, with the word that it is about
 
--- it loads the operation first, and else it and its sources alone; a stale one is stale at this word
+-- Operation o was judged with the answer r. The call loads o first, and then only o and its sources. A stale answer is
+-- about this word w
 pub record IsJudgedAs (b : Board) (p : Plan) (cap o : ℕ) (h g : Hand) (w : OpWord) (r : Verdict) : Type 0 where
   pub hand : IsHandOf b g
   pub words : List Item
-  pub goes : Goes (view_of h) (view_of g) words
+  pub goes : AddsAndFrees (view_of h) (view_of g) words
   pub none : NoneOwn words
   pub reads : OfReads p o words
   pub first : OpWord
@@ -128,19 +140,23 @@ pub record IsJudgedAs (b : Board) (p : Plan) (cap o : ℕ) (h g : Hand) (w : OpW
   pub begins : words ≡ loaded o first ∷ rest
   pub stays : (view_of g).events ≡ (view_of h).events
   pub tells : VerdictTells p cap o (view_of h) (view_of g) words r
-  pub stale : (j kept value : ℕ) → r ≡ Stale j kept value → IsStaleAt p cap o (view_of h) (view_of g) words w j kept value
+  pub stale :
+      (j kept value : ℕ) → r ≡ Stale j kept value → IsStaleAt p cap o (view_of h) (view_of g) words w j kept value
 
 -- ---- what the operations of an event say of it
 
+-- The answer says that operation o is good, that it fails on sources that the hand saw settled, or that it is in doubt
 abbrev pub WeighTells : Plan → ℕ → ℕ → View → View → List Item → Decided → Type 0
 WeighTells p cap o v u xs Committed = IsJudgedGood p cap o v u xs
 WeighTells p cap o v u xs Aborted = IsAnswerSeen p u o None
 WeighTells p cap o v u xs (Undecided at w) = IsDoubtful p cap o v u xs at w
 
+-- Operation o was judged, and the answer is what it says of its event. The call loads o first, and then only o and its
+-- sources
 pub record IsWeighed (b : Board) (p : Plan) (cap o : ℕ) (h g : Hand) (r : Decided) : Type 0 where
   pub hand : IsHandOf b g
   pub words : List Item
-  pub goes : Goes (view_of h) (view_of g) words
+  pub goes : AddsAndFrees (view_of h) (view_of g) words
   pub none : NoneOwn words
   pub reads : OfReads p o words
   pub first : OpWord
@@ -149,7 +165,8 @@ pub record IsWeighed (b : Board) (p : Plan) (cap o : ℕ) (h g : Hand) (r : Deci
   pub stays : (view_of g).events ≡ (view_of h).events
   pub tells : WeighTells p cap o (view_of h) (view_of g) words r
 
--- of the first operations of the event, numbered from `start` below `end`, one is doubtful, those before it are good, and none is bad
+-- Of the operations of event i from `start` to below `end` one is in doubt, those before it are good, and each behind
+-- it is good or in doubt
 pub record HasDoubt (p : Plan) (cap i start end : ℕ) (v u : View) (xs : List Item) (at : ℕ) (w : OpWord) : Type 0 where
   pub culprit : ℕ
   pub inside : InEvent p i culprit
@@ -158,67 +175,73 @@ pub record HasDoubt (p : Plan) (cap i start end : ℕ) (v u : View) (xs : List I
   pub before : (o : ℕ) → start ≤ o → o < culprit → IsJudgedGood p cap o v u xs
   pub behind : (o : ℕ) → culprit < o → o < end → IsJudgedGood p cap o v u xs ⊎ IsInDoubt p cap o v u xs
 
--- all of them are good; one of them is bad; or one is doubtful
+-- The answer says that all operations from `start` to below `end` are good, that one fails, or that one is in doubt
 abbrev pub GroundsTell : Plan → ℕ → ℕ → ℕ → ℕ → View → View → List Item → Decided → Type 0
 GroundsTell p cap i start end v u xs Committed = (o : ℕ) → start ≤ o → o < end → IsJudgedGood p cap o v u xs
 GroundsTell p cap i start end v u xs Aborted = (o : ℕ) × InEvent p i o × IsAnswerSeen p u o None
 GroundsTell p cap i start end v u xs (Undecided at w) = HasDoubt p cap i start end v u xs at w
 
-pub record HasGrounds (b : Board) (p : Plan) (cap i start end : ℕ) (h g : Hand) (r : Decided) : Type 0 where
+-- The operations of event i from `start` to below `end` were judged, and the answer is what they say of it
+pub record HasFoundGrounds (b : Board) (p : Plan) (cap i start end : ℕ) (h g : Hand) (r : Decided) : Type 0 where
   pub hand : IsHandOf b g
   pub words : List Item
-  pub goes : Goes (view_of h) (view_of g) words
+  pub goes : AddsAndFrees (view_of h) (view_of g) words
   pub none : NoneOwn words
   pub stays : (view_of g).events ≡ (view_of h).events
   pub tells : GroundsTell p cap i start end (view_of h) (view_of g) words r
 
 -- ---- what a hand has to have seen
 
--- every operation of the event answers, or one fails, on settled sources
+-- The hand has seen what decides event i: every operation answers on settled sources, or one fails on them
 abbrev pub MaySayOf : Plan → View → ℕ → Bool → Type 0
 MaySayOf p v i true = (o : ℕ) → InEvent p i o → IsGoodSeen p v o
 MaySayOf p v i false = (o : ℕ) × InEvent p i o × IsAnswerSeen p v o None
 
--- word w of the operation becomes settled word z: under commit it is executed on records that are the values of its sources;
--- under abort it gets the value of its target's source
+-- The word w of operation o may become the settled word z of a committed event: w is executed on records that are the
+-- values of its sources
 pub record IsToCommit (p : Plan) (v : View) (o : ℕ) (w z : OpWord) : Type 0 where
   pub decided : IsDecisionSeen v (event_of p o) true
   pub executed : w.state ≡ Executed
   pub equal : (j : ℕ) → j < places p o → IsEqualAt p o w v j
   pub word_is : z ≡ settled w.attempt w.value v.tag
 
+-- The word w of operation o may become the settled word z of an aborted event: w is open, and z has the value of its
+-- target's source
 pub record IsToAbort (p : Plan) (v : View) (o : ℕ) (w z : OpWord) : Type 0 where
   pub decided : IsDecisionSeen v (event_of p o) false
   pub open_is : is_open w.state ≡ true
   pub target : IsSourceSeen v (origin_at p o 0) (source p (final p) o 0)
   pub word_is : z ≡ settled_aborted w.attempt (source p (final p) o 0) v.tag
 
+-- The word w of operation o may become the settled word z
 abbrev pub MaySettleIt : Plan → View → ℕ → OpWord → OpWord → Type 0
 MaySettleIt p v o w z = IsToCommit p v o w z ⊎ IsToAbort p v o w z
 
 -- ---- the decision that stands
 
--- nothing else was loaded, and the hand knows the decision, which is the fold's
+-- The call loaded no operation, and the hand knows the decision on event i, which is the fold's
 pub record IsConcluded (b : Board) (p : Plan) (i : ℕ) (h g : Hand) (committed : Bool) : Type 0 where
   pub hand : IsHandOf b g
-  pub goes : Goes (view_of h) (view_of g) []
-  pub steps : MayDecide i committed (view_of h) (view_of g)
+  pub goes : AddsAndFrees (view_of h) (view_of g) []
+  pub steps : MayHaveDecided i committed (view_of h) (view_of g)
   pub right : verdict p i ≡ committed
   pub known : IsDecisionSeen (view_of g) i committed
 
 -- ---- settling
 
--- the call began with a load of the operation's word
-pub record IsOpened (p : Plan) (o : ℕ) (v u : View) (w : OpWord) : Type 0 where
-  pub goes : Goes v u (loaded o w ∷ [])
+-- The call began with a load of the word w of operation o
+pub record BeginsWithLoad (p : Plan) (o : ℕ) (v u : View) (w : OpWord) : Type 0 where
+  pub goes : AddsAndFrees v u (loaded o w ∷ [])
   pub tag : u.tag ≡ v.tag
   pub stays : u.events ≡ v.events
 
+-- The exchange settled operation o with the fold's value, or found another word
 abbrev pub SealTells : Board → ℕ → Hand → Hand → OpWord → OpWord → SettleAnswer → Type 0
-SealTells b o h g w z (HasSettledIt x) = Left b h g (settling o z (view_of h)) (left o z) × (x ≡ z.value) × (z.value ≡ final (plan_of b) o)
+SealTells b o h g w z (HasSettledIt x) =
+    Left b h g (settling o z (view_of h)) (left o z) × (x ≡ z.value) × (z.value ≡ final (plan_of b) o)
 SealTells b o h g w z (Unsettled at found) = (at ≡ o) × (found ≢ w) × Looked b o h g found
 
--- the exchange settled it with the fold's value, or found another word
+-- The exchange of word w of operation o for the settled word z was tried, and this is the answer
 pub record IsSealed (b : Board) (o : ℕ) (h g : Hand) (w z : OpWord) (r : SettleAnswer) : Type 0 where
   pub hand : IsHandOf b g
   pub tells : SealTells b o h g w z r

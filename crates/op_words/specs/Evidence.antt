@@ -1,4 +1,4 @@
--- What the notes of a hand say of the state of the machine, now and after every step.
+-- What a view saw, beside the present state
 use Rattle.std.specs.Prelude.{◌≡◌, ◌<◌, Contains, Some}
 use Rattle.morph_base.specs.declared.plan.Plan.{Plan}
 use Rattle.morph_base.specs.Plans.{op_count}
@@ -9,6 +9,7 @@ use Rattle.op_words.specs.declared.trail.RecordSeen.{RecordSeen}
 use Rattle.op_words.specs.declared.trail.DecisionSeen.{DecisionSeen}
 use Rattle.op_words.specs.declared.trail.View.{View}
 
+-- Each word and record in view v agrees with state c as one that was seen, and each decision in v stands in c
 pub record AreNoted (p : Plan) (c : Core) (v : View) : Type 0 where
   pub notes : (n : Item) → Contains v.notes n → IsNoted c n.op n.word
   pub records : (r : RecordSeen) → Contains v.records r → IsRecordNoted c r.op r.place r.value r.word

@@ -1,4 +1,4 @@
--- The board and its hands, as contracts see them.
+-- The board and its hands, as contracts see them
 use Rattle.std.specs.Prelude.{◌≡◌, ℕ, ◌-◌, ◌^◌, ◌≤◌, ◌<◌, List, [], length, take, min, All, Option, Some, None}
 use Rattle.morph_base.specs.declared.limits.TheConstants.{MAX, READS}
 use Rattle.morph_base.specs.Limits.{most_attempts}
@@ -16,17 +16,19 @@ use Rattle.op_words.specs.declared.board.Holding.{Holding}
 use Rattle.op_words.specs.Journals.{IsJournal}
 use Rattle.op_words.specs.Plays.{IsTold}
 
--- the plan of a board, its cap, and how many counters it has
+-- The plan of a board
 abbrev pub plan_of : Board → Plan
 plan_of b = b.table.shared.key.plan.value
 
+-- The cap of a board, the last attempt at which values that are not settled may be read
 abbrev pub cap_of : Board → ℕ
 cap_of b = b.table.shared.key.cap
 
+-- How many counters a board has
 abbrev pub counters_of : Board → ℕ
 counters_of b = b.table.shared.key.counters
 
--- a view that says nothing, which no hand has
+-- A plan without events
 abbrev pub no_plan : Plan
 no_plan =
     record {
@@ -38,6 +40,7 @@ no_plan =
       edges = record { temporal = 0; parametric = 0; logical = 0 };
     }
 
+-- A view that says nothing, which no hand has
 abbrev pub no_view : View
 no_view =
     record {
@@ -59,45 +62,48 @@ no_view =
       joined = [];
     }
 
+-- The view, if there is one
 abbrev pub view_in : Option View → View
 view_in None = no_view
 view_in (Some v) = v
 
--- what contracts see of a hand
+-- The view of a hand, which is what contracts see of it
 abbrev pub view_of : Hand → View
 view_of h = view_in h.seat.me.0
 
 -- ---- what a hand keeps while it runs
 
--- the values that were fetched
+-- The values that were fetched for the operation that is held
 abbrev pub fetched_of : Holding → List ℕ
 fetched_of k = take k.count k.values
 
+-- What is held, as contracts see it
 abbrev pub held_of : Option Holding → Option Held
 held_of None = None
 held_of (Some k) = Some (record { op = k.op; attempt = k.attempt; values = fetched_of k })
 
--- what is held is at one of the attempts, and has a value for each place that was fetched
-pub record Fits (k : Holding) : Type 0 where
+-- The operation that is held is at one of the attempts, and has a value for each place that was fetched
+pub record HasHeldValues (k : Holding) : Type 0 where
   pub first : 1 ≤ k.attempt
   pub last : k.attempt ≤ most_attempts
   pub count : k.count ≤ READS
   pub len : length k.values ≡ READS
   pub small : All (λ x. x ≤ MAX) (fetched_of k)
 
--- a number that stops at the greatest one
+-- The number n, or the greatest u64 if n is above it
 abbrev pub up_to : ℕ → ℕ
 up_to n = min n (2 ^ 64 - 1)
 
+-- How many operations the steps evaluated, spread and rolled back
 abbrev pub counts_of : List CoreEvent → Counts
 counts_of es = record { evaluated = up_to (evaluated es); spread = up_to (spreads es); rolled = up_to (rolled es) }
 
--- the operation that is held, if there is one
+-- The operation that is held, if there is one
 abbrev pub op_held : Option Held → Option ℕ
 op_held None = None
 op_held (Some h) = Some h.op
 
--- the hand is one of this board's: one that `new`, `split` and other calls of it lead to
+-- The hand is one of this board's: one that `new`, `split` and other calls of it lead to
 pub record IsHandOf (b : Board) (h : Hand) : Type 0 where
   pub table : h.seat.table_id ≡ b.table.shared.table_id
   pub seat : h.seat.me ≡ (Some (view_of h), [])
@@ -110,9 +116,9 @@ pub record IsHandOf (b : Board) (h : Hand) : Type 0 where
   pub tag : h.tag ≡ (view_of h).tag
   pub made : h.made ≡ (view_of h).made
   pub held : held_of h.held ≡ (view_of h).claim
-  pub fits : (k : Holding) → h.held ≡ Some k → Fits k
+  pub fits : (k : Holding) → h.held ≡ Some k → HasHeldValues k
   pub counts : h.counts ≡ counts_of (view_of h).events
   pub journal : IsJournal (view_of h) h.journal
-  -- settled words that it saw are one for each operation, it noted its trail, and where it is the only hand ever made, its own
-  -- steps lead to a state whose words are the ones that it last loaded or left
+  -- The settled words that it saw are one for each operation, and it noted its trail. If it is the only hand ever made,
+  -- its own steps lead to a state whose words are the ones that it last loaded or left
   pub told : IsTold (view_of h)

@@ -1,4 +1,4 @@
--- What the calls tell that judge an operation, decide on its event and settle it.
+-- What the calls say that judge an operation, decide on its event and settle it
 use Rattle.std.specs.Prelude.{◌≡◌, ◌≢◌, ℕ, ◌≤◌, ◌<◌, ◌⊎◌, Bool, true, false, List, [], ◌∷◌, ◌++◌, Contains, Option, Some, None, if◌then◌else◌}
 use Rattle.morph_base.specs.declared.plan.Plan.{Plan}
 use Rattle.morph_base.specs.declared.plan.Origin.TheVariants.{Op as Written}
@@ -19,19 +19,20 @@ use Rattle.op_words.specs.declared.answers.SettleAnswer.TheVariants.{Done as Has
 use Rattle.op_words.specs.declared.trail.Item.{Item}
 use Rattle.op_words.specs.declared.trail.View.{View}
 use Rattle.op_words.specs.Trails.{loaded, left, HasLast, IsDisturbed, OwnOn, NoneOwn}
-use Rattle.op_words.specs.Views.{IsDecisionSeen, IsJudged, IsRecordSeen, IsSettledSeen, IsSourceSeen, Goes}
+use Rattle.op_words.specs.Views.{IsDecisionSeen, IsJudged, IsRecordSeen, IsSettledSeen, IsSourceSeen, AddsAndFrees}
 use Rattle.op_words.specs.Calls.{IsSettledRead, IsSourceOpen}
 
--- what an operation with this word, executed or failed, is worth on records that are right
+-- The verdict on an operation with this word, executed or failed, if its records are right
 abbrev pub verdict_of : OpWord → Verdict
 verdict_of w = if is_failed w.state then Bad else Good w.value
 
--- the answer that there is this decision
+-- The answer that there is this decision
 abbrev pub decided_as : Bool → Decided
 decided_as committed = if committed then Committed else Aborted
 
 module _ (p : Plan) (cap o : ℕ) (v u : View) (xs : List Item) where
-  -- under the word that the operation has, which is below the last attempt, a record differs from the settled value of its source
+  -- Operation o is stale at place j: under its word w, which is below the last attempt, the record there has the value
+  -- `kept`, and its source has another settled value
   pub record IsStaleAt (w : OpWord) (j kept value : ℕ) : Type 0 where
     pub last : HasLast o xs w
     pub seen : Contains xs (loaded o w)
@@ -43,14 +44,15 @@ module _ (p : Plan) (cap o : ℕ) (v u : View) (xs : List Item) where
     pub kept_is : IsRecordSeen u o j w kept
     pub alike : (x : ℕ) → IsRecordSeen v o j w x → x ≡ kept
 
-  -- at some place
+  -- Operation o is stale at some place, under its word w
   pub record IsStaleWord (w : OpWord) : Type 0 where
     pub place : ℕ
     pub kept : ℕ
     pub value : ℕ
     pub stale : IsStaleAt w place kept value
 
-  -- good: it is executed, each record is the settled value of its source, and on these values its function gives x
+  -- Operation o is good: it is executed, each record is the settled value of its source, and on these values its
+  -- function gives x
   pub record IsGood (x : ℕ) : Type 0 where
     pub word : OpWord
     pub last : HasLast o xs word
@@ -59,7 +61,8 @@ module _ (p : Plan) (cap o : ℕ) (v u : View) (xs : List Item) where
     pub value_is : word.value ≡ x
     pub answer : outcome p (final p) o ≡ Some x
 
-  -- bad: it failed, each record is the settled value of its source, and on these values its function gives nothing
+  -- Operation o is bad: it failed, each record is the settled value of its source, and on these values its function
+  -- gives nothing
   pub record IsBad : Type 0 where
     pub word : OpWord
     pub last : HasLast o xs word
@@ -67,24 +70,26 @@ module _ (p : Plan) (cap o : ℕ) (v u : View) (xs : List Item) where
     pub judged : IsJudged p u o word
     pub answer : outcome p (final p) o ≡ None
 
+  -- Operation o is stale at place j, under some word
   pub record IsStale (j kept value : ℕ) : Type 0 where
     pub word : OpWord
     pub stale : IsStaleAt word j kept value
 
-  -- unready: its own word is neither executed nor failed, or it changed
+  -- Operation o is not ready to be judged: its own word w is neither executed nor failed, or was disturbed
   pub record IsOwnUnready (w : OpWord) : Type 0 where
     pub last : HasLast o xs w
     pub seen : Contains xs (loaded o w)
     pub cause : (has_run w.state ≡ false) ⊎ IsDisturbed o xs
     pub spread : w.state ≡ Spread → w.attempt ≤ cap
 
+  -- The answer of `verdict` has its cause in the words xs
   abbrev pub VerdictTells : Verdict → Type 0
   VerdictTells (Good x) = IsGood x
   VerdictTells Bad = IsBad
   VerdictTells (Stale j kept value) = IsStale j kept value
   VerdictTells (Unready at w) = ((at ≡ o) × IsOwnUnready w) ⊎ ((at ≢ o) × IsSourceOpen p cap o v u xs at w)
 
-  -- settled with the fold's value, at the attempt of the word that was loaded first
+  -- The hand settled operation o with the fold's value x, at the attempt of the word that it loaded first
   pub record IsDone (x : ℕ) : Type 0 where
     pub first : OpWord
     pub rest : List Item
@@ -99,7 +104,8 @@ module _ (p : Plan) (cap o : ℕ) (v u : View) (xs : List Item) where
     pub fold : x ≡ final p o
     pub booked : Contains u.settlings (record { op = o; by = v.tag })
 
-  -- not: its own word is claimed or settled, or it changed; or its event commits, and it is not executed or a record is stale
+  -- Operation o was not settled: its own word w is claimed, settled, or was disturbed; or its event commits, and w is
+  -- not executed or a record is stale
   pub record IsOwnUnsettled (w : OpWord) : Type 0 where
     pub last : HasLast o xs w
     pub seen : Contains xs (loaded o w)
@@ -108,32 +114,38 @@ module _ (p : Plan) (cap o : ℕ) (v u : View) (xs : List Item) where
         ((w.state ≡ Claimed) ⊎ (is_settled w.state ≡ true))
         ⊎ (IsDisturbed o xs ⊎ ((verdict p (event_of p o) ≡ true) × ((w.state ≢ Executed) ⊎ IsStaleWord w)))
 
-  -- a source that it needs: each one where the event commits, else that of its target
+  -- The operation `at` is a source that has to be settled: any source if the event commits, else that of the target
   abbrev pub IsNeeded : ℕ → Type 0
   IsNeeded at = (verdict p (event_of p o) ≡ true) ⊎ (origin_at p o 0 ≡ Written at)
 
+  -- The answer of `settle` has its cause in the words xs
   abbrev pub SettleTells : SettleAnswer → Type 0
   SettleTells (HasSettledIt x) = IsDone x
-  SettleTells (Unsettled at w) = ((at ≡ o) × IsOwnUnsettled w) ⊎ ((at ≢ o) × IsSourceOpen p cap o v u xs at w × IsNeeded at)
+  SettleTells (Unsettled at w) =
+      ((at ≡ o) × IsOwnUnsettled w) ⊎ ((at ≢ o) × IsSourceOpen p cap o v u xs at w × IsNeeded at)
 
--- the steps that the call takes: one where it settled the operation, else none
+-- The steps that `settle` takes: one if it settled the operation, else none
 abbrev pub settle_steps : ℕ → ℕ → SettleAnswer → List CoreEvent
 settle_steps o tag (HasSettledIt x) = Settle o tag ∷ []
 settle_steps o tag (Unsettled at w) = []
 
--- on its sources, which the hand saw settled, the operation answers; it fails
+-- The hand saw all sources of operation o settled, and on their values o gives this answer, or nothing if it fails
 pub record IsAnswerSeen (p : Plan) (u : View) (o : ℕ) (answer : Option ℕ) : Type 0 where
   pub sources : (j : ℕ) → j < places p o → (x : ℕ) × IsSourceSeen u (origin_at p o j) x
   pub answer_is : outcome p (final p) o ≡ answer
 
+-- The hand saw all sources of operation o settled, and o answers on their values
 abbrev pub IsGoodSeen : Plan → View → ℕ → Type 0
 IsGoodSeen p u o = (x : ℕ) × IsAnswerSeen p u o (Some x)
 
--- it is not ready, or stale, at word w of operation `at`
+-- Operation o is in doubt at word w of operation `at`: it is not ready to be judged, or stale, or a source of it is not
+-- settled
 abbrev pub IsDoubtful : Plan → ℕ → ℕ → View → View → List Item → ℕ → OpWord → Type 0
-IsDoubtful p cap o v u xs at w = ((at ≡ o) × (IsOwnUnready p cap o v u xs w ⊎ IsStaleWord p cap o v u xs w)) ⊎ IsSourceOpen p cap o v u xs at w
+IsDoubtful p cap o v u xs at w =
+    ((at ≡ o) × (IsOwnUnready p cap o v u xs w ⊎ IsStaleWord p cap o v u xs w)) ⊎ IsSourceOpen p cap o v u xs at w
 
--- it is so by what was loaded from a load of its own word on: what other operations were judged by before that is left out
+-- Operation o is in doubt by what was loaded from a load of its own word on. What was loaded before that, to judge
+-- other operations, is left out
 pub record IsInDoubt (p : Plan) (cap o : ℕ) (v u : View) (xs : List Item) : Type 0 where
   pub front : List Item
   pub first : OpWord
@@ -143,18 +155,18 @@ pub record IsInDoubt (p : Plan) (cap o : ℕ) (v u : View) (xs : List Item) : Ty
   pub word : OpWord
   pub doubt : IsDoubtful p cap o v u (loaded o first ∷ rest) at word
 
--- it was judged good
+-- Operation o was judged good
 abbrev pub IsJudgedGood : Plan → ℕ → ℕ → View → View → List Item → Type 0
 IsJudgedGood p cap o v u xs = (x : ℕ) × IsGood p cap o v u xs x
 
 module _ (p : Plan) (cap i : ℕ) (v u : View) (xs : List Item) where
-  -- committed or aborted as the fold does, and the hand knows it
+  -- Event i is decided as the fold decides, and the hand knows it
   pub record IsDecided (committed : Bool) : Type 0 where
     pub right : verdict p i ≡ committed
     pub known : IsDecisionSeen u i committed
 
-  -- no decision: none had been seen, and no operation of the event settled, and one of them is not ready or stale; those before it were
-  -- judged good, and each behind it was judged good, or is not ready or stale too: none is bad
+  -- There is no decision on event i: the hand had seen none, and no operation of the event settled. One of them is in
+  -- doubt, those before it were judged good, and each behind it was judged good or is in doubt. So none is bad
   pub record IsUndecided (at : ℕ) (w : OpWord) : Type 0 where
     pub culprit : ℕ
     pub inside : InEvent p i culprit
@@ -164,41 +176,46 @@ module _ (p : Plan) (cap i : ℕ) (v u : View) (xs : List Item) where
     pub before : (o : ℕ) → InEvent p i o → o < culprit → IsJudgedGood p cap o v u xs
     pub behind : (o : ℕ) → InEvent p i o → culprit < o → IsJudgedGood p cap o v u xs ⊎ IsInDoubt p cap o v u xs
 
+  -- The answer of `decide` has its cause in the words xs
   abbrev pub DecideTells : Decided → Type 0
   DecideTells Committed = IsDecided true
   DecideTells Aborted = IsDecided false
   DecideTells (Undecided at w) = IsUndecided at w
 
--- the call took no step, or decided the event
-abbrev pub MayDecide : ℕ → Bool → View → View → Type 0
-MayDecide i committed v u = (u.events ≡ v.events) ⊎ (u.events ≡ Decide i committed ∷ v.events)
+-- The call took no step, or the one that decides event i
+abbrev pub MayHaveDecided : ℕ → Bool → View → View → Type 0
+MayHaveDecided i committed v u = (u.events ≡ v.events) ⊎ (u.events ≡ Decide i committed ∷ v.events)
 
+-- The call `decide` took no step if it gives no decision, and else at most the one that decides the event
 abbrev pub DecideSteps : ℕ → View → View → Decided → Type 0
-DecideSteps i v u Committed = MayDecide i true v u
-DecideSteps i v u Aborted = MayDecide i false v u
+DecideSteps i v u Committed = MayHaveDecided i true v u
+DecideSteps i v u Aborted = MayHaveDecided i false v u
 DecideSteps i v u (Undecided at w) = u.events ≡ v.events
 
 -- ---- the calls, with what they add
 
 module _ (p : Plan) (cap o : ℕ) (v u : View) where
+  -- The call `verdict` led from view v to view u, and its answer r has its cause in the words that it added. It took no
+  -- step
   pub record VerdictDoes (r : Verdict) : Type 0 where
     pub words : List Item
-    pub goes : Goes v u words
+    pub goes : AddsAndFrees v u words
     pub none : NoneOwn words
     pub stays : u.events ≡ v.events
     pub tells : VerdictTells p cap o v u words r
 
+  -- The call `settle` led from view v to view u, and its answer r has its cause in the words that it added
   pub record SettleDoes (r : SettleAnswer) : Type 0 where
     pub words : List Item
-    pub goes : Goes v u words
+    pub goes : AddsAndFrees v u words
     pub own : OwnOn o words
     pub steps : u.events ≡ settle_steps o v.tag r ++ v.events
     pub tells : SettleTells p cap o v u words r
 
--- of an event
+-- The call `decide` led from view v to view u, and its answer r has its cause in the words that it added
 pub record DecideDoes (p : Plan) (cap i : ℕ) (v u : View) (r : Decided) : Type 0 where
   pub words : List Item
-  pub goes : Goes v u words
+  pub goes : AddsAndFrees v u words
   pub none : NoneOwn words
   pub steps : DecideSteps i v u r
   pub tells : DecideTells p cap i v u words r

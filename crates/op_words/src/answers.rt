@@ -10,8 +10,8 @@ use morph_base::OpWord;
 pub enum Readied {
     /// Each source was loaded with a value in this call, and the operation went from blocked to ready.
     Made,
-    /// `at` is the operation, and its word was not blocked or was changed between the load and the exchange; or `at`
-    /// is one of its sources, and its word had no value. `word` is the word that was loaded or found.
+    /// Nothing was done. `at` is the operation, and its word was not blocked, or changed between the load and the
+    /// exchange; or `at` is one of its sources, and its word had no value. `word` is the word that was loaded or found.
     Not { at: u32, word: OpWord },
 }
 
@@ -20,21 +20,21 @@ pub enum Readied {
 pub enum Claimed {
     /// The hand holds it at this attempt.
     Held { attempt: u8 },
-    /// The word loaded was not ready, or was changed between the load and the exchange; `word` is the one that was
+    /// The word was not ready, or changed between the load and the exchange. `word` is the word that was loaded or
     /// found.
     Not { word: OpWord },
 }
 
-/// What a place of an operation that is held got.
+/// What was fetched for a place of the operation that is held.
 #[derive(Clone, Copy, Debug, PartialEq, Eq)]
 pub enum Fetched {
     /// The value of its source.
     Value(u64),
-    /// The source's word, as loaded here, had no value; at the last attempt it was not settled.
+    /// The word of the source, as loaded in this call, had no value, or was not settled at the last attempt.
     Unready { source: u32, word: OpWord },
 }
 
-/// What an operation came to at an attempt.
+/// The outcome of an operation at one attempt.
 #[derive(Clone, Copy, Debug, PartialEq, Eq)]
 pub enum Outcome {
     /// Its function gave this value.
@@ -43,13 +43,13 @@ pub enum Outcome {
     Failed,
 }
 
-/// Whether the failure of an operation was spread to another one of its event.
+/// Whether the failure of an operation was spread to another operation of its event.
 #[derive(Clone, Copy, Debug, PartialEq, Eq)]
 pub enum Spreaded {
-    /// The operation has its target's record as value, at its next attempt.
+    /// The operation has its target's record as its value, at its next attempt.
     Done,
-    /// Its word was not executed, its attempt was not below the cap, or it was changed between load and exchange; `word`
-    /// is the one that was loaded or found.
+    /// The operation's word was not executed, was not below the cap, or changed between the load and the exchange.
+    /// `word` is the word that was loaded or found.
     Not { word: OpWord },
 }
 
@@ -58,83 +58,84 @@ pub enum Spreaded {
 pub enum Rolled {
     /// It is blocked, at its next attempt.
     Done,
-    /// The value of the source, loaded here, is that of the record, and the operation's word is not spread.
+    /// Nothing was wrong: the source's value, as loaded in this call, is that of the record, and the operation's word
+    /// is not spread.
     Fresh { value: u64 },
-    /// `at` is the operation, and its word had no value that may be taken back, was at the last attempt, or was
-    /// changed; or `at` is a source whose word had no value, or was not settled where the rollback needs it settled.
-    /// `word` is the word that was loaded or found.
+    /// `at` is the operation, and its word had no value that may be taken back, was at the last attempt, or changed; or
+    /// `at` is a source whose word had no value, or was not settled although the rollback needs it settled. `word` is
+    /// the word that was loaded or found.
     Not { at: u32, word: OpWord },
 }
 
-/// What the records of an operation and its settled sources say of it.
+/// What an operation's records and settled sources say of it.
 #[derive(Clone, Copy, Debug, PartialEq, Eq)]
 pub enum Verdict {
     /// It is executed, each record is the settled value of its source, and this is its value.
     Good(u64),
     /// It failed, and each record is the settled value of its source.
     Bad,
-    /// The record at place `j` has the value `kept`, its source the settled value `settled`, and they differ.
+    /// The record at place `j` has the value `kept`, but the settled value of its source is `settled`.
     Stale { j: u8, kept: u64, settled: u64 },
-    /// `at` is a source that is not settled, or the operation, whose word was neither executed nor failed or was
+    /// `at` is a source that is not settled, or it is the operation, and its word was neither executed nor failed, or
     /// changed. `word` is the word that was loaded.
     Unready { at: u32, word: OpWord },
 }
 
-/// What is decided on an event.
+/// The decision on an event.
 #[derive(Clone, Copy, Debug, PartialEq, Eq)]
 pub enum Decided {
     /// Each of its operations answers on settled sources.
     Committed,
     /// One of its operations fails on settled sources.
     Aborted,
-    /// No operation of the event was bad. The first one that was not good was stale, and `op` is it with its word; or
-    /// `op` and `word` are those of its [`Verdict::Unready`].
+    /// No operation of the event was bad. The first one that was not good was stale, and `op` and `word` are this
+    /// operation and its word; or it was [`Verdict::Unready`], and they are those of that answer.
     NotYet { op: u32, word: OpWord },
 }
 
 /// Whether an operation was settled.
 #[derive(Clone, Copy, Debug, PartialEq, Eq)]
 pub enum SettleAnswer {
-    /// It was settled here, with this value.
+    /// The hand settled it in this call, with this value.
     Done(u64),
-    /// `at` is the operation, and its word was claimed or settled, or was changed between load and exchange; or the
-    /// event commits, and it was not executed or a record differed from its source. Or `at` is a source that has to be
-    /// settled, and was not. `word` is the word that was loaded or found.
+    /// `at` is the operation, and its word was claimed or settled, or changed between the load and the exchange; or the
+    /// event commits, and the word was not executed or a record differed from its source. Or `at` is a source that has
+    /// to be settled, and was not. `word` is the word that was loaded or found.
     Not { at: u32, word: OpWord },
 }
 
-/// How many operations a hand evaluated, spread and rolled back, with those of the hands joined into it. Each number
-/// stops at the greatest u64.
+/// How many operations a hand and those joined into it evaluated, spread and rolled back. Each number stops at the
+/// greatest u64.
 #[derive(Clone, Copy, Debug, PartialEq, Eq)]
 pub struct Counts {
-    /// Claims that ended executed or failed.
+    /// How many claims ended executed or failed.
     pub evaluated: u64,
-    /// Operations that heard of a failure of their event.
+    /// How many operations were told that another operation of their event had failed.
     pub spread: u64,
-    /// Operations that went back to their next attempt.
+    /// How many operations were rolled back to their next attempt.
     pub rolled: u64,
 }
 
-/// A source that has no value yet, with its word.
+/// A source that has no value yet, or that is not settled, with its word.
 #[derive(Clone, Copy, Debug, PartialEq, Eq)]
 pub(crate) struct Stop {
     pub(crate) source: u32,
     pub(crate) word: OpWord,
 }
 
-/// The records of an operation beside its sources.
+/// An operation's records, compared with its sources.
 #[derive(Clone, Copy, Debug, PartialEq, Eq)]
 pub(crate) enum Compared {
     /// All sources are settled, and each record is the value of its source.
     Equal,
     /// A source is not settled.
     Open(Stop),
-    /// The record at place `j` has the value `kept`, its source the settled value `settled`, and they differ.
+    /// The record at place `j` has the value `kept`, but the settled value of its source is `settled`.
     Differs { j: u8, kept: u64, settled: u64 },
 }
 
 impl Outcome {
-    /// That of an operation with this answer of its function.
+    /// The outcome if the function gave this answer.
     pub(crate) fn of(answer: Option<u64>) -> Outcome
         ensures { result ≡ answer_of answer }
     {
@@ -146,7 +147,7 @@ impl Outcome {
 }
 
 impl Decided {
-    /// A decision that there is.
+    /// The answer that there is this decision.
     pub(crate) fn of(committed: bool) -> Decided
         ensures { result ≡ decided_as committed }
     {
@@ -157,8 +158,8 @@ impl Decided {
         }
     }
 
-    /// What operations say of their event, after one that says `self` comes one that says `next`: the first doubt
-    /// stays.
+    /// What the operations say of their event together, if those so far say `self` and the next one says `next`: the
+    /// first doubt stays.
     pub(crate) fn and(self, next: Decided) -> Decided
         ensures first { self ≡ Committed → result ≡ next }
         ensures doubt { (self ≡ Committed → ⊥) → result ≡ self }
@@ -172,7 +173,7 @@ impl Decided {
 }
 
 impl Verdict {
-    /// That of an operation with this word, executed or failed, whose records are the values of its sources.
+    /// The verdict on an operation with this word, executed or failed, if its records are the values of its sources.
     pub(crate) fn of(word: OpWord) -> Verdict
         ensures { result ≡ verdict_of word }
     {
@@ -195,7 +196,7 @@ impl Counts {
         }
     }
 
-    /// Both together.
+    /// The sums of both.
     pub(crate) fn and(self, other: Counts) -> Counts
         ensures evaluated { result.evaluated ≡ min (self.evaluated + other.evaluated) (2 ^ 64 - 1) }
         ensures spread { result.spread ≡ min (self.spread + other.spread) (2 ^ 64 - 1) }

@@ -24,24 +24,16 @@ mod sources;
 mod steps;
 mod values;
 
-/// The words of a plan's operations, their records and decisions, a level word and some counters, which several
-/// hands change at once, each by single steps.
+/// The words of a plan's operations, their records and decisions, a level word and some counters, which several hands
+/// change at once, each by single atomic steps.
 ///
-/// ```text
-/// let (board, mut root) = Board::new(alloc, &plan, 7, 4)?;
-/// board.ready(&mut root, &plan, 0);                   // Made
-/// board.claim(&mut root, &plan, 0);                   // Held { attempt: 1 }
-/// board.fetch(&mut root, &plan, 0, 0);                // Value(..)
-/// board.finish(&mut root, &plan, 0);                  // Executed(..), or Failed
-/// ```
-///
-/// Each call by `&self` takes no memory and waits for nobody.
+/// Each call by `&self` takes no memory and waits for nobody. The front page of this crate shows the calls in order.
 #[derive(Drop)]
 pub struct Board {
     table: Table<(), Option<View>, Known, Rule, Global>,
     /// The last attempt at which values that are not settled may be read.
     cap: u8,
-    /// The place of the level word; the counters stand behind it.
+    /// The place of the level word. The counters come after it.
     level: usize,
     ghost slotless: { table.shared.table_id.slots ≡ 0 },
     ghost sized: { table.shared.table_id.words ≡ counter_base table.shared.key.plan.value +
@@ -50,24 +42,24 @@ pub struct Board {
     ghost leveled: { level ≡ level_index table.shared.key.plan.value },
 }
 
-/// One who steps on a board: a thread's right to change it, and what it holds.
+/// The right of one worker to step on a board, and what the worker holds.
 #[derive(Drop)]
 pub struct Hand {
     seat: Seat<(), Option<View>>,
-    /// Its number, from 1 on; the root has 1.
+    /// The hand's number, from 1 on. The root has 1.
     tag: u8,
-    /// Of the root, how many hands were made, itself counted.
+    /// In the root, how many hands were made, the root included.
     made: u8,
     held: Option<Holding>,
     counts: Counts,
-    /// Its first steps, where it keeps them.
+    /// The hand's first steps, if it keeps them.
     journal: Option<Journal>,
 }
 
-/// The operation that a hand holds, and the values that it fetched so far, of which there are `count`.
+/// The operation that a hand holds, and the `count` values that it has fetched so far.
 #[derive(Clone, Copy, Debug, PartialEq, Eq)]
 pub(crate) struct Holding {
-    // The values stand first, so that no gap lies in front of them: it would be copied with them in pieces.
+    // The values come first, so that no gap lies before them. With a gap they would be copied in pieces.
     values: [u64; READS],
     op: u32,
     attempt: u8,

@@ -11,7 +11,7 @@ use morph_base::OpWord;
 use std::alloc::Global;
 use std::snapshot::Snapshot;
 
-/// A board on which nobody steps any more. Its words stand still, and can be read until it is dropped.
+/// A board on which nobody steps any more. Its words do not change, and can be read until it is dropped.
 pub struct Closed {
     pub(crate) table: ClosedTable<(), Global>,
     /// The place of the first decision.
@@ -60,7 +60,7 @@ impl Closed {
         OpWord::of_packed(self.table.word(op as usize))
     }
 
-    /// Whether an event was committed, `None` exactly where nothing was decided.
+    /// Whether an event was committed. `None` means that it was not decided.
     pub fn decision(&self, event: u32) -> Option<bool>
         requires event { (p : Plan) × (cap : ℕ) × (counters : ℕ) × (v : View)
             × IsClosed p cap counters v self.now
@@ -72,9 +72,9 @@ impl Closed {
         if word == 0 { None } else { Some(word == 1) }
     }
 
-    /// The first of the steps that the root took itself, in order, as many as it had room for; none if it kept no
-    /// journal. If it was the only hand made, the machine takes them one after another, and if there was room for
-    /// more they are all.
+    /// The first of the steps that the root took itself, in order, as many as it had room for. There are none if it
+    /// kept no journal. If the root was the only hand made, the machine takes them one after another, and if there was
+    /// room for more, they are all the steps.
     pub fn journal(&self) -> &[CoreEvent]
         ensures steps { result.now ≡ journal_of self.now }
         ensures own { (p : Plan) (cap counters : ℕ) (v : View) → IsClosed p cap counters v self.now

@@ -1,4 +1,4 @@
-//! What steps on counters and on the level word tell.
+//! The steps on counters and on the level word.
 use crate::trail::View;
 use atomic_table::Play;
 
@@ -11,7 +11,7 @@ impl Play<(), Option<View>> for Take {
     ghost then = { takes };
 }
 
-/// A step on the level word.
+/// Any step on the level word.
 pub(crate) struct Pass;
 
 impl Play<(), Option<View>> for Pass {
@@ -20,7 +20,7 @@ impl Play<(), Option<View>> for Pass {
     ghost then = { passes };
 }
 
-/// A step that leaves the level word as it is, and tells the room of the hand's journal.
+/// A step that leaves the level word as it is, and gives the hand's journal its room.
 pub(crate) struct Fit;
 
 impl Play<(), Option<View>> for Fit {

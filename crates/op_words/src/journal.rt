@@ -1,11 +1,11 @@
-//! What a hand writes down of its own steps.
+//! The steps that a hand writes down.
 ghost use Rattle.std.specs.Prelude.{◌≡◌, ◌+◌, ◌≤◌, ◌∷◌, ◌++◌, [], length, take, IfOk};
 
 use interleaving_core::CoreEvent;
 use morph_base::{List, OutOfMemory};
 use std::alloc::Global;
 
-/// The first steps of a hand in order, as many as it has room for.
+/// The first steps of a hand, in order, as many as it has room for.
 #[derive(Drop)]
 pub(crate) struct Journal {
     steps: List<CoreEvent>,
@@ -15,7 +15,7 @@ pub(crate) struct Journal {
 }
 
 impl Journal {
-    /// An empty journal with room for so many steps, all of whose memory is taken.
+    /// Makes an empty journal with room for this many steps. All of its memory is taken here.
     pub(crate) fn with_room(alloc: Global, room: usize) -> Result<Self, OutOfMemory>
         ensures steps { IfOk result (λ made. made.steps.items ≡ []) }
         ensures room { IfOk result (λ made. made.room ≡ room) }
@@ -31,7 +31,7 @@ impl Journal {
         self.steps.as_slice()
     }
 
-    /// Writes a step down, where there is room.
+    /// Writes a step down, if there is room.
     pub(crate) fn add(&mut self, step: CoreEvent)
         ensures room { self.new.room ≡ self.old.room }
         ensures steps { self.new.steps.items

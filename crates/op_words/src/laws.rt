@@ -1,18 +1,18 @@
 //! The laws of the board, as the contracts of functions that do nothing.
 //!
 //! The rule of the table has the state of the machine that the words show, and the steps that led to it. Each atomic
-//! step of a hand keeps the rule, and says what becomes of that state.
+//! step of a hand keeps the rule, and the law says what becomes of that state.
 ghost use Rattle.std.specs.Prelude.{◌≡◌, ℕ};
 ghost use Rattle.morph_base.specs.declared.plan.Plan.{Plan};
 ghost use Rattle.op_words.specs.declared.closed.Closed.{Closed};
 ghost use Rattle.op_words.specs.declared.trail.View.{View};
 ghost use Rattle.op_words.specs.Closing.{IsClosed};
-ghost use Rattle.op_words.specs.Kinds.{Moment, Loads, Makes, Claims, Records, Finishes, GivesBack, Spreads, RollsBack, Decides, Settles, LoadsRecord, LoadsDecision, Takes, Lowers, GetsRoom, MakesHand, Joins, HoldsAlone};
+ghost use Rattle.op_words.specs.Kinds.{Moment, Loads, Makes, Claims, Records, Finishes, GivesBack, Spreads, RollsBack, DecidesEvent, Settles, LoadsRecord, LoadsDecision, MayTakeNumber, Lowers, GetsRoom, MakesHand, JoinsHand, HoldsAlone};
 
 /// Each atomic step is a step of the machine, or leaves its state as it was.
 ///
-/// An exchange is a step of the machine where it finds the word that it expects; else it is a load. A load changes
-/// nothing but what its hand has noted; neither does a hand that is made or joined.
+/// An exchange is a step of the machine if it finds the word that it expects. Otherwise it is a load. A load changes
+/// nothing but what its hand has noted. The machine's state also stays if a hand is made or joined.
 pub fn each_step()
     ensures loads { (p : Plan) (cap counters : ℕ) (m : Moment p cap counters)
         → Loads p cap counters m }
@@ -31,7 +31,7 @@ pub fn each_step()
     ensures rolls_back { (p : Plan) (cap counters : ℕ) (m : Moment p cap counters)
         → RollsBack p cap counters m }
     ensures decides { (p : Plan) (cap counters : ℕ) (m : Moment p cap counters)
-        → Decides p cap counters m }
+        → DecidesEvent p cap counters m }
     ensures settles { (p : Plan) (cap counters : ℕ) (m : Moment p cap counters)
         → Settles p cap counters m }
     ensures loads_record { (p : Plan) (cap counters : ℕ) (m : Moment p cap counters)
@@ -39,7 +39,7 @@ pub fn each_step()
     ensures loads_decision { (p : Plan) (cap counters : ℕ) (m : Moment p cap counters)
         → LoadsDecision p cap counters m }
     ensures takes { (p : Plan) (cap counters : ℕ) (m : Moment p cap counters)
-        → Takes p cap counters m }
+        → MayTakeNumber p cap counters m }
     ensures lowers { (p : Plan) (cap counters : ℕ) (m : Moment p cap counters)
         → Lowers p cap counters m }
     ensures gets_room { (p : Plan) (cap counters : ℕ) (m : Moment p cap counters)
@@ -47,7 +47,7 @@ pub fn each_step()
     ensures makes_hand { (p : Plan) (cap counters : ℕ) (m : Moment p cap counters)
         → MakesHand p cap counters m }
     ensures joins { (p : Plan) (cap counters : ℕ) (m : Moment p cap counters)
-        → Joins p cap counters m }
+        → JoinsHand p cap counters m }
 {}
 
 /// An operation is held by at most one hand at a time.
@@ -55,7 +55,7 @@ pub fn one_holder()
     ensures { (p : Plan) (cap counters : ℕ) → HoldsAlone p cap counters }
 {}
 
-/// A closed board shows one view alone: the trail of the root that closed it, and those of the hands joined into it.
+/// A closed board shows only one view: the trail of the root that closed it, and those of the hands joined into it.
 pub fn one_view()
     ensures { (p q : Plan) (cap most counters many : ℕ) (v u : View) (c : Closed)
         → IsClosed p cap counters v c → IsClosed q most many u c → v ≡ u }

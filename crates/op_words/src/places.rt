@@ -1,4 +1,4 @@
-//! What an operation of a plan reads.
+//! The places that an operation of a plan reads.
 ghost use Rattle.std.specs.Prelude.{◌≡◌, ◌≤◌, ◌<◌};
 ghost use Rattle.morph_base.specs.declared.limits.TheConstants.{READS};
 ghost use Rattle.morph_base.specs.Plans.{IsPlan, op_count, origin_at};
@@ -17,7 +17,7 @@ pub fn places_of(plan: &Plan, op: u32) -> u8
     plan.ops.get(op as usize).places() as u8
 }
 
-/// Where a place of an operation gets its value.
+/// Where the value of a place comes from.
 pub(crate) fn origin_of(plan: &Plan, op: u32, j: u8) -> Origin
     requires plan { IsPlan plan.now }
     requires in_range { op < op_count plan.now }

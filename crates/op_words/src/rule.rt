@@ -1,22 +1,22 @@
-//! The rule of the table, and what each kind of step tells.
+//! The rule of the table, and the kinds of atomic step.
 use crate::trail::View;
 use atomic_table::{Join, Play, Split, TableRule};
 use morph_base::Plan;
 use std::snapshot::Snapshot;
 
-/// What the table is told once.
+/// What the table is given once, when it is made.
 #[derive(Drop)]
 pub struct Known {
-    /// The plan whose operations have words here. It has no bytes.
+    /// The plan whose operations have words here. This takes no bytes.
     pub plan: Snapshot<Plan>,
     /// The last attempt at which values that are not settled may be read.
     pub cap: u8,
-    /// How many counters stand behind the level word.
+    /// How many counters come after the level word.
     pub counters: u32,
 }
 
-/// What holds of a board between any two steps: its words stand for a sound state of the machine, and what each hand
-/// knows is true of it.
+/// What holds of a board between any two steps: its words show a sound state of the machine, and what each hand knows
+/// is true of that state.
 pub struct Rule;
 
 impl TableRule<(), Option<View>, Known> for Rule {
@@ -73,7 +73,7 @@ impl Play<(), Option<View>> for Keep {
     ghost then = { keeps };
 }
 
-/// The end of a claim, executed or failed.
+/// The store that ends a claim with executed or failed.
 pub(crate) struct End;
 
 impl Play<(), Option<View>> for End {
@@ -82,7 +82,7 @@ impl Play<(), Option<View>> for End {
     ghost then = { ends };
 }
 
-/// The end of a claim, blocked again.
+/// The store that ends a claim with blocked.
 pub(crate) struct Give;
 
 impl Play<(), Option<View>> for Give {
@@ -145,7 +145,7 @@ impl Play<(), Option<View>> for Roll {
     ghost then = { rolls };
 }
 
-/// A hand more.
+/// A new hand is split off.
 pub(crate) struct Part;
 
 impl Split<Option<View>> for Part {
@@ -156,7 +156,7 @@ impl Split<Option<View>> for Part {
     ghost right = { going };
 }
 
-/// A hand less.
+/// A hand is joined.
 pub(crate) struct Merge;
 
 impl Join<Option<View>> for Merge {

@@ -1,34 +1,35 @@
-//! What contracts see of a hand: no value of these types but the small ones is ever made.
+//! What contracts see of a hand. Only the small values of these types are ever made.
 use interleaving_core::{CoreEvent, Entry, Held, Settling};
 use morph_base::{OpWord, Plan};
 use std::collections::LinkedList;
 use std::snapshot::Snapshot;
 
-/// A word of an operation that a hand loaded, or left there by its own step.
+/// A word of an operation that a hand loaded, or that it left there by its own step.
 #[derive(Clone, Copy, Debug, PartialEq, Eq)]
 pub struct Item {
     /// The operation, by its number in the plan.
     pub op: u32,
-    /// The word as it stood there.
+    /// The word that was loaded or left.
     pub word: OpWord,
     /// Whether the hand left it.
     pub own: bool,
 }
 
-/// The value of a record that a hand loaded or stored while the word of the operation that it saw last was `word`.
+/// The value of a record that a hand loaded or stored. `word` is the word of the operation that the hand had noted
+/// last.
 #[derive(Clone, Copy, Debug, PartialEq, Eq)]
 pub struct RecordSeen {
     /// The operation, by its number in the plan.
     pub op: u32,
-    /// The place of the operation: 0 its target's, then those of its parameters.
+    /// The place that the operation reads: 0 is its target, and its parameters follow.
     pub place: u8,
     /// What was recorded there.
     pub value: u64,
-    /// The word that tells at which attempt.
+    /// The word of the operation, which has the record's attempt.
     pub word: OpWord,
 }
 
-/// A decision that a hand loaded or made.
+/// A decision on an event that a hand loaded or made.
 #[derive(Clone, Copy, Debug, PartialEq, Eq)]
 pub struct DecisionSeen {
     /// The event, by its number in the plan.
@@ -46,7 +47,7 @@ pub struct Place {
     pub number: u64,
 }
 
-/// What a joined hand left: its trail, and the numbers that it took, by its tag.
+/// What a joined hand left, under its tag: its trail, and the numbers that it took.
 #[derive(Drop)]
 pub struct Joined {
     /// The joined hand's number.
@@ -64,27 +65,27 @@ pub struct View {
     pub plan: Snapshot<Plan>,
     /// The last attempt at which values that are not settled may be read.
     pub cap: u8,
-    /// Its number, from 1 on; the root has 1.
+    /// The hand's number, from 1 on. The root has 1.
     pub tag: u64,
-    /// Of the root, how many hands were made, itself counted; of each other hand 0.
+    /// In the root, how many hands were made, the root included. In each other hand 0.
     pub made: u64,
-    /// How many of its steps it has room for in its journal: 0 where it keeps none.
+    /// How many steps its journal has room for. It is 0 if the hand keeps none.
     pub room: u64,
-    /// What it holds.
+    /// The operation that it holds.
     pub claim: Option<Held>,
     /// The values that it showed.
     pub published: LinkedList<Entry>,
-    /// The words that it saw or made, in order; those of hands joined into it too.
+    /// The words that it saw or made, in order, with those of the hands joined into it.
     pub notes: LinkedList<Item>,
-    /// The same of records.
+    /// The records that it saw or made, with those of the hands joined into it.
     pub records: LinkedList<RecordSeen>,
-    /// The same of decisions.
+    /// The decisions that it saw or made, with those of the hands joined into it.
     pub decisions: LinkedList<DecisionSeen>,
     /// The words that it loaded or left itself, in order.
     pub trail: LinkedList<Item>,
     /// The numbers that it took from counters.
     pub places: LinkedList<Place>,
-    /// Its steps of the machine, the last one first; those of hands joined into it too.
+    /// Its steps of the machine, the last one first, with those of the hands joined into it.
     pub events: LinkedList<CoreEvent>,
     /// The steps that it took itself, the last one first.
     pub own: LinkedList<CoreEvent>,

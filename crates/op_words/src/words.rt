@@ -1,4 +1,4 @@
-//! The numbers that stand in the board's row of words.
+//! The numbers in the board's row of words.
 ghost use Rattle.std.specs.Prelude.{◌≡◌, ◌≤◌, ◌↔◌, ◌⊎◌, Bool, true, false, IfOk, IsTrue, Option, Some};
 ghost use Rattle.morph_base.specs.declared.limits.TheConstants.{MAX};
 ghost use Rattle.morph_base.specs.Limits.{most_attempts};
@@ -7,21 +7,21 @@ ghost use Rattle.morph_base.specs.Words.{is_idle, is_settled, has_run as is_run}
 ghost use Rattle.interleaving_core.specs.declared.entry.Record.{Record};
 ghost use Rattle.interleaving_core.specs.Core.{record_value, ready as ready_at, claimed as claimed_at, spread as spread_at};
 ghost use Rattle.interleaving_core.specs.Core.{settled as settled_at, settled_aborted as aborted_at};
-ghost use Rattle.op_words.specs.Layout.{packed_record, packed_decision, AreFirst};
+ghost use Rattle.op_words.specs.Layout.{packed_record, packed_decision, AreFirstWords};
 
 use morph_base::{OpState, OpWord, Plan, READS};
 use std::alloc::{AllocError, Global};
 
-/// What the level word has where no level was lowered to: the greatest u32.
+/// The level word if no level was put there: the greatest u32.
 pub(crate) const NO_LEVEL: u64 = 4_294_967_295;
 
-/// The number of values that a record has room for: 2^44, which is above [`MAX`](morph_base::MAX).
+/// How many values a record has room for: 2^44, which is above [`MAX`](morph_base::MAX).
 const RECORD_VALUES: u64 = 17_592_186_044_416;
 
 /// The words at the start: each operation is blocked at attempt 1, and nothing is recorded, decided or counted.
 pub(crate) fn first_words(alloc: Global, plan: &Plan, counters: u32) -> Result<Vec<u64>, AllocError>
     requires plan { IsPlan plan.now }
-    ensures { IfOk result (λ ws. AreFirst plan.now counters ws.items) }
+    ensures { IfOk result (λ ws. AreFirstWords plan.now counters ws.items) }
 {
     let ops = plan.ops.len();
     let level = ops + ops * READS + plan.events.len();
@@ -41,21 +41,21 @@ pub(crate) fn is_in(word: OpWord, state: OpState) -> bool
     word.state == state
 }
 
-/// Whether two words are one.
+/// Whether two words are the same.
 pub(crate) fn is_same(word: OpWord, other: OpWord) -> bool
     ensures { IsTrue result ↔ (word ≡ other) }
 {
     word == other
 }
 
-/// Whether an operation's function was run: it is executed or failed.
+/// Whether an operation's function has run: the word is executed or failed.
 pub(crate) fn has_run(word: OpWord) -> bool
     ensures { result ≡ is_run word.state }
 {
     matches!(word.state, OpState::Executed | OpState::Failed)
 }
 
-/// Whether the value of a word may be read: there is one, and at the last attempt it is settled.
+/// Whether the value of a word may be read: the word has one, and at the last attempt it is settled.
 pub(crate) fn is_usable(word: OpWord, at_last: bool) -> bool
     ensures usable { IsTrue result → (is_idle word.state ≡ false)
         × (at_last ≡ true → is_settled word.state ≡ true) }
@@ -69,7 +69,7 @@ pub(crate) fn is_usable(word: OpWord, at_last: bool) -> bool
     }
 }
 
-/// Ready at an attempt.
+/// The word that is ready at this attempt.
 pub(crate) fn ready(attempt: u8) -> OpWord
     ensures { result ≡ ready_at attempt }
 {
@@ -81,7 +81,7 @@ pub(crate) fn ready(attempt: u8) -> OpWord
     }
 }
 
-/// Claimed at an attempt by the hand of this tag.
+/// The word that is claimed at this attempt by the hand of this tag.
 pub(crate) fn claimed(attempt: u8, by: u8) -> OpWord
     ensures { result ≡ claimed_at attempt by }
 {
@@ -93,7 +93,7 @@ pub(crate) fn claimed(attempt: u8, by: u8) -> OpWord
     }
 }
 
-/// Spread at an attempt, with a value.
+/// The word that is spread at this attempt, with this value.
 pub(crate) fn spread(attempt: u8, value: u64) -> OpWord
     ensures { result ≡ spread_at attempt value }
 {
@@ -114,7 +114,7 @@ pub(crate) fn pack_record(value: u64, attempt: u8) -> u64
     ready(attempt).pack() + value
 }
 
-/// Settled in a committed event, by the hand of this tag.
+/// The word that is settled in a committed event, by the hand of this tag.
 pub(crate) fn settled(attempt: u8, value: u64, by: u8) -> OpWord
     ensures { result ≡ settled_at attempt value by }
 {
@@ -126,7 +126,7 @@ pub(crate) fn settled(attempt: u8, value: u64, by: u8) -> OpWord
     }
 }
 
-/// Settled in an aborted event.
+/// The word that is settled in an aborted event, by the hand of this tag.
 pub(crate) fn settled_aborted(attempt: u8, value: u64, by: u8) -> OpWord
     ensures { result ≡ aborted_at attempt value by }
 {
@@ -138,7 +138,7 @@ pub(crate) fn settled_aborted(attempt: u8, value: u64, by: u8) -> OpWord
     }
 }
 
-/// The value of a record that is packed so; 0 where there is none.
+/// The value of a record that is packed into this number. It is 0 if there is none.
 pub(crate) fn value_of_record(n: u64) -> u64
     requires record { (r : Option Record) × (record_value r ≤ MAX) × (n ≡ packed_record r) }
     ensures { (r : Option Record) → record_value r ≤ MAX → n ≡ packed_record r
@@ -147,14 +147,14 @@ pub(crate) fn value_of_record(n: u64) -> u64
     n % RECORD_VALUES
 }
 
-/// The decision that stands as a number: 0 is none, 1 that the event commits, 2 that it aborts.
+/// The decision that this number stands for: 0 for none, 1 if the event commits, 2 if it aborts.
 pub(crate) fn decision_of(n: u64) -> Option<bool>
     ensures { (d : Option Bool) → n ≡ packed_decision d → result ≡ d }
 {
     if n == 0 { None } else { Some(n == 1) }
 }
 
-/// A decision as a number.
+/// The number that stands for a decision.
 pub(crate) fn pack_decision(committed: bool) -> u64
     ensures { result ≡ packed_decision (Some committed) }
 {

@@ -4,7 +4,7 @@ ghost use Rattle.op_words.specs.Journals.{room_in, steps_in};
 use crate::journal::Journal;
 use interleaving_core::CoreEvent;
 
-/// Writes a step down, where a journal is kept and has room.
+/// Writes a step down, if a journal is kept and has room.
 pub(crate) fn note(journal: &mut Option<Journal>, step: CoreEvent)
     ensures room { room_in journal.new ≡ room_in journal.old }
     ensures steps { steps_in journal.new

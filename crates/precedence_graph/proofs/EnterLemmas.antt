@@ -5,11 +5,11 @@ use Rattle.morph_base.specs.declared.key.Key.{Key}
 use Rattle.morph_base.specs.declared.plan.Origin.{Origin}
 use Rattle.morph_base.specs.declared.plan.Origin.TheVariants.{Base, Op as Written}
 use Rattle.morph_base.specs.Operations.{same_key}
-use Rattle.morph_base.specs.Sources.{Writes, IsSource}
+use Rattle.morph_base.specs.Sources.{WritesKey, IsSource}
 use Rattle.morph_base.proofs.KeyLaws.{same_key-true, same_key-from}
 
 module _ (n : ℕ) (target : ℕ → Key) (key : Key) where
-  earlier : same_key (target n) key ≡ false → (t : ℕ) → Writes (n + 1) target (λ _. 0) 1 key t → Writes n target (λ _. 0) 1 key t
+  earlier : same_key (target n) key ≡ false → (t : ℕ) → WritesKey (n + 1) target (λ _. 0) 1 key t → WritesKey n target (λ _. 0) 1 key t
   earlier other t w = record {
     in_range = elim (cases_eq t n) [
       | inl same ↦ absurd (false≢true (sym other ∙ same_key-from (target n) key (ap target (sym same) ∙ w.target_is)))

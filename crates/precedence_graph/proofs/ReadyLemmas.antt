@@ -18,7 +18,7 @@ use Rattle.morph_base.proofs.PlainLaws.{length-reads}
 use Rattle.txn_splitter.specs.declared.txns.Txns.{Txns}
 use Rattle.txn_splitter.specs.Txns.{IsTxns, txn_op_count, txn_of, txn_target}
 use Rattle.txn_splitter.proofs.TxnLemmas.{txn_ops_few}
-use Rattle.precedence_graph.specs.Planned.{IsAmong, IsReady, padded, sources_of, planned, op_level_in, ArePlanned}
+use Rattle.precedence_graph.specs.Planned.{IsAmong, IsSoundPlanOp, padded, sources_of, planned, op_level_in, ArePlanned}
 use Rattle.precedence_graph.proofs.GreatestLemmas.{get_or-le-greatest}
 use Rattle.precedence_graph.proofs.PlannedLemmas.{take-padded, IsAmong-more}
 
@@ -46,7 +46,7 @@ module _ (x : Txns) (is : IsTxns x) (ops : List PlanOp) (done : ArePlanned x (tx
           let whole = (done.each o lt).level_is in
           absurd (omega arith)
 
-  pub planned_ready : (o : ℕ) → o < txn_op_count x → IsReady (txn_op_count x) (planned ops o)
+  pub planned_ready : (o : ℕ) → o < txn_op_count x → IsSoundPlanOp (txn_op_count x) (planned ops o)
   planned_ready o lt =
       let q = done.each o lt in
       let shaped : IsShaped (planned ops o).op = subst IsShaped (sym q.op_is) (is.numbering.shaped o lt) in
@@ -95,9 +95,9 @@ all_planned : (P : PlanOp → Type 0) (n : ℕ) (ops : List PlanOp) → length o
 all_planned P n ops many each k d lt = subst P (get_or_default ops k no_plan_op d lt) (each k (omega arith))
 
 module _ (x : Txns) (is : IsTxns x) (ops : List PlanOp) (done : ArePlanned x (txn_op_count x) ops) where
-  pub all_ready : All (IsReady (length ops)) ops
+  pub all_ready : All (IsSoundPlanOp (length ops)) ops
   all_ready =
-      subst (λ n. All (IsReady n) ops) (sym done.many) (all_planned (IsReady (txn_op_count x)) (txn_op_count x) ops done.many (planned_ready x is ops done))
+      subst (λ n. All (IsSoundPlanOp n) ops) (sym done.many) (all_planned (IsSoundPlanOp (txn_op_count x)) (txn_op_count x) ops done.many (planned_ready x is ops done))
 
   pub levels_positive : All (λ q. 0 < q.level) ops
   levels_positive = all_planned (λ q. 0 < q.level) (txn_op_count x) ops done.many (λ o lt. omega (arith, (done.each o lt).level_is))

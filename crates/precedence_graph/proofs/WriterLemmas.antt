@@ -4,7 +4,7 @@ use Rattle.std.proofs.lemmas.Bool.{cases_lt, cases_eq}
 use Rattle.morph_base.specs.declared.key.Key.{Key}
 use Rattle.morph_base.specs.declared.plan.Origin.{Origin}
 use Rattle.morph_base.specs.declared.plan.Origin.TheVariants.{Base, Op as Written}
-use Rattle.morph_base.specs.Sources.{Writes, IsSource}
+use Rattle.morph_base.specs.Sources.{WritesKey, IsSource}
 use Rattle.morph_base.proofs.NumberLaws.{first_owned, within_event}
 use Rattle.txn_splitter.specs.declared.txns.Txns.{Txns}
 use Rattle.txn_splitter.specs.Txns.{IsTxns, txn_count, txn_op_count, txn_at, txn_of, txn_target}
@@ -49,7 +49,7 @@ module _ (x : Txns) (is : IsTxns x) (i : ℕ) (lt : i < txn_count x) where
         | inr other ↦ (in_range, omega arith)
       ]
 
-  writes_before : (key : Key) (t : ℕ) → Writes (txn_op_count x) (txn_target x) (txn_of x) i key t → Writes first_of (txn_target x) (λ _. 0) 1 key t
+  writes_before : (key : Key) (t : ℕ) → WritesKey (txn_op_count x) (txn_target x) (txn_of x) i key t → WritesKey first_of (txn_target x) (λ _. 0) 1 key t
   writes_before key t w =
       record { in_range = before_from_event t w.in_range w.earlier; earlier = omega arith; target_is = w.target_is }
 

@@ -13,14 +13,14 @@ use morph_base::{Edges, OutOfMemory, Plan};
 use std::alloc::Global;
 use txn_splitter::Txns;
 
-/// The plan of split transactions, with its graph.
+/// Makes the plan of split transactions, with its graph.
 ///
-/// Each place that reads what an earlier event wrote names the last operation that did; each other place holds
+/// Each place that reads what an earlier event wrote names the last operation that did so. Each other place holds
 /// `Base(0)`, for the caller to fill in.
 pub fn build(alloc: Global, txns: &Txns) -> Result<Plan, OutOfMemory>
     requires { IsTxns txns.now }
 
-    // A valid plan with its graph: sources, levels, dependents, level lists and counts.
+    // It is a valid plan with its graph: sources, levels, dependents, level lists and counts.
     ensures plan { IfOk result IsPlan }
     ensures graph { IfOk result IsGraph }
 

@@ -2,16 +2,17 @@ ghost use Rattle.std.specs.Prelude.{◌≡◌, ℕ, ◌^◌, ◌<◌, ◌++◌, 
 ghost use Rattle.std.specs.List.{list_any};
 ghost use Rattle.morph_base.specs.Graphs.{below, is_written_by};
 ghost use Rattle.precedence_graph.specs.Links.{items_of};
-ghost use Rattle.precedence_graph.specs.Planned.{IsAmong, IsReady, planned, sources_of};
+ghost use Rattle.precedence_graph.specs.Planned.{IsAmong, IsSoundPlanOp, planned, sources_of};
 
 use crate::links::{Link, grouped};
 use crate::sources::used;
 use morph_base::{List, Origin, OutOfMemory, PlanOp, Rows};
 use std::alloc::Global;
 
-/// For each operation those that read from it, rising, each once. So many of all places read from operations.
+/// For each operation, those that read from it, by rising number, each once. `reads` of all places read from
+/// operations.
 pub fn dependents(alloc: Global, ops: &[PlanOp], reads: usize) -> Result<Rows, OutOfMemory>
-    requires ready { All (IsReady (length ops.now)) ops.now }
+    requires ready { All (IsSoundPlanOp (length ops.now)) ops.now }
     requires few { length ops.now < 2 ^ 32 }
     ensures { IfOk result (λ rows. rows
         ≡ map (λ o. filter (λ t. list_any (is_written_by o) (sources_of (planned ops.now t)))
@@ -22,9 +23,9 @@ pub fn dependents(alloc: Global, ops: &[PlanOp], reads: usize) -> Result<Rows, O
     grouped(alloc, ops.len(), links.as_slice())
 }
 
-/// Each operation as an item of the groups of the operations that it reads from.
+/// Makes each operation an item of the groups of the operations that it reads from.
 fn read_links(alloc: Global, ops: &[PlanOp], reads: usize) -> Result<List<Link>, OutOfMemory>
-    requires ready { All (IsReady (length ops.now)) ops.now }
+    requires ready { All (IsSoundPlanOp (length ops.now)) ops.now }
     requires few { length ops.now < 2 ^ 32 }
     ensures items { IfOk result (λ links. (o : ℕ) → items_of links.items o
         ≡ filter (λ t. list_any (is_written_by o) (sources_of (planned ops.now t)))

@@ -4,14 +4,14 @@ ghost use Rattle.morph_base.specs.Graphs.{is_written};
 
 use morph_base::{Origin, PlanEvent};
 
-/// How many reads of an earlier event's operations there are: of targets, and of parameters.
+/// How many reads of an earlier event's operations there are: by targets, and by parameters.
 #[derive(Clone, Copy, Debug, PartialEq, Eq)]
 pub struct Written {
     pub targets: u64,
     pub parameters: u64,
 }
 
-/// 1 where the source is an operation, 0 where it is a base.
+/// Returns 1 if the source is an operation, and 0 if it is a base.
 pub fn written_count(origin: Origin) -> u32
     ensures count { result ≡ (if is_written origin then 1 else 0) }
     ensures few { result ≤ 1 }
@@ -22,7 +22,7 @@ pub fn written_count(origin: Origin) -> u32
     }
 }
 
-/// The pairs of operations of one event.
+/// How many pairs of operations of one event there are.
 pub fn logical(events: &[PlanEvent]) -> u64
     requires counts { All (λ e. (0 < e.count) × (e.count ≤ EVENT_OPS)) events.now }
     requires few { length events.now < 2 ^ 32 }
@@ -35,7 +35,7 @@ pub fn logical(events: &[PlanEvent]) -> u64
     all
 }
 
-/// How many pairs so many operations have.
+/// How many pairs this many operations have.
 fn pairs(count: u32) -> u64
     requires some { 0 < count }
     requires few { count ≤ EVENT_OPS }

@@ -21,8 +21,8 @@ pub struct Planned {
     pub written: Written,
 }
 
-/// The operations in order, each with its event, its sources and its level, the events, each with its level, and how many
-/// reads of operations there are.
+/// Plans all transactions: the operations in order, each with its event, its sources and its level; the events, each
+/// with its level; and how many reads of operations there are.
 pub fn plan_transactions(alloc: Global, txns: &Txns) -> Result<Planned, OutOfMemory>
     requires { IsTxns txns.now }
     ensures ops { IfOk result
@@ -58,7 +58,7 @@ pub fn plan_transactions(alloc: Global, txns: &Txns) -> Result<Planned, OutOfMem
 }
 
 /// Plans the operations of event `i`, which read what the events before it wrote, and counts their reads of operations.
-/// Tells the greatest level of the events that they read from, as these were entered, 0 where there is none.
+/// Returns the greatest level of the events that they read from, as these were entered, or 0 if there is none.
 fn plan_event_ops(
     txns: &Txns,
     i: usize,
@@ -92,8 +92,8 @@ fn plan_event_ops(
     most
 }
 
-/// Appends an operation of an event with its sources and its level, and tells what its sources come to. They are put into its
-/// places where it stands, since it is large.
+/// Appends an operation of an event with its sources and its level, and returns what is known of the sources. They are
+/// put into its places in the list, since the operation is large.
 fn add_planned(ops: &mut List<PlanOp>, op: &Op, event: u32, writers: &Writers) -> Reads
     requires shaped { IsShaped op.now }
     requires room { 0 < ops.old.room }

@@ -8,21 +8,21 @@ use crate::edges::written_count;
 use crate::writers::Writers;
 use morph_base::{Op, Origin, PlanOp, READS};
 
-/// What the sources of an operation come to.
+/// What is known of the sources of an operation.
 #[derive(Clone, Copy, Debug, PartialEq, Eq)]
 pub struct Reads {
-    /// The greatest level of the operations among them, 0 where there is none.
+    /// The greatest level of the operations among them, or 0 if there is none.
     pub level: u32,
     /// The greatest level of the events of these operations.
     pub event_level: u32,
-    /// 1 where the target's source is an operation, 0 where it is a base.
+    /// It is 1 if the target's source is an operation, and 0 if it is a base.
     pub target: u32,
     /// How many of the parameters' sources are operations.
     pub parameters: u32,
 }
 
-/// Puts the sources of an operation into their places, its target's first, where the operations of the events before its own
-/// are entered. The places that it does not use keep `Base(0)`.
+/// Puts the sources of an operation into its places, its target's first, once the operations of the events before its
+/// own are entered. The places that it does not use keep `Base(0)`.
 pub fn sources(op: &Op, writers: &Writers, origins: &mut [Origin; READS]) -> Reads
     requires shaped { IsShaped op.now }
     requires blank { origins.old ≡ replicate READS (Origin.Base 0) }

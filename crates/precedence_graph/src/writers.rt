@@ -13,9 +13,9 @@ const MULTIPLIER: u64 = 11_400_714_819_323_198_485;
 /// An operation that was entered.
 #[derive(Clone, Copy, Debug, PartialEq, Eq)]
 struct Entry {
-    /// What it changes.
+    /// The key that it changes.
     key: Key,
-    /// The earlier operations at its place are numbered below this one, and the last of them is next to it; 0 where
+    /// The earlier operations at its place have numbers below this one, and the last of them is next to it. It is 0 if
     /// there is none.
     before: u32,
     /// Its level.
@@ -24,22 +24,22 @@ struct Entry {
     event_level: u32,
 }
 
-/// Where a read gets its value. The levels stand with it, so that none has to be read from the plan.
+/// Where the value of a read comes from. It has the levels, so that they need not be read from the plan.
 #[derive(Clone, Copy, Debug, PartialEq, Eq)]
 pub struct Source {
     pub origin: Origin,
-    /// The level of its operation, 0 for a base.
+    /// The level of its operation, or 0 for a base.
     pub level: u32,
-    /// The level of its operation's event, 0 for a base.
+    /// The level of its operation's event, or 0 for a base.
     pub event_level: u32,
 }
 
-/// For each key the last of the operations entered so far that changes it.
+/// For each key, the last of the operations entered so far that changes it.
 ///
 /// Each key has one of the places, and the operations of a place are walked from the last one back.
 #[derive(Drop)]
 pub struct Writers {
-    /// For each place where its operations end: 1 and the number of its last one, 0 where there is none.
+    /// For each place, 1 and the number of its last operation, or 0 if there is none.
     ends: List<u32>,
     entries: List<Entry>,
     ghost some: { 0 < length ends.items },
@@ -52,7 +52,7 @@ pub struct Writers {
 impl Writers {
     ghost use Rattle.precedence_graph.specs.Writers.{entered_count, room_of, source_in, entered_level, entered_event_level};
 
-    /// No operation is entered, and there is room for `n`.
+    /// Makes a table without operations, with room for `n`.
     pub fn new(alloc: Global, n: usize) -> Result<Self, OutOfMemory>
         requires { n < 2 ^ 32 }
         ensures count { IfOk result (λ writers. entered_count writers ≡ 0) }
@@ -66,7 +66,7 @@ impl Writers {
         })
     }
 
-    /// Where a read of `key` gets its value: the last operation entered that changes it, or `Base(0)`.
+    /// Where the value of a read of `key` comes from: the last operation entered that changes the key, or `Base(0)`.
     pub fn source(&self, key: Key) -> Source
         ensures origin { result.origin ≡ source_in self.now key }
         ensures level { result.level
@@ -103,7 +103,7 @@ impl Writers {
             ≡ (if same_key key k then Origin.Op (entered_count self.old) else
             source_in self.old k) }
 
-        // It has these levels, and each other operation those that it had.
+        // It has these levels, and each other operation has those that it had.
         ensures levels { (o : ℕ) → entered_level self.new o
             ≡ (if o == entered_count self.old then level else entered_level self.old o) }
         ensures event_levels { (o : ℕ) → entered_event_level self.new o
@@ -122,8 +122,8 @@ impl Writers {
     }
 }
 
-/// The place of a key among so many, which are best a power of two, and at most 2^20: the bits that are taken are the
-/// upper 20 of the product. The lower ones differ less, so that more keys would share a place.
+/// The place of a key among this many places, which are best a power of two, and at most 2^20. The place is taken from
+/// the upper 20 bits of the product. The lower bits differ less, so that more keys would share a place.
 #[tactic(auto, unfolding(crate::specs::Entries::place_of))]
 fn place_of(key: Key, places: usize) -> usize
     requires { 0 < places }

@@ -8,7 +8,7 @@ use Rattle.interleaving_core.specs.Core.{Core, start}
 use Rattle.interleaving_core.specs.Steps.{May, after}
 use Rattle.interleaving_core.specs.Orders.{Leads}
 use Rattle.interleaving_core.proofs.Ordering.{leads_more}
-use Rattle.run_checker.specs.Replay.{IsTaken, IsBrokenAt}
+use Rattle.run_checker.specs.Replay.{IsReplayed, IsBrokenAt}
 
 module _ (p : Plan) (cap : ℕ) where
   -- they lead to one state
@@ -61,11 +61,11 @@ module _ (p : Plan) (cap : ℕ) where
   take_take (suc n) (suc m) [] le = refl
   take_take (suc n) (suc m) (e ∷ es) le = ap (λ (l : List CoreEvent). e ∷ l) (take_take n m es (omega (arith, le)))
 
-  pub taken_front : (n : ℕ) (es : List CoreEvent) → IsTaken p cap es → IsTaken p cap (take n es)
+  pub taken_front : (n : ℕ) (es : List CoreEvent) → IsReplayed p cap es → IsReplayed p cap (take n es)
   taken_front n es taken = let front = front_leads n es start taken.state taken.leads in record { state = front.0; leads = front.1 }
 
-  taken_less : (n m : ℕ) (es : List CoreEvent) → n ≤ m → IsTaken p cap (take m es) → IsTaken p cap (take n es)
-  taken_less n m es le taken = subst (IsTaken p cap) (take_take n m es le) (taken_front n (take m es) taken)
+  taken_less : (n m : ℕ) (es : List CoreEvent) → n ≤ m → IsReplayed p cap (take m es) → IsReplayed p cap (take n es)
+  taken_less n m es le taken = subst (IsReplayed p cap) (take_take n m es le) (taken_front n (take m es) taken)
 
   -- a journal is broken at one place at most, and then it is not taken
   broken_below : (es : List CoreEvent) (a b : ℕ) → IsBrokenAt p cap es a → IsBrokenAt p cap es b → a < b → ⊥

@@ -9,7 +9,7 @@ use Rattle.interleaving_core.specs.declared.event.CoreEvent.{CoreEvent}
 use Rattle.interleaving_core.specs.declared.event.CoreEvent.TheVariants.{Ready, Claim, Fetch, Finish, GiveBack, Spread, RollBack, Decide, Settle}
 use Rattle.event_reader.specs.Words.{words_of}
 use Rattle.run_checker.specs.Lines.{greatest_id, greatest_small, greatest_value, HasLine, decision_letter, words_written, line_of}
-use Rattle.run_checker.specs.Reading.{number_up_to, decision_said, both, op_said, pair_said, fetch_said, decide_said, Kind, kinds, said_by, words_say, said_if, event_said}
+use Rattle.run_checker.specs.Reading.{number_up_to, decision_said, both, op_said, pair_said, fetch_said, decide_said, LineKind, kinds, said_by, words_say, said_if, event_said}
 use Rattle.run_checker.proofs.Numbers.{number_written, number_read}
 use Rattle.run_checker.proofs.Joining.{IsPart, one_byte, number_part, words_joined, joined_words}
 
@@ -175,7 +175,7 @@ decide_read (a ∷ b ∷ c ∷ words) r is = absurd (none-some r is)
 abbrev IsWrittenSo : ℕ → List (List ℕ) → CoreEvent → Type 0
 IsWrittenSo letter words e = (words_written e ≡ (letter ∷ []) ∷ words) × HasLine e
 
-record IsSound (kind : Kind) : Type 0 where
+record IsSound (kind : LineKind) : Type 0 where
   sound : (words : List (List ℕ)) (e : CoreEvent) → kind.says words ≡ Some e → IsWrittenSo kind.letter words e
 
 pair_sound : (letter greatest : ℕ) (make : ℕ → ℕ → CoreEvent) → greatest < 2 ^ 64
@@ -220,11 +220,11 @@ decide_sound = record {
       subst (IsWrittenSo 68 words) found.2 (ap (λ ws. (68 ∷ []) ∷ ws) parts.0, parts.1);
 }
 
-data AllSound : List Kind → Type 0 where
+data AllSound : List LineKind → Type 0 where
   no_kind : AllSound []
-  one_more : (kind : Kind) (more : List Kind) → IsSound kind → AllSound more → AllSound (kind ∷ more)
+  one_more : (kind : LineKind) (more : List LineKind) → IsSound kind → AllSound more → AllSound (kind ∷ more)
 
-said_sound : (some : List Kind) (letter : ℕ) (words : List (List ℕ)) (e : CoreEvent) → AllSound some → said_by some letter words ≡ Some e → IsWrittenSo letter words e
+said_sound : (some : List LineKind) (letter : ℕ) (words : List (List ℕ)) (e : CoreEvent) → AllSound some → said_by some letter words ≡ Some e → IsWrittenSo letter words e
 said_sound [] letter words e no_kind is = absurd (none-some e is)
 said_sound (kind ∷ more) letter words e (one_more _ _ one rest) is = by_test (letter == kind.letter) refl (λ later. said_sound more letter words e rest later) is
   where

@@ -1,4 +1,4 @@
--- What each answer of the checker says.
+-- What each answer of the checker says
 use Rattle.std.specs.Prelude.{◌≡◌, ◌≢◌, ℕ, ◌<◌, List, slice_index}
 use Rattle.morph_base.specs.declared.plan.Plan.{Plan}
 use Rattle.morph_base.specs.Plans.{op_count, final}
@@ -9,13 +9,14 @@ use Rattle.run_checker.specs.declared.checked.Checked.{Checked}
 use Rattle.run_checker.specs.declared.checked.Checked.TheVariants.{Yes, Broken, Unsettled, Differs}
 use Rattle.run_checker.specs.Replay.{IsBrokenAt, AllSettled}
 
--- the least operation that is not settled
+-- Operation op is the least one that is not settled in the state
 pub record IsFirstUnsettled (p : Plan) (c : Core) (op : ℕ) : Type 0 where
   pub inside : op < op_count p
   pub unsettled : IsSettledIn c op → ⊥
   pub below : (o : ℕ) → o < op → IsSettledIn c o
 
--- the least operation whose value in the state is another than the run's, with both values
+-- Operation op is the least one whose value in the state differs from the run's. The two values are `journal` and
+-- `run`
 pub record IsFirstUnlike (p : Plan) (c : Core) (values : List ℕ) (op journal run : ℕ) : Type 0 where
   pub inside : op < op_count p
   pub journal_is : journal ≡ value_in c op
@@ -23,51 +24,53 @@ pub record IsFirstUnlike (p : Plan) (c : Core) (values : List ℕ) (op journal r
   pub unlike : journal ≢ run
   pub below : (o : ℕ) → o < op → value_in c o ≡ slice_index values o
 
--- each operation has the run's value in the state
+-- Each operation has the run's value in the state
 abbrev pub AllLike : Plan → Core → List ℕ → Type 0
 AllLike p c values = (o : ℕ) → o < op_count p → value_in c o ≡ slice_index values o
 
--- the machine takes the whole journal, and then op is the least operation that is not settled
+-- The machine takes the whole journal, and then op is the least operation that is not settled
 pub record IsUnsettledAt (p : Plan) (cap : ℕ) (journal : List CoreEvent) (op : ℕ) : Type 0 where
   pub state : Core
   pub leads : Leads p cap start journal state
   pub first : IsFirstUnsettled p state op
 
--- the machine takes the whole journal, which settles all operations; op is the least whose settled value is another
--- than the run's
-pub record IsUnlikeAt (p : Plan) (cap : ℕ) (journal : List CoreEvent) (values : List ℕ) (op journal_value run_value : ℕ) : Type 0 where
+-- The machine takes the whole journal, which settles all operations, and op is the least one whose settled value
+-- differs from the run's
+pub record IsUnlikeAt (p : Plan) (cap : ℕ) (journal : List CoreEvent) (values : List ℕ)
+    (op journal_value run_value : ℕ) : Type 0 where
   pub state : Core
   pub leads : Leads p cap start journal state
   pub settled : AllSettled p state
   pub first : IsFirstUnlike p state values op journal_value run_value
 
--- the machine takes the whole journal, which settles all operations with the run's values
+-- The machine takes the whole journal, which settles all operations with the run's values
 pub record IsBorneOut (p : Plan) (cap : ℕ) (journal : List CoreEvent) (values : List ℕ) : Type 0 where
   pub state : Core
   pub leads : Leads p cap start journal state
   pub settled : AllSettled p state
   pub same : AllLike p state values
 
--- what an answer says of the journal and the run's values
+-- The answer is right for the journal and the run's values. At most one answer is
 abbrev pub Answers : Plan → (cap : ℕ) → (journal : List CoreEvent) → (values : List ℕ) → Checked → Type 0
 Answers p cap journal values (Broken at) = IsBrokenAt p cap journal at
 Answers p cap journal values (Unsettled op) = IsUnsettledAt p cap journal op
-Answers p cap journal values (Differs op journal_value run_value) = IsUnlikeAt p cap journal values op journal_value run_value
+Answers p cap journal values (Differs op journal_value run_value) =
+    IsUnlikeAt p cap journal values op journal_value run_value
 Answers p cap journal values Yes = IsBorneOut p cap journal values
 
--- the machine takes the whole journal, and each operation that it settles has the fold's value
+-- The machine takes the whole journal, and each operation that it settles has the fold's value
 pub record SettlesFold (p : Plan) (cap : ℕ) (journal : List CoreEvent) : Type 0 where
   pub state : Core
   pub leads : Leads p cap start journal state
   pub values : (o : ℕ) → o < op_count p → IsSettledIn state o → value_in state o ≡ final p o
 
--- the machine takes the whole journal, which settles all operations, each with the fold's value
+-- The machine takes the whole journal, which settles all operations, each with the fold's value
 pub record SettlesWholeFold (p : Plan) (cap : ℕ) (journal : List CoreEvent) : Type 0 where
   pub state : Core
   pub leads : Leads p cap start journal state
   pub settled : AllSettled p state
   pub values : (o : ℕ) → o < op_count p → value_in state o ≡ final p o
 
--- values, one for each operation, are those of the fold
+-- The values, one for each operation, are those of the fold
 pub record AreFold (p : Plan) (values : List ℕ) : Type 0 where
   pub each : (o : ℕ) → o < op_count p → slice_index values o ≡ final p o

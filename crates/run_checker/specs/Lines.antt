@@ -1,20 +1,22 @@
--- The lines of a journal, as they are written.
+-- The lines of a journal, as they are written
 use Rattle.std.specs.Prelude.{ℕ, ◌≤◌, Bool, true, false, List, [], ◌∷◌, ◌++◌, decimal}
 use Rattle.std.specs.List.{join_with_byte}
 use Rattle.interleaving_core.specs.declared.event.CoreEvent.{CoreEvent}
 use Rattle.interleaving_core.specs.declared.event.CoreEvent.TheVariants.{Ready, Claim, Fetch, Finish, GiveBack, Spread, RollBack, Decide, Settle}
 
--- the greatest number of an operation and of an event, that of a place and of a worker, and the greatest value, 10^13
+-- 4,294,967,295: the greatest number of an operation and of an event
 abbrev pub greatest_id : ℕ
 greatest_id = 4294967295
 
+-- 255: the greatest number of a place and of a worker
 abbrev pub greatest_small : ℕ
 greatest_small = 255
 
+-- 10^13: the greatest value
 abbrev pub greatest_value : ℕ
 greatest_value = 10000000000000
 
--- an event has a line: its numbers are ones that a line can have
+-- The event's numbers are ones that a line can have
 abbrev pub HasLine : CoreEvent → Type 0
 HasLine (Ready o) = o ≤ greatest_id
 HasLine (Claim o t) = (o ≤ greatest_id) × (t ≤ greatest_small)
@@ -26,12 +28,12 @@ HasLine (RollBack o j) = (o ≤ greatest_id) × (j ≤ greatest_small)
 HasLine (Decide i committed) = i ≤ greatest_id
 HasLine (Settle o t) = (o ≤ greatest_id) × (t ≤ greatest_small)
 
--- the letter of a decision: c where the event commits, a where it aborts
+-- The letter of a decision: `c` if the event commits, `a` if it aborts
 abbrev pub decision_letter : Bool → ℕ
 decision_letter true = 99
 decision_letter false = 97
 
--- the words of an event's line, of which the first is its letter: R, C, F, N, G, S, B, D or T
+-- The words of an event's line. The first one is its letter: R, C, F, N, G, S, B, D or T
 abbrev pub words_written : CoreEvent → List (List ℕ)
 words_written (Ready o) = (82 ∷ []) ∷ decimal o ∷ []
 words_written (Claim o t) = (67 ∷ []) ∷ decimal o ∷ decimal t ∷ []
@@ -43,11 +45,11 @@ words_written (RollBack o j) = (66 ∷ []) ∷ decimal o ∷ decimal j ∷ []
 words_written (Decide i committed) = (68 ∷ []) ∷ decimal i ∷ (decision_letter committed ∷ []) ∷ []
 words_written (Settle o t) = (84 ∷ []) ∷ decimal o ∷ decimal t ∷ []
 
--- the line of an event, without its LF: its words with one space between each two
+-- The line of an event, without its LF: its words with one space between each two
 abbrev pub line_of : CoreEvent → List ℕ
 line_of e = join_with_byte 32 (words_written e)
 
--- the text of a journal: the line of each event, ended by LF
+-- The text of a journal: the line of each event, ended by LF
 unfoldable pub text_of : List CoreEvent → List ℕ
 text_of [] = []
 text_of (e ∷ es) = line_of e ++ 10 ∷ text_of es

@@ -1,4 +1,4 @@
--- A journal of steps, replayed on the machine.
+-- A journal of steps, replayed on the machine
 use Rattle.std.specs.Prelude.{ℕ, ◌-◌, ◌<◌, List, take}
 use Rattle.morph_base.specs.declared.plan.Plan.{Plan}
 use Rattle.morph_base.specs.Plans.{op_count}
@@ -6,16 +6,16 @@ use Rattle.interleaving_core.specs.declared.event.CoreEvent.{CoreEvent}
 use Rattle.interleaving_core.specs.Core.{Core, IsSettledIn, start}
 use Rattle.interleaving_core.specs.Orders.{Leads}
 
--- the machine takes the whole journal, one event after another from the start
-pub record IsTaken (p : Plan) (cap : ℕ) (journal : List CoreEvent) : Type 0 where
+-- The machine takes the whole journal, one event after another from the start
+pub record IsReplayed (p : Plan) (cap : ℕ) (journal : List CoreEvent) : Type 0 where
   pub state : Core
   pub leads : Leads p cap start journal state
 
--- the machine takes the first `at - 1` events, and not the first `at`
+-- The machine takes the first `at - 1` events, and not the first `at`
 pub record IsBrokenAt (p : Plan) (cap : ℕ) (journal : List CoreEvent) (at : ℕ) : Type 0 where
-  pub taken : IsTaken p cap (take (at - 1) journal)
-  pub refused : IsTaken p cap (take at journal) → ⊥
+  pub taken : IsReplayed p cap (take (at - 1) journal)
+  pub refused : IsReplayed p cap (take at journal) → ⊥
 
--- all operations of the plan are settled
+-- All operations of the plan are settled
 abbrev pub AllSettled : Plan → Core → Type 0
 AllSettled p c = (o : ℕ) → o < op_count p → IsSettledIn c o

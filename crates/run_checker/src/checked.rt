@@ -1,4 +1,4 @@
-/// What a journal comes to, beside the values that a run settled.
+/// The result of checking a journal against the values that a run settled.
 #[derive(Clone, Copy, Debug, PartialEq, Eq)]
 pub enum Checked {
     /// The machine takes the whole journal, which settles each operation with the run's value.

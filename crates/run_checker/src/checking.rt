@@ -12,7 +12,7 @@ use std::alloc::Global;
 /// Replays the journal of a run of the plan on the machine, and compares what it settles with the values that the run
 /// settled, one for each operation. Operations have at most `cap` + 1 attempts.
 ///
-/// It trusts nothing of the journal, however it was made. Memory is taken for the machine alone, once.
+/// It trusts nothing of the journal, however it was made. It takes memory only for the machine, once.
 pub fn check(
     alloc: Global,
     plan: &Plan,

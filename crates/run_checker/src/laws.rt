@@ -1,4 +1,4 @@
-//! What the answers of the checker come to, and what journals are as texts, as the contracts of functions that do
+//! What follows from the answers of the checker, and what journals are as texts, as the contracts of functions that do
 //! nothing.
 ghost use Rattle.std.specs.Prelude.{◌≡◌, ℕ, ◌<◌, List, All, Some};
 ghost use Rattle.morph_base.specs.declared.plan.Plan.{Plan};
@@ -16,15 +16,15 @@ ghost use Rattle.run_checker.specs.Reading.{event_said, Says, IsFirstWrong};
 ghost use Rattle.run_checker.specs.declared.checked.Checked.{Checked};
 ghost use Rattle.run_checker.specs.declared.checked.Checked.TheVariants.{Yes, Unsettled, Differs};
 
-/// At most one answer is right for a journal and a run's values, so [`check`](crate::check) gives each exactly where
+/// At most one answer is right for a journal and a run's values, so [`check`](crate::check) returns each one exactly if
 /// it is right.
 pub fn one_answer_is_right()
     ensures { (p : Plan) (cap : ℕ) (journal : List CoreEvent) (values : List ℕ) (r s : Checked)
         → Answers p cap journal values r → Answers p cap journal values s → r ≡ s }
 {}
 
-/// What a journal settles that the machine takes is the fold's. So after a yes each operation is settled with the
-/// fold's value, and the run's values are the fold's; after an unsettled operation, or values that differ, what the
+/// If the machine takes a journal, what the journal settles is the fold's. After a yes, each operation is settled with
+/// the fold's value, and the run's values are the fold's. After an unsettled operation, or values that differ, what the
 /// journal settles has the fold's values. The other way round, the fold's values get a yes from each journal that the
 /// machine takes and that settles all operations.
 pub fn journals_settle_the_fold()
@@ -45,7 +45,7 @@ pub fn journals_settle_the_fold()
         → AreFold p values → Answers p cap journal values Yes }
 {}
 
-/// Each event that the machine takes has a line, and so has each event of a journal that it takes: such a journal is
+/// Each event that the machine takes has a line, and so has each event of a journal that it takes. Such a journal is
 /// the one that its text says.
 pub fn what_is_taken_has_lines()
     ensures event { (p : Plan) (cap : ℕ) (c : Core) (e : CoreEvent) → IsPlan p
@@ -62,15 +62,16 @@ pub fn lines_say_their_events()
         → (line_of e ≡ line) × HasLine e }
 {}
 
-/// The same of whole journals.
+/// The text that is written for a journal whose events have lines says that journal, and a text that says a journal is
+/// the one that is written for it.
 pub fn texts_say_their_journals()
     ensures written { (es : List CoreEvent) → All HasLine es → Says (text_of es) es }
     ensures read { (bytes : List ℕ) (es : List CoreEvent) → Says bytes es
         → (text_of es ≡ bytes) × All HasLine es }
 {}
 
-/// A text says one journal at most, and else its first wrong line has one number at most, so
-/// [`read_journal`](crate::read_journal) gives each answer exactly where it is right.
+/// A text says at most one journal, or has at most one first wrong line, and never both, so
+/// [`read_journal`](crate::read_journal) returns each answer exactly if it is right.
 pub fn one_reading_is_right()
     ensures journal { (bytes : List ℕ) (es fs : List CoreEvent) → Says bytes es → Says bytes fs
         → es ≡ fs }

@@ -1,9 +1,9 @@
-//! A checker of one run's journal: the list of the steps by which a run came to its values, replayed on the machine.
+//! A checker of one run's journal: the list of the steps by which a run got its values, replayed on the machine.
 //!
 //! [`check`] makes the steps of a journal one after another on a [`CoreState`](interleaving_core::CoreState), which
-//! takes a step exactly where it may be made, and compares what they settle with the values of the run. It trusts
-//! nobody: not the maker of the journal, nor the run. Which answer is right is told by `specs/Answers`, and [`laws`]
-//! say what follows: at most one answer is right, and what a journal settles that the machine takes is the fold's.
+//! takes a step exactly if it may be made, and compares what they settle with the values of the run. It trusts neither
+//! the maker of the journal nor the run. `specs/Answers` says which answer is right, and [`laws`] say what follows: at
+//! most one answer is right, and if the machine takes a journal, what it settles is the fold's.
 //!
 //! A journal is kept as text: [`write_event`] puts an event's line into a buffer, and [`read_journal`] reads a text of
 //! such lines, or names the first that is none. What lines say stands in `specs/Reading`, what is written in
@@ -19,8 +19,8 @@
 //! }
 //! ```
 //!
-//! Below stand `interleaving_core`, which has the machine, `morph_base` with its plans, `event_reader`, by which lines
-//! are cut into words, `morph_io`, whose buffer a line is put into, and the kit's `memchr` and `thiserror`.
+//! It uses `interleaving_core`, which has the machine, `morph_base` with its plans, `event_reader`, which cuts lines
+//! into words, `morph_io`, whose buffer a line is put into, and the kit's `memchr` and `thiserror`.
 #![tactic(auto)]
 
 mod checked;

@@ -63,7 +63,7 @@ fn read_event(line: &[u8]) -> Option<CoreEvent>
     said_by(letter, &words)
 }
 
-/// The event that the first line says, and what stands behind its LF.
+/// The event that the first line says, and what follows its LF.
 fn first_event(bytes: &[u8]) -> Option<(CoreEvent, &[u8])>
     ensures some { IfSome result (λ r. BeginsWith bytes.now r.0 r.1.now) }
     ensures none { IfNone result (BeginsWithNone bytes.now) }

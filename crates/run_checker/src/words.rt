@@ -8,7 +8,7 @@ use event_reader::{Number, Words, read_number};
 /// The greatest value of a line, 10^13.
 const GREATEST_VALUE: u64 = 10_000_000_000_000;
 
-/// The number that a word says, where it is at most `greatest`.
+/// The number that a word says, if it is at most `greatest`.
 fn number_up_to(greatest: u64, word: &[u8]) -> Option<u64>
     requires { greatest ≤ greatest_value }
     ensures { result ≡ number_up_to greatest word.now }
@@ -49,7 +49,7 @@ fn decision(word: &[u8]) -> Option<bool>
     }
 }
 
-/// The operation that the words behind the letter are, where there is one word.
+/// The operation that the words behind the letter say, if there is one word.
 pub fn op(words: &Words<'_>) -> Option<u32>
     ensures { result ≡ op_said (drop 1 words.now) }
 {
@@ -59,7 +59,7 @@ pub fn op(words: &Words<'_>) -> Option<u32>
     id(words.word(1))
 }
 
-/// The operation and the place or worker that the words behind the letter are, where there are two.
+/// The operation and the place or worker that the words behind the letter say, if there are two.
 pub fn op_and_small(words: &Words<'_>) -> Option<(u32, u8)>
     ensures { result ≡ pair_said greatest_small (drop 1 words.now) }
 {
@@ -71,7 +71,7 @@ pub fn op_and_small(words: &Words<'_>) -> Option<(u32, u8)>
     Some((op, small))
 }
 
-/// The two operations that the words behind the letter are, where there are two.
+/// The two operations that the words behind the letter say, if there are two words.
 pub fn two_ops(words: &Words<'_>) -> Option<(u32, u32)>
     ensures { result ≡ pair_said greatest_id (drop 1 words.now) }
 {
@@ -83,8 +83,7 @@ pub fn two_ops(words: &Words<'_>) -> Option<(u32, u32)>
     Some((op, sibling))
 }
 
-/// The operation and the place, and the worker and the value, that the words behind the letter are, where there are
-/// four.
+/// The operation and the place, and the worker and the value, that the words behind the letter say, if there are four.
 pub fn fetched(words: &Words<'_>) -> Option<((u32, u8), (u8, u64))>
     ensures { result ≡ fetch_said (drop 1 words.now) }
 {
@@ -98,7 +97,7 @@ pub fn fetched(words: &Words<'_>) -> Option<((u32, u8), (u8, u64))>
     Some(((op, j), (by, value)))
 }
 
-/// The event and its decision that the words behind the letter are, where there are two.
+/// The event and its decision that the words behind the letter say, if there are two.
 pub fn decided(words: &Words<'_>) -> Option<(u32, bool)>
     ensures { result ≡ decide_said (drop 1 words.now) }
 {

@@ -62,7 +62,7 @@ fn numbers_of(ran: &Ran) -> [u64; 2] {
     [ran.number, committed as u64]
 }
 
-/// Those of the next batch that was run, where there is one.
+/// The numbers of the next batch that was run, if there is one.
 fn next_numbers<A: EventApp>(pipe: &mut Pipe<A>) -> Option<[u64; 2]>
     ensures none { result ≡ None → pipe.new.rans ≡ [] }
 {
@@ -70,7 +70,7 @@ fn next_numbers<A: EventApp>(pipe: &mut Pipe<A>) -> Option<[u64; 2]>
     Some(numbers_of(&ran))
 }
 
-/// Makes a round, where the pipe is going, and tells the numbers of each batch that was run.
+/// Makes a round, if the pipe is going, and returns the numbers of each batch that was run.
 fn tell_round<R: Threads + Sync + Abort, A: EventApp + Send, S: Source + Send, G: Gate>(
     rt: &R,
     alloc: Global,
@@ -96,11 +96,11 @@ fn tell_round<R: Threads + Sync + Abort, A: EventApp + Send, S: Source + Send, G
     Ok(())
 }
 
-/// Four events, of which one aborts, and a batch of one more.
+/// Four events, one of which aborts, and a batch of one more.
 const FIVE_EVENTS: &[u8] =
     b"D 1 0 0 100 5\nX 2 0 1 0 1 60 6\nX 3 0 1 0 1 60 5\nX 4 1 2 1 2 60 5\nP\nD 5 2 2 1 1\n";
 
-/// Makes three rounds over them, and tells the numbers of each batch that was run.
+/// Makes three rounds over them, and returns the numbers of each batch that was run.
 fn five_events_told<R: Threads + Sync + Abort>(
     rt: &R,
     alloc: Global,
@@ -117,7 +117,7 @@ fn five_events_told<R: Threads + Sync + Abort>(
     Ok(told)
 }
 
-/// The values of account 2 and of asset 2, where there are so many.
+/// The values of account 2 and of asset 2, if the layout has both.
 fn second_values(pipe: &Pipe<Ledger>) -> Option<[u64; 2]> {
     let state = pipe.engine().state();
     let (account, asset) = (Key::of(0, 2), Key::of(1, 2));
@@ -127,7 +127,7 @@ fn second_values(pipe: &Pipe<Ledger>) -> Option<[u64; 2]> {
     Some([state.get(account), state.get(asset)])
 }
 
-/// Runs the five events through a pipe that reads so many batches ahead.
+/// Runs the five events through a pipe that reads `ahead` batches ahead.
 fn run_five_events<R: Threads + Sync + Abort>(
     rt: &R,
     alloc: Global,

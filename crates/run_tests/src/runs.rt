@@ -26,7 +26,8 @@ use worker_gate::{FreeGate, Gate};
 /// The words that ask for the ledger.
 const LEDGER: &[&[u8]] = &[b"app=ledger"];
 
-/// A deposit and three transfers: the first asks for too much of an asset, and the second was tried on what it left.
+/// A deposit and three transfers: the first asks for too much of an asset, and the second was tried on what the first
+/// left.
 const FOUR_EVENTS: &[u8] = b"D 1 0 0 100 5\nX 2 0 1 0 1 60 6\nX 3 0 1 0 1 60 5\nX 4 1 2 1 2 60 5\n";
 
 /// Their text.
@@ -97,7 +98,7 @@ fn ended<R: Threads + Wait + Sync, S: Source + Send, K: Sink, N: Sink>(
     morph(rt, alloc, words, source, sink, notes, &FreeGate)
 }
 
-/// Runs the program with these words, sink and notes, and tells what it left.
+/// Runs the program with these words, sink and notes, and returns what it left.
 fn run_noted<R: Threads + Wait + Sync>(
     rt: &R,
     alloc: Global,

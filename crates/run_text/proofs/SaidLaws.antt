@@ -25,7 +25,7 @@ use Rattle.run_text.specs.declared.names.Name.{Name}
 use Rattle.run_text.specs.declared.names.Name.TheVariants.{App as AppName, Own, Workers, Size, Unit as UnitName, Explore as ExploreName, Abort as AbortName, Plan as PlanName, Seed, Events, Notes, Ahead, Watch, Check as CheckName}
 use Rattle.run_text.specs.declared.words.Input.{Input}
 use Rattle.run_text.specs.Settings.{text_of, all_names, has_name, value_in, is_known, is_once, are_once, value_under, is_given, app_in, some_app, app_given, app_under, number_in, number_given, number_under, switch_in, switch_given, switch_under, unit_in, unit_given, unit_under, explore_in, explore_given, explore_under, abort_in, abort_given, abort_under, auto_in, auto_given, auto_under, strategy_by, fixed, planning_by, planning_of, worker_counts, sizes, seeds, event_counts, ahead_counts, check_in, check_given, check_under, made_of, input_by, input_of, is_alone, can_check, settings_by, settings_of}
-use Rattle.run_text.specs.SaidSettings.{word_of, Says, IsMissing, IsSaid, IsRead, IsMade, IsFixed, IsChosen, AreSaid}
+use Rattle.run_text.specs.SaidSettings.{word_of, SaysValue, IsMissing, IsSaid, IsRead, IsInputMade, IsFixed, IsChosen, AreSaid}
 use Rattle.run_text.proofs.NoSettingsLaws.{all_false}
 use Rattle.run_text.proofs.WordLaws.{named}
 
@@ -147,14 +147,14 @@ said_switch words name on is = said words name switch_in false on (switch_as (va
 
 -- ---- the input
 
-app_said : (words : List (List ℕ)) (name : Name) (app : App) → app_under name words ≡ Some (Some app) → Says words name app_in app
+app_said : (words : List (List ℕ)) (name : Name) (app : App) → app_under name words ≡ Some (Some app) → SaysValue words name app_in app
 app_said words name app is = by_value (value_under name words) (finds words name) is
   where
-    by_app : (value : List ℕ) → Contains words (word_of name value) → (o : Option App) → app_in value ≡ o → some_app o ≡ Some (Some app) → Says words name app_in app
+    by_app : (value : List ℕ) → Contains words (word_of name value) → (o : Option App) → app_in value ≡ o → some_app o ≡ Some (Some app) → SaysValue words name app_in app
     by_app value has None means is = absurd (cc)
     by_app value has (Some other) means is = (value, has, means ∙ (let same : other ≡ app = cc in ap Some same))
 
-    by_value : (o : Option (List ℕ)) → Finds words name o → app_given o ≡ Some (Some app) → Says words name app_in app
+    by_value : (o : Option (List ℕ)) → Finds words name o → app_given o ≡ Some (Some app) → SaysValue words name app_in app
     by_value None none is = absurd (cc)
     by_value (Some value) has is = by_app value has (app_in value) refl is
 
@@ -170,7 +170,7 @@ app_missing words name is = by_value (value_under name words) (finds words name)
     by_value (Some value) has is = by_app (app_in value) is
 
 abbrev InputOf : List (List ℕ) → Input → Type 0
-InputOf words input = IsRead words input.app input.generated ⊎ IsMade words input.app input.generated
+InputOf words input = IsRead words input.app input.generated ⊎ IsInputMade words input.app input.generated
 
 input_said : (words : List (List ℕ)) (input : Input) → input_of words ≡ Some input → InputOf words input
 input_said words input is = by_apps (app_under AppName words) (app_under Own words) refl refl is
@@ -231,7 +231,7 @@ planning_said words planning is = by_auto (auto_under PlanName words) refl is
       abort = said words AbortName abort_in Lazy a (abort_as (value_under AbortName words) ∙ abort);
     })
 
-    says_auto : IsSaid words PlanName auto_in false true → Says words PlanName auto_in true
+    says_auto : IsSaid words PlanName auto_in false true → SaysValue words PlanName auto_in true
     says_auto (inl says) = says
     says_auto (inr none) = let never = none.1 in absurd (cc)
 

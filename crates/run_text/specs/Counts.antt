@@ -1,4 +1,4 @@
--- What is counted of the batches of a run, one batch at a time.
+-- What is counted of the batches of a run, one batch at a time
 use Rattle.std.specs.Prelude.{◌≡◌, ℕ, ◌+◌, ◌-◌, ◌<◌, ◌≤◌, ◌^◌, List, length, min, replicate, slice_index, sum}
 use Rattle.morph_base.specs.Limits.{most_workers}
 use Rattle.morph_base.specs.Outcomes.{Fate}
@@ -7,7 +7,7 @@ use Rattle.morph_engine.specs.Accounts.{Account, settled_by}
 use Rattle.run_text.specs.declared.tally.Tally.{Tally}
 use Rattle.run_text.specs.Text.{committed_in, aborted_in}
 
--- the tally of a run of no batch
+-- The tally of a run of no batch
 abbrev pub no_tally : Tally
 no_tally = record {
   batches = 0;
@@ -24,11 +24,11 @@ no_tally = record {
   stolen = 0;
 }
 
--- so many, or the greatest number that is counted
+-- The number n, or the greatest number that is counted, 2^64 - 1
 abbrev pub counted_to : ℕ → ℕ
 counted_to n = min n (2 ^ 64 - 1)
 
--- the numbers of a tally have room for a batch more, by its account
+-- The numbers of a tally that do not stop have room for one more batch, by its account
 pub record HasRoom (t : Tally) (a : Account) : Type 0 where
   pub batches : t.batches + 1 < 2 ^ 64
   pub events : t.events + event_count a.plan < 2 ^ 64
@@ -40,8 +40,9 @@ pub record HasRoom (t : Tally) (a : Account) : Type 0 where
   pub workers : length t.settled_by ≡ most_workers + 1
   pub settled : sum t.settled_by + length a.by < 2 ^ 64
 
--- a batch was counted: its account, and what became of its events
-pub record Adds (old new : Tally) (a : Account) (fs : List Fate) : Type 0 where
+-- One more batch was counted, by its account and the fates of its events. The causes that were left, and the operations
+-- that were handed out and stolen, are counted up to the greatest number
+pub record CountsBatch (old new : Tally) (a : Account) (fs : List Fate) : Type 0 where
   pub batches : new.batches ≡ old.batches + 1
   pub events : new.events ≡ old.events + length fs
   pub committed : new.committed ≡ old.committed + committed_in fs
@@ -51,12 +52,13 @@ pub record Adds (old new : Tally) (a : Account) (fs : List Fate) : Type 0 where
   pub evaluated : new.evaluated ≡ old.evaluated + a.counts.evaluated
   pub spread : new.spread ≡ old.spread + a.counts.spread
   pub rolled : new.rolled ≡ old.rolled + a.counts.rolled
-  -- of each worker, and of the plain finish at 0; and of all of them
-  pub settled : (w : ℕ) → w ≤ most_workers → slice_index new.settled_by w ≡ slice_index old.settled_by w + settled_by a.by w
+  -- Operations are counted for each worker, and at 0 for the plain finish, and for all of them together
+  pub settled : (w : ℕ) → w ≤ most_workers
+      → slice_index new.settled_by w ≡ slice_index old.settled_by w + settled_by a.by w
   pub settled_all : sum new.settled_by ≡ sum old.settled_by + length a.by
   pub workers : length new.settled_by ≡ most_workers + 1
   pub left : new.left ≡ counted_to (old.left + a.left)
   pub handed : new.handed ≡ counted_to (old.handed + a.handed)
   pub stolen : new.stolen ≡ counted_to (old.stolen + a.stolen)
-  -- the number of operations fits
+  -- The number of operations fits
   pub fits : new.ops < 2 ^ 64

@@ -1,5 +1,5 @@
--- What settings are by the words that ask for them: each one is what the value of its word says, or its default where no word
--- has its name.
+-- What settings are by the words that ask for them. Each one is what the value of its word says, or its default if no
+-- word has its name
 use Rattle.std.specs.Prelude.{◌≡◌, ℕ, ◌≤◌, ◌⊎◌, true, false, All, Contains, List, ◌∷◌, ◌++◌, count_by, Option, Some, None}
 use Rattle.morph_base.specs.declared.strategy.Strategy.{Strategy}
 use Rattle.morph_base.specs.declared.strategy.Unit.TheVariants.{Op}
@@ -15,40 +15,41 @@ use Rattle.run_text.specs.declared.names.Name.{Name}
 use Rattle.run_text.specs.declared.names.Name.TheVariants.{App as AppName, Own, Workers, Size, Unit as UnitName, Explore as ExploreName, Abort as AbortName, Plan as PlanName, Seed, Events, Notes, Ahead, Watch, Check as CheckName}
 use Rattle.run_text.specs.Settings.{text_of, has_name, app_in, switch_in, unit_in, explore_in, abort_in, auto_in, check_in, number_in, worker_counts, sizes, seeds, event_counts, ahead_counts}
 
--- the word that gives a value under a name: `name=value`
+-- The word that gives a value under a name: `name=value`
 abbrev pub word_of : Name → (value : List ℕ) → List ℕ
 word_of name value = text_of name ++ 61 ∷ value
 
--- one of the words gives a value under the name, which says this
-abbrev pub Says : {A : Type 0} → List (List ℕ) → Name → (meaning : List ℕ → Option A) → A → Type 0
-Says words name meaning x = (value : List ℕ) × Contains words (word_of name value) × (meaning value ≡ Some x)
+-- One of the words gives a value under the name, and that value says x
+abbrev pub SaysValue : {A : Type 0} → List (List ℕ) → Name → (meaning : List ℕ → Option A) → A → Type 0
+SaysValue words name meaning x = (value : List ℕ) × Contains words (word_of name value) × (meaning value ≡ Some x)
 
--- no word has the name
+-- No word has the name
 abbrev pub IsMissing : List (List ℕ) → Name → Type 0
 IsMissing words name = All (λ word. has_name name word ≡ false) words
 
--- a setting is what its word says, or its default where no word has its name
+-- The setting x is what the word with its name says, or the default if no word has the name
 abbrev pub IsSaid : {A : Type 0} → List (List ℕ) → Name → (meaning : List ℕ → Option A) → (default x : A) → Type 0
-IsSaid words name meaning default x = Says words name meaning x ⊎ (IsMissing words name × (x ≡ default))
+IsSaid words name meaning default x = SaysValue words name meaning x ⊎ (IsMissing words name × (x ≡ default))
 
--- the input is read, for the application that `app` says
+-- The input is read, for the application that `app` says
 pub record IsRead (words : List (List ℕ)) (app : App) (generated : Option Generated) : Type 0 where
-  pub app_is : Says words AppName app_in app
+  pub app_is : SaysValue words AppName app_in app
   pub none : generated ≡ None
   pub not_made : IsMissing words Own
   pub no_seed : IsMissing words Seed
   pub no_events : IsMissing words Events
 
--- the program makes the input, for the application that `self` says
-pub record IsMade (words : List (List ℕ)) (app : App) (generated : Option Generated) : Type 0 where
-  pub app_is : Says words Own app_in app
+-- The program makes the input, for the application that `self` says, with the seed and the number of events that are
+-- said
+pub record IsInputMade (words : List (List ℕ)) (app : App) (generated : Option Generated) : Type 0 where
+  pub app_is : SaysValue words Own app_in app
   pub not_read : IsMissing words AppName
   pub made : Generated
   pub some : generated ≡ Some made
   pub seed : IsSaid words Seed (number_in seeds) 1 made.seed
   pub events : IsSaid words Events (number_in event_counts) 1000 made.events
 
--- one strategy is given for all batches
+-- One strategy is given for all batches, each part of it said or its default
 pub record IsFixed (words : List (List ℕ)) (planning : Planning) : Type 0 where
   pub strategy : Strategy
   pub fixed : planning ≡ Fixed strategy
@@ -57,19 +58,20 @@ pub record IsFixed (words : List (List ℕ)) (planning : Planning) : Type 0 wher
   pub explore : IsSaid words ExploreName explore_in Strata strategy.explore
   pub abort : IsSaid words AbortName abort_in Lazy strategy.abort
 
--- the program chooses the strategies, and no part of one is given
+-- The program chooses the strategies, and no part of one is given
 pub record IsChosen (words : List (List ℕ)) (planning : Planning) : Type 0 where
   pub auto : planning ≡ Auto
-  pub plan : Says words PlanName auto_in true
+  pub plan : SaysValue words PlanName auto_in true
   pub no_unit : IsMissing words UnitName
   pub no_explore : IsMissing words ExploreName
   pub no_abort : IsMissing words AbortName
 
--- settings are what the words say, of which each has one of the names, and no two the same
+-- The settings are what the words say: each word is `name=value` with one of the names, no two words have the same
+-- name, and each setting is what its word says, or its default
 pub record AreSaid (words : List (List ℕ)) (s : Settings) : Type 0 where
   pub known : All (λ word. (name : Name) × (value : List ℕ) × (word ≡ word_of name value)) words
   pub once : (name : Name) → count_by (has_name name) words ≤ 1
-  pub input : IsRead words s.app s.generated ⊎ IsMade words s.app s.generated
+  pub input : IsRead words s.app s.generated ⊎ IsInputMade words s.app s.generated
   pub planning : IsFixed words s.planning ⊎ IsChosen words s.planning
   pub workers : IsSaid words Workers (number_in worker_counts) 1 s.workers
   pub size : IsSaid words Size (number_in sizes) 10000 s.size

@@ -22,8 +22,8 @@ pub fn is_cut(plan: &Plan, journal: &[CoreEvent]) -> bool
     journal.len() == 32 * plan.ops.len() + 64
 }
 
-/// Writes to the notes what came of the journal of a batch, where journals are checked: its lines, where they are asked
-/// for, and behind them whether it is right or cut off. They are written whether the notes are on or off.
+/// Writes the outcome of a batch's journal to the notes, if journals are checked: its lines, if they are asked for, and
+/// then whether it is right or cut off. They are written whether the notes are on or off.
 pub fn note_check<N: Sink>(
     out: &mut Out,
     notes: &mut N,
@@ -50,7 +50,7 @@ pub fn note_check<N: Sink>(
     write_check(out, notes, check, number, plan, journal)
 }
 
-/// Writes the lines of a journal, where they are asked for, and its own line.
+/// Writes the lines of a journal, if they are asked for, and its own line.
 fn write_check<N: Sink>(
     out: &mut Out,
     notes: &mut N,
@@ -76,7 +76,7 @@ fn write_check<N: Sink>(
     write_all(notes, line.bytes())
 }
 
-/// Writes the lines of a journal, where they are asked for.
+/// Writes the lines of a journal, if they are asked for.
 fn write_steps<N: Sink>(
     out: &mut Out,
     notes: &mut N,

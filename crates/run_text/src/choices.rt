@@ -19,7 +19,7 @@ pub enum App {
 /// An input that the program makes itself.
 #[derive(Clone, Copy, Debug, PartialEq, Eq)]
 pub struct Generated {
-    /// Where the generator begins: 0 to 10^12.
+    /// The start of the generator: 0 to 10^12.
     pub seed: u64,
     /// How many events it makes: 0 to 1,000,000.
     pub events: u64,
@@ -30,7 +30,7 @@ pub struct Generated {
 pub enum Planning {
     /// It is this one for each batch.
     Fixed(Strategy),
-    /// The program chooses one for each batch, from counts of its plan and from what came of the batch before.
+    /// The program chooses one for each batch, from counts of its plan and from the outcome of the batch before.
     Auto,
 }
 
@@ -39,9 +39,9 @@ pub enum Planning {
 pub enum Check {
     /// None is kept.
     Off,
-    /// It is kept and checked, and the notes say what came of it.
+    /// It is kept and checked, and the notes say with what outcome.
     On,
-    /// The same, and the notes have the journal too.
+    /// It is kept and checked, and the notes have the journal too.
     Text,
 }
 
@@ -68,23 +68,23 @@ pub struct Settings {
     pub size: u32,
     /// How each batch is scheduled: by which unit, how it is explored, and how it deals with failures.
     pub planning: Planning,
-    /// Whether the notes tell of each batch, and at the end the tally.
+    /// Whether the notes have a line for each batch, and the tally at the end.
     pub notes: bool,
-    /// The input where the program makes it itself; none where it reads one.
+    /// The input if the program makes it itself; none if it reads one.
     pub generated: Option<Generated>,
     /// How many batches are read and planned while one is run: 0 to 2. With 0 a batch is read when the one before was
     /// run and written.
     pub ahead: u32,
-    /// Whether a viewer looks at the balances beside each batch, and the notes get an audit line of what it saw. It
-    /// does not where batches are read ahead.
+    /// Whether a viewer looks at the balances beside each batch, and the notes get an audit line of what it saw. There
+    /// is none if batches are read ahead.
     pub watch: bool,
-    /// What is done with the journals of batches. None is kept where batches are read ahead or watched, where there
-    /// are several workers, with eager abort, and where the program chooses the strategies.
+    /// What is done with the journals of batches. None is kept if batches are read ahead or watched, if there are
+    /// several workers, with eager abort, or if the program chooses the strategies.
     pub check: Check,
 }
 
 impl Settings {
-    /// What a run tells: a summary where the program makes the input itself.
+    /// What a run reports: a summary if the program makes the input itself.
     pub fn report(&self) -> Report
         ensures { result ≡ report_of self.now }
     {
@@ -95,19 +95,19 @@ impl Settings {
     }
 }
 
-/// The number of workers where the words say none.
+/// The number of workers if the words say none.
 pub const DEFAULT_WORKERS: u64 = 1;
 
-/// The number of ids in each table where the words say none.
+/// The number of ids in each table if the words say none.
 pub const DEFAULT_SIZE: u64 = 10_000;
 
-/// Where the generator begins, where the words say nothing of it.
+/// The start of the generator if the words say none.
 pub const DEFAULT_SEED: u64 = 1;
 
-/// How many events the generator makes, where the words say nothing of it.
+/// How many events the generator makes if the words say nothing of it.
 pub const DEFAULT_EVENTS: u64 = 1_000;
 
-/// How many batches are read and planned ahead where the words say nothing of it.
+/// How many batches are read and planned ahead if the words say nothing of it.
 pub const DEFAULT_AHEAD: u64 = 0;
 
 /// The most batches that are read and planned ahead.

@@ -1,11 +1,10 @@
 //! What the words of the program ask for, and what a run writes: the lines of events, of values and of counts, the
-//! notes, and the tally that they tell.
+//! notes, and the tally in them.
 //!
-//! It stands on `event_reader` for numbers and names of tables, on `morph_engine` for the batches that were run, with
-//! `op_eval` for what they left, on `version_table` for their values, on `run_checker` for the lines of journals and on
-//! `morph_io` for what is written.
-//! [`settings()`] reads the words, and [`own_settings`] those of a program of one application; the writing functions take a sink that bytes go to, and their contracts say which
-//! bytes these are.
+//! It uses `event_reader` for numbers and names of tables, `morph_engine` for the batches that were run, `op_eval` for
+//! what they left, `version_table` for their values, `run_checker` for the lines of journals and `morph_io` for what is
+//! written. [`settings()`] reads the words, and [`own_settings`] those of a program of one application. The writing
+//! functions take a sink that bytes go to, and their contracts say which bytes these are.
 #![tactic(auto)]
 
 mod checks;

@@ -20,7 +20,7 @@ pub enum Name {
     Abort,
     /// Whether the program chooses these three itself.
     Plan,
-    /// Where the generator begins.
+    /// The start of the generator.
     Seed,
     /// How many events it makes.
     Events,
@@ -30,7 +30,7 @@ pub enum Name {
     Ahead,
     /// Whether a viewer looks at the balances beside each batch.
     Watch,
-    /// Whether a journal of each batch is kept and checked, and told.
+    /// Whether a journal of each batch is kept, checked and written.
     Check,
 }
 
@@ -53,7 +53,7 @@ pub const NAMES: [Name; 14] = [
 ];
 
 impl Name {
-    /// The name as it stands at the front of a word, with its `=`.
+    /// The name as it is written at the front of a word, with its `=`.
     pub fn text(self) -> &'static [u8]
         ensures { result.now ≡ text_of self ++ 61 ∷ [] }
     {

@@ -11,7 +11,7 @@ use crate::text::put_numbers;
 use morph_base::{Abort, Explore, Plan, Strategy, Unit};
 use morph_io::{LineBuf, Sink, WriteFailed, write_all};
 
-/// Writes the line of a batch to the notes, where they are on.
+/// Writes the line of a batch to the notes, if they are on.
 pub fn note_batch<N: Sink>(
     notes: &mut N,
     on: bool,
@@ -49,8 +49,8 @@ pub fn note_audit<N: Sink>(notes: &mut N, number: u64, total: u64) -> Result<(),
     write_all(notes, seen.bytes())
 }
 
-/// Writes the lines of the tally to the notes, where they are on: of what was settled by the plain finish and by each
-/// of so many workers.
+/// Writes the lines of the tally to the notes, if they are on: the tally, and what the plain finish and each of the
+/// workers settled.
 pub fn note_tally<N: Sink>(
     notes: &mut N,
     on: bool,
@@ -193,7 +193,7 @@ fn tally_line(tally: &Tally) -> LineBuf
     line
 }
 
-/// The line of what was settled by the plain finish and by each of so many workers.
+/// The line of what the plain finish and each of the workers settled.
 #[tactic(auto, unfolding(crate::specs::Notes::settled_note))]
 fn settled_line(workers: u32, tally: &Tally) -> LineBuf
     requires few { workers ≤ WORKERS }

@@ -1,4 +1,4 @@
-/// What a run tells.
+/// What a run reports.
 #[derive(Clone, Copy, Debug, PartialEq, Eq)]
 pub enum Report {
     /// The line of each event, and at the end the values that are not 0.

@@ -3,7 +3,7 @@ ghost use Rattle.morph_base.specs.Limits.{most_workers};
 ghost use Rattle.morph_base.specs.Plans.{IsPlan, IsSettledOf};
 ghost use Rattle.morph_engine.specs.Accounts.{account_of, settled_by};
 ghost use Rattle.morph_engine.specs.Fates.{settled_fates};
-ghost use Rattle.run_text.specs.Counts.{no_tally, counted_to, HasRoom, Adds};
+ghost use Rattle.run_text.specs.Counts.{no_tally, counted_to, HasRoom, CountsBatch};
 
 use morph_base::List;
 use morph_engine::BatchEnd;
@@ -24,9 +24,10 @@ pub struct Tally {
     pub ops: u64,
     /// How often an operation was evaluated.
     pub evaluated: u64,
-    /// How often an operation heard of a failure of its event while it was explored: 0 with lazy abort.
+    /// How many operations were told, while batches were explored, that another operation of their event had failed: 0
+    /// with lazy abort.
     pub spread: u64,
-    /// How many operations were rolled back, since a source came to another value than they had read.
+    /// How many operations were rolled back because a source had got another value than they had read.
     pub rolled: u64,
     /// How many operations were settled by the plain finish, at 0, and by each worker, at its number from 1 on.
     pub settled_by: [u64; 17],
@@ -39,7 +40,7 @@ pub struct Tally {
 }
 
 impl Tally {
-    /// That of a run of no batch.
+    /// The tally of a run of no batch.
     pub fn new() -> Self
         ensures { result ≡ no_tally }
     {
@@ -64,7 +65,7 @@ impl Tally {
         requires plan { IsPlan end.now.plan }
         requires settled { IsSettledOf end.now.plan end.now.settled }
         requires room { HasRoom self.old (account_of end.now) }
-        ensures { Adds self.old self.new (account_of end.now)
+        ensures { CountsBatch self.old self.new (account_of end.now)
             (settled_fates end.now.plan end.now.settled) }
     {
         let events = end.plan.events.len();
@@ -105,7 +106,7 @@ fn count_each(workers: &[u8], counts: &mut [u64])
     }
 }
 
-/// How many causes some lists have, or the greatest number where there are more.
+/// How many causes some lists have, or the greatest number if there are more.
 fn causes(lists: &[List<Left>]) -> u64
     ensures { result ≡ counted_to (sum_by (λ list. length list.items) lists.now) }
 {

@@ -9,7 +9,7 @@ use morph_base::{Plan, Settled};
 use morph_io::LineBuf;
 
 /// Puts the line of event `i` of a plan, without its LF, into an empty line: `ts C v1 v2 ..` with the values of its
-/// targets after it where it commits, `ts A` where it aborts.
+/// targets after it if it commits, `ts A` if it aborts.
 pub fn event_line(plan: &Plan, settled: &Settled, i: u32, line: &mut LineBuf)
     requires plan { IsPlan plan.now }
     requires settled { IsSettledOf plan.now settled.now }

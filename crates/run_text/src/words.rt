@@ -7,7 +7,7 @@ ghost use Rattle.run_text.specs.Settings.{app_in, app_under, number_in, number_u
 ghost use Rattle.run_text.specs.Settings.{unit_in, unit_under, explore_in, explore_under, abort_in, abort_under};
 ghost use Rattle.run_text.specs.Settings.{auto_in, auto_under, strategy_of, planning_of, input_of};
 ghost use Rattle.run_text.specs.Settings.{read_input, made_input, is_alone};
-ghost use Rattle.run_text.specs.Settings.{AreFew, AreInRange, settings_of};
+ghost use Rattle.run_text.specs.Settings.{AreFewEvents, AreInRange, settings_of};
 ghost use Rattle.run_text.specs.Settings.{given_with, is_input_given, settings_of_own};
 ghost use Rattle.run_text.specs.NoSettings.{NoSettings};
 
@@ -136,7 +136,7 @@ fn app_of(value: &[u8]) -> Option<App>
     }
 }
 
-/// The application that is given under a name; the inner answer is none where the name is not given.
+/// The application that is given under a name. The inner answer is none if the name is not given.
 fn app_under(words: &[List<u8>], name: Name) -> Option<Option<App>>
     ensures { result ≡ app_under name (map (λ word. word.items) words.now) }
 {
@@ -146,7 +146,7 @@ fn app_under(words: &[List<u8>], name: Name) -> Option<Option<App>>
     }
 }
 
-/// The number that a value says, where it is in the range.
+/// The number that a value says, if it is in the range.
 fn number_in(value: &[u8], range: Range) -> Option<u64>
     requires { range.greatest ≤ GREATEST_NUMBER }
     ensures says { result ≡ number_in range value.now }
@@ -158,7 +158,7 @@ fn number_in(value: &[u8], range: Range) -> Option<u64>
     }
 }
 
-/// The number that is given under a name, or the other one where the name is not given.
+/// The number that is given under a name, or the other one if the name is not given.
 fn number_under(words: &[List<u8>], name: Name, range: Range, other: u64) -> Option<u64>
     requires range { range.greatest ≤ GREATEST_NUMBER }
     requires other { (range.least ≤ other) × (other ≤ range.greatest) }
@@ -184,7 +184,7 @@ fn switch_of(value: &[u8]) -> Option<bool>
     }
 }
 
-/// What is switched under a name; off where the name is not given.
+/// What is switched under a name; off if the name is not given.
 fn switch_under(words: &[List<u8>], name: Name) -> Option<bool>
     ensures { result ≡ switch_under name (map (λ word. word.items) words.now) }
 {
@@ -207,7 +207,7 @@ fn unit_of(value: &[u8]) -> Option<Unit>
     }
 }
 
-/// The unit that is given under a name; one operation where the name is not given.
+/// The unit that is given under a name; one operation if the name is not given.
 fn unit_under(words: &[List<u8>], name: Name) -> Option<Unit>
     ensures { result ≡ unit_under name (map (λ word. word.items) words.now) }
 {
@@ -230,7 +230,7 @@ fn explore_of(value: &[u8]) -> Option<Explore>
     }
 }
 
-/// The way to explore that is given under a name; by strata where the name is not given.
+/// The way to explore that is given under a name; by strata if the name is not given.
 fn explore_under(words: &[List<u8>], name: Name) -> Option<Explore>
     ensures { result ≡ explore_under name (map (λ word. word.items) words.now) }
 {
@@ -253,7 +253,7 @@ fn abort_of(value: &[u8]) -> Option<Abort>
     }
 }
 
-/// The way to deal with failures that is given under a name; late where the name is not given.
+/// The way to deal with failures that is given under a name; late if the name is not given.
 fn abort_under(words: &[List<u8>], name: Name) -> Option<Abort>
     ensures { result ≡ abort_under name (map (λ word. word.items) words.now) }
 {
@@ -276,7 +276,7 @@ fn is_auto(value: &[u8]) -> Option<bool>
     }
 }
 
-/// Whether a name says that the program chooses; it does not where the name is not given.
+/// Whether a name says that the program chooses; it does not if the name is not given.
 fn auto_under(words: &[List<u8>], name: Name) -> Option<bool>
     ensures { result ≡ auto_under name (map (λ word. word.items) words.now) }
 {
@@ -300,7 +300,7 @@ fn strategy_of(words: &[List<u8>]) -> Option<Strategy>
     })
 }
 
-/// How the strategy of each batch is found. Where the program chooses, the words give nothing of it.
+/// How the strategy of each batch is found. If the program chooses, the words give no part of a strategy.
 fn planning_of(words: &[List<u8>]) -> Option<Planning>
     ensures { result ≡ planning_of (map (λ word. word.items) words.now) }
 {
@@ -323,11 +323,11 @@ struct Input {
     generated: Option<Generated>,
 }
 
-/// The application and the input: exactly one of `app` and `self` is given, and a seed and a number of events with
-/// `self` alone.
+/// The application and the input: exactly one of `app` and `self` is given, and a seed and a number of events only with
+/// `self`.
 fn input_of(words: &[List<u8>]) -> Option<Input>
     ensures says { result ≡ input_of (map (λ word. word.items) words.now) }
-    ensures fits { IfSome result (λ input. AreFew input.generated) }
+    ensures fits { IfSome result (λ input. AreFewEvents input.generated) }
 {
     match (app_under(words, Name::App)?, app_under(words, Name::Own)?) {
         (Some(app), None) => read_input(words, app),
@@ -339,7 +339,7 @@ fn input_of(words: &[List<u8>]) -> Option<Input>
 /// An input that is read: no seed and no number of events is given.
 fn read_input(words: &[List<u8>], app: App) -> Option<Input>
     ensures says { result ≡ read_input app (map (λ word. word.items) words.now) }
-    ensures fits { IfSome result (λ input. AreFew input.generated) }
+    ensures fits { IfSome result (λ input. AreFewEvents input.generated) }
 {
     if is_given(words, Name::Seed) || is_given(words, Name::Events) {
         return None;
@@ -353,7 +353,7 @@ fn read_input(words: &[List<u8>], app: App) -> Option<Input>
 /// An input that the program makes.
 fn made_input(words: &[List<u8>], app: App) -> Option<Input>
     ensures says { result ≡ made_input app (map (λ word. word.items) words.now) }
-    ensures fits { IfSome result (λ input. AreFew input.generated) }
+    ensures fits { IfSome result (λ input. AreFewEvents input.generated) }
 {
     let seed = number_under(words, Name::Seed, SEEDS, DEFAULT_SEED)?;
     let events = number_under(words, Name::Events, EVENTS, DEFAULT_EVENTS)?;
@@ -378,7 +378,7 @@ fn check_of(value: &[u8]) -> Option<Check>
     }
 }
 
-/// What is done with journals, as it is given under a name; none is kept where the name is not given.
+/// What is done with journals, as it is given under a name; none is kept if the name is not given.
 fn check_under(words: &[List<u8>], name: Name) -> Option<Check>
     ensures { result ≡ check_under name (map (λ word. word.items) words.now) }
 {
@@ -406,16 +406,16 @@ fn is_lazy(planning: Planning) -> bool
     }
 }
 
-/// Whether runs can be checked where that is asked for: by one worker, with lazy abort.
+/// Whether runs can be checked if that is asked for: by one worker, with lazy abort.
 fn can_check(check: Check, workers: u64, planning: Planning) -> bool
     ensures { result ≡ can_check check workers planning }
 {
     !check.is_on() || (workers == 1 && is_lazy(planning))
 }
 
-/// What the words ask for besides an application and its input, with these.
+/// The settings that the words ask for with this input.
 fn settings_with(words: &[List<u8>], input: Input) -> Option<Settings>
-    requires { AreFew input.generated }
+    requires { AreFewEvents input.generated }
     ensures asked { result ≡ given_with (Some input) (map (λ word. word.items) words.now) }
     ensures fits { IfSome result AreInRange }
     ensures input { IfSome result (λ s. s.generated ≡ input.generated) }
@@ -443,13 +443,13 @@ fn settings_with(words: &[List<u8>], input: Input) -> Option<Settings>
     })
 }
 
-/// The settings that the words ask for, or `None` where they ask for none.
+/// The settings that the words ask for, or `None` if they ask for none.
 ///
-/// They ask for none where a word is not `name=value` with one of the names, a name is given twice, a value is not
-/// one of its name's, not exactly one of `app` and `self` is given, `seed` or `events` is given without `self`,
-/// `unit`, `explore` or `abort` is given with `plan=auto`, more than one is asked for of batches that are read ahead,
-/// watched balances and checked journals, or journals are to be checked with several workers, eager abort or
-/// `plan=auto`.
+/// They ask for none if a word is not `name=value` with one of the names, a name is given twice, a value is not one of
+/// its name's, not exactly one of `app` and `self` is given, `seed` or `events` is given without `self`, or `unit`,
+/// `explore` or `abort` is given with `plan=auto`. They also ask for none if more than one is asked for of batches that
+/// are read ahead, watched balances and checked journals, or if journals are to be checked with several workers, eager
+/// abort or `plan=auto`.
 pub fn settings(words: &[List<u8>]) -> Option<Settings>
     ensures asked { result ≡ settings_of (map (λ word. word.items) words.now) }
     ensures none { (result ≡ None → NoSettings (map (λ word. word.items) words.now))
@@ -472,7 +472,7 @@ fn is_input_given(words: &[List<u8>]) -> bool
         || is_given(words, Name::Events)
 }
 
-/// The settings that the words ask for in a program of one application, which reads its input, or `None` where they ask
+/// The settings that the words ask for in a program of one application, which reads its input, or `None` if they ask
 /// for none.
 ///
 /// They are those of [`settings`] without the names `app`, `self`, `seed` and `events`. The field `app` says nothing.

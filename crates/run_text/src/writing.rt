@@ -18,7 +18,7 @@ use morph_engine::BatchEnd;
 use morph_io::{LineBuf, Out, Sink, WriteFailed};
 use version_table::State;
 
-/// Writes what is told of the events of a batch that was run, whole: their lines, and in a summary nothing.
+/// Writes what is reported of the events of a batch that was run: their lines, or nothing in a summary.
 pub fn write_events<K: Sink>(
     out: &mut Out,
     sink: &mut K,
@@ -61,7 +61,7 @@ fn write_lines<K: Sink>(out: &mut Out, sink: &mut K, end: &BatchEnd) -> Result<(
     out.flush(sink)
 }
 
-/// Writes the closing text: what is told of the values, and the counts.
+/// Writes the closing text: what is reported of the values, and the counts.
 pub fn write_closing<A: EventApp, K: Sink>(
     out: &mut Out,
     sink: &mut K,
@@ -232,7 +232,7 @@ fn put_values<A: EventApp, K: Sink>(
     Ok(())
 }
 
-/// Puts what is told of the values.
+/// Puts what is reported of the values.
 fn put_told_values<A: EventApp, K: Sink>(
     out: &mut Out,
     sink: &mut K,

@@ -1,18 +1,19 @@
--- What contracts see of a viewer.
+-- What contracts see of a viewer
 use Rattle.std.specs.Prelude.{ℕ, ◌≡◌, Bool, List, []}
 use Rattle.morph_base.specs.declared.key.Layout.{Layout}
 use Rattle.morph_base.specs.declared.plan.Plan.{Plan}
 use Rattle.snapshot_reader.specs.Batches.{StartsWith}
 
--- the most viewers of one publisher, and the most ids of a table whose sum they tell
+-- 4, the most viewers of one publisher
 abbrev pub most_viewers : ℕ
 most_viewers = 4
 
+-- 1,000,000, the most ids of a table whose sum a viewer returns
 abbrev pub most_ids : ℕ
 most_ids = 1000000
 
--- whether it has a reader, the greatest number of batches that it saw or was told of, and the batches that it has seen and was
--- told of since it was told last
+-- What contracts see of a viewer: the layout, whether it has a reader, the greatest number of batches that it ever saw
+-- or was told of, and the batches that it has seen and was told of since the publisher last told it
 pub record Known : Type 0 where
   pub layout : Layout
   pub sees : Bool
@@ -20,14 +21,14 @@ pub record Known : Type 0 where
   pub seen : List Plan
   pub told : List Plan
 
--- it has seen nothing and was told of nothing
+-- The viewer has seen nothing and was told of nothing
 pub record IsNew (layout : Layout) (v : Known) : Type 0 where
   pub layout_is : v.layout ≡ layout
   pub least : v.least ≡ 0
   pub unseen : v.seen ≡ []
   pub untold : v.told ≡ []
 
--- a later look: it has seen all that it had seen and was told of
+-- From v to w the viewer looked again: what it has seen begins with all that it had seen and was told of
 pub record LooksOn (v w : Known) : Type 0 where
   pub saw : StartsWith w.seen v.seen
   pub told : StartsWith w.seen v.told

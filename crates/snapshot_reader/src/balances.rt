@@ -9,8 +9,8 @@ use morph_base::{Key, Layout, OutOfMemory};
 use std::alloc::{AllocError, Global};
 use std::snapshot::Snapshot;
 
-/// The values of a layout's keys, table after table, and how many batches they come after. It stands twice: one that is
-/// read, and one that is written.
+/// The values of a layout's keys, table after table, and how many batches they come after. There are two copies: one
+/// that is read, and one that is written.
 #[derive(Drop)]
 pub struct Balances {
     pub layout: Layout,

@@ -21,7 +21,7 @@ pub struct Change {
     pub plan: Snapshot<Plan>,
 }
 
-/// What the two copies of the balances have in common. It stands in proofs alone: no value of it is made.
+/// What the two copies of the balances have in common. It exists in proofs only: no value of it is made.
 pub struct Shown {
     pub layout: Layout,
     pub number: u64,

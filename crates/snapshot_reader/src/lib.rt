@@ -1,9 +1,9 @@
 //! Readers of balances: they see the state after a whole number of batches, while the next batch runs.
 //!
-//! [`snapshots`] makes a [`Publisher`] and up to four [`Viewer`]s of it. After each batch the publisher makes the values
-//! that the batch settled visible, all of them at one step ([`Publisher::publish`]), and a viewer tells the value of a
-//! key ([`Viewer::value`]) or the sum of a table ([`Viewer::total`]) with the number of batches that it comes after. A
-//! viewer never sees a part of a batch, and never fewer batches than it saw before or was told of
+//! [`snapshots`] makes a [`Publisher`] and up to four [`Viewer`]s of it. After each batch the publisher makes the
+//! values that the batch settled visible, all of them at one step ([`Publisher::publish`]). A viewer returns the value
+//! of a key ([`Viewer::value`]) or the sum of a table ([`Viewer::total`]) with the number of batches that it comes
+//! after. A viewer never sees a part of a batch, and never fewer batches than it saw before or was told of
 //! ([`Publisher::tell`]):
 //!
 //! ```text
@@ -14,10 +14,10 @@
 //! publisher.end(rt);
 //! ```
 //!
-//! The balances stand twice, in the kit's `left_right`: viewers read the one while the publisher writes the other, so
-//! that a look never waits, and publishing waits only for a viewer that is reading. `specs/Keeping` has the rule over
-//! both copies: they are the state after some list of batches, which begins with what each viewer has seen and was told
-//! of. Below stand `morph_base` and `version_table`, whose sum of a table is cited.
+//! The balances are kept twice, in the kit's `left_right`: viewers read one copy while the publisher writes the other,
+//! so that a look never waits, and publishing waits only for a viewer that is reading. `specs/Keeping` has the rule
+//! over both copies: they are the state after some list of batches, which begins with what each viewer has seen and was
+//! told of. The crate uses `morph_base`, and `version_table`, whose sum of a table it cites.
 #![tactic(auto)]
 
 mod balances;

@@ -1,7 +1,7 @@
 ghost use Rattle.std.specs.Prelude.{◌≡◌, ◌*◌, ◌<◌, ◌≤◌, [], length, replicate, drop, IfOk, All};
 ghost use Rattle.left_right.specs.Sides.{view};
 ghost use Rattle.snapshot_reader.specs.Known.{IsNew, most_ids, most_viewers};
-ghost use Rattle.snapshot_reader.specs.Steady.{IsSteady};
+ghost use Rattle.snapshot_reader.specs.Steady.{NoChangeWaits};
 
 use crate::balances::Balances;
 use crate::publisher::Publisher;
@@ -14,11 +14,11 @@ use std::alloc::Global;
 /// The most viewers of one publisher.
 pub const MOST_VIEWERS: u32 = 4;
 
-/// The writer of balances that are all 0, with room for so many readers.
+/// The writer of balances that are all 0, with room for `readers` readers.
 fn writer(alloc: Global, layout: Layout, readers: usize) -> Result<BalanceWriter, OutOfMemory>
     requires some { 0 < readers }
     requires few { readers ≤ 5 }
-    ensures steady { IfOk result (λ w. IsSteady w.desk.shown.value (view w.desk.place).seen
+    ensures steady { IfOk result (λ w. NoChangeWaits w.desk.shown.value (view w.desk.place).seen
         (drop w.behind w.log.items)) }
     ensures layout { IfOk result (λ w. w.desk.shown.value.layout ≡ layout) }
     ensures unseen { IfOk result (λ w. (view w.desk.place).seen ≡ []) }
@@ -40,10 +40,10 @@ fn viewer(writer: &BalanceWriter, layout: Layout) -> Viewer
     }
 }
 
-/// A publisher that has published nothing, and so many viewers of it, at most [`MOST_VIEWERS`]. The balances are those
-/// of the layout, whose tables have at most 1,000,000 ids each, and are all 0.
+/// A publisher that has published nothing, and `viewers` viewers of it, at most [`MOST_VIEWERS`]. The balances are
+/// those of the layout, whose tables have at most 1,000,000 ids each, and are all 0.
 ///
-/// A viewer that `left_right` hands out no reader for sees nothing; that is no want of memory.
+/// If `left_right` hands out no reader for a viewer, that viewer sees nothing; this is not a lack of memory.
 pub fn snapshots(
     alloc: Global,
     layout: Layout,
@@ -63,7 +63,7 @@ pub fn snapshots(
     Ok((Publisher { writer }, list))
 }
 
-/// Adds so many viewers.
+/// Adds `viewers` viewers.
 fn fill(list: &mut List<Viewer>, writer: &BalanceWriter, layout: Layout, viewers: u32)
     requires size { layout.size ≤ most_ids }
     requires room { list.old.room ≡ viewers }

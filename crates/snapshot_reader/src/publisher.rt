@@ -17,7 +17,7 @@ pub struct Publisher {
 impl Model for Publisher {
     ghost use Rattle.std.specs.Prelude.{drop};
     ghost use Rattle.left_right.specs.Sides.{view as sight};
-    ghost use Rattle.snapshot_reader.specs.Steady.{Posted, IsSteady};
+    ghost use Rattle.snapshot_reader.specs.Steady.{Posted, NoChangeWaits};
 
     ghost Value = { Posted };
 
@@ -26,7 +26,7 @@ impl Model for Publisher {
       plans = (sight p.writer.desk.place).seen;
     } };
 
-    ghost invariant = { λ p. IsSteady p.writer.desk.shown.value (sight p.writer.desk.place).seen
+    ghost invariant = { λ p. NoChangeWaits p.writer.desk.shown.value (sight p.writer.desk.place).seen
         (drop p.writer.behind p.writer.log.items) };
 }
 
@@ -36,9 +36,9 @@ impl Publisher {
     ghost use Rattle.snapshot_reader.specs.Batches.{after_plans};
 
     /// Publishes the settled batch that follows the last one published: all that it changed becomes visible at one
-    /// step. Answers the number of batches that were published, which is one greater.
+    /// step. Returns the number of batches that were published, which is one greater.
     ///
-    /// It may wait for a viewer that is reading. Where memory is refused nothing was published, and the publisher may go
+    /// It may wait for a viewer that is reading. If memory is refused, nothing was published, and the publisher may go
     /// on.
     pub fn publish<R: Wait>(
         &mut self,
@@ -72,10 +72,11 @@ impl Publisher {
 
     /// Tells a viewer of all that was published: it sees no fewer batches from now on.
     ///
-    /// The viewer is given a fresh reader, since no call of `left_right` says that a reader which has looked is still one
-    /// of this writer's. If `left_right` hands out none, the viewer sees nothing from now on. A viewer without a reader stays
-    /// as it is. A viewer that another call of [`snapshots`](crate::snapshots) made is moved to the balances of this
-    /// publisher if it saw no more batches than were published here, and else sees nothing from now on.
+    /// The viewer is given a fresh reader, since no call of `left_right` says that a reader which has looked is still
+    /// one of this writer's. If `left_right` hands out none, the viewer sees nothing from now on. A viewer without a
+    /// reader stays as it is. A viewer that another call of [`snapshots`](crate::snapshots) made is moved to the
+    /// balances of this publisher if it saw no more batches than were published here, and else sees nothing from now
+    /// on.
     pub fn tell(&mut self, viewer: &mut Viewer)
         ensures told { viewer.new.sees ≡ true → viewer.new.told ≡ self.old.plans }
         ensures least { viewer.new.sees ≡ true → viewer.new.least ≡ length self.old.plans }
@@ -87,7 +88,7 @@ impl Publisher {
         if viewer.reader.is_none() {
             return;
         }
-        // Its place is free for the fresh one then.
+        // That frees its place for the fresh one.
         viewer.reader = None;
         let number = self.number();
         if number < viewer.least {

@@ -1,5 +1,5 @@
-//! The rule over the balances that several threads share, and what each step tells its thread.
-ghost use Rattle.snapshot_reader.specs.Keeping.{Keeps, Sees, Publishes, newcomer, informed};
+//! The rule over the balances that several threads share, and what each step shows its thread.
+ghost use Rattle.snapshot_reader.specs.Keeping.{KeepsViews, Sees, Publishes, newcomer, informed};
 
 use crate::balances::Balances;
 use crate::change::Change;
@@ -13,7 +13,7 @@ use left_right::writer::Writer;
 pub struct WholeBatches;
 
 impl Protocol<Balances, View> for WholeBatches {
-    ghost holds = { Keeps };
+    ghost holds = { KeepsViews };
 
     ghost first = { newcomer };
 }

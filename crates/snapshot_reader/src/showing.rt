@@ -1,6 +1,6 @@
 ghost use Rattle.std.specs.Prelude.{◌≡◌, ◌++◌, [], ◌∷◌, drop, OnOk, OnErr};
 ghost use Rattle.left_right.specs.Sides.{view};
-ghost use Rattle.snapshot_reader.specs.Steady.{IsDue, IsSteady, batches_in};
+ghost use Rattle.snapshot_reader.specs.Steady.{OneChangeWaits, NoChangeWaits, batches_in};
 
 use crate::change::Change;
 use crate::rule::{BalanceWriter, Publishing};
@@ -9,7 +9,7 @@ use morph_base::OutOfMemory;
 use std::alloc::AllocError;
 use std::sync::Wait;
 
-/// Lets a change wait. Where memory is refused nothing waits.
+/// Lets a change wait. If memory is refused, nothing waits.
 pub fn add(writer: &mut BalanceWriter, change: Change) -> Result<(), OutOfMemory>
     requires { drop writer.old.behind writer.old.log.items ≡ [] }
     ensures due { OnOk result (drop writer.new.behind writer.new.log.items ≡ change ∷ []) }
@@ -24,9 +24,9 @@ pub fn add(writer: &mut BalanceWriter, change: Change) -> Result<(), OutOfMemory
 
 /// Shows the readers the change that waits.
 fn shown<R: Wait>(rt: &R, writer: BalanceWriter) -> (BalanceWriter, Result<(), AllocError>)
-    requires { IsDue writer.desk.shown.value (view writer.desk.place).seen
+    requires { OneChangeWaits writer.desk.shown.value (view writer.desk.place).seen
         (drop writer.behind writer.log.items) }
-    ensures steady { let new = result.0 in IsSteady new.desk.shown.value
+    ensures steady { let new = result.0 in NoChangeWaits new.desk.shown.value
         (view new.desk.place).seen (drop new.behind new.log.items) }
     ensures more { (view result.0.desk.place).seen
         ≡ (view writer.desk.place).seen ++ batches_in (drop writer.behind writer.log.items) }
@@ -35,11 +35,11 @@ fn shown<R: Wait>(rt: &R, writer: BalanceWriter) -> (BalanceWriter, Result<(), A
     writer.publish_as::<Publishing, R>(rt)
 }
 
-/// The same by reference. The writer is put back whatever comes of it, and overwriting never fails.
+/// Shows the change that waits, by reference. The writer is put back in every case, and overwriting never fails.
 pub fn show<R: Wait>(rt: &R, writer: &mut BalanceWriter)
-    requires { IsDue writer.old.desk.shown.value (view writer.old.desk.place).seen
+    requires { OneChangeWaits writer.old.desk.shown.value (view writer.old.desk.place).seen
         (drop writer.old.behind writer.old.log.items) }
-    ensures steady { IsSteady writer.new.desk.shown.value (view writer.new.desk.place).seen
+    ensures steady { NoChangeWaits writer.new.desk.shown.value (view writer.new.desk.place).seen
         (drop writer.new.behind writer.new.log.items) }
     ensures more { (view writer.new.desk.place).seen ≡ (view writer.old.desk.place).seen
         ++ batches_in (drop writer.old.behind writer.old.log.items) }
@@ -49,7 +49,7 @@ pub fn show<R: Wait>(rt: &R, writer: &mut BalanceWriter)
         writer,
         rt,
         |writer: BalanceWriter, rt: &R|
-            requires { IsDue writer.desk.shown.value (view writer.desk.place).seen
+            requires { OneChangeWaits writer.desk.shown.value (view writer.desk.place).seen
                 (drop writer.behind writer.log.items) }
         { shown(rt, writer) },
     );

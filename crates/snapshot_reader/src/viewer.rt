@@ -21,7 +21,7 @@ pub struct At {
     pub value: u64,
 }
 
-/// What looks at balances: the batches that it has seen and was told of.
+/// The half of a viewer that looks at balances: the batches that it has seen and was told of.
 pub trait Look: Drop {
     ghost use Rattle.std.specs.Prelude.{List};
     ghost use Rattle.morph_base.specs.declared.plan.Plan.{Plan};
@@ -40,11 +40,11 @@ impl Look for BalanceReader {
     ghost told = { λ reader. (sight {V = View} reader.place).told };
 }
 
-/// Sees balances, each time after a whole number of batches. It may stand in a thread of its own.
+/// Sees balances, each time after a whole number of batches. It may be used in a thread of its own.
 ///
-/// It is made by [`snapshots`](crate::snapshots); where that found no reader for it, it sees nothing. Contracts see the
-/// batches that it has seen and was told of since the publisher told it last, and the greatest number of batches that it
-/// ever saw or was told of.
+/// It is made by [`snapshots`](crate::snapshots). If that found no reader for it, it sees nothing. Contracts see the
+/// batches that it has seen and was told of since the publisher last told it, and the greatest number of batches that
+/// it ever saw or was told of.
 #[derive(Drop)]
 pub struct Viewer<R: Look = BalanceReader> {
     pub(crate) layout: Layout,
@@ -81,7 +81,8 @@ impl Viewer<BalanceReader> {
     /// The value of a key after all batches that it sees now, with their number. A key outside the layout has the
     /// value 0.
     ///
-    /// `None` only where it has no reader, or `left_right` hands out no guard; the viewer is then as before.
+    /// `None` is returned only if the viewer has no reader, or `left_right` hands out no guard; the viewer is then as
+    /// before.
     pub fn value(&mut self, key: Key) -> Option<At>
         ensures looks { IfSome result (λ at. LooksOn self.old self.new) }
         ensures number { IfSome result (λ at. at.number ≡ length self.new.seen) }
@@ -113,7 +114,8 @@ impl Viewer<BalanceReader> {
 
     /// The sum of the values of a table after all batches that it sees now, with their number.
     ///
-    /// `None` only where it has no reader, or `left_right` hands out no guard; the viewer is then as before.
+    /// `None` is returned only if the viewer has no reader, or `left_right` hands out no guard; the viewer is then as
+    /// before.
     pub fn total(&mut self, table: u8) -> Option<Total>
         ensures looks { IfSome result (λ sum. LooksOn self.old self.new) }
         ensures number { IfSome result (λ sum. sum.number ≡ length self.new.seen) }

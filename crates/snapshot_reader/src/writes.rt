@@ -7,7 +7,7 @@ use crate::change::Write;
 use morph_base::{Key, Layout, List, OutOfMemory, Plan, Settled};
 use std::alloc::Global;
 
-/// Where the value of a key stands.
+/// The place of a key's value.
 pub fn place(layout: Layout, key: Key) -> usize
     ensures { result ≡ place_of layout key }
 {

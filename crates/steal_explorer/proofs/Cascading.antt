@@ -9,7 +9,7 @@ use Rattle.op_words.specs.declared.board.Hand.{Hand}
 use Rattle.op_words.specs.declared.trail.Item.{Item}
 use Rattle.op_words.specs.declared.trail.View.{View}
 use Rattle.op_words.specs.Hands.{view_of}
-use Rattle.op_words.specs.Views.{Goes as Adding, HasShownFailure}
+use Rattle.op_words.specs.Views.{AddsAndFrees as Adding, HasShownFailure}
 use Rattle.op_eval.specs.declared.answers.Evaluation.{Evaluation}
 use Rattle.op_eval.specs.declared.runner.Runner.{Runner}
 use Rattle.op_eval.specs.Running.{hand_view}
@@ -21,8 +21,8 @@ use Rattle.abort_eager.specs.Targets.{targets_left}
 use Rattle.abort_eager.specs.Touching.{HasCause, NextDoes}
 use Rattle.abort_eager.proofs.Touching.{touched_one}
 use Rattle.steal_explorer.specs.declared.members.Member.{Member}
-use Rattle.steal_explorer.specs.Calls.{Call, Asked, Tried, Swept, is_asked, is_swept, Calls, HasTouched, GoesQuietly}
-use Rattle.steal_explorer.specs.Serving.{Goes, AsksAndPuts, TouchesNext, TouchesAll, TouchesFor}
+use Rattle.steal_explorer.specs.Calls.{ServeCall, Asked, Tried, Swept, is_asked, is_swept, MakesServeCalls, HasTouched, GoesQuietly}
+use Rattle.steal_explorer.specs.Serving.{ServesOn, AsksAndPuts, TouchesNext, TouchesAll, TouchesFor}
 use Rattle.steal_explorer.proofs.Going.{goes_calls, lazy_none}
 
 -- ---- when there is a cascade
@@ -43,14 +43,14 @@ none_under_lazy p cap Eager o r a b lazy touches = absurd (apart lazy)
 shown_more : (o : ℕ) {v u : View} {xs : List Item} → Adding v u xs → HasShownFailure v o → HasShownFailure u o
 shown_more o goes shown = record { entry = shown.entry; inside = goes.adds.published shown.entry shown.inside; op_is = shown.op_is; failed_is = shown.failed_is }
 
-calls_shown : (p : Plan) (cap o : ℕ) (cs : List Call) (a b : Runner) → Calls p cap cs a b → HasShownFailure (hand_view a) o → HasShownFailure (hand_view b) o
+calls_shown : (p : Plan) (cap o : ℕ) (cs : List ServeCall) (a b : Runner) → MakesServeCalls p cap cs a b → HasShownFailure (hand_view a) o → HasShownFailure (hand_view b) o
 calls_shown p cap o [] a b calls shown = subst (λ r. HasShownFailure (hand_view r) o) (sym calls) shown
 calls_shown p cap o (Asked q ∷ cs) a b calls shown = shown_more o calls.2.1.does.goes (calls_shown p cap o cs a calls.0 calls.1 shown)
 calls_shown p cap o (Tried q ∷ cs) a b calls shown = shown_more o calls.2.1.does.goes (calls_shown p cap o cs a calls.0 calls.1 shown)
 calls_shown p cap o (Swept g ∷ cs) a b calls shown =
     shown_more o (touched_one p cap g (hand_view calls.0) (hand_view b) calls.2.0 calls.2.1.touches).goes (calls_shown p cap o cs a calls.0 calls.1 shown)
 
-pub cause_kept : (p : Plan) (cap : ℕ) (abort : Abort) (c : Cascade) (a b : Member) → Goes p cap abort a b → HasCause c (hand_view a.runner) → HasCause c (hand_view b.runner)
+pub cause_kept : (p : Plan) (cap : ℕ) (abort : Abort) (c : Cascade) (a b : Member) → ServesOn p cap abort a b → HasCause c (hand_view a.runner) → HasCause c (hand_view b.runner)
 cause_kept p cap abort c a b goes cause = λ failed. calls_shown p cap c.op goes.calls a.runner b.runner goes.made (cause failed)
 
 -- ---- cascades that push nothing
@@ -65,7 +65,7 @@ touched_next p cap c d a m h t touched next = record {
   only = λ k e lt. each k e lt;
 }
   where
-    each : (k : ℕ) (e : Call) → k < length (Swept next.target ∷ touched.calls) → is_swept (get_or (Swept next.target ∷ touched.calls) k e) ≡ true
+    each : (k : ℕ) (e : ServeCall) → k < length (Swept next.target ∷ touched.calls) → is_swept (get_or (Swept next.target ∷ touched.calls) k e) ≡ true
     each zero e lt = refl
     each (suc k) e lt = touched.only k e (less k lt)
       where
@@ -87,7 +87,7 @@ quiet_touched p cap abort a b eager touched = record {
   lazy = λ lazy. absurd (eager_lazy abort eager lazy);
 }
   where
-    unasked : (c : Call) → is_swept c ≡ true → is_asked c ≡ false
+    unasked : (c : ServeCall) → is_swept c ≡ true → is_asked c ≡ false
     unasked (Swept g) is = refl
     unasked (Tried o) is = refl
     unasked (Asked o) is = cc
@@ -103,7 +103,7 @@ module _ (p : Plan) (cap : ℕ) (abort : Abort) (c d : Cascade) where
     abbrev after : Member
     after = record m { runner = record m.runner { hand = h } }
 
-    pub goes_touched : abort ≡ Eager → Goes p cap abort m after
+    pub goes_touched : abort ≡ Eager → ServesOn p cap abort m after
     goes_touched eager =
         goes_calls p cap abort m after.runner (Swept next.target ∷ []) (m.runner, refl, (t, record { touches = next.touches; answers = refl; kept = refl }))
         (λ lazy. absurd (eager_lazy abort eager lazy))

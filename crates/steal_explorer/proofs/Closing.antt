@@ -22,7 +22,7 @@ use Rattle.op_eval.specs.declared.runners.Runners.{Runners}
 use Rattle.op_eval.specs.Exploring.{total, IsExploring, Unused, AreExplored}
 use Rattle.op_eval.specs.Gathering.{runners_of, HasPlaces, AreAtRest}
 use Rattle.op_eval.specs.Alone.{Ran, IsNewRoot}
-use Rattle.op_eval.specs.Running.{hand_view}
+use Rattle.op_eval.specs.Running.{hand_view, IsFreeRunner}
 use Rattle.steal_explorer.specs.declared.deques.Deques.{Deques}
 use Rattle.steal_explorer.specs.declared.deques.Seat.{Seat}
 use Rattle.steal_explorer.specs.declared.exploring.Handed.{Handed}
@@ -30,7 +30,7 @@ use Rattle.steal_explorer.specs.declared.members.Ground.{Ground}
 use Rattle.steal_explorer.specs.declared.members.Member.{Member}
 use Rattle.op_eval.specs.Further.{AreFurther}
 use Rattle.op_eval.proofs.Elements.{contains_first, contains_later}
-use Rattle.steal_explorer.specs.Calls.{Call, Calls}
+use Rattle.steal_explorer.specs.Calls.{ServeCall, MakesServeCalls}
 use Rattle.steal_explorer.specs.Draining.{in_plan}
 use Rattle.steal_explorer.specs.Handed.{workers_of, pushed_by, stolen_from, taken_from, left_in, AreReached, AreAnswered}
 use Rattle.steal_explorer.specs.HandingOut.{is_one, taken_in, IsBeginning, HasHandedOut}
@@ -38,7 +38,7 @@ use Rattle.crossbeam_deque.specs.Handles.{view, stealer_deque, worker_view, work
 use Rattle.steal_explorer.specs.Alone.{BeginsAlone, LeavesAlone, IsHandedAlone}
 use Rattle.steal_explorer.specs.Dealing.{level_one}
 use Rattle.steal_explorer.specs.Handing.{log, one}
-use Rattle.steal_explorer.specs.Members.{Thief, own, tickets_of, AreSeated, IsIdle}
+use Rattle.steal_explorer.specs.Members.{Thief, own, tickets_of, AreSeated}
 use Rattle.steal_explorer.specs.Seating.{runner_of, seat_of, IsSeat, AreReady, AreSeatedBy}
 use Rattle.steal_explorer.proofs.Further.{calls_further}
 use Rattle.steal_explorer.proofs.Telling.{is_op}
@@ -98,8 +98,8 @@ module _ (p : Plan) (d : Deques) (rs : List Runner) (ms : List Member) (ready : 
             none = none;
           }
 
-module _ (g : Ground) (d : Deques) (rs : List Runner) (ms : List Member) (ready : AreReady g.plan.now d) (seated : AreSeatedBy rs d.seats.items ms) (idle : All (IsIdle g.board.now) rs) where
-  begun : (k : ℕ) (m : Member) → m.number ≡ k → m.stolen ≡ 0 → IsIdle g.board.now m.runner → k < length d.thieves.items → IsSeat g.plan.now d.thieves.items k (seat_of m) → IsBeginning g d.thieves.items k m
+module _ (g : Ground) (d : Deques) (rs : List Runner) (ms : List Member) (ready : AreReady g.plan.now d) (seated : AreSeatedBy rs d.seats.items ms) (idle : All (IsFreeRunner g.board.now) rs) where
+  begun : (k : ℕ) (m : Member) → m.number ≡ k → m.stolen ≡ 0 → IsFreeRunner g.board.now m.runner → k < length d.thieves.items → IsSeat g.plan.now d.thieves.items k (seat_of m) → IsBeginning g d.thieves.items k m
   begun k m number none free lt is = record {
     worker =
         record {
@@ -127,11 +127,11 @@ module _ (g : Ground) (d : Deques) (rs : List Runner) (ms : List Member) (ready 
   pub all_begin : (k : ℕ) (m : Member) → k < length ms → IsBeginning g d.thieves.items k (slice_index_or ms k m)
   all_begin k m lt =
       begun k (slice_index_or ms k m) (seated.numbers k m lt) (seated.unstolen k m lt)
-      (subst (IsIdle g.board.now) (sym (runner_at g.plan.now d rs ms ready seated k m lt)) (idle k m.runner (subst (λ n. k < n) (many_runners g.plan.now d rs ms ready seated) lt)))
+      (subst (IsFreeRunner g.board.now) (sym (runner_at g.plan.now d rs ms ready seated k m lt)) (idle k m.runner (subst (λ n. k < n) (many_runners g.plan.now d rs ms ready seated) lt)))
       (subst (λ n. k < n) (as_many g.plan.now d rs ms ready seated) lt)
       (subst (IsSeat g.plan.now d.thieves.items k) (sym (seat_at g.plan.now d rs ms ready seated k m lt)) (ready.each k (seat_of m) (subst (λ n. k < n) (many g.plan.now d rs ms ready seated) lt)))
 
-pub begin_lent : (g : Ground) (d : Deques) (rs : List Runner) (ms lent : List Member) (ts : List Thief) → lent ≡ ms → ts ≡ d.thieves.items → AreReady g.plan.now d → AreSeatedBy rs d.seats.items ms → All (IsIdle g.board.now) rs
+pub begin_lent : (g : Ground) (d : Deques) (rs : List Runner) (ms lent : List Member) (ts : List Thief) → lent ≡ ms → ts ≡ d.thieves.items → AreReady g.plan.now d → AreSeatedBy rs d.seats.items ms → All (IsFreeRunner g.board.now) rs
     → (k : ℕ) (m : Member) → k < length lent → IsBeginning g ts k (slice_index_or lent k m)
 begin_lent g d rs ms lent ts lent_is ts_is ready seated idle =
     subst (λ l. (k : ℕ) (m : Member) → k < length l → IsBeginning g ts k (slice_index_or l k m)) (sym lent_is)
@@ -267,14 +267,14 @@ module _ (p : Plan) (cap : ℕ) (abort : Abort) (ts : List Thief) (ms ns : List 
   -- ---- the runners
 
   module _ (rs : List Runner) (rs_is : map runner_of ms ≡ rs) where
-    runner_calls : (k : ℕ) (d : Runner) → k < length rs → (cs : List Call) × Calls p cap cs (slice_index_or rs k d) (slice_index_or (map runner_of ns) k d)
+    runner_calls : (k : ℕ) (d : Runner) → k < length rs → (cs : List ServeCall) × MakesServeCalls p cap cs (slice_index_or rs k d) (slice_index_or (map runner_of ns) k d)
     runner_calls k d lt =
         let in_k : k < length ms = subst (λ n. k < n) (sym (ap length rs_is) ∙ length-map ms runner_of) lt in
         let m : Member = first_of ms in_k in
         let calls = law.calls k m in_k in (
           calls.0,
-          subst (λ r. Calls p cap calls.0 r (slice_index_or (map runner_of ns) k d)) (sym (get_or-map runner_of ms k m d in_k) ∙ ap (λ l. get_or l k d) rs_is)
-              (subst (Calls p cap calls.0 (slice_index_or ms k m).runner) (sym (get_or-map runner_of ns k m d (subst (λ n. k < n) (sym law.len) in_k))) calls.1),
+          subst (λ r. MakesServeCalls p cap calls.0 r (slice_index_or (map runner_of ns) k d)) (sym (get_or-map runner_of ms k m d in_k) ∙ ap (λ l. get_or l k d) rs_is)
+              (subst (MakesServeCalls p cap calls.0 (slice_index_or ms k m).runner) (sym (get_or-map runner_of ns k m d (subst (λ n. k < n) (sym law.len) in_k))) calls.1),
         )
 
     same_many : length (map runner_of ns) ≡ length rs
@@ -284,7 +284,7 @@ module _ (p : Plan) (cap : ℕ) (abort : Abort) (ts : List Thief) (ms ns : List 
     further_is = record { len = same_many; each = λ k d lt. let calls = runner_calls k d lt in calls_further p cap calls.0 (slice_index_or rs k d) (slice_index_or (map runner_of ns) k d) calls.1 }
 
     -- what is handed on to settling
-    pub explored_is : (b : Board) (old new : Runners) → p ≡ plan_of b → runners_of old ≡ rs → AreExplored b 0 old → HasPlaces new → runners_of new ≡ map runner_of ns → All (λ m. IsIdle b m.runner) ns → AreExplored b 0 new
+    pub explored_is : (b : Board) (old new : Runners) → p ≡ plan_of b → runners_of old ≡ rs → AreExplored b 0 old → HasPlaces new → runners_of new ≡ map runner_of ns → All (λ m. IsFreeRunner b m.runner) ns → AreExplored b 0 new
     explored_is b old new plan old_is explored places new_is idle = record {
       places = places;
       rest = subst (AreAtRest b) (sym new_is) (record {
@@ -308,11 +308,11 @@ module _ (p : Plan) (cap : ℕ) (abort : Abort) (ts : List Thief) (ms ns : List 
           ∙ subst (All (Unused c)) old_is (explored.unused c high) k d inside);
     }
       where
-        idle_at : (k : ℕ) (d : Runner) → k < length (map runner_of ns) → IsIdle b (slice_index_or (map runner_of ns) k d)
+        idle_at : (k : ℕ) (d : Runner) → k < length (map runner_of ns) → IsFreeRunner b (slice_index_or (map runner_of ns) k d)
         idle_at k d lt =
             let inside : k < length ns = subst (λ n. k < n) (length-map ns runner_of) lt in
             let m : Member = first_of ns inside in
-            subst (IsIdle b) (sym (get_or-map runner_of ns k m d inside)) (idle k m inside)
+            subst (IsFreeRunner b) (sym (get_or-map runner_of ns k m d inside)) (idle k m inside)
 
 -- ---- the end
 

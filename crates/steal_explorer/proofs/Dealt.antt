@@ -19,7 +19,7 @@ use Rattle.op_words.proofs.Rows.{no_more}
 use Rattle.op_words.specs.Hands.{up_to}
 use Rattle.steal_explorer.specs.declared.deques.Seat.{Seat}
 use Rattle.steal_explorer.specs.declared.handing.Log.{Log}
-use Rattle.steal_explorer.specs.Dealing.{dealt_to, pushed_on, IsOpened, AreOpened, CanTake, HasGot, HaveGot}
+use Rattle.steal_explorer.specs.Dealing.{dealt_to, pushed_on, IsOpenedSeat, AreOpened, CanTake, HasGot, HaveGot}
 use Rattle.steal_explorer.specs.Handing.{log, parts_of, put}
 use Rattle.steal_explorer.specs.Members.{Owner, Thief}
 use Rattle.steal_explorer.proofs.Depending.{below_inside}
@@ -153,18 +153,18 @@ dealt_once xs ss some each h =
 
 -- ---- a deque is opened
 
-pub opened_more : (capacity many : ℕ) (ts : List Thief) (ss : List Seat) (t : Thief) (s : Seat) → AreOpened capacity many ts ss → IsOpened capacity many t s → AreOpened capacity many (ts ++ t ∷ []) (ss ++ s ∷ [])
+pub opened_more : (capacity many : ℕ) (ts : List Thief) (ss : List Seat) (t : Thief) (s : Seat) → AreOpened capacity many ts ss → IsOpenedSeat capacity many t s → AreOpened capacity many (ts ++ t ∷ []) (ss ++ s ∷ [])
 opened_more capacity many ts ss t s are is = record {
   len = let a = length-append ss (s ∷ []) in let b = length-append ts (t ∷ []) in let e = are.len in omega arith;
   each = λ k d e lt.
       elim (cases_eq k (length ss)) [
         | inl same ↦
-            subst (λ (x : Thief). IsOpened capacity many x (slice_index_or (ss ++ s ∷ []) k e)) (sym (get_or_push ts t d k (sym are.len ∙ sym same)))
-            (subst (IsOpened capacity many t) (sym (get_or_push ss s e k (sym same))) is)
+            subst (λ (x : Thief). IsOpenedSeat capacity many x (slice_index_or (ss ++ s ∷ []) k e)) (sym (get_or_push ts t d k (sym are.len ∙ sym same)))
+            (subst (IsOpenedSeat capacity many t) (sym (get_or_push ss s e k (sym same))) is)
         | inr other ↦
             let less : k < length ss = lower k (length ss) (let a = length-append ss (s ∷ []) in omega arith) other in
-            subst (λ (x : Thief). IsOpened capacity many x (slice_index_or (ss ++ s ∷ []) k e)) (sym (get_or-append ts (t ∷ []) d k (subst (λ n. k < n) are.len less)))
-            (subst (IsOpened capacity many (slice_index_or ts k d)) (sym (get_or-append ss (s ∷ []) e k less)) (are.each k d e less))
+            subst (λ (x : Thief). IsOpenedSeat capacity many x (slice_index_or (ss ++ s ∷ []) k e)) (sym (get_or-append ts (t ∷ []) d k (subst (λ n. k < n) are.len less)))
+            (subst (IsOpenedSeat capacity many (slice_index_or ts k d)) (sym (get_or-append ss (s ∷ []) e k less)) (are.each k d e less))
       ];
 }
   where

@@ -16,10 +16,11 @@ use Rattle.op_eval.proofs.Elements.{contains_cases}
 use Rattle.op_eval.proofs.Turns.{in_turn_append}
 use Rattle.steal_explorer.specs.declared.handing.Log.{Log}
 use Rattle.steal_explorer.specs.declared.members.Member.{Member}
-use Rattle.steal_explorer.specs.Calls.{Call, Tried, is_tried, Calls, Calling}
-use Rattle.steal_explorer.specs.Draining.{in_plan, IsLeft, WalkedKnown, IsCleared, IsEmptied}
+use Rattle.steal_explorer.specs.Calls.{ServeCall, Tried, is_tried, MakesServeCalls, MakesServeCall}
+use Rattle.steal_explorer.specs.Draining.{in_plan, IsLeftWithNobody, WalkedKnown, IsCleared, IsEmptied}
 use Rattle.steal_explorer.specs.Handing.{whole, log, parts_of, got, spare, came, gone, one, MayBeEmpty, MayTake}
-use Rattle.steal_explorer.specs.Members.{Owner, own, IsIdle}
+use Rattle.steal_explorer.specs.Members.{Owner, own}
+use Rattle.op_eval.specs.Running.{IsFreeRunner}
 use Rattle.steal_explorer.proofs.Holds.{evens}
 use Rattle.steal_explorer.proofs.Telling.{count_both, one_tried, few, no_op}
 
@@ -66,7 +67,7 @@ module _ (a m : Member) (is : IsLeaving a m) (o : Owner) (x : ℕ) (same : SameW
       let g = sum_by_push one (own m).left x in
       omega arith
 
-pub all_left : (a m : Member) → IsLeaving a m → (o : Owner) → SameWorker m.owner o → worker_view o ≡ own m → MayBeEmpty (own m) → IsLeft a (record m { owner = o })
+pub all_left : (a m : Member) → IsLeaving a m → (o : Owner) → SameWorker m.owner o → worker_view o ≡ own m → MayBeEmpty (own m) → IsLeftWithNobody a (record m { owner = o })
 all_left a m is o same still was = record {
   owner = o;
   is = ap (λ (n : Member). record n { owner = o }) is.is;
@@ -84,8 +85,8 @@ pub record IsClearing (p : Plan) (cap : ℕ) (a b : Member) : Type 0 where
   pub is : b ≡ record a { runner = b.runner; owner = owner }
   pub items : List ℕ
   pub popped : own b ≡ got (own a) items
-  pub calls : List Call
-  pub made : Calls p cap calls a.runner b.runner
+  pub calls : List ServeCall
+  pub made : MakesServeCalls p cap calls a.runner b.runner
   pub tried : (x : ℕ) → Contains items x → x < op_count p → Contains calls (Tried x)
   pub many : sum_by (in_plan p) items ≤ count_by is_tried calls
   pub quiet : items ≡ [] → b.runner ≡ a.runner
@@ -115,7 +116,7 @@ module _ (p : Plan) (cap : ℕ) (a m : Member) (is : IsClearing p cap a m) (o : 
       omega arith
 
   -- the calls for the item
-  module _ (r : Runner) (cs : List Call) (made : Calls p cap cs m.runner r) (tried : x < op_count p → Contains cs (Tried x)) (one_more : in_plan p x ≤ count_by is_tried cs) where
+  module _ (r : Runner) (cs : List ServeCall) (made : MakesServeCalls p cap cs m.runner r) (tried : x < op_count p → Contains cs (Tried x)) (one_more : in_plan p x ≤ count_by is_tried cs) where
     pub clearing_calls : IsClearing p cap a (record m { runner = r; owner = o })
     clearing_calls = record {
       fifo = same.1 ∙ is.fifo;
@@ -128,7 +129,7 @@ module _ (p : Plan) (cap : ℕ) (a m : Member) (is : IsClearing p cap a m) (o : 
           ∙ ap (λ v. got v (x ∷ [])) is.popped
           ∙ ap (λ l. log (own a).parts (own a).pushed l (own a).stolen (own a).left) (append_assoc (own a).popped is.items (x ∷ []));
       calls = cs ++ is.calls;
-      made = in_turn_append (Calling p cap) cs is.calls a.runner m.runner r is.made made;
+      made = in_turn_append (MakesServeCall p cap) cs is.calls a.runner m.runner r is.made made;
       tried = λ y found lt.
           elim (Contains-append_cases is.items (x ∷ []) y found) [
             | inl old ↦ Contains-append_right cs is.calls (Tried y) (is.tried y old lt)
@@ -177,21 +178,21 @@ all_cleared p cap a m is o same still was = record {
 -- the deques of the first k workers were emptied, and the others are as they were
 pub record AreEmptying (b : Board) (p : Plan) (cap k : ℕ) (ms ns : List Member) : Type 0 where
   pub len : length ns ≡ length ms
-  pub idle : (j : ℕ) (m : Member) → j < k → j < length ms → IsIdle b (slice_index_or ns j m).runner
+  pub idle : (j : ℕ) (m : Member) → j < k → j < length ms → IsFreeRunner b (slice_index_or ns j m).runner
   pub each : (j : ℕ) (m : Member) → j < k → j < length ms → IsEmptied p cap (slice_index_or ms j m) (slice_index_or ns j m)
   pub rest : (j : ℕ) (m : Member) → k ≤ j → slice_index_or ns j m ≡ slice_index_or ms j m
 
 pub emptying_none : (b : Board) (p : Plan) (cap : ℕ) (ms : List Member) → AreEmptying b p cap 0 ms ms
 emptying_none b p cap ms = record { len = refl; idle = λ j m lt. absurd (omega arith); each = λ j m lt. absurd (omega arith); rest = λ j m _. refl }
 
-pub emptying_more : (b : Board) (p : Plan) (cap k : ℕ) (ms ns : List Member) (d c : Member) → AreEmptying b p cap k ms ns → k < length ms → IsIdle b c.runner → IsEmptied p cap (slice_index_or ns k d) c
+pub emptying_more : (b : Board) (p : Plan) (cap k : ℕ) (ms ns : List Member) (d c : Member) → AreEmptying b p cap k ms ns → k < length ms → IsFreeRunner b c.runner → IsEmptied p cap (slice_index_or ns k d) c
     → AreEmptying b p cap (k + 1) ms (set ns k c)
 emptying_more b p cap k ms ns d c is lt idle emptied = record {
   len = length-set ns k c ∙ is.len;
   idle = λ j m low less.
       elim (cases_eq j k) [
-        | inl same ↦ subst (λ (n : Member). IsIdle b n.runner) (sym (here j m same)) idle
-        | inr other ↦ subst (λ (n : Member). IsIdle b n.runner) (sym (get_or-set_other ns k j c m other)) (is.idle j m (lower j low other) less)
+        | inl same ↦ subst (λ (n : Member). IsFreeRunner b n.runner) (sym (here j m same)) idle
+        | inr other ↦ subst (λ (n : Member). IsFreeRunner b n.runner) (sym (get_or-set_other ns k j c m other)) (is.idle j m (lower j low other) less)
       ];
   each = λ j m low less.
       elim (cases_eq j k) [

@@ -6,9 +6,9 @@ use Rattle.op_eval.specs.Further.{IsFurther}
 use Rattle.op_eval.proofs.Further.{same_further, goes_further, further_then}
 use Rattle.abort_eager.proofs.Touching.{touched_one}
 use Rattle.op_eval.specs.Running.{hand_view}
-use Rattle.steal_explorer.specs.Calls.{Call, Asked, Tried, Swept, Calls}
+use Rattle.steal_explorer.specs.Calls.{ServeCall, Asked, Tried, Swept, MakesServeCalls}
 
-pub calls_further : (p : Plan) (cap : ℕ) (cs : List Call) (a b : Runner) → Calls p cap cs a b → IsFurther a b
+pub calls_further : (p : Plan) (cap : ℕ) (cs : List ServeCall) (a b : Runner) → MakesServeCalls p cap cs a b → IsFurther a b
 calls_further p cap [] a b calls = same_further a b calls
 calls_further p cap (Asked o ∷ cs) a b calls =
     let does = calls.2.1.does in

@@ -19,10 +19,10 @@ use Rattle.op_eval.proofs.Turns.{in_turn_append}
 use Rattle.steal_explorer.specs.declared.handing.Log.{Log}
 use Rattle.steal_explorer.specs.declared.members.Member.{Member}
 use Rattle.abort_eager.specs.Sweeps.{cascade_for, Sweeps}
-use Rattle.steal_explorer.specs.Calls.{Call, Asked, Tried, is_asked, is_swept, NoneSwept, Asks, Calls, Calling, GoesQuietly, TriesQuietly, Walked}
+use Rattle.steal_explorer.specs.Calls.{ServeCall, Asked, Tried, is_asked, is_swept, NoneSwept, AsksWhetherReady, MakesServeCalls, MakesServeCall, GoesQuietly, TriesQuietly, WalkedUnit}
 use Rattle.steal_explorer.specs.Handing.{log, one, parts_of, put}
 use Rattle.steal_explorer.specs.Members.{Owner, Thief, Ticket, own, stolen_by, AreSeated, HasTickets}
-use Rattle.steal_explorer.specs.Serving.{Goes, TouchesFor, AsksAll, AsksReaders, Visits, Serves, readers}
+use Rattle.steal_explorer.specs.Serving.{ServesOn, TouchesFor, AsksAll, AsksReaders, Visits, Serves, readers}
 
 -- ---- calls
 
@@ -30,14 +30,14 @@ use Rattle.steal_explorer.specs.Serving.{Goes, TouchesFor, AsksAll, AsksReaders,
 pub lazy_none : (abort : Abort) → NoneSwept abort []
 lazy_none abort lazy = λ k d lt. absurd (omega arith)
 
-lazy_one : (abort : Abort) (c : Call) → is_swept c ≡ false → NoneSwept abort (c ∷ [])
+lazy_one : (abort : Abort) (c : ServeCall) → is_swept c ≡ false → NoneSwept abort (c ∷ [])
 lazy_one abort c other lazy = λ k d lt. subst (λ e. is_swept e ≡ false) (first k d (omega arith)) other
   where
-    first : (k : ℕ) (d : Call) → k < 1 → c ≡ get_or (c ∷ []) k d
+    first : (k : ℕ) (d : ServeCall) → k < 1 → c ≡ get_or (c ∷ []) k d
     first zero d lt = refl
     first (suc k) d lt = absurd (omega arith)
 
-lazy_both : (abort : Abort) (ds cs : List Call) → NoneSwept abort ds → NoneSwept abort cs → NoneSwept abort (ds ++ cs)
+lazy_both : (abort : Abort) (ds cs : List ServeCall) → NoneSwept abort ds → NoneSwept abort cs → NoneSwept abort (ds ++ cs)
 lazy_both abort ds cs second first lazy = All-append (λ c. is_swept c ≡ false) ds cs (second lazy) (first lazy)
 
 -- ---- walking
@@ -48,7 +48,7 @@ module _ (p : Plan) (cap : ℕ) (abort : Abort) where
     attempts = (m, tries, sweeps);
     quiet = record {
       calls = quiet.calls ++ Tried o ∷ [];
-      made = in_turn_append (Calling p cap) quiet.calls (Tried o ∷ []) a m b (a, refl, (r, tries)) quiet.made;
+      made = in_turn_append (MakesServeCall p cap) quiet.calls (Tried o ∷ []) a m b (a, refl, (r, tries)) quiet.made;
       only = All-append (λ c. is_asked c ≡ false) quiet.calls (Tried o ∷ []) quiet.only one;
       lazy = lazy_both abort quiet.calls (Tried o ∷ []) quiet.lazy (lazy_one abort (Tried o) refl);
     };
@@ -59,7 +59,7 @@ module _ (p : Plan) (cap : ℕ) (abort : Abort) where
       one zero d lt = refl
       one (suc k) d lt = absurd (omega arith)
 
-  pub walked_first : (o : ℕ) {a b : Runner} {r : Evaluation} → TriesQuietly p cap abort o a b r → Walked p cap abort o a b
+  pub walked_first : (o : ℕ) {a b : Runner} {r : Evaluation} → TriesQuietly p cap abort o a b r → WalkedUnit p cap abort o a b
   walked_first o {a} {b} {r} tries = record {
     ops = o ∷ [];
     attempts = (a, refl, (r, tries.attempts));
@@ -71,13 +71,13 @@ module _ (p : Plan) (cap : ℕ) (abort : Abort) where
     lazy = tries.quiet.lazy;
   }
 
-  pub walked_more : (o q : ℕ) {a m b : Runner} {r : Evaluation} → Walked p cap abort o a m → TriesQuietly p cap abort q m b r → Walked p cap abort o a b
+  pub walked_more : (o q : ℕ) {a m b : Runner} {r : Evaluation} → WalkedUnit p cap abort o a m → TriesQuietly p cap abort q m b r → WalkedUnit p cap abort o a b
   walked_more o q {a} {m} {b} {r} walked tries = record {
     ops = q ∷ walked.ops;
     attempts = (m, walked.attempts, (r, tries.attempts));
     first = contains_later q walked.ops o walked.first;
     calls = tries.quiet.calls ++ walked.calls;
-    made = in_turn_append (Calling p cap) tries.quiet.calls walked.calls a m b walked.made tries.quiet.made;
+    made = in_turn_append (MakesServeCall p cap) tries.quiet.calls walked.calls a m b walked.made tries.quiet.made;
     tried = Contains-append_right tries.quiet.calls walked.calls (Tried o) walked.tried;
     only = All-append (λ c. is_asked c ≡ false) tries.quiet.calls walked.calls tries.quiet.only walked.only;
     lazy = lazy_both abort tries.quiet.calls walked.calls tries.quiet.lazy walked.lazy;
@@ -89,20 +89,20 @@ put_none : (v w : Log) → w ≡ v → w ≡ put v []
 put_none v w same = same ∙ ap (λ l. log v.parts l v.popped v.stolen v.left) (no_more v.pushed)
 
 module _ (p : Plan) (cap : ℕ) (abort : Abort) where
-  pub goes_none : (a : Member) → Goes p cap abort a a
+  pub goes_none : (a : Member) → ServesOn p cap abort a a
   goes_none a = record { number = refl; tickets = refl; stolen = refl; end = refl; deque = refl; calls = []; made = refl; lazy = lazy_none abort; pushed = []; puts = put_none (own a) (own a) refl }
 
   -- calls of its runner
-  pub goes_calls : (a : Member) (r : Runner) (cs : List Call) → Calls p cap cs a.runner r → NoneSwept abort cs → Goes p cap abort a (record a { runner = r })
+  pub goes_calls : (a : Member) (r : Runner) (cs : List ServeCall) → MakesServeCalls p cap cs a.runner r → NoneSwept abort cs → ServesOn p cap abort a (record a { runner = r })
   goes_calls a r cs made lazy = record { number = refl; tickets = refl; stolen = refl; end = refl; deque = refl; calls = cs; made = made; lazy = lazy; pushed = []; puts = put_none (own a) (own a) refl }
 
-  pub goes_pushed : (a : Member) (o : Owner) (h op : ℕ) → SameWorker a.owner o → worker_view o ≡ put (own a) (op ∷ []) → Goes p cap abort a (record a { owner = o; handed = h })
+  pub goes_pushed : (a : Member) (o : Owner) (h op : ℕ) → SameWorker a.owner o → worker_view o ≡ put (own a) (op ∷ []) → ServesOn p cap abort a (record a { owner = o; handed = h })
   goes_pushed a o h op same puts = record { number = refl; tickets = refl; stolen = refl; end = refl; deque = same.0; calls = []; made = refl; lazy = lazy_none abort; pushed = op ∷ []; puts = puts }
 
-  pub goes_refused : (a : Member) (o : Owner) (r : Runner) (op : ℕ) → SameWorker a.owner o → worker_view o ≡ own a → Walked p cap abort op a.runner r → Goes p cap abort a (record a { runner = r; owner = o })
+  pub goes_refused : (a : Member) (o : Owner) (r : Runner) (op : ℕ) → SameWorker a.owner o → worker_view o ≡ own a → WalkedUnit p cap abort op a.runner r → ServesOn p cap abort a (record a { runner = r; owner = o })
   goes_refused a o r op same still walked = record { number = refl; tickets = refl; stolen = refl; end = refl; deque = same.0; calls = walked.calls; made = walked.made; lazy = walked.lazy; pushed = []; puts = put_none (own a) (worker_view o) still }
 
-  pub goes_then : (a m b : Member) → Goes p cap abort a m → Goes p cap abort m b → Goes p cap abort a b
+  pub goes_then : (a m b : Member) → ServesOn p cap abort a m → ServesOn p cap abort m b → ServesOn p cap abort a b
   goes_then a m b first second = record {
     number = second.number ∙ first.number;
     tickets = second.tickets ∙ first.tickets;
@@ -110,7 +110,7 @@ module _ (p : Plan) (cap : ℕ) (abort : Abort) where
     end = second.end ∙ first.end;
     deque = second.deque ∙ first.deque;
     calls = second.calls ++ first.calls;
-    made = in_turn_append (Calling p cap) second.calls first.calls a.runner m.runner b.runner first.made second.made;
+    made = in_turn_append (MakesServeCall p cap) second.calls first.calls a.runner m.runner b.runner first.made second.made;
     lazy = lazy_both abort second.calls first.calls second.lazy first.lazy;
     pushed = first.pushed ++ second.pushed;
     puts =
@@ -119,7 +119,7 @@ module _ (p : Plan) (cap : ℕ) (abort : Abort) where
         ∙ ap (λ l. log (own a).parts l (own a).popped (own a).stolen (own a).left) (append_assoc (own a).pushed first.pushed second.pushed);
   }
 
-  pub goes_tried : (o : ℕ) (a : Member) (r : Runner) (x : Evaluation) → Tries p cap o a.runner r x → Goes p cap abort a (record a { runner = r })
+  pub goes_tried : (o : ℕ) (a : Member) (r : Runner) (x : Evaluation) → Tries p cap o a.runner r x → ServesOn p cap abort a (record a { runner = r })
   goes_tried o a r x tries = goes_calls a r (Tried o ∷ []) (a.runner, refl, (x, tries)) (lazy_one abort (Tried o) refl)
 
   -- what reads from an operation was asked, since that was evaluated; or it was not, and nothing was
@@ -133,7 +133,7 @@ module _ (p : Plan) (cap : ℕ) (abort : Abort) where
   none_asked o (Already word) a other = refl
 
   -- it tried an operation, ran the cascade behind that to its end, and went on
-  module _ (o : ℕ) (a : Member) (r : Runner) (x : Evaluation) (tries : Tries p cap o a.runner r x) (m b : Member) (touches : TouchesFor p cap abort o (cascade_for abort x) (record a { runner = r }) m) (swept : Goes p cap abort (record a { runner = r }) m) (goes : Goes p cap abort m b) (asks : AsksReaders p cap abort o x m b) where
+  module _ (o : ℕ) (a : Member) (r : Runner) (x : Evaluation) (tries : Tries p cap o a.runner r x) (m b : Member) (touches : TouchesFor p cap abort o (cascade_for abort x) (record a { runner = r }) m) (swept : ServesOn p cap abort (record a { runner = r }) m) (goes : ServesOn p cap abort m b) (asks : AsksReaders p cap abort o x m b) where
     pub visited : Visits p cap abort o a b
     visited = record { evaluated = r; answer = x; tries = tries; swept = m; touches = touches; asks = asks; goes = goes }
 
@@ -147,7 +147,7 @@ module _ (p : Plan) (cap : ℕ) (abort : Abort) where
       first = contains_first o [];
     }
 
-  pub serves_then : (o q : ℕ) (a m b : Member) → Serves p cap abort o a m → Goes p cap abort m b → Visits p cap abort q m b → Serves p cap abort o a b
+  pub serves_then : (o q : ℕ) (a m b : Member) → Serves p cap abort o a m → ServesOn p cap abort m b → Visits p cap abort q m b → Serves p cap abort o a b
   unfolding goes_then
   serves_then o q a m b first second visits = record {
     goes = goes_then a m b first.goes second;
@@ -157,11 +157,11 @@ module _ (p : Plan) (cap : ℕ) (abort : Abort) where
     first = contains_later q first.ops o first.first;
   }
 
-  pub asked_one : (o : ℕ) (a : Member) (r : Runner) (x : Readied) → Asks p cap o a.runner r x → Goes p cap abort a (record a { runner = r })
+  pub asked_one : (o : ℕ) (a : Member) (r : Runner) (x : Readied) → AsksWhetherReady p cap o a.runner r x → ServesOn p cap abort a (record a { runner = r })
   asked_one o a r x asks = goes_calls a r (Asked o ∷ []) (a.runner, refl, (x, asks)) (lazy_one abort (Asked o) refl)
 
   -- its tickets and the parts of its deque stay
-  pub tickets_kept : (ts : List Thief) (a b : Member) → HasTickets ts a → Goes p cap abort a b → HasTickets ts b
+  pub tickets_kept : (ts : List Thief) (a b : Member) → HasTickets ts a → ServesOn p cap abort a b → HasTickets ts b
   tickets_kept ts a b is goes = record {
     inside = subst (λ k. k < length ts) (sym goes.number) is.inside;
     few = is.few;

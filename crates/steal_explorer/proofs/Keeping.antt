@@ -13,11 +13,11 @@ use Rattle.op_eval.proofs.Following.{evaluated_more}
 use Rattle.abort_eager.proofs.Touching.{touched_one}
 use Rattle.abort_eager.specs.declared.answers.Target.{Target}
 use Rattle.abort_eager.specs.declared.answers.Touched.{Touched}
-use Rattle.steal_explorer.specs.Calls.{Call, Asked, Tried, Swept, Asks, SweepsOne, Calls}
+use Rattle.steal_explorer.specs.Calls.{ServeCall, Asked, Tried, Swept, AsksWhetherReady, SweepsOne, MakesServeCalls}
 
 -- ---- answers
 
-pub asks_running : (p : Plan) (cap o : ℕ) (a b : Runner) (r : Readied) → IsExploring p a → Asks p cap o a b r → IsExploring p b
+pub asks_running : (p : Plan) (cap o : ℕ) (a b : Runner) (r : Readied) → IsExploring p a → AsksWhetherReady p cap o a b r → IsExploring p b
 asks_running p cap o a b r running t =
     let does = t.does in
     let few : b.answers.evaluated ≡ a.answers.evaluated = ap (λ (n : Answers). n.evaluated) t.answers in
@@ -49,14 +49,14 @@ sweeps_running p cap g a b r running t =
       room = subst (λ l. event_count p ≤ l.room) (sym t.kept) running.room;
     }
 
-pub calls_running : (p : Plan) (cap : ℕ) (cs : List Call) (a b : Runner) → IsExploring p a → Calls p cap cs a b → IsExploring p b
+pub calls_running : (p : Plan) (cap : ℕ) (cs : List ServeCall) (a b : Runner) → IsExploring p a → MakesServeCalls p cap cs a b → IsExploring p b
 calls_running p cap [] a b running calls = subst (IsExploring p) (sym calls) running
 calls_running p cap (Asked o ∷ cs) a b running calls = asks_running p cap o calls.0 b calls.2.0 (calls_running p cap cs a calls.0 running calls.1) calls.2.1
 calls_running p cap (Tried o ∷ cs) a b running calls = tries_running p cap o calls.0 b (calls_running p cap cs a calls.0 running calls.1) calls.2.0 calls.2.1
 calls_running p cap (Swept g ∷ cs) a b running calls = sweeps_running p cap g calls.0 b calls.2.0 (calls_running p cap cs a calls.0 running calls.1) calls.2.1
 
 -- no number was taken from a counter
-pub calls_places : (p : Plan) (cap : ℕ) (cs : List Call) (a b : Runner) → Calls p cap cs a b → (hand_view b).places ≡ (hand_view a).places
+pub calls_places : (p : Plan) (cap : ℕ) (cs : List ServeCall) (a b : Runner) → MakesServeCalls p cap cs a b → (hand_view b).places ≡ (hand_view a).places
 calls_places p cap [] a b calls = ap (λ r. (hand_view r).places) calls
 calls_places p cap (Asked o ∷ cs) a b calls = calls.2.1.does.goes.adds.places ∙ calls_places p cap cs a calls.0 calls.1
 calls_places p cap (Tried o ∷ cs) a b calls = calls.2.1.does.goes.adds.places ∙ calls_places p cap cs a calls.0 calls.1

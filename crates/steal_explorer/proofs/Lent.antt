@@ -9,7 +9,7 @@ use Rattle.crossbeam_deque.specs.Handles.{view, IsPassOf, worker_deque, stealer_
 use Rattle.steal_explorer.specs.declared.deques.Seat.{Seat}
 use Rattle.steal_explorer.specs.declared.handing.Log.{Log}
 use Rattle.steal_explorer.specs.Handing.{whole, log}
-use Rattle.steal_explorer.specs.Lending.{Gives, Gets, HasFirst, AreLending}
+use Rattle.steal_explorer.specs.Lending.{LendsPart, Gets, HasFirstTickets, AreLending}
 use Rattle.steal_explorer.specs.Members.{Owner, Thief, Ticket, stolen_by, SitsAt}
 use Rattle.steal_explorer.proofs.Places.{set_at}
 
@@ -21,8 +21,8 @@ one_lower i n lt other = grind arith
 
 -- ---- tickets of a worker
 
-gave_first : (ts : List Thief) (many i : ℕ) (x : Ticket) (a b : Seat) → Gives x a b → HasFirst ts many i a → HasFirst ts many i b
-gave_first ts many i x a b gives is = subst (HasFirst ts many i) (sym gives.is) (record {
+gave_first : (ts : List Thief) (many i : ℕ) (x : Ticket) (a b : Seat) → LendsPart x a b → HasFirstTickets ts many i a → HasFirstTickets ts many i b
+gave_first ts many i x a b gives is = subst (HasFirstTickets ts many i) (sym gives.is) (record {
   deque = λ t. gives.same.0 ∙ is.deque t;
   len = is.len;
   room = is.room;
@@ -31,14 +31,14 @@ gave_first ts many i x a b gives is = subst (HasFirst ts many i) (sym gives.is) 
   unstolen = is.unstolen;
 })
 
-module _ (ts : List Thief) (k i : ℕ) (x : Ticket) (a b : Seat) (gets : Gets x a b) (is : HasFirst ts k i a) where
+module _ (ts : List Thief) (k i : ℕ) (x : Ticket) (a b : Seat) (gets : Gets x a b) (is : HasFirstTickets ts k i a) where
   front_at : (j : ℕ) (d : Ticket) → j < k → slice_index_or b.tickets.items j d ≡ slice_index_or a.tickets.items j d
   front_at j d lt = ap (λ l. get_or l j d) gets.items ∙ get_or-append a.tickets.items (x ∷ []) d j (subst (λ n. j < n) (sym is.len) lt)
 
   last_at : (d : Ticket) → slice_index_or b.tickets.items k d ≡ x
   last_at d = ap (λ l. get_or l k d) gets.items ∙ get_or_push a.tickets.items x d k is.len
 
-  got_first : (k ≢ i → (t : Thief) → SitsAt (slice_index_or ts k t) x) → (i ≡ k → view x ≡ log 0 [] [] [] []) → (view x).stolen ≡ [] → HasFirst ts (k + 1) i b
+  got_first : (k ≢ i → (t : Thief) → SitsAt (slice_index_or ts k t) x) → (i ≡ k → view x ≡ log 0 [] [] [] []) → (view x).stolen ≡ [] → HasFirstTickets ts (k + 1) i b
   got_first sits bare none = record {
     deque = λ t. ap worker_deque gets.owner ∙ is.deque t;
     len = ap length gets.items ∙ length-append a.tickets.items (x ∷ []) ∙ ap (λ n. n + 1) is.len;
@@ -71,7 +71,7 @@ module _ (ts : List Thief) (k j : ℕ) (ss : List Seat) (is : AreLending ts k j 
 
   -- there is room for it
   pub has_room : (c : Seat) → c ≡ slice_index_or ss j c → 0 < c.tickets.room
-  has_room c c_is = let e : c.tickets.room + k ≡ length ts = (subst (HasFirst ts k j) (sym c_is) (is.still j c (omega arith) inside)).room in let f = is.thieves.len in omega arith
+  has_room c c_is = let e : c.tickets.room + k ≡ length ts = (subst (HasFirstTickets ts k j) (sym c_is) (is.still j c (omega arith) inside)).room in let f = is.thieves.len in omega arith
 
   -- and a part to be lent
   pub has_parts : j ≢ k → (a : Seat) → a ≡ slice_index_or ss k a → 1 < parts a
@@ -99,13 +99,13 @@ module _ (ts : List Thief) (k j : ℕ) (ss : List Seat) (is : AreLending ts k j 
     lent_own = record {
       thieves = record { len = long ∙ is.thieves.len; few = is.thieves.few; fifo = is.thieves.fifo };
       given = λ i s lt less.
-          set_at (HasFirst ts (k + 1)) ss j b i s less inside
+          set_at (HasFirstTickets ts (k + 1)) ss j b i s less inside
           (λ here.
-          subst (λ n. HasFirst ts (k + 1) n b) (sym here)
-          (got_first ts k j x a b gets (subst (HasFirst ts k j) (sym a_is) (is.still j a (omega arith) inside)) (λ other t. absurd (other (sym same))) (λ _. bare) (ap (λ (v : Log). v.stolen) bare)))
+          subst (λ n. HasFirstTickets ts (k + 1) n b) (sym here)
+          (got_first ts k j x a b gets (subst (HasFirstTickets ts k j) (sym a_is) (is.still j a (omega arith) inside)) (λ other t. absurd (other (sym same))) (λ _. bare) (ap (λ (v : Log). v.stolen) bare)))
           (λ other. is.given i s (one_lower i j lt other) (subst (λ n. i < n) long less));
       still = λ i s high less.
-          set_at (HasFirst ts k) ss j b i s less inside (λ here. absurd (omega arith)) (λ other. is.still i s (omega arith) (subst (λ n. i < n) long less));
+          set_at (HasFirstTickets ts k) ss j b i s less inside (λ here. absurd (omega arith)) (λ other. is.still i s (omega arith) (subst (λ n. i < n) long less));
       all = λ i s high less. parts_ns i s less ∙ is.all i s high (subst (λ n. i < n) long less);
       lent = λ i s low less. ap (λ n. n + length ts) (parts_ns i s less) ∙ is.lent i s low (subst (λ n. i < n) long less);
       before = λ s low. absurd (omega arith);
@@ -116,27 +116,27 @@ module _ (ts : List Thief) (k j : ℕ) (ss : List Seat) (is : AreLending ts k j 
     }
 
   -- one of another's deque
-  module _ (apart : j ≢ k) (x : Ticket) (a b : Seat) (a_is : a ≡ slice_index_or ss k a) (gives : Gives x a b) where
+  module _ (apart : j ≢ k) (x : Ticket) (a b : Seat) (a_is : a ≡ slice_index_or ss k a) (gives : LendsPart x a b) where
     abbrev ms : List Seat
     ms = set ss k b
 
     long_ms : length ms ≡ length ss
     long_ms = length-set ss k b
 
-    first_ms : (many i : ℕ) (s : Seat) → i < length ms → HasFirst ts many i (slice_index_or ss i s) → HasFirst ts many i (slice_index_or ms i s)
+    first_ms : (many i : ℕ) (s : Seat) → i < length ms → HasFirstTickets ts many i (slice_index_or ss i s) → HasFirstTickets ts many i (slice_index_or ms i s)
     first_ms many i s lt has =
-        set_at (λ i q. HasFirst ts many i (slice_index_or ss i s) → HasFirst ts many i q) ss k b i s lt deque
+        set_at (λ i q. HasFirstTickets ts many i (slice_index_or ss i s) → HasFirstTickets ts many i q) ss k b i s lt deque
         (λ here old.
         gave_first ts many i x a b gives
-        (subst (HasFirst ts many i) (sym (a_is ∙ get_or_default ss k a s deque ∙ ap (λ n. slice_index_or ss n s) (sym here))) old))
+        (subst (HasFirstTickets ts many i) (sym (a_is ∙ get_or_default ss k a s deque ∙ ap (λ n. slice_index_or ss n s) (sym here))) old))
         (λ other old. old) has
 
     -- whose deque it is
     deque_a : (t : Thief) → worker_deque a.owner ≡ stealer_deque (slice_index_or ts k t)
     deque_a t =
         elim (cases_lt k j) [
-          | inl high ↦ (subst (HasFirst ts (k + 1) k) (sym a_is) (is.given k a high deque)).deque t
-          | inr low ↦ (subst (HasFirst ts k k) (sym a_is) (is.still k a low deque)).deque t
+          | inl high ↦ (subst (HasFirstTickets ts (k + 1) k) (sym a_is) (is.given k a high deque)).deque t
+          | inr low ↦ (subst (HasFirstTickets ts k k) (sym a_is) (is.still k a low deque)).deque t
         ]
 
     sits : (t : Thief) → SitsAt (slice_index_or ts k t) x
@@ -181,13 +181,13 @@ module _ (ts : List Thief) (k j : ℕ) (ss : List Seat) (is : AreLending ts k j 
         lent_one = record {
           thieves = record { len = long_es ∙ is.thieves.len; few = is.thieves.few; fifo = is.thieves.fifo };
           given = λ i s lt less.
-              set_at (HasFirst ts (k + 1)) ms j e i s less inside_ms
+              set_at (HasFirstTickets ts (k + 1)) ms j e i s less inside_ms
               (λ here.
-              subst (λ n. HasFirst ts (k + 1) n e) (sym here)
-              (got_first ts k j x c e gets (subst (HasFirst ts k j) (sym c_was) (is.still j c (omega arith) inside)) (λ _ t. sits t) (λ same. absurd (apart same)) (ap (λ (v : Log). v.stolen) gives.lent)))
+              subst (λ n. HasFirstTickets ts (k + 1) n e) (sym here)
+              (got_first ts k j x c e gets (subst (HasFirstTickets ts k j) (sym c_was) (is.still j c (omega arith) inside)) (λ _ t. sits t) (λ same. absurd (apart same)) (ap (λ (v : Log). v.stolen) gives.lent)))
               (λ other. first_ms (k + 1) i s (subst (λ n. i < n) (length-set ms j e) less) (is.given i s (one_lower i j lt other) (subst (λ n. i < n) long_es less)));
           still = λ i s high less.
-              set_at (HasFirst ts k) ms j e i s less inside_ms
+              set_at (HasFirstTickets ts k) ms j e i s less inside_ms
               (λ here. absurd (omega arith))
               (λ other. first_ms k i s (subst (λ n. i < n) (length-set ms j e) less) (is.still i s (omega arith) (subst (λ n. i < n) long_es less)));
           all = λ i s high less. parts_es i s (λ same. absurd (omega arith)) less ∙ is.all i s high (subst (λ n. i < n) long_es less);

@@ -19,7 +19,7 @@ use Rattle.steal_explorer.specs.declared.finding.Found.{Found}
 use Rattle.steal_explorer.specs.declared.finding.Found.TheVariants.{Item, Nothing, Retry}
 use Rattle.steal_explorer.specs.declared.handing.Log.{Log}
 use Rattle.steal_explorer.specs.declared.members.Member.{Member}
-use Rattle.steal_explorer.specs.Alone.{Stands, IsRun, IsHandingAlone, ServesAlone, FindsAlone, IsTurningAlone, TurnsAlone, BeginsAlone, EndsAlone}
+use Rattle.steal_explorer.specs.Alone.{Stands, HasRunOp, IsHandingAlone, ServesAlone, FindsAlone, IsTurningAlone, TurnsAlone, BeginsAlone, EndsAlone}
 use Rattle.steal_explorer.specs.Draining.{IsEven}
 use Rattle.steal_explorer.specs.Finding.{Finds}
 use Rattle.steal_explorer.specs.Handing.{whole, came, gone, one}
@@ -49,13 +49,13 @@ handing_as p a b is runner pushed slots index = record {
 record AfterKeeps (m b : Member) : Type 0 where
   popped : (own b).popped ≡ (own m).popped
   more : length (own m).pushed ≤ length (own b).pushed
-  ran : (o : ℕ) → IsRun o m → IsRun o b
+  ran : (o : ℕ) → HasRunOp o m → HasRunOp o b
 
 keeps_still : (m b : Member) → b ≡ m → AfterKeeps m b
 keeps_still m b same = record {
   popped = ap (λ (n : Member). (own n).popped) same;
   more = let e : length (own b).pushed ≡ length (own m).pushed = ap (λ (n : Member). length (own n).pushed) same in omega arith;
-  ran = λ o ran. subst (λ (n : Member). IsRun o n) (sym same) ran;
+  ran = λ o ran. subst (λ (n : Member). HasRunOp o n) (sym same) ran;
 }
 
 served_keeps : (p : Plan) → IsValidPlan p → (cap : ℕ) (abort : Abort) → abort ≡ Lazy → (x : ℕ) (m b : Member) → IsLone (hand_view m.runner) → After p cap abort (Item x) m b → AfterKeeps m b
@@ -90,7 +90,7 @@ module _ (p : Plan) (valid : IsValidPlan p) (cap : ℕ) (ts : List Thief) (a m :
           ran = λ o lt some.
               elim (cases_eq o x) [
                 | inl same ↦
-                    subst (λ n. IsRun n b) (sym same)
+                    subst (λ n. HasRunOp n b) (sym same)
                     (serves.ran
                     (let came_in : gone (is_one x) (own a) + (0 + is_one x x) ≤ came (is_one x) (own a) = alone.found.1 (whole_own ts a single tickets) (is_one x) in
                     let once : is_one x x ≡ 1 = same_is x in

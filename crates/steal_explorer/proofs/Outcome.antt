@@ -14,7 +14,7 @@ use Rattle.op_eval.specs.declared.explored.RunEnd.{RunEnd}
 use Rattle.op_eval.specs.declared.explored.RunEnd.TheVariants.{Whole, Drained, Spent}
 use Rattle.op_eval.specs.declared.runner.Runner.{Runner}
 use Rattle.op_eval.specs.Exploring.{total}
-use Rattle.op_eval.specs.Running.{hand_view}
+use Rattle.op_eval.specs.Running.{hand_view, IsFreeRunner}
 use Rattle.op_eval.proofs.Elements.{contains_first, contains_later}
 use Rattle.op_eval.proofs.Turns.{in_turn_append}
 use Rattle.crossbeam_deque.specs.Handles.{view, stealer_deque}
@@ -23,14 +23,14 @@ use Rattle.steal_explorer.specs.declared.finding.Found.TheVariants.{Item, Nothin
 use Rattle.steal_explorer.specs.declared.handing.Log.{Log}
 use Rattle.steal_explorer.specs.declared.members.Ground.{Ground}
 use Rattle.steal_explorer.specs.declared.members.Member.{Member}
-use Rattle.steal_explorer.specs.Calls.{Call, is_tried, Calls, Calling}
-use Rattle.steal_explorer.specs.Draining.{in_plan, IsEven, IsLeft, IsCleared, HasAll, IsEmptiedBy, AreEmptied}
+use Rattle.steal_explorer.specs.Calls.{ServeCall, is_tried, MakesServeCalls, MakesServeCall}
+use Rattle.steal_explorer.specs.Draining.{in_plan, IsEven, IsLeftWithNobody, IsCleared, HasAll, IsEmptiedBy, AreEmptied}
 use Rattle.steal_explorer.specs.Finding.{weight_of}
-use Rattle.steal_explorer.specs.Gathering.{HasStill, AreHolding, out, Kept, kept_of, AreTotals}
+use Rattle.steal_explorer.specs.Gathering.{HasStill, AreHolding, out, KeptByWorker, kept_of, AreTotals}
 use Rattle.steal_explorer.specs.Handing.{whole, log, one}
 use Rattle.steal_explorer.specs.HandingOut.{is_one, taken_in, IsBeginning, HasHandedOut}
-use Rattle.steal_explorer.specs.Members.{Thief, Ticket, own, tickets_of, stolen_by, taken_by, HasTickets, IsIdle, IsWorker}
-use Rattle.steal_explorer.specs.Turns.{After, Turns, HasRun}
+use Rattle.steal_explorer.specs.Members.{Thief, Ticket, own, tickets_of, stolen_by, taken_by, HasTickets, IsWorkerOf}
+use Rattle.steal_explorer.specs.Turns.{After, Turns, HasTakenTurns}
 use Rattle.steal_explorer.proofs.Telling.{turns_taken, turns_tell, count_both, calls_keep, calls_reach, calls_total}
 
 -- ---- sums
@@ -161,12 +161,12 @@ turns_number p cap abort ts a (f ∷ fs) b made = after_number f made.2.found b 
     after_number Nothing a b after = ap (λ (m : Member). m.number) after
     after_number Retry a b after = ap (λ (m : Member). m.number) after
 
-module _ (p : Plan) (cap : ℕ) (abort : Abort) (ts : List Thief) (a b : Member) (run : HasRun p cap abort ts a b) where
+module _ (p : Plan) (cap : ℕ) (abort : Abort) (ts : List Thief) (a b : Member) (run : HasTakenTurns p cap abort ts a b) where
   pub run_number : b.number ≡ a.number
   run_number = ap (λ (m : Member). m.number) run.noted ∙ turns_number p cap abort ts a run.ran.turns run.stopped run.ran.made
 
-  run_calls : (cs : List Call) × Calls p cap cs a.runner b.runner
-  run_calls = let tell = turns_tell p cap abort ts a run.ran.turns run.stopped run.ran.made in (tell.calls, subst (Calls p cap tell.calls a.runner) (ap (λ (m : Member). m.runner) (sym run.noted)) tell.made)
+  run_calls : (cs : List ServeCall) × MakesServeCalls p cap cs a.runner b.runner
+  run_calls = let tell = turns_tell p cap abort ts a run.ran.turns run.stopped run.ran.made in (tell.calls, subst (MakesServeCalls p cap tell.calls a.runner) (ap (λ (m : Member). m.runner) (sym run.noted)) tell.made)
 
   -- each operation that it took was tried in a call of its own
   run_tries : ((h : ℕ → ℕ) → taken_by h a ≡ 0) → taken_by (in_plan p) b ≤ count_by is_tried run_calls.0
@@ -191,7 +191,7 @@ module _ (p : Plan) (cap : ℕ) (abort : Abort) (ts : List Thief) (a b : Member)
 
 -- ---- all have returned
 
-module _ (g : Ground) (ts : List Thief) (ms : List Member) (len : length ms ≡ length ts) (few : length ts ≤ whole) (workers : (k : ℕ) (m : Member) → k < length ms → IsWorker g ts (slice_index_or ms k m)) (numbers : (k : ℕ) (m : Member) → k < length ms → (slice_index_or ms k m).number ≡ k) where
+module _ (g : Ground) (ts : List Thief) (ms : List Member) (len : length ms ≡ length ts) (few : length ts ≤ whole) (workers : (k : ℕ) (m : Member) → k < length ms → IsWorkerOf g ts (slice_index_or ms k m)) (numbers : (k : ℕ) (m : Member) → k < length ms → (slice_index_or ms k m).number ≡ k) where
   pub holding_all : AreHolding ts (length ms) ms
   holding_all = record {
     len = len;
@@ -201,7 +201,7 @@ module _ (g : Ground) (ts : List Thief) (ms : List Member) (len : length ms ≡ 
     lent = λ i m _ lt. (workers i m lt).tickets.parts;
   }
     where
-      still_at : (i : ℕ) (w : Member) → IsWorker g ts w → w.number ≡ i → HasStill ts (length ms) i w
+      still_at : (i : ℕ) (w : Member) → IsWorkerOf g ts w → w.number ≡ i → HasStill ts (length ms) i w
       still_at i w worker number =
           let is = worker.tickets in
           record {
@@ -230,12 +230,12 @@ pub record EmptyingTells (p : Plan) (cap : ℕ) (a b : Member) : Type 0 where
   pub thefts : (own b).stolen ≡ (own a).stolen
   pub even : IsEven b
   pub left : a.end ≡ Drained → (own b).left ≡ (own a).left
-  pub calls : (cs : List Call) × Calls p cap cs a.runner b.runner
+  pub calls : (cs : List ServeCall) × MakesServeCalls p cap cs a.runner b.runner
   pub tries : taken_in (in_plan p) b ≤ taken_in (in_plan p) a + count_by is_tried calls.0
   pub more : (x : ℕ) → x < op_count p → taken_in (is_one x) a < taken_in (is_one x) b → IsReached p x (hand_view b.runner).trail
 
 module _ (p : Plan) (cap : ℕ) where
-  left_tells : (a b : Member) → (a.end ≡ Drained → ⊥) → IsLeft a b → EmptyingTells p cap a b
+  left_tells : (a b : Member) → (a.end ≡ Drained → ⊥) → IsLeftWithNobody a b → EmptyingTells p cap a b
   left_tells a b other is = record {
     end = ap (λ (m : Member). m.end) is.is;
     handed = ap (λ (m : Member). m.handed) is.is;
@@ -314,7 +314,7 @@ no_tickets h [] none = refl
 no_tickets h (x ∷ xs) none = absurd (omega arith)
 
 module _ (g : Ground) (ts : List Thief) (ms ws gs : List Member) (begins : (k : ℕ) (m : Member) → k < length ms → IsBeginning g ts k (slice_index_or ms k m)) (len : length ms ≡ length ts) (len_ws : length ws ≡ length ms)
-    (work : (k : ℕ) (m : Member) → k < length ms → IsWorker g ts (slice_index_or ws k m) × HasRun g.plan.now (cap_of g.board.now) g.abort ts (slice_index_or ms k m) (slice_index_or ws k m)) where
+    (work : (k : ℕ) (m : Member) → k < length ms → IsWorkerOf g ts (slice_index_or ws k m) × HasTakenTurns g.plan.now (cap_of g.board.now) g.abort ts (slice_index_or ms k m) (slice_index_or ws k m)) where
   -- before they give back their tickets
   pub all_hold : length ts ≤ whole → AreHolding ts (length ws) ws
   all_hold few =
@@ -338,13 +338,13 @@ module _ (g : Ground) (ts : List Thief) (ms ws gs : List Member) (begins : (k : 
     all_have k m lt =
         let less : k < length ms = subst (λ n. k < n) len_gs lt in
         record {
-          idle = subst (IsIdle g.board.now) (ap (λ (q : Kept). q.runner) (sym (kept_at k m less))) (work k m less).0.idle;
+          idle = subst (IsFreeRunner g.board.now) (ap (λ (q : KeptByWorker). q.runner) (sym (kept_at k m less))) (work k m less).0.idle;
           fifo = (held.still k m lt).fifo;
           all = held.all k m (omega arith) lt;
         }
 
     no_left : (k : ℕ) (m : Member) → k < length ms → (own (slice_index_or gs k m)).left ≡ []
-    no_left k m lt = ap (λ (q : Kept). q.left) (kept_at k m lt) ∙ (work k m lt).0.tickets.bare_left
+    no_left k m lt = ap (λ (q : KeptByWorker). q.left) (kept_at k m lt) ∙ (work k m lt).0.tickets.bare_left
 
     -- what was taken is what the workers popped and stole
     taken_sum : (h : ℕ → ℕ) → sum_by (taken_in h) gs ≡ sum_by (taken_by h) ws
@@ -375,8 +375,8 @@ module _ (g : Ground) (ts : List Thief) (ms ws gs : List Member) (begins : (k : 
             let less : k < length ms = subst (λ n. k < n) len_ws lt in
             let is = (work k m less).0.tickets in
             let a : sum_by h (own (slice_index_or ws k m)).stolen ≡ 0 = ap (sum_by h) is.bare_stolen in
-            let b : sum_by h (own (slice_index_or gs k m)).popped ≡ sum_by h (own (slice_index_or ws k m)).popped = ap (λ (q : Kept). sum_by h q.popped) (kept_at k m less) in
-            let c : sum_by h (own (slice_index_or gs k m)).left ≡ sum_by h (own (slice_index_or ws k m)).left = ap (λ (q : Kept). sum_by h q.left) (kept_at k m less) in
+            let b : sum_by h (own (slice_index_or gs k m)).popped ≡ sum_by h (own (slice_index_or ws k m)).popped = ap (λ (q : KeptByWorker). sum_by h q.popped) (kept_at k m less) in
+            let c : sum_by h (own (slice_index_or gs k m)).left ≡ sum_by h (own (slice_index_or ws k m)).left = ap (λ (q : KeptByWorker). sum_by h q.left) (kept_at k m less) in
             let d : stolen_by h (tickets_of (slice_index_or gs k m)) ≡ 0 = no_tickets h (tickets_of (slice_index_or gs k m)) (held.still k m (subst (λ n. k < n) (sym len_gs) less)).len in
             omega arith
 
@@ -398,7 +398,7 @@ module _ (g : Ground) (ts : List Thief) (ms ws gs : List Member) (begins : (k : 
       still_reached x k m lt is =
           let more = (tells k m lt).calls in
           calls_keep p cap x more.0 (slice_index_or gs k m).runner (slice_index_or ns k m).runner more.1
-          (subst (λ (r : Runner). IsReached p x (hand_view r).trail) (ap (λ (q : Kept). q.runner) (sym (kept_at k m lt))) is)
+          (subst (λ (r : Runner). IsReached p x (hand_view r).trail) (ap (λ (q : KeptByWorker). q.runner) (sym (kept_at k m lt))) is)
 
       by_somebody : (x : ℕ) → x < op_count p → 0 < sum_by (taken_in (is_one x)) ns → (k : ℕ) × (k < length ms) × ((m : Member) → IsReached p x (hand_view (slice_index_or ns k m).runner).trail)
       by_somebody x lt more =
@@ -423,7 +423,7 @@ module _ (g : Ground) (ts : List Thief) (ms ws gs : List Member) (begins : (k : 
           sums_up_to (λ (m : Member). stolen_by one (tickets_of m)) (λ (m : Member). m.stolen) ws ns (emptied.len ∙ len_gs ∙ sym len_ws)
           (λ k m lt.
           let less : k < length ms = subst (λ n. k < n) len_ws lt in
-          (tells k m less).stolen ∙ ap (λ (q : Kept). q.stolen) (kept_at k m less) ∙ (work k m less).0.tickets.stolen)
+          (tells k m less).stolen ∙ ap (λ (q : KeptByWorker). q.stolen) (kept_at k m less) ∙ (work k m less).0.tickets.stolen)
           ∙ ap up_to (sym (stolen_sum one) ∙ same_sums (λ (m : Member). length (own m).stolen) (λ (m : Member). sum_by one (own m).stolen) ns gs (sym emptied.len) each)
         where
           each : (k : ℕ) (m : Member) → k < length ns → sum_by one (own (slice_index_or gs k m)).stolen ≡ length (own (slice_index_or ns k m)).stolen
@@ -446,15 +446,15 @@ module _ (g : Ground) (ts : List Thief) (ms ws gs : List Member) (begins : (k : 
           (tells k m lt).thefts ∙ no_items (own (slice_index_or gs k m)).stolen (omega arith)
 
       -- all calls of a worker, and how many of them tried something
-      calls_of : (k : ℕ) (m : Member) → k < length ms → (cs : List Call) × Calls p cap cs (slice_index_or ms k m).runner (slice_index_or ns k m).runner
+      calls_of : (k : ℕ) (m : Member) → k < length ms → (cs : List ServeCall) × MakesServeCalls p cap cs (slice_index_or ms k m).runner (slice_index_or ns k m).runner
           × (taken_by (in_plan p) (slice_index_or ws k m) + taken_in (in_plan p) (slice_index_or ns k m) ≤ taken_in (in_plan p) (slice_index_or gs k m) + count_by is_tried cs)
       calls_of k m lt =
           let run = (work k m lt).1 in
           let first = run_calls p cap g.abort ts (slice_index_or ms k m) (slice_index_or ws k m) run in
           let second = (tells k m lt).calls in (
             second.0 ++ first.0,
-            in_turn_append (Calling p cap) second.0 first.0 (slice_index_or ms k m).runner (slice_index_or ws k m).runner (slice_index_or ns k m).runner first.1
-                (subst (λ r. Calls p cap second.0 r (slice_index_or ns k m).runner) (ap (λ (q : Kept). q.runner) (kept_at k m lt)) second.1),
+            in_turn_append (MakesServeCall p cap) second.0 first.0 (slice_index_or ms k m).runner (slice_index_or ws k m).runner (slice_index_or ns k m).runner first.1
+                (subst (λ r. MakesServeCalls p cap second.0 r (slice_index_or ns k m).runner) (ap (λ (q : KeptByWorker). q.runner) (kept_at k m lt)) second.1),
             (let a = run_tries p cap g.abort ts (slice_index_or ms k m) (slice_index_or ws k m) run (begins k m lt).fresh in
                 let b = (tells k m lt).tries in
                 let c = count_both second.0 first.0 in
@@ -483,19 +483,19 @@ module _ (g : Ground) (ts : List Thief) (ms ws gs : List Member) (begins : (k : 
         len = emptied.len ∙ len_gs;
         returned = ws;
         ran = λ k m lt. (work k m lt).1;
-        end = λ k m lt. (tells k m lt).end ∙ ap (λ (q : Kept). q.end) (kept_at k m lt);
-        pushed = λ k m lt. (tells k m lt).pushed ∙ ap (λ (q : Kept). q.pushed) (kept_at k m lt);
+        end = λ k m lt. (tells k m lt).end ∙ ap (λ (q : KeptByWorker). q.end) (kept_at k m lt);
+        pushed = λ k m lt. (tells k m lt).pushed ∙ ap (λ (q : KeptByWorker). q.pushed) (kept_at k m lt);
         even = λ k m lt. (tells k m lt).even;
         left = λ k m lt drained. (tells k m lt).left (sym (tells k m lt).end ∙ drained) ∙ no_left k m lt;
         reached = by_somebody;
         calls = λ k m lt. let calls = calls_of k m lt in (calls.0, calls.1);
         below = λ k m lt.
-            subst (All (λ x. x < op_count p)) (sym ((tells k m lt).pushed ∙ ap (λ (q : Kept). q.pushed) (kept_at k m lt))) (work k m lt).0.deque.below;
+            subst (All (λ x. x < op_count p)) (sym ((tells k m lt).pushed ∙ ap (λ (q : KeptByWorker). q.pushed) (kept_at k m lt))) (work k m lt).0.deque.below;
         handed = λ k m lt.
             (tells k m lt).handed
-            ∙ ap (λ (q : Kept). q.handed) (kept_at k m lt)
+            ∙ ap (λ (q : KeptByWorker). q.handed) (kept_at k m lt)
             ∙ (work k m lt).0.deque.handed
-            ∙ ap (λ l. up_to (length l)) (sym ((tells k m lt).pushed ∙ ap (λ (q : Kept). q.pushed) (kept_at k m lt)));
+            ∙ ap (λ l. up_to (length l)) (sym ((tells k m lt).pushed ∙ ap (λ (q : KeptByWorker). q.pushed) (kept_at k m lt)));
         stolen = stolen_counted;
         unstolen = unstolen_by;
         answered = all_answered;

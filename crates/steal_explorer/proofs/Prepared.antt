@@ -9,9 +9,9 @@ use Rattle.op_words.specs.Hands.{up_to}
 use Rattle.steal_explorer.specs.declared.deques.Deques.{Deques}
 use Rattle.steal_explorer.specs.declared.deques.Seat.{Seat}
 use Rattle.steal_explorer.specs.declared.handing.Log.{Log}
-use Rattle.steal_explorer.specs.Dealing.{level_one, dealt_to, pushed_on, LieIn, IsOpened, AreOpened, CanTake, HaveGot}
+use Rattle.steal_explorer.specs.Dealing.{level_one, dealt_to, pushed_on, LieIn, IsOpenedSeat, AreOpened, CanTake, HaveGot}
 use Rattle.steal_explorer.specs.Handing.{whole, log, put, parts_of}
-use Rattle.steal_explorer.specs.Lending.{with_parts, HasFirst, AreLent, AreKept}
+use Rattle.steal_explorer.specs.Lending.{with_parts, HasFirstTickets, AreLent, KeepsSeats}
 use Rattle.steal_explorer.specs.Members.{Thief, Ticket, stolen_by}
 use Rattle.steal_explorer.specs.Seating.{IsSeat, AreReady}
 use Rattle.steal_explorer.proofs.Beginning.{level_one_inside}
@@ -34,7 +34,7 @@ module _ (p : Plan) (ts : List Thief) (ss ds : List Seat) (few : length ts ≤ w
   thief_at : (k : ℕ) → k < length ss → Thief
   thief_at k lt = slice_index_or ts k (first_of ts (in_ts k lt))
 
-  opened_at : (k : ℕ) (s : Seat) → (lt : k < length ss) → IsOpened (op_count p) (length ts) (slice_index_or ts k (first_of ts (in_ts k lt))) (slice_index_or ss k s)
+  opened_at : (k : ℕ) (s : Seat) → (lt : k < length ss) → IsOpenedSeat (op_count p) (length ts) (slice_index_or ts k (first_of ts (in_ts k lt))) (slice_index_or ss k s)
   opened_at k s lt = opened.each k (first_of ts (in_ts k lt)) s lt
 
   -- none is lent yet
@@ -51,7 +51,7 @@ module _ (p : Plan) (ts : List Thief) (ss ds : List Seat) (few : length ts ≤ w
     lent = λ i s low lt. absurd (omega arith);
   }
     where
-      first : (i : ℕ) (s : Seat) → i < length ss → HasFirst ts 0 i (slice_index_or ds i s)
+      first : (i : ℕ) (s : Seat) → i < length ss → HasFirstTickets ts 0 i (slice_index_or ds i s)
       first i s inside =
           let got_at = got.each i s inside in
           let was = opened_at i s inside in
@@ -66,7 +66,7 @@ module _ (p : Plan) (ts : List Thief) (ss ds : List Seat) (few : length ts ≤ w
           }
 
   -- all is lent
-  module _ (ls : List Seat) (lent : AreLent ts (length ts) ls) (kept : AreKept ds ls) where
+  module _ (ls : List Seat) (lent : AreLent ts (length ts) ls) (kept : KeepsSeats ds ls) where
     in_ss : (k : ℕ) → k < length ls → k < length ss
     in_ss k lt = subst (λ n. k < n) (kept.len ∙ got.len) lt
 

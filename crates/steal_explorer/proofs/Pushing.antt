@@ -19,8 +19,8 @@ use Rattle.steal_explorer.specs.Handed.{workers_of, pushed_by, pushed_of, HasTur
 use Rattle.steal_explorer.specs.HandingOut.{HasHandedOut}
 use Rattle.steal_explorer.specs.Members.{Thief}
 use Rattle.steal_explorer.specs.Seating.{seat_of}
-use Rattle.steal_explorer.specs.Serving.{Goes}
-use Rattle.steal_explorer.specs.Turns.{After, Turns, HasRun}
+use Rattle.steal_explorer.specs.Serving.{ServesOn}
+use Rattle.steal_explorer.specs.Turns.{After, Turns, HasTakenTurns}
 use Rattle.steal_explorer.proofs.Closing.{sum_flat}
 
 -- over what a worker pushed, and over what lay in a seat's deque
@@ -31,7 +31,7 @@ abbrev laid : (ℕ → ℕ) → Seat → ℕ
 laid h s = sum_by h (worker_view s.owner).pushed
 
 module _ (p : Plan) (cap : ℕ) (abort : Abort) (h : ℕ → ℕ) where
-  goes_more : (a b : Member) → Goes p cap abort a b → pushes h a ≤ pushes h b
+  goes_more : (a b : Member) → ServesOn p cap abort a b → pushes h a ≤ pushes h b
   goes_more a b goes =
       let is : pushes h b ≡ sum_by h (pushed_by a ++ goes.pushed) = ap (λ (v : Log). sum_by h v.pushed) goes.puts in
       let both = sum_by-append h (pushed_by a) goes.pushed in
@@ -54,7 +54,7 @@ module _ (p : Plan) (cap : ℕ) (abort : Abort) (h : ℕ → ℕ) where
       let after = after_more f made.2.found b made.2.after in
       omega arith
 
-  run_more : (ts : List Thief) (a b : Member) → HasRun p cap abort ts a b → pushes h a ≤ pushes h b
+  run_more : (ts : List Thief) (a b : Member) → HasTakenTurns p cap abort ts a b → pushes h a ≤ pushes h b
   run_more ts a b run =
       let turns = turns_more ts a run.ran.turns run.stopped run.ran.made in
       let same : pushes h b ≡ pushes h run.stopped = ap (pushes h) run.noted in

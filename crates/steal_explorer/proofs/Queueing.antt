@@ -23,12 +23,12 @@ use Rattle.op_eval.specs.Running.{hand_view}
 use Rattle.op_eval.proofs.Alone.{come_first}
 use Rattle.steal_explorer.specs.declared.handing.Log.{Log}
 use Rattle.steal_explorer.specs.declared.members.Member.{Member}
-use Rattle.steal_explorer.specs.Alone.{Stands, IsRun, IsHandingAlone, Pushes, ServesAlone}
+use Rattle.steal_explorer.specs.Alone.{Stands, HasRunOp, IsHandingAlone, Pushes, ServesAlone}
 use Rattle.steal_explorer.specs.Serving.{readers}
-use Rattle.steal_explorer.specs.Calls.{Asks}
+use Rattle.steal_explorer.specs.Calls.{AsksWhetherReady}
 use Rattle.steal_explorer.specs.HandingOut.{is_one}
 use Rattle.steal_explorer.specs.Members.{own, HasDeque}
-use Rattle.steal_explorer.specs.Serving.{Goes}
+use Rattle.steal_explorer.specs.Serving.{ServesOn}
 use Rattle.steal_explorer.proofs.Counting.{fewer_items}
 use Rattle.steal_explorer.proofs.Depending.{reader_source, reads_or}
 use Rattle.steal_explorer.proofs.Outcome.{listed}
@@ -45,7 +45,7 @@ module _ (p : Plan) (valid : IsValidPlan p) (cap : ℕ) (a : Member) where
   -- ---- asking
 
   module _ (d : ℕ) (rest : List ℕ) (r : Runner) (is : IsHandingAlone p (d ∷ rest) a) where
-    pub asked_in_vain : (at : ℕ) (w : _) → Asks p cap d a.runner r (Unmade at w) → IsHandingAlone p rest (record a { runner = r })
+    pub asked_in_vain : (at : ℕ) (w : _) → AsksWhetherReady p cap d a.runner r (Unmade at w) → IsHandingAlone p rest (record a { runner = r })
     asked_in_vain at w asks = record {
       lone = lone_more asks.does.goes.adds is.lone;
       slots = is.slots;
@@ -56,7 +56,7 @@ module _ (p : Plan) (valid : IsValidPlan p) (cap : ℕ) (a : Member) where
     }
 
     -- an operation that was made ready has room in the deque, and is pushed
-    pub asked_and_pushed : (b : Member) → Asks p cap d a.runner r Made → (s : ℕ) → IsSourceOf p d s → HasDeque p a → (worker_index a.owner < worker_capacity a.owner → Pushes d (record a { runner = r }) b) → IsHandingAlone p rest b
+    pub asked_and_pushed : (b : Member) → AsksWhetherReady p cap d a.runner r Made → (s : ℕ) → IsSourceOf p d s → HasDeque p a → (worker_index a.owner < worker_capacity a.owner → Pushes d (record a { runner = r }) b) → IsHandingAlone p rest b
     asked_and_pushed b asks s source deque push =
         let made = made_alone is.lone (come_first p d valid.plan asks.in_range) asks.does in
         let waits = was_waiting p valid.plan d asks.in_range rest (hand_view a.runner).trail (hand_view r).trail (own a).pushed [] made is.each (s, source) in
@@ -83,7 +83,7 @@ module _ (p : Plan) (valid : IsValidPlan p) (cap : ℕ) (a : Member) where
   -- ---- evaluating
 
   module _ (some : 1 ≤ cap) (o : ℕ) (r : Runner) (is : IsHandingAlone p [] a) where
-    pub tried_and_evaluated : (attempt : ℕ) (x : Outcome) → Tries p cap o a.runner r (Evaluated attempt x) → IsHandingAlone p (readers p o) (record a { runner = r }) × IsRun o (record a { runner = r })
+    pub tried_and_evaluated : (attempt : ℕ) (x : Outcome) → Tries p cap o a.runner r (Evaluated attempt x) → IsHandingAlone p (readers p o) (record a { runner = r }) × HasRunOp o (record a { runner = r })
     tried_and_evaluated attempt x tries =
         let made =
         evaluated_alone is.lone (come_first p o valid.plan tries.in_range) attempt x tries.does
@@ -109,10 +109,10 @@ module _ (p : Plan) (valid : IsValidPlan p) (cap : ℕ) (a : Member) where
 
   -- what ran stays so, under lazy abort
   module _ (abort : Abort) (lazy : abort ≡ Lazy) where
-    pub goes_ran : (b : Member) → Goes p cap abort a b → IsLone (hand_view a.runner) → (o : ℕ) → IsRun o a → IsRun o b
+    pub goes_ran : (b : Member) → ServesOn p cap abort a b → IsLone (hand_view a.runner) → (o : ℕ) → HasRunOp o a → HasRunOp o b
     goes_ran b goes lone o ran = calls_ran p valid.plan cap goes.calls a.runner b.runner goes.made (goes.lazy lazy) lone o ran
 
-    pub serves_more : (o : ℕ) (m b : Member) → ServesAlone p o a m → Goes p cap abort m b → IsHandingAlone p [] b → ServesAlone p o a b
+    pub serves_more : (o : ℕ) (m b : Member) → ServesAlone p o a m → ServesOn p cap abort m b → IsHandingAlone p [] b → ServesAlone p o a b
     serves_more o m b serves goes handing = record {
       handing = handing;
       ran = λ there. calls_ran p valid.plan cap goes.calls m.runner b.runner goes.made (goes.lazy lazy) serves.handing.lone o (serves.ran there);

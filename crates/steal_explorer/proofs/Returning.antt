@@ -13,7 +13,7 @@ use Rattle.steal_explorer.specs.declared.members.Member.{Member}
 use Rattle.steal_explorer.specs.Handing.{whole, log, both, gone, parts_of}
 use Rattle.steal_explorer.specs.Members.{Thief, Ticket, own, tickets_of, stolen_by, SitsAt}
 use Rattle.steal_explorer.proofs.Places.{first_of, set_at}
-use Rattle.steal_explorer.specs.Gathering.{Regains, HasStill, AreHolding, AreRegaining, out, Kept, kept_of, AreTotals}
+use Rattle.steal_explorer.specs.Gathering.{Regains, HasStill, AreHolding, AreRegaining, out, KeptByWorker, kept_of, AreTotals}
 
 -- ---- a ticket leaves a worker
 
@@ -64,7 +64,7 @@ module _ (ts : List Thief) (k i : ℕ) (a b : Member) (x : Ticket) (is : HasStil
 
 -- ---- a worker takes a ticket back
 
-abbrev keeping : Member → Log → Kept
+abbrev keeping : Member → Log → KeptByWorker
 keeping m v = record { runner = m.runner; number = m.number; end = m.end; handed = m.handed; stolen = m.stolen; pushed = v.pushed; popped = v.popped; left = v.left }
 
 module _ (ts : List Thief) (t : Thief) (many i : ℕ) (x : Ticket) (a b : Member) (sits : SitsAt t x) (regains : Regains x a b) where

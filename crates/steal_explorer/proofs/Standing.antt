@@ -29,8 +29,8 @@ use Rattle.op_eval.proofs.Alone.{come_first, run_valued, lone_unclaimed, lone_un
 use Rattle.op_eval.proofs.Following.{one_none}
 use Rattle.op_eval.proofs.Elements.{contains_cases}
 use Rattle.abort_eager.proofs.Touching.{touched_one}
-use Rattle.steal_explorer.specs.Alone.{IsDue, IsWaiting, IsQueued, HasGone, Stands}
-use Rattle.steal_explorer.specs.Calls.{Call, Asked, Tried, Swept, is_swept, Calls}
+use Rattle.steal_explorer.specs.Alone.{AreSourcesRun, IsWaiting, IsQueued, HasGone, Stands}
+use Rattle.steal_explorer.specs.Calls.{ServeCall, Asked, Tried, Swept, is_swept, MakesServeCalls}
 use Rattle.steal_explorer.specs.HandingOut.{is_one}
 use Rattle.steal_explorer.proofs.Counting.{same_is, other_is}
 
@@ -113,7 +113,7 @@ module _ {p : Plan} {cap d : ℕ} {v u : View} (lone : IsLone v) (first_ones : C
   asked_keeps (Unmade at w) does k ran = ran_as v.trail u.trail k ((unmade_alone at w does).same k) ran
 
 -- what ran stays so, whatever a lone root calls
-pub calls_lone : (p : Plan) (cap : ℕ) (cs : List Call) (a b : Runner) → Calls p cap cs a b → IsLone (hand_view a) → IsLone (hand_view b)
+pub calls_lone : (p : Plan) (cap : ℕ) (cs : List ServeCall) (a b : Runner) → MakesServeCalls p cap cs a b → IsLone (hand_view a) → IsLone (hand_view b)
 calls_lone p cap [] a b calls lone = subst (λ r. IsLone (hand_view r)) (sym calls) lone
 calls_lone p cap (Asked o ∷ cs) a b calls lone = lone_more calls.2.1.does.goes.adds (calls_lone p cap cs a calls.0 calls.1 lone)
 calls_lone p cap (Tried o ∷ cs) a b calls lone = lone_more calls.2.1.does.goes.adds (calls_lone p cap cs a calls.0 calls.1 lone)
@@ -121,7 +121,7 @@ calls_lone p cap (Swept g ∷ cs) a b calls lone =
     lone_more (touched_one p cap g (hand_view calls.0) (hand_view b) calls.2.0 calls.2.1.touches).goes.adds (calls_lone p cap cs a calls.0 calls.1 lone)
 
 -- where no target of a cascade was touched
-pub calls_ran : (p : Plan) → IsPlan p → (cap : ℕ) (cs : List Call) (a b : Runner) → Calls p cap cs a b → All (λ c. is_swept c ≡ false) cs → IsLone (hand_view a) → (k : ℕ) → Ran (hand_view a).trail k → Ran (hand_view b).trail k
+pub calls_ran : (p : Plan) → IsPlan p → (cap : ℕ) (cs : List ServeCall) (a b : Runner) → MakesServeCalls p cap cs a b → All (λ c. is_swept c ≡ false) cs → IsLone (hand_view a) → (k : ℕ) → Ran (hand_view a).trail k → Ran (hand_view b).trail k
 calls_ran p valid cap [] a b calls none lone k ran = subst (λ r. Ran (hand_view r).trail k) (sym calls) ran
 calls_ran p valid cap (Asked o ∷ cs) a b calls none lone k ran =
     asked_keeps (calls_lone p cap cs a calls.0 calls.1 lone) (come_first p o valid calls.2.1.in_range) calls.2.0 calls.2.1.does k
@@ -159,14 +159,14 @@ module _ (p : Plan) (valid : IsPlan p) where
 
   -- all words stay
   module _ (t u : List Item) (same : (k : ℕ) → known u k ≡ known t k) where
-    due_as : (o : ℕ) → IsDue p t o → IsDue p u o
+    due_as : (o : ℕ) → AreSourcesRun p t o → AreSourcesRun p u o
     due_as o due s source = ran_as t u s (same s) (due s source)
 
-    due_back : (o : ℕ) → IsDue p u o → IsDue p t o
+    due_back : (o : ℕ) → AreSourcesRun p u o → AreSourcesRun p t o
     due_back o due s source = ran_as u t s (sym (same s)) (due s source)
 
     -- and those that were asked in vain are not due
-    stands_as : (pending rest : List ℕ) (pushed : List ℕ) (o : ℕ) → (NotBegun t o → IsDue p t o → Contains pending o → Contains rest o) → Stands p pending t pushed o → Stands p rest u pushed o
+    stands_as : (pending rest : List ℕ) (pushed : List ℕ) (o : ℕ) → (NotBegun t o → AreSourcesRun p t o → Contains pending o → Contains rest o) → Stands p pending t pushed o → Stands p rest u pushed o
     stands_as pending rest pushed o asked stands =
         elim stands [
           | inl waits ↦
@@ -194,7 +194,7 @@ module _ (p : Plan) (valid : IsPlan p) where
   pub unmade_stands : (d : ℕ) (rest : List ℕ) (t u : List Item) (pushed : List ℕ) → IsUnmadeAlone p d t u → AllStand p (d ∷ rest) t pushed → AllStand p rest u pushed
   unmade_stands d rest t u pushed is all o lt = stands_as t u is.same (d ∷ rest) rest pushed o asked (all o lt)
     where
-      asked : NotBegun t o → IsDue p t o → Contains (d ∷ rest) o → Contains rest o
+      asked : NotBegun t o → AreSourcesRun p t o → Contains (d ∷ rest) o → Contains rest o
       asked fresh due inside =
           elim (contains_cases d rest o inside) [
             | inr later ↦ later
@@ -318,7 +318,7 @@ module _ (p : Plan) (valid : IsPlan p) where
 
   -- it was evaluated: those that read from it are to be asked
   module _ (o : ℕ) (inside : o < op_count p) (readers : List ℕ) (t u : List Item) (pushed : List ℕ) (is : IsEvaluatedAlone p o t u) (all : AllStand p [] t pushed) (reads : (k : ℕ) → k < op_count p → Contains readers k ⊎ (IsSourceOf p k o → ⊥)) where
-    was_due : IsDue p t o
+    was_due : AreSourcesRun p t o
     was_due s source = valued_ran p valid [] t pushed s (all s (source_inside p valid o s inside source)) (is.sources s source)
 
     was_pushed : sum_by (is_one o) pushed ≡ 1

@@ -21,16 +21,16 @@ use Rattle.steal_explorer.specs.declared.finding.Found.{Found}
 use Rattle.steal_explorer.specs.declared.finding.Found.TheVariants.{Item, Nothing, Retry}
 use Rattle.steal_explorer.specs.declared.handing.Log.{Log}
 use Rattle.steal_explorer.specs.declared.members.Member.{Member}
-use Rattle.steal_explorer.specs.Calls.{Call, Asked, Tried, Swept, is_tried, Calls, Calling}
+use Rattle.steal_explorer.specs.Calls.{ServeCall, Asked, Tried, Swept, is_tried, MakesServeCalls, MakesServeCall}
 use Rattle.steal_explorer.specs.Draining.{in_plan}
 use Rattle.steal_explorer.specs.Finding.{weight_of}
 use Rattle.steal_explorer.specs.Members.{Thief, Ticket, own, tickets_of, stolen_by, taken_by}
-use Rattle.steal_explorer.specs.Serving.{Goes}
+use Rattle.steal_explorer.specs.Serving.{ServesOn}
 use Rattle.steal_explorer.specs.Turns.{After, Turns}
 
 -- ---- calls
 
-pub calls_keep : (p : Plan) (cap o : ℕ) (cs : List Call) (a b : Runner) → Calls p cap cs a b → IsReached p o (hand_view a).trail → IsReached p o (hand_view b).trail
+pub calls_keep : (p : Plan) (cap o : ℕ) (cs : List ServeCall) (a b : Runner) → MakesServeCalls p cap cs a b → IsReached p o (hand_view a).trail → IsReached p o (hand_view b).trail
 calls_keep p cap o [] a b calls is = subst (λ r. IsReached p o (hand_view r).trail) (sym calls) is
 calls_keep p cap o (Asked q ∷ cs) a b calls is =
     let does = calls.2.1.does in
@@ -43,7 +43,7 @@ calls_keep p cap o (Swept g ∷ cs) a b calls is =
     subst (IsReached p o) (sym does.goes.adds.trail) (reached_more does.words (calls_keep p cap o cs a calls.0 calls.1 is))
 
 -- what was tried was reached
-pub calls_reach : (p : Plan) (cap o : ℕ) (cs : List Call) (a b : Runner) → Calls p cap cs a b → Contains cs (Tried o) → IsReached p o (hand_view b).trail
+pub calls_reach : (p : Plan) (cap o : ℕ) (cs : List ServeCall) (a b : Runner) → MakesServeCalls p cap cs a b → Contains cs (Tried o) → IsReached p o (hand_view b).trail
 calls_reach p cap o [] a b calls found = absurd (omega (arith, found.1))
 calls_reach p cap o (Asked q ∷ cs) a b calls found =
     let does = calls.2.1.does in
@@ -76,7 +76,7 @@ calls_reach p cap o (Swept g ∷ cs) a b calls found =
 
 -- ---- serving takes nothing
 
-goes_taken : (p : Plan) (cap : ℕ) (abort : Abort) (a b : Member) → Goes p cap abort a b → (h : ℕ → ℕ) → taken_by h b ≡ taken_by h a
+goes_taken : (p : Plan) (cap : ℕ) (abort : Abort) (a b : Member) → ServesOn p cap abort a b → (h : ℕ → ℕ) → taken_by h b ≡ taken_by h a
 goes_taken p cap abort a b goes h =
     let e : sum_by h (own b).popped ≡ sum_by h (own a).popped = ap (λ (v : Log). sum_by h v.popped) goes.puts in
     let f : stolen_by h (tickets_of b) ≡ stolen_by h (tickets_of a) = ap (λ (l : Contents Ticket). stolen_by h l.items) goes.tickets in
@@ -105,15 +105,15 @@ turns_taken p cap abort ts a (f ∷ fs) b made h =
 
 -- calls of the runner in which each item that is one of the plan's operations was tried, each at a turn of its own
 pub record TurnsTell (p : Plan) (cap : ℕ) (fs : List Found) (a b : Member) : Type 0 where
-  pub calls : List Call
-  pub made : Calls p cap calls a.runner b.runner
+  pub calls : List ServeCall
+  pub made : MakesServeCalls p cap calls a.runner b.runner
   pub tried : (x : ℕ) → Contains fs (Item x) → x < op_count p → Contains calls (Tried x)
   pub many : sum_by (weight_of (in_plan p)) fs ≤ count_by is_tried calls
 
-pub count_both : (xs ys : List Call) → count_by is_tried (xs ++ ys) ≡ count_by is_tried xs + count_by is_tried ys
+pub count_both : (xs ys : List ServeCall) → count_by is_tried (xs ++ ys) ≡ count_by is_tried xs + count_by is_tried ys
 count_both xs ys = sum_by-append (λ x. cond (is_tried x) 1 0) xs ys
 
-pub one_tried : (cs : List Call) (o : ℕ) → Contains cs (Tried o) → 1 ≤ count_by is_tried cs
+pub one_tried : (cs : List ServeCall) (o : ℕ) → Contains cs (Tried o) → 1 ≤ count_by is_tried cs
 one_tried [] o found = absurd (omega (arith, found.1))
 one_tried (Tried q ∷ cs) o found = let e : count_by is_tried (Tried q ∷ cs) ≡ 1 + count_by is_tried cs = sum_by-cons (λ x. cond (is_tried x) 1 0) (Tried q) cs in omega arith
 one_tried (Asked q ∷ cs) o found =
@@ -155,8 +155,8 @@ module _ (p : Plan) where
 
 module _ (p : Plan) (cap : ℕ) (abort : Abort) where
   pub record AfterTells (f : Found) (a b : Member) : Type 0 where
-    pub calls : List Call
-    pub made : Calls p cap calls a.runner b.runner
+    pub calls : List ServeCall
+    pub made : MakesServeCalls p cap calls a.runner b.runner
     pub tried : (x : ℕ) → f ≡ Item x → x < op_count p → Contains calls (Tried x)
     pub many : weight_of (in_plan p) f ≤ count_by is_tried calls
 
@@ -213,7 +213,7 @@ module _ (p : Plan) (cap : ℕ) (abort : Abort) where
       let last = after_tells f made.2.found b made.2.after in
       record {
         calls = last.calls ++ rest.calls;
-        made = in_turn_append (Calling p cap) last.calls rest.calls a.runner made.0.runner b.runner rest.made (subst (λ r. Calls p cap last.calls r b.runner) made.2.finds.runner last.made);
+        made = in_turn_append (MakesServeCall p cap) last.calls rest.calls a.runner made.0.runner b.runner rest.made (subst (λ r. MakesServeCalls p cap last.calls r b.runner) made.2.finds.runner last.made);
         tried = λ x found lt.
             elim (contains_cases f fs (Item x) found) [
               | inl same ↦ Contains-append_left last.calls rest.calls (Tried x) (last.tried x (sym same) lt)
@@ -231,7 +231,7 @@ module _ (p : Plan) (cap : ℕ) (abort : Abort) where
 
 module _ (p : Plan) (cap : ℕ) where
   -- the answers are at least as many as the operations that were tried, or one of them is at the greatest number
-  pub calls_total : (cs : List Call) (a b : Runner) → Calls p cap cs a b → (total a.answers + count_by is_tried cs ≤ total b.answers) ⊎ (2 ^ 64 ≤ total b.answers + 1)
+  pub calls_total : (cs : List ServeCall) (a b : Runner) → MakesServeCalls p cap cs a b → (total a.answers + count_by is_tried cs ≤ total b.answers) ⊎ (2 ^ 64 ≤ total b.answers + 1)
   calls_total [] a b calls = inl (let e : total b.answers ≡ total a.answers = ap (λ (r : Runner). total r.answers) calls in omega arith)
   calls_total (Asked o ∷ cs) a b calls =
       let e : total b.answers ≡ total calls.0.answers = ap total calls.2.1.answers in

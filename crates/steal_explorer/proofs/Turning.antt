@@ -9,7 +9,7 @@ use Rattle.steal_explorer.specs.declared.finding.Found.{Found}
 use Rattle.steal_explorer.specs.declared.finding.Found.TheVariants.{Item, Nothing, Retry}
 use Rattle.steal_explorer.specs.declared.members.Member.{Member}
 use Rattle.steal_explorer.specs.Members.{Thief, HasTickets}
-use Rattle.steal_explorer.specs.Turns.{After, Turn, Turns, row_then, row_of, WentOn, most_turns, Ran}
+use Rattle.steal_explorer.specs.Turns.{After, Turn, Turns, row_then, row_of, WentOn, most_turns, RanTurns}
 use Rattle.steal_explorer.proofs.Going.{tickets_kept}
 
 pub after_tickets : (p : Plan) (cap : ℕ) (abort : Abort) (ts : List Thief) (f : Found) (a b : Member) → HasTickets ts a → After p cap abort f a b → HasTickets ts b
@@ -52,7 +52,7 @@ module _ (p : Plan) (cap : ℕ) (abort : Abort) (ts : List Thief) (a : Member) w
     row_most = let e : row_then row f ≤ row + 1 = row_rises row f in omega arith
 
     -- 64 in a row
-    pub drained : turn < most_turns p → 64 ≤ next → Ran p cap abort ts a Drained b
+    pub drained : turn < most_turns p → 64 ≤ next → RanTurns p cap abort ts a Drained b
     unfolding turned
     drained lt full = record {
       turns = f ∷ is.turns;
@@ -61,7 +61,7 @@ module _ (p : Plan) (cap : ℕ) (abort : Abort) (ts : List Thief) (a : Member) w
       ends = (let e = turned.row_is in let most = row_most in omega arith, let e = turned.count in omega arith);
     }
 
-  pub spent : (turn row : ℕ) (b : Member) → IsTurning p cap abort ts a turn row b → row < 64 → turn ≡ most_turns p → Ran p cap abort ts a Spent b
+  pub spent : (turn row : ℕ) (b : Member) → IsTurning p cap abort ts a turn row b → row < 64 → turn ≡ most_turns p → RanTurns p cap abort ts a Spent b
   spent turn row b is few all = record {
     turns = is.turns;
     made = is.made;

@@ -1,4 +1,4 @@
--- How deques are made, and how the operations of level 1 are dealt to them.
+-- How deques are made, and how the operations of level 1 are dealt to them
 use Rattle.std.specs.Prelude.{◌≡◌, ℕ, ◌+◌, ◌%◌, ◌<◌, ◌≤◌, ◌==◌, List, [], map, filter, length, slice_index, slice_index_or}
 use Rattle.crossbeam_deque.specs.Handles.{worker_deque, stealer_deque, worker_flavor, stealer_flavor, worker_view, worker_capacity, worker_index, SameWorker}
 use Rattle.morph_base.specs.declared.plan.Plan.{Plan}
@@ -10,26 +10,30 @@ use Rattle.steal_explorer.specs.declared.deques.Seat.{Seat}
 use Rattle.steal_explorer.specs.Handing.{whole, log, put}
 use Rattle.steal_explorer.specs.Members.{Thief}
 
--- the operations of level 1, rising
+-- The operations of level 1, by rising number
 abbrev pub level_one : Plan → List ℕ
 level_one p = filter (λ o. (op_at p o).level == 1) (below (op_count p))
 
--- the items of a list at the places k, k + many, k + 2 * many and so on
+-- The items of the list at the places k, k + many, k + 2 * many and so on
 abbrev pub dealt_to : (many k : ℕ) → List ℕ → List ℕ
 dealt_to many k xs = map (slice_index xs) (filter (λ i. i % many == k) (below (length xs)))
 
+-- What was pushed on the deque of a seat
 abbrev pub pushed_on : Seat → List ℕ
 pushed_on s = (worker_view s.owner).pushed
 
--- the operations of level 1 lie in deques, in turn
+-- The operations of level 1 were dealt to the deques of the seats, in turn
 abbrev pub LieIn : Plan → List Seat → Type 0
-LieIn p ss = (k : ℕ) (s : Seat) → k < length ss → pushed_on (slice_index_or ss k s) ≡ dealt_to (length ss) k (level_one p)
+LieIn p ss =
+    (k : ℕ) (s : Seat) → k < length ss → pushed_on (slice_index_or ss k s) ≡ dealt_to (length ss) k (level_one p)
 
+-- The operations of level 1 were dealt to the deques, in turn
 abbrev pub AreDealt : Plan → Deques → Type 0
 AreDealt p d = LieIn p d.seats.items
 
--- a deque for `capacity` pushes in which nothing lies, which is that of the thief, and a list for the tickets of `many` deques
-pub record IsOpened (capacity many : ℕ) (t : Thief) (s : Seat) : Type 0 where
+-- The seat has an empty deque for `capacity` pushes, from which this thief steals, and a list for the tickets of `many`
+-- deques
+pub record IsOpenedSeat (capacity many : ℕ) (t : Thief) (s : Seat) : Type 0 where
   pub fifo : worker_flavor s.owner ≡ 0
   pub deque : worker_deque s.owner ≡ stealer_deque t
   pub flavor : stealer_flavor t ≡ 0
@@ -40,16 +44,19 @@ pub record IsOpened (capacity many : ℕ) (t : Thief) (s : Seat) : Type 0 where
   pub none : s.tickets.items ≡ []
   pub room : s.tickets.room ≡ many
 
+-- Each seat has an empty deque for `capacity` pushes, from which the thief of its number steals, and a list for the
+-- tickets of `many` deques
 pub record AreOpened (capacity many : ℕ) (ts : List Thief) (ss : List Seat) : Type 0 where
   pub len : length ss ≡ length ts
-  pub each : (k : ℕ) (t : Thief) (s : Seat) → k < length ss → IsOpened capacity many (slice_index_or ts k t) (slice_index_or ss k s)
+  pub each : (k : ℕ) (t : Thief) (s : Seat) → k < length ss
+      → IsOpenedSeat capacity many (slice_index_or ts k t) (slice_index_or ss k s)
 
--- so many more pushes on a deque cannot be refused
+-- The deque has room for this many more pushes, so that none is refused
 pub record CanTake (many : ℕ) (s : Seat) : Type 0 where
   pub part : 0 < (worker_view s.owner).parts
   pub room : worker_index s.owner + many ≤ worker_capacity s.owner
 
--- items were pushed on a deque, one after the other
+-- The items xs were pushed on the deque of a seat, one after the other
 pub record HasGot (xs : List ℕ) (a b : Seat) : Type 0 where
   pub same : SameWorker a.owner b.owner
   pub puts : worker_view b.owner ≡ put (worker_view a.owner) xs
@@ -57,7 +64,8 @@ pub record HasGot (xs : List ℕ) (a b : Seat) : Type 0 where
   pub handed : (n : ℕ) → a.handed ≡ up_to n → b.handed ≡ up_to (n + length xs)
   pub tickets : b.tickets ≡ a.tickets
 
--- items were dealt to deques in turn
+-- The items xs were dealt to the deques of the seats, in turn
 pub record HaveGot (xs : List ℕ) (old new : List Seat) : Type 0 where
   pub len : length new ≡ length old
-  pub each : (k : ℕ) (s : Seat) → k < length old → HasGot (dealt_to (length old) k xs) (slice_index_or old k s) (slice_index_or new k s)
+  pub each : (k : ℕ) (s : Seat) → k < length old
+      → HasGot (dealt_to (length old) k xs) (slice_index_or old k s) (slice_index_or new k s)

@@ -1,4 +1,4 @@
--- What becomes of items that are left in a deque once all workers have returned.
+-- What becomes of items that are left in a deque once all workers have returned
 use Rattle.std.specs.Prelude.{◌≡◌, ℕ, ◌<◌, ◌≤◌, cond, nat_lt, List, [], Contains, count_by, sum_by, length, slice_index_or}
 use Rattle.crossbeam_deque.specs.Handles.{worker_flavor}
 use Rattle.morph_base.specs.declared.plan.Plan.{Plan}
@@ -9,58 +9,61 @@ use Rattle.op_eval.specs.declared.explored.RunEnd.{RunEnd}
 use Rattle.op_eval.specs.declared.explored.RunEnd.TheVariants.{Whole, Drained, Spent}
 use Rattle.op_eval.specs.declared.runner.Runner.{Runner}
 use Rattle.steal_explorer.specs.declared.members.Member.{Member}
-use Rattle.steal_explorer.specs.Calls.{Call, Tried, is_tried, Calls, Walked}
+use Rattle.steal_explorer.specs.Calls.{ServeCall, Tried, is_tried, MakesServeCalls, WalkedUnit}
 use Rattle.steal_explorer.specs.Handing.{whole, got, spare, came, gone}
-use Rattle.steal_explorer.specs.Members.{Owner, own, IsIdle}
+use Rattle.steal_explorer.specs.Members.{Owner, own}
+use Rattle.op_eval.specs.Running.{IsFreeRunner}
 
--- all that came into its deque has left it
+-- All items that came into the worker's deque have left it
 abbrev pub IsEven : Member → Type 0
 IsEven m = (h : ℕ → ℕ) → came h (own m) ≡ gone h (own m)
 
--- they were left with nobody
-pub record IsLeft (a b : Member) : Type 0 where
+-- The items of the worker's deque were left with nobody
+pub record IsLeftWithNobody (a b : Member) : Type 0 where
   pub owner : Owner
   pub is : b ≡ record a { owner = owner }
   pub items : List ℕ
   pub left : own b ≡ spare (own a) items
   pub even : IsEven b
 
--- the unit of an operation of the plan was walked, and nothing was done for another
+-- The unit of o was walked if o is an operation of the plan. Else nothing was done
 abbrev pub WalkedKnown : Plan → (cap : ℕ) → Abort → (o : ℕ) → Runner → Runner → Type 0
-WalkedKnown p cap abort o a b = (o < op_count p → Walked p cap abort o a b) × (op_count p ≤ o → b ≡ a)
+WalkedKnown p cap abort o a b = (o < op_count p → WalkedUnit p cap abort o a b) × (op_count p ≤ o → b ≡ a)
 
--- whether an item is one of the plan's operations, as a number
+-- The number 1 if the item is one of the plan's operations, else 0
 abbrev pub in_plan : Plan → ℕ → ℕ
 in_plan p x = cond (nat_lt x (op_count p)) 1 0
 
--- they were taken by the worker, and it tried each that is one of the plan's operations, in a call of its own
+-- The worker took the items of its deque, and tried each that is one of the plan's operations, in a call of its own
 pub record IsCleared (p : Plan) (cap : ℕ) (a b : Member) : Type 0 where
   pub owner : Owner
   pub is : b ≡ record a { runner = b.runner; owner = owner }
   pub items : List ℕ
   pub popped : own b ≡ got (own a) items
-  pub calls : List Call
-  pub made : Calls p cap calls a.runner b.runner
+  pub calls : List ServeCall
+  pub made : MakesServeCalls p cap calls a.runner b.runner
   pub tried : (x : ℕ) → Contains items x → x < op_count p → Contains calls (Tried x)
   pub many : sum_by (in_plan p) items ≤ count_by is_tried calls
   pub quiet : items ≡ [] → b.runner ≡ a.runner
   pub even : IsEven b
 
--- it has all parts of its deque, and its runner holds nothing
+-- The worker has all parts of its deque, and its runner holds nothing
 pub record HasAll (b : Board) (m : Member) : Type 0 where
-  pub idle : IsIdle b m.runner
+  pub idle : IsFreeRunner b m.runner
   pub fifo : worker_flavor m.owner ≡ 0
   pub all : (own m).parts ≡ whole
 
--- its deque was emptied as the cause of its end wants it
+-- The worker's deque was emptied in the way that this cause of its end asks for
 abbrev pub IsEmptiedBy : Plan → (cap : ℕ) → RunEnd → Member → Member → Type 0
 IsEmptiedBy p cap Drained a b = IsCleared p cap a b
-IsEmptiedBy p cap Spent a b = IsLeft a b
-IsEmptiedBy p cap Whole a b = IsLeft a b
+IsEmptiedBy p cap Spent a b = IsLeftWithNobody a b
+IsEmptiedBy p cap Whole a b = IsLeftWithNobody a b
 
+-- The worker's deque was emptied in the way that the cause of its end asks for
 abbrev pub IsEmptied : Plan → (cap : ℕ) → Member → Member → Type 0
 IsEmptied p cap a b = IsEmptiedBy p cap a.end a b
 
+-- The deque of each worker was emptied in the way that the cause of its end asks for
 pub record AreEmptied (p : Plan) (cap : ℕ) (ms ns : List Member) : Type 0 where
   pub len : length ns ≡ length ms
   pub each : (k : ℕ) (m : Member) → k < length ms → IsEmptied p cap (slice_index_or ms k m) (slice_index_or ns k m)

@@ -1,4 +1,4 @@
--- How workers get all parts of their deques back: the last deque first, and from each worker its last ticket.
+-- How workers get all parts of their deques back: the last deque first, and from each worker its last ticket
 use Rattle.std.specs.Prelude.{◌≡◌, ◌≢◌, ℕ, ◌+◌, ◌<◌, ◌≤◌, List, [], map, length, sum_by, slice_index_or}
 use Rattle.crossbeam_deque.specs.Handles.{view, worker_deque, stealer_deque, worker_flavor, SameWorker}
 use Rattle.op_eval.specs.declared.explored.RunEnd.{RunEnd}
@@ -7,31 +7,33 @@ use Rattle.steal_explorer.specs.declared.members.Member.{Member}
 use Rattle.steal_explorer.specs.Handing.{whole, log, both, came, gone}
 use Rattle.steal_explorer.specs.Members.{Owner, Thief, Ticket, own, tickets_of, stolen_by, SitsAt}
 
--- a ticket was taken back
+-- The worker took this ticket of its deque back
 pub record Regains (x : Ticket) (a b : Member) : Type 0 where
   pub owner : Owner
   pub is : b ≡ record a { owner = owner }
   pub same : SameWorker a.owner owner
   pub both_is : own b ≡ both (own a) (view x)
 
--- worker i has the tickets of the first `many` deques
+-- Worker i has the tickets of the first `many` deques
 pub record HasStill (ts : List Thief) (many i : ℕ) (m : Member) : Type 0 where
   pub number : m.number ≡ i
   pub fifo : worker_flavor m.owner ≡ 0
   pub deque : (t : Thief) → worker_deque m.owner ≡ stealer_deque (slice_index_or ts i t)
   pub len : length (tickets_of m) ≡ many
-  pub seated : (j : ℕ) (t : Thief) (x : Ticket) → j < many → j ≢ i → SitsAt (slice_index_or ts j t) (slice_index_or (tickets_of m) j x)
+  pub seated : (j : ℕ) (t : Thief) (x : Ticket) → j < many → j ≢ i
+      → SitsAt (slice_index_or ts j t) (slice_index_or (tickets_of m) j x)
   pub guest : (x : Ticket) → i < many → view (slice_index_or (tickets_of m) i x) ≡ log 0 [] [] [] []
 
--- all workers have the tickets of the first `many` deques, and all parts of the others
+-- All workers have the tickets of the first `many` deques, and all parts of the other deques
 pub record AreHolding (ts : List Thief) (many : ℕ) (ms : List Member) : Type 0 where
   pub len : length ms ≡ length ts
   pub few : length ts ≤ whole
   pub still : (i : ℕ) (m : Member) → i < length ms → HasStill ts many i (slice_index_or ms i m)
   pub all : (i : ℕ) (m : Member) → many ≤ i → i < length ms → (own (slice_index_or ms i m)).parts ≡ whole
-  pub lent : (i : ℕ) (m : Member) → i < many → i < length ms → (own (slice_index_or ms i m)).parts + length ts ≡ whole + 1
+  pub lent :
+      (i : ℕ) (m : Member) → i < many → i < length ms → (own (slice_index_or ms i m)).parts + length ts ≡ whole + 1
 
--- the first j workers have given back their tickets of deque k
+-- The first j workers have given back their tickets of deque k
 pub record AreRegaining (ts : List Thief) (k j : ℕ) (ms : List Member) : Type 0 where
   pub len : length ms ≡ length ts
   pub few : length ts ≤ whole
@@ -42,15 +44,16 @@ pub record AreRegaining (ts : List Thief) (k j : ℕ) (ms : List Member) : Type 
   pub before : (m : Member) → j ≤ k → (own (slice_index_or ms k m)).parts + length ts ≡ whole + 1 + j
   pub past : (m : Member) → k < j → (own (slice_index_or ms k m)).parts + length ts ≡ whole + j
 
--- over all that went out by a worker
+-- The sum of h over all items that went out by the worker
 abbrev pub out : (ℕ → ℕ) → Member → ℕ
 out h m = gone h (own m) + stolen_by h (tickets_of m)
 
+-- The sum of h over all items that came in by the worker
 abbrev pub in_of : (ℕ → ℕ) → Member → ℕ
 in_of h m = came h (own m)
 
--- what a worker keeps
-pub record Kept : Type 0 where
+-- What a worker keeps while parts of deques are given back
+pub record KeptByWorker : Type 0 where
   pub runner : Runner
   pub number : ℕ
   pub end : RunEnd
@@ -60,7 +63,8 @@ pub record Kept : Type 0 where
   pub popped : List ℕ
   pub left : List ℕ
 
-abbrev pub kept_of : Member → Kept
+-- What this worker keeps
+abbrev pub kept_of : Member → KeptByWorker
 kept_of m = record {
   runner = m.runner;
   number = m.number;
@@ -72,7 +76,7 @@ kept_of m = record {
   left = (own m).left;
 }
 
--- nothing came in or went out, and workers kept what they have but for tickets and parts
+-- Nothing came in or went out, and workers kept all they have except tickets and parts
 pub record AreTotals (ms ns : List Member) : Type 0 where
   pub out_is : (h : ℕ → ℕ) → sum_by (out h) ns ≡ sum_by (out h) ms
   pub kept : map kept_of ns ≡ map kept_of ms

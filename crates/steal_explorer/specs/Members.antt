@@ -1,5 +1,5 @@
--- A worker that explores: its runner, its deque, and what it has done at the others'.
-use Rattle.std.specs.Prelude.{◌≡◌, ℕ, ◌+◌, ◌<◌, ◌≤◌, List, [], All, None, length, sum_by, slice_index_or}
+-- A worker that explores: its runner, its deque, and what it has done at the others' deques
+use Rattle.std.specs.Prelude.{◌≡◌, ℕ, ◌+◌, ◌<◌, ◌≤◌, List, [], All, length, sum_by, slice_index_or}
 use Rattle.std.specs.Global.{Global}
 use Rattle.crossbeam_deque.specs.declared.handles.Worker.{Worker}
 use Rattle.crossbeam_deque.specs.declared.handles.Stealer.{Stealer}
@@ -8,69 +8,70 @@ use Rattle.morph_base.specs.declared.plan.Plan.{Plan}
 use Rattle.morph_base.specs.Graphs.{IsValidPlan}
 use Rattle.morph_base.specs.Plans.{op_count}
 use Rattle.chain_units.specs.Places.{IsPartition}
-use Rattle.op_words.specs.declared.board.Board.{Board}
-use Rattle.op_words.specs.Hands.{IsHandOf, plan_of, up_to}
+use Rattle.op_words.specs.Hands.{plan_of, up_to}
 use Rattle.op_eval.specs.declared.runner.Runner.{Runner}
-use Rattle.op_eval.specs.Running.{hand_view}
+use Rattle.op_eval.specs.Running.{IsFreeRunner}
 use Rattle.steal_explorer.specs.declared.handing.Fair.{Fair}
 use Rattle.steal_explorer.specs.declared.handing.Log.{Log}
 use Rattle.steal_explorer.specs.declared.members.Ground.{Ground}
 use Rattle.steal_explorer.specs.declared.members.Member.{Member}
 use Rattle.steal_explorer.specs.Handing.{whole, log, one}
 
+-- A deque as its own worker holds it
 abbrev pub Owner : Type 0
 Owner = Worker ℕ Global Log Fair
 
+-- A deque as other workers steal from it
 abbrev pub Thief : Type 0
 Thief = Stealer ℕ Global Log Fair
 
+-- A hold on one part of a deque
 abbrev pub Ticket : Type 0
 Ticket = Pass ℕ Log Global
 
--- what was done at the worker's own deque, by itself
+-- What the worker itself has done at its own deque
 abbrev pub own : Member → Log
 own m = worker_view m.owner
 
+-- The worker's tickets, one for each deque
 abbrev pub tickets_of : Member → List Ticket
 tickets_of m = m.tickets.items
 
--- over the items that were stolen by tickets, and over those that a worker popped or stole
+-- The sum of h over the items that were stolen by these tickets
 abbrev pub stolen_by : (ℕ → ℕ) → List Ticket → ℕ
 stolen_by h xs = sum_by (λ (x : Ticket). sum_by h (view x).stolen) xs
 
+-- The sum of h over the items that the worker popped or stole
 abbrev pub taken_by : (ℕ → ℕ) → Member → ℕ
 taken_by h m = sum_by h (own m).popped + stolen_by h (tickets_of m)
 
--- the plan is the board's, and the units are its
+-- The plan is the board's and valid, and the units are the plan's
 pub record IsGround (g : Ground) : Type 0 where
   pub plan : g.plan.now ≡ plan_of g.board.now
   pub valid : IsValidPlan g.plan.now
   pub units : IsPartition g.units.now.units (op_count g.plan.now)
   pub number : g.units.now.ops ≡ op_count g.plan.now
 
--- the runner's hand is of the board and holds nothing
-pub record IsIdle (b : Board) (r : Runner) : Type 0 where
-  pub hand : IsHandOf b r.hand
-  pub free : (hand_view r).claim ≡ None
-
--- its deque is first in first out, and it has a part of it; what it pushed are the plan's operations
+-- The worker's deque is first in first out, and the worker has a part of it. What it pushed are the plan's operations
 pub record HasDeque (p : Plan) (m : Member) : Type 0 where
   pub fifo : worker_flavor m.owner ≡ 0
   pub part : 0 < (own m).parts
   pub below : All (λ x. x < op_count p) (own m).pushed
   pub handed : m.handed ≡ up_to (length (own m).pushed)
 
--- a ticket with one part of a deque that is first in first out, which stole and did nothing else
+-- The ticket has one part of this deque, which is first in first out, and stole from it and did nothing else
 pub record SitsAt (t : Thief) (x : Ticket) : Type 0 where
   pub of : IsPassOf (stealer_deque t) x
   pub fifo : stealer_flavor t ≡ 0
   pub view_is : view x ≡ log 1 [] [] (view x).stolen []
 
--- of the deques whose numbers are from `from` on and below `to`
+-- For each deque whose number is from `from` on and below `to`, the ticket has one part of it, and stole from it and
+-- did nothing else
 abbrev pub AreSeated : List Thief → (from to : ℕ) → List Ticket → Type 0
-AreSeated ts from to xs = (k : ℕ) (t : Thief) (x : Ticket) → from ≤ k → k < to → SitsAt (slice_index_or ts k t) (slice_index_or xs k x)
+AreSeated ts from to xs =
+    (k : ℕ) (t : Thief) (x : Ticket) → from ≤ k → k < to → SitsAt (slice_index_or ts k t) (slice_index_or xs k x)
 
--- it lent one part of its deque to each other worker, and has a ticket with one part of each other deque
+-- The worker has lent one part of its deque to each other worker, and has a ticket with one part of each other deque
 pub record HasTickets (ts : List Thief) (m : Member) : Type 0 where
   pub inside : m.number < length ts
   pub few : length ts ≤ whole
@@ -84,8 +85,8 @@ pub record HasTickets (ts : List Thief) (m : Member) : Type 0 where
   pub guest : (x : Ticket) → view (slice_index_or (tickets_of m) m.number x) ≡ log 0 [] [] [] []
   pub stolen : m.stolen ≡ up_to (stolen_by one (tickets_of m))
 
--- a worker that may take turns, or did
-pub record IsWorker (g : Ground) (ts : List Thief) (m : Member) : Type 0 where
-  pub idle : IsIdle g.board.now m.runner
+-- The worker may take turns, or has taken them
+pub record IsWorkerOf (g : Ground) (ts : List Thief) (m : Member) : Type 0 where
+  pub idle : IsFreeRunner g.board.now m.runner
   pub deque : HasDeque g.plan.now m
   pub tickets : HasTickets ts m

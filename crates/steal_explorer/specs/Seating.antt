@@ -1,4 +1,4 @@
--- Runners beside their deques.
+-- Runners beside their deques
 use Rattle.std.specs.Prelude.{◌≡◌, ℕ, ◌+◌, ◌<◌, ◌≤◌, List, [], All, map, length, sum_by, slice_index_or}
 use Rattle.crossbeam_deque.specs.Handles.{view, worker_deque, stealer_deque, worker_flavor, worker_view, worker_capacity, worker_index}
 use Rattle.morph_base.specs.declared.plan.Plan.{Plan}
@@ -13,13 +13,15 @@ use Rattle.steal_explorer.specs.Dealing.{level_one}
 use Rattle.steal_explorer.specs.Handing.{whole, log}
 use Rattle.steal_explorer.specs.Members.{Thief, Ticket, stolen_by, AreSeated}
 
+-- The runner of a worker
 abbrev pub runner_of : Member → Runner
 runner_of m = m.runner
 
+-- The seat of a worker
 abbrev pub seat_of : Member → Seat
 seat_of m = record { owner = m.owner; tickets = m.tickets; handed = m.handed }
 
--- each runner is beside the seat of its number, and nothing was stolen yet
+-- Each runner is beside the seat of its number, and nothing was stolen yet
 pub record AreSeatedBy (rs : List Runner) (ss : List Seat) (ms : List Member) : Type 0 where
   pub runners : map runner_of ms ≡ rs
   pub seats : map seat_of ms ≡ ss
@@ -27,7 +29,8 @@ pub record AreSeatedBy (rs : List Runner) (ss : List Seat) (ms : List Member) : 
   pub unstolen : All (λ m. m.stolen ≡ 0) ms
   pub ends : All (λ m. m.end ≡ Spent) ms
 
--- the seat of worker k: its deque, of which each other worker has a part, and its tickets, with which it has stolen nothing
+-- The seat of worker k has its deque, of which each other worker has a part, with capacity for as many pushes as there
+-- are operations. It has its tickets, with which it has stolen nothing
 pub record IsSeat (p : Plan) (ts : List Thief) (k : ℕ) (s : Seat) : Type 0 where
   pub fifo : worker_flavor s.owner ≡ 0
   pub deque : (t : Thief) → worker_deque s.owner ≡ stealer_deque (slice_index_or ts k t)
@@ -45,12 +48,14 @@ pub record IsSeat (p : Plan) (ts : List Thief) (k : ℕ) (s : Seat) : Type 0 whe
   pub guest : (x : Ticket) → view (slice_index_or s.tickets.items k x) ≡ log 0 [] [] [] []
   pub unstolen : (h : ℕ → ℕ) → stolen_by h s.tickets.items ≡ 0
 
--- deques on which a batch may be explored
+-- A batch may be explored on these deques, which have the operations of level 1, each once
 pub record AreReady (p : Plan) (d : Deques) : Type 0 where
   pub len : length d.seats.items ≡ length d.thieves.items
   pub few : length d.thieves.items ≤ whole
-  pub each : (k : ℕ) (s : Seat) → k < length d.seats.items → IsSeat p d.thieves.items k (slice_index_or d.seats.items k s)
+  pub each :
+      (k : ℕ) (s : Seat) → k < length d.seats.items → IsSeat p d.thieves.items k (slice_index_or d.seats.items k s)
   pub none : d.members.items ≡ []
   pub room : length d.seats.items ≤ d.members.room
-  -- what lies there are the operations of level 1, each once
-  pub dealt : (h : ℕ → ℕ) → sum_by (λ (s : Seat). sum_by h (worker_view s.owner).pushed) d.seats.items ≡ sum_by h (level_one p)
+  -- The items in the deques are the operations of level 1, each once
+  pub dealt :
+      (h : ℕ → ℕ) → sum_by (λ (s : Seat). sum_by h (worker_view s.owner).pushed) d.seats.items ≡ sum_by h (level_one p)

@@ -1,4 +1,4 @@
--- What serving an item makes of a worker.
+-- What serving an item makes of a worker
 use Rattle.std.specs.Prelude.{◌≡◌, ◌≢◌, ◌⊎◌, ℕ, Bool, true, false, Option, Some, None, List, [], ◌∷◌, Contains, filter}
 use Rattle.crossbeam_deque.specs.Handles.{worker_deque}
 use Rattle.morph_base.specs.Graphs.{below, reads_from}
@@ -18,41 +18,44 @@ use Rattle.abort_eager.specs.declared.cascade.Cascade.{Cascade}
 use Rattle.abort_eager.specs.Sweeps.{cascade_for}
 use Rattle.abort_eager.specs.Targets.{targets, targets_left}
 use Rattle.steal_explorer.specs.declared.members.Member.{Member}
-use Rattle.steal_explorer.specs.Calls.{Call, Tried, NoneSwept, Asks, Calls, SweepsOne, Walked}
+use Rattle.steal_explorer.specs.Calls.{ServeCall, Tried, NoneSwept, AsksWhetherReady, MakesServeCalls, SweepsOne, WalkedUnit}
 use Rattle.steal_explorer.specs.Handing.{put}
 use Rattle.steal_explorer.specs.Members.{own}
 
--- the operations that read from operation o, rising
+-- The operations that read from operation o, by rising number
 abbrev pub readers : Plan → ℕ → List ℕ
 readers p o = filter (reads_from p o) (below (op_count p))
 
--- its runner made calls, under lazy abort none of a cascade, and it pushed on its own deque; nothing else changed
-pub record Goes (p : Plan) (cap : ℕ) (abort : Abort) (a b : Member) : Type 0 where
+-- The worker's runner made calls, none of a cascade under lazy abort, and it pushed on its own deque. Nothing else
+-- changed
+pub record ServesOn (p : Plan) (cap : ℕ) (abort : Abort) (a b : Member) : Type 0 where
   pub number : b.number ≡ a.number
   pub tickets : b.tickets ≡ a.tickets
   pub stolen : b.stolen ≡ a.stolen
   pub end : b.end ≡ a.end
   pub deque : worker_deque b.owner ≡ worker_deque a.owner
-  pub calls : List Call
-  pub made : Calls p cap calls a.runner b.runner
+  pub calls : List ServeCall
+  pub made : MakesServeCalls p cap calls a.runner b.runner
   pub lazy : NoneSwept abort calls
   pub pushed : List ℕ
   pub puts : own b ≡ put (own a) pushed
 
 module _ (p : Plan) (cap : ℕ) (abort : Abort) where
-  -- an operation was pushed, or its unit was walked at once
+  -- Operation o was pushed, or its unit was walked at once
   abbrev pub PutsOrWalks : (o : ℕ) → Member → Member → Type 0
-  PutsOrWalks o a b = ((own b ≡ put (own a) (o ∷ [])) × (b.runner ≡ a.runner)) ⊎ Walked p cap abort o a.runner b.runner
+  PutsOrWalks o a b =
+      ((own b ≡ put (own a) (o ∷ [])) × (b.runner ≡ a.runner)) ⊎ WalkedUnit p cap abort o a.runner b.runner
 
-  -- an operation was asked; where that made it ready, it was pushed, or its unit was walked at once
+  -- Operation o was asked. If that made it ready, it was pushed, or its unit was walked at once
   pub record AsksAndPuts (o : ℕ) (a b : Member) : Type 0 where
     pub asked : Runner
     pub answer : Readied
-    pub asks : Asks p cap o a.runner asked answer
+    pub asks : AsksWhetherReady p cap o a.runner asked answer
     pub made : answer ≡ Made → PutsOrWalks o (record a { runner = asked }) b
     pub other : answer ≢ Made → b ≡ record a { runner = asked }
 
-  -- a target of a cascade was touched; where it was rolled back by that, it was asked, and pushed where that made it ready
+  -- The target of a cascade was touched. If that rolled an operation back, the operation was asked, and pushed if that
+  -- made it ready
   pub record TouchesOne (g : Target) (a b : Member) : Type 0 where
     pub touched : Runner
     pub answer : Touched
@@ -60,33 +63,34 @@ module _ (p : Plan) (cap : ℕ) (abort : Abort) where
     pub asked : answer.touch ≡ RolledBack → AsksAndPuts answer.op (record a { runner = touched }) b
     pub other : answer.touch ≢ RolledBack → b ≡ record a { runner = touched }
 
-  -- the first target that a cascade had left was; or none was left, and nothing was done
+  -- The first target that the cascade had left was touched; or none was left, and nothing was done
   abbrev pub TouchesNext : Bool → (before after : Cascade) → Member → Member → Type 0
   TouchesNext true c d a b = (g : Target) × (targets_left p c ≡ g ∷ targets_left p d) × TouchesOne g a b
   TouchesNext false c d a b = (targets_left p c ≡ []) × (b ≡ a)
 
-  -- all targets of a list were, one after another
+  -- All targets of the list were touched, one after another
   abbrev pub TouchesAll : List Target → Member → Member → Type 0
   TouchesAll [] a b = b ≡ a
   TouchesAll (g ∷ gs) a b = (m : Member) × TouchesOne g a m × TouchesAll gs m b
 
+  -- All targets of the cascade that follows were touched, if there is one
   abbrev pub TouchesFor : (o : ℕ) → Option Bool → Member → Member → Type 0
   TouchesFor o None a b = b ≡ a
   TouchesFor o (Some failed) a b = TouchesAll (targets p o failed) a b
 
-  -- operations were asked, one after another, and each was pushed, or its unit walked, if that made it ready
+  -- These operations were asked, one after another. Each that became ready was pushed, or its unit was walked
   abbrev pub AsksAll : List ℕ → Member → Member → Type 0
   AsksAll [] a b = b ≡ a
   AsksAll (o ∷ os) a b = (m : Member) × AsksAndPuts o a m × AsksAll os m b
 
-  -- all that read from operation o were, if it was evaluated; if it was not, nothing was done
+  -- All that read from operation o were asked, if o was evaluated. Else nothing was done
   abbrev pub AsksReaders : (o : ℕ) → Evaluation → Member → Member → Type 0
   AsksReaders o (Evaluated attempt ok) a b = AsksAll (readers p o) a b
   AsksReaders o (Blocked source word) a b = b ≡ a
   AsksReaders o (Busy word) a b = b ≡ a
   AsksReaders o (Already word) a b = b ≡ a
 
-  -- operation o was tried, the cascade behind that was run to its end, and then what reads from it was asked
+  -- Operation o was tried, the cascade that follows was run to its end, and then what reads from o was asked
   pub record Visits (o : ℕ) (a b : Member) : Type 0 where
     pub evaluated : Runner
     pub answer : Evaluation
@@ -94,16 +98,16 @@ module _ (p : Plan) (cap : ℕ) (abort : Abort) where
     pub swept : Member
     pub touches : TouchesFor o (cascade_for abort answer) (record a { runner = evaluated }) swept
     pub asks : AsksReaders o answer swept b
-    pub goes : Goes p cap abort swept b
+    pub goes : ServesOn p cap abort swept b
 
-  -- operations were visited, the last first
+  -- These operations were visited, the last one first
   abbrev pub VisitsAll : List ℕ → Member → Member → Type 0
   VisitsAll [] a b = b ≡ a
   VisitsAll (o ∷ os) a b = (m : Member) × VisitsAll os a m × Visits o m b
 
-  -- it went so, and tried to evaluate operation o; each operation that it tried was visited
+  -- The worker served operation o: it tried to evaluate o, and visited each operation that it tried
   pub record Serves (o : ℕ) (a b : Member) : Type 0 where
-    pub goes : Goes p cap abort a b
+    pub goes : ServesOn p cap abort a b
     pub tried : Contains goes.calls (Tried o)
     pub ops : List ℕ
     pub visits : VisitsAll ops a b

@@ -1,18 +1,18 @@
-//! How deques are made, and dealt the operations of level 1.
+//! Makes the deques, and deals the operations of level 1 to them.
 ghost use Rattle.std.specs.Prelude.{◌≡◌, ℕ, ◌<◌, ◌≤◌, ◌∷◌, [], All, IfOk, length};
 ghost use Rattle.crossbeam_deque.specs.Handles.{worker_view, worker_index, worker_capacity};
 ghost use Rattle.morph_base.specs.Graphs.{IsGraph};
 ghost use Rattle.morph_base.specs.Plans.{op_count};
-ghost use Rattle.steal_explorer.specs.Dealing.{IsOpened, AreOpened, CanTake, HasGot, HaveGot, level_one};
+ghost use Rattle.steal_explorer.specs.Dealing.{IsOpenedSeat, AreOpened, CanTake, HasGot, HaveGot, level_one};
 
 use crate::deques::Seat;
 use crate::handing::{Owner, Puts, Thief};
 use morph_base::{List, OutOfMemory, Plan};
 use std::alloc::Global;
 
-/// A deque with room for so many pushes in which nothing lies, and by what others steal from it.
+/// Makes an empty deque with room for this many pushes, and the thief by which others steal from it.
 fn open(alloc: Global, capacity: usize, count: usize) -> Result<(Seat, Thief), OutOfMemory>
-    ensures { IfOk result (λ made. IsOpened capacity count made.1 made.0) }
+    ensures { IfOk result (λ made. IsOpenedSeat capacity count made.1 made.0) }
 {
     let tickets = List::with_room(alloc, count)?;
     let owner = Owner::fifo_as(alloc, capacity)?;
@@ -25,7 +25,7 @@ fn open(alloc: Global, capacity: usize, count: usize) -> Result<(Seat, Thief), O
     Ok((seat, thief))
 }
 
-/// Makes a deque for each of so many workers.
+/// Makes a deque for each worker.
 pub(crate) fn open_all(
     alloc: Global,
     capacity: usize,

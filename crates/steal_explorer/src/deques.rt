@@ -14,7 +14,7 @@ use crate::members::Member;
 use morph_base::{List, OutOfMemory, Plan};
 use std::alloc::Global;
 
-/// What a worker has beside its runner: its deque, and for each deque what it will do there as a thief.
+/// What a worker has beside its runner: its deque, and a ticket for each deque, with what it has done there as a thief.
 #[derive(Drop)]
 pub struct Seat {
     pub owner: Owner,
@@ -30,7 +30,7 @@ pub struct Deques {
     pub(crate) members: List<Member>,
 }
 
-/// Deals the operations of level 1 to deques in which nothing lies, and then lends each one to the other workers.
+/// Deals the operations of level 1 to empty deques, and then lends each deque to the other workers.
 fn prepare(plan: &Plan, thieves: &[Thief], seats: &mut [Seat])
     requires valid { IsValidPlan plan.now }
     requires some { 0 < length seats.old }
@@ -52,11 +52,11 @@ impl Deques {
     ghost use Rattle.steal_explorer.specs.Dealing.{AreDealt};
     ghost use Rattle.steal_explorer.specs.Seating.{AreReady};
 
-    /// Deques for so many workers, each first in first out and with capacity for as many pushes as the plan has
+    /// Makes a deque for each worker. Each is first in first out and has capacity for as many pushes as the plan has
     /// operations.
     ///
-    /// The operations of level 1 are dealt to them in turn, worker 1 first; then each worker gets a ticket with one
-    /// part of each other deque. It takes all memory that exploring needs, and nothing but refused memory is an error.
+    /// The operations of level 1 are dealt to them in turn, worker 1 first. Then each worker gets a ticket with one
+    /// part of each other deque. The call takes all memory that exploring needs. The only error is refused memory.
     pub fn new(alloc: Global, plan: &Plan, workers: u32) -> Result<Deques, OutOfMemory>
         requires valid { IsValidPlan plan.now }
         requires some { 1 ≤ workers }
@@ -78,7 +78,7 @@ impl Deques {
         })
     }
 
-    /// How many operations were dealt to the deque of a worker, the first of whom is 1.
+    /// How many operations were dealt to the deque of a worker. Workers are numbered from 1.
     pub fn dealt(&self, worker: u32) -> u64
         requires some { 1 ≤ worker }
         requires few { worker ≤ length self.now.seats.items }

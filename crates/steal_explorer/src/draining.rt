@@ -1,11 +1,12 @@
-//! What is left in the deques once all workers have returned.
+//! Empties the deques once all workers have returned.
 ghost use Rattle.std.specs.Prelude.{◌≡◌, ◌<◌, ◌≤◌, All};
 ghost use Rattle.crossbeam_deque.specs.Handles.{worker_flavor};
 ghost use Rattle.morph_base.specs.Plans.{op_count};
 ghost use Rattle.op_words.specs.Hands.{cap_of};
-ghost use Rattle.steal_explorer.specs.Draining.{WalkedKnown, IsLeft, IsCleared, HasAll, IsEmptied, AreEmptied};
+ghost use Rattle.steal_explorer.specs.Draining.{WalkedKnown, IsLeftWithNobody, IsCleared, HasAll, IsEmptied, AreEmptied};
 ghost use Rattle.steal_explorer.specs.Handing.{whole};
-ghost use Rattle.steal_explorer.specs.Members.{own, IsGround, IsIdle};
+ghost use Rattle.steal_explorer.specs.Members.{own, IsGround};
+ghost use Rattle.op_eval.specs.Running.{IsFreeRunner};
 
 use crate::handing::{Leaves, Pops};
 use crate::members::{Ground, Member};
@@ -13,20 +14,20 @@ use crate::walking::walk;
 use op_eval::{RunEnd, Runner};
 use worker_gate::Untold;
 
-/// Leaves with nobody what a worker that made all its turns has left in its deque.
+/// Leaves with nobody what is still in the deque of a worker that took all its turns.
 fn leave_rest(member: &mut Member)
     requires fifo { worker_flavor member.old.owner ≡ 0 }
     requires all { (own member.old).parts ≡ whole }
-    ensures { IsLeft member.old member.new }
+    ensures { IsLeftWithNobody member.old member.new }
 {
     while let Some(_) = member.owner.pop_as::<Leaves>() {}
 }
 
-/// Walks the unit of an item with the cascades behind it, where it is one of the plan's operations, as all are.
+/// Walks the unit of an item, with the cascades that follow, if it is one of the plan's operations. All items are.
 fn walk_known(ground: &Ground<'_>, runner: &mut Runner, op: u32)
     requires ground { IsGround ground.now }
-    requires idle { IsIdle ground.now.board.now runner.old }
-    ensures idle { IsIdle ground.now.board.now runner.new }
+    requires idle { IsFreeRunner ground.now.board.now runner.old }
+    ensures idle { IsFreeRunner ground.now.board.now runner.new }
     ensures does { WalkedKnown ground.now.plan.now (cap_of ground.now.board.now) ground.now.abort op
         runner.old runner.new }
 {
@@ -35,14 +36,14 @@ fn walk_known(ground: &Ground<'_>, runner: &mut Runner, op: u32)
     }
 }
 
-/// Takes what a worker that found nothing more has in its deque, in no turn, and walks the units. In a run there is
-/// nothing.
+/// Takes what is still in the deque of a worker that found nothing more, outside of any turn, and walks the units. In a
+/// run there is nothing.
 fn clear_rest(ground: &Ground<'_>, member: &mut Member)
     requires ground { IsGround ground.now }
-    requires idle { IsIdle ground.now.board.now member.old.runner }
+    requires idle { IsFreeRunner ground.now.board.now member.old.runner }
     requires fifo { worker_flavor member.old.owner ≡ 0 }
     requires all { (own member.old).parts ≡ whole }
-    ensures idle { IsIdle ground.now.board.now member.new.runner }
+    ensures idle { IsFreeRunner ground.now.board.now member.new.runner }
     ensures cleared { IsCleared ground.now.plan.now (cap_of ground.now.board.now)
         member.old member.new }
 {
@@ -51,11 +52,11 @@ fn clear_rest(ground: &Ground<'_>, member: &mut Member)
     }
 }
 
-/// Empties the deque of a worker that has all its parts.
+/// Empties the deque of a worker that has all of its parts.
 fn empty(ground: &Ground<'_>, member: &mut Member)
     requires ground { IsGround ground.now }
     requires has_all { HasAll ground.now.board.now member.old }
-    ensures idle { IsIdle ground.now.board.now member.new.runner }
+    ensures idle { IsFreeRunner ground.now.board.now member.new.runner }
     ensures emptied { IsEmptied ground.now.plan.now (cap_of ground.now.board.now)
         member.old member.new }
 {
@@ -70,7 +71,7 @@ fn empty(ground: &Ground<'_>, member: &mut Member)
 pub(crate) fn empty_all(ground: &Ground<'_>, members: &mut [Member])
     requires ground { IsGround ground.now }
     requires have_all { All (HasAll ground.now.board.now) members.old }
-    ensures idle { All (λ m. IsIdle ground.now.board.now m.runner) members.new }
+    ensures idle { All (λ m. IsFreeRunner ground.now.board.now m.runner) members.new }
     ensures emptied { AreEmptied ground.now.plan.now (cap_of ground.now.board.now)
         members.old members.new }
 {

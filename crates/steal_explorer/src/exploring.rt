@@ -7,7 +7,7 @@ ghost use Rattle.op_words.specs.Hands.{plan_of, cap_of, up_to};
 ghost use Rattle.op_eval.specs.declared.explored.RunEnd.TheVariants.{Drained, Spent};
 ghost use Rattle.op_eval.specs.Alone.{IsNewRoot};
 ghost use Rattle.op_eval.specs.Further.{AreFurther};
-ghost use Rattle.op_eval.specs.Exploring.{AreExplored, IsExplored, parts_of};
+ghost use Rattle.op_eval.specs.Exploring.{AreExplored, IsExploredBoard, parts_of};
 ghost use Rattle.op_eval.specs.Gathering.{runners_of, spare};
 ghost use Rattle.steal_explorer.specs.Alone.{IsHandedAlone};
 ghost use Rattle.steal_explorer.specs.Handed.{workers_of, pushed_by, AreReached, AreAnswered, HasTurns};
@@ -30,9 +30,9 @@ use worker_gate::Gate;
 /// were left with nobody.
 #[derive(Drop)]
 pub struct Handed {
-    /// How many pushes succeeded, the dealt ones included, up to the greatest number.
+    /// How many pushes succeeded, the dealt ones included, up to the greatest u64.
     pub handed: u64,
-    /// How many items were taken by steals, up to the greatest number.
+    /// How many items were taken by steals, up to the greatest u64.
     pub stolen: u64,
     workers: Snapshot<List<Member>>,
 }
@@ -44,7 +44,7 @@ fn handed_by(member: &Member) -> u64
     member.handed
 }
 
-/// The pushes of all workers.
+/// How many pushes of all workers succeeded.
 fn count_handed(members: &[Member]) -> u64
     requires { All (λ m. m.handed ≡ up_to (length (pushed_by m))) members.now }
     ensures { result ≡ up_to (sum_by (λ m. length (pushed_by m)) members.now) }
@@ -63,7 +63,7 @@ fn stolen_by(member: &Member) -> u64
     member.stolen
 }
 
-/// The steals of all workers.
+/// How many items all workers got by steals.
 fn count_stolen(members: &[Member]) -> u64
     ensures { result ≡ up_to (sum_by (λ m. m.stolen) members.now) }
 {
@@ -75,7 +75,7 @@ fn count_stolen(members: &[Member]) -> u64
 }
 
 impl Handed {
-    /// What workers have handed out whose deques are empty.
+    /// What these workers have handed out. Their deques are empty.
     fn of(members: &List<Member>) -> Handed
         requires { All (λ m. m.handed ≡ up_to (length (pushed_by m))) members.now.items }
         ensures workers { workers_of result ≡ members.now.items }
@@ -91,7 +91,7 @@ impl Handed {
     }
 }
 
-/// Whether a worker ended since it found nothing more.
+/// Whether a worker ended because it found nothing more.
 fn is_drained(member: &Member) -> bool
     ensures drained { result ≡ true → member.now.end ≡ Drained }
     ensures all { member.now.end ≡ Drained → result ≡ true }
@@ -103,7 +103,7 @@ fn is_drained(member: &Member) -> bool
     }
 }
 
-/// Drained where every worker was, else Spent.
+/// Returns Drained if every worker was, else Spent.
 fn end_of(members: &[Member]) -> RunEnd
     ensures drained { result ≡ Drained → All (λ m. m.end ≡ Drained) members.now }
     ensures all { All (λ m. m.end ≡ Drained) members.now → result ≡ Drained }
@@ -119,19 +119,18 @@ fn end_of(members: &[Member]) -> RunEnd
 
 /// Explores a batch by deques of items, one worker for each runner.
 ///
-/// What was handed out is balanced: each item stands among those that were pushed as often as among those that were
-/// taken and those that were left unserved. Where the end is [`RunEnd::Drained`], nothing is unserved. What was taken
-/// is an operation of the plan, and was reached in a runner's trail; the runners' answers are at least as many, up to
-/// the greatest number. How many items were pushed, and how many stolen, is counted. The turns of each worker, and why
-/// it ended, are told one by one. Nothing is settled on the way, no number is taken from a counter, and it takes no
-/// memory.
+/// What was handed out is balanced: each item was pushed as often as it was taken or left unserved. If the end is
+/// [`RunEnd::Drained`], nothing is unserved. Each item that was taken is an operation of the plan, and was reached in a
+/// runner's trail. The runners have at least as many answers, up to the greatest u64. The call counts how many items
+/// were pushed, and how many stolen. Its contract has the turns of each worker, one by one, and why the worker ended.
+/// Nothing is settled on the way, no number is taken from a counter, and the call takes no memory.
 ///
 /// Under eager abort a worker runs the cascade of an operation to its end after each evaluation that failed, or that
-/// was a second or later attempt, asks each operation that it rolled back, and pushes it, to be evaluated again, where
+/// was a second or later attempt. It asks each operation that it rolled back, and pushes it, to be evaluated again, if
 /// that made it ready.
 ///
 /// One worker steals nothing. Under lazy abort a root alone pushes each operation once, runs it at attempt 1, and ends
-/// with [`RunEnd::Drained`]; no push is refused.
+/// with [`RunEnd::Drained`]. No push is refused.
 pub fn explore<R: Threads + Sync, G: Gate>(
     rt: &R,
     board: Board,
@@ -149,7 +148,7 @@ pub fn explore<R: Threads + Sync, G: Gate>(
     requires ready { AreExplored board 0 runners }
     requires deques { AreReady plan.now deques }
     requires workers { length (runners_of runners) ≡ length deques.seats.items }
-    ensures explored { IsExplored result.0 }
+    ensures explored { IsExploredBoard result.0 }
     ensures board { (parts_of result.0).0 ≡ board }
     ensures hands { AreFurther (runners_of runners) (runners_of (parts_of result.0).1) }
     ensures spare { spare (parts_of result.0).1 ≡ spare runners }

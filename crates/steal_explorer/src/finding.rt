@@ -14,9 +14,9 @@ use morph_base::{List, Plan};
 #[derive(Clone, Copy, Debug, PartialEq, Eq)]
 pub enum Found {
     Item(u32),
-    /// Its own deque and each other's, each at a moment of the turn, were empty.
+    /// Its own deque and each other one were empty, each at a moment of the turn.
     Nothing,
-    /// No item: its own deque was empty, and from each other one more items had left than was known, or it was empty.
+    /// No item: its own deque was empty, and each other one was empty, or more items had left it than was known.
     Retry,
 }
 
@@ -35,7 +35,7 @@ impl Found {
         }
     }
 
-    /// What was found at some deques without an item, and then at others.
+    /// What was found in all, if `self` was found at some deques, without an item, and then `next` at more deques.
     fn or(self, next: Found) -> Found
         ensures { result ≡ or_then self next }
     {
@@ -52,7 +52,7 @@ impl Found {
     ghost use Rattle.steal_explorer.specs.Finding.{weight_of};
     ghost use Rattle.steal_explorer.specs.Handing.{one};
 
-    /// One more than before where it is an item, up to the greatest number.
+    /// The count after this: one more if an item was found, up to the greatest u64.
     fn count(self, before: u64) -> u64
         ensures { result ≡ min (before + weight_of one self) (2 ^ 64 - 1) }
     {
@@ -77,7 +77,7 @@ fn steal_at(thief: &Thief, ticket: &mut Ticket) -> Found
     }
 }
 
-/// Steals from the first deque that gives an item, of those whose numbers are in a range.
+/// Steals from the first deque that gives an item, among those whose numbers are in a range.
 fn steal_range(thieves: &[Thief], tickets: &mut List<Ticket>, from: usize, to: usize) -> Found
     requires inside { to ≤ length thieves.now }
     requires len { length tickets.old.items ≡ length thieves.now }
@@ -101,7 +101,7 @@ fn steal_range(thieves: &[Thief], tickets: &mut List<Ticket>, from: usize, to: u
     }
 }
 
-/// Steals from the other deques, in rising order from the own one, round.
+/// Steals from the other deques, in rising order from the worker's own one, round.
 fn steal(thieves: &[Thief], tickets: &mut List<Ticket>, number: usize) -> Found
     requires inside { number < length thieves.now }
     requires len { length tickets.old.items ≡ length thieves.now }
@@ -120,7 +120,7 @@ fn steal(thieves: &[Thief], tickets: &mut List<Ticket>, number: usize) -> Found
     above.or(below)
 }
 
-/// Pops from the own deque, or steals from another.
+/// Pops from the worker's own deque, or steals from another one.
 pub(crate) fn find(plan: &Plan, thieves: &[Thief], member: &mut Member) -> Found
     requires deque { HasDeque plan.now member.old }
     requires tickets { HasTickets thieves.now member.old }

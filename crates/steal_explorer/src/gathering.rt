@@ -1,4 +1,4 @@
-//! How workers get all parts of their deques back, once all have returned.
+//! Gives workers all parts of their deques back, once all have returned.
 ghost use Rattle.std.specs.Prelude.{◌≡◌, ◌+◌, ◌<◌, ◌≤◌, ◌++◌, ◌∷◌, [], ℕ, length};
 ghost use Rattle.crossbeam_deque.specs.Handles.{IsPassOf, worker_deque};
 ghost use Rattle.steal_explorer.specs.Gathering.{Regains, AreRegaining, AreHolding, AreTotals};
@@ -19,7 +19,7 @@ fn give(member: &mut Member) -> Ticket
     ticket
 }
 
-/// A worker takes a part of its deque back.
+/// Gives a worker a part of its deque back.
 fn regain(member: &mut Member, ticket: Ticket)
     requires of { IsPassOf (worker_deque member.old.owner) ticket }
     requires part { 0 < (own member.old).parts }
@@ -28,7 +28,7 @@ fn regain(member: &mut Member, ticket: Ticket)
     member.owner.absorb::<Returns>(ticket);
 }
 
-/// Moves the last ticket of worker `j` to the deque that it is of, which is that of worker `k`.
+/// Moves the last ticket of worker `j` to its deque, which is that of worker `k`.
 fn move_ticket(_thieves: &[Thief], members: &mut [Member], k: usize, j: usize)
     requires inside { j < length members.old }
     requires deque { k < length members.old }
@@ -42,7 +42,7 @@ fn move_ticket(_thieves: &[Thief], members: &mut [Member], k: usize, j: usize)
     }
 }
 
-/// Worker `k` gets all parts of its deque back: they are the last tickets of all workers.
+/// Gives worker `k` all parts of its deque back: they are the last tickets of all workers.
 fn regain_all(thieves: &[Thief], members: &mut [Member], k: usize)
     requires deque { k < length members.old }
     requires holding { AreHolding thieves.now (k + 1) members.old }
@@ -54,7 +54,7 @@ fn regain_all(thieves: &[Thief], members: &mut [Member], k: usize)
     }
 }
 
-/// All workers get all parts of their deques back.
+/// Gives all workers all parts of their deques back.
 pub(crate) fn gather(thieves: &[Thief], members: &mut [Member])
     requires holding { AreHolding thieves.now (length members.old) members.old }
     ensures holding { AreHolding thieves.now 0 members.new }

@@ -9,7 +9,7 @@ use std::collections::LinkedList;
 /// What a hold on a deque has done: how many parts of the deque it has, and the items that it pushed, popped, stole and
 /// left there.
 ///
-/// No value of it is made: it is what contracts see of an [`Owner`] or a [`Ticket`].
+/// No value of this type is made: it is what contracts see of an [`Owner`] or a [`Ticket`].
 pub struct Log {
     pub parts: u64,
     pub pushed: LinkedList<u32>,
@@ -105,8 +105,8 @@ impl Join<Log> for Returns {
 /// The worker's end of a deque.
 pub type Owner = Worker<u32, Global, Log, Fair>;
 
-/// What other workers steal by.
+/// A deque as other workers steal from it.
 pub type Thief = Stealer<u32, Global, Log, Fair>;
 
-/// What one of them has done at a deque.
+/// What one of these workers has done at a deque.
 pub type Ticket = Pass<u32, Log>;

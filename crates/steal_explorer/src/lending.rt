@@ -1,7 +1,7 @@
-//! How parts of the deques are lent, by which workers steal from one another.
+//! Lends parts of the deques, by which workers steal from one another.
 ghost use Rattle.std.specs.Prelude.{◌≡◌, ◌+◌, ◌<◌, length};
 ghost use Rattle.crossbeam_deque.specs.Handles.{worker_view};
-ghost use Rattle.steal_explorer.specs.Lending.{Gives, Gets, AreLent, AreLending, AreKept};
+ghost use Rattle.steal_explorer.specs.Lending.{LendsPart, Gets, AreLent, AreLending, KeepsSeats};
 
 use crate::deques::Seat;
 use crate::handing::{Lends, Thief, Ticket};
@@ -9,12 +9,12 @@ use crate::handing::{Lends, Thief, Ticket};
 /// Lends one part of a deque.
 fn give(seat: &mut Seat) -> Ticket
     requires { 1 < (worker_view seat.old.owner).parts }
-    ensures { Gives result seat.old seat.new }
+    ensures { LendsPart result seat.old seat.new }
 {
     seat.owner.another::<Lends>()
 }
 
-/// Puts a ticket behind those that a worker has.
+/// Adds a ticket after those that a worker has.
 fn keep(seat: &mut Seat, ticket: Ticket)
     requires { 0 < seat.old.tickets.room }
     ensures { Gets ticket seat.old seat.new }
@@ -22,13 +22,13 @@ fn keep(seat: &mut Seat, ticket: Ticket)
     seat.tickets.add(ticket);
 }
 
-/// Gives worker `j` its ticket of deque `k`: one with a part, but for its own deque.
+/// Gives worker `j` its ticket of deque `k`. The ticket has one part, or none if the deque is its own.
 fn lend_one(thieves: &[Thief], seats: &mut [Seat], k: usize, j: usize)
     requires inside { j < length seats.old }
     requires deque { k < length seats.old }
     requires lending { AreLending thieves.now k j seats.old }
     ensures lending { AreLending thieves.now k (j + 1) seats.new }
-    ensures kept { AreKept seats.old seats.new }
+    ensures kept { KeepsSeats seats.old seats.new }
 {
     if j == k {
         keep(&mut seats[j], thieves[k].pass());
@@ -43,7 +43,7 @@ fn lend(thieves: &[Thief], seats: &mut [Seat], k: usize)
     requires deque { k < length seats.old }
     requires lent { AreLent thieves.now k seats.old }
     ensures lent { AreLent thieves.now (k + 1) seats.new }
-    ensures kept { AreKept seats.old seats.new }
+    ensures kept { KeepsSeats seats.old seats.new }
 {
     for j in 0..seats.len() {
         lend_one(thieves, seats, k, j);
@@ -54,7 +54,7 @@ fn lend(thieves: &[Thief], seats: &mut [Seat], k: usize)
 pub(crate) fn lend_all(thieves: &[Thief], seats: &mut [Seat])
     requires lent { AreLent thieves.now 0 seats.old }
     ensures lent { AreLent thieves.now (length seats.old) seats.new }
-    ensures kept { AreKept seats.old seats.new }
+    ensures kept { KeepsSeats seats.old seats.new }
 {
     for k in 0..seats.len() {
         lend(thieves, seats, k);

@@ -1,26 +1,26 @@
-//! Exploring a batch on the shared board with no order over the operations, by deques of items.
+//! Explores a batch on the shared board by deques of items, with no fixed order of the operations.
 //!
 //! Each worker has a deque, first in first out, and an item is an operation. [`Deques::new`] makes the deques, deals
-//! the operations of level 1 to them in turn, and lends each one to the other workers. [`explore`] has every worker
-//! take turns: it pops an item from its own deque or steals one from the others, in rising order from its own, round.
-//! It walks the item's unit from the item on, until an answer is not `Evaluated`, and after an evaluation it asks each
-//! dependent; whoever made one ready pushes it on its own deque. A worker ends after 64 turns in a row that found all
-//! deques empty, or after so many turns as it may make.
+//! the operations of level 1 to them in turn, and lends each deque to the other workers. [`explore`] has every worker
+//! take turns: the worker pops an item from its own deque, or steals one from the others, in rising order from its own,
+//! round. It walks the item's unit from the item on, until an answer is not `Evaluated`. After an evaluation it asks
+//! each dependent, and whoever made one ready pushes it on its own deque. A worker ends after 64 turns in a row that
+//! found all deques empty, or after the most turns that it may take.
 //!
 //! Under eager abort a worker runs the cascade of an operation to its end after each evaluation that failed, or that
 //! was a second or later attempt, before it asks the dependents: it spreads the failure, rolls back what read a value
-//! that is no longer right, and asks each operation that it rolled back; whoever makes one ready pushes it, to be
-//! evaluated again. Where a push is refused, the operation's unit is walked at once; there, as where a deque is emptied
-//! in the end, cascades are run to their end too, but nothing is asked or pushed, so that nothing nests, and what was
-//! rolled back is left to settling.
+//! that is no longer right, and asks each operation that it rolled back. Whoever makes one ready pushes it, to be
+//! evaluated again. If a push is refused, the operation's unit is walked at once. There, and when a deque is emptied in
+//! the end, cascades are run to their end too, but nothing is asked or pushed, so that nothing nests. What was rolled
+//! back is left to settling.
 //!
-//! Once all have returned, each worker gets all parts of its deque back, which others held to steal by, and the deque
-//! is popped until nothing is there: a worker that made all its turns leaves what it had with nobody, and one that
-//! found nothing more would walk it, though in a run there is nothing. So each item that was pushed was taken or is
-//! unserved, as [`Handed`] shows.
+//! Once all have returned, each worker gets back all parts of its deque, which others held to steal by, and the deque
+//! is popped until it is empty. A worker that took all its turns leaves what it had with nobody. A worker that found
+//! nothing more would walk it, though in a run there is nothing. So each item that was pushed was taken or is unserved,
+//! as [`Handed`] shows.
 //!
-//! Below it stand `crossbeam_deque`, `abort_eager` for the cascades, `op_eval` and `op_words`, the board and its
-//! runners, `chain_units`, `worker_gate` and `morph_base`.
+//! It uses `crossbeam_deque`; `abort_eager` for the cascades; `op_eval` and `op_words`, the board and its runners;
+//! `chain_units`; `worker_gate`; and `morph_base`.
 #![tactic(auto)]
 
 mod dealing;

@@ -18,10 +18,10 @@ pub struct Ground<'a> {
 #[derive(Drop)]
 pub struct Member {
     pub runner: Runner,
-    /// From 0 on, which is also the number of its deque.
+    /// Its number from 0 on, which is also that of its deque.
     pub number: usize,
     pub owner: Owner,
-    /// For each deque, its own too, what it has done there as a thief.
+    /// A ticket for each deque, its own included, with what it has done there as a thief.
     pub tickets: List<Ticket>,
     /// How many pushes on its deque succeeded.
     pub handed: u64,

@@ -1,4 +1,4 @@
-//! All workers side by side.
+//! Runs all workers side by side.
 ghost use Rattle.std.specs.Prelude.{◌≡◌, ℕ, ◌<◌, ◌≤◌, All, length, slice_index_or};
 ghost use Rattle.morph_base.specs.declared.strategy.Abort.TheVariants.{Lazy};
 ghost use Rattle.op_words.specs.Hands.{cap_of};
@@ -6,8 +6,9 @@ ghost use Rattle.steal_explorer.specs.declared.members.Member.{Member as M};
 ghost use Rattle.steal_explorer.specs.Alone.{BeginsAlone, EndsAlone, LeavesAlone};
 ghost use Rattle.steal_explorer.specs.Handing.{whole};
 ghost use Rattle.steal_explorer.specs.HandingOut.{IsBeginning, HasHandedOut};
-ghost use Rattle.steal_explorer.specs.Members.{IsGround, IsIdle, IsWorker};
-ghost use Rattle.steal_explorer.specs.Turns.{HasRun};
+ghost use Rattle.steal_explorer.specs.Members.{IsGround, IsWorkerOf};
+ghost use Rattle.op_eval.specs.Running.{IsFreeRunner};
+ghost use Rattle.steal_explorer.specs.Turns.{HasTakenTurns};
 
 use crate::draining::empty_all;
 use crate::gathering::gather;
@@ -18,7 +19,7 @@ use morph_base::Plan;
 use std::thread::Threads;
 use worker_gate::{Gate, Job, Told, pieces_for, run_all};
 
-/// The turns of a worker, as all of them make them.
+/// The turns of a worker, in the form that all workers share.
 #[derive(Drop)]
 pub(crate) struct Working<'a, G> {
     pub(crate) ground: Ground<'a>,
@@ -31,14 +32,14 @@ impl<G: Gate> Job<Member> for Working<'_, G> {
     ghost use Rattle.steal_explorer.specs.Alone.{BeginsAlone, EndsAlone};
     ghost use Rattle.morph_base.specs.declared.strategy.Abort.TheVariants.{Lazy};
     ghost use Rattle.op_words.specs.Hands.{cap_of};
-    ghost use Rattle.steal_explorer.specs.Members.{IsGround, IsWorker};
-    ghost use Rattle.steal_explorer.specs.Turns.{HasRun};
+    ghost use Rattle.steal_explorer.specs.Members.{IsGround, IsWorkerOf};
+    ghost use Rattle.steal_explorer.specs.Turns.{HasTakenTurns};
 
     ghost can_run = { λ job member. IsGround job.ground
-        × IsWorker job.ground job.thieves.now member };
+        × IsWorkerOf job.ground job.thieves.now member };
 
-    ghost changes = { λ job before after. IsWorker job.ground job.thieves.now after
-        × HasRun job.ground.plan.now (cap_of job.ground.board.now) job.ground.abort
+    ghost changes = { λ job before after. IsWorkerOf job.ground job.thieves.now after
+        × HasTakenTurns job.ground.plan.now (cap_of job.ground.board.now) job.ground.abort
         job.thieves.now before after
         × (job.ground.abort ≡ Lazy → 1 ≤ cap_of job.ground.board.now → length job.thieves.now ≡ 1
         → BeginsAlone job.ground.plan.now before → EndsAlone job.ground.plan.now after.end after) };
@@ -52,15 +53,16 @@ impl<G: Gate> Job<Member> for Working<'_, G> {
     }
 }
 
-/// As so many pieces of work an operation counts that is handed out by deques: it goes to one worker, who writes to its
-/// word alone, and its worker is started once for a batch.
+/// How many pieces of work an operation is worth if deques hand it out: it goes to one worker, who writes to its word
+/// alone, and that worker is started once for a batch.
 const HANDED_PIECES: usize = 8;
 
-/// Of a plan no more operations count than so many for each operation of an average level. Workers who find little side by
-/// side look into each other's deques in vain.
+/// How many operations count at most for each operation of an average level. Workers who find little to do side by side
+/// look into each other's deques in vain.
 const WIDTHS: usize = 64;
 
-/// How many pieces of work exploring a plan by deques is, for the threads that it is [worth](worker_gate::threads_for).
+/// How many pieces of work it is to explore a plan by deques, for the threads that it is
+/// [worth](worker_gate::threads_for).
 pub fn pieces(plan: &Plan) -> usize {
     let ops = plan.ops.len();
     let width = ops / plan.op_levels.len().max(1);
@@ -68,7 +70,7 @@ pub fn pieces(plan: &Plan) -> usize {
         .saturating_mul(HANDED_PIECES)
 }
 
-/// All workers make their turns.
+/// Has all workers take their turns.
 fn work_all<R: Threads + Sync, G: Gate>(
     rt: &R,
     ground: &Ground<'_>,
@@ -77,10 +79,10 @@ fn work_all<R: Threads + Sync, G: Gate>(
     members: &mut [Member],
 )
     requires ground { IsGround ground.now }
-    requires workers { All (IsWorker ground.now thieves.now) members.old }
+    requires workers { All (IsWorkerOf ground.now thieves.now) members.old }
     ensures work { (k : ℕ) (d : M) → k < length members.old
-        → IsWorker ground.now thieves.now (slice_index_or members.new k d)
-        × HasRun ground.now.plan.now (cap_of ground.now.board.now) ground.now.abort thieves.now
+        → IsWorkerOf ground.now thieves.now (slice_index_or members.new k d)
+        × HasTakenTurns ground.now.plan.now (cap_of ground.now.board.now) ground.now.abort thieves.now
         (slice_index_or members.old k d) (slice_index_or members.new k d) }
     ensures alone { (k : ℕ) (d : M) → k < length members.old → ground.now.abort ≡ Lazy
         → 1 ≤ cap_of ground.now.board.now → length thieves.now ≡ 1
@@ -96,7 +98,7 @@ fn work_all<R: Threads + Sync, G: Gate>(
     run_all(rt, members, pieces_for(gate, pieces(ground.plan)), &working);
 }
 
-/// All workers make their turns, get all parts of their deques back, and what is left there is taken or left with
+/// Has all workers take their turns and get all parts of their deques back. What is still there is taken or left with
 /// nobody.
 pub(crate) fn hand_out<R: Threads + Sync, G: Gate>(
     rt: &R,
@@ -110,7 +112,7 @@ pub(crate) fn hand_out<R: Threads + Sync, G: Gate>(
     requires few { length thieves.now ≤ whole }
     requires begins { (k : ℕ) (d : M) → k < length members.old
         → IsBeginning ground.now thieves.now k (slice_index_or members.old k d) }
-    ensures idle { All (λ m. IsIdle ground.now.board.now m.runner) members.new }
+    ensures idle { All (λ m. IsFreeRunner ground.now.board.now m.runner) members.new }
     ensures handed_out { HasHandedOut ground.now.plan.now (cap_of ground.now.board.now)
         ground.now.abort thieves.now
         members.old members.new }

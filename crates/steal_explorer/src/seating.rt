@@ -1,4 +1,4 @@
-//! How runners are put beside their deques, and taken back.
+//! Puts runners beside their deques, and takes them back.
 ghost use Rattle.std.specs.Prelude.{◌≡◌, ℕ, ◌+◌, ◌≤◌, [], length, map, reverse};
 ghost use Rattle.op_eval.specs.declared.explored.RunEnd.TheVariants.{Spent};
 ghost use Rattle.op_eval.specs.Gathering.{runners_of, spare, HasPlaces};
@@ -9,7 +9,7 @@ use crate::members::Member;
 use morph_base::List;
 use op_eval::{RunEnd, Runner, Runners};
 
-/// Turns a list of workers round.
+/// Reverses a list of workers.
 fn turn_round(members: &mut List<Member>)
     ensures items { members.new.items ≡ reverse members.old.items }
     ensures room { members.new.room ≡ members.old.room }
@@ -17,7 +17,7 @@ fn turn_round(members: &mut List<Member>)
     members.as_mut_slice().reverse();
 }
 
-/// A worker that begins.
+/// Makes a worker that begins.
 fn begin(runner: Runner, number: usize, seat: Seat) -> Member
     ensures { result ≡ record {
       runner = runner;

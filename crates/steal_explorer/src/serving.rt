@@ -7,9 +7,10 @@ ghost use Rattle.op_words.specs.Hands.{cap_of};
 ghost use Rattle.op_words.specs.Trails.{IsSourceOf};
 ghost use Rattle.steal_explorer.specs.Alone.{IsHandingAlone, Pushes, ServesAlone};
 ghost use Rattle.steal_explorer.specs.Serving.{readers};
-ghost use Rattle.steal_explorer.specs.Members.{IsGround, IsIdle, HasDeque};
+ghost use Rattle.steal_explorer.specs.Members.{IsGround, HasDeque};
+ghost use Rattle.op_eval.specs.Running.{IsFreeRunner};
 ghost use Rattle.steal_explorer.specs.declared.finding.Found.TheVariants.{Item};
-ghost use Rattle.steal_explorer.specs.Serving.{Goes, PutsOrWalks, AsksAndPuts, AsksAll, Visits, Serves};
+ghost use Rattle.steal_explorer.specs.Serving.{ServesOn, PutsOrWalks, AsksAndPuts, AsksAll, Visits, Serves};
 ghost use Rattle.steal_explorer.specs.Turns.{After};
 
 use crate::handing::Puts;
@@ -20,15 +21,15 @@ use op_eval::Evaluation;
 use op_words::Readied;
 use worker_gate::Turns;
 
-/// Pushes an operation on the worker's own deque; where that is refused, walks its unit at once.
+/// Pushes an operation on the worker's own deque. If that is refused, walks the operation's unit at once.
 pub(crate) fn push<T: Turns>(ground: &Ground<'_>, told: &T, turn: u64, member: &mut Member, op: u32)
     requires ground { IsGround ground.now }
     requires in_range { op < op_count ground.now.plan.now }
-    requires idle { IsIdle ground.now.board.now member.old.runner }
+    requires idle { IsFreeRunner ground.now.board.now member.old.runner }
     requires deque { HasDeque ground.now.plan.now member.old }
-    ensures idle { IsIdle ground.now.board.now member.new.runner }
+    ensures idle { IsFreeRunner ground.now.board.now member.new.runner }
     ensures deque { HasDeque ground.now.plan.now member.new }
-    ensures goes { Goes ground.now.plan.now (cap_of ground.now.board.now) ground.now.abort
+    ensures goes { ServesOn ground.now.plan.now (cap_of ground.now.board.now) ground.now.abort
         member.old member.new }
     ensures kept { PutsOrWalks ground.now.plan.now (cap_of ground.now.board.now) ground.now.abort op
         member.old member.new }
@@ -41,7 +42,7 @@ pub(crate) fn push<T: Turns>(ground: &Ground<'_>, told: &T, turn: u64, member: &
     }
 }
 
-/// Asks an operation, and pushes it where that made it ready.
+/// Asks an operation, and pushes it if that made it ready.
 pub(crate) fn ask_one<T: Turns>(
     ground: &Ground<'_>,
     told: &T,
@@ -51,11 +52,11 @@ pub(crate) fn ask_one<T: Turns>(
 )
     requires ground { IsGround ground.now }
     requires in_range { op < op_count ground.now.plan.now }
-    requires idle { IsIdle ground.now.board.now member.old.runner }
+    requires idle { IsFreeRunner ground.now.board.now member.old.runner }
     requires deque { HasDeque ground.now.plan.now member.old }
-    ensures idle { IsIdle ground.now.board.now member.new.runner }
+    ensures idle { IsFreeRunner ground.now.board.now member.new.runner }
     ensures deque { HasDeque ground.now.plan.now member.new }
-    ensures goes { Goes ground.now.plan.now (cap_of ground.now.board.now) ground.now.abort
+    ensures goes { ServesOn ground.now.plan.now (cap_of ground.now.board.now) ground.now.abort
         member.old member.new }
     ensures does { AsksAndPuts ground.now.plan.now (cap_of ground.now.board.now) ground.now.abort op
         member.old member.new }
@@ -73,11 +74,11 @@ pub(crate) fn ask_one<T: Turns>(
 fn ask_all<T: Turns>(ground: &Ground<'_>, told: &T, turn: u64, member: &mut Member, op: u32)
     requires ground { IsGround ground.now }
     requires in_range { op < op_count ground.now.plan.now }
-    requires idle { IsIdle ground.now.board.now member.old.runner }
+    requires idle { IsFreeRunner ground.now.board.now member.old.runner }
     requires deque { HasDeque ground.now.plan.now member.old }
-    ensures idle { IsIdle ground.now.board.now member.new.runner }
+    ensures idle { IsFreeRunner ground.now.board.now member.new.runner }
     ensures deque { HasDeque ground.now.plan.now member.new }
-    ensures goes { Goes ground.now.plan.now (cap_of ground.now.board.now) ground.now.abort
+    ensures goes { ServesOn ground.now.plan.now (cap_of ground.now.board.now) ground.now.abort
         member.old member.new }
     ensures asks { AsksAll ground.now.plan.now (cap_of ground.now.board.now) ground.now.abort
         (readers ground.now.plan.now op) member.old member.new }
@@ -90,7 +91,8 @@ fn ask_all<T: Turns>(ground: &Ground<'_>, told: &T, turn: u64, member: &mut Memb
     }
 }
 
-/// Tries to evaluate an operation, does what stands behind that, and asks its dependents where it did.
+/// Tries to evaluate an operation, runs the cascade that follows, and asks the dependents if the operation was
+/// evaluated.
 fn evaluate_and_ask<T: Turns>(
     ground: &Ground<'_>,
     told: &T,
@@ -100,9 +102,9 @@ fn evaluate_and_ask<T: Turns>(
 ) -> Evaluation
     requires ground { IsGround ground.now }
     requires in_range { op < op_count ground.now.plan.now }
-    requires idle { IsIdle ground.now.board.now member.old.runner }
+    requires idle { IsFreeRunner ground.now.board.now member.old.runner }
     requires deque { HasDeque ground.now.plan.now member.old }
-    ensures idle { IsIdle ground.now.board.now member.new.runner }
+    ensures idle { IsFreeRunner ground.now.board.now member.new.runner }
     ensures deque { HasDeque ground.now.plan.now member.new }
     ensures serves { Serves ground.now.plan.now (cap_of ground.now.board.now) ground.now.abort op
         member.old member.new }
@@ -128,9 +130,9 @@ fn evaluate_and_ask<T: Turns>(
 fn serve<T: Turns>(ground: &Ground<'_>, told: &T, turn: u64, member: &mut Member, op: u32)
     requires ground { IsGround ground.now }
     requires in_range { op < op_count ground.now.plan.now }
-    requires idle { IsIdle ground.now.board.now member.old.runner }
+    requires idle { IsFreeRunner ground.now.board.now member.old.runner }
     requires deque { HasDeque ground.now.plan.now member.old }
-    ensures idle { IsIdle ground.now.board.now member.new.runner }
+    ensures idle { IsFreeRunner ground.now.board.now member.new.runner }
     ensures deque { HasDeque ground.now.plan.now member.new }
     ensures serves { Serves ground.now.plan.now (cap_of ground.now.board.now) ground.now.abort op
         member.old member.new }
@@ -149,7 +151,7 @@ fn serve<T: Turns>(ground: &Ground<'_>, told: &T, turn: u64, member: &mut Member
     }
 }
 
-/// Serves an item where it is one of the plan's operations, as all are.
+/// Serves an item if it is one of the plan's operations. All items are.
 pub(crate) fn serve_known<T: Turns>(
     ground: &Ground<'_>,
     told: &T,
@@ -158,9 +160,9 @@ pub(crate) fn serve_known<T: Turns>(
     op: u32,
 )
     requires ground { IsGround ground.now }
-    requires idle { IsIdle ground.now.board.now member.old.runner }
+    requires idle { IsFreeRunner ground.now.board.now member.old.runner }
     requires deque { HasDeque ground.now.plan.now member.old }
-    ensures idle { IsIdle ground.now.board.now member.new.runner }
+    ensures idle { IsFreeRunner ground.now.board.now member.new.runner }
     ensures deque { HasDeque ground.now.plan.now member.new }
     ensures after { After ground.now.plan.now (cap_of ground.now.board.now)
         ground.now.abort (Item op)

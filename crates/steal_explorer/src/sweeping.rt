@@ -1,16 +1,16 @@
-//! Cascades behind evaluations, under eager abort.
+//! Cascades that follow evaluations, under eager abort.
 ghost use Rattle.std.specs.Prelude.{◌≡◌, ◌≢◌, ◌<◌, true, Some};
 ghost use Rattle.morph_base.specs.declared.strategy.Abort.TheVariants.{Eager};
 ghost use Rattle.morph_base.specs.Plans.{op_count};
 ghost use Rattle.op_words.specs.Hands.{cap_of};
 ghost use Rattle.op_words.specs.Views.{HasShownFailure};
-ghost use Rattle.op_eval.specs.Running.{hand_view};
+ghost use Rattle.op_eval.specs.Running.{hand_view, IsFreeRunner};
 ghost use Rattle.abort_eager.specs.declared.answers.Touch.TheVariants.{RolledBack};
 ghost use Rattle.abort_eager.specs.Sweeps.{cascade_for};
 ghost use Rattle.abort_eager.specs.Targets.{targets, IsCascade};
 ghost use Rattle.abort_eager.specs.Touching.{HasCause};
-ghost use Rattle.steal_explorer.specs.Members.{IsGround, IsIdle, HasDeque};
-ghost use Rattle.steal_explorer.specs.Serving.{Goes, AsksAndPuts, TouchesNext, TouchesAll, TouchesFor};
+ghost use Rattle.steal_explorer.specs.Members.{IsGround, HasDeque};
+ghost use Rattle.steal_explorer.specs.Serving.{ServesOn, AsksAndPuts, TouchesNext, TouchesAll, TouchesFor};
 
 use crate::members::{Ground, Member};
 use crate::serving::ask_one;
@@ -18,8 +18,8 @@ use abort_eager::{Cascade, Touch, Touched, cascade_behind};
 use op_eval::Evaluation;
 use worker_gate::Turns;
 
-/// Asks an operation that a cascade touched where it was rolled back, since it has to be evaluated again, and pushes it
-/// where that made it ready. Where a source has no value, whoever evaluates that one will ask it.
+/// Asks an operation that a cascade rolled back, since it has to be evaluated again, and pushes it if that made it
+/// ready. If a source has no value, whoever evaluates the source will ask the operation.
 fn ask_rolled<T: Turns>(
     ground: &Ground<'_>,
     told: &T,
@@ -29,11 +29,11 @@ fn ask_rolled<T: Turns>(
 )
     requires ground { IsGround ground.now }
     requires in_range { touched.op < op_count ground.now.plan.now }
-    requires idle { IsIdle ground.now.board.now member.old.runner }
+    requires idle { IsFreeRunner ground.now.board.now member.old.runner }
     requires deque { HasDeque ground.now.plan.now member.old }
-    ensures idle { IsIdle ground.now.board.now member.new.runner }
+    ensures idle { IsFreeRunner ground.now.board.now member.new.runner }
     ensures deque { HasDeque ground.now.plan.now member.new }
-    ensures goes { Goes ground.now.plan.now (cap_of ground.now.board.now) ground.now.abort
+    ensures goes { ServesOn ground.now.plan.now (cap_of ground.now.board.now) ground.now.abort
         member.old member.new }
     ensures asked { touched.touch ≡ RolledBack
         → AsksAndPuts ground.now.plan.now (cap_of ground.now.board.now) ground.now.abort touched.op
@@ -46,7 +46,7 @@ fn ask_rolled<T: Turns>(
     }
 }
 
-/// Touches the next target of a cascade, and asks what was rolled back by that. Whether a target was left.
+/// Touches the next target of a cascade, and asks what that rolled back. Returns whether a target was left.
 fn touch_next<T: Turns>(
     ground: &Ground<'_>,
     told: &T,
@@ -56,15 +56,15 @@ fn touch_next<T: Turns>(
 ) -> bool
     requires ground { IsGround ground.now }
     requires eager { ground.now.abort ≡ Eager }
-    requires idle { IsIdle ground.now.board.now member.old.runner }
+    requires idle { IsFreeRunner ground.now.board.now member.old.runner }
     requires deque { HasDeque ground.now.plan.now member.old }
     requires cascade { IsCascade ground.now.plan.now cascade.old }
     requires cause { HasCause cascade.old (hand_view member.old.runner) }
-    ensures idle { IsIdle ground.now.board.now member.new.runner }
+    ensures idle { IsFreeRunner ground.now.board.now member.new.runner }
     ensures deque { HasDeque ground.now.plan.now member.new }
     ensures cascade { IsCascade ground.now.plan.now cascade.new }
     ensures cause { HasCause cascade.new (hand_view member.new.runner) }
-    ensures goes { Goes ground.now.plan.now (cap_of ground.now.board.now) ground.now.abort
+    ensures goes { ServesOn ground.now.plan.now (cap_of ground.now.board.now) ground.now.abort
         member.old member.new }
     ensures does { TouchesNext ground.now.plan.now (cap_of ground.now.board.now)
         ground.now.abort result
@@ -91,12 +91,12 @@ fn run_cascade<T: Turns>(
     requires ground { IsGround ground.now }
     requires eager { ground.now.abort ≡ Eager }
     requires in_range { op < op_count ground.now.plan.now }
-    requires idle { IsIdle ground.now.board.now member.old.runner }
+    requires idle { IsFreeRunner ground.now.board.now member.old.runner }
     requires deque { HasDeque ground.now.plan.now member.old }
     requires cause { failed ≡ true → HasShownFailure (hand_view member.old.runner) op }
-    ensures idle { IsIdle ground.now.board.now member.new.runner }
+    ensures idle { IsFreeRunner ground.now.board.now member.new.runner }
     ensures deque { HasDeque ground.now.plan.now member.new }
-    ensures goes { Goes ground.now.plan.now (cap_of ground.now.board.now) ground.now.abort
+    ensures goes { ServesOn ground.now.plan.now (cap_of ground.now.board.now) ground.now.abort
         member.old member.new }
     ensures touches { TouchesAll ground.now.plan.now (cap_of ground.now.board.now) ground.now.abort
         (targets ground.now.plan.now op failed) member.old member.new }
@@ -105,8 +105,8 @@ fn run_cascade<T: Turns>(
     while touch_next(ground, told, turn, member, &mut cascade) {}
 }
 
-/// What stands behind an evaluation that has been made: under eager abort, the cascade of one that failed, or that was
-/// a second or later attempt.
+/// Runs the cascade that follows an evaluation: under eager abort there is one after an evaluation that failed, or that
+/// was a second or later attempt.
 pub(crate) fn sweep<T: Turns>(
     ground: &Ground<'_>,
     told: &T,
@@ -117,13 +117,13 @@ pub(crate) fn sweep<T: Turns>(
 )
     requires ground { IsGround ground.now }
     requires in_range { op < op_count ground.now.plan.now }
-    requires idle { IsIdle ground.now.board.now member.old.runner }
+    requires idle { IsFreeRunner ground.now.board.now member.old.runner }
     requires deque { HasDeque ground.now.plan.now member.old }
     requires cause { cascade_for ground.now.abort answer ≡ Some true
         → HasShownFailure (hand_view member.old.runner) op }
-    ensures idle { IsIdle ground.now.board.now member.new.runner }
+    ensures idle { IsFreeRunner ground.now.board.now member.new.runner }
     ensures deque { HasDeque ground.now.plan.now member.new }
-    ensures goes { Goes ground.now.plan.now (cap_of ground.now.board.now) ground.now.abort
+    ensures goes { ServesOn ground.now.plan.now (cap_of ground.now.board.now) ground.now.abort
         member.old member.new }
     ensures touches { TouchesFor ground.now.plan.now (cap_of ground.now.board.now)
         ground.now.abort op

@@ -1,13 +1,13 @@
-//! What a worker does with an item on the board, and pushes nothing.
+//! What a worker does with an item on the board without pushing anything.
 ghost use Rattle.std.specs.Prelude.{◌≡◌, ◌<◌, true, Some};
 ghost use Rattle.morph_base.specs.Plans.{op_count};
 ghost use Rattle.op_words.specs.Hands.{cap_of};
 ghost use Rattle.op_words.specs.Views.{HasShownFailure};
 ghost use Rattle.op_eval.specs.Evaluations.{Tries};
-ghost use Rattle.op_eval.specs.Running.{hand_view};
+ghost use Rattle.op_eval.specs.Running.{hand_view, IsFreeRunner};
 ghost use Rattle.abort_eager.specs.Sweeps.{cascade_for, IsSwept, Sweeps};
-ghost use Rattle.steal_explorer.specs.Calls.{Asks, HasTouched, GoesQuietly, TriesQuietly, Walked};
-ghost use Rattle.steal_explorer.specs.Members.{IsGround, IsIdle};
+ghost use Rattle.steal_explorer.specs.Calls.{AsksWhetherReady, HasTouched, GoesQuietly, TriesQuietly, WalkedUnit};
+ghost use Rattle.steal_explorer.specs.Members.{IsGround};
 
 use crate::members::Ground;
 use abort_eager::{Cascade, cascade_behind};
@@ -25,8 +25,8 @@ pub(crate) fn attempt<T: Turns>(
 ) -> Evaluation
     requires ground { IsGround ground.now }
     requires in_range { op < op_count ground.now.plan.now }
-    requires idle { IsIdle ground.now.board.now runner.old }
-    ensures idle { IsIdle ground.now.board.now runner.new }
+    requires idle { IsFreeRunner ground.now.board.now runner.old }
+    ensures idle { IsFreeRunner ground.now.board.now runner.new }
     ensures does { Tries ground.now.plan.now (cap_of ground.now.board.now) op runner.old
         runner.new result }
 {
@@ -39,9 +39,9 @@ pub(crate) fn attempt<T: Turns>(
 pub(crate) fn ask(ground: &Ground<'_>, runner: &mut Runner, op: u32) -> Readied
     requires ground { IsGround ground.now }
     requires in_range { op < op_count ground.now.plan.now }
-    requires idle { IsIdle ground.now.board.now runner.old }
-    ensures idle { IsIdle ground.now.board.now runner.new }
-    ensures does { Asks ground.now.plan.now (cap_of ground.now.board.now) op runner.old
+    requires idle { IsFreeRunner ground.now.board.now runner.old }
+    ensures idle { IsFreeRunner ground.now.board.now runner.new }
+    ensures does { AsksWhetherReady ground.now.plan.now (cap_of ground.now.board.now) op runner.old
         runner.new result }
 {
     ground.board.ready(&mut runner.hand, ground.plan, op)
@@ -51,9 +51,9 @@ pub(crate) fn ask(ground: &Ground<'_>, runner: &mut Runner, op: u32) -> Readied
 fn run_quietly(ground: &Ground<'_>, runner: &mut Runner, op: u32, failed: bool)
     requires ground { IsGround ground.now }
     requires in_range { op < op_count ground.now.plan.now }
-    requires idle { IsIdle ground.now.board.now runner.old }
+    requires idle { IsFreeRunner ground.now.board.now runner.old }
     requires cause { failed ≡ true → HasShownFailure (hand_view runner.old) op }
-    ensures idle { IsIdle ground.now.board.now runner.new }
+    ensures idle { IsFreeRunner ground.now.board.now runner.new }
     ensures swept { IsSwept ground.now.plan.now (cap_of ground.now.board.now) op failed
         runner.old runner.new }
     ensures calls { HasTouched ground.now.plan.now (cap_of ground.now.board.now)
@@ -63,14 +63,14 @@ fn run_quietly(ground: &Ground<'_>, runner: &mut Runner, op: u32, failed: bool)
     while let Some(_) = cascade.next(ground.board, &mut runner.hand, ground.plan) {}
 }
 
-/// What stands behind an evaluation that has been made, where nothing is pushed, so that nothing nests.
+/// Runs the cascade that follows an evaluation without pushing anything, so that nothing nests.
 fn sweep_quietly(ground: &Ground<'_>, runner: &mut Runner, op: u32, answer: Evaluation)
     requires ground { IsGround ground.now }
     requires in_range { op < op_count ground.now.plan.now }
-    requires idle { IsIdle ground.now.board.now runner.old }
+    requires idle { IsFreeRunner ground.now.board.now runner.old }
     requires cause { cascade_for ground.now.abort answer ≡ Some true
         → HasShownFailure (hand_view runner.old) op }
-    ensures idle { IsIdle ground.now.board.now runner.new }
+    ensures idle { IsFreeRunner ground.now.board.now runner.new }
     ensures does { Sweeps ground.now.plan.now (cap_of ground.now.board.now)
         ground.now.abort op answer
         runner.old runner.new }
@@ -82,7 +82,7 @@ fn sweep_quietly(ground: &Ground<'_>, runner: &mut Runner, op: u32, answer: Eval
     }
 }
 
-/// Tries to evaluate an operation in a turn, and does what stands behind that.
+/// Tries to evaluate an operation in a turn, and runs the cascade that follows.
 fn attempt_quietly<T: Turns>(
     ground: &Ground<'_>,
     told: &T,
@@ -92,8 +92,8 @@ fn attempt_quietly<T: Turns>(
 ) -> Evaluation
     requires ground { IsGround ground.now }
     requires in_range { op < op_count ground.now.plan.now }
-    requires idle { IsIdle ground.now.board.now runner.old }
-    ensures idle { IsIdle ground.now.board.now runner.new }
+    requires idle { IsFreeRunner ground.now.board.now runner.old }
+    ensures idle { IsFreeRunner ground.now.board.now runner.new }
     ensures does { TriesQuietly ground.now.plan.now (cap_of ground.now.board.now)
         ground.now.abort op
         runner.old runner.new result }
@@ -107,9 +107,9 @@ fn attempt_quietly<T: Turns>(
 pub(crate) fn walk<T: Turns>(ground: &Ground<'_>, told: &T, turn: u64, runner: &mut Runner, op: u32)
     requires ground { IsGround ground.now }
     requires in_range { op < op_count ground.now.plan.now }
-    requires idle { IsIdle ground.now.board.now runner.old }
-    ensures idle { IsIdle ground.now.board.now runner.new }
-    ensures does { Walked ground.now.plan.now (cap_of ground.now.board.now) ground.now.abort op
+    requires idle { IsFreeRunner ground.now.board.now runner.old }
+    ensures idle { IsFreeRunner ground.now.board.now runner.new }
+    ensures does { WalkedUnit ground.now.plan.now (cap_of ground.now.board.now) ground.now.abort op
         runner.old runner.new }
 {
     let mut answer = attempt_quietly(ground, told, turn, runner, op);

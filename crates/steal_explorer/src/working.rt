@@ -3,8 +3,9 @@ ghost use Rattle.std.specs.Prelude.{◌≡◌, ◌+◌, ◌*◌, ◌<◌, ◌≤
 ghost use Rattle.morph_base.specs.declared.strategy.Abort.TheVariants.{Lazy};
 ghost use Rattle.op_words.specs.Hands.{cap_of};
 ghost use Rattle.steal_explorer.specs.Alone.{IsTurningAlone, TurnsAlone, BeginsAlone, EndsAlone};
-ghost use Rattle.steal_explorer.specs.Members.{IsGround, IsIdle, HasDeque, HasTickets};
-ghost use Rattle.steal_explorer.specs.Turns.{Turn, Ran, row_then};
+ghost use Rattle.steal_explorer.specs.Members.{IsGround, HasDeque, HasTickets};
+ghost use Rattle.op_eval.specs.Running.{IsFreeRunner};
+ghost use Rattle.steal_explorer.specs.Turns.{Turn, RanTurns, row_then};
 ghost use Rattle.steal_explorer.specs.declared.working.TheConstants.{EMPTY_TURNS};
 
 use crate::finding::{Found, find};
@@ -14,10 +15,10 @@ use crate::serving::serve_known;
 use op_eval::RunEnd;
 use worker_gate::Turns;
 
-/// So many turns in a row that found all deques empty end a worker's work.
+/// How many turns in a row that found all deques empty end a worker's work.
 pub const EMPTY_TURNS: u32 = 64;
 
-/// The most turns of a worker on a plan of so many operations.
+/// The most turns of a worker, on a plan of this many operations.
 fn most_turns(ops: usize) -> u64
     requires { ops < 2 ^ 32 }
     ensures { result ≡ 16 * ops + 64 }
@@ -34,10 +35,10 @@ fn take_turn<T: Turns>(
     member: &mut Member,
 ) -> Found
     requires ground { IsGround ground.now }
-    requires idle { IsIdle ground.now.board.now member.old.runner }
+    requires idle { IsFreeRunner ground.now.board.now member.old.runner }
     requires deque { HasDeque ground.now.plan.now member.old }
     requires tickets { HasTickets thieves.now member.old }
-    ensures idle { IsIdle ground.now.board.now member.new.runner }
+    ensures idle { IsFreeRunner ground.now.board.now member.new.runner }
     ensures deque { HasDeque ground.now.plan.now member.new }
     ensures tickets { HasTickets thieves.now member.new }
     ensures does { Turn ground.now.plan.now (cap_of ground.now.board.now) ground.now.abort
@@ -59,7 +60,7 @@ fn take_turn<T: Turns>(
     }
 }
 
-/// How many turns in a row found all deques empty, after one more turn.
+/// How many turns in a row have found all deques empty, after one more turn.
 fn row_after(row: u32, found: Found) -> u32
     requires { row < EMPTY_TURNS }
     ensures { result ≡ row_then row found }
@@ -71,7 +72,7 @@ fn row_after(row: u32, found: Found) -> u32
     }
 }
 
-/// Takes turns until it finds nothing more, or has made all that it may.
+/// Takes turns until the worker finds nothing more, or has taken all that it may.
 pub(crate) fn work<T: Turns>(
     ground: &Ground<'_>,
     told: &T,
@@ -79,13 +80,13 @@ pub(crate) fn work<T: Turns>(
     member: &mut Member,
 ) -> RunEnd
     requires ground { IsGround ground.now }
-    requires idle { IsIdle ground.now.board.now member.old.runner }
+    requires idle { IsFreeRunner ground.now.board.now member.old.runner }
     requires deque { HasDeque ground.now.plan.now member.old }
     requires tickets { HasTickets thieves.now member.old }
-    ensures idle { IsIdle ground.now.board.now member.new.runner }
+    ensures idle { IsFreeRunner ground.now.board.now member.new.runner }
     ensures deque { HasDeque ground.now.plan.now member.new }
     ensures tickets { HasTickets thieves.now member.new }
-    ensures ran { Ran ground.now.plan.now (cap_of ground.now.board.now) ground.now.abort thieves.now
+    ensures ran { RanTurns ground.now.plan.now (cap_of ground.now.board.now) ground.now.abort thieves.now
         member.old result member.new }
     ensures alone { ground.now.abort ≡ Lazy → 1 ≤ cap_of ground.now.board.now
         → length thieves.now ≡ 1

@@ -11,7 +11,7 @@ use Rattle.op_eval.specs.declared.runner.Runner.{Runner}
 use Rattle.op_eval.specs.Further.{AreFurther}
 use Rattle.op_eval.proofs.Further.{all_same}
 use Rattle.op_eval.proofs.Elements.{contains_first, contains_later}
-use Rattle.strata_explorer.specs.Levels.{counters_for, ops_of, level_of, AreLevels, AreStrata, Follows, Passes, HasPassed, IsAlone}
+use Rattle.strata_explorer.specs.Levels.{counters_for, ops_of, level_of, AreLevels, AreStrata, FollowsPass, Passes, HasPassed, IsAlone}
 use Rattle.strata_explorer.specs.Passes.{IsPassed}
 use Rattle.strata_explorer.proofs.Climbing.{level_new, level_old, all_strata_more}
 use Rattle.strata_explorer.proofs.Further.{passed_further}
@@ -33,7 +33,7 @@ module _ (p : Plan) (cap : ℕ) (abort : Abort) (units : List (List ℕ)) where
     pub strata : AreStrata p levels now
     pub counted : counters ≡ length levels
     pub inside : All (λ l. l < depth) levels
-    pub next : Follows p cap abort level levels before now
+    pub next : FollowsPass p cap abort level levels before now
     pub lazy : abort ≡ Lazy → (level ≡ length levels) × ((k : ℕ) → k < length levels → level_of levels k ≡ k)
     pub alone : abort ≡ Lazy → 1 ≤ cap → IsAlone p level start now
 
@@ -41,7 +41,7 @@ module _ (p : Plan) (cap : ℕ) (abort : Abort) (units : List (List ℕ)) where
   unfolding Passes
   no_passes rs = refl
 
-  one_pass_more : (l : ℕ) (ls : List ℕ) (start earlier before now : List Runner) → Passes p cap abort units ls start earlier before → Follows p cap abort l ls earlier before → IsPassed p cap abort units (length ls) (ops_of p l) before now → Passes p cap abort units (l ∷ ls) start before now
+  one_pass_more : (l : ℕ) (ls : List ℕ) (start earlier before now : List Runner) → Passes p cap abort units ls start earlier before → FollowsPass p cap abort l ls earlier before → IsPassed p cap abort units (length ls) (ops_of p l) before now → Passes p cap abort units (l ∷ ls) start before now
   unfolding Passes
   one_pass_more l ls start earlier before now passes follows passed = (earlier, passes, follows, passed)
 
@@ -66,7 +66,7 @@ module _ (p : Plan) (cap : ℕ) (abort : Abort) (units : List (List ℕ)) where
   all_first l ls here rest (suc k) d lt = rest k d (omega arith)
 
   -- under lazy the next level is the one above
-  lazy_next : (next level : ℕ) (rs qs : List Runner) → abort ≡ Lazy → Follows p cap abort next (level ∷ []) rs qs → next ≡ level + 1
+  lazy_next : (next level : ℕ) (rs qs : List Runner) → abort ≡ Lazy → FollowsPass p cap abort next (level ∷ []) rs qs → next ≡ level + 1
   lazy_next next level rs qs lazy (inl above) = above
   lazy_next next level rs qs lazy (inr back) = absurd (lazy_apart abort lazy back.0)
 
@@ -80,7 +80,7 @@ module _ (p : Plan) (cap : ℕ) (abort : Abort) (units : List (List ℕ)) where
       below : k < suc (length ls) → k ≢ length ls → k < length ls
       below lt other = omega arith
 
-  pub climbing_more : IsPlan p → (many : ℕ) → AreLevels p units many → (level counter next : ℕ) (start rs qs : List Runner) → IsClimbing level counter start rs → level < depth → IsPassed p cap abort units counter (ops_of p level) rs qs → Follows p cap abort next (level ∷ []) rs qs
+  pub climbing_more : IsPlan p → (many : ℕ) → AreLevels p units many → (level counter next : ℕ) (start rs qs : List Runner) → IsClimbing level counter start rs → level < depth → IsPassed p cap abort units counter (ops_of p level) rs qs → FollowsPass p cap abort next (level ∷ []) rs qs
       → IsClimbing next (counter + 1) start qs
   climbing_more valid many levels level counter next start rs qs old low pass follows =
       let ls = old.levels in
@@ -106,13 +106,13 @@ module _ (p : Plan) (cap : ℕ) (abort : Abort) (units : List (List ℕ)) where
   -- ---- the end
 
   -- what comes next is at most the number of levels
-  low_next : (level : ℕ) (ls : List ℕ) (before now : List Runner) → All (λ l. l < depth) ls → Follows p cap abort level ls before now → level ≤ depth
+  low_next : (level : ℕ) (ls : List ℕ) (before now : List Runner) → All (λ l. l < depth) ls → FollowsPass p cap abort level ls before now → level ≤ depth
   low_next level [] before now inside follows = omega arith
   low_next level (l ∷ ls) before now inside (inl above) = let low : l < depth = inside 0 l (omega arith) in omega arith
   low_next level (l ∷ ls) before now inside (inr back) = let low : l < depth = inside 0 l (omega arith) in let most : level ≤ l + 1 = back.1 in omega arith
 
   -- each level below the one that comes next was passed
-  all_below : (level : ℕ) (ls : List ℕ) (start before now : List Runner) → Passes p cap abort units ls start before now → Follows p cap abort level ls before now → (l : ℕ) → l < level → Contains ls l
+  all_below : (level : ℕ) (ls : List ℕ) (start before now : List Runner) → Passes p cap abort units ls start before now → FollowsPass p cap abort level ls before now → (l : ℕ) → l < level → Contains ls l
   unfolding Passes
   all_below level [] start before now passes follows l lt = absurd (omega arith)
   all_below level (k ∷ ks) start before now passes follows l lt =
@@ -121,7 +121,7 @@ module _ (p : Plan) (cap : ℕ) (abort : Abort) (units : List (List ℕ)) where
         | inr other ↦ contains_later k ks l (all_below k ks start passes.0 before passes.1 passes.2 l (lower follows other))
       ]
     where
-      lower : Follows p cap abort level (k ∷ ks) before now → l ≢ k → l < k
+      lower : FollowsPass p cap abort level (k ∷ ks) before now → l ≢ k → l < k
       lower (inl above) other = omega arith
       lower (inr back) other = let most : level ≤ k + 1 = back.1 in omega arith
 
@@ -150,8 +150,8 @@ module _ (p : Plan) (cap : ℕ) (abort : Abort) (units : List (List ℕ)) where
         all : level ≡ depth
         all = let most = low in omega arith
 
-        follows : Follows p cap abort depth climbing.levels climbing.before now
-        follows = subst (λ l. Follows p cap abort l climbing.levels climbing.before now) all climbing.next
+        follows : FollowsPass p cap abort depth climbing.levels climbing.before now
+        follows = subst (λ l. FollowsPass p cap abort l climbing.levels climbing.before now) all climbing.next
 
     -- under lazy there are counters for all passes
     lazy_ends : abort ≡ Lazy → counters_for p ≤ counters → depth ≤ level

@@ -16,18 +16,18 @@ use Rattle.op_eval.specs.Exploring.{total}
 use Rattle.op_eval.specs.Running.{hand_view}
 use Rattle.op_eval.proofs.Totals.{tries_total, full_stays}
 use Rattle.op_eval.proofs.Elements.{contains_first, contains_later}
-use Rattle.strata_explorer.specs.Calls.{Call, Took, Tried, Calls}
+use Rattle.strata_explorer.specs.Calls.{PassCall, Took, Tried, MakesPassCalls}
 use Rattle.op_eval.specs.Turns.{IsEnough}
 use Rattle.worker_gate.specs.Sharing.{shared_from}
 use Rattle.strata_explorer.specs.Passes.{is_tried, names, Worked, IsPassed}
-use Rattle.strata_explorer.specs.Levels.{ops_of, op_of, level_of, named, IsStrata, AreStrata, IsWhole}
+use Rattle.strata_explorer.specs.Levels.{ops_of, op_of, level_of, named, IsStrata, AreStrata, IsWholeCounter}
 use Rattle.strata_explorer.specs.Walks.{WalksAll}
 use Rattle.abort_eager.proofs.Sweeping.{attempted}
 use Rattle.strata_explorer.proofs.Turning.{count_first, times_some}
 use Rattle.strata_explorer.proofs.UnitWalks.{all_none}
 use Rattle.strata_explorer.proofs.Running.{calls_keep, calls_reach, calls_places, calls_hold, calls_running}
 
-pub calls_total : (p : Plan) (cap : ℕ) (abort : Abort) (cs : List Call) (a b : Runner) → Calls p cap abort cs a b → (total a.answers + count_by is_tried cs ≤ total b.answers) ⊎ (2 ^ 64 ≤ total b.answers + 1)
+pub calls_total : (p : Plan) (cap : ℕ) (abort : Abort) (cs : List PassCall) (a b : Runner) → MakesPassCalls p cap abort cs a b → (total a.answers + count_by is_tried cs ≤ total b.answers) ⊎ (2 ^ 64 ≤ total b.answers + 1)
 calls_total p cap abort [] a b calls = inl (let e : total b.answers ≡ total a.answers = ap (λ r. total r.answers) calls in omega arith)
 calls_total p cap abort (Took c n ∷ cs) a b calls =
     let e : total b.answers ≡ total calls.0.answers = ap total calls.2.answers in
@@ -44,15 +44,15 @@ calls_total p cap abort (Tried o ∷ cs) a b calls =
     ]
 
 -- and full stays full
-pub calls_full : (p : Plan) (cap : ℕ) (abort : Abort) (cs : List Call) (a b : Runner) → Calls p cap abort cs a b → 2 ^ 64 ≤ total a.answers + 1 → 2 ^ 64 ≤ total b.answers + 1
+pub calls_full : (p : Plan) (cap : ℕ) (abort : Abort) (cs : List PassCall) (a b : Runner) → MakesPassCalls p cap abort cs a b → 2 ^ 64 ≤ total a.answers + 1 → 2 ^ 64 ≤ total b.answers + 1
 calls_full p cap abort cs a b calls full = elim (calls_total p cap abort cs a b calls) [ inl few ↦ omega arith | inr there ↦ there ]
 
 -- ---- places of one counter alone
 
-pub only_later : (l : ℕ) (c : Call) (cs : List Call) → ((k n : ℕ) → Contains (c ∷ cs) (Took k n) → k ≡ l) → (k n : ℕ) → Contains cs (Took k n) → k ≡ l
+pub only_later : (l : ℕ) (c : PassCall) (cs : List PassCall) → ((k n : ℕ) → Contains (c ∷ cs) (Took k n) → k ≡ l) → (k n : ℕ) → Contains cs (Took k n) → k ≡ l
 only_later l c cs only k n found = only k n (contains_later c cs (Took k n) found)
 
-pub calls_times : (p : Plan) (cap : ℕ) (abort : Abort) (c l : ℕ) → c ≢ l → (cs : List Call) (a b : Runner) → ((k n : ℕ) → Contains cs (Took k n) → k ≡ l) → Calls p cap abort cs a b → times c (hand_view b).places ≡ times c (hand_view a).places
+pub calls_times : (p : Plan) (cap : ℕ) (abort : Abort) (c l : ℕ) → c ≢ l → (cs : List PassCall) (a b : Runner) → ((k n : ℕ) → Contains cs (Took k n) → k ≡ l) → MakesPassCalls p cap abort cs a b → times c (hand_view b).places ≡ times c (hand_view a).places
 calls_times p cap abort c l other [] a b only calls = ap (λ r. times c (hand_view r).places) calls
 calls_times p cap abort c l other (Took k n ∷ cs) a b only calls =
     let same : k ≡ l = only k n (contains_first (Took k n) cs) in
@@ -68,7 +68,7 @@ calls_times p cap abort c l other (Tried q ∷ cs) a b only calls =
     let does = attempted p cap abort q calls.0 b calls.2 in
     ap (times c) does.goes.adds.places ∙ calls_times p cap abort c l other cs a calls.0 (only_later l (Tried q) cs only) calls.1
 
-pub calls_named : (p : Plan) (cap : ℕ) (abort : Abort) (ls : List ℕ) (l : ℕ) (cs : List Call) (a b : Runner) → ((k n : ℕ) → Contains cs (Took k n) → k ≡ l) → Calls p cap abort cs a b
+pub calls_named : (p : Plan) (cap : ℕ) (abort : Abort) (ls : List ℕ) (l : ℕ) (cs : List PassCall) (a b : Runner) → ((k n : ℕ) → Contains cs (Took k n) → k ≡ l) → MakesPassCalls p cap abort cs a b
     → named p ls (hand_view b).places ≡ named p ls (hand_view a).places + count_by (names (length (ops_of p (level_of ls l)))) cs
 calls_named p cap abort ls l [] a b only calls = ap (λ r. named p ls (hand_view r).places) calls ∙ sum_none (named p ls (hand_view a).places)
   where
@@ -156,7 +156,7 @@ module _ (p : Plan) (cap : ℕ) (abort : Abort) (l : ℕ) (ls : List ℕ) where
       past : (c : ℕ) → suc (length ls) ≤ c → c ≡ length ls → ⊥
       past c above same = absurd (omega arith)
 
-  enough_stays : (c : ℕ) (ops : List ℕ) (cs : List Call) (a b : Runner) → Calls p cap abort cs a b → IsEnough c (length ops) a → IsEnough c (length ops) b
+  enough_stays : (c : ℕ) (ops : List ℕ) (cs : List PassCall) (a b : Runner) → MakesPassCalls p cap abort cs a b → IsEnough c (length ops) a → IsEnough c (length ops) b
   enough_stays c ops cs a b calls enough = elim enough [ inl none ↦ inl none | inr is ↦ inr (is.0, calls_hold p cap abort cs a b calls (place c is.0) is.1, is.2) ]
 
   pub all_strata_more : (units : List (List ℕ)) (rs qs : List Runner) → AreStrata p ls rs → IsPassed p cap abort units (length ls) (ops_of p l) rs qs → AreStrata p (l ∷ ls) qs
@@ -187,7 +187,7 @@ module _ (p : Plan) (cap : ℕ) (abort : Abort) (l : ℕ) (ls : List ℕ) where
       below c lt other = omega arith
 
 -- ---- the union: where the counter is known whole, each place was taken, and each operation of the level was reached
-pub union : (p : Plan) (levels : List ℕ) (rs : List Runner) → AreStrata p levels rs → (d : Runner) → (c : ℕ) → c < length levels → IsWhole c rs → (n : ℕ) → n < length (ops_of p (level_of levels c))
+pub union : (p : Plan) (levels : List ℕ) (rs : List Runner) → AreStrata p levels rs → (d : Runner) → (c : ℕ) → c < length levels → IsWholeCounter c rs → (n : ℕ) → n < length (ops_of p (level_of levels c))
     → (k : ℕ) × (k < length rs) × Contains (hand_view (slice_index_or rs k d)).places (place c n) × IsReached p (op_of p (level_of levels c) n) (hand_view (slice_index_or rs k d)).trail
 union p levels rs strata d c lt whole n less =
     let one = strata.enough c lt in

@@ -10,7 +10,7 @@ use Rattle.op_words.specs.Hands.{up_to}
 use Rattle.op_words.specs.declared.trail.View.{View}
 use Rattle.op_eval.specs.declared.runner.Runner.{Runner}
 use Rattle.op_eval.specs.Running.{hand_view}
-use Rattle.strata_explorer.specs.Levels.{rolled_by, Follows}
+use Rattle.strata_explorer.specs.Levels.{rolled_by, FollowsPass}
 use Rattle.strata_explorer.specs.Passes.{AreLike}
 
 abbrev pub many_rolled : Runner → ℕ
@@ -37,7 +37,7 @@ like_rolled before after like = sum_same before after like.len each
 
 -- the level that comes next is the one above, or operations were rolled back in the pass over this one
 pub follows_from : (p : Plan) (cap : ℕ) (abort : Abort) (level next : ℕ) (before rs qs after : List Runner) → AreLike before rs → AreLike qs after → (risen : Bool) (counted : ℕ) → counted ≡ up_to (rolled_by rs) → (risen ≡ true → abort ≡ Eager)
-    → (risen ≡ true → counted < up_to (rolled_by qs)) → next ≤ level + 1 → (risen ≡ false → next ≡ level + 1) → Follows p cap abort next (level ∷ []) before after
+    → (risen ≡ true → counted < up_to (rolled_by qs)) → next ≤ level + 1 → (risen ≡ false → next ≡ level + 1) → FollowsPass p cap abort next (level ∷ []) before after
 follows_from p cap abort level next before rs qs after first last false counted is eager more most above = inl (above refl)
 follows_from p cap abort level next before rs qs after first last true counted is eager more most above =
     let a : rolled_by rs ≡ rolled_by before = like_rolled before rs first in

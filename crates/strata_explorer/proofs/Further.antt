@@ -11,11 +11,11 @@ use Rattle.op_eval.specs.declared.runner.Runner.{Runner}
 use Rattle.op_eval.specs.Running.{hand_view}
 use Rattle.op_eval.specs.Further.{IsFurther, AreFurther}
 use Rattle.op_eval.proofs.Further.{same_further, goes_further, further_then}
-use Rattle.strata_explorer.specs.Calls.{Call, Took, Tried, Calls}
+use Rattle.strata_explorer.specs.Calls.{PassCall, Took, Tried, MakesPassCalls}
 use Rattle.strata_explorer.specs.Passes.{IsPassed}
 use Rattle.abort_eager.proofs.Sweeping.{attempted}
 
-calls_further : (p : Plan) (cap : ℕ) (abort : Abort) (cs : List Call) (a b : Runner) → Calls p cap abort cs a b → IsFurther a b
+calls_further : (p : Plan) (cap : ℕ) (abort : Abort) (cs : List PassCall) (a b : Runner) → MakesPassCalls p cap abort cs a b → IsFurther a b
 calls_further p cap abort [] a b calls = same_further a b calls
 calls_further p cap abort (Took c n ∷ cs) a b calls = further_then a calls.0 b (calls_further p cap abort cs a calls.0 calls.1) (record {
   tag = ap (λ (v : View). v.tag) calls.2.view;

@@ -22,7 +22,7 @@ use Rattle.op_eval.proofs.Alone.{IsBegun, come_first, explores, keeps_ran, runs_
 use Rattle.op_eval.proofs.Elements.{contains_first, contains_later, contains_cases}
 use Rattle.op_eval.specs.Turns.{IsEnough, TakesNumber}
 use Rattle.op_eval.proofs.Turns.{times_one}
-use Rattle.strata_explorer.specs.Calls.{Call, Took, Tried, Calls}
+use Rattle.strata_explorer.specs.Calls.{PassCall, Took, Tried, MakesPassCalls}
 use Rattle.strata_explorer.specs.Passes.{Worked, IsPassed}
 use Rattle.strata_explorer.specs.Levels.{ops_of, op_of, AreLevels, AreStrata, IsLoneStrata, IsAlone}
 use Rattle.abort_eager.proofs.Sweeping.{attempted, lazy_tries}
@@ -33,13 +33,13 @@ use Rattle.strata_explorer.proofs.Climbing.{only_later}
 pub taking_lone : (c n : ℕ) {a b : Runner} → TakesNumber c n a b → IsLone (hand_view a) → IsLone (hand_view b)
 taking_lone c n taken lone = subst IsLone (sym taken.view) (record { root = lone.root; alone = lone.alone })
 
-pub calls_lone : (p : Plan) (cap : ℕ) (abort : Abort) (cs : List Call) (a b : Runner) → Calls p cap abort cs a b → IsLone (hand_view a) → IsLone (hand_view b)
+pub calls_lone : (p : Plan) (cap : ℕ) (abort : Abort) (cs : List PassCall) (a b : Runner) → MakesPassCalls p cap abort cs a b → IsLone (hand_view a) → IsLone (hand_view b)
 calls_lone p cap abort [] a b calls lone = subst (λ r. IsLone (hand_view r)) (sym calls) lone
 calls_lone p cap abort (Took c n ∷ cs) a b calls lone = taking_lone c n calls.2 (calls_lone p cap abort cs a calls.0 calls.1 lone)
 calls_lone p cap abort (Tried o ∷ cs) a b calls lone = let does = attempted p cap abort o calls.0 b calls.2 in lone_more does.goes.adds (calls_lone p cap abort cs a calls.0 calls.1 lone)
 
 -- the numbers that it takes from a counter are those from 0 on
-pub lone_takes : (p : Plan) (cap : ℕ) (abort : Abort) (l : ℕ) (cs : List Call) (a b : Runner) → IsLone (hand_view a) → times l (hand_view a).places ≡ 0 → ((k n : ℕ) → Contains cs (Took k n) → k ≡ l) → Calls p cap abort cs a b
+pub lone_takes : (p : Plan) (cap : ℕ) (abort : Abort) (l : ℕ) (cs : List PassCall) (a b : Runner) → IsLone (hand_view a) → times l (hand_view a).places ≡ 0 → ((k n : ℕ) → Contains cs (Took k n) → k ≡ l) → MakesPassCalls p cap abort cs a b
     → ((m : ℕ) → m < times l (hand_view b).places → Contains cs (Took l m)) × ((m : ℕ) → Contains cs (Took l m) → m < times l (hand_view b).places)
 lone_takes p cap abort l [] a b lone none only calls =
     let e : times l (hand_view b).places ≡ times l (hand_view a).places = ap (λ r. times l (hand_view r).places) calls in
@@ -102,7 +102,7 @@ lone_tries p cap abort l ops a b lone none worked enough n less =
 -- ---- what it evaluates, under lazy
 
 module _ (p : Plan) (valid : IsPlan p) (cap : ℕ) (some : 1 ≤ cap) where
-  pub lone_calls : (cs : List Call) (a b : Runner) → IsLone (hand_view a) → IsBegun (hand_view a).trail → Calls p cap Lazy cs a b
+  pub lone_calls : (cs : List PassCall) (a b : Runner) → IsLone (hand_view a) → IsBegun (hand_view a).trail → MakesPassCalls p cap Lazy cs a b
       → IsBegun (hand_view b).trail × ((k : ℕ) → Ran (hand_view a).trail k → Ran (hand_view b).trail k) × ((o : ℕ) → Contains cs (Tried o) → ((s : ℕ) → IsSourceOf p o s → Ran (hand_view a).trail s) → Ran (hand_view b).trail o)
   lone_calls [] a b lone exploring calls = (
     subst (λ r. IsBegun (hand_view r).trail) (sym calls) exploring,

@@ -14,7 +14,7 @@ use Rattle.op_eval.specs.declared.runner.Runner.{Runner}
 use Rattle.op_words.specs.Counting.{place}
 use Rattle.op_eval.specs.Running.{hand_view}
 use Rattle.op_eval.specs.Turns.{TakesNumber}
-use Rattle.strata_explorer.specs.Calls.{Call, Took, Tried, Calls}
+use Rattle.strata_explorer.specs.Calls.{PassCall, Took, Tried, MakesPassCalls}
 use Rattle.op_eval.specs.Exploring.{stopped, is_load, loads, IsExploring}
 use Rattle.op_eval.proofs.Answering.{loads_more, tries_running}
 use Rattle.op_eval.proofs.Following.{evaluated_more}
@@ -24,7 +24,7 @@ use Rattle.abort_eager.proofs.Sweeping.{IsSweptOver, attempted}
 
 -- ---- what is reached stays so
 
-pub calls_keep : (p : Plan) (cap : ℕ) (abort : Abort) (o : ℕ) (cs : List Call) (a b : Runner) → Calls p cap abort cs a b → IsReached p o (hand_view a).trail → IsReached p o (hand_view b).trail
+pub calls_keep : (p : Plan) (cap : ℕ) (abort : Abort) (o : ℕ) (cs : List PassCall) (a b : Runner) → MakesPassCalls p cap abort cs a b → IsReached p o (hand_view a).trail → IsReached p o (hand_view b).trail
 calls_keep p cap abort o [] a b calls is = subst (λ r. IsReached p o (hand_view r).trail) (sym calls) is
 calls_keep p cap abort o (Took c n ∷ cs) a b calls is =
     subst (λ (v : View). IsReached p o v.trail) (sym calls.2.view) (calls_keep p cap abort o cs a calls.0 calls.1 is)
@@ -32,7 +32,7 @@ calls_keep p cap abort o (Tried q ∷ cs) a b calls is =
     let does = attempted p cap abort q calls.0 b calls.2 in
     subst (IsReached p o) (sym does.goes.adds.trail) (reached_more does.words (calls_keep p cap abort o cs a calls.0 calls.1 is))
 
-pub calls_reach : (p : Plan) (cap : ℕ) (abort : Abort) (o : ℕ) (cs : List Call) (a b : Runner) → Calls p cap abort cs a b → Contains cs (Tried o) → IsReached p o (hand_view b).trail
+pub calls_reach : (p : Plan) (cap : ℕ) (abort : Abort) (o : ℕ) (cs : List PassCall) (a b : Runner) → MakesPassCalls p cap abort cs a b → Contains cs (Tried o) → IsReached p o (hand_view b).trail
 calls_reach p cap abort o [] a b calls found = absurd (omega (arith, found.1))
 calls_reach p cap abort o (Took c n ∷ cs) a b calls found =
     elim (contains_cases (Took c n) cs (Tried o) found) [
@@ -55,7 +55,7 @@ calls_reach p cap abort o (Tried q ∷ cs) a b calls found =
 
 -- ---- places
 
-pub calls_places : (p : Plan) (cap : ℕ) (abort : Abort) (cs : List Call) (a b : Runner) → Calls p cap abort cs a b → (c n : ℕ) → Contains (hand_view b).places (place c n) → Contains (hand_view a).places (place c n) ⊎ Contains cs (Took c n)
+pub calls_places : (p : Plan) (cap : ℕ) (abort : Abort) (cs : List PassCall) (a b : Runner) → MakesPassCalls p cap abort cs a b → (c n : ℕ) → Contains (hand_view b).places (place c n) → Contains (hand_view a).places (place c n) ⊎ Contains cs (Took c n)
 calls_places p cap abort [] a b calls c n found = inl (subst (λ r. Contains (hand_view r).places (place c n)) calls found)
 calls_places p cap abort (Took k m ∷ cs) a b calls c n found =
     elim (Contains-append_cases (hand_view calls.0).places (place k m ∷ []) (place c n) (subst (λ (v : View). Contains v.places (place c n)) calls.2.view found)) [
@@ -73,7 +73,7 @@ calls_places p cap abort (Tried q ∷ cs) a b calls c n found =
     let does = attempted p cap abort q calls.0 b calls.2 in
     elim (calls_places p cap abort cs a calls.0 calls.1 c n (subst (λ xs. Contains xs (place c n)) does.goes.adds.places found)) [ inl before ↦ inl before | inr later ↦ inr (contains_later (Tried q) cs (Took c n) later) ]
 
-pub calls_hold : (p : Plan) (cap : ℕ) (abort : Abort) (cs : List Call) (a b : Runner) → Calls p cap abort cs a b → (x : Place) → Contains (hand_view a).places x → Contains (hand_view b).places x
+pub calls_hold : (p : Plan) (cap : ℕ) (abort : Abort) (cs : List PassCall) (a b : Runner) → MakesPassCalls p cap abort cs a b → (x : Place) → Contains (hand_view a).places x → Contains (hand_view b).places x
 calls_hold p cap abort [] a b calls x found = subst (λ r. Contains (hand_view r).places x) (sym calls) found
 calls_hold p cap abort (Took k m ∷ cs) a b calls x found =
     subst (λ (v : View). Contains v.places x) (sym calls.2.view) (Contains-append_left (hand_view calls.0).places (place k m ∷ []) x (calls_hold p cap abort cs a calls.0 calls.1 x found))
@@ -107,7 +107,7 @@ takes_running p c n a b running t = record {
   room = subst (λ l. event_count p ≤ l.room) (sym t.kept) running.room;
 }
 
-pub calls_running : (p : Plan) (cap : ℕ) (abort : Abort) (cs : List Call) (a b : Runner) → IsExploring p a → Calls p cap abort cs a b → IsExploring p b
+pub calls_running : (p : Plan) (cap : ℕ) (abort : Abort) (cs : List PassCall) (a b : Runner) → IsExploring p a → MakesPassCalls p cap abort cs a b → IsExploring p b
 calls_running p cap abort [] a b running calls = subst (IsExploring p) (sym calls) running
 calls_running p cap abort (Took c n ∷ cs) a b running calls = takes_running p c n calls.0 b (calls_running p cap abort cs a calls.0 running calls.1) calls.2
 calls_running p cap abort (Tried o ∷ cs) a b running calls =

@@ -17,16 +17,16 @@ use Rattle.op_eval.specs.Exploring.{Unused}
 use Rattle.op_eval.specs.Running.{hand_view}
 use Rattle.op_eval.proofs.Elements.{contains_first, contains_later, contains_cases}
 use Rattle.op_eval.proofs.Turns.{in_turn_append, times_one}
-use Rattle.strata_explorer.specs.Calls.{Call, Took, Tried, Calls, Calling, IsFree}
+use Rattle.strata_explorer.specs.Calls.{PassCall, Took, Tried, MakesPassCalls, MakesPassCall, IsFree}
 use Rattle.abort_eager.specs.Sweeps.{Attempts}
 use Rattle.op_eval.specs.Turns.{IsEnough, TakesNumber}
-use Rattle.strata_explorer.specs.Passes.{is_tried, names, Walked, Worked, IsWorking}
+use Rattle.strata_explorer.specs.Passes.{is_tried, names, WalkedWithCalls, Worked, IsWorking}
 use Rattle.abort_eager.proofs.Sweeping.{attempted}
 
 pub taking_free : (c n : ℕ) {a b : Runner} → TakesNumber c n a b → IsFree a → IsFree b
 taking_free c n taken free = ap (λ (v : View). v.claim) taken.view ∙ free
 
-pub walked_first : (p : Plan) (cap : ℕ) (abort : Abort) (o : ℕ) {a b : Runner} {r : Evaluation} → Attempts p cap abort o a b r → Walked p cap abort o a b
+pub walked_first : (p : Plan) (cap : ℕ) (abort : Abort) (o : ℕ) {a b : Runner} {r : Evaluation} → Attempts p cap abort o a b r → WalkedWithCalls p cap abort o a b
 walked_first p cap abort o {a} {b} {r} tries = record {
   calls = Tried o ∷ [];
   made = (a, refl, (r, tries));
@@ -34,11 +34,11 @@ walked_first p cap abort o {a} {b} {r} tries = record {
   only = λ k d lt. one k d lt;
 }
   where
-    one : (k : ℕ) (d : Call) → k < 1 → is_tried (get_or (Tried o ∷ []) k d) ≡ true
+    one : (k : ℕ) (d : PassCall) → k < 1 → is_tried (get_or (Tried o ∷ []) k d) ≡ true
     one zero d lt = refl
     one (suc k) d lt = absurd (omega arith)
 
-pub walked_more : (p : Plan) (cap : ℕ) (abort : Abort) (o q : ℕ) {a m b : Runner} {r : Evaluation} → Walked p cap abort o a m → Attempts p cap abort q m b r → Walked p cap abort o a b
+pub walked_more : (p : Plan) (cap : ℕ) (abort : Abort) (o q : ℕ) {a m b : Runner} {r : Evaluation} → WalkedWithCalls p cap abort o a m → Attempts p cap abort q m b r → WalkedWithCalls p cap abort o a b
 walked_more p cap abort o q {a} {m} {b} {r} walked tries = record {
   calls = Tried q ∷ walked.calls;
   made = (m, walked.made, (r, tries));
@@ -46,7 +46,7 @@ walked_more p cap abort o q {a} {m} {b} {r} walked tries = record {
   only = λ k d lt. one k d lt;
 }
   where
-    one : (k : ℕ) (d : Call) → k < length (Tried q ∷ walked.calls) → is_tried (get_or (Tried q ∷ walked.calls) k d) ≡ true
+    one : (k : ℕ) (d : PassCall) → k < length (Tried q ∷ walked.calls) → is_tried (get_or (Tried q ∷ walked.calls) k d) ≡ true
     one zero d lt = refl
     one (suc k) d lt = walked.only k d (less k lt)
       where
@@ -59,26 +59,26 @@ pub count_first : {X : Type 0} (t : X → Bool) (x : X) (xs : List X) → count_
 count_first t x xs = sum_by-append (λ y. cond (t y) 1 0) (x ∷ []) xs
 
 -- where all are evaluations, none takes a place
-no_take : (cs : List Call) → All (λ c. is_tried c ≡ true) cs → (c n : ℕ) → Contains cs (Took c n) → ⊥
+no_take : (cs : List PassCall) → All (λ c. is_tried c ≡ true) cs → (c n : ℕ) → Contains cs (Took c n) → ⊥
 no_take cs all c n found = false≢true (ap is_tried (sym found.2) ∙ all found.0 (Took c n) found.1)
 
-all_later : (x : Call) (xs : List Call) → All (λ c. is_tried c ≡ true) (x ∷ xs) → All (λ c. is_tried c ≡ true) xs
+all_later : (x : PassCall) (xs : List PassCall) → All (λ c. is_tried c ≡ true) (x ∷ xs) → All (λ c. is_tried c ≡ true) xs
 all_later x xs all k d lt = all (suc k) d (suc-le-suc lt)
 
-pub tried_places : (p : Plan) (cap : ℕ) (abort : Abort) (cs : List Call) (a b : Runner) → Calls p cap abort cs a b → All (λ c. is_tried c ≡ true) cs → (hand_view b).places ≡ (hand_view a).places
+pub tried_places : (p : Plan) (cap : ℕ) (abort : Abort) (cs : List PassCall) (a b : Runner) → MakesPassCalls p cap abort cs a b → All (λ c. is_tried c ≡ true) cs → (hand_view b).places ≡ (hand_view a).places
 tried_places p cap abort [] a b calls all = ap (λ r. (hand_view r).places) calls
 tried_places p cap abort (Took c n ∷ cs) a b calls all = absurd (no_take (Took c n ∷ cs) all c n (contains_first (Took c n) cs))
 tried_places p cap abort (Tried o ∷ cs) a b calls all =
     let does = attempted p cap abort o calls.0 b calls.2 in
     does.goes.adds.places ∙ tried_places p cap abort cs a calls.0 calls.1 (all_later (Tried o) cs all)
 
-tried_names : (len : ℕ) (cs : List Call) → All (λ c. is_tried c ≡ true) cs → count_by (names len) cs ≡ 0
+tried_names : (len : ℕ) (cs : List PassCall) → All (λ c. is_tried c ≡ true) cs → count_by (names len) cs ≡ 0
 tried_names len [] all = refl
 tried_names len (Took c n ∷ cs) all = absurd (no_take (Took c n ∷ cs) all c n (contains_first (Took c n) cs))
 tried_names len (Tried o ∷ cs) all = tried_names len cs (all_later (Tried o) cs all)
 
 -- one of them is counted
-one_tried : (cs : List Call) (o : ℕ) → Contains cs (Tried o) → 1 ≤ count_by is_tried cs
+one_tried : (cs : List PassCall) (o : ℕ) → Contains cs (Tried o) → 1 ≤ count_by is_tried cs
 one_tried [] o found = absurd (omega (arith, found.1))
 one_tried (Tried q ∷ cs) o found = let e : count_by is_tried (Tried q ∷ cs) ≡ 1 + count_by is_tried cs = count_first is_tried (Tried q) cs in omega arith
 one_tried (Took c n ∷ cs) o found =
@@ -169,11 +169,11 @@ module _ (p : Plan) (cap : ℕ) (abort : Abort) (c : ℕ) (ops : List ℕ) (a : 
         not_lt x y le = grind arith
 
     -- the unit of its operation was walked
-    pub went_on : (e : Runner) → n < length ops → Walked p cap abort (slice_index_or ops n 0) b e → IsWorking p cap abort c ops (turn + 1) a e
+    pub went_on : (e : Runner) → n < length ops → WalkedWithCalls p cap abort (slice_index_or ops n 0) b e → IsWorking p cap abort c ops (turn + 1) a e
     went_on e lt walked = record {
       worked = record {
         calls = walked.calls ++ (Took c n ∷ working.worked.calls);
-        made = in_turn_append (Calling p cap abort) walked.calls (Took c n ∷ working.worked.calls) a b e (m, working.worked.made, takes) walked.made;
+        made = in_turn_append (MakesPassCall p cap abort) walked.calls (Took c n ∷ working.worked.calls) a b e (m, working.worked.made, takes) walked.made;
         only = λ k q found.
             elim (Contains-append_cases walked.calls (Took c n ∷ working.worked.calls) (Took k q) found) [
               | inl none ↦ absurd (no_take walked.calls walked.only k q none)

@@ -1,81 +1,80 @@
--- What a pass over a level makes of runners.
+-- What a pass over a level makes of runners
 use Rattle.std.specs.Prelude.{◌≡◌, ℕ, ◌+◌, ◌<◌, ◌≤◌, ◌^◌, ◌⊎◌, Bool, true, false, List, Contains, All, length, count_by, slice_index_or, nat_lt}
 use Rattle.morph_base.specs.declared.plan.Plan.{Plan}
 use Rattle.morph_base.specs.declared.strategy.Abort.{Abort}
 use Rattle.morph_base.specs.Graphs.{IsValidPlan}
 use Rattle.morph_base.specs.Plans.{op_count}
 use Rattle.chain_units.specs.Places.{IsPartition}
-use Rattle.op_words.specs.declared.board.Board.{Board}
 use Rattle.op_words.specs.Counting.{place, times}
-use Rattle.op_words.specs.Hands.{IsHandOf}
 use Rattle.op_eval.specs.declared.runner.Runner.{Runner}
 use Rattle.op_eval.specs.Running.{hand_view}
 use Rattle.op_eval.specs.Turns.{IsEnough}
 use Rattle.worker_gate.specs.Sharing.{shared_from}
-use Rattle.strata_explorer.specs.Calls.{Call, Took, Tried, Calls, IsFree}
+use Rattle.strata_explorer.specs.Calls.{PassCall, Took, Tried, MakesPassCalls, IsFree}
 use Rattle.strata_explorer.specs.Walks.{WalksAll}
 
-abbrev pub is_tried : Call → Bool
+-- The test whether a call tried an operation
+abbrev pub is_tried : PassCall → Bool
 is_tried (Took c n) = false
 is_tried (Tried o) = true
 
--- a number of a pass over so many operations
-abbrev pub names : ℕ → Call → Bool
+-- The test whether a call took a number below this length, which names an operation of the pass
+abbrev pub names : ℕ → PassCall → Bool
 names len (Took c n) = nat_lt n len
 names len (Tried o) = false
 
--- the plan is valid, the operations of a pass are its own, and so are those of units
-pub record Fits (p : Plan) (units : List (List ℕ)) (many : ℕ) (ops : List ℕ) : Type 0 where
+-- The plan is valid, each of its operations is in one unit, and the operations of the pass are the plan's
+pub record FitsPass (p : Plan) (units : List (List ℕ)) (many : ℕ) (ops : List ℕ) : Type 0 where
   pub valid : IsValidPlan p
   pub partition : IsPartition units (op_count p)
   pub many_is : many ≡ op_count p
   pub few : length ops < 2 ^ 32
   pub inside : All (λ o. o < op_count p) ops
 
--- the runner's hand is of the board and holds nothing
-pub record IsSeated (b : Board) (r : Runner) : Type 0 where
-  pub hand : IsHandOf b r.hand
-  pub free : IsFree r
-
--- the same runner as far as contracts see it, after a call that changes no view
+-- Runner b is runner a as far as contracts see it, after a call that changes no view
 pub record IsLike (a b : Runner) : Type 0 where
   pub view : hand_view b ≡ hand_view a
   pub answers : b.answers ≡ a.answers
   pub kept : b.kept ≡ a.kept
 
--- so for the first runner; the others are the same
+-- The first runner is the same as far as contracts see it, and the others are the same
 pub record AreLike (before after : List Runner) : Type 0 where
   pub len : length after ≡ length before
   pub first : (d : Runner) → IsLike (slice_index_or before 0 d) (slice_index_or after 0 d)
   pub others : (k : ℕ) (d : Runner) → 0 < k → slice_index_or after k d ≡ slice_index_or before k d
 
--- nothing but operations was tried, this one among them
-pub record Walked (p : Plan) (cap : ℕ) (abort : Abort) (o : ℕ) (a b : Runner) : Type 0 where
-  pub calls : List Call
-  pub made : Calls p cap abort calls a b
+-- The runner tried operations, o among them, and did nothing else
+pub record WalkedWithCalls (p : Plan) (cap : ℕ) (abort : Abort) (o : ℕ) (a b : Runner) : Type 0 where
+  pub calls : List PassCall
+  pub made : MakesPassCalls p cap abort calls a b
   pub tried : Contains calls (Tried o)
   pub only : All (λ c. is_tried c ≡ true) calls
 
--- numbers were taken from counter c alone, and the unit of each that names an operation was walked
+-- The runner took numbers from counter c alone, and tried each operation that they name
 pub record Worked (p : Plan) (cap : ℕ) (abort : Abort) (c : ℕ) (ops : List ℕ) (a b : Runner) : Type 0 where
-  pub calls : List Call
-  pub made : Calls p cap abort calls a b
+  pub calls : List PassCall
+  pub made : MakesPassCalls p cap abort calls a b
   pub only : (k n : ℕ) → Contains calls (Took k n) → k ≡ c
   pub tried : (n : ℕ) → Contains calls (Took c n) → n < length ops → Contains calls (Tried (slice_index_or ops n 0))
   pub counted : count_by (names (length ops)) calls ≤ count_by is_tried calls
 
--- after some turns
+-- The runner has taken this many numbers so far
 pub record IsWorking (p : Plan) (cap : ℕ) (abort : Abort) (c : ℕ) (ops : List ℕ) (turn : ℕ) (a b : Runner) : Type 0 where
   pub worked : Worked p cap abort c ops a b
   pub turns : times c (hand_view b).places ≡ turn
   pub last : (turn ≡ 0) ⊎ ((n : ℕ) × Contains (hand_view b).places (place c n) × (turn ≤ n + 1))
 
--- the first runner took part alone, or all of them where they share the level. One of them saw the counter at the end, or each where
--- they share it; the unit of each place was walked
+-- A pass was made over the operations ops: each runner took numbers and walked the units of the operations that they
+-- name, and one of them saw the counter run out. If the level is shared, each of them did; else only the first took
+-- part
 pub record IsPassed (p : Plan) (cap : ℕ) (abort : Abort) (units : List (List ℕ)) (c : ℕ) (ops : List ℕ) (before after : List Runner) : Type 0 where
   pub len : length after ≡ length before
-  pub each : (k : ℕ) (d : Runner) → k < length before → Worked p cap abort c ops (slice_index_or before k d) (slice_index_or after k d)
-  pub walks : (k : ℕ) (d : Runner) → k < length before → WalksAll p cap abort units c ops (slice_index_or before k d) (slice_index_or after k d)
+  pub each : (k : ℕ) (d : Runner) → k < length before
+      → Worked p cap abort c ops (slice_index_or before k d) (slice_index_or after k d)
+  pub walks : (k : ℕ) (d : Runner) → k < length before
+      → WalksAll p cap abort units c ops (slice_index_or before k d) (slice_index_or after k d)
   pub enough : (k : ℕ) × (k < length before) × ((d : Runner) → IsEnough c (length ops) (slice_index_or after k d))
-  pub first : length ops < shared_from → (k : ℕ) (d : Runner) → 0 < k → k < length before → slice_index_or after k d ≡ slice_index_or before k d
-  pub shared : shared_from ≤ length ops → (k : ℕ) (d : Runner) → k < length before → IsEnough c (length ops) (slice_index_or after k d)
+  pub first : length ops < shared_from → (k : ℕ) (d : Runner) → 0 < k → k < length before
+      → slice_index_or after k d ≡ slice_index_or before k d
+  pub shared : shared_from ≤ length ops → (k : ℕ) (d : Runner) → k < length before
+      → IsEnough c (length ops) (slice_index_or after k d)

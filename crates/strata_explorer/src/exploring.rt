@@ -8,11 +8,11 @@ ghost use Rattle.op_words.specs.declared.board.Board.{Board as B};
 ghost use Rattle.op_words.specs.Hands.{plan_of, cap_of, counters_of, up_to, IsHandOf};
 ghost use Rattle.op_eval.specs.Alone.{IsNewRoot, HasRunAll};
 ghost use Rattle.op_eval.specs.Further.{AreFurther};
-ghost use Rattle.op_eval.specs.Exploring.{AreExplored, IsExplored, Unused, parts_of};
+ghost use Rattle.op_eval.specs.Exploring.{AreExplored, IsExploredBoard, Unused, parts_of};
 ghost use Rattle.op_eval.specs.Gathering.{runners_of};
-ghost use Rattle.op_eval.specs.Running.{hand_view};
-ghost use Rattle.strata_explorer.specs.Levels.{ops_of, rolled_by, AreStrata, Follows, HasPassed, IsAlone, counters_for};
-ghost use Rattle.strata_explorer.specs.Passes.{AreLike, IsPassed, IsSeated};
+ghost use Rattle.op_eval.specs.Running.{hand_view, IsFreeRunner};
+ghost use Rattle.strata_explorer.specs.Levels.{ops_of, rolled_by, AreStrata, FollowsPass, HasPassed, IsAlone, counters_for};
+ghost use Rattle.strata_explorer.specs.Passes.{AreLike, IsPassed};
 
 use crate::ground::{Course, Ground};
 use crate::passing::{Pass, pass_by};
@@ -23,7 +23,7 @@ use op_words::Board;
 use std::thread::Threads;
 use worker_gate::Gate;
 
-/// How many counters a board has to have so that a plan can be explored on it.
+/// How many counters a board needs for exploring a plan on it.
 pub fn counters(plan: &Plan) -> u32
     requires { IsValidPlan plan.now }
     ensures { result ≡ counters_for plan.now }
@@ -31,7 +31,7 @@ pub fn counters(plan: &Plan) -> u32
     4 * plan.op_levels.len() as u32 + 64
 }
 
-/// How many operations a runner rolled back, up to the greatest number.
+/// How many operations a runner rolled back, up to the greatest u64.
 fn rolled_of(runner: &Runner) -> u64
     ensures { (b : B) → IsHandOf b runner.now.hand
         → result ≡ up_to (rolled (hand_view runner.now).events) }
@@ -39,9 +39,9 @@ fn rolled_of(runner: &Runner) -> u64
     runner.hand.counts().rolled
 }
 
-/// How many operations all runners rolled back, up to the greatest number.
+/// How many operations all runners rolled back, up to the greatest u64.
 fn count_rolled(runners: &[Runner]) -> u64
-    ensures { (b : B) → All (IsSeated b) runners.now → result ≡ up_to (rolled_by runners.now) }
+    ensures { (b : B) → All (IsFreeRunner b) runners.now → result ≡ up_to (rolled_by runners.now) }
 {
     let mut total = 0u64;
     for k in 0..runners.len() {
@@ -50,10 +50,10 @@ fn count_rolled(runners: &[Runner]) -> u64
     total
 }
 
-/// Whether operations were rolled back, under eager abort, since so many had been. Under lazy abort none are.
+/// Whether operations were rolled back under eager abort, beyond the `rolled` ones before. Under lazy abort none are.
 fn has_risen(runners: &[Runner], abort: Abort, rolled: u64) -> bool
     ensures eager { result ≡ true → abort ≡ Eager }
-    ensures more { result ≡ true → (b : B) → All (IsSeated b) runners.now
+    ensures more { result ≡ true → (b : B) → All (IsFreeRunner b) runners.now
         → rolled < up_to (rolled_by runners.now) }
 {
     match abort {
@@ -62,11 +62,11 @@ fn has_risen(runners: &[Runner], abort: Abort, rolled: u64) -> bool
     }
 }
 
-/// Empties the level word before a pass in which workers may lower it.
+/// Puts the greatest level into the level word, before a pass in which workers may lower it.
 fn empty_level(board: &mut Board, runners: &mut [Runner], abort: Abort)
     requires some { 0 < length runners.old }
-    requires seated { All (IsSeated board.old) runners.old }
-    ensures seated { All (IsSeated board.new) runners.new }
+    requires seated { All (IsFreeRunner board.old) runners.old }
+    ensures seated { All (IsFreeRunner board.new) runners.new }
     ensures like { AreLike runners.old runners.new }
     ensures plan { plan_of board.new ≡ plan_of board.old }
     ensures cap { cap_of board.new ≡ cap_of board.old }
@@ -78,12 +78,13 @@ fn empty_level(board: &mut Board, runners: &mut [Runner], abort: Abort)
     }
 }
 
-/// The level above, or that of the level word where operations were rolled back and it is lower.
+/// The level of the next pass: the level above, or that of the level word if operations were rolled back and it is
+/// lower.
 fn next_level(board: &Board, runners: &mut [Runner], level: usize, risen: bool) -> usize
     requires some { 0 < length runners.old }
-    requires seated { All (IsSeated board.now) runners.old }
+    requires seated { All (IsFreeRunner board.now) runners.old }
     requires small { level < 2 ^ 32 }
-    ensures seated { All (IsSeated board.now) runners.new }
+    ensures seated { All (IsFreeRunner board.now) runners.new }
     ensures like { AreLike runners.old runners.new }
     ensures most { result ≤ level + 1 }
     ensures above { risen ≡ false → result ≡ level + 1 }
@@ -96,7 +97,7 @@ fn next_level(board: &Board, runners: &mut [Runner], level: usize, risen: bool) 
     lowest.saturating_sub(1).min(level + 1)
 }
 
-/// A pass over a level, by the counter of its own number, and the level that comes next.
+/// Makes a pass over a level, by the counter of its own number, and returns the level that comes next.
 fn pass_once<R: Threads + Sync, G: Gate>(
     rt: &R,
     board: &mut Board,
@@ -112,16 +113,16 @@ fn pass_once<R: Threads + Sync, G: Gate>(
     requires level { level < length course.now.plan.now.op_levels.items }
     requires counter { counter < counters_of board.old }
     requires some { 0 < length runners.old }
-    requires seated { All (IsSeated board.old) runners.old }
+    requires seated { All (IsFreeRunner board.old) runners.old }
     requires unused { All (Unused counter) runners.old }
-    ensures seated { All (IsSeated board.new) runners.new }
+    ensures seated { All (IsFreeRunner board.new) runners.new }
     ensures plan { plan_of board.new ≡ plan_of board.old }
     ensures cap { cap_of board.new ≡ cap_of board.old }
     ensures counters { counters_of board.new ≡ counters_of board.old }
     ensures passed { IsPassed course.now.plan.now (cap_of board.old) course.now.abort
         course.now.units.now.units counter (ops_of course.now.plan.now level)
         runners.old runners.new }
-    ensures next { Follows course.now.plan.now (cap_of board.old) course.now.abort result
+    ensures next { FollowsPass course.now.plan.now (cap_of board.old) course.now.abort result
         (level ∷ []) runners.old runners.new }
 {
     empty_level(board, runners, course.abort);
@@ -142,8 +143,8 @@ fn pass_once<R: Threads + Sync, G: Gate>(
     next_level(board, runners, level, risen)
 }
 
-/// Passes from the lowest level on, until there is no next level or no counter is left; why they ended, and how many
-/// there were.
+/// Makes passes from the lowest level on, until there is no next level or no counter is left. Returns why they ended,
+/// and how many there were.
 fn pass_all<R: Threads + Sync, G: Gate>(
     rt: &R,
     board: &mut Board,
@@ -156,9 +157,9 @@ fn pass_all<R: Threads + Sync, G: Gate>(
     requires number { course.now.units.now.ops ≡ op_count course.now.plan.now }
     requires counters { counters_for course.now.plan.now ≤ counters_of board.old }
     requires some { 0 < length runners.old }
-    requires seated { All (IsSeated board.old) runners.old }
+    requires seated { All (IsFreeRunner board.old) runners.old }
     requires ready { AreStrata course.now.plan.now [] runners.old }
-    ensures seated { All (IsSeated board.new) runners.new }
+    ensures seated { All (IsFreeRunner board.new) runners.new }
     ensures plan { plan_of board.new ≡ plan_of board.old }
     ensures cap { cap_of board.new ≡ cap_of board.old }
     ensures counters { counters_of board.new ≡ counters_of board.old }
@@ -185,19 +186,18 @@ fn pass_all<R: Threads + Sync, G: Gate>(
     (end, passes)
 }
 
-/// Explores a batch by passes over its levels, each with a counter of the board for its own.
+/// Explores a batch by passes over its levels. Each pass has a counter of the board for its own.
 ///
-/// The first pass is over the lowest level. The places of a pass are the operations of its level, and each goes to one
-/// worker, who walks the unit of that operation from it on. So of each pass one worker saw the counter's end, and each
-/// place that a worker took had its operation reached by that worker's own words. Nothing is settled on the way.
+/// The first pass is over the lowest level. The places of a pass are the operations of its level. Each place goes to
+/// one worker, who walks the unit of the operation from it on. In each pass some worker saw the counter run out, and
+/// every operation whose place a worker took was reached in that worker's own trail. Nothing is settled on the way.
 ///
 /// Under lazy abort each level is passed once, and with one worker all operations have run at attempt 1. Under eager
 /// abort a worker runs the cascade of an operation to its end after each evaluation that failed, or that was a second
-/// or later attempt. Where operations were rolled back in a pass, exploring goes back to the lowest level of one of
-/// them.
+/// or later attempt. If operations were rolled back in a pass, exploring goes back to the lowest level of one of them.
 ///
-/// The end is [`RunEnd::Whole`] after the last level, and [`RunEnd::Spent`] where [`counters`] of the plan passes were
-/// made before that. The first unused counter is that after the last pass. It takes no memory.
+/// The end is [`RunEnd::Whole`] after the last level. It is [`RunEnd::Spent`] if as many passes as the [`counters`] of
+/// the plan were made before that. The first unused counter is the one after the last pass. The call takes no memory.
 pub fn explore<R: Threads + Sync, G: Gate>(
     rt: &R,
     board: Board,
@@ -213,7 +213,7 @@ pub fn explore<R: Threads + Sync, G: Gate>(
     requires number { units.now.ops ≡ op_count plan.now }
     requires counters { counters_for plan.now ≤ counters_of board }
     requires ready { AreExplored board 0 runners }
-    ensures explored { IsExplored result }
+    ensures explored { IsExploredBoard result }
     ensures plan { plan_of (parts_of result).0 ≡ plan_of board }
     ensures cap { cap_of (parts_of result).0 ≡ cap_of board }
     ensures counters { counters_of (parts_of result).0 ≡ counters_of board }

@@ -1,16 +1,16 @@
-//! Exploring a batch on the shared board level by level.
+//! Explores a batch on the shared board level by level.
 //!
-//! [`explore`] makes passes over the levels of a plan, from the lowest on. The places of a pass are the operations of its
-//! level, in the plan's order; workers take them from the pass's own counter, so each goes to one of them. At a place a
-//! worker walks the unit of that operation, from it on: it evaluates one operation after the other, until an answer is
-//! not `Evaluated`. A level with [few](worker_gate::is_few) operations is left to the first worker alone.
+//! [`explore`] makes passes over the levels of a plan, from the lowest on. The places of a pass are the operations of
+//! its level, in the plan's order. Workers take them from the pass's own counter, so each goes to one of them. At a
+//! place a worker walks the unit of that operation, from it on: it evaluates one operation after the other, until an
+//! answer is not `Evaluated`. A level with [few](worker_gate::is_few) operations is left to the first worker alone.
 //!
 //! Under lazy abort nothing is rolled back on the way: failures are left to settling, and each level is passed once.
 //! Under eager abort a worker runs the cascade of an operation after each evaluation that failed, or that was a second
-//! or later attempt, and lowers the level word to the level of each operation that it rolled back. Where operations
-//! were rolled back in a pass, exploring goes back to the lowest of these levels if it is below the next one. It ends
-//! after a pass over the last level from which it did not go back, or once the passes that [`counters`] gives a plan
-//! are used up.
+//! or later attempt, and lowers the level word to the level of each operation that it rolled back. If operations were
+//! rolled back in a pass, exploring goes back to the lowest of these levels if it is below the next one. It ends after
+//! a pass over the last level from which it did not go back, or once the passes that [`counters`] gives a plan are used
+//! up.
 //!
 //! ```text
 //! let units = units(alloc, &plan, Unit::Op)?;
@@ -19,7 +19,7 @@
 //! let explored = explore(&rt, board, runners, &plan, &units, Abort::Lazy, &FreeGate);
 //! ```
 //!
-//! Below it stand `op_eval` and `op_words`, the board and its runners, `abort_eager`, `chain_units`, `worker_gate` and
+//! It uses `op_eval` and `op_words`, the board and its runners; `abort_eager`; `chain_units`; `worker_gate`; and
 //! `morph_base`.
 #![tactic(auto)]
 

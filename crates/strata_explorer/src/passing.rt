@@ -4,7 +4,8 @@ ghost use Rattle.op_words.specs.Hands.{plan_of, cap_of, counters_of};
 ghost use Rattle.op_eval.specs.declared.runner.Runner.{Runner as Worker};
 ghost use Rattle.op_eval.specs.Exploring.{Unused};
 ghost use Rattle.op_eval.specs.Turns.{IsEnough};
-ghost use Rattle.strata_explorer.specs.Passes.{Fits, IsSeated, IsPassed};
+ghost use Rattle.strata_explorer.specs.Passes.{FitsPass, IsPassed};
+ghost use Rattle.op_eval.specs.Running.{IsFreeRunner};
 
 use crate::ground::Ground;
 use crate::walking::work;
@@ -26,16 +27,17 @@ impl<G: Gate> Job<Runner> for Pass<'_, G> {
     ghost use Rattle.op_words.specs.Hands.{plan_of, cap_of, counters_of};
     ghost use Rattle.op_eval.specs.Exploring.{Unused};
     ghost use Rattle.op_eval.specs.Turns.{IsEnough};
-    ghost use Rattle.strata_explorer.specs.Passes.{Fits, IsSeated, Worked};
+    ghost use Rattle.strata_explorer.specs.Passes.{FitsPass, Worked};
+    ghost use Rattle.op_eval.specs.Running.{IsFreeRunner};
     ghost use Rattle.strata_explorer.specs.Walks.{WalksAll};
 
     ghost can_run = { λ pass runner. (pass.ground.plan.now ≡ plan_of pass.ground.board.now)
-        × Fits pass.ground.plan.now pass.ground.units.now.units pass.ground.units.now.ops
+        × FitsPass pass.ground.plan.now pass.ground.units.now.units pass.ground.units.now.ops
         pass.ops.now
         × (pass.counter < counters_of pass.ground.board.now)
-        × IsSeated pass.ground.board.now runner × Unused pass.counter runner };
+        × IsFreeRunner pass.ground.board.now runner × Unused pass.counter runner };
 
-    ghost changes = { λ pass before after. IsSeated pass.ground.board.now after
+    ghost changes = { λ pass before after. IsFreeRunner pass.ground.board.now after
         × Worked pass.ground.plan.now (cap_of pass.ground.board.now) pass.ground.abort pass.counter
         pass.ops.now before after
         × IsEnough pass.counter (length pass.ops.now) after
@@ -51,7 +53,7 @@ impl<G: Gate> Job<Runner> for Pass<'_, G> {
     }
 }
 
-/// A pass by all runners, or by the first alone where the level has [few](is_few) operations.
+/// Makes a pass by all runners, or by the first runner alone if the level has [few](is_few) operations.
 pub(crate) fn pass_by<R: Threads + Sync, G: Gate>(
     rt: &R,
     runners: &mut [Runner],
@@ -59,13 +61,13 @@ pub(crate) fn pass_by<R: Threads + Sync, G: Gate>(
 )
     requires some { 0 < length runners.old }
     requires plan { pass.now.ground.plan.now ≡ plan_of pass.now.ground.board.now }
-    requires fits { Fits pass.now.ground.plan.now pass.now.ground.units.now.units
+    requires fits { FitsPass pass.now.ground.plan.now pass.now.ground.units.now.units
         pass.now.ground.units.now.ops
         pass.now.ops.now }
     requires in_range { pass.now.counter < counters_of pass.now.ground.board.now }
-    requires seated { All (IsSeated pass.now.ground.board.now) runners.old }
+    requires seated { All (IsFreeRunner pass.now.ground.board.now) runners.old }
     requires unused { All (Unused pass.now.counter) runners.old }
-    ensures seated { All (IsSeated pass.now.ground.board.now) runners.new }
+    ensures seated { All (IsFreeRunner pass.now.ground.board.now) runners.new }
     ensures does { IsPassed pass.now.ground.plan.now (cap_of pass.now.ground.board.now)
         pass.now.ground.abort pass.now.ground.units.now.units pass.now.counter
         pass.now.ops.now runners.old runners.new }

@@ -1,21 +1,20 @@
-//! Cascades behind evaluations, under eager abort.
+//! Cascades that follow evaluations, under eager abort.
 ghost use Rattle.std.specs.Prelude.{◌≡◌, ◌<◌, true, Some, None};
 ghost use Rattle.morph_base.specs.Graphs.{IsValidPlan};
 ghost use Rattle.morph_base.specs.Plans.{op_count};
 ghost use Rattle.op_words.specs.Hands.{plan_of, cap_of, view_of, IsHandOf};
 ghost use Rattle.op_words.specs.Views.{HasShownFailure};
-ghost use Rattle.op_eval.specs.Running.{hand_view};
+ghost use Rattle.op_eval.specs.Running.{hand_view, IsFreeRunner};
 ghost use Rattle.abort_eager.specs.Targets.{targets};
 ghost use Rattle.abort_eager.specs.Touching.{Touching};
 ghost use Rattle.abort_eager.specs.Sweeps.{cascade_for, Sweeps};
-ghost use Rattle.strata_explorer.specs.Passes.{IsSeated};
 
 use abort_eager::{Cascade, Touch, Touched, cascade_behind};
 use morph_base::{Abort, Plan};
 use op_eval::{Evaluation, Runner};
 use op_words::{Board, Hand};
 
-/// Lowers the level word to the level of an operation that was rolled back, since it has to be passed again.
+/// Lowers the level word to the level of an operation that was rolled back, since that level has to be passed again.
 fn note(board: &Board, hand: &mut Hand, plan: &Plan, touched: Touched)
     requires hand { IsHandOf board.now hand.old }
     requires in_range { touched.op < op_count plan.now }
@@ -47,8 +46,8 @@ fn run_cascade(board: &Board, hand: &mut Hand, plan: &Plan, op: u32, failed: boo
     }
 }
 
-/// What stands behind an evaluation that has been made: under eager abort, the cascade of one that failed, or that was
-/// a second or later attempt.
+/// Runs the cascade that follows an evaluation: under eager abort there is one after an evaluation that failed, or that
+/// was a second or later attempt.
 pub(crate) fn sweep(
     board: &Board,
     runner: &mut Runner,
@@ -60,10 +59,10 @@ pub(crate) fn sweep(
     requires plan { plan.now ≡ plan_of board.now }
     requires valid { IsValidPlan plan.now }
     requires in_range { op < op_count plan.now }
-    requires seated { IsSeated board.now runner.old }
+    requires seated { IsFreeRunner board.now runner.old }
     requires cause { cascade_for abort answer ≡ Some true
         → HasShownFailure (hand_view runner.old) op }
-    ensures seated { IsSeated board.now runner.new }
+    ensures seated { IsFreeRunner board.now runner.new }
     ensures does { Sweeps plan.now (cap_of board.now) abort op answer runner.old runner.new }
 {
     if let Some(failed) = cascade_behind(abort, answer) {

@@ -7,7 +7,8 @@ ghost use Rattle.op_words.specs.Hands.{plan_of, cap_of, counters_of};
 ghost use Rattle.op_eval.specs.Exploring.{Unused};
 ghost use Rattle.op_eval.specs.Turns.{IsEnough};
 ghost use Rattle.abort_eager.specs.Sweeps.{Attempts};
-ghost use Rattle.strata_explorer.specs.Passes.{Fits, IsSeated, Walked, Worked};
+ghost use Rattle.strata_explorer.specs.Passes.{FitsPass, WalkedWithCalls, Worked};
+ghost use Rattle.op_eval.specs.Running.{IsFreeRunner};
 ghost use Rattle.strata_explorer.specs.Walks.{WalksUnit, WalksAll};
 
 use crate::ground::Ground;
@@ -15,7 +16,7 @@ use crate::sweeping::sweep;
 use op_eval::{Evaluation, Runner, evaluate};
 use worker_gate::Turns;
 
-/// Tries to evaluate an operation in a turn, tells the gate, and does what stands behind the evaluation.
+/// Tries to evaluate an operation in a turn, tells the gate, and runs the cascade that follows.
 fn attempt<T: Turns>(
     ground: &Ground<'_>,
     told: &T,
@@ -26,8 +27,8 @@ fn attempt<T: Turns>(
     requires plan { ground.now.plan.now ≡ plan_of ground.now.board.now }
     requires valid { IsValidPlan ground.now.plan.now }
     requires in_range { op < op_count ground.now.plan.now }
-    requires seated { IsSeated ground.now.board.now runner.old }
-    ensures seated { IsSeated ground.now.board.now runner.new }
+    requires seated { IsFreeRunner ground.now.board.now runner.old }
+    ensures seated { IsFreeRunner ground.now.board.now runner.new }
     ensures does { Attempts ground.now.plan.now (cap_of ground.now.board.now) ground.now.abort op
         runner.old runner.new result }
 {
@@ -44,9 +45,9 @@ fn walk<T: Turns>(ground: &Ground<'_>, told: &T, turn: u64, runner: &mut Runner,
     requires in_range { op < op_count ground.now.plan.now }
     requires units { IsPartition ground.now.units.now.units (op_count ground.now.plan.now) }
     requires number { ground.now.units.now.ops ≡ op_count ground.now.plan.now }
-    requires seated { IsSeated ground.now.board.now runner.old }
-    ensures seated { IsSeated ground.now.board.now runner.new }
-    ensures does { Walked ground.now.plan.now (cap_of ground.now.board.now) ground.now.abort op
+    requires seated { IsFreeRunner ground.now.board.now runner.old }
+    ensures seated { IsFreeRunner ground.now.board.now runner.new }
+    ensures does { WalkedWithCalls ground.now.plan.now (cap_of ground.now.board.now) ground.now.abort op
         runner.old runner.new }
     ensures unit { WalksUnit ground.now.plan.now (cap_of ground.now.board.now) ground.now.abort
         ground.now.units.now.units op runner.old runner.new }
@@ -72,12 +73,12 @@ pub(crate) fn work<T: Turns>(
     runner: &mut Runner,
 )
     requires plan { ground.now.plan.now ≡ plan_of ground.now.board.now }
-    requires fits { Fits ground.now.plan.now ground.now.units.now.units ground.now.units.now.ops
+    requires fits { FitsPass ground.now.plan.now ground.now.units.now.units ground.now.units.now.ops
         ops.now }
     requires in_range { counter < counters_of ground.now.board.now }
-    requires seated { IsSeated ground.now.board.now runner.old }
+    requires seated { IsFreeRunner ground.now.board.now runner.old }
     requires unused { Unused counter runner.old }
-    ensures seated { IsSeated ground.now.board.now runner.new }
+    ensures seated { IsFreeRunner ground.now.board.now runner.new }
     ensures does { Worked ground.now.plan.now (cap_of ground.now.board.now) ground.now.abort counter
         ops.now runner.old runner.new }
     ensures enough { IsEnough counter (length ops.now) runner.new }

@@ -1,4 +1,4 @@
--- The events of the tests' application are valid, and so are the lines that it writes.
+-- The events of the tests' application are valid, and so are the lines that it writes
 use Rattle.std.proofs.Common.{◌≡◌, ℕ, ◌^◌, ◌<◌, ◌≤◌, Bool, true, false, if◌then◌else◌, List, [], ◌∷◌, length, refl, ◌∙◌, ap, subst, arith, Some, Ok, Err}
 use Rattle.std.specs.Prelude.{◌==◌, ◌||◌, decimal, nat_le, nat_lt, slice_index, slice_index_or}
 use Rattle.std.specs.List.{All, IsDistinct, list_all}
@@ -52,7 +52,7 @@ count_is_valid version size ts start end some = (
   all_of (λ op. op.high ≡ greatest_of version) (count_at version ts).ops (refl, tt),
 )
 
--- every event is valid
+-- Each event that words say is valid
 pub count_valid : (size : ℕ) (version : Version) (words : List (List ℕ)) (e : Transaction) → count_event size version words ≡ Ok e
     → IsEventOf version (record { tables = 1; size = size }) e
 count_valid size version words e is = by_count (length words == 2) (length words == 1) is
@@ -76,7 +76,7 @@ count_valid size version words e is = by_count (length words == 2) (length words
     by_count false false said = absurd (cc)
     by_count false true said = by_number (number_of (slice_index_or words 0 [])) said
 
--- the causes are form, range and same
+-- The causes are form, range and same
 is_form : (cause : Cause) → Form ≡ cause → IsOfWords cause
 is_form cause is = subst IsOfWords is tt
 
@@ -86,6 +86,7 @@ is_range cause is = subst IsOfWords is tt
 is_same : (cause : Cause) → Same ≡ cause → IsOfWords cause
 is_same cause is = subst IsOfWords is tt
 
+-- Words have no other causes than form, range and same
 pub count_causes : (size : ℕ) (version : Version) (words : List (List ℕ)) (cause : Cause) → count_event size version words ≡ Err cause → IsOfWords cause
 count_causes size version words cause is = by_count (length words == 2) (length words == 1) is
   where
@@ -104,7 +105,7 @@ count_causes size version words cause is = by_count (length words == 2) (length 
     by_count false false said = is_form cause (cc)
     by_count false true said = by_number (number_of (slice_index_or words 0 [])) said
 
--- a number is a word of digits, which says it
+-- A number is a word of digits, which says it
 digits_of : (n : ℕ) → n ≤ greatest_number → All (λ b. (48 ≤ b) × (b ≤ 57)) (decimal n)
 digits_of n small =
     let fits : n < 2 ^ 64 = omega arith in
@@ -145,7 +146,7 @@ decimal_says n start small =
     let low : nat_le n greatest_number ≡ true = grind (arith, nat_tests) in
     rw (number_is n start small, (decimal_is_IsNumeral n fits).1, low) refl
 
--- its line is neither ignored nor a punctuation
+-- The line of an event is neither ignored nor a punctuation
 counts_decimal : (bytes : List ℕ) → All (λ b. (48 ≤ b) × (b ≤ 57)) bytes → 0 < length bytes → is_ignored bytes ≡ false
 counts_decimal [] digits some = absurd (omega arith)
 counts_decimal (b ∷ bytes) digits some =
@@ -171,7 +172,7 @@ no_version_decimal (b ∷ bytes) digits =
 printable : (b : ℕ) → (48 ≤ b) × (b ≤ 57) → 32 ≤ b
 printable b digit = omega (arith, digit.0)
 
--- each line that it writes is an event's
+-- Each line that the application writes is an event's, at the time of its number
 pub count_generates : (size i state : ℕ) → 0 < size → 0 < i → i ≤ generated_events → IsEventLine (count_event size One) i (count_drawn i state).line
 count_generates size i state some start last =
     let small : i ≤ greatest_number = omega arith in

@@ -23,7 +23,7 @@ impl Interrupted {
         }
     }
 
-    /// One call, which is interrupted where interruptions are left.
+    /// One call, which is interrupted if interruptions are left.
     fn call(&mut self) -> io::Result<usize> {
         if self.left > 0 {
             self.left -= 1;
@@ -75,7 +75,7 @@ fn standard_output_and_error_are_sinks(rt: HostRuntime) -> Result<(), Fail> {
     Ok(())
 }
 
-/// How often a reader is interrupted, what it does then, and what comes of a read.
+/// How often a reader is interrupted, what it does then, and the outcome of a read.
 static READS: [(u32, Result<usize, ErrorKind>, Result<usize, ReadFailed>); 5] = [
     (0, Ok(3), Ok(3)),
     (0, Ok(0), Ok(0)),
@@ -84,7 +84,7 @@ static READS: [(u32, Result<usize, ErrorKind>, Result<usize, ReadFailed>); 5] = 
     (1, Err(ErrorKind::Other), Err(ReadFailed)),
 ];
 
-/// What comes of a read for four bytes, where the reader is interrupted so often and does this then.
+/// The outcome of a read for four bytes, if the reader is interrupted this often and then does this.
 fn read_from(times: u32, moves: Result<usize, ErrorKind>) -> Result<usize, ReadFailed> {
     let mut source = StdSource::new(Interrupted::new(times, moves));
     source.read(&mut [0; 4])
@@ -101,7 +101,7 @@ fn an_interrupted_read_is_tried_a_thousand_times_again(rt: HostRuntime) {
     }
 }
 
-/// How often a writer is interrupted, what it does then, what comes of a write, and how often the writer was flushed:
+/// How often a writer is interrupted, what it does then, the outcome of a write, and how often the writer was flushed:
 /// the flush after a write is interrupted as often as the write, and both share the tries of one call.
 static WRITES: [(
     u32,
@@ -116,7 +116,7 @@ static WRITES: [(
     (1, Err(ErrorKind::BrokenPipe), (Err(WriteFailed), 0)),
 ];
 
-/// What comes of a write of four bytes, where the writer is interrupted so often and does this then, and how often the
+/// The outcome of a write of four bytes, if the writer is interrupted this often and then does this, and how often the
 /// writer was flushed.
 fn write_to(times: u32, moves: Result<usize, ErrorKind>) -> (Result<usize, WriteFailed>, u32) {
     let mut writer = Interrupted::new(times, moves);

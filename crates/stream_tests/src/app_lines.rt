@@ -22,8 +22,8 @@ fn said<A: EventApp>(
     }
 }
 
-/// The timestamp of a line's event, the number of its operations, and whether they are the given ones; nothing of a line
-/// that is refused.
+/// The timestamp of a line's event, the number of its operations, and whether they are the given ones; nothing of a
+/// line that is refused.
 pub(crate) fn told<A: EventApp>(
     alloc: Global,
     app: &A,
@@ -70,7 +70,7 @@ pub(crate) fn check_refused<A: EventApp>(
     }
 }
 
-/// The line of event `i` by these draws, where the tables have `size` ids.
+/// The line of event `i` by these draws. The tables have `size` ids.
 fn drawn<A: MakesInput>(app: &A, draws: &mut Draws, i: u64, size: u32) -> LineBuf
     requires event { 1 ≤ i }
     requires last { i ≤ generated_events }
@@ -82,7 +82,7 @@ fn drawn<A: MakesInput>(app: &A, draws: &mut Draws, i: u64, size: u32) -> LineBu
     line
 }
 
-/// Compares the lines of the first two events with those given: by a seed, where the tables have so many ids.
+/// Compares the lines of the first two events with those given, by a seed and a size of the tables.
 pub(crate) fn check_drawn<A: MakesInput>(
     rt: &impl Abort,
     app: &A,

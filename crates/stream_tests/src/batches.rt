@@ -11,7 +11,7 @@ use morph_io::MemSource;
 use std::alloc::{AllocError, Global};
 use std::test::Fail;
 
-/// Reads all batches of a text that comes in pieces, where the table has `size` ids.
+/// Reads all batches of a text that comes in pieces. The table has `size` ids.
 fn read_text(
     alloc: Global,
     text: &[u8],
@@ -70,8 +70,8 @@ static VERSIONS: [(&[u8], Version, u64); 3] = [
     (b"#morph 2\n1\nP\n", Version::One, 1_000_000_000_000),
 ];
 
-/// The version that a reader of a text tells before its first batch and behind it, and whether all operations of that have
-/// this greatest value; nothing where there is no batch.
+/// The version that a reader of a text shows before its first batch and after it, and whether all operations of that
+/// batch have this greatest value; nothing if there is no batch.
 fn first_version(
     alloc: Global,
     text: &[u8],
@@ -91,7 +91,7 @@ fn first_version(
     Ok(Some((before, reader.version(), alike)))
 }
 
-/// The version is told once the first line was read, and the events have its greatest value.
+/// The version is known once the first line was read, and the events have its greatest value.
 #[test]
 fn the_first_line_tells_the_version(rt: HostRuntime) -> Result<(), Fail> {
     for &(text, version, high) in &VERSIONS {
@@ -132,7 +132,7 @@ fn a_limit_is_reached_exactly_or_passed(rt: HostRuntime) -> Result<(), Fail> {
     Ok(())
 }
 
-/// The bytes of a line, how many an input may have, and what comes of it.
+/// The bytes of a line, how many an input may have, and the outcome.
 static LONG_LINES: [(usize, u64, Result<LineNext, ReaderFault>); 5] = [
     (1_300, 1_002, Ok(LineNext::Long)),
     (1_300, 1_001, Err(ReaderFault::TooLong)),

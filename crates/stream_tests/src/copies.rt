@@ -49,7 +49,7 @@ fn copy<S: Source, K: Sink>(source: &mut S, sink: &mut K, reads: u32) -> Copied
 /// Three lines of 22 bytes in all.
 const TEXT: &[u8] = b"1 C 1 1\n2 A\nB 1 2 1 1\n";
 
-/// A sink of so many bytes that takes at most `piece` a call, and whose calls of the given numbers fail or stall.
+/// A sink of `room` bytes that takes at most `piece` a call, and whose calls of the given numbers fail or stall.
 fn sink_of(
     alloc: Global,
     room: usize,
@@ -72,8 +72,8 @@ fn copy_pieces(alloc: Global, given: usize, taken: usize) -> Result<(Copied, boo
     copy_text(alloc, &mut source, taken, TEXT)
 }
 
-/// Copies a source to a sink that takes at most `taken` bytes a call, and tells how that ended, and whether the sink has
-/// this text then.
+/// Copies a source to a sink that takes at most `taken` bytes a call, and returns how that ended, and whether the sink
+/// has this text then.
 fn copy_text<S: Source>(
     alloc: Global,
     source: &mut S,
@@ -101,14 +101,14 @@ fn a_source_is_copied_to_a_sink(rt: HostRuntime) -> Result<(), Fail> {
     Ok(())
 }
 
-/// What one read for so many bytes, at most five, comes to; the bytes are at the front of `buf`.
+/// The outcome of one read for `room` bytes, at most five. The bytes are at the front of `buf`.
 fn read_some<S: Source>(source: &mut S, buf: &mut [u8; 5], room: usize) -> Option<usize> {
     let room = room.clamp(1, 5);
     source.read(&mut buf[..room]).ok()
 }
 
-/// How many bytes are asked for, and what is read of `abcdefgh` in pieces of three, where the second call fails and the
-/// fourth.
+/// How many bytes are asked for, and what is read of `abcdefgh` in pieces of three, if the second and the fourth call
+/// fail.
 static READS: [(usize, Option<&[u8]>); 7] = [
     (5, Some(b"abc")),
     (5, None),
@@ -153,7 +153,7 @@ fn a_line_is_repeated_to_its_end(rt: HostRuntime) -> Result<(), Fail> {
     Ok(())
 }
 
-/// One write of some bytes, and nothing where there are none.
+/// One write of some bytes, or nothing if there are none.
 fn write_some<K: Sink>(sink: &mut K, piece: &[u8]) -> Result<usize, WriteFailed> {
     if piece.is_empty() {
         return Ok(0);
@@ -161,7 +161,7 @@ fn write_some<K: Sink>(sink: &mut K, piece: &[u8]) -> Result<usize, WriteFailed>
     sink.write(piece)
 }
 
-/// Pieces that are written to a sink of ten bytes, and the answers, where a call takes four bytes, the second fails and
+/// Pieces that are written to a sink of ten bytes, and the answers, if a call takes four bytes, the second fails and
 /// the third stalls.
 static WRITES: [(&[u8], Result<usize, WriteFailed>); 8] = [
     (b"abcdef", Ok(4)),
@@ -184,7 +184,7 @@ fn a_sink_has_room_pieces_failures_and_stalls(rt: HostRuntime) -> Result<(), Fai
     Ok(())
 }
 
-/// The three lines of [`TEXT`], each of which is put.
+/// The three lines of [`TEXT`], which are put one by one.
 static PARTS: [&[u8]; 3] = [b"1 C 1 1\n", b"2 A\n", b"B 1 2 1 1\n"];
 
 /// A line of at most 400 bytes.
@@ -194,7 +194,7 @@ fn line_of(bytes: &[u8]) -> LineBuf {
     line
 }
 
-/// Puts the parts of the text and flushes, and answers whether all went well.
+/// Puts the parts of the text and flushes, and returns whether all went well.
 fn put_lines<K: Sink>(alloc: Global, sink: &mut K) -> Result<Result<(), WriteFailed>, OutOfMemory> {
     let mut out = Out::new(alloc)?;
     for part in &PARTS {
@@ -205,8 +205,8 @@ fn put_lines<K: Sink>(alloc: Global, sink: &mut K) -> Result<Result<(), WriteFai
     Ok(out.flush(sink))
 }
 
-/// Puts the parts into a sink of one byte a call, whose calls of the given numbers fail or stall, and tells what came of
-/// it, and whether the first `count` bytes of the text stand there.
+/// Puts the parts into a sink of one byte a call, whose calls of the given numbers fail or stall. Returns the outcome,
+/// and whether the sink then has the first `count` bytes of the text.
 fn put_by_bytes(
     alloc: Global,
     fail: &[u64],
@@ -236,13 +236,13 @@ fn a_buffer_over_a_sink_that_fails_at_each_call_in_turn(rt: HostRuntime) -> Resu
     Ok(())
 }
 
-/// Puts a line, and tells whether that went well, and how many bytes the sink has then.
+/// Puts a line, and returns whether that went well, and how many bytes the sink has then.
 fn put(out: &mut Out, sink: &mut MemSink, line: &LineBuf) -> (bool, usize) {
     let put = out.put(sink, line);
     (put.is_ok(), sink.bytes().len())
 }
 
-/// Flushes, and tells the same.
+/// Flushes, and returns whether that went well, and how many bytes the sink has then.
 fn flush(out: &mut Out, sink: &mut MemSink) -> (bool, usize) {
     let flushed = out.flush(sink);
     (flushed.is_ok(), sink.bytes().len())
@@ -254,7 +254,8 @@ fn are_lines(bytes: &[u8]) -> bool {
         == if place % 400 == 399 { b'\n' } else { b'x' })
 }
 
-/// Puts 21 lines of 400 bytes, and expects that all that is kept is written when the buffer is full, and nothing before.
+/// Puts 21 lines of 400 bytes, and expects that all that is kept is written when the buffer is full, and nothing
+/// before.
 fn put_full(rt: &impl Abort, out: &mut Out, sink: &mut MemSink) {
     let mut bytes = [b'x'; 400];
     bytes[399] = b'\n';

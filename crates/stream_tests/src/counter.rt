@@ -7,7 +7,7 @@ use std::alloc::Global;
 
 /// The application of the tests: one counter, to which each event adds 1.
 ///
-/// A line is a time. With one word more it is refused as same.
+/// A line is a time. With one more word it is refused as same.
 #[derive(Clone, Copy, Debug, PartialEq, Eq)]
 pub(crate) struct Counter;
 

@@ -93,7 +93,7 @@ fn seven_cells_are_summed_in_version_2(rt: HostRuntime) {
     );
 }
 
-/// Lines where there are 10 cells, their version, and why they are refused.
+/// Lines for 10 cells, their version, and why they are refused.
 static REFUSED: [(&[u8], Version, Cause); 24] = [
     (b"W 1 2", Version::One, Cause::Form),
     (b"W 1 2 3 4", Version::One, Cause::Form),

@@ -29,7 +29,7 @@ fn read_all(
     read_batches(alloc, Ledger, &mut source, 10_000, limit)
 }
 
-/// Reads each text, and compares what it comes to with the sizes of its batches and its end.
+/// Reads each text, and compares the outcome with the sizes of its batches and its end.
 fn check_texts(
     rt: &impl Abort,
     alloc: Global,
@@ -185,7 +185,7 @@ fn deposits(alloc: Global, count: u64, falling: bool) -> Result<String, AllocErr
     Ok(text)
 }
 
-/// Reads so many deposits.
+/// Reads `count` deposits.
 fn read_deposits(alloc: Global, count: u64, falling: bool) -> Result<Outcome, Fail> {
     let text = deposits(alloc, count, falling)?;
     Ok(read_all(alloc, text.as_bytes(), 4_096, &[], INPUT_BYTES)?)
@@ -305,7 +305,8 @@ fn a_front_is_an_input(rt: HostRuntime) -> Result<(), Fail> {
     Ok(())
 }
 
-/// The operations of a transfer of `a` from account 1 to 2, where `floor` has to stay, and of 5 from asset 3 to 4.
+/// The operations of a transfer of `a` from account 1 to 2, which has to leave `floor` on account 1, and of 5 from
+/// asset 3 to 4.
 fn moved(version: Version, a: u64, floor: u64) -> [Op; 4] {
     let (src, dst) = (Key::of(ACCOUNTS, 1), Key::of(ACCOUNTS, 2));
     let (asrc, adst) = (Key::of(ASSETS, 3), Key::of(ASSETS, 4));

@@ -1,8 +1,8 @@
 //! Tests of the crates that a stream passes through as text: sources and sinks, the reader, the applications and the
-//! lines of a journal, over their public calls alone.
+//! lines of a journal, over their public calls only.
 //!
-//! They stand together, so that none of these crates is proved again with its tests, and so that all of them share
-//! what reads the batches of a source, and what tells how an application takes a line.
+//! They are in one crate, so that none of the others is proved again with its tests, and so that all of them share what
+//! reads the batches of a source, and what says how an application takes a line.
 #![tactic(auto)]
 
 #[cfg(test)]

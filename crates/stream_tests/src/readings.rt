@@ -24,7 +24,7 @@ pub(crate) struct Outcome {
     end: End,
 }
 
-/// What a reading that gives batches of these sizes, at most three, comes to.
+/// The outcome of a reading that gives batches of these sizes, at most three.
 pub(crate) fn outcome_of(given: &[usize], end: End) -> Outcome {
     let mut sizes = [0; 3];
     for (size, events) in sizes.iter_mut().zip(given) {

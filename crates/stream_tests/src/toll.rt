@@ -54,7 +54,7 @@ fn tables_have_their_names(rt: HostRuntime) {
     assert_eq!(rt; (Toll.tables(), names), (4, ["spd", "at", "cnt", "bill"]));
 }
 
-/// Lines where there are 10 vehicles and 10 segments, and why they are refused.
+/// Lines for 10 vehicles and 10 segments, and why they are refused.
 static REFUSED: [(&[u8], Version, Cause); 9] = [
     (b"T 1 0 0", Version::One, Cause::Form),
     (b"T 1 0 0 10 0", Version::One, Cause::Form),
@@ -72,7 +72,7 @@ fn causes_come_in_their_order(rt: HostRuntime) {
     check_refused(&rt, rt.alloc(), &Toll, 10, &REFUSED);
 }
 
-/// A line where there are neither vehicles nor segments.
+/// A line for no vehicles and no segments.
 static NOWHERE: [(&[u8], Version, Cause); 1] = [(b"T 1 0 0 10", Version::One, Cause::Range)];
 
 #[test]

@@ -1,4 +1,4 @@
--- Each line that the generator of Toll Processing writes is an event's.
+-- Each line that the generator of Toll Processing writes is an event's
 use Rattle.std.proofs.Common.{ℕ, ◌<◌, ◌≤◌, [], ◌∷◌, min, refl, arith}
 use Rattle.event_reader.specs.Forms.{IsForm}
 use Rattle.event_reader.specs.Limits.{generated_events, generated_ids}
@@ -14,7 +14,7 @@ use Rattle.event_reader.proofs.Forms.{Fits, is_form, kind_line}
 use Rattle.toll_app.specs.Toll.{segments, miles, report, reports, toll_kinds, toll_event}
 use Rattle.toll_app.specs.TollDraws.{toll_drawn}
 
--- the line of a report
+-- The line of a report
 report_form : (size : ℕ) → size ≤ generated_ids → IsForm (reports One size).form
 report_form size few =
     is_form (reports One size).form (omega arith) (omega arith) (omega arith, (omega arith, (omega arith, (omega arith, tt)))) (omega arith)
@@ -38,6 +38,7 @@ report_line size i vehicle segment speed few start last inside inside' slow =
     kind_line (toll_kinds One size) (reports One size) i (i ∷ vehicle ∷ segment ∷ speed ∷ []) (report One i vehicle segment speed) (report_form size few)
     (report_fits size i vehicle segment speed few start last inside inside' slow) (omega arith) (omega arith) refl refl refl
 
+-- Each line that the generator writes is an event's, at the time of its number
 pub toll_generates : (size i state : ℕ) → 0 < size → size ≤ generated_ids → 0 < i → i ≤ generated_events
     → IsEventLine (toll_event size One) i (toll_drawn size i state).line
 toll_generates size i state some few start last =

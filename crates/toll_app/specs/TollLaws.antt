@@ -1,4 +1,4 @@
--- Every event of Toll Processing is valid, and its refusals are form and range.
+-- Every event of Toll Processing is valid, and its refusals are form and range
 use Rattle.std.proofs.Common.{◌≡◌, ℕ, ◌+◌, ◌*◌, ◌<◌, ◌≤◌, List, [], ◌∷◌, refl, subst, arith, Ok, Err}
 use Rattle.std.specs.Prelude.{slice_index}
 use Rattle.std.specs.List.{All, IsDistinct}
@@ -20,21 +20,21 @@ use Rattle.event_reader.specs.Reader.{IsOfWords, IsEventOf}
 use Rattle.event_reader.proofs.Forms.{Fits, IsSound, place, events_valid, events_causes}
 use Rattle.toll_app.specs.Toll.{key, speed_of, place_of, count_of, bill_of, segments, miles, report, report_of, reports, toll_kinds, toll_event}
 
--- the layout of the tables
+-- The layout of the tables
 abbrev toll_layout : (size : ℕ) → Layout
 toll_layout size = record { tables = 4; size = size }
 
-abbrev IsIn : (size : ℕ) → Key → Type 0
-IsIn size = InLayout (toll_layout size)
+abbrev IsTollKey : (size : ℕ) → Key → Type 0
+IsTollKey size = InLayout (toll_layout size)
 
-key_in : (size table id : ℕ) → table < 4 → id < size → IsIn size (key table id)
+key_in : (size table id : ℕ) → table < 4 → id < size → IsTollKey size (key table id)
 key_in size table id known inside = record { table = known; id = inside }
 
--- the keys that an operation reads are in the layout
-abbrev ReadsIn : (size : ℕ) → Op → Type 0
-ReadsIn size op = All (IsIn size) (reads op)
+-- The keys that an operation reads are in the layout
+abbrev TollReadsIn : (size : ℕ) → Op → Type 0
+TollReadsIn size op = All (IsTollKey size) (reads op)
 
--- a report is valid where its numbers are in range
+-- A report is valid if its numbers are in range
 report_is_valid : (version : Version) (size ts vehicle segment speed : ℕ) → 0 < ts → ts ≤ latest_time → vehicle < size → segment < size → segment < FIRST_MAX → speed ≤ 100
     → IsEventOf version (toll_layout size) (report version ts vehicle segment speed)
 unfolding IsDistinct
@@ -61,13 +61,13 @@ report_is_valid version size ts vehicle segment speed start end inside inside' s
         );
         distinct = ((refl, (refl, (refl, tt))), ((refl, (refl, tt)), ((refl, tt), (tt, tt))));
       },
-      all_of (ReadsIn size) (report version ts vehicle segment speed).ops (
-        all_of (IsIn size) (speed_of segment ∷ []) (average, tt),
+      all_of (TollReadsIn size) (report version ts vehicle segment speed).ops (
+        all_of (IsTollKey size) (speed_of segment ∷ []) (average, tt),
         (
-          all_of (IsIn size) (place_of vehicle ∷ []) (place, tt),
+          all_of (IsTollKey size) (place_of vehicle ∷ []) (place, tt),
           (
-            all_of (IsIn size) (count_of segment ∷ place_of vehicle ∷ []) (count, (place, tt)),
-            (all_of (IsIn size) (bill_of vehicle ∷ speed_of segment ∷ count_of segment ∷ []) (bill, (average, (count, tt))), tt),
+            all_of (IsTollKey size) (count_of segment ∷ place_of vehicle ∷ []) (count, (place, tt)),
+            (all_of (IsTollKey size) (bill_of vehicle ∷ speed_of segment ∷ count_of segment ∷ []) (bill, (average, (count, tt))), tt),
           ),
         ),
       ),
@@ -91,8 +91,10 @@ report_sound version size = record {
   causes = λ ns cause is. absurd (cc);
 }
 
+-- Each event that words say is valid, with its keys in the tables and with the greatest value of the version
 pub toll_is_valid : (size : ℕ) (version : Version) (words : List (List ℕ)) (e : Transaction) → toll_event size version words ≡ Ok e → IsEventOf version (record { tables = 4; size = size }) e
 toll_is_valid size version words e is = events_valid version (toll_layout size) (toll_kinds version size) (report_sound version size, tt) words e is
 
+-- Words have no other causes than form, range and same
 pub toll_causes : (size : ℕ) (version : Version) (words : List (List ℕ)) (cause : Cause) → toll_event size version words ≡ Err cause → IsOfWords cause
 toll_causes size version words cause is = events_causes version (toll_layout size) (toll_kinds version size) (report_sound version size, tt) words cause is

@@ -12,7 +12,7 @@ const DRAWN_SEGMENTS: u64 = 100;
 /// The speeds that are drawn are below this number, in miles per hour.
 const DRAWN_SPEEDS: u64 = 101;
 
-/// Writes the report of event `i`, where each table has `size` ids.
+/// Writes the report of event `i`. Each table has `size` ids.
 pub(crate) fn write_report(draws: &mut Draws, i: u64, size: u64, line: &mut LineBuf)
     requires empty { line.old ≡ [] }
     requires size { 1 ≤ size }

@@ -14,7 +14,7 @@ use std::alloc::Global;
 /// The number of the table of the segments' average speeds, in hundredths of a mile per hour.
 pub const SPEEDS: u8 = 0;
 
-/// The number of the table of the vehicles' places: one more than the segment that a vehicle is in, 0 where it was
+/// The number of the table of the vehicles' places: one more than the segment that a vehicle is in, or 0 if it was
 /// never reported.
 pub const PLACES: u8 = 1;
 

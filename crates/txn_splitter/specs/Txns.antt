@@ -1,4 +1,4 @@
--- A batch cut into numbered transactions: what its numbers name, when it is valid, and when it is that of a batch.
+-- A batch cut into numbered transactions: what its numbers name, when it is valid, and when it is that of a batch
 use Rattle.std.specs.Prelude.{◌≡◌, ℕ, List, All, length, take, drop, map, slice_index, slice_index_or}
 use Rattle.morph_base.specs.declared.key.Key.{Key}
 use Rattle.morph_base.specs.declared.operation.Op.{Op}
@@ -10,50 +10,56 @@ use Rattle.morph_base.specs.Plans.{no_op}
 use Rattle.txn_splitter.specs.declared.txns.TxnEvent.{TxnEvent}
 use Rattle.txn_splitter.specs.declared.txns.Txns.{Txns}
 
--- what stands past the end of a list
+-- The event past the end of a list
 abbrev pub no_txn : TxnEvent
 no_txn = record { ts = 0; first = 0; count = 0 }
 
--- the transaction of an event whose operations are among `ops`
+-- The transaction of an event whose operations are among `ops`
 abbrev pub transaction_among : List Op → TxnEvent → Transaction
 transaction_among ops e = record { ts = e.ts; ops = take e.count (drop e.first ops) }
 
 module _ (x : Txns) where
+  -- How many events there are
   abbrev pub txn_count : ℕ
   txn_count = length x.events.items
 
+  -- How many operations there are
   abbrev pub txn_op_count : ℕ
   txn_op_count = length x.ops.items
 
+  -- The event with number i
   abbrev pub txn_at : ℕ → TxnEvent
   txn_at i = slice_index_or x.events.items i no_txn
 
+  -- The operation with number o
   abbrev pub txn_op_at : ℕ → Op
   txn_op_at o = slice_index_or x.ops.items o no_op
 
-  -- the event of an operation, and the key that it changes
+  -- The event of operation o
   abbrev pub txn_of : ℕ → ℕ
   txn_of o = slice_index x.event_of.items o
 
+  -- The key that operation o changes
   abbrev pub txn_target : ℕ → Key
   txn_target o = (txn_op_at o).key
 
-  -- its events as transactions
+  -- The events as transactions
   abbrev pub txn_transactions : List Transaction
   txn_transactions = map (transaction_among x.ops.items) x.events.items
 
--- well numbered, with the number of its event for each operation
+-- The events and operations are well numbered, with the number of its event for each operation
 pub record IsTxns (x : Txns) : Type 0 where
-  pub numbering : IsNumbering (txn_count x) (txn_op_count x) (λ i. (txn_at x i).ts) (λ i. (txn_at x i).first) (λ i. (txn_at x i).count) (txn_of x) (txn_op_at x)
+  pub numbering : IsNumbering (txn_count x) (txn_op_count x) (λ i. (txn_at x i).ts) (λ i. (txn_at x i).first)
+      (λ i. (txn_at x i).count) (txn_of x) (txn_op_at x)
   pub events_of : length x.event_of.items ≡ txn_op_count x
-  -- all operations have one greatest value
+  -- All operations have one greatest value
   pub alike : All (λ op. op.high ≡ high_in x.ops.items) x.ops.items
 
--- they are these transactions, in this order, and nothing else: each operation is one of an event's
+-- The events are these transactions, in this order, and nothing else: each operation is one of an event's
 pub record IsSplitOf (es : List Transaction) (x : Txns) : Type 0 where
   pub txns : IsTxns x
   pub transactions : txn_transactions x ≡ es
 
--- they are the transactions of the batch by rising time
+-- The events are the transactions of the batch by rising time
 abbrev pub IsTxnsOf : Batch → Txns → Type 0
 IsTxnsOf batch = IsSplitOf (by_time (transactions_of batch))

@@ -1,7 +1,7 @@
-//! Cuts a batch into its transactions: events by rising timestamp, operations by event and then by operation order.
+//! Cuts a batch into its transactions: events by rising timestamp, and operations by event and then by operation order.
 //!
-//! Below it stands the vocabulary of `morph_base`. A caller hands a valid batch to [`split`] and gets [`Txns`], in
-//! which events and operations have numbers; `precedence_graph` makes a plan of them.
+//! It uses the vocabulary of `morph_base`. A caller gives a valid batch to [`split`] and gets [`Txns`], in which events
+//! and operations have numbers. `precedence_graph` makes a plan of them.
 #![tactic(auto)]
 
 mod splitting;

@@ -52,7 +52,7 @@ fn op_count(events: &[Event]) -> usize
     count
 }
 
-/// Appends the operations of event `number`, and for each of them that number.
+/// Appends the operations of event `number`, and that number for each of them.
 fn append_ops(
     ops: &mut List<Op>,
     event_of: &mut List<u32>,

@@ -1,25 +1,25 @@
 use morph_base::{List, Op};
 
-/// An event of a split batch: its operations are those numbered from `first` on, `count` of them.
+/// An event of a split batch. Its operations are those numbered from `first` on, `count` of them.
 #[derive(Clone, Copy, Debug, PartialEq, Eq)]
 pub struct TxnEvent {
-    /// From 1 to [`LATEST`](morph_base::LATEST), rising from event to event.
+    /// The timestamp, from 1 to [`LATEST`](morph_base::LATEST), rising from event to event.
     pub ts: u64,
     /// The number of its first operation.
     pub first: u32,
-    /// From 1 to [`EVENT_OPS`](morph_base::EVENT_OPS).
+    /// How many operations it has, from 1 to [`EVENT_OPS`](morph_base::EVENT_OPS).
     pub count: u32,
 }
 
 /// A batch cut into transactions: its events by rising timestamp, and all their operations in one list.
 ///
-/// Events and operations are numbered from 0; operations by event and then by operation order.
+/// Events and operations are numbered from 0, operations by event and then by operation order.
 #[derive(Debug, Drop)]
 pub struct Txns {
-    /// By rising timestamp; the place of each is its number.
+    /// The events by rising timestamp. The place of each is its number.
     pub events: List<TxnEvent>,
-    /// By event, and then in operation order; the place of each is its number.
+    /// The operations by event and then in operation order. The place of each is its number.
     pub ops: List<Op>,
-    /// For each operation the number of its event.
+    /// For each operation, the number of its event.
     pub event_of: List<u32>,
 }

@@ -20,7 +20,7 @@ pub(crate) fn fill(values: &Values, op: &mut PlanOp)
     }
 }
 
-/// A source of a read of the key, filled in.
+/// The source of a read of the key, with its base filled in.
 fn fill_origin(values: &Values, key: Key, origin: Origin) -> Origin
     requires { InLayout values.now.layout key }
     ensures { result ≡ filled_origin (contents values.now) key origin }

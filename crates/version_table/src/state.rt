@@ -33,7 +33,7 @@ impl Model for State {
 }
 
 impl State {
-    /// The state at the start: all values 0. All memory that the state ever needs is taken here.
+    /// Makes the state at the start: all values are 0. All memory that the state ever needs is taken here.
     pub fn new(alloc: Global, layout: Layout) -> Result<Self, OutOfMemory>
         ensures layout { IfOk result (λ state. state.layout ≡ layout) }
         ensures opening { IfOk result (λ state. contents state ≡ opening_state) }
@@ -43,7 +43,7 @@ impl State {
         })
     }
 
-    /// Which keys there are.
+    /// The layout: which keys there are.
     pub fn layout(&self) -> Layout
         ensures layout { result ≡ self.now.layout }
         ensures small { (key : Key) → contents self.now key ≤ MAX }
@@ -62,7 +62,7 @@ impl State {
 
     /// Fills in the bases of a plan: each `Base` of a place that an operation reads becomes the value of its key.
     ///
-    /// The plan is then one of this state, until a batch is applied; everything else of it stays.
+    /// The plan is then one of this state, until a batch is applied. Everything else of the plan stays.
     pub fn bases(&self, plan: &mut Plan)
         requires plan { IsPlan plan.old }
         requires keys { PlanKeysIn plan.old self.now.layout }
@@ -78,8 +78,8 @@ impl State {
 
     /// The value of a key after the plan's events with timestamps up to `ts`, as it was settled.
     ///
-    /// The state is still the one before the batch: what [`State::apply`] has brought up to date has its latest
-    /// values alone.
+    /// The state is still the one before the batch: once [`State::apply`] has brought it up to date, it has only the
+    /// latest values.
     pub fn version(&self, plan: &Plan, settled: &Settled, key: Key, ts: u64) -> u64
         requires plan { IsPlan plan.now }
         requires bases { HasBases plan.now (contents self.now) }
@@ -99,7 +99,7 @@ impl State {
 
     /// Brings the state up to date with a settled batch: the state becomes the fold of the plan's events.
     ///
-    /// Each key that an operation changes gets the value of the last one that does, and all others stay.
+    /// Each key that an operation changes gets the value of the last one that does, and all other keys stay.
     pub fn apply(&mut self, plan: &Plan, settled: &Settled)
         requires plan { IsPlan plan.now }
         requires keys { PlanKeysIn plan.now self.old.layout }

@@ -1,6 +1,6 @@
--- How much work is shared.
+-- How much work is shared
 use Rattle.std.specs.Prelude.{ℕ}
 
--- all workers share so many pieces of work; the first one does fewer alone
+-- From 8 pieces of work on, all workers share them. The first worker does fewer alone
 abbrev pub shared_from : ℕ
 shared_from = 8

@@ -3,9 +3,9 @@ use std::hint::spin_loop;
 use std::sync::atomic::{AtomicBool, Ordering};
 
 /// A gate that holds one worker for a number of loads at each of its turns from some turn on. Nobody else is held. Each
-/// worker has a thread of its own under it, so that the others go on meanwhile.
+/// worker has a thread of its own, so that the others go on meanwhile.
 ///
-/// A test runs workers under it to see that one who is late, whenever that is, changes nothing of what all come to.
+/// A test runs workers under it to see that a worker who is late, whenever that is, does not change the result.
 #[derive(Drop)]
 pub struct HoldGate {
     worker: u32,
@@ -16,8 +16,8 @@ pub struct HoldGate {
 }
 
 impl HoldGate {
-    /// A gate that holds this worker, counted from 1, for `loads` loads at each turn from this one on, counted from 0.
-    /// It holds nobody if the worker is 0.
+    /// Makes a gate that holds this worker, counted from 1, for `loads` loads at each turn from this one on, counted
+    /// from 0. It holds nobody if the worker is 0.
     pub fn new(worker: u32, turn: u64, loads: u64) -> HoldGate {
         HoldGate {
             worker,

@@ -5,11 +5,11 @@ use crate::gate::Gate;
 use std::thread;
 use std::thread::Threads;
 
-/// Fewer pieces of work than these are left to the first worker alone.
+/// With fewer pieces of work than this, the first worker does them alone.
 const FEW: usize = 8;
 
-/// So many pieces of work are worth a thread. With fewer, workers who share them lose more by writing to the same lines of
-/// memory than they gain by working side by side. docs/PERFORMANCE.md has what was measured.
+/// How many pieces of work are worth a thread. With fewer, workers who share them lose more by writing to the same
+/// lines of memory than they gain by working side by side. docs/PERFORMANCE.md has the measurements.
 const THREAD_PIECES: usize = 262_144;
 
 /// What each of several workers is to do, while the job itself is shared by all of them.
@@ -17,7 +17,7 @@ pub trait Job<W>: Sync {
     /// What a worker has to be before it does the job.
     ghost can_run: { Self → W → Type 0 };
 
-    /// What a worker is before the job and after it.
+    /// What the job makes of a worker: the worker before it and after it.
     ghost changes: { Self → W → W → Type 0 };
 
     /// Does the job as this worker.
@@ -33,8 +33,8 @@ pub fn is_few(pieces: usize) -> bool
     pieces < FEW
 }
 
-/// How many threads so many pieces of work are worth, for so many workers: one for each 262,144 pieces, at least one, and
-/// at most one for each worker.
+/// How many threads this many pieces of work are worth, for this many workers: one for each 262,144 pieces, at least
+/// one, and at most one for each worker.
 pub fn threads_for(workers: usize, pieces: usize) -> usize
     ensures some { 1 ≤ result }
     ensures most { result ≤ max 1 workers }
@@ -42,8 +42,8 @@ pub fn threads_for(workers: usize, pieces: usize) -> usize
     (pieces / THREAD_PIECES).min(workers).max(1)
 }
 
-/// So many pieces of work; under a gate that [needs threads](Gate::needs_threads) as many as are worth a thread for
-/// everybody.
+/// Returns the pieces of work, or under a gate that [needs threads](Gate::needs_threads) as many as are worth a thread
+/// for every worker.
 pub fn pieces_for<G: Gate>(gate: &G, pieces: usize) -> usize {
     if gate.needs_threads() {
         usize::MAX
@@ -52,11 +52,11 @@ pub fn pieces_for<G: Gate>(gate: &G, pieces: usize) -> usize {
     }
 }
 
-/// Has each worker do the job, which has so many pieces of work for all of them together.
+/// Has each worker do the job, which has this many pieces of work for all of them together.
 ///
-/// It returns when all have done it. There are as many threads as the pieces [are worth](threads_for), and the workers of
-/// one thread do the job one after the other. With few pieces, with one worker, or if no thread can be made, all of them
-/// do it in the caller's thread.
+/// It returns when all have done it. There are as many threads as the pieces [are worth](threads_for), and the workers
+/// of one thread do the job one after the other. If there are few pieces or one worker, or if no thread can be made,
+/// all of them do it in the caller's thread.
 pub fn run_all<R: Threads + Sync, W: Send, J: Job<W>>(
     rt: &R,
     workers: &mut [W],

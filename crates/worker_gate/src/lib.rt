@@ -1,10 +1,10 @@
 //! Workers side by side: a job that is done by each of several workers, in as many threads as it is worth, and gates
 //! that hold workers.
 //!
-//! It uses std alone. A caller states what a worker has to be and what becomes of it as a [`Job`], and has it done by
-//! [`run_all`], after which each worker is what the job makes of it, as if one thread had done it for all. A thread is
-//! started only for so much work as [is worth it](threads_for). A [`Gate`] may hold a worker for a
-//! while at each turn of its work: a run passes it, and must come to the same whatever gate it has.
+//! It uses std alone. A caller states as a [`Job`] what a worker has to be and what becomes of it, and calls
+//! [`run_all`]. Then each worker is what the job makes of it, as if one thread had done the job for all. A thread is
+//! started only for as much work as [is worth it](threads_for). A [`Gate`] may hold a worker for a while at each turn
+//! of its work. A run takes a gate, and must have the same result whatever gate it is.
 #![tactic(auto)]
 
 mod gate;

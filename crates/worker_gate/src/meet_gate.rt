@@ -2,12 +2,12 @@ use crate::gate::Gate;
 use std::hint::spin_loop;
 use std::sync::atomic::{AtomicBool, Ordering};
 
-/// A gate that lets nobody far ahead of the other: it holds worker 1 at turn 0 until worker 2 has called
-/// [`Gate::done`], and worker 2 at turn 1 until worker 1 has called it. All other turns are free.
+/// A gate that lets neither of two workers get far ahead of the other: it holds worker 1 at turn 0 until worker 2 has
+/// called [`Gate::done`], and worker 2 at turn 1 until worker 1 has called it. All other turns are free.
 ///
-/// A test runs two workers under it to see that they work side by side, if there is work enough for two threads: if they
-/// do, both come to their hold and find the other's `done`. Where one worker does all its work before the other begins, it waits in vain and goes on
-/// after `limit` loads.
+/// A test runs two workers under it to see that they work side by side, if there is work enough for two threads. If
+/// they do, both come to their hold and find the other's `done`. If one worker does all its work before the other
+/// begins, it waits in vain and goes on after `limit` loads.
 #[derive(Drop)]
 pub struct MeetGate {
     /// The most loads of one hold.
@@ -20,9 +20,9 @@ pub struct MeetGate {
 /// What is known of one of the two workers.
 #[derive(Drop)]
 struct Side {
-    /// It has called `done`.
+    /// The worker has called `done`.
     done: AtomicBool,
-    /// It came to its hold, and found the other's `done`.
+    /// The worker came to its hold, and found the other's `done`.
     met: AtomicBool,
 }
 
@@ -36,7 +36,7 @@ impl Side {
 }
 
 impl MeetGate {
-    /// A gate whose holds end after at most `limit` loads each.
+    /// Makes a gate whose holds end after at most `limit` loads each.
     pub fn new(limit: u64) -> MeetGate {
         MeetGate {
             limit,
@@ -51,7 +51,7 @@ impl MeetGate {
         self.missed.load(Ordering::SeqCst)
     }
 
-    /// Whether each of the two came to its hold and found the other's `done` there within the limit.
+    /// Whether each of the two workers came to its hold and found the other's `done` there within the limit.
     pub fn met(&self) -> bool {
         self.first.met.load(Ordering::SeqCst) && self.second.met.load(Ordering::SeqCst)
     }

@@ -5,7 +5,7 @@ use std::hint::spin_loop;
 use std::sync::atomic::{AtomicBool, AtomicU64, Ordering};
 use std::test::Fail;
 
-/// As many pieces of work as sixteen workers get a thread each for.
+/// So many pieces of work that each of sixteen workers gets a thread.
 const MANY_PIECES: usize = 4_194_304;
 
 /// Adds a number to a worker's own.
@@ -42,7 +42,7 @@ fn each_worker_does_its_job(rt: HostRuntime) -> Result<(), Fail> {
     Ok(())
 }
 
-/// Takes two turns at a gate as the worker of a number.
+/// Takes two turns at a gate, as the worker of this number.
 #[derive(Drop)]
 struct Turning<'a> {
     gate: &'a MeetGate,
@@ -92,7 +92,7 @@ fn two_workers_meet_and_one_alone_does_not(rt: HostRuntime) {
     );
 }
 
-/// The loads of each hold, in which a worker that is free takes many more turns than `MANY`.
+/// The loads of each hold. In this time a worker that is free takes many more turns than `MANY`.
 const LOADS: u64 = 10_000_000;
 
 const MANY: u64 = 1_000;
@@ -103,11 +103,11 @@ struct Passing {
     gate: HoldGate,
     /// The turn that worker 2 took last.
     other: AtomicU64,
-    /// Worker 1 has taken all of its turns.
+    /// Whether worker 1 has taken all of its turns.
     over: AtomicBool,
 }
 
-/// A worker, and what it saw of the turns of the other: the fewest that this took while the gate was passed once.
+/// A worker, and what it saw of the other's turns: the fewest that the other took while the gate was passed once.
 #[derive(Clone, Copy, Drop)]
 struct Passer {
     number: u32,
@@ -138,7 +138,7 @@ impl Passing {
         }
     }
 
-    /// Waits until worker 2 is seen at work, or has not begun for long.
+    /// Waits until worker 2 is seen at work, or has not begun for a long time.
     fn await_the_other(&self) {
         for _ in 0..1_000_000_000 {
             if self.other.load(Ordering::SeqCst) > 0 {

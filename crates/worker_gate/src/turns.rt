@@ -1,6 +1,6 @@
 use crate::gate::Gate;
 
-/// A gate as one worker meets it.
+/// A gate as one worker sees it.
 ///
 /// What a job does in a thread is checked without the bound that lets its gate be shared, so its functions ask for
 /// these two calls alone. Both always return, and change nothing that a contract names.
@@ -8,7 +8,7 @@ pub trait Turns {
     /// Returns when the turn may begin.
     fn pass(&self, turn: u64);
 
-    /// Is told that something was evaluated in the turn.
+    /// Is called after something was evaluated in the turn.
     fn done(&self, turn: u64);
 }
 
@@ -31,7 +31,7 @@ impl<G: Gate> Turns for Told<'_, G> {
     }
 }
 
-/// No gate: for what is done in no turn.
+/// No gate: for what is done outside of any turn.
 #[derive(Drop)]
 pub struct Untold;
 

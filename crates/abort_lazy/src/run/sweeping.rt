@@ -1,4 +1,4 @@
-//! The events of one level are tried, each by the runner that takes its number.
+//! Tries the events of one level, each by the runner that takes its number.
 ghost use Rattle.std.specs.Prelude.{◌≡◌, ◌<◌, None, All, length};
 ghost use Rattle.morph_base.specs.Plans.{event_count};
 ghost use Rattle.op_words.specs.Hands.{plan_of, IsHandOf};
@@ -12,7 +12,7 @@ use op_words::Board;
 use std::thread::Threads;
 use worker_gate::{Job, is_few, run_all};
 
-/// The events of a level, whose numbers there workers take from a counter.
+/// The events of a level. Workers take their numbers in the level from a counter.
 #[derive(Drop)]
 pub struct Sweep<'a> {
     pub board: &'a Board,
@@ -21,7 +21,7 @@ pub struct Sweep<'a> {
     pub counter: u32,
 }
 
-/// What a runner does or did. No value of it is made.
+/// A call that a runner makes. No value of this type is made.
 #[derive(Clone, Copy, Debug, PartialEq, Eq)]
 pub enum Call {
     /// It took this number from the counter.
@@ -94,7 +94,7 @@ impl Job<Runner> for Sweep<'_> {
     }
 }
 
-/// Has the level's events tried by all runners, or by the first alone where there are [few](is_few).
+/// Tries the level's events by all runners, or by the first runner alone if there are [few](is_few).
 pub fn sweep_by<T: Threads + Sync>(rt: &T, runners: &mut [Runner], sweep: &Sweep<'_>)
     requires some { 0 < length runners.old }
     requires fits { FitsBoard sweep.now.board.now sweep.now.plan.now sweep.now.counter

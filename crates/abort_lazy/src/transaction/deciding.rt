@@ -1,4 +1,4 @@
-//! An event is decided once its operations are ready.
+//! Decides an event once its operations are ready.
 ghost use Rattle.std.specs.Prelude.{◌≡◌, ℕ, ◌<◌, None};
 ghost use Rattle.morph_base.specs.Plans.{event_count, InEvent};
 ghost use Rattle.op_words.specs.Views.{IsSettledSeen};
@@ -9,8 +9,8 @@ use super::{TxnAnswer, first_of, stop};
 use morph_base::Plan;
 use op_words::{Board, Decided, Hand};
 
-/// Decides an event whose operations are ready. Another hand may have settled one of them in the meantime; there is
-/// a decision then.
+/// Decides an event whose operations are ready. Another hand may have settled one of them in the meantime. Then there
+/// is a decision.
 pub(super) fn decide_now(
     board: &Board,
     hand: &mut Hand,
@@ -28,7 +28,7 @@ pub(super) fn decide_now(
         Decided::Committed => Ok(true),
         Decided::Aborted => Ok(false),
         Decided::NotYet { op, word } => {
-            // a source of an operation of the event, which is of an earlier one
+            // This operation is a source, so it is of an earlier event.
             if op < first_of(plan, event) {
                 return Err(TxnAnswer::NotYet { at: op, word });
             }
@@ -40,7 +40,7 @@ pub(super) fn decide_now(
     }
 }
 
-/// Decides an event of which an operation was seen settled, so that there is a decision.
+/// Decides an event after an operation of it was seen settled, so that there is a decision.
 fn decide_again(board: &Board, hand: &mut Hand, plan: &Plan, event: u32) -> Result<bool, TxnAnswer>
     requires hand { IsHandOf board.now hand.old }
     requires plan { plan.now ≡ plan_of board.now }

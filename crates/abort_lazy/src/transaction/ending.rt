@@ -1,4 +1,4 @@
-//! The operations of a decided event are settled.
+//! Settles the operations of a decided event.
 ghost use Rattle.std.specs.Prelude.{◌≡◌, ◌<◌, Bool, None};
 ghost use Rattle.morph_base.specs.Plans.{op_count, event_count, InEvent};
 ghost use Rattle.op_words.specs.Views.{IsDecisionSeen};
@@ -9,7 +9,7 @@ use super::{TxnAnswer, end_of, first_of, stop};
 use morph_base::Plan;
 use op_words::{Board, Hand, SettleAnswer};
 
-/// Settles the operations of an event whose decision the hand knows, up to the first that cannot be.
+/// Settles the operations of an event whose decision the hand knows, up to the first one that cannot be settled.
 pub(super) fn settle_rest(
     board: &Board,
     hand: &mut Hand,

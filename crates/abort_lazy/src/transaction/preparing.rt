@@ -1,4 +1,4 @@
-//! Operations are made ready for the decision on their event.
+//! Makes operations ready for the decision on their event.
 ghost use Rattle.std.specs.Prelude.{◌≡◌, ℕ, ◌<◌, List, None};
 ghost use Rattle.morph_base.specs.Plans.{op_count, event_at, event_count, InEvent};
 ghost use Rattle.interleaving_core.specs.Core.{places};
@@ -14,7 +14,7 @@ use morph_base::{OpState, OpWord, Plan};
 use op_eval::{Evaluation, Runner, evaluate};
 use op_words::{Board, Hand, Rolled, Verdict};
 
-/// Makes all operations of an event ready for the decision, or as many as are before the first that cannot be.
+/// Makes all operations of an event ready for the decision, up to the first one that cannot be made ready.
 pub(super) fn prepare_all(
     board: &Board,
     runner: &mut Runner,
@@ -41,7 +41,7 @@ pub(super) fn prepare_all(
     None
 }
 
-/// Makes an operation ready for the decision: it is judged, and mended where it needs that.
+/// Makes an operation ready for the decision: judges it, and mends it if that is needed.
 fn prepare(
     board: &Board,
     runner: &mut Runner,
@@ -74,7 +74,7 @@ fn prepare(
     }
 }
 
-/// Mends an operation whose own word, as it was loaded last, was neither executed nor failed, or had changed.
+/// Mends an operation whose own word, as it was loaded last, is neither executed nor failed, or has changed.
 fn mend(
     board: &Board,
     runner: &mut Runner,
@@ -166,8 +166,8 @@ fn run(board: &Board, runner: &mut Runner, plan: &Plan, event: u32, op: u32) -> 
     }
 }
 
-/// The verdict on an operation that was evaluated in this call: a record that differs even so means that another
-/// hand changed the operation or its source.
+/// The verdict on an operation that was evaluated in this call. If a record differs even so, another hand changed the
+/// operation or its source.
 fn judge(board: &Board, hand: &mut Hand, plan: &Plan, event: u32, op: u32) -> Option<TxnAnswer>
     requires hand { IsHandOf board.now hand.old }
     requires plan { plan.now ≡ plan_of board.now }

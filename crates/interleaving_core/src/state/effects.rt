@@ -1,9 +1,9 @@
-//! One change of a state at a time.
+//! The single changes of a state.
 ghost use Rattle.std.specs.Prelude.{◌≡◌, ℕ, ◌+◌, ◌*◌, ◌<◌, ◌≤◌, List, [], ◌∷◌, ◌++◌, length, Some};
 ghost use Rattle.morph_base.specs.declared.limits.TheConstants.{READS};
 ghost use Rattle.interleaving_core.specs.Core.{put};
 ghost use Rattle.interleaving_core.specs.declared.claim.Claim.{Claim};
-ghost use Rattle.interleaving_core.specs.Stored.{core_of, held_of, word_count, published_count, decision_count, Fits, IsSameShape};
+ghost use Rattle.interleaving_core.specs.Stored.{core_of, held_of, word_count, published_count, decision_count, HasClaimedValues, IsSameShape};
 
 use super::CoreState;
 use crate::claim::Claim;
@@ -36,7 +36,7 @@ impl CoreState {
 
     pub(super) fn put_claim(&mut self, by: u8, claim: Option<Claim>)
         requires worker { by < length self.old.claims.items }
-        requires fits { (k : Claim) → claim ≡ Some k → Fits k }
+        requires fits { (k : Claim) → claim ≡ Some k → HasClaimedValues k }
         ensures core { core_of self.new
             ≡ record (core_of self.old)
             { claim = put (core_of self.old).claim by (held_of claim) } }

@@ -196,7 +196,7 @@ impl CoreState {
             && self.settled_value(origin_of(plan, op, 0)).is_some()
     }
 
-    /// Whether the operation's event is decided so.
+    /// Whether the decision on the operation's event is this one.
     fn is_decided(&self, plan: &Plan, op: u32, committed: bool) -> bool
         requires plan { IsPlan plan.now }
         requires state { IsStateOf plan.now self.now }

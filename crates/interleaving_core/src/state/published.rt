@@ -1,4 +1,4 @@
-//! What was shown, in the order in which it was, linked by operation.
+//! The entries that were shown, in order, linked by operation.
 ghost use Rattle.std.specs.Prelude.{◌≡◌, ℕ, ◌+◌, ◌<◌, ◌^◌, ◌↔◌, List, [], ◌∷◌, ◌++◌, length, IsTrue, IfOk};
 ghost use Rattle.morph_base.specs.Links.{AreEnds, AreLinked};
 ghost use Rattle.interleaving_core.specs.Core.{HasShown};
@@ -9,7 +9,7 @@ use crate::entry::Entry;
 use morph_base::{List, OutOfMemory};
 use std::alloc::Global;
 
-/// What is looked for among the entries of an operation.
+/// What is sought among the entries of an operation.
 #[derive(Clone, Copy, Debug)]
 enum Sought {
     Value(u64),
@@ -31,13 +31,13 @@ impl Sought {
 
 /// The entries that were shown.
 ///
-/// Those of an operation are walked from its last one back, so that nobody looks through what others have shown.
+/// Those of an operation are walked from its last one back, so that nobody looks through the entries of others.
 #[derive(Debug, Drop)]
 pub struct Published {
     entries: List<Entry>,
-    /// For each entry 1 and the number of the one before it of the same operation, 0 where there is none.
+    /// For each entry, 1 and the number of the one before it of the same operation, or 0 if there is none.
     before: List<u32>,
-    /// For each operation 1 and the number of its last entry, 0 where it has none.
+    /// For each operation, 1 and the number of its last entry, or 0 if it has none.
     ends: List<u32>,
     ghost few: { length entries.items + entries.room < 2 ^ 32 },
     ghost long: { length before.items ≡ length entries.items },
@@ -48,7 +48,7 @@ pub struct Published {
 }
 
 impl Published {
-    /// No entry, with room for so many of so many operations.
+    /// Makes an empty list, with room for this many entries of this many operations.
     pub(super) fn new(alloc: Global, ops: usize, room: usize) -> Result<Self, OutOfMemory>
         requires { room < 2 ^ 32 }
         ensures entries { IfOk result (λ published. published.entries.items ≡ []) }

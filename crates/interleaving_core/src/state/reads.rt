@@ -1,4 +1,4 @@
-//! What guards ask of a state and its plan.
+//! What guards need to know of a state and its plan.
 ghost use Rattle.std.specs.Prelude.{◌≡◌, ◌≢◌, ℕ, ◌+◌, ◌*◌, ◌<◌, ◌≤◌, ◌↔◌, length, take, Some, None, IsTrue, IsSome, IfSome};
 ghost use Rattle.morph_base.specs.declared.limits.TheConstants.{READS, MAX, WORKERS};
 ghost use Rattle.morph_base.specs.declared.word.OpState.{OpState};
@@ -7,8 +7,8 @@ ghost use Rattle.morph_base.specs.Clean.{from, source, outcome};
 ghost use Rattle.morph_base.specs.Known.{IsKnown, AreKnown};
 ghost use Rattle.interleaving_core.specs.declared.claim.Claim.{Claim};
 ghost use Rattle.interleaving_core.specs.Core.{IsSettledIn, value_in, IsSettledAs, IsVersion, fetched, places};
-ghost use Rattle.interleaving_core.specs.Steps.{AnswersOnSettled, FailsOnSettled, AllAnswer, OneFails, Agrees, RecordsAgree, IsWorker, IsClaimedBy, IsRecordedOtherwise};
-ghost use Rattle.interleaving_core.specs.Stored.{core_of, word_count, published_count, IsInside, IsSettledOtherwise, HasVersionBesides, AllFit, Fits, IsStateOf};
+ghost use Rattle.interleaving_core.specs.Steps.{AnswersOnSettled, FailsOnSettled, AllAnswer, OneFails, RecordAgrees, RecordsAgree, IsWorker, IsClaimedBy, IsRecordedOtherwise};
+ghost use Rattle.interleaving_core.specs.Stored.{core_of, word_count, published_count, IsInside, IsSettledOtherwise, HasVersionBesides, AllFit, HasClaimedValues, IsStateOf};
 
 use super::CoreState;
 use crate::claim::Claim;
@@ -26,7 +26,7 @@ pub(super) fn places_of(plan: &Plan, op: u32) -> usize
     plan.ops.get(op as usize).places()
 }
 
-/// Where a place gets its value.
+/// Where the value of a place comes from.
 pub(super) fn origin_of(plan: &Plan, op: u32, j: usize) -> Origin
     requires plan { IsPlan plan.now }
     requires op { op < op_count plan.now }
@@ -45,7 +45,7 @@ pub(super) fn is_worker(by: u8) -> bool
 }
 
 impl CoreState {
-    /// The value of a settled source, `None` where it is not settled.
+    /// The value of a settled source. `None` means that it is not settled.
     pub(super) fn settled_value(&self, origin: Origin) -> Option<u64>
         requires { IsInside (word_count self.now) origin }
         ensures known { IsSome result ↔ IsKnown (IsSettledIn (core_of self.now)) origin }
@@ -73,12 +73,12 @@ impl CoreState {
         *self.records.get(op as usize * READS + j)
     }
 
-    /// What a worker holds; an empty claim where it holds nothing.
+    /// What a worker holds, or an empty claim if it holds nothing.
     pub(super) fn held(&self, by: u8) -> Claim
         requires worker { by < length self.now.claims.items }
         requires fits { AllFit self.now }
         ensures values { take result.count result.values ≡ fetched ((core_of self.now).claim by) }
-        ensures fits { Fits result }
+        ensures fits { HasClaimedValues result }
     {
         match *self.claims.get(by as usize) {
             Some(claim) => claim,
@@ -228,7 +228,7 @@ impl CoreState {
         requires state { IsStateOf plan.now self.now }
         requires op { op < op_count plan.now }
         requires place { j < places plan.now op }
-        ensures { IsTrue result ↔ Agrees plan.now (core_of self.now) op j }
+        ensures { IsTrue result ↔ RecordAgrees plan.now (core_of self.now) op j }
     {
         match self.record(op, j) {
             Some(kept) => kept.value == self.source_value(plan, op, j),

@@ -1,4 +1,4 @@
-//! A step that may be made, done.
+//! Makes a step that may be made.
 ghost use Rattle.std.specs.Prelude.{◌≡◌, ◌<◌, ◌↔◌};
 ghost use Rattle.morph_base.specs.Plans.{IsPlan, op_count, event_of};
 ghost use Rattle.interleaving_core.specs.Core.{entry_of};
@@ -109,7 +109,7 @@ impl CoreState {
         self.put_claim(by, None);
     }
 
-    /// What the operation comes to on what the worker fetched for it.
+    /// The word with which the operation is finished, on the values that the worker fetched for it.
     fn end(&self, plan: &Plan, op: u32, by: u8) -> OpWord
         requires plan { IsPlan plan.now }
         requires state { IsStateOf plan.now self.now }

@@ -91,7 +91,7 @@ fn answers_as_the_table_says(rt: HostRuntime) {
     }
 }
 
-/// The same with a constant, a floor and a greatest value.
+/// The functions with a constant, a floor and a greatest value, and what they answer.
 static LIMITED: [(Func, [u64; 3], &[u64], Option<u64>); 17] = [
     (Func::Sub, [60, 5, FIRST_MAX], &[64], None),
     (Func::Sub, [60, 5, FIRST_MAX], &[65], Some(5)),

@@ -5,7 +5,7 @@ ghost use Rattle.morph_base.specs.Limits.{first_greatest_value, greatest_value, 
 
 /// Each constant of the code that a definition or a clause cites is the number that `specs/Limits` owns.
 ///
-/// So a definition that cites a constant means its number, and a changed constant is refused here.
+/// A definition that cites a constant therefore means its number, and a changed constant is refused here.
 pub fn limits()
     ensures greatest { MAX ≡ greatest_value }
     ensures first { FIRST_MAX ≡ first_greatest_value }

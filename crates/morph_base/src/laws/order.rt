@@ -4,9 +4,9 @@ ghost use Rattle.std.specs.List.{IsDistinct};
 ghost use Rattle.std.specs.List.Sorted.{IsPermutation, IsNonDecreasingBy};
 ghost use Rattle.morph_base.specs.Transactions.{Transaction, time, by_time};
 
-/// `by_time` has the same transactions, by rising time; where their times differ it is the one order that has.
+/// `by_time` has the same transactions, by rising time. If their times differ, it is their only rising order.
 ///
-/// So whoever orders the events of a batch by any sort has its order.
+/// Any sort of a batch's events by time therefore gives this order.
 pub fn by_rising_time()
     ensures same { (es : List Transaction) → IsPermutation es (by_time es) }
     ensures rises { (es : List Transaction) → IsNonDecreasingBy time (by_time es) }

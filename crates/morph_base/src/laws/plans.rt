@@ -14,9 +14,10 @@ ghost use Rattle.morph_base.specs.Transactions.{Transaction, IsTransaction, IsBa
 ghost use Rattle.morph_base.specs.Plans.{IsPlan, HasBases, high_of, PlanKeysIn, event_count, op_count, event_at, event_of, op_at, keys_of, origin_at, transactions, filled_plan, opening, state_at, final};
 ghost use Rattle.morph_base.specs.Graphs.{IsGraph, IsValidPlan, op_depth, event_depth};
 
-/// The state that a plan's bases tell has those bases as soon as some state has them: the same value for the same key.
+/// If some state has a plan's bases, then the state that the bases themselves show has them: the same value for the
+/// same key.
 ///
-/// Who builds a plan shows its bases by any state at hand, as by that of zeros where all of them are 0.
+/// Whoever builds a plan can show its bases by any state at hand, such as that of zeros if all bases are 0.
 pub fn bases_tell_a_state()
     ensures { (p : Plan) (s : State)
         → ((o : ℕ) → o < op_count p
@@ -27,7 +28,7 @@ pub fn bases_tell_a_state()
 /// A valid plan whose bases are filled in from a state of values is a valid plan with the bases of that state. It
 /// keeps its transactions, its keys and its graph.
 ///
-/// So a plan can be built before the state that it will start from is known.
+/// A plan can therefore be built before the state that it will start from is known.
 pub fn filling()
     ensures plan { (p : Plan) (s : State) → IsPlan p → ((key : Key) → s key ≤ high_of p)
         → IsPlan (filled_plan s p) }
@@ -40,9 +41,9 @@ pub fn filling()
 {}
 
 /// The operations of a valid plan are numbered without a gap: an event's first follows all those of the events before
-/// it. So there are at most [`EVENT_OPS`](crate::EVENT_OPS) times [`EVENTS`](crate::EVENTS).
+/// it. There are at most [`EVENT_OPS`](crate::EVENT_OPS) times [`EVENTS`](crate::EVENTS) of them.
 ///
-/// What is kept for each operation has its size from it.
+/// What is kept for each operation is sized by this number.
 pub fn numbers()
     ensures first { (p : Plan) (i : ℕ) → IsPlan p → i < event_count p
         → (event_at p i).first ≡ sum_by (λ e. e.count) (take i p.events.items) }
@@ -52,7 +53,7 @@ pub fn numbers()
 
 /// A source is an operation of an earlier event, with a smaller number.
 ///
-/// So whoever goes up the numbers or the events finds all sources settled.
+/// Whoever goes up the numbers or the events finds all sources settled.
 pub fn sources_come_first()
     ensures { (p : Plan) (o j t : ℕ) → IsPlan p → o < op_count p → j < length (keys_of p o)
         → origin_at p o j ≡ Written t
@@ -62,7 +63,7 @@ pub fn sources_come_first()
 /// Levels rise from a source to what reads from it, among operations and among their events. They go from 1 to the
 /// depth.
 ///
-/// So all of one level can be settled at once, when those of the levels before it are.
+/// All of one level can be settled at once when the levels before it are settled.
 pub fn levels_rise()
     ensures op { (p : Plan) (o j t : ℕ) → IsValidPlan p → o < op_count p → j < length (keys_of p o)
         → origin_at p o j ≡ Written t
@@ -78,9 +79,9 @@ pub fn levels_rise()
 {}
 
 /// Values stay at most [`MAX`](crate::MAX): the answer of an operation of valid shape on values, and each key of a
-/// state after transactions or a batch. The answer stays at most the operation's own greatest value too. Where a plan
-/// is at hand they stay at most its greatest value, which is at most that: each key of a state after its events, the
-/// state that its bases tell, and the value of each operation.
+/// state after transactions or a batch. The answer also stays at most the operation's own greatest value. In a plan,
+/// each key of a state after its events, the state that its bases show, and the value of each operation stay at most
+/// the plan's greatest value, which is at most [`MAX`](crate::MAX).
 pub fn values_stay_small()
     ensures answers { (op : Op) (xs : List ℕ) (v : ℕ) → value_of op xs ≡ Some v → IsShaped op
         → All (λ x. x ≤ MAX) xs → v ≤ MAX }

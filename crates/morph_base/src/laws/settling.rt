@@ -5,12 +5,12 @@ ghost use Rattle.morph_base.specs.Plans.{IsPlan, InEvent, event_count, op_count,
 ghost use Rattle.morph_base.specs.Clean.{source, outcome};
 ghost use Rattle.morph_base.specs.Known.{IsKnown, AreKnown, IsRight};
 
-/// Where what is known has the fold's value: an event all of whose operations answer on known sources commits; one
-/// with an operation that fails on known sources aborts; the value of an operation is its answer on known sources
-/// where its event commits, and the value of its target's known source where it aborts.
+/// Suppose that what is known has the fold's value. An event all of whose operations answer on known sources commits.
+/// One with an operation that fails on known sources aborts. The value of an operation is its answer on known sources
+/// if its event commits, and the value of its target's known source if it aborts.
 ///
-/// So a machine may decide and settle in any order, and never takes anything back. Here the known ones are told by a
-/// test; the lemmas in `proofs/` take any fact in its place.
+/// A machine may therefore decide and settle in any order, and never takes anything back. Here a test says which
+/// operations are known; the lemmas in `proofs/` take any fact in its place.
 pub fn known_sources()
     ensures commits { (p : Plan) (known : ℕ → Bool) (v : ℕ → ℕ) (i : ℕ) → IsPlan p
         → IsRight p (λ t. IsTrue (known t)) v → i < event_count p

@@ -1,4 +1,4 @@
-//! The state after the events of a plan, told by the values of its operations.
+//! The state after the events of a plan, by the values of its operations.
 ghost use Rattle.std.specs.Prelude.{◌≡◌, ℕ, ◌<◌, ◌≤◌, ◌↔◌, nat_le, count_by};
 ghost use Rattle.morph_base.specs.declared.key.Key.{Key};
 ghost use Rattle.morph_base.specs.declared.event.Batch.{Batch};
@@ -6,12 +6,12 @@ ghost use Rattle.morph_base.specs.declared.plan.Plan.{Plan};
 ghost use Rattle.morph_base.specs.States.{State, fold_batch, overwritten};
 ghost use Rattle.morph_base.specs.Plans.{IsPlan, IsPlanOf, HasBases, IsLastWriterIn, IsUnwrittenIn, op_count, event_at, event_of, target, state_at, event_count, final};
 
-/// The state after the first i events of a plan: a key that one of their operations changes has the fold's value of
-/// the last that does, each other key what it had before the batch. As one equation of states: the state before the
-/// batch, overwritten by the operations of the first i events in order, where these are the first n. The events up to
-/// a time are the first of the plan, as many as there are.
+/// The state after the first i events of a plan: a key that one of their operations changes has the fold's value of the
+/// last one that does, and each other key what it had before the batch. As one equation of states: the state before the
+/// batch, overwritten in order by the operations of the first i events, which are the first n operations. The events up
+/// to a time are the plan's first ones.
 ///
-/// A version of a key at a time is read by it, from the values of the operations alone.
+/// With it, the version of a key at a time is read from the values of the operations alone.
 pub fn versions()
     ensures written { (p : Plan) (s : State) (i : ℕ) (key : Key) (o : ℕ) → IsPlan p → HasBases p s
         → IsLastWriterIn p i key o
@@ -28,10 +28,10 @@ pub fn versions()
         → (i < count_by (λ e. nat_le e.ts t) p.events.items) ↔ ((event_at p i).ts ≤ t) }
 {}
 
-/// The state after a batch is the state before it, overwritten by all operations of its plan in order, so that each
-/// target has the fold's value of the last operation on it; and it is the fold of the batch.
+/// The state after a batch is the state before it, overwritten in order by all operations of its plan, so each target
+/// has the fold's value of the last operation on it. It is also the fold of the batch.
 ///
-/// The state is brought up to date by it once a plan is settled.
+/// With it, the state is brought up to date once a plan is settled.
 pub fn end_of_batch()
     ensures overwritten { (p : Plan) (s : State) → IsPlan p → HasBases p s
         → overwritten (target p) (final p) s (op_count p) ≡ state_at p s (event_count p) }

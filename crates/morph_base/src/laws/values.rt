@@ -1,4 +1,4 @@
-//! The values of operations and the verdicts on events: what the fold makes of a plan, told without a state.
+//! The values of operations and the verdicts on events: what the fold makes of a plan, said without a state.
 ghost use Rattle.std.specs.Prelude.{◌≡◌, ℕ, ◌<◌, ◌≤◌, Bool, map, length, slice_index_or};
 ghost use Rattle.morph_base.specs.declared.plan.Plan.{Plan};
 ghost use Rattle.morph_base.specs.States.{State};
@@ -9,9 +9,9 @@ ghost use Rattle.morph_base.specs.Guesses.{IsGuess, guess};
 ghost use Rattle.morph_base.specs.Clean.{source, IsClean};
 
 /// The key that an operation reads at a place has, in the state before its event, the value of the place's source: that
-/// of the last operation before the event that changes the key, or the base value where there is none.
+/// of the last operation before the event that changes the key, or the base value if there is none.
 ///
-/// Every way of settling rests on it: it may read sources in place of states.
+/// Every way of settling uses it to read sources in place of states.
 pub fn sources()
     ensures { (p : Plan) (s : State) (o j : ℕ) → IsPlan p → HasBases p s → o < op_count p
         → j < length (keys_of p o)
@@ -25,10 +25,10 @@ pub fn fold_is_clean()
         → IsClean p (value_at p s) (commits_at p s) }
 {}
 
-/// A clean assignment has the fold's value for each operation and the fold's verdict on each event, so there is one
-/// alone.
+/// A clean assignment has the fold's value for each operation and the fold's verdict on each event, so there is only
+/// one.
 ///
-/// Whoever settles a plan in any order, or looks at what was settled, needs to see no more than that it is clean.
+/// Whoever settles a plan in any order, or looks at what was settled, only has to see that it is clean.
 pub fn clean_is_fold()
     ensures values { (p : Plan) (v : ℕ → ℕ) (c : ℕ → Bool) (o : ℕ) → IsPlan p
         → IsClean p v c → o < op_count p
@@ -38,8 +38,8 @@ pub fn clean_is_fold()
         → c i ≡ verdict p i }
 {}
 
-/// The fold comes to the same values and verdicts from every state that has the plan's bases, also from the one that
-/// they tell: so contracts over plans speak of no state.
+/// The fold has the same values and verdicts from every state that has the plan's bases, and from the state that the
+/// bases themselves show. Contracts over plans therefore mention no state.
 pub fn bases_decide()
     ensures values { (p : Plan) (s : State) (o : ℕ) → IsPlan p → HasBases p s → o < op_count p
         → value_at p s o ≡ final p o }
@@ -47,10 +47,10 @@ pub fn bases_decide()
         → commits_at p s i ≡ verdict p i }
 {}
 
-/// The fates of a plan's events, told by the values of its operations and its verdicts: at each place, from any
-/// state; and all at once, from a state that has the plan's bases.
+/// The fates of a plan's events, by the values of its operations and its verdicts: at each place, from any state; and
+/// all at once, from a state that has the plan's bases.
 ///
-/// What is written of a settled batch is read off by it.
+/// With it, what is written of a settled batch is read off.
 pub fn event_fates()
     ensures each { (p : Plan) (s : State) (i : ℕ) (d : Fate) → IsPlan p → i < event_count p
         → slice_index_or (fates s (transactions p)) i d

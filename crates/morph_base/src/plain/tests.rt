@@ -18,7 +18,7 @@ enum Entry {
     Write(u32, u64),
     /// Gives a cell the sum of two others, if it is at most this limit.
     Gather(u32, u64, (u32, u32)),
-    /// Tells a vehicle's segment and its speed, in miles per hour.
+    /// Reports a vehicle's segment and its speed, in miles per hour.
     Report(u32, u32, u8),
 }
 
@@ -107,7 +107,7 @@ fn run(
     Ok((outcomes, values))
 }
 
-/// Whether an event at this time committed with these values of its targets, or aborted where none are given.
+/// Whether an event at this time committed with these values of its targets, or aborted if none are given.
 fn has_fate(outcome: &Outcome, ts: u64, after: &[u64]) -> bool {
     outcome.ts == ts
         && outcome.committed != after.is_empty()
@@ -148,7 +148,7 @@ fn have_fates(outcomes: &[Outcome], fates: &[(u64, &[u64])]) -> bool {
             .all(|(outcome, (ts, after))| has_fate(outcome, *ts, *after))
 }
 
-/// Runs a worked batch in order of arrival, or in the reverse order, which comes to the same: whether the fates and the
+/// Runs a worked batch in order of arrival or in the reverse order, which gives the same: whether the fates and the
 /// values after it are the worked ones.
 fn comes_out(
     rt: &impl Abort,
@@ -277,7 +277,7 @@ fn cell_and_toll_batches(rt: HostRuntime) -> Result<(), Fail> {
     Ok(check_all(&rt, rt.alloc(), &CELL_AND_TOLL_BATCHES)?)
 }
 
-/// So many vehicles, each reported once in one segment, all at 10 miles per hour.
+/// `count` vehicles, each reported once in one segment, all at 10 miles per hour.
 fn run_reports(
     rt: &impl Abort,
     alloc: Global,
@@ -341,7 +341,7 @@ fn committed(outcomes: &[Outcome]) -> usize {
     outcomes.iter().filter(|outcome| outcome.committed).count()
 }
 
-/// What so many reports come to: the number of outcomes and of those that committed, whether those at some places have
+/// The result of some reports: the number of outcomes and of those that committed, whether those at some places have
 /// the given fates, and whether the values are those after 52 reports.
 #[derive(Clone, Copy, Debug, PartialEq, Eq)]
 struct Told {
@@ -351,7 +351,7 @@ struct Told {
     tolled: bool,
 }
 
-/// Runs so many reports, and tells what they come to.
+/// Runs some reports, and returns their result.
 fn reported(
     rt: &impl Abort,
     alloc: Global,

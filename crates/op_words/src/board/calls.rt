@@ -1,4 +1,5 @@
-//! The calls of the board. Each is made of the single steps of `steps`.
+//! The board's first calls: a new board, its hands, and the way of an operation from ready to finished. Each call is
+//! made of the single steps in `steps`.
 ghost use Rattle.std.specs.Prelude.{◌≡◌, ℕ, ◌+◌, ◌<◌, ◌↔◌, List, length, None, IfOk, IsTrue};
 ghost use Rattle.morph_base.specs.Limits.{most_attempts, most_workers};
 ghost use Rattle.morph_base.specs.Plans.{IsPlan, op_count, origin_at};
@@ -21,8 +22,8 @@ use std::alloc::Global;
 use std::snapshot::Snapshot;
 
 impl Board {
-    /// A board on which each operation of the plan is blocked at attempt 1, nothing is recorded or decided, and each
-    /// of its counters is 0; and its first hand, the root. Operations have at most `cap` + 1 attempts.
+    /// Makes a board, on which each operation of the plan is blocked at attempt 1, nothing is recorded or decided, and
+    /// each counter is 0. Returns it with its first hand, the root. An operation has at most `cap` + 1 attempts.
     ///
     /// The plan is valid, with its bases filled in. All memory that steps need is taken here.
     pub fn new(
@@ -58,7 +59,7 @@ impl Board {
         Ok((Board { table, cap, level }, root))
     }
 
-    /// Loads the word of an operation. It is no older than what the hand saw or made of it.
+    /// Loads the word of an operation. It is no older than what the hand saw or made of the operation.
     pub fn peek(&self, hand: &mut Hand, plan: &Plan, op: u32) -> OpWord
         requires hand { IsHandOf self.now hand.old }
         requires plan { plan.now ≡ plan_of self.now }
@@ -73,8 +74,8 @@ impl Board {
         self.look(hand, op)
     }
 
-    /// Makes a hand more: its tag is the number of hands made before and 1. It has the root's notes, and nothing
-    /// else yet.
+    /// Splits off a new hand. Its tag is one more than the number of hands made so far. It starts with the root's notes
+    /// and decisions and nothing else.
     pub fn split(&self, root: &mut Hand) -> Hand
         requires hand { IsHandOf self.now root.old }
         requires root { (view_of root.old).tag ≡ 1 }
@@ -96,7 +97,7 @@ impl Board {
         }
     }
 
-    /// Joins a hand that holds nothing into the root, which gets its lists, and its trail by its tag.
+    /// Joins a hand that holds nothing into the root. The root gets its lists, and keeps its trail under its tag.
     pub fn join(&self, root: &mut Hand, other: Hand)
         requires hand { IsHandOf self.now root.old }
         requires root { (view_of root.old).tag ≡ 1 }
@@ -111,10 +112,10 @@ impl Board {
         self.tell(&mut root.seat);
     }
 
-    /// Makes a blocked operation ready, where each of its sources has a value.
+    /// Makes a blocked operation ready, if each of its sources has a value.
     ///
-    /// It loads the operation's word and then, as long as nothing stops it, those of its sources, place by place.
-    /// Last comes the exchange.
+    /// The call loads the operation's word and then, as long as nothing stops it, those of its sources, place by place.
+    /// The exchange comes last.
     pub fn ready(&self, hand: &mut Hand, plan: &Plan, op: u32) -> Readied
         requires hand { IsHandOf self.now hand.old }
         requires plan { plan.now ≡ plan_of self.now }
@@ -140,7 +141,7 @@ impl Board {
         }
     }
 
-    /// Claims a ready operation, for a hand that holds none.
+    /// Claims a ready operation, for a hand that holds nothing.
     pub fn claim(&self, hand: &mut Hand, plan: &Plan, op: u32) -> Claimed
         requires hand { IsHandOf self.now hand.old }
         requires plan { plan.now ≡ plan_of self.now }
@@ -162,9 +163,9 @@ impl Board {
         }
     }
 
-    /// Gets the value of the next place of the operation that the hand holds, and records it.
+    /// Fetches the value of the next place of the operation that the hand holds, and records it.
     ///
-    /// A value that is not settled is read too, but at the last attempt.
+    /// A value need not be settled, except at the last attempt.
     pub fn fetch(&self, hand: &mut Hand, plan: &Plan, op: u32, j: u8) -> Fetched
         requires hand { IsHandOf self.now hand.old }
         requires plan { plan.now ≡ plan_of self.now }
@@ -185,7 +186,8 @@ impl Board {
         }
     }
 
-    /// The same, where the source is an operation: its word is loaded, and its value taken where it may be.
+    /// Fetches the value of a place whose source is an operation: loads its word, and takes its value if it may be
+    /// read.
     fn read(&self, hand: &mut Hand, plan: &Plan, op: u32, j: u8, source: u32) -> Fetched
         requires hand { IsHandOf self.now hand.old }
         requires plan { plan.now ≡ plan_of self.now }
@@ -217,8 +219,8 @@ impl Board {
         attempt == self.cap + 1
     }
 
-    /// Finishes the operation that the hand holds, all of whose places were fetched: it is executed with what its
-    /// function gives, or failed with the value of its target. The hand holds none afterwards.
+    /// Finishes the operation that the hand holds, once all its places were fetched. It is executed with the value that
+    /// its function gives, or failed with the value of its target. The hand holds nothing afterwards.
     pub fn finish(&self, hand: &mut Hand, plan: &Plan, op: u32) -> Outcome
         requires hand { IsHandOf self.now hand.old }
         requires plan { plan.now ≡ plan_of self.now }
@@ -238,7 +240,7 @@ impl Board {
         Outcome::of(answer)
     }
 
-    /// Gives back the operation that the hand holds: it is blocked again, at the same attempt. The hand holds none
+    /// Gives back the operation that the hand holds: it is blocked again, at the same attempt. The hand holds nothing
     /// afterwards.
     pub fn give_back(&self, hand: &mut Hand, plan: &Plan, op: u32)
         requires hand { IsHandOf self.now hand.old }

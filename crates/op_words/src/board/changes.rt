@@ -1,4 +1,4 @@
-//! The exchanges that take a value back, on what the hand has seen.
+//! The exchanges that take a value back, if what the hand saw allows it.
 ghost use Rattle.std.specs.Prelude.{◌≡◌, ◌+◌, ◌≤◌, ◌<◌};
 ghost use Rattle.morph_base.specs.declared.limits.TheConstants.{MAX};
 ghost use Rattle.morph_base.specs.Plans.{op_count};
@@ -18,8 +18,8 @@ use interleaving_core::CoreEvent;
 use morph_base::OpWord;
 
 impl Board {
-    /// The exchange of executed to spread, at the next attempt, with the value of the target's record; the word that
-    /// was found, where it was another.
+    /// Exchanges executed for spread at the next attempt, with the value of the target's record. Returns the word that
+    /// was found, if it is another one.
     pub(super) fn leave_spread(
         &self,
         hand: &mut Hand,
@@ -58,8 +58,8 @@ impl Board {
         Some(word)
     }
 
-    /// The exchange of a word with a value for blocked, at the next attempt; the word that was found, where it was
-    /// another.
+    /// Exchanges a word with a value for blocked at the next attempt. Returns the word that was found, if it is another
+    /// one.
     pub(super) fn leave_blocked(
         &self,
         hand: &mut Hand,

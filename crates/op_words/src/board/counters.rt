@@ -1,6 +1,6 @@
-//! Counters, of which each number goes to one hand, and the level word.
+//! Counters, which give each of their numbers to one hand, and the level word.
 ghost use Rattle.std.specs.Prelude.{◌≡◌, ◌<◌};
-ghost use Rattle.op_words.specs.Counting.{taking, times, Takes};
+ghost use Rattle.op_words.specs.Counting.{taking, times, IsNumberTaken};
 ghost use Rattle.op_words.specs.Rule.{most_taken};
 ghost use Rattle.op_words.specs.declared.board.Hand.{Hand};
 ghost use Rattle.op_words.specs.Hands.{plan_of, cap_of, counters_of, view_of, IsHandOf};
@@ -12,20 +12,21 @@ use crate::words::NO_LEVEL;
 impl Board {
     /// Takes the next number of a counter. Each number below the counter goes to one hand.
     ///
-    /// A hand takes fewer than 2^59 numbers from a counter, so that sixteen hands never reach its end.
+    /// A hand that calls this has taken fewer than 2^59 numbers from the counter, so sixteen hands cannot make it
+    /// overflow.
     pub fn take(&self, hand: &mut Hand, counter: u32) -> u64
         requires hand { IsHandOf self.now hand.old }
         requires in_range { counter < counters_of self.now }
         requires few { times counter (view_of hand.old).places < most_taken }
         ensures hand { IsHandOf self.now hand.new }
         ensures view { view_of hand.new ≡ taking counter result (view_of hand.old) }
-        ensures takes { Takes counter result (view_of hand.old) }
+        ensures takes { IsNumberTaken counter result (view_of hand.old) }
     {
         let word = self.level + 1 + counter as usize;
         self.table.shared.fetch_add::<Take>(&mut hand.seat, word, 1)
     }
 
-    /// Puts a level into the level word, where it is lower than the one there.
+    /// Puts a level into the level word, if it is lower than the level there.
     pub fn lower(&self, hand: &mut Hand, level: u32)
         requires hand { IsHandOf self.now hand.old }
         ensures hand { IsHandOf self.now hand.new }
@@ -36,7 +37,7 @@ impl Board {
             .fetch_min::<Pass>(&mut hand.seat, self.level, u64::from(level));
     }
 
-    /// The level in the level word.
+    /// Returns the level in the level word.
     pub fn level(&self, hand: &mut Hand) -> u32
         requires hand { IsHandOf self.now hand.old }
         ensures hand { IsHandOf self.now hand.new }
@@ -46,8 +47,8 @@ impl Board {
         level.min(NO_LEVEL) as u32
     }
 
-    /// Empties the level word between two passes, while the board is lent to nobody else: the level there is then
-    /// the greatest. All else stays, so each hand of the board is one of it after that.
+    /// Puts the greatest level into the level word, between two passes. Nobody else uses the board at that time. All
+    /// else stays, so each hand of the board is still one of its hands.
     pub fn reset_level(&mut self, root: &mut Hand)
         requires hand { IsHandOf self.old root.old }
         ensures hand { IsHandOf self.new root.new }

@@ -1,8 +1,8 @@
-//! Events are decided by the verdicts on their operations.
+//! Decides events by the verdicts on their operations.
 ghost use Rattle.std.specs.Prelude.{◌≡◌, ◌+◌, ◌<◌, None};
 ghost use Rattle.morph_base.specs.Plans.{op_count, event_count, event_at};
 ghost use Rattle.op_words.specs.Judging.{DecideDoes};
-ghost use Rattle.op_words.specs.Comparing.{IsWeighed, HasGrounds, MaySayOf, IsConcluded};
+ghost use Rattle.op_words.specs.Comparing.{IsWeighed, HasFoundGrounds, MaySayOf, IsConcluded};
 ghost use Rattle.op_words.specs.Hands.{plan_of, cap_of, view_of, IsHandOf};
 
 use super::{Board, Hand};
@@ -14,10 +14,11 @@ use interleaving_core::CoreEvent;
 use morph_base::Plan;
 
 impl Board {
-    /// Decides on an event: it gives the decision that there is, and else makes one. The event aborts where an
-    /// operation is bad, and commits where all are good.
+    /// Returns the decision on an event, and makes one if there is none. The event aborts if an operation is bad, and
+    /// commits if all are good.
     ///
-    /// It loads the decision, then judges the operations in order, up to the first bad one. Last comes the exchange.
+    /// The call loads the decision and then judges the operations in order, up to the first bad one. The exchange comes
+    /// last.
     pub fn decide(&self, hand: &mut Hand, plan: &Plan, event: u32) -> Decided
         requires hand { IsHandOf self.now hand.old }
         requires plan { plan.now ≡ plan_of self.now }
@@ -44,7 +45,7 @@ impl Board {
         requires plan { plan.now ≡ plan_of self.now }
         requires in_range { event < event_count plan.now }
         requires free { (view_of hand.old).claim ≡ None }
-        ensures { HasGrounds self.now plan.now (cap_of self.now) event
+        ensures { HasFoundGrounds self.now plan.now (cap_of self.now) event
             (event_at plan.now event).first
             ((event_at plan.now event).first + (event_at plan.now event).count) hand.old hand.new result }
     {
@@ -61,7 +62,7 @@ impl Board {
         grounds
     }
 
-    /// What the verdict on one operation says of its event.
+    /// What the verdict on one operation says of the event.
     fn weigh(&self, hand: &mut Hand, plan: &Plan, op: u32) -> Decided
         requires hand { IsHandOf self.now hand.old }
         requires plan { plan.now ≡ plan_of self.now }
@@ -78,7 +79,7 @@ impl Board {
         }
     }
 
-    /// The exchange of no decision for this one; the decision that stands.
+    /// Exchanges no decision for this one, and returns the decision that stands.
     fn conclude(&self, hand: &mut Hand, plan: &Plan, event: u32, committed: bool) -> bool
         requires hand { IsHandOf self.now hand.old }
         requires plan { plan.now ≡ plan_of self.now }

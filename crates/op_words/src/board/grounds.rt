@@ -12,8 +12,8 @@ use crate::words::is_usable;
 use morph_base::{Origin, Plan};
 
 impl Board {
-    /// The value of the source at a place, which is loaded if it is an operation; or that operation, where it has no
-    /// value, or none that is settled though it is `needed` settled.
+    /// Loads the source at a place, if it is an operation, and returns the source's value. Returns the operation with
+    /// its word if that has no value, or is not settled although it is `needed` settled.
     pub(super) fn source_value(
         &self,
         hand: &mut Hand,
@@ -42,7 +42,7 @@ impl Board {
         }
     }
 
-    /// Loads the sources of an operation that are `needed` settled, place by place, up to the first that is not.
+    /// Loads the sources of an operation that are `needed` settled, place by place, up to the first one that is not.
     pub(super) fn open_source(
         &self,
         hand: &mut Hand,

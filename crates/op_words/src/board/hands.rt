@@ -13,14 +13,14 @@ use morph_base::OutOfMemory;
 use std::alloc::Global;
 
 impl Hand {
-    /// Its number: 1 for the root, and for each other hand the number of hands that were made with it.
+    /// The hand's number. The root has 1, and each other hand has the number of hands made up to then, itself included.
     pub fn tag(&self) -> u8
         ensures { (b : B) → IsHandOf b self.now → result ≡ (view_of self.now).tag }
     {
         self.tag
     }
 
-    /// The operation that it holds, `None` exactly where it holds none.
+    /// The operation that the hand holds. `None` means that it holds none.
     pub fn held(&self) -> Option<u32>
         ensures { (b : B) → IsHandOf b self.now → result ≡ op_held (view_of self.now).claim }
     {
@@ -30,8 +30,8 @@ impl Hand {
         }
     }
 
-    /// Keeps a journal from now on: its own steps in order, as many as there is room for. The root of a new board may, which
-    /// has made no step and no other hand. Where memory is refused it stays as it was.
+    /// Keeps a journal from now on: the hand's own steps in order, as many as there is room for. This is for the root
+    /// of a new board, before any step and any other hand. If memory is refused, the hand stays as it was.
     pub fn keep(&mut self, alloc: Global, board: &Board, room: usize) -> Result<(), OutOfMemory>
         requires hand { IsHandOf board.now self.old }
         requires lone { IsLone (view_of self.old) }
@@ -42,7 +42,7 @@ impl Hand {
     {
         let journal = Journal::with_room(alloc, room)?;
         self.journal = Some(journal);
-        // Whatever stands in the level word stays there: the step tells the room alone.
+        // The exchange leaves the level word as it is: it only records the room.
         let room = room as u64;
         board
             .table
@@ -51,7 +51,7 @@ impl Hand {
         Ok(())
     }
 
-    /// How many operations it evaluated, spread and rolled back, with those of the hands joined into it.
+    /// How many operations this hand and those joined into it evaluated, spread and rolled back.
     pub fn counts(&self) -> Counts
         ensures { (b : B) → IsHandOf b self.now → result ≡ counts_of (view_of self.now).events }
     {

@@ -1,4 +1,4 @@
-//! Operations are judged by their records and their settled sources.
+//! Judges operations by their records and their settled sources.
 ghost use Rattle.std.specs.Prelude.{◌≡◌, ◌<◌, None};
 ghost use Rattle.morph_base.specs.Plans.{op_count};
 ghost use Rattle.interleaving_core.specs.Core.{places};
@@ -13,11 +13,11 @@ use crate::words::{has_run, is_same};
 use morph_base::{OpWord, Plan};
 
 impl Board {
-    /// Judges an operation by its records: what they are worth once its sources are settled.
+    /// Says what an operation's records are worth once its sources are settled.
     ///
-    /// It loads the operation's word, then, place by place and as long as nothing stops it, the source's word and the
-    /// record, and then the operation's word again. Values are rolled back and come again between these loads; two
-    /// equal words mean that the records were those of that word all the time.
+    /// The call loads the operation's word; then, place by place and as long as nothing stops it, the source's word and
+    /// the record; and then the operation's word again. A value can be rolled back and come again between these loads.
+    /// If the two words are equal, the records were those of that word all the time.
     pub fn verdict(&self, hand: &mut Hand, plan: &Plan, op: u32) -> Verdict
         requires hand { IsHandOf self.now hand.old }
         requires plan { plan.now ≡ plan_of self.now }
@@ -31,7 +31,7 @@ impl Board {
         verdict
     }
 
-    /// The verdict on an operation, and the word of it that was loaded last.
+    /// Returns the verdict on an operation, and the word of it that was loaded last.
     pub(super) fn judge(&self, hand: &mut Hand, plan: &Plan, op: u32) -> (OpWord, Verdict)
         requires hand { IsHandOf self.now hand.old }
         requires plan { plan.now ≡ plan_of self.now }
@@ -65,7 +65,7 @@ impl Board {
         }
     }
 
-    /// Loads the operation's word again: the verdict stands where it is the word that was loaded first.
+    /// Loads the operation's word again. The verdict stands if it is the word that was loaded first.
     fn confirm(
         &self,
         hand: &mut Hand,
@@ -85,8 +85,8 @@ impl Board {
         }
     }
 
-    /// Compares the records of an operation with its sources, place by place, up to the first source that is not
-    /// settled or record that differs.
+    /// Compares an operation's records with its sources, place by place, up to the first source that is not settled or
+    /// the first record that differs.
     pub(super) fn compare(&self, hand: &mut Hand, plan: &Plan, op: u32) -> Compared
         requires hand { IsHandOf self.now hand.old }
         requires plan { plan.now ≡ plan_of self.now }
@@ -103,7 +103,7 @@ impl Board {
         Compared::Equal
     }
 
-    /// The source's word comes first, then the record.
+    /// Compares one record with its source. It loads the source's word first and then the record.
     fn compare_at(&self, hand: &mut Hand, plan: &Plan, op: u32, j: u8) -> Compared
         requires hand { IsHandOf self.now hand.old }
         requires plan { plan.now ≡ plan_of self.now }

@@ -11,7 +11,7 @@ use crate::words::{decision_of, value_of_record};
 use morph_base::{Plan, READS};
 
 impl Board {
-    /// A load of the record of an operation at a place that it reads; 0 where there is none.
+    /// Loads the record of an operation at a place that it reads. It is 0 if there is none.
     pub(super) fn recall(&self, hand: &mut Hand, plan: &Plan, op: u32, j: u8) -> u64
         requires hand { IsHandOf self.now hand.old }
         requires plan { plan.now ≡ plan_of self.now }
@@ -24,7 +24,7 @@ impl Board {
         value_of_record(n)
     }
 
-    /// A load of the decision on an event.
+    /// Loads the decision on an event.
     pub(super) fn learn(&self, hand: &mut Hand, plan: &Plan, event: u32) -> Option<bool>
         requires hand { IsHandOf self.now hand.old }
         requires plan { plan.now ≡ plan_of self.now }

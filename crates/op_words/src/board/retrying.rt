@@ -1,4 +1,4 @@
-//! Values are taken back: by the failure of another operation of the event, or for a source that changed.
+//! Takes values back, because another operation of the event failed or because a source changed.
 ghost use Rattle.std.specs.Prelude.{◌≡◌, ◌≢◌, ◌≤◌, ◌<◌, ◌⊎◌, ◌↔◌, true, false, None, IsTrue};
 ghost use Rattle.morph_base.specs.declared.word.OpState.TheVariants.{Executed, Spread as IsSpreadState};
 ghost use Rattle.morph_base.specs.Words.{is_evaluated};
@@ -13,10 +13,10 @@ use crate::words::{is_in, is_same};
 use morph_base::{OpState, OpWord, Plan};
 
 impl Board {
-    /// Spreads the failure of `sibling`, which the hand showed, to another operation of its event: executed below the
-    /// cap, it gets its target's record as value, at its next attempt.
+    /// Spreads the failure of `sibling`, which the hand showed, to another operation of its event. If that is executed
+    /// below the cap, it gets its target's record as its value, at its next attempt.
     ///
-    /// It loads the operation's word, its first record, and the word of the sibling. Last comes the exchange.
+    /// The call loads the operation's word, its first record, and the word of the sibling. The exchange comes last.
     pub fn spread(&self, hand: &mut Hand, plan: &Plan, op: u32, sibling: u32) -> Spreaded
         requires hand { IsHandOf self.now hand.old }
         requires plan { plan.now ≡ plan_of self.now }
@@ -47,14 +47,15 @@ impl Board {
         is_in(word, OpState::Executed) && word.attempt < self.cap
     }
 
-    /// Rolls an operation back to its next attempt, where the record at place `j` is not the value of its source, or
-    /// its word is spread.
+    /// Rolls an operation back to its next attempt, if the record at place `j` is not the value of its source or the
+    /// operation's word is spread.
     ///
     /// Below the cap any value of the source that differs from the record is enough. At the cap all sources have to be
-    /// settled; so they have for a spread word whose record is right.
+    /// settled. They also have to be settled if the word is spread but its record is right.
     ///
-    /// It loads the operation's word, the source's, and the record; then, where they have to be settled, the words of
-    /// all sources. Last comes the exchange, or, before it says that the record is right, the operation's word again.
+    /// The call loads the operation's word, the source's word, and the record; then, if they have to be settled, the
+    /// words of all sources. The exchange comes last. Before the call says that the record is right, it loads the
+    /// operation's word again.
     pub fn roll_back(&self, hand: &mut Hand, plan: &Plan, op: u32, j: u8) -> Rolled
         requires hand { IsHandOf self.now hand.old }
         requires plan { plan.now ≡ plan_of self.now }
@@ -99,7 +100,7 @@ impl Board {
         }
     }
 
-    /// Whether a word has a value that may be taken back, before the last attempt.
+    /// Whether a word has a value that may be taken back, and is not at the last attempt.
     fn may_roll(&self, word: OpWord) -> bool
         ensures may { IsTrue result → (is_evaluated word.state ≡ true)
             × (word.attempt ≤ cap_of self.now) }
@@ -115,7 +116,7 @@ impl Board {
         word.attempt == self.cap
     }
 
-    /// Whether all sources have to be settled before a rollback: at the cap, and where the record is right.
+    /// Whether all sources have to be settled before a rollback: they have to at the cap, and if the record is right.
     fn needs_settled(&self, word: OpWord, kept: u64, value: u64) -> bool
         ensures { IsTrue result ↔ ((word.attempt ≡ cap_of self.now) ⊎ (kept ≡ value)) }
     {

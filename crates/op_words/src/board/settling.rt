@@ -1,10 +1,10 @@
-//! Operations are settled, as their events are decided.
+//! Settles operations as their events are decided.
 ghost use Rattle.std.specs.Prelude.{◌≡◌, ◌<◌, Bool, true, false, Some, None};
 ghost use Rattle.morph_base.specs.Plans.{op_count, event_count, event_of, verdict};
 ghost use Rattle.morph_base.specs.Words.{IsWord, is_open};
 ghost use Rattle.op_words.specs.declared.trail.View.{View as V};
 ghost use Rattle.op_words.specs.Judging.{SettleDoes};
-ghost use Rattle.op_words.specs.Comparing.{IsNotedLast, IsOpened, IsSealed, MaySettleIt};
+ghost use Rattle.op_words.specs.Comparing.{IsNotedLast, BeginsWithLoad, IsSealed, MaySettleIt};
 ghost use Rattle.op_words.specs.Stepping.{Learned};
 ghost use Rattle.op_words.specs.Views.{IsDecisionSeen};
 ghost use Rattle.op_words.specs.Hands.{plan_of, cap_of, view_of, IsHandOf};
@@ -18,11 +18,12 @@ use interleaving_core::CoreEvent;
 use morph_base::{OpState, OpWord, Plan};
 
 impl Board {
-    /// Settles an operation of an event whose decision the hand knows: with its own value where the event commits and
-    /// each of its records is the settled value of its source, else with the settled value of its target's source.
+    /// Settles an operation of an event whose decision the hand knows. If the event commits and each record is the
+    /// settled value of its source, the operation keeps its own value. If the event aborts, it gets the settled value
+    /// of its target's source.
     ///
-    /// It loads the operation's word and the decision; then, place by place, the sources and records that it needs,
-    /// and the operation's word again before it says that a record differs. Last comes the exchange.
+    /// The call loads the operation's word and the decision; then, place by place, the sources and records that it
+    /// needs; and the operation's word again before it says that a record differs. The exchange comes last.
     pub fn settle(&self, hand: &mut Hand, plan: &Plan, op: u32) -> SettleAnswer
         requires hand { IsHandOf self.now hand.old }
         requires plan { plan.now ≡ plan_of self.now }
@@ -59,7 +60,7 @@ impl Board {
         committed
     }
 
-    /// The same as [`Board::settle`], where the event commits, and the word was loaded.
+    /// Settles the operation with this word, if the event commits.
     fn settle_committed(&self, hand: &mut Hand, plan: &Plan, op: u32, word: OpWord) -> SettleAnswer
         requires hand { IsHandOf self.now hand.old }
         requires plan { plan.now ≡ plan_of self.now }
@@ -70,7 +71,7 @@ impl Board {
         requires decided { IsDecisionSeen (view_of hand.old) (event_of plan.now op) true }
         requires commits { verdict plan.now (event_of plan.now op) ≡ true }
         ensures hand { IsHandOf self.now hand.new }
-        ensures does { (v : V) → IsOpened plan.now op v (view_of hand.old) word
+        ensures does { (v : V) → BeginsWithLoad plan.now op v (view_of hand.old) word
             → SettleDoes plan.now (cap_of self.now) op v (view_of hand.new) result }
     {
         if !is_in(word, OpState::Executed) {
@@ -92,7 +93,7 @@ impl Board {
         }
     }
 
-    /// The same as [`Board::settle`], where the event aborts, and the word was loaded.
+    /// Settles the operation with this word, if the event aborts.
     fn settle_aborted(&self, hand: &mut Hand, plan: &Plan, op: u32, word: OpWord) -> SettleAnswer
         requires hand { IsHandOf self.now hand.old }
         requires plan { plan.now ≡ plan_of self.now }
@@ -103,7 +104,7 @@ impl Board {
         requires state { is_open word.state ≡ true }
         requires decided { IsDecisionSeen (view_of hand.old) (event_of plan.now op) false }
         ensures hand { IsHandOf self.now hand.new }
-        ensures does { (v : V) → IsOpened plan.now op v (view_of hand.old) word
+        ensures does { (v : V) → BeginsWithLoad plan.now op v (view_of hand.old) word
             → SettleDoes plan.now (cap_of self.now) op v (view_of hand.new) result }
     {
         match self.source_value(hand, plan, op, 0, true) {
@@ -118,7 +119,7 @@ impl Board {
         }
     }
 
-    /// The exchange of the word for a settled one.
+    /// Exchanges the word for a settled one.
     fn seal(&self, hand: &mut Hand, op: u32, word: OpWord, new: OpWord) -> SettleAnswer
         requires hand { IsHandOf self.now hand.old }
         requires in_range { op < op_count (plan_of self.now) }

@@ -1,4 +1,4 @@
-//! The sources of an operation, loaded place by place.
+//! Loads the sources of an operation, place by place.
 ghost use Rattle.std.specs.Prelude.{◌≡◌, ◌<◌, None};
 ghost use Rattle.morph_base.specs.Plans.{op_count};
 ghost use Rattle.interleaving_core.specs.Core.{places};
@@ -11,7 +11,7 @@ use crate::places::places_of;
 use morph_base::Plan;
 
 impl Board {
-    /// Loads the sources of an operation, place by place, up to the first that has no value.
+    /// Loads the sources of an operation, place by place, and returns the first one that has no value.
     pub(super) fn idle_source(&self, hand: &mut Hand, plan: &Plan, op: u32) -> Option<Stop>
         requires hand { IsHandOf self.now hand.old }
         requires plan { plan.now ≡ plan_of self.now }
@@ -27,7 +27,7 @@ impl Board {
         None
     }
 
-    /// Loads the source at a place, if it is an operation, and gives it where it has no value.
+    /// Loads the source at a place, if it is an operation, and returns it if it has no value.
     fn idle_at(&self, hand: &mut Hand, plan: &Plan, op: u32, j: u8) -> Option<Stop>
         requires hand { IsHandOf self.now hand.old }
         requires plan { plan.now ≡ plan_of self.now }

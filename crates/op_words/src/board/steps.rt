@@ -8,7 +8,7 @@ ghost use Rattle.op_words.specs.declared.trail.View.{View as V};
 ghost use Rattle.op_words.specs.Trails.{left};
 ghost use Rattle.op_words.specs.Views.{Holds, IsLone, making, claiming, finishing, giving_back};
 ghost use Rattle.op_words.specs.Plays.{IsTold};
-ghost use Rattle.op_words.specs.Stepping.{IsUsable, Kept, Looked, Left, Swapped};
+ghost use Rattle.op_words.specs.Stepping.{IsUsable, IsPlaceKept, Looked, Left, Swapped};
 ghost use Rattle.op_words.specs.Hands.{plan_of, cap_of, view_of, IsHandOf};
 
 use super::{Board, Hand, Holding};
@@ -22,7 +22,7 @@ use interleaving_core::CoreEvent;
 use morph_base::{OpWord, Plan, READS};
 
 impl Board {
-    /// A load of an operation's word.
+    /// Loads an operation's word.
     pub(super) fn look(&self, hand: &mut Hand, op: u32) -> OpWord
         requires hand { IsHandOf self.now hand.old }
         requires in_range { op < op_count (plan_of self.now) }
@@ -32,7 +32,7 @@ impl Board {
         OpWord::of_packed(n)
     }
 
-    /// A load of the first word that the view does not note.
+    /// Loads the first word. The view does not note this load.
     pub(super) fn tell(&self, seat: &mut Seat<(), Option<View>>)
         requires table { seat.old.table_id ≡ self.now.table.shared.table_id }
         requires live { (v : V) × (seat.old.me.0 ≡ Some v) }
@@ -44,7 +44,7 @@ impl Board {
         self.table.shared.load::<Tell>(seat, 0);
     }
 
-    /// The exchange of blocked to ready; the word that was found, where it was another.
+    /// Exchanges blocked for ready. Returns the word that was found, if it is another one.
     pub(super) fn make(&self, hand: &mut Hand, op: u32, attempt: u8) -> Option<OpWord>
         requires hand { IsHandOf self.now hand.old }
         requires in_range { op < op_count (plan_of self.now) }
@@ -67,7 +67,8 @@ impl Board {
         Some(word)
     }
 
-    /// The exchange of ready to claimed, by a hand that holds nothing; the word that was found, where it was another.
+    /// Exchanges ready for claimed, for a hand that holds nothing. Returns the word that was found, if it is another
+    /// one.
     pub(super) fn hold(&self, hand: &mut Hand, op: u32, attempt: u8) -> Option<OpWord>
         requires hand { IsHandOf self.now hand.old }
         requires in_range { op < op_count (plan_of self.now) }
@@ -98,7 +99,7 @@ impl Board {
         Some(word)
     }
 
-    /// Claimed becomes blocked, by the hand that holds the operation: nobody else changes its word meanwhile.
+    /// Stores blocked over claimed, for the hand that holds the operation: nobody else changes its word meanwhile.
     pub(super) fn give(&self, hand: &mut Hand, op: u32, attempt: u8)
         requires hand { IsHandOf self.now hand.old }
         requires in_range { op < op_count (plan_of self.now) }
@@ -115,7 +116,7 @@ impl Board {
         note(&mut hand.journal, CoreEvent::GiveBack { op, by: hand.tag });
     }
 
-    /// The store of a record: the next place of the operation that the hand holds gets the value.
+    /// Stores a record: the next place of the operation that the hand holds gets the value.
     pub(super) fn keep(&self, hand: &mut Hand, plan: &Plan, value: u64)
         requires hand { IsHandOf self.now hand.old }
         requires plan { plan.now ≡ plan_of self.now }
@@ -126,7 +127,7 @@ impl Board {
             × IsUsable (view_of hand.old) (cap_of self.now) a
             (origin_at plan.now o (length xs)) value }
         ensures { (o a : ℕ) (xs : List ℕ) → Holds (view_of hand.old) o a xs
-            → Kept self.now o a xs value hand.old hand.new }
+            → IsPlaceKept self.now o a xs value hand.old hand.new }
     {
         let Some(holding) = &mut hand.held else {
             unreachable!()
@@ -146,7 +147,7 @@ impl Board {
         note(&mut hand.journal, step);
     }
 
-    /// Claimed becomes executed or failed, by the hand that holds the operation: nobody else changes its word
+    /// Stores executed or failed over claimed, for the hand that holds the operation: nobody else changes its word
     /// meanwhile.
     pub(super) fn end(&self, hand: &mut Hand, op: u32, word: OpWord)
         requires hand { IsHandOf self.now hand.old }

@@ -11,7 +11,7 @@ use worker_gate::Gate;
 /// The most loads of one hold.
 const LOADS: u64 = 200_000_000;
 
-/// Where the reader of a second batch and the first worker meet.
+/// The place at which the reader of a second batch and the first worker meet.
 #[derive(Drop)]
 struct Meeting {
     /// The read that is held was entered.
@@ -60,7 +60,7 @@ impl Gate for Meeting {
     }
 }
 
-/// A source of which one read, by its number from 1, holds until a worker has evaluated something.
+/// A source that, at the read of one number, counted from 1, holds until a worker has evaluated something.
 #[derive(Drop)]
 struct Held<'a, S> {
     source: S,
@@ -86,12 +86,12 @@ impl<S: Source> Source for Held<'_, S> {
     }
 }
 
-/// Payouts of so many events, each of sixteen operations, and as many bytes of a piece.
+/// The number of payouts of the first batch, each of sixteen operations, and the bytes of a piece.
 const PAYOUTS: u64 = 1_024;
 
 const PIECE: usize = 4_096;
 
-/// Appends so many payouts of 0, from this timestamp on.
+/// Appends `count` payouts of 0, from this timestamp on.
 fn append_payouts(list: &mut List<u8>, from: u64, count: u64) -> Result<(), OutOfMemory> {
     for i in 0..count {
         append(list, b"M ")?;
@@ -101,8 +101,8 @@ fn append_payouts(list: &mut List<u8>, from: u64, count: u64) -> Result<(), OutO
     Ok(())
 }
 
-/// A batch with as many operations as two halves are worth, and what comes behind it. Halves that ran one after the other would
-/// wait in vain.
+/// A batch with as many operations as two halves are worth, and what comes behind it. Halves that ran one after the
+/// other would wait in vain.
 #[test]
 fn pipe_meets(rt: HostRuntime) -> Result<(), Fail> {
     let alloc = rt.alloc();

@@ -7,7 +7,8 @@ use std::sync::Wait;
 use std::test::Fail;
 use std::thread::Threads;
 
-/// The four events in two orders of arrival; two batches; five, of which the second aborts; and lines that are refused.
+/// The four events in two orders of arrival; two batches; five events, of which the second aborts; and lines that are
+/// refused.
 static INPUTS: [&[u8]; 5] = [
     FOUR_EVENTS,
     b"X 4 1 2 1 2 60 5\nX 3 0 1 0 1 60 5\nD 1 0 0 100 5\nX 2 0 1 0 1 60 6\n",
@@ -16,7 +17,7 @@ static INPUTS: [&[u8]; 5] = [
     b"D 1 0 0 1 1\nP\nD 2 0 0 1 1\nP\nD 3 0 0 1 1\nP\nD 3 0 0 1 1\n",
 ];
 
-/// Runs an input with so many batches ahead, and with the strategies that the program chooses.
+/// Runs an input with this many batches ahead, and with the strategies that the program chooses.
 fn run_by<R: Threads + Wait + Sync>(
     rt: &R,
     alloc: Global,
@@ -27,7 +28,7 @@ fn run_by<R: Threads + Wait + Sync>(
     run_words(rt, alloc, &words, input)
 }
 
-/// Whether runs with so many batches ahead and with none leave the same status, text and notes.
+/// Whether runs with this many batches ahead and with none leave the same status, text and notes.
 fn is_same<R: Threads + Wait + Sync>(
     rt: &R,
     alloc: Global,

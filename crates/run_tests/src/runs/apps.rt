@@ -40,7 +40,7 @@ fn speeds_are_averaged(rt: HostRuntime) -> Result<(), Fail> {
     )
 }
 
-/// Lines of so many reports of a speed of 10 on segment 0, each of another vehicle, at the times from 1 on.
+/// Lines of `count` reports of a speed of 10 on segment 0, each of another vehicle, at the times from 1 on.
 fn reports(alloc: Global, count: u64) -> Result<List<u8>, OutOfMemory> {
     let parts = [
         Part::Text(b"T "),

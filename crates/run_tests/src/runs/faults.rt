@@ -8,10 +8,10 @@ use std::sync::Wait;
 use std::test::Fail;
 use std::thread::Threads;
 
-/// What stands in the notes where the words are no settings.
+/// What stands in the notes if the words are no settings.
 const USAGE: &[u8] = b"usage: morph app=ledger|grep|toll [name=value ...]\n";
 
-/// Runs the program with these words on one line, and tells what it left and how many bytes of the line.
+/// Runs the program with these words on one line, and returns what it left and how many bytes of the line.
 fn run_unread<R: Threads + Wait + Sync>(
     rt: &R,
     alloc: Global,
@@ -99,7 +99,7 @@ struct Faults {
     stalls: &'static [u64],
 }
 
-/// Runs the ledger on an input with these faults, with so many batches ahead.
+/// Runs the ledger on an input with these faults, with this many batches ahead.
 fn run_failing<R: Threads + Wait + Sync>(
     rt: &R,
     alloc: Global,

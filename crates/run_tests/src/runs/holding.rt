@@ -35,7 +35,7 @@ fn a_held_worker_does_not_change_the_answer(rt: HostRuntime) -> Result<(), Fail>
     Ok(())
 }
 
-/// A deposit of 2,000, and 4,000 transfers of 1 from there, of which the first 2,000 find enough.
+/// A deposit of 2,000, and 4,000 transfers of 1 from there. The first 2,000 of them find enough.
 fn transfers(alloc: Global) -> Result<List<u8>, OutOfMemory> {
     let mut input = List::new(alloc);
     append(&mut input, b"D 1 0 0 2000 0\n")?;

@@ -131,7 +131,7 @@ fn comments_and_last_lines(rt: HostRuntime) -> Result<(), Fail> {
     expect(&rt, LEDGER, &ENDS)
 }
 
-/// A comment of so many bytes with a CR and an LF behind, and a deposit.
+/// A comment of `bytes` bytes with a CR and an LF behind it, and a deposit.
 fn comment_of(alloc: Global, bytes: usize) -> Result<List<u8>, OutOfMemory> {
     let mut input = List::filled(alloc, bytes, b'#')?;
     append(&mut input, b"\r\nD 1 0 0 100 5\n")?;
@@ -155,13 +155,13 @@ fn a_comment_has_at_most_a_thousand_bytes(rt: HostRuntime) -> Result<(), Fail> {
     Ok(())
 }
 
-/// Lines of so many deposits of 1 on account 0, at the times from 1 on.
+/// Lines of `count` deposits of 1 on account 0, at the times from 1 on.
 pub fn deposits(alloc: Global, count: u64) -> Result<List<u8>, OutOfMemory> {
     let parts = [Part::Text(b"D "), Part::Number, Part::Text(b" 0 0 1 0")];
     lines(alloc, count, &parts)
 }
 
-/// The text of so many of them, with `closing` behind the lines of the events.
+/// The text of `count` of them, with `closing` after the lines of the events.
 fn deposited_text(alloc: Global, count: u64, closing: &[u8]) -> Result<List<u8>, OutOfMemory> {
     let parts = [
         Part::Number,
@@ -188,7 +188,7 @@ fn a_batch_has_at_most_10240_events(rt: HostRuntime) -> Result<(), Fail> {
     )
 }
 
-/// The input of version 2 with so many deposits.
+/// The input of version 2 with `count` deposits.
 fn second(alloc: Global, count: u64) -> Result<List<u8>, OutOfMemory> {
     let mut input = List::new(alloc);
     append(&mut input, b"morph 2\n")?;

@@ -58,7 +58,7 @@ pub fn lines(alloc: Global, count: u64, parts: &[Part]) -> Result<List<u8>, OutO
     Ok(list)
 }
 
-/// The number that stands behind these bytes at the front of a text, and what is behind it.
+/// The number behind these bytes at the front of a text, and what follows it.
 pub fn number_behind<'a>(text: &'a [u8], front: &[u8]) -> Option<(u64, &'a [u8])> {
     let rest = text.strip_prefix(front)?;
     let mut number: u64 = 0;

@@ -24,7 +24,7 @@ fn append_payout(list: &mut List<u8>, ts: u64) -> Result<(), OutOfMemory> {
     append(list, b"\n")
 }
 
-/// So many payouts, whose operations, sixteen of each, all stand on level 1.
+/// `count` payouts, each of sixteen operations, which are all on level 1.
 fn payouts(alloc: Global, count: u64) -> Result<List<u8>, OutOfMemory> {
     let mut list = List::from_slice(alloc, b"morph 2\n")?;
     for ts in 1..=count {
@@ -33,7 +33,7 @@ fn payouts(alloc: Global, count: u64) -> Result<List<u8>, OutOfMemory> {
     Ok(list)
 }
 
-/// Where one worker did all before the other began, it would wait in vain for it.
+/// If one worker did all before the other began, it would wait in vain for it.
 #[test]
 fn two_workers_meet(rt: HostRuntime) -> Result<(), Fail> {
     let input = payouts(rt.alloc(), PAYOUTS)?;

@@ -1,4 +1,4 @@
-//! What stands in the notes where they are on.
+//! What stands in the notes if they are on.
 use super::{FOUR, FOUR_EVENTS, Ran, TWO, TWO_BATCHES, run_noted, sink_of, source_of};
 use morph_base::OutOfMemory;
 use std::alloc::Global;

@@ -6,7 +6,7 @@ use std::sync::Wait;
 use std::test::Fail;
 use std::thread::Threads;
 
-/// Runs the ledger on the four events, a byte a call, where the calls of the given numbers fail or stall.
+/// Runs the ledger on the four events, a byte a call. The calls of the given numbers fail or stall.
 fn run_by_bytes<R: Threads + Wait + Sync>(
     rt: &R,
     alloc: Global,
@@ -48,10 +48,10 @@ fn a_write_fails_or_stalls_at_each_byte(rt: HostRuntime) -> Result<(), Fail> {
     Ok(())
 }
 
-/// Two batches of one event, of which the second comes too late.
+/// Two batches of one event. The second comes too late.
 const TWO_BATCHES: &[u8] = b"D 5 0 0 1 1\nP\nD 5 0 0 1 1\n";
 
-/// Their text, and that of the first alone.
+/// Their text, and that of the first one only.
 const LATE: &[u8] = b"5 C 1 1\nrefused line 3: late\n";
 
 const ONE: &[u8] = b"5 C 1 1\nacct 0 1\nasset 0 1\ncommitted 1 aborted 0\n";

@@ -20,7 +20,7 @@ fn numbers_of(tally: Tally) -> [u64; 8] {
     ]
 }
 
-/// Whether the numbers of a tally go together, where batches are explored and abort so and there are so many workers.
+/// Whether the numbers of a tally go together, by how batches are explored and abort, and by the number of workers.
 pub fn is_balanced(tally: Tally, explore: Explore, abort: Abort, workers: usize) -> bool {
     let rounds: u64 = match abort {
         Abort::Lazy => 1,

@@ -22,8 +22,8 @@ struct Way {
     handed: [u64; 2],
 }
 
-/// With lazy abort each operation is made ready once. In the unit of operations it is handed out then; in chains a worker may
-/// make an operation ready on its way through a unit, and then it is handed out to nobody.
+/// With lazy abort each operation is made ready once. In the unit of operations it is handed out then; in chains a
+/// worker may make an operation ready on its way through a unit, and then it is handed out to nobody.
 static WAYS: [Way; 4] = [
     Way {
         explore: Explore::Strata,
@@ -110,7 +110,7 @@ fn no_strategy_changes_the_answer(rt: HostRuntime) -> Result<(), Fail> {
     Ok(())
 }
 
-/// Values up to 10^13, of which the second transfer finds too little.
+/// Values up to 10^13. The second transfer finds too little of them.
 const GREATER: &[u8] =
     b"morph 2\r\nD 1 0 0 10000000000000 5\nX 2 0 1 0 1 1 1 9999999999999\nX 3 0 1 0 1 1 1 9999999999999\n";
 
@@ -139,7 +139,7 @@ fn version_2_has_greater_values_and_a_floor(rt: HostRuntime) -> Result<(), Fail>
     Ok(())
 }
 
-/// The second event asks for too much of an asset, and its other operations hear of that at once.
+/// The second event asks for too much of an asset, and its other operations are told of that at once.
 #[test]
 fn a_failure_is_spread_at_once(rt: HostRuntime) -> Result<(), Fail> {
     for explore in [b"explore=strata".as_slice(), b"explore=steal"] {

@@ -6,7 +6,7 @@ use Rattle.event_reader.proofs.Opening.{keeps_same, same_both}
 use Rattle.rtrb.specs.Ring.{sent}
 use Rattle.batch_pipe.specs.declared.items.Sent.{Sent}
 use Rattle.batch_pipe.specs.Reading.{stand}
-use Rattle.batch_pipe.specs.Planning.{IsReady, PlansAhead, layout_by}
+use Rattle.batch_pipe.specs.Planning.{IsReadyPlan, PlansAhead, layout_by}
 use Rattle.batch_pipe.proofs.Ahead.{ahead_nothing, ahead_more, ahead_stop, same_producer, same_layout}
 use Rattle.batch_pipe.proofs.planner.plan_ahead.Goals as goal
 
@@ -34,7 +34,7 @@ planning-preserved g c =
     record {
       plans = ahead_more g.A.EventApp.event_of layout _ (greatest_of c.read_plan.new.reader.past.version) x i.plans c.in-Ok.ensures.plan
           (λ some. ap greatest_of (now_same.3.stays (omega (arith, some, i.plans.number_is, i.able.counted))))
-          (subst (λ (l : Layout). IsReady l (greatest_of c.read_plan.new.reader.past.version) c.in-Ok.plan) (same_layout g.A.EventApp.table_count p.reader c.planning.planner.reader i.same) c.in-Ok.ensures.ready)
+          (subst (λ (l : Layout). IsReadyPlan l (greatest_of c.read_plan.new.reader.past.version) c.in-Ok.plan) (same_layout g.A.EventApp.table_count p.reader c.planning.planner.reader i.same) c.in-Ok.ensures.ready)
           (pushed.sent.0 ∙ ap (λ l. l ++ x ∷ []) looked.1) refl refl;
       ring = same_producer p.ring c.is_full.new.self c.push_reserved.new.self
           (same_producer p.ring c.planning.planner.ring c.is_full.new.self i.ring looked.0) pushed.ring;

@@ -7,7 +7,7 @@ use Rattle.morph_base.specs.Flat.{contents}
 use Rattle.morph_base.specs.States.{IsUpTo}
 use Rattle.rtrb.specs.Ring.{known_items, received}
 use Rattle.batch_pipe.specs.declared.items.Sent.{Sent}
-use Rattle.batch_pipe.specs.Planning.{IsReady}
+use Rattle.batch_pipe.specs.Planning.{IsReadyPlan}
 use Rattle.batch_pipe.specs.Running.{IsRunnable, Runs, Desk, Manner, desk, manner, one_or_none}
 use Rattle.batch_pipe.proofs.Desks.{runs_stay, runs_as, runs_both, all_middle, empty_is}
 use Rattle.batch_pipe.proofs.Ahead.{same_consumer, same_ring}
@@ -20,7 +20,7 @@ run_first-requires-clause-ready g c κs within =
     let w = c.requires.waiting in
     let engine = c.args.runner.now.engine in
     some_is c.args.first (λ (x : Sent). IsRunnable engine x.plan)
-    (All-weaker (λ (x : Sent). IsReady engine.layout w.high x.plan) (λ (x : Sent). IsRunnable engine x.plan) (λ x ready. runnable engine.layout w.high engine x.plan refl ready w.small)
+    (All-weaker (λ (x : Sent). IsReadyPlan engine.layout w.high x.plan) (λ (x : Sent). IsRunnable engine x.plan) (λ x ready. runnable engine.layout w.high engine x.plan refl ready w.small)
     (one_or_none c.args.first) w.first_ready)
 
 pub returns-then-not-run_first : goal.returns-then-not-run_first
@@ -78,7 +78,7 @@ run_into-requires-clause-ready g c κs within =
     let w = c.requires.waiting in
     let old = c.args.runner.now in
     let layout : Layout = old.engine.layout in
-    let Ready : Sent → Type 0 = λ x. IsReady layout w.high x.plan in
+    let Ready : Sent → Type 0 = λ x. IsReadyPlan layout w.high x.plan in
     let front = All-append Ready (one_or_none c.args.first) i.popped w.first_ready (all_front Ready i.popped (known_items c.loop.runner.ring) (subst (All Ready) i.known_is w.ready)) in
     let small : IsUpTo w.high (contents c.loop.runner.engine) = rw i.run.state_is (state_after-within layout w.high (contents old.engine) (one_or_none c.args.first ++ i.popped) front w.small) in
     runnable layout w.high c.loop.runner.engine c.pop_known-sent.result.plan i.layout

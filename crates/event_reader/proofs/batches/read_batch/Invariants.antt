@@ -2,7 +2,7 @@ use Rattle.std.proofs.Common.{◌≡◌, false, ◌+◌, ◌-◌, ◌<◌, ◌�
 use Rattle.std.specs.Prelude.{IsTrue}
 use Rattle.morph_io.specs.Told.{IsAtEnd}
 use Rattle.event_reader.specs.declared.version.Version.TheVariants.{One}
-use Rattle.event_reader.specs.Pending.{batch_of, Notes, IsSound}
+use Rattle.event_reader.specs.Pending.{batch_of, Notes, IsSoundBatch}
 use Rattle.event_reader.specs.Reader.{KnowsVersion, reading_of}
 use Rattle.event_reader.proofs.BatchAskings.{AskedTo}
 use Rattle.event_reader.proofs.batches.read_batch.Given as goal
@@ -16,7 +16,7 @@ invariant-lines g l = record {
   start : l.lines.number ≡ l.initial.lines.number → reading_of l.lines (g.S.Source.left l.source) ≡ reading_of l.initial.lines (g.S.Source.left l.initial.source);
   same : 0 < l.initial.lines.number → l.past.version ≡ l.initial.past.version;
   notes : Notes l.initial.past.closed l.pending;
-  sound : IsSound l.past.version (record { tables = g.A.EventApp.table_count l.app; size = l.size }) (batch_of l.pending);
+  sound : IsSoundBatch l.past.version (record { tables = g.A.EventApp.table_count l.app; size = l.size }) (batch_of l.pending);
   counted : l.initial.lines.number + length (batch_of l.pending) ≤ l.lines.number;
   limit : l.lines.limit ≡ l.initial.lines.limit;
   live : IsTrue l.lines.live;

@@ -2,7 +2,7 @@ use Rattle.std.proofs.Common.{◌<◌, ◌≤◌, length, sym, ap, subst, ◌∙
 use Rattle.std.specs.Prelude.{All}
 use Rattle.morph_base.specs.declared.limits.TheConstants.{EVENT_OPS}
 use Rattle.morph_base.specs.declared.plan.Plan.{Plan}
-use Rattle.precedence_graph.specs.Planned.{IsReady}
+use Rattle.precedence_graph.specs.Planned.{IsSoundPlanOp}
 use Rattle.precedence_graph.proofs.ReadyLemmas.{all_ready, levels_positive, ops_few}
 use Rattle.precedence_graph.proofs.EventLemmas.{event_levels_positive, event_counts, events_few}
 use Rattle.precedence_graph.proofs.BuiltLemmas.{op_column, event_of_column, event_column, transactions_same}
@@ -14,7 +14,7 @@ pub dependents-requires-clause-ready : goal.dependents-requires-clause-ready
 dependents-requires-clause-ready c =
     let x = c.args.txns.now in
     let ops = c.in_ok-ops.field-0.ops.items in
-    subst (λ os. All (IsReady (length os)) os) (sym c.as_slice-planned.ensures) (all_ready x c.requires ops c.in_ok-ops.ensures.ops)
+    subst (λ os. All (IsSoundPlanOp (length os)) os) (sym c.as_slice-planned.ensures) (all_ready x c.requires ops c.in_ok-ops.ensures.ops)
 
 pub dependents-requires-clause-few : goal.dependents-requires-clause-few
 dependents-requires-clause-few c =

@@ -1,7 +1,7 @@
 use Rattle.std.proofs.Common.{sym, subst}
 use Rattle.op_words.specs.Hands.{cap_of}
 use Rattle.abort_eager.proofs.Sweeping.{cause_shown}
-use Rattle.steal_explorer.specs.Alone.{IsHandingAlone, IsRun, ServesAlone}
+use Rattle.steal_explorer.specs.Alone.{IsHandingAlone, HasRunOp, ServesAlone}
 use Rattle.steal_explorer.specs.Serving.{readers}
 use Rattle.steal_explorer.proofs.Cascading.{none_under_lazy}
 use Rattle.steal_explorer.proofs.Going.{goes_none, visited, serves_first, asked_where, none_asked}
@@ -34,7 +34,7 @@ returns-in-Evaluated-clause-alone g c = λ lazy some is.
     let handing = subst (IsHandingAlone p (readers p c.args.op)) (sym still) made.0 in
     record {
       handing = c.ask_all.ensures.alone handing;
-      ran = λ _. goes_ran p c.requires.ground.valid _ c.sweep.new.member _ lazy c.ask_all.new.member c.ask_all.ensures.goes handing.lone c.args.op (subst (IsRun c.args.op) (sym still) made.1);
+      ran = λ _. goes_ran p c.requires.ground.valid _ c.sweep.new.member _ lazy c.ask_all.new.member c.ask_all.ensures.goes handing.lone c.args.op (subst (HasRunOp c.args.op) (sym still) made.1);
     }
 
 pub returns-in_default : goal.returns-in_default

@@ -1,20 +1,20 @@
 use Rattle.std.specs.Prelude.{length}
 use Rattle.op_words.specs.Hands.{cap_of}
-use Rattle.op_eval.specs.Running.{hand_view}
+use Rattle.op_eval.specs.Running.{hand_view, IsFreeRunner}
 use Rattle.abort_eager.specs.Targets.{targets, targets_left, IsCascade}
 use Rattle.abort_eager.specs.Touching.{HasCause}
 use Rattle.steal_explorer.specs.declared.members.Member.{Member}
-use Rattle.steal_explorer.specs.Members.{IsIdle, HasDeque}
-use Rattle.steal_explorer.specs.Serving.{Goes, TouchesAll}
+use Rattle.steal_explorer.specs.Members.{HasDeque}
+use Rattle.steal_explorer.specs.Serving.{ServesOn, TouchesAll}
 use Rattle.steal_explorer.proofs.sweeping.run_cascade.Given as goal
 
 abbrev pub invariant-loop-cascade : goal.invariant-loop-cascade
 invariant-loop-cascade g l =
-    IsIdle l.ground.board.now l.member.runner
+    IsFreeRunner l.ground.board.now l.member.runner
     × HasDeque l.ground.plan.now l.member
     × IsCascade l.ground.plan.now l.cascade
     × HasCause l.cascade (hand_view l.member.runner)
-    × Goes l.ground.plan.now (cap_of l.ground.board.now) l.ground.abort l.fn.member l.member
+    × ServesOn l.ground.plan.now (cap_of l.ground.board.now) l.ground.abort l.fn.member l.member
     × ((u : Member) → TouchesAll l.ground.plan.now (cap_of l.ground.board.now) l.ground.abort (targets_left l.ground.plan.now l.cascade) l.member u
     → TouchesAll l.ground.plan.now (cap_of l.ground.board.now) l.ground.abort (targets l.ground.plan.now l.op l.failed) l.fn.member u)
 

@@ -1,7 +1,7 @@
 use Rattle.std.proofs.Common.{refl, sym, subst}
 use Rattle.op_words.specs.Hands.{cap_of}
 use Rattle.abort_eager.proofs.Touching.{next_in_range}
-use Rattle.steal_explorer.specs.Serving.{Goes}
+use Rattle.steal_explorer.specs.Serving.{ServesOn}
 use Rattle.steal_explorer.proofs.Cascading.{cause_kept, goes_touched, touches_next, left_as}
 use Rattle.steal_explorer.proofs.Going.{goes_none, goes_then}
 use Rattle.steal_explorer.proofs.sweeping.touch_next.Goals as goal
@@ -25,4 +25,4 @@ returns-in-Some-clause-does g c =
 
 pub returns-in-None-clause-goes : goal.returns-in-None-clause-goes
 returns-in-None-clause-goes g c =
-    subst (Goes c.args.ground.now.plan.now (cap_of c.args.ground.now.board.now) c.args.ground.now.abort c.args.member.now) (sym (left_as c.args.member.now c.next.new.hand (c.in-None.ensures.still refl))) (goes_none _ _ _ _)
+    subst (ServesOn c.args.ground.now.plan.now (cap_of c.args.ground.now.board.now) c.args.ground.now.abort c.args.member.now) (sym (left_as c.args.member.now c.next.new.hand (c.in-None.ensures.still refl))) (goes_none _ _ _ _)

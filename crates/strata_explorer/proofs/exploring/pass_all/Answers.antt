@@ -1,6 +1,6 @@
 use Rattle.std.proofs.Common.{refl, subst, ◌∙◌, [], ◌∷◌, arith}
 use Rattle.op_words.specs.Hands.{cap_of}
-use Rattle.strata_explorer.specs.Levels.{ops_of, Follows}
+use Rattle.strata_explorer.specs.Levels.{ops_of, FollowsPass}
 use Rattle.strata_explorer.specs.Passes.{IsPassed}
 use Rattle.strata_explorer.proofs.Ascending.{climbing_none, climbing_more, ends_whole}
 use Rattle.strata_explorer.proofs.Leveling.{levels_of}
@@ -26,7 +26,7 @@ loop-level-preserved g c =
       omega (arith, c.if-passes-most.true, c.counters-most.ensures),
       climbing_more p (cap_of c.args.board.now) c.args.course.now.abort c.args.course.now.units.now.units c.requires.valid.plan c.args.course.now.units.now.ops levels level counter c.pass_once-level.result c.args.runners.now rs qs is.5 (omega (arith, c.loop-level-test.true, c.len-levels.ensures))
           (subst (λ cap. IsPassed p cap c.args.course.now.abort c.args.course.now.units.now.units counter (ops_of p level) rs qs) is.2 pass.passed)
-          (subst (λ cap. Follows p cap c.args.course.now.abort c.pass_once-level.result (level ∷ []) rs qs) is.2 pass.next),
+          (subst (λ cap. FollowsPass p cap c.args.course.now.abort c.pass_once-level.result (level ∷ []) rs qs) is.2 pass.next),
     )
 
 pub returns-else-level-levels-clause-passed : goal.returns-else-level-levels-clause-passed

@@ -1,13 +1,13 @@
 use Rattle.std.specs.Prelude.{◌≡◌, ◌≤◌, ◌-◌, All}
 use Rattle.op_words.specs.Hands.{plan_of, cap_of, counters_of}
 use Rattle.strata_explorer.specs.Levels.{counters_for}
-use Rattle.strata_explorer.specs.Passes.{IsSeated}
+use Rattle.op_eval.specs.Running.{IsFreeRunner}
 use Rattle.strata_explorer.proofs.Ascending.{IsClimbing}
 use Rattle.strata_explorer.proofs.exploring.pass_all.Given as goal
 
 abbrev pub invariant-loop-level : goal.invariant-loop-level
 invariant-loop-level g l =
-    All (IsSeated l.board) l.runners
+    All (IsFreeRunner l.board) l.runners
     × (plan_of l.board ≡ plan_of l.fn.board)
     × (cap_of l.board ≡ cap_of l.fn.board)
     × (counters_of l.board ≡ counters_of l.fn.board)

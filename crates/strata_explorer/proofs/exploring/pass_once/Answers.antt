@@ -2,7 +2,7 @@ use Rattle.std.proofs.Common.{length, sym, subst, arith}
 use Rattle.std.specs.Prelude.{slice_index_or}
 use Rattle.op_words.specs.Hands.{cap_of}
 use Rattle.op_eval.specs.Turns.{IsEnough}
-use Rattle.strata_explorer.specs.Passes.{Fits, IsPassed}
+use Rattle.strata_explorer.specs.Passes.{FitsPass, IsPassed}
 use Rattle.strata_explorer.specs.Levels.{ops_of}
 use Rattle.strata_explorer.proofs.Between.{passed_between}
 use Rattle.strata_explorer.proofs.Climbing.{level_is}
@@ -13,7 +13,7 @@ use Rattle.strata_explorer.proofs.exploring.pass_once.Goals as goal
 pub pass_by-requires-clause-fits : goal.pass_by-requires-clause-fits
 pass_by-requires-clause-fits g c κs within =
     let levels = levels_of c.args.course.now.plan.now c.requires.valid c.args.course.now.units.now.units c.args.course.now.units.now.ops c.requires.units c.requires.number in
-    subst (λ ops. Fits c.args.course.now.plan.now c.args.course.now.units.now.units c.args.course.now.units.now.ops ops)
+    subst (λ ops. FitsPass c.args.course.now.plan.now c.args.course.now.units.now.units c.args.course.now.units.now.ops ops)
     (sym (level_is c.args.course.now.plan.now c.args.level c.requires.level _ c.get.ensures.at _ c.as_slice.ensures)) (levels.fits c.args.level)
 
 pub next_level-requires-clause-small : goal.next_level-requires-clause-small

@@ -1,11 +1,11 @@
 use Rattle.std.proofs.Common.{arith}
 use Rattle.worker_gate.proofs.Sharing.{shared_where_many}
-use Rattle.strata_explorer.specs.Passes.{IsSeated}
+use Rattle.op_eval.specs.Running.{IsFreeRunner}
 use Rattle.strata_explorer.proofs.Climbing.{first_passed, first_set}
 use Rattle.strata_explorer.proofs.passing.pass_by.Goals as goal
 
 pub returns-then-is_few-clause-seated : goal.returns-then-is_few-clause-seated
-returns-then-is_few-clause-seated g c = first_set (IsSeated c.args.pass.now.ground.board.now) c.args.runners.now c.run.new.worker c.requires.seated c.run.ensures.0
+returns-then-is_few-clause-seated g c = first_set (IsFreeRunner c.args.pass.now.ground.board.now) c.args.runners.now c.run.new.worker c.requires.seated c.run.ensures.0
 
 pub returns-then-is_few-clause-does : goal.returns-then-is_few-clause-does
 returns-then-is_few-clause-does g c =

@@ -1,5 +1,5 @@
 use Rattle.std.proofs.Common.{sym, subst}
-use Rattle.op_words.specs.Closing.{Ends, words_of}
+use Rattle.op_words.specs.Closing.{EndsSound, words_of}
 use Rattle.op_words.specs.Hands.{view_of, cap_of, counters_of}
 use Rattle.op_eval.specs.Gathering.{runners_of}
 use Rattle.abort_lazy.specs.Ended.{AreCauses}
@@ -19,8 +19,8 @@ pub returns-clause-tried : goal.returns-clause-tried
 returns-clause-tried c = λ from start valid begun settling.
     all_tried c.args.plan.now valid c.args.self.board from start (runners_of c.args.self.runners) begun settling c.requires.run.rest.some
     (λ d.
-    subst (λ v. Ends c.args.plan.now (cap_of c.args.self.board) (counters_of c.args.self.board) (words_of c.close.result) v) (c.gather-root.ensures.view d)
-    (subst (λ p. Ends p (cap_of c.args.self.board) (counters_of c.args.self.board) (words_of c.close.result) (view_of c.gather-root.result.0)) (sym c.requires.plan) c.close.ensures.ends))
+    subst (λ v. EndsSound c.args.plan.now (cap_of c.args.self.board) (counters_of c.args.self.board) (words_of c.close.result) v) (c.gather-root.ensures.view d)
+    (subst (λ p. EndsSound p (cap_of c.args.self.board) (counters_of c.args.self.board) (words_of c.close.result) (view_of c.gather-root.result.0)) (sym c.requires.plan) c.close.ensures.ends))
 
 pub returns-clause-causes : goal.returns-clause-causes
 returns-clause-causes c = λ d from start is valid begun settling.

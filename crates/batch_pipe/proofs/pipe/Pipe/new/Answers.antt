@@ -5,7 +5,7 @@ use Rattle.event_reader.specs.Versions.{greatest_of}
 use Rattle.rtrb.specs.Ring.{known_items}
 use Rattle.batch_pipe.specs.declared.items.Sent.{Sent}
 use Rattle.batch_pipe.specs.declared.items.Ran.{Ran}
-use Rattle.batch_pipe.specs.Planning.{IsReady, AreNumbered}
+use Rattle.batch_pipe.specs.Planning.{IsReadyPlan, AreNumbered}
 use Rattle.batch_pipe.specs.Running.{somes}
 use Rattle.decision_model.specs.Choices.{no_last}
 use Rattle.batch_pipe.specs.Waiting.{PipeView}
@@ -32,7 +32,7 @@ invariant_of-result g c =
       some = omega (arith, places, c.requires.some);
       few = omega (arith, places, c.requires.few);
       small = c.requires.small;
-      ready = subst (All (λ (x : Sent). IsReady c.args.engine.layout (greatest_of c.args.reader.past.version) x.plan)) (sym none) (λ k d lt. absurd (omega arith));
+      ready = subst (All (λ (x : Sent). IsReadyPlan c.args.engine.layout (greatest_of c.args.reader.past.version) x.plan)) (sym none) (λ k d lt. absurd (omega arith));
       numbered = subst (λ (n : ℕ). AreNumbered n (known_items c.in_ok-producer.consumer)) (sym zero_is) (subst (λ (l : List Sent). AreNumbered 0 l) (sym none) numbered_none);
       number = omega (arith, few);
       layout = c.requires.layout;

@@ -9,7 +9,7 @@ use Rattle.event_reader.specs.Reader.{ReaderView}
 use Rattle.rtrb.specs.Ring.{sent, received, known_items, known_free, producer_capacity}
 use Rattle.batch_pipe.specs.declared.items.Sent.{Sent}
 use Rattle.batch_pipe.specs.Reading.{stand}
-use Rattle.batch_pipe.specs.Planning.{IsReady, PlansAhead, CanPlan, layout_by}
+use Rattle.batch_pipe.specs.Planning.{IsReadyPlan, PlansAhead, CanPlan, layout_by}
 use Rattle.batch_pipe.specs.Running.{Manner, manner, somes, one_or_none}
 use Rattle.batch_pipe.specs.Waiting.{PipeView, IsGoing, IsRound}
 use Rattle.batch_pipe.specs.Inside.{view_of}
@@ -81,8 +81,8 @@ run_halves-stop-requires-clause-waiting g c κs within =
     record {
       high = high;
       small = λ key. le_trans (i.small key) c.in-Ok.ensures.same.3.rises;
-      first_ready = subst (λ (l : Layout). All (λ (x : Sent). IsReady l high x.plan) first) (sym i.layout)
-          (subst (All (λ (x : Sent). IsReady layout high x.plan)) (sym f.sent_is) f.ready);
+      first_ready = subst (λ (l : Layout). All (λ (x : Sent). IsReadyPlan l high x.plan) first) (sym i.layout)
+          (subst (All (λ (x : Sent). IsReadyPlan layout high x.plan)) (sym f.sent_is) f.ready);
       ready = waits_ready g.A.EventApp.event_of p.runner.engine.layout p.planner.reader c.read_first.new.planner.reader a.waiting c.asks_first-asked.result
           (λ e. (let met = c.asks_first-asked.ensures.0 e in let many = c.cached_slots.ensures in omega (arith, met.1, many))) (λ e. (c.in-Ok.ensures.idle e).1) i.ready;
       empty = ap (λ (v : PipeView g.row.A.Denot). v.rans) c.self.view_is ∙ c.requires.none;
@@ -172,15 +172,15 @@ invariant_of-self-2 g c =
     let known : List Sent = known_items n.runner.ring in
     let then : ℕ = greatest_of old.reader.past.version in
     let now : ℕ = greatest_of n.planner.reader.past.version in
-    let Old : Sent → Type 0 = λ x. IsReady p.runner.engine.layout then x.plan in
-    let Ready : Sent → Type 0 = λ x. IsReady layout then x.plan in
+    let Old : Sent → Type 0 = λ x. IsReadyPlan p.runner.engine.layout then x.plan in
+    let Ready : Sent → Type 0 = λ x. IsReadyPlan layout then x.plan in
     let waited : All Old (r.popped ++ known) = subst (All Old) r.known_is
     (waits_ready g.A.EventApp.event_of p.runner.engine.layout p.planner.reader old.reader a.waiting c.asks_first-asked.result
     (λ e. (let met = c.asks_first-asked.ensures.0 e in let many = c.cached_slots.ensures in omega (arith, met.1, many))) (λ e. (f.idle e).1) i.ready) in
-    let popped' : All Ready r.popped = subst (λ (l : Layout). All (λ (x : Sent). IsReady l then x.plan) r.popped) i.layout (all_front Old r.popped known waited) in
+    let popped' : All Ready r.popped = subst (λ (l : Layout). All (λ (x : Sent). IsReadyPlan l then x.plan) r.popped) i.layout (all_front Old r.popped known waited) in
     let first' : All Ready (one_or_none c.in-Ok.first) = subst (All Ready) (sym f.plans.sent_is) f.plans.ready in
     let runs' : All Ready r.runs = all_front Ready r.runs r.lost (subst (All Ready) r.parts (All-append Ready (one_or_none c.in-Ok.first) r.popped first' popped')) in
-    let back' : All (λ (x : Sent). IsReady layout now x.plan) known =
+    let back' : All (λ (x : Sent). IsReadyPlan layout now x.plan) known =
     ready_as g.A.EventApp.event_of layout then now known (λ some.
     halves_keep old.reader n.planner.reader c.is_none-planning.result
     (λ planning.
@@ -189,13 +189,13 @@ invariant_of-self-2 g c =
     let both = length-append r.popped known in
     omega (arith, some, parts, both, i.number, able.counted, f.same.3.numbered))
     h.same.3 (λ off. (h.idle off).2))
-    (subst (λ (l : Layout). All (λ (x : Sent). IsReady l then x.plan) known) i.layout (all_back Old r.popped known waited)) in
-    let more' = subst (λ (l : Layout). All (λ (x : Sent). IsReady l now x.plan) h.plans.more) first_layout h.plans.ready in
+    (subst (λ (l : Layout). All (λ (x : Sent). IsReadyPlan l then x.plan) known) i.layout (all_back Old r.popped known waited)) in
+    let more' = subst (λ (l : Layout). All (λ (x : Sent). IsReadyPlan l now x.plan) h.plans.more) first_layout h.plans.ready in
     let before = i.fifo ∙ ap (λ r. sent r) (sym f.ring) in
     let after = ap (λ l. l ++ known_items c.bring_together.new.consumer) (sym bt.receiving.1) ∙ bt.fifo ∙ bt.sending.1 in
     let waits : b.waiting ≡ known ++ h.plans.more = waiting_is g.A.EventApp.event_of layout m (received p.runner.ring) (received n.runner.ring) a.waiting b.waiting known
     (sent old.ring) (sent n.planner.ring) r.popped h.plans.more before after h.plans.sent_is r.known_is r.received_is in
-    let ready' = subst (All (λ (x : Sent). IsReady layout now x.plan)) (sym waits) (All-append (λ (x : Sent). IsReady layout now x.plan) known h.plans.more back' more') in
+    let ready' = subst (All (λ (x : Sent). IsReadyPlan layout now x.plan)) (sym waits) (All-append (λ (x : Sent). IsReadyPlan layout now x.plan) known h.plans.more back' more') in
     record {
       pair = bt.pair;
       fifo = bt.fifo;
@@ -205,7 +205,7 @@ invariant_of-self-2 g c =
       some = omega (arith, many, i.some);
       few = omega (arith, many, i.few);
       small = λ key. le_trans (rw r.run.state_is (state_after-within layout then (contents p.runner.engine) r.runs runs' (λ k. le_trans (i.small k) f.same.3.rises) key)) h.same.3.rises;
-      ready = subst (λ (l : Layout). All (λ (x : Sent). IsReady l now x.plan) b.waiting) (sym layout_is) ready';
+      ready = subst (λ (l : Layout). All (λ (x : Sent). IsReadyPlan l now x.plan) b.waiting) (sym layout_is) ready';
       numbered = next.0;
       number = next.1;
       layout = layout_is ∙ sym tables_are;

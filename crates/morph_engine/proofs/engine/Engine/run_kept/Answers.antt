@@ -2,7 +2,7 @@ use Rattle.std.proofs.Common.{◌≡◌, ◌≤◌, ◌+◌, ◌*◌, ℕ, ap, a
 use Rattle.morph_base.specs.declared.limits.TheConstants.{EVENT_OPS, EVENTS}
 use Rattle.morph_base.specs.Plans.{op_count}
 use Rattle.morph_base.proofs.NumberLaws.{op_count-small}
-use Rattle.morph_engine.specs.Runs.{IsKept, journal_room}
+use Rattle.morph_engine.specs.Runs.{IsJournalledRun, journal_room}
 use Rattle.morph_engine.proofs.Ended.{end_by}
 use Rattle.morph_engine.proofs.engine.Engine.run_kept.Goals as goal
 
@@ -35,5 +35,5 @@ room_for-room-requires g c =
 pub returns-clause-kept : goal.returns-clause-kept
 returns-clause-kept g c =
     let room : c.room_for-room.result ≡ journal_room c.args.plan = c.room_for-room.ensures ∙ ap (λ (n : ℕ). 32 * n + 64) c.len.ensures in
-    subst (λ (n : ℕ). IsKept c.args.plan c.args.strategy.now.abort n c.run_prepared.result.closed) room
+    subst (λ (n : ℕ). IsJournalledRun c.args.plan c.args.strategy.now.abort n c.run_prepared.result.closed) room
     (c.run_prepared.ensures.kept c.room_for-room.result c.in_ok-prepared.ensures.journal c.in_ok-prepared.ensures.workers)

@@ -9,7 +9,7 @@ use Rattle.op_words.specs.declared.closed.Closed.{Closed}
 use Rattle.op_eval.specs.declared.answers.Left.{Left}
 use Rattle.op_eval.specs.Gathering.{runners_of}
 use Rattle.morph_engine.specs.Caps.{cap_for}
-use Rattle.morph_engine.specs.Runs.{HasRun, IsKept}
+use Rattle.morph_engine.specs.Runs.{HasRun, IsJournalledRun}
 use Rattle.morph_engine.proofs.Accounting.{is_account, causes_in}
 use Rattle.morph_engine.proofs.Told.{settled_fates-are}
 use Rattle.morph_engine.proofs.engine.Engine.run_prepared.Goals as goal
@@ -43,7 +43,7 @@ returns-clause-ran g c =
     }
 
 pub returns-clause-kept : goal.returns-clause-kept
-returns-clause-kept g c = λ room fits one. subst (λ (a : Abort). IsKept c.args.plan a room c.run-settled.result.closed) c.requires.abort (c.run-settled.ensures.kept room fits one)
+returns-clause-kept g c = λ room fits one. subst (λ (a : Abort). IsJournalledRun c.args.plan a room c.run-settled.result.closed) c.requires.abort (c.run-settled.ensures.kept room fits one)
 
 pub apply-requires-clause-bases : goal.apply-requires-clause-bases
 apply-requires-clause-bases g c = subst (λ (s : Kept). HasBases c.args.plan (contents s)) (sym c.self.view_is) c.requires.bases

@@ -1,7 +1,7 @@
 use Rattle.std.proofs.Common.{◌≡◌, ◌+◌, Bool, true, false, sym, subst}
 use Rattle.op_words.specs.Judging.{DecideDoes, decided_as}
 use Rattle.op_words.specs.Hands.{cap_of, view_of}
-use Rattle.op_words.specs.Comparing.{HasGrounds, MaySayOf}
+use Rattle.op_words.specs.Comparing.{HasFoundGrounds, MaySayOf}
 use Rattle.op_words.specs.Stepping.{Learned}
 use Rattle.morph_base.specs.Plans.{event_at}
 use Rattle.op_words.proofs.Weighing.{decided_before, decided_now, may_say, undecided}
@@ -17,7 +17,7 @@ pub returns-in-NotYet-clause-does : goal.returns-in-NotYet-clause-does
 returns-in-NotYet-clause-does c =
     let b = c.args.self.now in let p = c.args.plan.now in let i = c.args.event in
     undecided b p (cap_of b) i c.requires.plan c.args.hand.now c.learn.new.hand (subst (Learned b i c.args.hand.now c.learn.new.hand) c.in_default.is c.learn.ensures) c.requires.hand c.grounds.new.hand c.in-NotYet.op c.in-NotYet.word
-    (subst (HasGrounds b p (cap_of b) i (event_at p i).first ((event_at p i).first + (event_at p i).count) c.learn.new.hand c.grounds.new.hand) c.in-NotYet.is c.grounds.ensures)
+    (subst (HasFoundGrounds b p (cap_of b) i (event_at p i).first ((event_at p i).first + (event_at p i).count) c.learn.new.hand c.grounds.new.hand) c.in-NotYet.is c.grounds.ensures)
 
 pub returns-clause-does : goal.returns-clause-does
 returns-clause-does c =

@@ -5,7 +5,7 @@ use Rattle.morph_base.proofs.NumberLaws.{op_count-small}
 use Rattle.morph_base.proofs.PlanLaws.{end_in_range}
 use Rattle.op_words.specs.declared.answers.Decided.TheVariants.{Committed, Aborted}
 use Rattle.op_words.specs.Hands.{cap_of}
-use Rattle.op_words.specs.Comparing.{HasGrounds}
+use Rattle.op_words.specs.Comparing.{HasFoundGrounds}
 use Rattle.op_words.proofs.Weighing.{grounds_none, grounds_more, grounds_bad, and_fine, within_event}
 use Rattle.op_words.proofs.board.Board.grounds.Goals as goal
 
@@ -49,7 +49,7 @@ returns-in-Aborted c =
     let b = c.args.self.now in let p = c.args.plan.now in
     let valid = subst IsPlan (sym c.requires.plan) c.requires.hand.valid in
     let entry : c.get-entry.result.now ≡ event_at p c.args.event = c.get-entry.ensures.at no_event in
-    subst (λ (e : PlanEvent). HasGrounds b p (cap_of b) c.args.event e.first (e.first + e.count) c.args.hand.now c.weigh-next.new.hand c.weigh-next.result) entry
+    subst (λ (e : PlanEvent). HasFoundGrounds b p (cap_of b) c.args.event e.first (e.first + e.count) c.args.hand.now c.weigh-next.new.hand c.weigh-next.result) entry
     (grounds_bad b p (cap_of b) c.args.event _ valid c.requires.in_range (begins _ _ entry) c.loop-op.op (within_event p c.args.event _ c.loop-op.op entry c.loop-op.auto.op c.loop-op-test.true) c.loop-op.grounds c.weigh-next.result c.loop-op.invariant.0 c.weigh-next.ensures c.in-Aborted.is _)
 
 pub loop-op-preserved : goal.loop-op-preserved
@@ -69,5 +69,5 @@ returns c =
     let entry : c.get-entry.result.now ≡ event_at p c.args.event = c.get-entry.ensures.at no_event in
     let low = c.loop-op.auto.op-end in let high = c.loop-op-test.false in let below = c.loop-op.auto in
     let end : c.loop-op.op ≡ c.get-entry.result.now.first + c.get-entry.result.now.count = omega (arith, low, high, below) in
-    subst (λ (e : PlanEvent). HasGrounds b p (cap_of b) c.args.event e.first (e.first + e.count) c.args.hand.now c.loop-op.hand c.loop-op.grounds) entry
-    (subst (λ (n : ℕ). HasGrounds b p (cap_of b) c.args.event c.get-entry.result.now.first n c.args.hand.now c.loop-op.hand c.loop-op.grounds) end c.loop-op.invariant.0)
+    subst (λ (e : PlanEvent). HasFoundGrounds b p (cap_of b) c.args.event e.first (e.first + e.count) c.args.hand.now c.loop-op.hand c.loop-op.grounds) entry
+    (subst (λ (n : ℕ). HasFoundGrounds b p (cap_of b) c.args.event c.get-entry.result.now.first n c.args.hand.now c.loop-op.hand c.loop-op.grounds) end c.loop-op.invariant.0)

@@ -3,7 +3,7 @@ use Rattle.morph_base.specs.Plans.{IsPlan}
 use Rattle.morph_base.specs.declared.plan.Plan.{Plan}
 use Rattle.morph_base.specs.Limits.{most_attempts}
 use Rattle.op_words.specs.declared.rule.Known.{Known}
-use Rattle.op_words.specs.Layout.{AreFirst}
+use Rattle.op_words.specs.Layout.{AreFirstWords}
 use Rattle.op_words.specs.Rule.{first_view}
 use Rattle.op_words.proofs.Handing.{first_hand}
 use Rattle.op_words.proofs.Opening.{opens}
@@ -11,8 +11,8 @@ use Rattle.op_words.proofs.board.Board.new.Goals as goal
 
 pub of_words-requires : goal.of_words-requires
 of_words-requires c =
-    let first : AreFirst c.of.result.value c.args.counters c.as_slice.result.now =
-    subst (λ (z : Plan × List ℕ). AreFirst z.0 c.args.counters z.1) (λ i. (sym c.of.ensures i, sym c.as_slice.ensures.value i)) c.in_ok-words.ensures in
+    let first : AreFirstWords c.of.result.value c.args.counters c.as_slice.result.now =
+    subst (λ (z : Plan × List ℕ). AreFirstWords z.0 c.args.counters z.1) (λ i. (sym c.of.ensures i, sym c.as_slice.ensures.value i)) c.in_ok-words.ensures in
     opens _ _ c.of.result _ (subst IsPlan (sym c.of.ensures) c.requires.plan) c.requires.cap first
 
 pub returns-clause-hand : goal.returns-clause-hand

@@ -3,7 +3,7 @@ use Rattle.std.specs.Prelude.{Result}
 use Rattle.interleaving_core.specs.Core.{places}
 use Rattle.op_words.specs.declared.answers.Stop.{Stop}
 use Rattle.op_words.specs.declared.trail.View.{View}
-use Rattle.op_words.specs.Grounds.{SourceDoes, OpenDoes, IsSettledUpTo}
+use Rattle.op_words.specs.Grounds.{SourceDoes, OpenDoes, IsSettledUpToPlace}
 use Rattle.op_words.proofs.Looking.{open_none, settled_none, settled_more, settled_stop, settled_all}
 use Rattle.op_words.proofs.board.Board.open_source.Goals as goal
 
@@ -35,4 +35,4 @@ pub returns : goal.returns
 returns c =
     let e : c.loop-k.k ≡ places c.args.plan.now c.args.op = (let b = c.loop-k-test.false in let a = c.loop-k.auto.k-end in let p = c.places_of-k-end.ensures.places in omega (arith, a, b, p)) in
     subst (λ (n : Bool). OpenDoes c.args.self.now c.args.plan.now c.args.op n c.args.hand.now c.loop-k.hand None) (sym c.if-not-needed.false)
-    (settled_all _ _ _ (subst (λ (j : ℕ). IsSettledUpTo c.args.self.now c.args.plan.now c.args.op j c.args.hand.now c.loop-k.hand) e c.loop-k.invariant))
+    (settled_all _ _ _ (subst (λ (j : ℕ). IsSettledUpToPlace c.args.self.now c.args.plan.now c.args.op j c.args.hand.now c.loop-k.hand) e c.loop-k.invariant))

@@ -123,7 +123,7 @@ class Examples(unittest.TestCase):
         names = self.folder / "names.csv"
         done = self.call("payments", "events", EXAMPLES / "payments.csv", names)
         self.assertEqual((done.returncode, done.stdout), (0, (EXAMPLES / "payments.txt").read_text()))
-        self.assertEqual(done.stderr, "6 payments between 3 accounts: give ./morph size=3 or more\n")
+        self.assertEqual(done.stderr, "6 payments between 3 accounts\n")
         for run in self.runs:
             report = self.call("payments", "report", names, given=run(done.stdout))
             self.assertEqual(report.stdout.splitlines(), ["row 4: not paid, the balance does not allow it", "bob: 15.25",
@@ -131,13 +131,41 @@ class Examples(unittest.TestCase):
 
     def test_payments_that_are_none(self):
         for row, said in (("a,b,1.234", "no whole number"), ("a,b,-1", "no whole number"), ("a,b,x", "no amount"),
-                          ("a,b,NaN", "no whole number"), ("a,a,1", "same account")):
+                          ("a,b,NaN", "no whole number"), ("a,a,1", "same account"), ("a,,1", "no `to`"), ("a,b", "no `amount`")):
             file = self.folder / "payments.csv"
             file.write_text(f"from,to,amount\n{row}\n")
             done = self.call("payments", "events", file, self.folder / "names.csv")
-            self.assertEqual(done.returncode, 1)
+            self.assertEqual((done.returncode, done.stdout), (1, ""))
             self.assertIn("row 1: ", done.stderr)
             self.assertIn(said, done.stderr)
+            self.assertFalse((self.folder / "names.csv").exists())
+
+    def test_a_file_without_the_columns(self):
+        file = self.folder / "payments.csv"
+        for head in ("from;to;amount", "from,to"):
+            file.write_text(f"{head}\na,b,1\n")
+            done = self.call("payments", "events", file, self.folder / "names.csv")
+            self.assertEqual((done.returncode, done.stdout), (1, ""))
+            self.assertIn("has to name the columns", done.stderr)
+        file.write_text("\ufefffrom,to,amount\n,b,1\n")
+        self.assertEqual(self.call("payments", "events", file, self.folder / "names.csv").returncode, 0)
+
+    def test_a_report_of_a_run_that_was_cut_off(self):
+        names = self.folder / "names.csv"
+        names.write_text("bob\n")
+        for output in ("", "1 C 5 0\n", "1 C 5 0\nacct 0\n", "1"):
+            self.assertEqual(self.call("payments", "report", names, given=output).returncode, 1, output)
+
+    def test_a_second_day(self):
+        names, first, second = (self.folder / name for name in ("names.csv", "first.csv", "second.csv"))
+        first.write_text("from,to,amount\n,ann,10\n,bob,5\nann,bob,2.50\n")
+        second.write_text("from,to,amount\nbob,cid,7\n,ann,1\n")
+        for run in self.runs:
+            names.unlink(missing_ok=True)
+            output = run(self.call("payments", "events", first, names).stdout)
+            events = self.call("payments", "events", second, names, 1000001).stdout
+            report = self.call("payments", "report", names, given=run(self.go_on(output, events).stdout))
+            self.assertEqual(report.stdout.splitlines(), ["ann: 8.50", "bob: 0.50", "cid: 7.00"])
 
     def test_many_payments(self):
         file = self.folder / "payments.csv"
@@ -181,6 +209,10 @@ class Examples(unittest.TestCase):
         done = self.go_on("acct 1 5\nacct 2 6\nacct 3 6\ncommitted 1 aborted 0\n", "D 3 0 0 1 1\n")
         self.assertEqual(done.returncode, 1)
         self.assertIn("a timestamp of the second file is 3", done.stderr)
+        self.assertEqual(done.stdout, "")
+        done = self.go_on("1 C 9000 3 1 0\nspd 3 9000\nat 1 4\ncommitted 1 aborted 0\n", "T 9 1 3 90\n")
+        self.assertEqual((done.returncode, done.stdout), (1, ""))
+        self.assertIn("cannot be set by events", done.stderr)
 
     @unittest.skipUnless(program_there(), "the program is not built")
     def test_a_stream_that_does_not_end(self):

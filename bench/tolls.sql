@@ -9,7 +9,7 @@ CREATE TABLE report (number INTEGER PRIMARY KEY, ts INTEGER UNIQUE, vehicle INTE
 CREATE TABLE outcome (ts INTEGER PRIMARY KEY, vehicle INTEGER, segment INTEGER, commits INTEGER, average INTEGER, entries INTEGER, bill INTEGER);
 CREATE TABLE visit (segment INTEGER, place INTEGER, ts INTEGER, speed INTEGER, PRIMARY KEY (segment, place));
 
--- Outcomes as they are if no bill comes to its limit, by windows; only the averages are a recursion, along the reports of a segment. `visit` has
+-- Outcomes as they are if no bill reaches its limit, by windows; only the averages are a recursion, along the reports of a segment. `visit` has
 -- to be filled from `visits`.
 CREATE VIEW visits AS
 SELECT segment, row_number() OVER (PARTITION BY segment ORDER BY ts) AS place, ts, speed FROM report;

@@ -11,6 +11,7 @@ pub mod Turns
 pub mod Watches
 pub mod Checking
 pub mod Takings
+pub mod Faulting
 pub mod Starting
 pub mod Piping
 pub mod Tails

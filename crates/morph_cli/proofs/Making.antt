@@ -1,6 +1,6 @@
 -- How a run ends by the application and by whose input it is.
-use Rattle.std.proofs.Common.{◌≡◌, ℕ, List, Option, Some, None, Result, Ok, Err, refl, sym, subst}
-use Rattle.std.specs.Prelude.{option_map, IfSome, IsErrOf}
+use Rattle.std.proofs.Common.{◌≡◌, ℕ, arith, List, Option, Some, None, Result, Ok, Err, refl, sym, subst}
+use Rattle.std.specs.Prelude.{IsErrOf}
 use Rattle.event_reader.specs.Steps.{Meaning}
 use Rattle.event_reader.specs.Accepted.{Ended, accepted_within}
 use Rattle.event_reader.specs.GeneratedText.{generated_text}
@@ -11,11 +11,10 @@ use Rattle.morph_cli.specs.declared.run.Finish.TheVariants.{Complete, Refused}
 use Rattle.run_text.specs.declared.choices.App.{App}
 use Rattle.run_text.specs.declared.choices.Generated.{Generated}
 use Rattle.run_text.specs.declared.choices.Settings.{Settings}
-use Rattle.morph_cli.specs.Apps.{drawn_in, event_in, input_by, left_by, name_in, tables_in, telling_by}
+use Rattle.morph_cli.specs.Apps.{drawn_in, event_in, input_by, left_by, name_in, tables_in}
+use Rattle.morph_cli.specs.RunContract.{FaultCounts, RunDoes, Streams, fault_counts, request_in, request_of, streams_of}
 use Rattle.morph_cli.specs.Runs.{EndsSo, EndsMade}
 use Rattle.run_text.specs.declared.tally.Tally.{Tally}
-use Rattle.morph_cli.specs.Outputs.{Outputs}
-use Rattle.morph_cli.specs.Tallies.{RunTold}
 use Rattle.run_text.specs.Text.{Telling}
 
 module _ (meaning : Meaning) (telling : Telling) (limit : ℕ) (input : List ℕ) (left left' old new : Option (List ℕ)) where
@@ -38,43 +37,38 @@ module _ (meaning : Meaning) (telling : Telling) (limit : ℕ) (input : List ℕ
   made_ends (Err OutOfMemory) reads ended ends = tt
   made_ends (Err TooLong) reads ended ends = let cut = ends.0 in absurd (cc)
 
--- how a run ends, by whose input it is
-abbrev EndsOver : Meaning → Telling → (limit : ℕ) → Option Generated → (text : ℕ → ℕ → List ℕ) → (told left old : Option (List ℕ)) → Result Finish Fault → (new : Option (List ℕ)) → Type 0
-EndsOver meaning telling limit generated text told left old r new =
-    IfSome (input_by generated text told) (λ input. EndsSo meaning telling limit input (left_by generated left) old r new)
+-- what a run does, by whose input it is
+pub does_source : {r : Result Finish Fault} {t : Tally} (event_of : ℕ → Meaning) (tables : ℕ) (name : ℕ → List ℕ) (s : Settings) (text : ℕ → ℕ → List ℕ) (before : Streams)
+    (left sink notes : Option (List ℕ)) (faults : FaultCounts) → s.generated ≡ None → RunDoes (request_of event_of tables name s before.left) r t before (streams_of left sink notes faults)
+    → RunDoes (request_of event_of tables name s (input_by s.generated text before.left)) r t before (streams_of (left_by s.generated left) sink notes faults)
+does_source {r} {t} event_of tables name s text before left sink notes faults none does =
+    subst (λ o. RunDoes (request_of event_of tables name s (input_by o text before.left)) r t before (streams_of (left_by o left) sink notes faults)) (sym none) does
+
+pub does_made : {r : Result Finish Fault} {t : Tally} (event_of : ℕ → Meaning) (tables : ℕ) (name : ℕ → List ℕ) (s : Settings) (text : ℕ → ℕ → List ℕ) (g : Generated)
+    (left sink sink' notes notes' : Option (List ℕ)) (k m m' n n' : ℕ) → s.generated ≡ Some g
+    → RunDoes (request_of event_of tables name s (Some (text g.seed g.events))) r t (streams_of None sink notes (fault_counts 0 m n)) (streams_of None sink' notes' (fault_counts 0 m' n'))
+    → RunDoes (request_of event_of tables name s (input_by s.generated text left)) r t (streams_of left sink notes (fault_counts k m n)) (streams_of (left_by s.generated left) sink' notes' (fault_counts k m' n'))
+does_made {r} {t} event_of tables name s text g left sink sink' notes notes' k m m' n n' some does =
+    subst (λ o. RunDoes (request_of event_of tables name s (input_by o text left)) r t (streams_of left sink notes (fault_counts k m n)) (streams_of (left_by o left) sink' notes' (fault_counts k m' n'))) (sym some)
+    (record {
+      ends = does.ends;
+      told = does.told;
+      faults = record {
+        source = omega arith;
+        sink = does.faults.sink;
+        notes = does.faults.notes;
+        read = λ failed. absurd (let risen = does.faults.read failed in omega (arith, risen (omega arith)));
+        unread = λ none other. refl;
+        write = does.faults.write;
+        steady = does.faults.steady;
+      };
+    })
 
 -- and by the application
-abbrev EndsIn : Settings → (limit : ℕ) → (told left old : Option (List ℕ)) → Result Finish Fault → (new : Option (List ℕ)) → App → Type 0
-EndsIn s limit told left old r new app =
-    EndsOver (event_in app s.size) (telling_by s.generated (tables_in app) s.size (name_in app)) limit s.generated (generated_text (drawn_in app s.size)) told left old r new
+abbrev DoesIn : Settings → Option (List ℕ) → Result Finish Fault → Tally → (before after : Streams) → App → Type 0
+DoesIn s left r t before after app =
+    RunDoes (request_of (event_in app) (tables_in app) (name_in app) s (input_by s.generated (generated_text (drawn_in app s.size)) left)) r t before after
 
-pub in_app : (s : Settings) (limit : ℕ) (told left old : Option (List ℕ)) (r : Result Finish Fault) (new : Option (List ℕ)) (app : App) → s.app ≡ app →
-    EndsIn s limit told left old r new app → EndsIn s limit told left old r new s.app
-in_app s limit told left old r new app is ends = subst (EndsIn s limit told left old r new) (sym is) ends
-
--- what is told of the run, by whose input it is
-abbrev ToldOver : Telling → Meaning → (limit : ℕ) → Option Generated → (text : ℕ → ℕ → List ℕ) → (told : Option (List ℕ)) → Settings → (status : ℕ) → Tally → (old new : Outputs) → Type 0
-ToldOver telling meaning limit generated text told s status t old new =
-    RunTold telling (option_map (accepted_within meaning limit) (input_by generated text told)) s status t old new
-
-pub told_source : (telling : Telling) (meaning : Meaning) (limit : ℕ) (generated : Option Generated) (text : ℕ → ℕ → List ℕ) (told : Option (List ℕ)) (s : Settings) (status : ℕ) (t : Tally)
-    (old new : Outputs) → generated ≡ None → RunTold telling (option_map (accepted_within meaning limit) told) s status t old new →
-    ToldOver telling meaning limit generated text told s status t old new
-told_source telling meaning limit generated text told s status t old new none run =
-    subst (λ o. ToldOver telling meaning limit o text told s status t old new) (sym none) run
-
-pub told_made : (telling : Telling) (meaning : Meaning) (limit : ℕ) (generated : Option Generated) (text : ℕ → ℕ → List ℕ) (told : Option (List ℕ)) (s : Settings) (status : ℕ) (t : Tally)
-    (old new : Outputs) (g : Generated) → generated ≡ Some g →
-    RunTold telling (option_map (accepted_within meaning limit) (Some (text g.seed g.events))) s status t old new →
-    ToldOver telling meaning limit generated text told s status t old new
-told_made telling meaning limit generated text told s status t old new g some run =
-    subst (λ o. ToldOver telling meaning limit o text told s status t old new) (sym some) run
-
--- and by the application
-abbrev ToldIn : Settings → (limit : ℕ) → (told : Option (List ℕ)) → (status : ℕ) → Tally → (old new : Outputs) → App → Type 0
-ToldIn s limit told status t old new app =
-    ToldOver (telling_by s.generated (tables_in app) s.size (name_in app)) (event_in app s.size) limit s.generated (generated_text (drawn_in app s.size)) told s status t old new
-
-pub told_in_app : (s : Settings) (limit : ℕ) (told : Option (List ℕ)) (status : ℕ) (t : Tally) (old new : Outputs) (app : App) → s.app ≡ app →
-    ToldIn s limit told status t old new app → ToldIn s limit told status t old new s.app
-told_in_app s limit told status t old new app is run = subst (ToldIn s limit told status t old new) (sym is) run
+pub does_in_app : {r : Result Finish Fault} {t : Tally} {before after : Streams} (s : Settings) (left : Option (List ℕ)) (app : App) → s.app ≡ app → DoesIn s left r t before after app
+    → RunDoes (request_in s left) r t before after
+does_in_app {r} {t} {before} {after} s left app is does = subst (DoesIn s left r t before after) (sym is) does

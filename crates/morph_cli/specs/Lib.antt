@@ -6,6 +6,7 @@ pub mod Headline
 pub mod Apps
 pub mod Strategies
 pub mod Tallies
+pub mod RunContract
 pub mod Outputs
 pub mod Batches
 pub mod Endings

@@ -1,7 +1,6 @@
 //! Runs that read and plan batches ahead.
 ghost use Rattle.std.specs.Prelude.{◌≡◌, false, ◌<◌, ◌≤◌, ◌⊎◌, [], ◌++◌, length};
-ghost use Rattle.std.specs.Prelude.{None, option_map, IfOk, IfSome, IsErrOf, IsTrue, OnOk, OnErr};
-ghost use Rattle.event_reader.specs.Accepted.{accepted_within};
+ghost use Rattle.std.specs.Prelude.{None, IfOk, IsErrOf, IsTrue, OnOk, OnErr};
 ghost use Rattle.event_reader.specs.declared.limits.TheConstants.{INPUT_BYTES};
 ghost use Rattle.event_reader.specs.Reader.{new_reader};
 ghost use Rattle.morph_base.specs.declared.plan.Plan.{Plan};
@@ -20,14 +19,12 @@ ghost use Rattle.run_text.specs.Counts.{CountsBatch, HasRoom, no_tally};
 ghost use Rattle.run_text.specs.Notes.{noted, closing_notes};
 ghost use Rattle.run_text.specs.Reports.{report_of};
 ghost use Rattle.run_text.specs.Text.{told_values, counts_line};
-ghost use Rattle.morph_cli.specs.Apps.{telling_for};
 ghost use Rattle.morph_cli.specs.Batches.{lines_of_batch, note_of_batch};
-ghost use Rattle.morph_cli.specs.Outputs.{has_notes, outputs_of, WritesBoth};
+ghost use Rattle.morph_cli.specs.Outputs.{outputs_of, WritesBoth};
 ghost use Rattle.morph_cli.specs.Endings.{EndsBy};
-ghost use Rattle.morph_cli.specs.Runs.{EndsSo, layout_of};
-ghost use Rattle.morph_cli.specs.Status.{status_of};
+ghost use Rattle.morph_cli.specs.RunContract.{RunDoes, fault_counts, request_of, streams_of};
+ghost use Rattle.morph_cli.specs.Runs.{layout_of};
 ghost use Rattle.morph_cli.specs.Strategies.{strategy_by};
-ghost use Rattle.morph_cli.specs.Tallies.{RunTold};
 
 use crate::fault::Fault;
 use crate::job::Job;
@@ -205,27 +202,13 @@ pub fn run_ahead<
         ≡ layout_of (A.table_count job.now.app) job.now.settings.size }
     requires opening { contents ahead.old.pipe.engine ≡ opening_state }
     requires empty { ahead.old.out ≡ [] }
-    ensures ends { let app = job.now.app in let settings = job.now.settings in
-        IfSome (S.left source.old) (λ input. EndsSo (A.event_of app settings.size)
-        (telling_for settings (A.table_count app) (A.name_of app)) INPUT_BYTES input
-        (S.left source.new) (K.written sink.old) result (K.written sink.new)) }
-    ensures told { let app = job.now.app in let settings = job.now.settings in
-        RunTold (telling_for settings (A.table_count app) (A.name_of app))
-        (option_map (accepted_within (A.event_of app settings.size) INPUT_BYTES)
-        (S.left source.old))
-        settings (status_of result) tally.new
-        (outputs_of (K.written sink.old) (N.written notes.old))
-        (outputs_of (K.written sink.new) (N.written notes.new)) }
-    ensures source_faults { S.faults source.old ≤ S.faults source.new }
-    ensures sink_faults { K.faults sink.old ≤ K.faults sink.new }
-    ensures notes_faults { N.faults notes.old ≤ N.faults notes.new }
-    ensures steady { (IsErrOf result Fault.Write → ⊥) → (K.faults sink.new ≡ K.faults sink.old)
-        × (N.faults notes.new ≡ N.faults notes.old) }
-    ensures read { IsErrOf result Fault.Read
-        → HasRisen (S.faults source.old) (S.faults source.new) }
-    ensures write { IsErrOf result Fault.Write → HasRisen (K.faults sink.old) (K.faults sink.new)
-        ⊎ (IsTrue (has_notes job.now.settings)
-        × HasRisen (N.faults notes.old) (N.faults notes.new)) }
+    ensures does { let app = job.now.app in let settings = job.now.settings in
+        RunDoes (request_of (A.event_of app) (A.table_count app) (A.name_of app)
+        settings (S.left source.old)) result tally.new
+        (streams_of (S.left source.old) (K.written sink.old) (N.written notes.old)
+        (fault_counts (S.faults source.old) (K.faults sink.old) (N.faults notes.old)))
+        (streams_of (S.left source.new) (K.written sink.new) (N.written notes.new)
+        (fault_counts (S.faults source.new) (K.faults sink.new) (N.faults notes.new))) }
 {
     let (host, settings) = (job.host, &job.settings);
     let pick = picker(settings.planning);

@@ -1,20 +1,15 @@
-ghost use Rattle.std.specs.Prelude.{◌≡◌, [], ◌≤◌, ◌⊎◌, ◌↔◌, option_map, IfSome, IsErrOf, IsSome, IsTrue};
-ghost use Rattle.event_reader.specs.Accepted.{accepted_within};
+ghost use Rattle.std.specs.Prelude.{◌≡◌, [], ◌↔◌, IfSome, IsSome, IsTrue};
 ghost use Rattle.event_reader.specs.declared.limits.TheConstants.{INPUT_BYTES};
 ghost use Rattle.morph_base.specs.States.{opening_state};
 ghost use Rattle.morph_base.specs.Flat.{contents};
 ghost use Rattle.event_reader.specs.Reader.{new_reader};
-ghost use Rattle.morph_io.specs.Told.{HasRisen};
-ghost use Rattle.morph_cli.specs.Apps.{telling_for};
 ghost use Rattle.morph_cli.specs.Batches.{IsShown};
 ghost use Rattle.morph_cli.specs.Calls.{IsReadBy};
-ghost use Rattle.morph_cli.specs.Outputs.{has_notes, outputs_of};
-ghost use Rattle.morph_cli.specs.Runs.{EndsSo, layout_of};
+ghost use Rattle.morph_cli.specs.RunContract.{RunDoes, fault_counts, request_of, streams_of};
+ghost use Rattle.morph_cli.specs.Runs.{layout_of};
 ghost use Rattle.run_text.specs.Settings.{AreInRange};
-ghost use Rattle.morph_cli.specs.Status.{status_of};
 ghost use Rattle.decision_model.specs.Choices.{no_last};
 ghost use Rattle.run_text.specs.Counts.{no_tally};
-ghost use Rattle.morph_cli.specs.Tallies.{RunTold};
 
 use crate::ahead::{Ahead, run_ahead};
 use crate::fault::Fault;
@@ -61,31 +56,15 @@ pub fn run<
 ) -> Result<Finish, Fault>
     requires settings { AreInRange job.now.settings }
     requires tally { tally.old ≡ no_tally }
-    ensures ends { let app = job.now.app in let settings = job.now.settings in
-        IfSome (S.left source.old) (λ input. EndsSo (A.event_of app settings.size)
-        (telling_for settings (A.table_count app) (A.name_of app)) INPUT_BYTES input
-        (S.left source.new) (K.written sink.old) result (K.written sink.new)) }
-    ensures told { let app = job.now.app in let settings = job.now.settings in
-        RunTold (telling_for settings (A.table_count app) (A.name_of app))
-        (option_map (accepted_within (A.event_of app settings.size) INPUT_BYTES)
-        (S.left source.old))
-        settings (status_of result) tally.new
-        (outputs_of (K.written sink.old) (N.written notes.old))
-        (outputs_of (K.written sink.new) (N.written notes.new)) }
-    ensures source_faults { S.faults source.old ≤ S.faults source.new }
-    ensures sink_faults { K.faults sink.old ≤ K.faults sink.new }
-    ensures notes_faults { N.faults notes.old ≤ N.faults notes.new }
-    ensures steady { (IsErrOf result Fault.Write → ⊥) → (K.faults sink.new ≡ K.faults sink.old)
-        × (N.faults notes.new ≡ N.faults notes.old) }
-    ensures unread { job.now.settings.ahead ≡ 0 → (IsErrOf result Fault.Read → ⊥)
-        → S.faults source.new ≡ S.faults source.old }
+    ensures does { let app = job.now.app in let settings = job.now.settings in
+        RunDoes (request_of (A.event_of app) (A.table_count app) (A.name_of app)
+        settings (S.left source.old)) result tally.new
+        (streams_of (S.left source.old) (K.written sink.old) (N.written notes.old)
+        (fault_counts (S.faults source.old) (K.faults sink.old) (N.faults notes.old)))
+        (streams_of (S.left source.new) (K.written sink.new) (N.written notes.new)
+        (fault_counts (S.faults source.new) (K.faults sink.new) (N.faults notes.new))) }
     ensures asks { let settings = job.now.settings in settings.ahead ≡ 0
         → IsReadBy S.left S.reads (A.event_of job.now.app settings.size) source.old source.new }
-    ensures read { IsErrOf result Fault.Read
-        → HasRisen (S.faults source.old) (S.faults source.new) }
-    ensures write { IsErrOf result Fault.Write → HasRisen (K.faults sink.old) (K.faults sink.new)
-        ⊎ (IsTrue (has_notes job.now.settings)
-        × HasRisen (N.faults notes.old) (N.faults notes.new)) }
 {
     if job.settings.ahead > 0 {
         let mut ahead = Ahead::new(job)?;
@@ -119,31 +98,15 @@ fn run_batches<R: Threads + Wait + Sync, A: EventApp + Copy, S: Source, K: Sink,
     requires shown { IfSome (progress.old.watching)
         (IsShown progress.old.engine.layout 0 opening_state) }
     requires watch { IsSome (progress.old.watching) ↔ IsTrue job.now.settings.watch }
-    ensures ends { let app = job.now.app in let settings = job.now.settings in
-        IfSome (S.left source.old) (λ input. EndsSo (A.event_of app settings.size)
-        (telling_for settings (A.table_count app) (A.name_of app)) INPUT_BYTES input
-        (S.left source.new) (K.written sink.old) result (K.written sink.new)) }
-    ensures told { let app = job.now.app in let settings = job.now.settings in
-        RunTold (telling_for settings (A.table_count app) (A.name_of app))
-        (option_map (accepted_within (A.event_of app settings.size) INPUT_BYTES)
-        (S.left source.old))
-        settings (status_of result) tally.new
-        (outputs_of (K.written sink.old) (N.written notes.old))
-        (outputs_of (K.written sink.new) (N.written notes.new)) }
-    ensures source_faults { S.faults source.old ≤ S.faults source.new }
-    ensures sink_faults { K.faults sink.old ≤ K.faults sink.new }
-    ensures notes_faults { N.faults notes.old ≤ N.faults notes.new }
-    ensures steady { (IsErrOf result Fault.Write → ⊥) → (K.faults sink.new ≡ K.faults sink.old)
-        × (N.faults notes.new ≡ N.faults notes.old) }
-    ensures unread { (IsErrOf result Fault.Read → ⊥)
-        → S.faults source.new ≡ S.faults source.old }
+    ensures does { let app = job.now.app in let settings = job.now.settings in
+        RunDoes (request_of (A.event_of app) (A.table_count app) (A.name_of app)
+        settings (S.left source.old)) result tally.new
+        (streams_of (S.left source.old) (K.written sink.old) (N.written notes.old)
+        (fault_counts (S.faults source.old) (K.faults sink.old) (N.faults notes.old)))
+        (streams_of (S.left source.new) (K.written sink.new) (N.written notes.new)
+        (fault_counts (S.faults source.new) (K.faults sink.new) (N.faults notes.new))) }
     ensures asks { let settings = job.now.settings in
         IsReadBy S.left S.reads (A.event_of job.now.app settings.size) source.old source.new }
-    ensures read { IsErrOf result Fault.Read
-        → HasRisen (S.faults source.old) (S.faults source.new) }
-    ensures write { IsErrOf result Fault.Write → HasRisen (K.faults sink.old) (K.faults sink.new)
-        ⊎ (IsTrue (has_notes job.now.settings)
-        × HasRisen (N.faults notes.old) (N.faults notes.new)) }
 {
     'batches: loop {
         match progress.reader.next_batch(job.host.alloc, source)? {

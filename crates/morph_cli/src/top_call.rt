@@ -1,17 +1,17 @@
-ghost use Rattle.std.specs.Prelude.{◌≡◌, ◌≤◌, ◌⊎◌, None, Some, map, option_map, IsSome, IfSome, IsErrOf, IsTrue};
+ghost use Rattle.std.specs.Prelude.{◌≡◌, ◌⊎◌, None, Some, map, option_map, IsSome, IfSome, IsTrue};
 ghost use Rattle.morph_io.specs.Told.{HasRisen};
-ghost use Rattle.event_reader.specs.declared.limits.TheConstants.{INPUT_BYTES};
-ghost use Rattle.event_reader.specs.Accepted.{accepted, accepted_within};
+ghost use Rattle.event_reader.specs.Accepted.{accepted};
 ghost use Rattle.event_reader.specs.GeneratedText.{generated_text};
-ghost use Rattle.morph_cli.specs.Apps.{input_by, input_of, left_by, meaning_of, telling_for, telling_of};
+ghost use Rattle.morph_cli.specs.Apps.{input_by, input_of, left_by, meaning_of, telling_of};
 ghost use Rattle.morph_cli.specs.Calls.{IsReadBy};
 ghost use Rattle.morph_cli.specs.Headline.{Headline, Completes, input_limit};
 ghost use Rattle.morph_cli.specs.Outputs.{has_notes, outputs_of};
-ghost use Rattle.morph_cli.specs.Runs.{EndsSo, EndsMade};
+ghost use Rattle.morph_cli.specs.RunContract.{RunDoes, fault_counts, request_in, request_of, streams_of};
+ghost use Rattle.morph_cli.specs.Runs.{EndsMade};
 ghost use Rattle.run_text.specs.Settings.{AreInRange, settings_of};
-ghost use Rattle.morph_cli.specs.Status.{status_of, EndsNotes, IsStatus, IsMadeStatus};
+ghost use Rattle.morph_cli.specs.Status.{EndsNotes, IsStatus, IsMadeStatus};
 ghost use Rattle.run_text.specs.Counts.{no_tally};
-ghost use Rattle.morph_cli.specs.Tallies.{RunTold, CallTold, IsBalanced};
+ghost use Rattle.morph_cli.specs.Tallies.{CallTold, IsBalanced};
 
 use crate::ended::{Ended, USAGE_STATUS, note_of, status};
 use crate::fault::Fault;
@@ -48,34 +48,16 @@ fn run_over<
 ) -> Result<Finish, Fault>
     requires settings { AreInRange job.now.settings }
     requires tally { tally.old ≡ no_tally }
-    ensures ends { let app = job.now.app in let settings = job.now.settings in
-        let text = generated_text (A.generated app settings.size) in
-        IfSome (input_by settings.generated text (S.left source.old)) (λ input.
-        EndsSo (A.event_of app settings.size)
-        (telling_for settings (A.table_count app) (A.name_of app)) INPUT_BYTES input
-        (left_by settings.generated (S.left source.new))
-        (K.written sink.old) result (K.written sink.new)) }
-    ensures told { let app = job.now.app in let settings = job.now.settings in
-        RunTold (telling_for settings (A.table_count app) (A.name_of app))
-        (option_map (accepted_within (A.event_of app settings.size) INPUT_BYTES)
-        (input_by settings.generated (generated_text (A.generated app settings.size))
-        (S.left source.old)))
-        settings (status_of result) tally.new
-        (outputs_of (K.written sink.old) (N.written notes.old))
-        (outputs_of (K.written sink.new) (N.written notes.new)) }
-    ensures notes_faults { N.faults notes.old ≤ N.faults notes.new }
-    ensures steady { (IsErrOf result Fault.Write → ⊥) → (K.faults sink.new ≡ K.faults sink.old)
-        × (N.faults notes.new ≡ N.faults notes.old) }
-    ensures unread { job.now.settings.ahead ≡ 0 → (IsErrOf result Fault.Read → ⊥)
-        → S.faults source.new ≡ S.faults source.old }
+    ensures does { let app = job.now.app in let settings = job.now.settings in
+        RunDoes (request_of (A.event_of app) (A.table_count app) (A.name_of app) settings
+        (input_by settings.generated (generated_text (A.generated app settings.size)) (S.left source.old))) result tally.new
+        (streams_of (S.left source.old) (K.written sink.old) (N.written notes.old)
+        (fault_counts (S.faults source.old) (K.faults sink.old) (N.faults notes.old)))
+        (streams_of (left_by settings.generated (S.left source.new)) (K.written sink.new) (N.written notes.new)
+        (fault_counts (S.faults source.new) (K.faults sink.new) (N.faults notes.new))) }
     ensures asks { let settings = job.now.settings in settings.ahead ≡ 0
         → IsReadBy S.left S.reads (A.event_of job.now.app settings.size) source.old source.new }
     ensures made { IsSome job.now.settings.generated → (source.new ≡ source.old) × EndsMade result }
-    ensures read { IsErrOf result Fault.Read
-        → HasRisen (S.faults source.old) (S.faults source.new) }
-    ensures write { IsErrOf result Fault.Write → HasRisen (K.faults sink.old) (K.faults sink.new)
-        ⊎ (IsTrue (has_notes job.now.settings)
-        × HasRisen (N.faults notes.old) (N.faults notes.new)) }
 {
     match job.settings.generated {
         None => run(job, source, sink, notes, tally),
@@ -94,25 +76,14 @@ fn run_made<R: Threads + Wait + Sync, A: MakesInput + Copy + Send, K: Sink, N: S
     requires settings { AreInRange job.now.settings }
     requires generated { job.now.settings.generated ≡ Some generated }
     requires tally { tally.old ≡ no_tally }
-    ensures ends { let app = job.now.app in let settings = job.now.settings in
-        EndsSo (A.event_of app settings.size)
-        (telling_for settings (A.table_count app) (A.name_of app)) INPUT_BYTES
-        (generated_text (A.generated app settings.size) generated.seed generated.events)
-        None (K.written sink.old) result (K.written sink.new) }
-    ensures told { let app = job.now.app in let settings = job.now.settings in
-        RunTold (telling_for settings (A.table_count app) (A.name_of app))
-        (option_map (accepted_within (A.event_of app settings.size) INPUT_BYTES)
-        (Some (generated_text (A.generated app settings.size) generated.seed generated.events)))
-        settings (status_of result) tally.new
-        (outputs_of (K.written sink.old) (N.written notes.old))
-        (outputs_of (K.written sink.new) (N.written notes.new)) }
-    ensures notes_faults { N.faults notes.old ≤ N.faults notes.new }
-    ensures steady { (IsErrOf result Fault.Write → ⊥) → (K.faults sink.new ≡ K.faults sink.old)
-        × (N.faults notes.new ≡ N.faults notes.old) }
+    ensures does { let app = job.now.app in let settings = job.now.settings in
+        RunDoes (request_of (A.event_of app) (A.table_count app) (A.name_of app) settings
+        (Some (generated_text (A.generated app settings.size) generated.seed generated.events))) result tally.new
+        (streams_of None (K.written sink.old) (N.written notes.old)
+        (fault_counts 0 (K.faults sink.old) (N.faults notes.old)))
+        (streams_of None (K.written sink.new) (N.written notes.new)
+        (fault_counts 0 (K.faults sink.new) (N.faults notes.new))) }
     ensures made { EndsMade result }
-    ensures write { IsErrOf result Fault.Write → HasRisen (K.faults sink.old) (K.faults sink.new)
-        ⊎ (IsTrue (has_notes job.now.settings)
-        × HasRisen (N.faults notes.old) (N.faults notes.new)) }
 {
     // None of its lines is refused, and it has few bytes.
     generated_text_is_accepted::<A>();
@@ -132,28 +103,14 @@ fn run_app<R: Threads + Wait + Sync, S: Source + Send, K: Sink, N: Sink, G: Gate
 ) -> Result<Finish, Fault>
     requires settings { AreInRange settings }
     requires tally { tally.old ≡ no_tally }
-    ensures ends { IfSome (input_of settings (S.left source.old)) (λ input.
-        EndsSo (meaning_of settings) (telling_of settings) INPUT_BYTES input
-        (left_by settings.generated (S.left source.new))
-        (K.written sink.old) result (K.written sink.new)) }
-    ensures told { RunTold (telling_of settings)
-        (option_map (accepted_within (meaning_of settings) INPUT_BYTES)
-        (input_of settings (S.left source.old)))
-        settings (status_of result) tally.new
-        (outputs_of (K.written sink.old) (N.written notes.old))
-        (outputs_of (K.written sink.new) (N.written notes.new)) }
-    ensures notes_faults { N.faults notes.old ≤ N.faults notes.new }
-    ensures steady { (IsErrOf result Fault.Write → ⊥) → (K.faults sink.new ≡ K.faults sink.old)
-        × (N.faults notes.new ≡ N.faults notes.old) }
-    ensures unread { settings.ahead ≡ 0 → (IsErrOf result Fault.Read → ⊥)
-        → S.faults source.new ≡ S.faults source.old }
+    ensures does { RunDoes (request_in settings (S.left source.old)) result tally.new
+        (streams_of (S.left source.old) (K.written sink.old) (N.written notes.old)
+        (fault_counts (S.faults source.old) (K.faults sink.old) (N.faults notes.old)))
+        (streams_of (left_by settings.generated (S.left source.new)) (K.written sink.new) (N.written notes.new)
+        (fault_counts (S.faults source.new) (K.faults sink.new) (N.faults notes.new))) }
     ensures asks { settings.ahead ≡ 0
         → IsReadBy S.left S.reads (meaning_of settings) source.old source.new }
     ensures made { IsSome settings.generated → (source.new ≡ source.old) × EndsMade result }
-    ensures read { IsErrOf result Fault.Read
-        → HasRisen (S.faults source.old) (S.faults source.new) }
-    ensures write { IsErrOf result Fault.Write → HasRisen (K.faults sink.old) (K.faults sink.new)
-        ⊎ (IsTrue (has_notes settings) × HasRisen (N.faults notes.old) (N.faults notes.new)) }
 {
     match settings.app {
         App::Ledger => {

@@ -15,7 +15,8 @@ use Rattle.std.proofs.lemmas.Bool.{true≢false}
 use Rattle.batch_pipe.specs.Courses.{steps_left}
 use Rattle.batch_pipe.proofs.Rounds.{turns_fall}
 use Rattle.morph_cli.proofs.Between.{course_of, error_is}
-use Rattle.morph_cli.proofs.Noting.{unchecked_ahead, told_note, noted_so, risen_in_part}
+use Rattle.morph_cli.proofs.Faulting.{counts_still, faults_since, faults_ahead}
+use Rattle.morph_cli.proofs.Noting.{unchecked_ahead, told_note, noted_so}
 use Rattle.morph_cli.proofs.Tails.{read_by_tail, ends_by_tail, told_by_tail}
 use Rattle.morph_cli.proofs.Piping.{piped_start, piped_as, piped_round, piped_told, read_in_round, next, room_told, ends_in_run, told_in_run}
 use Rattle.morph_cli.proofs.ahead.run_ahead.Goals as goal
@@ -28,8 +29,6 @@ turns-init g c =
           (manner c.picker-pick.result c.args.job.now.settings.workers) c.args.ahead.now.pipe c.args.job.now.settings.ahead c.args.tally.now c.args.ahead.now.out c.requires.pipe c.requires.opening c.requires.layout c.requires.tally c.requires.empty;
       read = λ is. (let none = ap (λ (v : PipeView _). v.tail) c.requires.pipe in absurd (cc));
       source_faults = omega arith;
-      sink_faults = omega arith;
-      notes_faults = omega arith;
       sink_steady = refl;
       notes_steady = refl;
     }
@@ -52,19 +51,22 @@ tell_next-requires-clause-room g c =
 pub tell_next-requires-clause-unchecked : goal.tell_next-requires-clause-unchecked
 tell_next-requires-clause-unchecked g c = unchecked_ahead c.args.job.now.settings c.requires.settings c.requires.ahead
 
-pub returns-in_err-tell_next-in-Some-clause-ends : goal.returns-in_err-tell_next-in-Some-clause-ends
-returns-in_err-tell_next-in-Some-clause-ends g c =
+pub returns-in_err-tell_next-in-Some : goal.returns-in_err-tell_next-in-Some
+returns-in_err-tell_next-in-Some g c =
     let got = rw c.in-Some.is at c.next.ensures.some in
-    ends_in_run c.picker-pick.ensures refl c.turns.invariant.run c.in-Some.ran c.next.new.self.rans got.1 (g.S.Source.left c.turns.source)
-    (outputs_of (g.K.Sink.written c.tell_next.new.sink) (g.N.Sink.written c.tell_next.new.notes)) (told_note c.args.job.now.settings c.tell_next.new.tally.batches None (account_of c.in-Some.ran.end))
-    (error_is c.from_residual.result Write c.from_residual.ensures.1) c.in_err-tell_next-in-Some.ensures.told
-
-pub returns-in_err-tell_next-in-Some-clause-told : goal.returns-in_err-tell_next-in-Some-clause-told
-returns-in_err-tell_next-in-Some-clause-told g c =
-    let got = rw c.in-Some.is at c.next.ensures.some in
-    told_in_run c.picker-pick.ensures refl c.turns.invariant.run c.in-Some.ran c.next.new.self.rans got.1
-    (outputs_of (g.K.Sink.written c.tell_next.new.sink) (g.N.Sink.written c.tell_next.new.notes)) c.tell_next.new.tally (unchecked_ahead c.args.job.now.settings c.requires.settings c.requires.ahead)
-    (error_is c.from_residual.result Write c.from_residual.ensures.1) c.tell_next.ensures.adds c.in_err-tell_next-in-Some.ensures.told
+    let failed = error_is c.from_residual.result Write c.from_residual.ensures.1 in
+    record {
+      does = record {
+            ends = ends_in_run c.picker-pick.ensures refl c.turns.invariant.run c.in-Some.ran c.next.new.self.rans got.1 (g.S.Source.left c.turns.source)
+                (outputs_of (g.K.Sink.written c.tell_next.new.sink) (g.N.Sink.written c.tell_next.new.notes)) (told_note c.args.job.now.settings c.tell_next.new.tally.batches None (account_of c.in-Some.ran.end))
+                (error_is c.from_residual.result Write c.from_residual.ensures.1) c.in_err-tell_next-in-Some.ensures.told;
+            told = told_in_run c.picker-pick.ensures refl c.turns.invariant.run c.in-Some.ran c.next.new.self.rans got.1
+                (outputs_of (g.K.Sink.written c.tell_next.new.sink) (g.N.Sink.written c.tell_next.new.notes)) c.tell_next.new.tally (unchecked_ahead c.args.job.now.settings c.requires.settings c.requires.ahead)
+                (error_is c.from_residual.result Write c.from_residual.ensures.1) c.tell_next.ensures.adds c.in_err-tell_next-in-Some.ensures.told;
+            faults = faults_since c.args.job.now.settings (counts_still refl c.turns.invariant.sink_steady c.turns.invariant.notes_steady refl) (faults_ahead c.args.job.now.settings (noted_so c.args.job.now.settings) c.requires.ahead c.turns.invariant.source_faults
+                (λ is. absurd (let both = sym failed ∙ is in cc)) c.in_err-tell_next-in-Some.ensures.sink_faults c.in_err-tell_next-in-Some.ensures.notes_faults (λ is. c.in_err-tell_next-in-Some.ensures.cause) (λ other. absurd (other failed)));
+          };
+    }
 
 pub turns-preserved-in-Some : goal.turns-preserved-in-Some
 turns-preserved-in-Some g c =
@@ -75,8 +77,6 @@ turns-preserved-in-Some g c =
           got.0 c.in_ok-tell_next-in-Some.ensures.told c.in_ok-tell_next-in-Some.ensures.empty c.tell_next.ensures.adds;
       read = λ is. c.turns.invariant.read (sym (ap (λ (v : PipeView _). v.tail) got.0) ∙ is);
       source_faults = c.turns.invariant.source_faults;
-      sink_faults = omega (arith, c.turns.invariant.sink_faults, c.in_ok-tell_next-in-Some.ensures.sink_faults);
-      notes_faults = omega (arith, c.turns.invariant.notes_faults, c.in_ok-tell_next-in-Some.ensures.notes_faults);
       sink_steady = c.in_ok-tell_next-in-Some.ensures.steady.0 ∙ c.turns.invariant.sink_steady;
       notes_steady = c.in_ok-tell_next-in-Some.ensures.steady.1 ∙ c.turns.invariant.notes_steady;
     }
@@ -98,8 +98,6 @@ turns-preserved g c =
       read = read_in_round (g.S.Source.faults c.args.source.now) (g.S.Source.faults c.turns.source) (g.S.Source.faults c.round.new.source) c.round.ensures.round c.turns.invariant.source_faults
           c.round.ensures.never_falls (λ is. c.turns.invariant.read (sym tail ∙ is)) c.round.ensures.cause;
       source_faults = omega (arith, c.turns.invariant.source_faults, c.round.ensures.never_falls);
-      sink_faults = c.turns.invariant.sink_faults;
-      notes_faults = c.turns.invariant.notes_faults;
       sink_steady = c.turns.invariant.sink_steady;
       notes_steady = c.turns.invariant.notes_steady;
     }
@@ -121,37 +119,21 @@ end_ahead-requires-clause-layout g c =
 pub end_ahead-requires-clause-all : goal.end_ahead-requires-clause-all
 end_ahead-requires-clause-all g c = c.turns.invariant.run.goes.tallied.counts.workers
 
-pub returns-clause-ends : goal.returns-clause-ends
-returns-clause-ends g c =
+pub returns : goal.returns
+returns g c =
     let got = rw c.in-None.is at c.next.ensures.none in
     let p = piped_as got.0 c.turns.invariant.run in
     let over : IsGoing c.next.new.self → ⊥ = λ going. true≢false (sym (c.going.ensures.going.1 going) ∙ c.if-going.false) in
-    ends_by_tail c.end_ahead.result (outputs_of (g.K.Sink.written c.end_ahead.new.sink) (g.N.Sink.written c.end_ahead.new.notes))
-    (closing_text c.args.job.now.settings (g.A.EventApp.name_of c.args.job.now.app) c.next.new.self.engine c.turns.tally) p (ap (λ (v : PipeView _). v.rans) got.0 ∙ got.1) over
-    (closing_there c.args.job.now.settings (g.A.EventApp.name_of c.args.job.now.app) c.next.new.self.engine c.turns.tally _ p.layout) c.end_ahead.ensures.ends
-
-pub returns-clause-told : goal.returns-clause-told
-returns-clause-told g c =
-    let got = rw c.in-None.is at c.next.ensures.none in
-    let p = piped_as got.0 c.turns.invariant.run in
-    let over : IsGoing c.next.new.self → ⊥ = λ going. true≢false (sym (c.going.ensures.going.1 going) ∙ c.if-going.false) in
-    told_by_tail c.end_ahead.result (outputs_of (g.K.Sink.written c.end_ahead.new.sink) (g.N.Sink.written c.end_ahead.new.notes))
-    (closing_text c.args.job.now.settings (g.A.EventApp.name_of c.args.job.now.app) c.next.new.self.engine c.turns.tally) p (ap (λ (v : PipeView _). v.rans) got.0 ∙ got.1) over
-    (closing_there c.args.job.now.settings (g.A.EventApp.name_of c.args.job.now.app) c.next.new.self.engine c.turns.tally _ p.layout) c.end_ahead.ensures.ends
-
-pub returns-clause-read : goal.returns-clause-read
-returns-clause-read g c is =
-    let got = rw c.in-None.is at c.next.ensures.none in
-    c.turns.invariant.read (sym (ap (λ (v : PipeView _). v.tail) got.0) ∙ read_by_tail _ c.end_ahead.result _ _ _ _ c.end_ahead.ensures.ends is)
-
-pub returns-clause-write : goal.returns-clause-write
-returns-clause-write g c is =
-    risen_in_part (noted_so c.args.job.now.settings) (g.K.Sink.faults c.args.sink.now) (g.K.Sink.faults c.turns.sink) (g.K.Sink.faults c.end_ahead.new.sink) (g.N.Sink.faults c.args.notes.now) (g.N.Sink.faults c.turns.notes) (g.N.Sink.faults c.end_ahead.new.notes)
-    c.turns.invariant.sink_faults c.end_ahead.ensures.sink_faults c.turns.invariant.notes_faults c.end_ahead.ensures.notes_faults (c.end_ahead.ensures.write is)
-
-pub returns-in_err-tell_next-in-Some-clause-steady : goal.returns-in_err-tell_next-in-Some-clause-steady
-returns-in_err-tell_next-in-Some-clause-steady g c other = absurd (other (error_is c.from_residual.result Write c.from_residual.ensures.1))
-
-pub returns-clause-steady : goal.returns-clause-steady
-returns-clause-steady g c other =
-    let steady = c.end_ahead.ensures.steady other in (steady.0 ∙ c.turns.invariant.sink_steady, steady.1 ∙ c.turns.invariant.notes_steady)
+    record {
+      does = record {
+            ends = ends_by_tail c.end_ahead.result (outputs_of (g.K.Sink.written c.end_ahead.new.sink) (g.N.Sink.written c.end_ahead.new.notes))
+                (closing_text c.args.job.now.settings (g.A.EventApp.name_of c.args.job.now.app) c.next.new.self.engine c.turns.tally) p (ap (λ (v : PipeView _). v.rans) got.0 ∙ got.1) over
+                (closing_there c.args.job.now.settings (g.A.EventApp.name_of c.args.job.now.app) c.next.new.self.engine c.turns.tally _ p.layout) c.end_ahead.ensures.ends;
+            told = told_by_tail c.end_ahead.result (outputs_of (g.K.Sink.written c.end_ahead.new.sink) (g.N.Sink.written c.end_ahead.new.notes))
+                (closing_text c.args.job.now.settings (g.A.EventApp.name_of c.args.job.now.app) c.next.new.self.engine c.turns.tally) p (ap (λ (v : PipeView _). v.rans) got.0 ∙ got.1) over
+                (closing_there c.args.job.now.settings (g.A.EventApp.name_of c.args.job.now.app) c.next.new.self.engine c.turns.tally _ p.layout) c.end_ahead.ensures.ends;
+            faults = faults_since c.args.job.now.settings (counts_still refl c.turns.invariant.sink_steady c.turns.invariant.notes_steady refl) (faults_ahead c.args.job.now.settings (noted_so c.args.job.now.settings) c.requires.ahead c.turns.invariant.source_faults
+                (λ is. c.turns.invariant.read (sym (ap (λ (v : PipeView _). v.tail) got.0) ∙ read_by_tail _ c.end_ahead.result _ _ _ _ c.end_ahead.ensures.ends is))
+                c.end_ahead.ensures.sink_faults c.end_ahead.ensures.notes_faults c.end_ahead.ensures.write c.end_ahead.ensures.steady);
+          };
+    }

@@ -17,8 +17,6 @@ invariant-turns g l = record {
       (manner l.pick l.job.settings.workers) l.ahead.pipe (g.S.Source.left l.source) (outputs_of (g.K.Sink.written l.sink) (g.N.Sink.written l.notes)) l.tally l.ahead.out;
   read : l.ahead.pipe.tail ≡ Some (Fault ReadFault) → HasRisen (g.S.Source.faults l.initial.source) (g.S.Source.faults l.source);
   source_faults : g.S.Source.faults l.initial.source ≤ g.S.Source.faults l.source;
-  sink_faults : g.K.Sink.faults l.initial.sink ≤ g.K.Sink.faults l.sink;
-  notes_faults : g.N.Sink.faults l.initial.notes ≤ g.N.Sink.faults l.notes;
   sink_steady : g.K.Sink.faults l.sink ≡ g.K.Sink.faults l.initial.sink;
   notes_steady : g.N.Sink.faults l.notes ≡ g.N.Sink.faults l.initial.notes;
 }

@@ -1,10 +1,10 @@
-use Rattle.std.proofs.Common.{inl, inr, refl, ap, sym, ◌∙◌, arith, le_trans, lit≤}
+use Rattle.std.proofs.Common.{inl, inr, refl, ap, sym, ◌∙◌, le_trans, lit≤}
 use Rattle.run_text.specs.declared.tally.Tally.{Tally}
-use Rattle.morph_cli.proofs.Takings.{error_as, error_same, few_batches, never_read, between_same, ends_taken, told_taken, between_taken, shown_taken, watch_taken}
+use Rattle.morph_cli.proofs.Faulting.{counts_still, faults_since, faults_none, faults_reader, faults_batch, faults_write}
+use Rattle.morph_cli.proofs.Takings.{few_batches, never_read, between_same, ends_taken, told_taken, between_taken, shown_taken, watch_taken}
 use Rattle.morph_cli.proofs.Watches.{if_posted}
 use Rattle.event_reader.specs.declared.limits.TheConstants.{INPUT_BYTES}
 use Rattle.event_reader.specs.Accepted.{Ended, RefusedAt}
-use Rattle.event_reader.specs.declared.fault.ReaderFault.TheVariants.{ReadFault}
 use Rattle.morph_cli.specs.declared.fault.Fault.TheVariants.{Write}
 use Rattle.morph_cli.specs.Faults.{fault_of}
 use Rattle.run_text.specs.Notes.{noted, closing_notes}
@@ -13,7 +13,7 @@ use Rattle.morph_cli.specs.Runs.{layout_of}
 use Rattle.run_text.specs.Text.{refused_text}
 use Rattle.morph_cli.proofs.Between.{closing_of, closing_last, course_of, error_is, between_start, has_room, ends_fault, told_fault}
 use Rattle.morph_cli.proofs.Ending.{ends_complete, ends_refused, ends_cut, told_at_end, told_cut_at_end}
-use Rattle.morph_cli.proofs.Noting.{noted_so, risen_in_part}
+use Rattle.morph_cli.proofs.Noting.{noted_so}
 use Rattle.morph_cli.proofs.Turns.{cut_text}
 use Rattle.event_reader.specs.Versions.{greatest_of}
 use Rattle.morph_base.specs.Flat.{contents}
@@ -38,27 +38,21 @@ batches-init g c =
           (outputs_of (g.K.Sink.written c.args.sink.now) (g.N.Sink.written c.args.notes.now)))
           c.args.progress.now.reader c.args.progress.now.engine c.args.tally.now c.args.progress.now.out c.args.progress.now.last (layout_of (g.A.EventApp.table_count c.args.job.now.app) c.args.job.now.settings.size) c.requires.reader c.requires.layout
           refl c.requires.opening c.requires.empty c.requires.last c.requires.tally;
-      source_faults = omega arith;
-      sink_faults = omega arith;
-      notes_faults = omega arith;
       called = called_nothing g.S.Source.left g.S.Source.reads g.A.EventApp.event_of c.args.job.now.app c.args.job.now.settings.size c.args.source.now c.args.progress.now.reader c.requires.reader;
-      source_steady = refl;
-      sink_steady = refl;
-      notes_steady = refl;
+      steady = refl;
     }
 
-pub returns-in_err-batch-clause-ends : goal.returns-in_err-batch-clause-ends
-returns-in_err-batch-clause-ends g c =
-    ends_fault (g.S.Source.left c.next_batch.new.source) c.next_batch.new.self c.in_err-batch.field-0.0
-    (error_is c.from_residual.result (fault_of c.in_err-batch.field-0.0) c.from_residual.ensures.1)
-    c.batches.invariant.run c.in_err-batch.ensures.answers c.in_err-batch.ensures.shows c.in_err-batch.ensures.asked
-
-pub returns-in_err-batch-clause-told : goal.returns-in_err-batch-clause-told
-returns-in_err-batch-clause-told g c =
-    told_fault c.in_err-batch.field-0.0
-    (error_is c.from_residual.result (fault_of c.in_err-batch.field-0.0) c.from_residual.ensures.1) c.batches.invariant.run
-
--- ---- a batch
+pub returns-in_err-batch-clause-does : goal.returns-in_err-batch-clause-does
+returns-in_err-batch-clause-does g c =
+    record {
+      ends = ends_fault (g.S.Source.left c.next_batch.new.source) c.next_batch.new.self c.in_err-batch.field-0.0
+          (error_is c.from_residual.result (fault_of c.in_err-batch.field-0.0) c.from_residual.ensures.1)
+          c.batches.invariant.run c.in_err-batch.ensures.answers c.in_err-batch.ensures.shows c.in_err-batch.ensures.asked;
+      told = told_fault c.in_err-batch.field-0.0
+          (error_is c.from_residual.result (fault_of c.in_err-batch.field-0.0) c.from_residual.ensures.1) c.batches.invariant.run;
+      faults = faults_since c.args.job.now.settings c.batches.invariant.steady (faults_reader c.args.job.now.settings c.in_err-batch.field-0.0 (error_is c.from_residual.result (fault_of c.in_err-batch.field-0.0) c.from_residual.ensures.1)
+          c.in_err-batch.ensures.never_falls c.in_err-batch.ensures.steady c.in_err-batch.ensures.cause);
+    }
 
 pub take_batch-requires-clause-small : goal.take_batch-requires-clause-small
 take_batch-requires-clause-small g c κs outlives =
@@ -71,33 +65,20 @@ take_batch-requires-clause-room g c κs outlives a valid sound = has_room a c.ba
 pub take_batch-requires-clause-few : goal.take_batch-requires-clause-few
 take_batch-requires-clause-few g c κs outlives = few_batches c.batches.invariant.run (lit≤ tt)
 
-pub returns-in_err-take_batch-in-Batch-clause-ends : goal.returns-in_err-take_batch-in-Batch-clause-ends
-returns-in_err-take_batch-in-Batch-clause-ends g c =
+pub returns-in_err-take_batch-in-Batch-clause-does : goal.returns-in_err-take_batch-in-Batch-clause-does
+returns-in_err-take_batch-in-Batch-clause-does g c =
     let valid = rw c.in-Batch.is at c.in_ok-batch.ensures.valid in
     let answers = rw c.in-Batch.is at c.in_ok-batch.ensures.answers in
-    ends_taken (g.S.Source.left c.next_batch.new.source) c.next_batch.new.self _ _ c.batches.invariant.run refl refl c.batches.invariant.shown c.batches.invariant.watch answers valid.0
-    _ _ _ _ _ c.in_err-take_batch-in-Batch.field-0.0 (error_is c.from_residual-in_err-take_batch-in-Batch.result c.in_err-take_batch-in-Batch.field-0.0 c.from_residual-in_err-take_batch-in-Batch.ensures.1)
-    c.in_err-take_batch-in-Batch.ensures.takes
-
-pub returns-in_err-take_batch-in-Batch-clause-told : goal.returns-in_err-take_batch-in-Batch-clause-told
-returns-in_err-take_batch-in-Batch-clause-told g c =
-    let valid = rw c.in-Batch.is at c.in_ok-batch.ensures.valid in
-    let answers = rw c.in-Batch.is at c.in_ok-batch.ensures.answers in
-    told_taken (g.S.Source.left c.next_batch.new.source) c.next_batch.new.self _ _ c.batches.invariant.run refl refl c.batches.invariant.shown c.batches.invariant.watch answers valid.0
-    _ _ _ _ _ c.in_err-take_batch-in-Batch.field-0.0 (error_is c.from_residual-in_err-take_batch-in-Batch.result c.in_err-take_batch-in-Batch.field-0.0 c.from_residual-in_err-take_batch-in-Batch.ensures.1)
-    c.in_err-take_batch-in-Batch.ensures.takes
-
-pub returns-in_err-take_batch-in-Batch-clause-read : goal.returns-in_err-take_batch-in-Batch-clause-read
-returns-in_err-take_batch-in-Batch-clause-read g c is =
-    absurd (never_read _ _ _ _ _ _ _ _ _ _ _ _ c.in_err-take_batch-in-Batch.field-0.0 (error_is c.from_residual-in_err-take_batch-in-Batch.result c.in_err-take_batch-in-Batch.field-0.0 c.from_residual-in_err-take_batch-in-Batch.ensures.1) is
-    c.in_err-take_batch-in-Batch.ensures.takes)
-
-pub returns-in_err-take_batch-in-Batch-clause-write : goal.returns-in_err-take_batch-in-Batch-clause-write
-returns-in_err-take_batch-in-Batch-clause-write g c is =
-    risen_in_part (λ on. on) (g.K.Sink.faults c.args.sink.now) (g.K.Sink.faults c.batches.sink) (g.K.Sink.faults c.take_batch.new.sink) (g.N.Sink.faults c.args.notes.now) (g.N.Sink.faults c.batches.notes) (g.N.Sink.faults c.take_batch.new.notes)
-    c.batches.invariant.sink_faults c.in_err-take_batch-in-Batch.ensures.sink_faults c.batches.invariant.notes_faults c.in_err-take_batch-in-Batch.ensures.notes_faults
-    (c.in_err-take_batch-in-Batch.ensures.cause (error_same c.in_err-take_batch-in-Batch.field-0.0 Write
-    (sym (error_is c.from_residual-in_err-take_batch-in-Batch.result c.in_err-take_batch-in-Batch.field-0.0 c.from_residual-in_err-take_batch-in-Batch.ensures.1) ∙ is)))
+    record {
+      ends = ends_taken (g.S.Source.left c.next_batch.new.source) c.next_batch.new.self _ _ c.batches.invariant.run refl refl c.batches.invariant.shown c.batches.invariant.watch answers valid.0
+          _ _ _ _ _ c.in_err-take_batch-in-Batch.field-0.0 (error_is c.from_residual-in_err-take_batch-in-Batch.result c.in_err-take_batch-in-Batch.field-0.0 c.from_residual-in_err-take_batch-in-Batch.ensures.1)
+          c.in_err-take_batch-in-Batch.ensures.takes;
+      told = told_taken (g.S.Source.left c.next_batch.new.source) c.next_batch.new.self _ _ c.batches.invariant.run refl refl c.batches.invariant.shown c.batches.invariant.watch answers valid.0
+          _ _ _ _ _ c.in_err-take_batch-in-Batch.field-0.0 (error_is c.from_residual-in_err-take_batch-in-Batch.result c.in_err-take_batch-in-Batch.field-0.0 c.from_residual-in_err-take_batch-in-Batch.ensures.1)
+          c.in_err-take_batch-in-Batch.ensures.takes;
+      faults = faults_since c.args.job.now.settings (counts_still (c.in_ok-batch.ensures.steady (λ is. absurd (cc))) refl refl c.batches.invariant.steady) (faults_batch c.args.job.now.settings c.in_err-take_batch-in-Batch.field-0.0 (error_is c.from_residual-in_err-take_batch-in-Batch.result c.in_err-take_batch-in-Batch.field-0.0 c.from_residual-in_err-take_batch-in-Batch.ensures.1)
+          (λ is. never_read _ _ _ _ _ _ _ _ _ _ _ _ c.in_err-take_batch-in-Batch.field-0.0 (error_is c.from_residual-in_err-take_batch-in-Batch.result c.in_err-take_batch-in-Batch.field-0.0 c.from_residual-in_err-take_batch-in-Batch.ensures.1) is c.in_err-take_batch-in-Batch.ensures.takes) c.in_err-take_batch-in-Batch.ensures.sink_faults c.in_err-take_batch-in-Batch.ensures.notes_faults c.in_err-take_batch-in-Batch.ensures.steady c.in_err-take_batch-in-Batch.ensures.cause);
+    }
 
 pub batches-preserved : goal.batches-preserved
 batches-preserved g c =
@@ -116,14 +97,9 @@ batches-preserved g c =
       small = rw (c.in_ok-take_batch-in-Batch.ensures.takes.0.state, c.in_ok-take_batch-in-Batch.ensures.reader)
           (fold_batch-within (greatest_of c.next_batch.new.self.past.version) c.in-Batch.batch (contents c.batches.progress.engine) valid.1 valid.3
           (λ key. le_trans (c.batches.invariant.small key) c.in_ok-batch.ensures.same.3.rises));
-      source_faults = omega (arith, c.batches.invariant.source_faults, c.in_ok-batch.ensures.never_falls);
-      sink_faults = omega (arith, c.batches.invariant.sink_faults, c.in_ok-take_batch-in-Batch.ensures.sink_faults);
-      notes_faults = omega (arith, c.batches.invariant.notes_faults, c.in_ok-take_batch-in-Batch.ensures.notes_faults);
       called = called_more g.S.Source.left g.S.Source.reads g.A.EventApp.event_of c.args.job.now.app c.args.job.now.settings.size c.args.source.now c.batches.progress.reader c.next_batch.new.self _ c.batches.source c.next_batch.new.source _ refl c.in_ok-take_batch-in-Batch.ensures.reader c.in_ok-batch.ensures.same.0 c.in_ok-batch.ensures.same.1
           c.batches.invariant.called asks shows;
-      source_steady = c.in_ok-batch.ensures.steady (λ is. absurd (cc)) ∙ c.batches.invariant.source_steady;
-      sink_steady = (c.in_ok-take_batch-in-Batch.ensures.steady (λ is. absurd (cc))).0 ∙ c.batches.invariant.sink_steady;
-      notes_steady = (c.in_ok-take_batch-in-Batch.ensures.steady (λ is. absurd (cc))).1 ∙ c.batches.invariant.notes_steady;
+      steady = counts_still (c.in_ok-batch.ensures.steady (λ is. absurd (cc))) (c.in_ok-take_batch-in-Batch.ensures.steady (λ is. absurd (cc))).0 (c.in_ok-take_batch-in-Batch.ensures.steady (λ is. absurd (cc))).1 c.batches.invariant.steady;
     }
 
 -- ---- the end
@@ -134,134 +110,73 @@ tell_closing-requires-clause-all g c = c.batches.invariant.run.goes.tallied.coun
 pub tell_refused-requires-clause-all : goal.tell_refused-requires-clause-all
 tell_refused-requires-clause-all g c = c.batches.invariant.run.goes.tallied.counts.workers
 
-pub returns-in-End-clause-ends : goal.returns-in-End-clause-ends
-returns-in-End-clause-ends g c =
+pub returns-in-End-clause-does : goal.returns-in-End-clause-does
+returns-in-End-clause-does g c =
     let answers = rw c.in-End.is at c.in_ok-batch.ensures.answers in
-    ends_complete (g.S.Source.left c.next_batch.new.source) (outputs_of (g.K.Sink.written c.tell_closing.new.sink) (g.N.Sink.written c.tell_closing.new.notes))
-    (closing_of c.args.job.now.settings (g.A.EventApp.name_of c.args.job.now.app) c.state-values.result.now c.batches.tally)
-    (noted c.args.job.now.settings.notes (closing_notes c.args.job.now.settings.workers c.batches.tally)) c.batches.invariant.run.goes answers
-    (closing_last c.args.job.now.settings (g.A.EventApp.name_of c.args.job.now.app) c.state-values.result.now c.batches.progress.engine c.batches.tally _ c.state-values.ensures c.batches.invariant.run.layout) c.in_ok-tell_closing-in-End.ensures.told
+    record {
+      ends = ends_complete (g.S.Source.left c.next_batch.new.source) (outputs_of (g.K.Sink.written c.tell_closing.new.sink) (g.N.Sink.written c.tell_closing.new.notes))
+          (closing_of c.args.job.now.settings (g.A.EventApp.name_of c.args.job.now.app) c.state-values.result.now c.batches.tally)
+          (noted c.args.job.now.settings.notes (closing_notes c.args.job.now.settings.workers c.batches.tally)) c.batches.invariant.run.goes answers
+          (closing_last c.args.job.now.settings (g.A.EventApp.name_of c.args.job.now.app) c.state-values.result.now c.batches.progress.engine c.batches.tally _ c.state-values.ensures c.batches.invariant.run.layout) c.in_ok-tell_closing-in-End.ensures.told;
+      told = told_at_end (outputs_of (g.K.Sink.written c.tell_closing.new.sink) (g.N.Sink.written c.tell_closing.new.notes)) 0 Ended
+          (closing_of c.args.job.now.settings (g.A.EventApp.name_of c.args.job.now.app) c.state-values.result.now c.batches.tally)
+          (inl refl) (λ is. absurd (cc)) c.batches.invariant.run.goes answers
+          (closing_last c.args.job.now.settings (g.A.EventApp.name_of c.args.job.now.app) c.state-values.result.now c.batches.progress.engine c.batches.tally _ c.state-values.ensures c.batches.invariant.run.layout) c.in_ok-tell_closing-in-End.ensures.told;
+      faults = faults_none c.args.job.now.settings (counts_still (c.in_ok-batch.ensures.steady (λ is. absurd (cc))) c.in_ok-tell_closing-in-End.ensures.steady.0 c.in_ok-tell_closing-in-End.ensures.steady.1 c.batches.invariant.steady) (λ is. absurd (cc)) (λ is. absurd (cc));
+    }
 
-pub returns-in-End-clause-told : goal.returns-in-End-clause-told
-returns-in-End-clause-told g c =
+pub returns-in_err-tell_closing-in-End-clause-does : goal.returns-in_err-tell_closing-in-End-clause-does
+returns-in_err-tell_closing-in-End-clause-does g c =
     let answers = rw c.in-End.is at c.in_ok-batch.ensures.answers in
-    told_at_end (outputs_of (g.K.Sink.written c.tell_closing.new.sink) (g.N.Sink.written c.tell_closing.new.notes)) 0 Ended
-    (closing_of c.args.job.now.settings (g.A.EventApp.name_of c.args.job.now.app) c.state-values.result.now c.batches.tally)
-    (inl refl) (λ is. absurd (cc)) c.batches.invariant.run.goes answers
-    (closing_last c.args.job.now.settings (g.A.EventApp.name_of c.args.job.now.app) c.state-values.result.now c.batches.progress.engine c.batches.tally _ c.state-values.ensures c.batches.invariant.run.layout) c.in_ok-tell_closing-in-End.ensures.told
+    record {
+      ends = ends_cut (g.S.Source.left c.next_batch.new.source) (outputs_of (g.K.Sink.written c.tell_closing.new.sink) (g.N.Sink.written c.tell_closing.new.notes)) Ended
+          (closing_of c.args.job.now.settings (g.A.EventApp.name_of c.args.job.now.app) c.state-values.result.now c.batches.tally)
+          (error_is c.from_residual-in_err-tell_closing-in-End.result Write c.from_residual-in_err-tell_closing-in-End.ensures.1) c.batches.invariant.run.goes answers
+          (closing_last c.args.job.now.settings (g.A.EventApp.name_of c.args.job.now.app) c.state-values.result.now c.batches.progress.engine c.batches.tally _ c.state-values.ensures c.batches.invariant.run.layout)
+          (cut_text (outputs_of (g.K.Sink.written c.batches.sink) (g.N.Sink.written c.batches.notes))
+          (closing_of c.args.job.now.settings (g.A.EventApp.name_of c.args.job.now.app) c.state-values.result.now c.batches.tally)
+          (noted c.args.job.now.settings.notes (closing_notes c.args.job.now.settings.workers c.batches.tally)) (outputs_of (g.K.Sink.written c.tell_closing.new.sink) (g.N.Sink.written c.tell_closing.new.notes)) c.in_err-tell_closing-in-End.ensures.told);
+      told = told_cut_at_end (outputs_of (g.K.Sink.written c.tell_closing.new.sink) (g.N.Sink.written c.tell_closing.new.notes)) Ended
+          (closing_of c.args.job.now.settings (g.A.EventApp.name_of c.args.job.now.app) c.state-values.result.now c.batches.tally)
+          (error_is c.from_residual-in_err-tell_closing-in-End.result Write c.from_residual-in_err-tell_closing-in-End.ensures.1) (λ is. absurd (cc)) c.batches.invariant.run.goes answers
+          (closing_last c.args.job.now.settings (g.A.EventApp.name_of c.args.job.now.app) c.state-values.result.now c.batches.progress.engine c.batches.tally _ c.state-values.ensures c.batches.invariant.run.layout) c.in_err-tell_closing-in-End.ensures.told;
+      faults = faults_since c.args.job.now.settings (counts_still (c.in_ok-batch.ensures.steady (λ is. absurd (cc))) refl refl c.batches.invariant.steady) (faults_write c.args.job.now.settings (noted_so c.args.job.now.settings) (error_is c.from_residual-in_err-tell_closing-in-End.result Write c.from_residual-in_err-tell_closing-in-End.ensures.1)
+          c.in_err-tell_closing-in-End.ensures.sink_faults c.in_err-tell_closing-in-End.ensures.notes_faults c.in_err-tell_closing-in-End.ensures.cause);
+    }
 
-pub returns-in_err-tell_closing-in-End-clause-ends : goal.returns-in_err-tell_closing-in-End-clause-ends
-returns-in_err-tell_closing-in-End-clause-ends g c =
-    let answers = rw c.in-End.is at c.in_ok-batch.ensures.answers in
-    ends_cut (g.S.Source.left c.next_batch.new.source) (outputs_of (g.K.Sink.written c.tell_closing.new.sink) (g.N.Sink.written c.tell_closing.new.notes)) Ended
-    (closing_of c.args.job.now.settings (g.A.EventApp.name_of c.args.job.now.app) c.state-values.result.now c.batches.tally)
-    (error_is c.from_residual-in_err-tell_closing-in-End.result Write c.from_residual-in_err-tell_closing-in-End.ensures.1) c.batches.invariant.run.goes answers
-    (closing_last c.args.job.now.settings (g.A.EventApp.name_of c.args.job.now.app) c.state-values.result.now c.batches.progress.engine c.batches.tally _ c.state-values.ensures c.batches.invariant.run.layout)
-    (cut_text (outputs_of (g.K.Sink.written c.batches.sink) (g.N.Sink.written c.batches.notes))
-    (closing_of c.args.job.now.settings (g.A.EventApp.name_of c.args.job.now.app) c.state-values.result.now c.batches.tally)
-    (noted c.args.job.now.settings.notes (closing_notes c.args.job.now.settings.workers c.batches.tally)) (outputs_of (g.K.Sink.written c.tell_closing.new.sink) (g.N.Sink.written c.tell_closing.new.notes)) c.in_err-tell_closing-in-End.ensures.told)
-
-pub returns-in_err-tell_closing-in-End-clause-told : goal.returns-in_err-tell_closing-in-End-clause-told
-returns-in_err-tell_closing-in-End-clause-told g c =
-    let answers = rw c.in-End.is at c.in_ok-batch.ensures.answers in
-    told_cut_at_end (outputs_of (g.K.Sink.written c.tell_closing.new.sink) (g.N.Sink.written c.tell_closing.new.notes)) Ended
-    (closing_of c.args.job.now.settings (g.A.EventApp.name_of c.args.job.now.app) c.state-values.result.now c.batches.tally)
-    (error_is c.from_residual-in_err-tell_closing-in-End.result Write c.from_residual-in_err-tell_closing-in-End.ensures.1) (λ is. absurd (cc)) c.batches.invariant.run.goes answers
-    (closing_last c.args.job.now.settings (g.A.EventApp.name_of c.args.job.now.app) c.state-values.result.now c.batches.progress.engine c.batches.tally _ c.state-values.ensures c.batches.invariant.run.layout) c.in_err-tell_closing-in-End.ensures.told
-
-pub returns-in_err-tell_closing-in-End-clause-write : goal.returns-in_err-tell_closing-in-End-clause-write
-returns-in_err-tell_closing-in-End-clause-write g c is =
-    risen_in_part (noted_so c.args.job.now.settings) (g.K.Sink.faults c.args.sink.now) (g.K.Sink.faults c.batches.sink) (g.K.Sink.faults c.tell_closing.new.sink) (g.N.Sink.faults c.args.notes.now) (g.N.Sink.faults c.batches.notes) (g.N.Sink.faults c.tell_closing.new.notes)
-    c.batches.invariant.sink_faults c.in_err-tell_closing-in-End.ensures.sink_faults c.batches.invariant.notes_faults c.in_err-tell_closing-in-End.ensures.notes_faults c.in_err-tell_closing-in-End.ensures.cause
-
-pub returns-in-Refused-clause-ends : goal.returns-in-Refused-clause-ends
-returns-in-Refused-clause-ends g c =
+pub returns-in-Refused-clause-does : goal.returns-in-Refused-clause-does
+returns-in-Refused-clause-does g c =
     let answers = rw c.in-Refused.is at c.in_ok-batch.ensures.answers in
-    ends_refused (g.S.Source.left c.next_batch.new.source) (outputs_of (g.K.Sink.written c.tell_refused.new.sink) (g.N.Sink.written c.tell_refused.new.notes)) c.in-Refused.line c.in-Refused.cause
-    (refused_text c.in-Refused.line c.in-Refused.cause)
-    (noted c.args.job.now.settings.notes (closing_notes c.args.job.now.settings.workers c.batches.tally)) c.batches.invariant.run.goes answers
-    refl c.in_ok-tell_refused-in-Refused.ensures.told
+    record {
+      ends = ends_refused (g.S.Source.left c.next_batch.new.source) (outputs_of (g.K.Sink.written c.tell_refused.new.sink) (g.N.Sink.written c.tell_refused.new.notes)) c.in-Refused.line c.in-Refused.cause
+          (refused_text c.in-Refused.line c.in-Refused.cause)
+          (noted c.args.job.now.settings.notes (closing_notes c.args.job.now.settings.workers c.batches.tally)) c.batches.invariant.run.goes answers
+          refl c.in_ok-tell_refused-in-Refused.ensures.told;
+      told = told_at_end (outputs_of (g.K.Sink.written c.tell_refused.new.sink) (g.N.Sink.written c.tell_refused.new.notes)) 3 (RefusedAt c.in-Refused.line c.in-Refused.cause)
+          (refused_text c.in-Refused.line c.in-Refused.cause)
+          (inr refl) (λ is. absurd (cc)) c.batches.invariant.run.goes answers
+          refl c.in_ok-tell_refused-in-Refused.ensures.told;
+      faults = faults_none c.args.job.now.settings (counts_still (c.in_ok-batch.ensures.steady (λ is. absurd (cc))) c.in_ok-tell_refused-in-Refused.ensures.steady.0 c.in_ok-tell_refused-in-Refused.ensures.steady.1 c.batches.invariant.steady) (λ is. absurd (cc)) (λ is. absurd (cc));
+    }
 
-pub returns-in-Refused-clause-told : goal.returns-in-Refused-clause-told
-returns-in-Refused-clause-told g c =
+pub returns-in_err-tell_refused-in-Refused-clause-does : goal.returns-in_err-tell_refused-in-Refused-clause-does
+returns-in_err-tell_refused-in-Refused-clause-does g c =
     let answers = rw c.in-Refused.is at c.in_ok-batch.ensures.answers in
-    told_at_end (outputs_of (g.K.Sink.written c.tell_refused.new.sink) (g.N.Sink.written c.tell_refused.new.notes)) 3 (RefusedAt c.in-Refused.line c.in-Refused.cause)
-    (refused_text c.in-Refused.line c.in-Refused.cause)
-    (inr refl) (λ is. absurd (cc)) c.batches.invariant.run.goes answers
-    refl c.in_ok-tell_refused-in-Refused.ensures.told
-
-pub returns-in_err-tell_refused-in-Refused-clause-ends : goal.returns-in_err-tell_refused-in-Refused-clause-ends
-returns-in_err-tell_refused-in-Refused-clause-ends g c =
-    let answers = rw c.in-Refused.is at c.in_ok-batch.ensures.answers in
-    ends_cut (g.S.Source.left c.next_batch.new.source) (outputs_of (g.K.Sink.written c.tell_refused.new.sink) (g.N.Sink.written c.tell_refused.new.notes)) (RefusedAt c.in-Refused.line c.in-Refused.cause)
-    (refused_text c.in-Refused.line c.in-Refused.cause)
-    (error_is c.from_residual-in_err-tell_refused-in-Refused.result Write c.from_residual-in_err-tell_refused-in-Refused.ensures.1) c.batches.invariant.run.goes answers
-    refl
-    (cut_text (outputs_of (g.K.Sink.written c.batches.sink) (g.N.Sink.written c.batches.notes))
-    (refused_text c.in-Refused.line c.in-Refused.cause)
-    (noted c.args.job.now.settings.notes (closing_notes c.args.job.now.settings.workers c.batches.tally)) (outputs_of (g.K.Sink.written c.tell_refused.new.sink) (g.N.Sink.written c.tell_refused.new.notes)) c.in_err-tell_refused-in-Refused.ensures.told)
-
-pub returns-in_err-tell_refused-in-Refused-clause-told : goal.returns-in_err-tell_refused-in-Refused-clause-told
-returns-in_err-tell_refused-in-Refused-clause-told g c =
-    let answers = rw c.in-Refused.is at c.in_ok-batch.ensures.answers in
-    told_cut_at_end (outputs_of (g.K.Sink.written c.tell_refused.new.sink) (g.N.Sink.written c.tell_refused.new.notes)) (RefusedAt c.in-Refused.line c.in-Refused.cause)
-    (refused_text c.in-Refused.line c.in-Refused.cause)
-    (error_is c.from_residual-in_err-tell_refused-in-Refused.result Write c.from_residual-in_err-tell_refused-in-Refused.ensures.1) (λ is. absurd (cc)) c.batches.invariant.run.goes answers
-    refl c.in_err-tell_refused-in-Refused.ensures.told
-
-pub returns-in_err-tell_refused-in-Refused-clause-write : goal.returns-in_err-tell_refused-in-Refused-clause-write
-returns-in_err-tell_refused-in-Refused-clause-write g c is =
-    risen_in_part (noted_so c.args.job.now.settings) (g.K.Sink.faults c.args.sink.now) (g.K.Sink.faults c.batches.sink) (g.K.Sink.faults c.tell_refused.new.sink) (g.N.Sink.faults c.args.notes.now) (g.N.Sink.faults c.batches.notes) (g.N.Sink.faults c.tell_refused.new.notes)
-    c.batches.invariant.sink_faults c.in_err-tell_refused-in-Refused.ensures.sink_faults c.batches.invariant.notes_faults c.in_err-tell_refused-in-Refused.ensures.notes_faults c.in_err-tell_refused-in-Refused.ensures.cause
-
--- ---- the counts of faults
-
-pub returns-in_err-batch-clause-steady : goal.returns-in_err-batch-clause-steady
-returns-in_err-batch-clause-steady g c other = (c.batches.invariant.sink_steady, c.batches.invariant.notes_steady)
-
-pub returns-in_err-batch-clause-unread : goal.returns-in_err-batch-clause-unread
-returns-in_err-batch-clause-unread g c other =
-    c.in_err-batch.ensures.steady
-    (λ is. other (error_is c.from_residual.result (fault_of c.in_err-batch.field-0.0) c.from_residual.ensures.1 ∙ error_as fault_of c.in_err-batch.field-0.0 ReadFault is))
-    ∙ c.batches.invariant.source_steady
-
-pub returns-in_err-take_batch-in-Batch-clause-steady : goal.returns-in_err-take_batch-in-Batch-clause-steady
-returns-in_err-take_batch-in-Batch-clause-steady g c other =
-    let steady = c.in_err-take_batch-in-Batch.ensures.steady
-    (λ is. other (error_is c.from_residual-in_err-take_batch-in-Batch.result c.in_err-take_batch-in-Batch.field-0.0 c.from_residual-in_err-take_batch-in-Batch.ensures.1
-    ∙ error_same c.in_err-take_batch-in-Batch.field-0.0 Write is)) in
-    (steady.0 ∙ c.batches.invariant.sink_steady, steady.1 ∙ c.batches.invariant.notes_steady)
-
-pub returns-in_err-take_batch-in-Batch-clause-unread : goal.returns-in_err-take_batch-in-Batch-clause-unread
-returns-in_err-take_batch-in-Batch-clause-unread g c other = c.in_ok-batch.ensures.steady (λ is. absurd (cc)) ∙ c.batches.invariant.source_steady
-
-pub returns-in-End-clause-steady : goal.returns-in-End-clause-steady
-returns-in-End-clause-steady g c other =
-    (c.in_ok-tell_closing-in-End.ensures.steady.0 ∙ c.batches.invariant.sink_steady, c.in_ok-tell_closing-in-End.ensures.steady.1 ∙ c.batches.invariant.notes_steady)
-
-pub returns-in-End-clause-unread : goal.returns-in-End-clause-unread
-returns-in-End-clause-unread g c other = c.in_ok-batch.ensures.steady (λ is. absurd (cc)) ∙ c.batches.invariant.source_steady
-
-pub returns-in_err-tell_closing-in-End-clause-steady : goal.returns-in_err-tell_closing-in-End-clause-steady
-returns-in_err-tell_closing-in-End-clause-steady g c other = absurd (other (error_is c.from_residual-in_err-tell_closing-in-End.result Write c.from_residual-in_err-tell_closing-in-End.ensures.1))
-
-pub returns-in_err-tell_closing-in-End-clause-unread : goal.returns-in_err-tell_closing-in-End-clause-unread
-returns-in_err-tell_closing-in-End-clause-unread g c other = c.in_ok-batch.ensures.steady (λ is. absurd (cc)) ∙ c.batches.invariant.source_steady
-
-pub returns-in-Refused-clause-steady : goal.returns-in-Refused-clause-steady
-returns-in-Refused-clause-steady g c other =
-    (c.in_ok-tell_refused-in-Refused.ensures.steady.0 ∙ c.batches.invariant.sink_steady, c.in_ok-tell_refused-in-Refused.ensures.steady.1 ∙ c.batches.invariant.notes_steady)
-
-pub returns-in-Refused-clause-unread : goal.returns-in-Refused-clause-unread
-returns-in-Refused-clause-unread g c other = c.in_ok-batch.ensures.steady (λ is. absurd (cc)) ∙ c.batches.invariant.source_steady
-
-pub returns-in_err-tell_refused-in-Refused-clause-steady : goal.returns-in_err-tell_refused-in-Refused-clause-steady
-returns-in_err-tell_refused-in-Refused-clause-steady g c other = absurd (other (error_is c.from_residual-in_err-tell_refused-in-Refused.result Write c.from_residual-in_err-tell_refused-in-Refused.ensures.1))
-
-pub returns-in_err-tell_refused-in-Refused-clause-unread : goal.returns-in_err-tell_refused-in-Refused-clause-unread
-returns-in_err-tell_refused-in-Refused-clause-unread g c other = c.in_ok-batch.ensures.steady (λ is. absurd (cc)) ∙ c.batches.invariant.source_steady
-
--- ---- the reads
+    record {
+      ends = ends_cut (g.S.Source.left c.next_batch.new.source) (outputs_of (g.K.Sink.written c.tell_refused.new.sink) (g.N.Sink.written c.tell_refused.new.notes)) (RefusedAt c.in-Refused.line c.in-Refused.cause)
+          (refused_text c.in-Refused.line c.in-Refused.cause)
+          (error_is c.from_residual-in_err-tell_refused-in-Refused.result Write c.from_residual-in_err-tell_refused-in-Refused.ensures.1) c.batches.invariant.run.goes answers
+          refl
+          (cut_text (outputs_of (g.K.Sink.written c.batches.sink) (g.N.Sink.written c.batches.notes))
+          (refused_text c.in-Refused.line c.in-Refused.cause)
+          (noted c.args.job.now.settings.notes (closing_notes c.args.job.now.settings.workers c.batches.tally)) (outputs_of (g.K.Sink.written c.tell_refused.new.sink) (g.N.Sink.written c.tell_refused.new.notes)) c.in_err-tell_refused-in-Refused.ensures.told);
+      told = told_cut_at_end (outputs_of (g.K.Sink.written c.tell_refused.new.sink) (g.N.Sink.written c.tell_refused.new.notes)) (RefusedAt c.in-Refused.line c.in-Refused.cause)
+          (refused_text c.in-Refused.line c.in-Refused.cause)
+          (error_is c.from_residual-in_err-tell_refused-in-Refused.result Write c.from_residual-in_err-tell_refused-in-Refused.ensures.1) (λ is. absurd (cc)) c.batches.invariant.run.goes answers
+          refl c.in_err-tell_refused-in-Refused.ensures.told;
+      faults = faults_since c.args.job.now.settings (counts_still (c.in_ok-batch.ensures.steady (λ is. absurd (cc))) refl refl c.batches.invariant.steady) (faults_write c.args.job.now.settings (noted_so c.args.job.now.settings) (error_is c.from_residual-in_err-tell_refused-in-Refused.result Write c.from_residual-in_err-tell_refused-in-Refused.ensures.1)
+          c.in_err-tell_refused-in-Refused.ensures.sink_faults c.in_err-tell_refused-in-Refused.ensures.notes_faults c.in_err-tell_refused-in-Refused.ensures.cause);
+    }
 
 pub returns-in_err-take_batch-in-Batch-clause-asks : goal.returns-in_err-take_batch-in-Batch-clause-asks
 returns-in_err-take_batch-in-Batch-clause-asks g c =

@@ -1,4 +1,4 @@
-use Rattle.std.proofs.Common.{◌≡◌, ◌+◌, ◌-◌, ◌≤◌}
+use Rattle.std.proofs.Common.{◌≡◌, ◌+◌, ◌-◌}
 use Rattle.event_reader.specs.declared.limits.TheConstants.{INPUT_BYTES}
 use Rattle.std.specs.Prelude.{IfSome, IsSome, IsTrue}
 use Rattle.event_reader.specs.Versions.{greatest_of}
@@ -6,6 +6,7 @@ use Rattle.morph_base.specs.Flat.{contents}
 use Rattle.morph_base.specs.States.{IsUpTo}
 use Rattle.morph_cli.specs.Batches.{IsShown}
 use Rattle.morph_cli.specs.Outputs.{outputs_of}
+use Rattle.morph_cli.specs.RunContract.{fault_counts}
 use Rattle.morph_cli.proofs.Between.{Between, course_of}
 use Rattle.morph_cli.proofs.Calling.{Called}
 use Rattle.morph_cli.proofs.run.run_batches.Given as goal
@@ -18,13 +19,9 @@ invariant-batches g l = record {
   small : IsUpTo (greatest_of l.progress.reader.past.version) (contents l.progress.engine);
   shown : IfSome l.progress.watching (IsShown l.progress.engine.layout l.tally.batches (contents l.progress.engine));
   watch : IsSome l.progress.watching → IsTrue l.job.settings.watch;
-  source_faults : g.S.Source.faults l.initial.source ≤ g.S.Source.faults l.source;
-  sink_faults : g.K.Sink.faults l.initial.sink ≤ g.K.Sink.faults l.sink;
-  notes_faults : g.N.Sink.faults l.initial.notes ≤ g.N.Sink.faults l.notes;
   called : Called g.S.Source.left g.S.Source.reads g.A.EventApp.event_of l.job.app l.job.settings.size l.initial.source l.progress.reader l.source;
-  source_steady : g.S.Source.faults l.source ≡ g.S.Source.faults l.initial.source;
-  sink_steady : g.K.Sink.faults l.sink ≡ g.K.Sink.faults l.initial.sink;
-  notes_steady : g.N.Sink.faults l.notes ≡ g.N.Sink.faults l.initial.notes;
+  steady : fault_counts (g.S.Source.faults l.source) (g.K.Sink.faults l.sink) (g.N.Sink.faults l.notes)
+      ≡ fault_counts (g.S.Source.faults l.initial.source) (g.K.Sink.faults l.initial.sink) (g.N.Sink.faults l.initial.notes);
 }
 
 abbrev pub decreases-batches : goal.decreases-batches

@@ -13,13 +13,13 @@ use Rattle.morph_cli.proofs.top_call.morph.Goals as goal
 pub returns-clause-headline : goal.returns-clause-headline
 returns-clause-headline g c =
     headline_asked (settings_of (map (λ word. word.items) c.args.words.now)) c.in-Some.settings (g.S.Source.left c.args.source.now) (g.S.Source.left c.run_app-end.new.source)
-    (g.K.Sink.written c.args.sink.now) (g.K.Sink.written c.run_app-end.new.sink) c.run_app-end.result c.status.result (sym c.in-Some.ensures.asked) c.status.ensures c.run_app-end.ensures.ends
+    (g.K.Sink.written c.args.sink.now) (g.K.Sink.written c.run_app-end.new.sink) c.run_app-end.result c.status.result (sym c.in-Some.ensures.asked) c.status.ensures c.run_app-end.ensures.does.ends
 
 pub returns-clause-completes : goal.returns-clause-completes
 returns-clause-completes g c no_read other =
     completes_asked (settings_of (map (λ word. word.items) c.args.words.now)) c.in-Some.settings (g.S.Source.left c.args.source.now) (g.S.Source.left c.run_app-end.new.source)
     (g.K.Sink.written c.args.sink.now) (g.K.Sink.written c.run_app-end.new.sink) c.run_app-end.result c.status.result
-    (sym c.in-Some.ensures.asked) c.status.ensures c.run_app-end.ensures.ends (λ is. no_read (c.run_app-end.ensures.read is)) (λ is. other (c.status.ensures ∙ ap status_of is))
+    (sym c.in-Some.ensures.asked) c.status.ensures c.run_app-end.ensures.does.ends (λ is. no_read (c.run_app-end.ensures.does.faults.read is)) (λ is. other (c.status.ensures ∙ ap status_of is))
 
 pub returns-clause-made : goal.returns-clause-made
 returns-clause-made g c =
@@ -33,17 +33,17 @@ returns-clause-told g c =
     (outputs_of (g.K.Sink.written c.args.sink.now) (g.N.Sink.written c.args.notes.now)) (outputs_of (g.K.Sink.written c.run_app-end.new.sink) (g.N.Sink.written c.run_app-end.new.notes))
     (g.N.Sink.written c.write_note.new.notes) (HasRisen (g.K.Sink.faults c.args.sink.now) (g.K.Sink.faults c.run_app-end.new.sink))
     (g.N.Sink.faults c.args.notes.now) (g.N.Sink.faults c.run_app-end.new.notes) (g.N.Sink.faults c.write_note.new.notes) (sym c.in-Some.ensures.asked) c.status.ensures
-    c.run_app-end.ensures.ends c.run_app-end.ensures.told
+    c.run_app-end.ensures.does.ends c.run_app-end.ensures.does.told
     (subst (λ l. EndsWith l (g.N.Sink.written c.run_app-end.new.notes) (g.N.Sink.written c.write_note.new.notes) (g.N.Sink.faults c.run_app-end.new.notes) (g.N.Sink.faults c.write_note.new.notes)) c.note_of.ensures c.write_note.ensures.ends)
-    c.run_app-end.ensures.write (λ other. (c.run_app-end.ensures.steady other).1)
+    c.run_app-end.ensures.does.faults.write (λ other. (c.run_app-end.ensures.does.faults.steady other).1)
 
 pub returns-clause-steady : goal.returns-clause-steady
-returns-clause-steady g c other = (c.run_app-end.ensures.steady (λ is. other (c.status.ensures ∙ ap status_of is))).0
+returns-clause-steady g c other = (c.run_app-end.ensures.does.faults.steady (λ is. other (c.status.ensures ∙ ap status_of is))).0
 
 pub returns-clause-unread : goal.returns-clause-unread
 returns-clause-unread g c =
     asked_so (λ s. s.ahead ≡ 0 → (c.status.result ≡ 4 → ⊥) → g.S.Source.faults c.run_app-end.new.source ≡ g.S.Source.faults c.args.source.now) (settings_of (map (λ word. word.items) c.args.words.now)) c.in-Some.settings (sym c.in-Some.ensures.asked)
-    (λ none other. c.run_app-end.ensures.unread none (λ is. other (c.status.ensures ∙ ap status_of is)))
+    (λ none other. c.run_app-end.ensures.does.faults.unread none (λ is. other (c.status.ensures ∙ ap status_of is)))
 
 pub returns-clause-asks : goal.returns-clause-asks
 returns-clause-asks g c =
@@ -52,10 +52,10 @@ returns-clause-asks g c =
 
 pub returns-clause-balanced : goal.returns-clause-balanced
 returns-clause-balanced g c =
-    asked_so (λ s. IsBalanced s.planning s.workers c.run_app-end.new.tally) (settings_of (map (λ word. word.items) c.args.words.now)) c.in-Some.settings (sym c.in-Some.ensures.asked) c.run_app-end.ensures.told.balanced
+    asked_so (λ s. IsBalanced s.planning s.workers c.run_app-end.new.tally) (settings_of (map (λ word. word.items) c.args.words.now)) c.in-Some.settings (sym c.in-Some.ensures.asked) c.run_app-end.ensures.does.told.balanced
 
 pub returns-clause-write : goal.returns-clause-write
 returns-clause-write g c =
     write_asked (settings_of (map (λ word. word.items) c.args.words.now)) c.in-Some.settings c.run_app-end.result c.status.result (HasRisen (g.K.Sink.faults c.args.sink.now) (g.K.Sink.faults c.run_app-end.new.sink))
     (g.N.Sink.faults c.args.notes.now) (g.N.Sink.faults c.run_app-end.new.notes) (g.N.Sink.faults c.write_note.new.notes) (sym c.in-Some.ensures.asked) c.status.ensures
-    c.run_app-end.ensures.write c.write_note.ensures.never_falls
+    c.run_app-end.ensures.does.faults.write c.write_note.ensures.never_falls

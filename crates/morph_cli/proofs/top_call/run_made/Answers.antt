@@ -11,16 +11,23 @@ use Rattle.morph_cli.specs.Runs.{EndsSo}
 use Rattle.morph_cli.proofs.Making.{left_apart, made_ends}
 use Rattle.morph_cli.proofs.top_call.run_made.Goals as goal
 
-pub returns-clause-ends : goal.returns-clause-ends
-returns-clause-ends g c =
+pub returns-clause-does : goal.returns-clause-does
+returns-clause-does g c =
     let meaning = g.A.EventApp.event_of c.args.job.now.app c.args.job.now.settings.size in
     let telling = telling_by c.args.job.now.settings.generated (g.A.EventApp.table_count c.args.job.now.app) c.args.job.now.settings.size (g.A.EventApp.name_of c.args.job.now.app) in
     let left = Some (generated_left g.A.MakesInput.generated c.run.new.source) in
     let old = g.K.Sink.written c.args.sink.now in
     let new = g.K.Sink.written c.run.new.sink in
-    left_apart meaning telling INPUT_BYTES (generated_text (g.A.MakesInput.generated c.args.job.now.app c.args.job.now.settings.size) c.args.generated.seed c.args.generated.events) left None old new c.run.result
-    (λ is. let risen = c.run.ensures.read is in absurd (omega (arith, risen (omega arith))))
-    (subst (λ text. EndsSo meaning telling INPUT_BYTES text left old c.run.result new) (ap (generated_left g.A.MakesInput.generated) c.new-source.ensures) c.run.ensures.ends)
+    let does = c.run.ensures.does in
+    record {
+      ends = left_apart meaning telling INPUT_BYTES (generated_text (g.A.MakesInput.generated c.args.job.now.app c.args.job.now.settings.size) c.args.generated.seed c.args.generated.events) left None old new c.run.result
+          (λ is. let risen = does.faults.read is in absurd (omega (arith, risen (omega arith))))
+          (subst (λ text. EndsSo meaning telling INPUT_BYTES text left old c.run.result new) (ap (generated_left g.A.MakesInput.generated) c.new-source.ensures) does.ends);
+      told = subst (λ text. RunTold telling (option_map (accepted_within meaning INPUT_BYTES) (Some text)) c.args.job.now.settings (status_of c.run.result) c.run.new.tally
+          (outputs_of (g.K.Sink.written c.args.sink.now) (g.N.Sink.written c.args.notes.now)) (outputs_of (g.K.Sink.written c.run.new.sink) (g.N.Sink.written c.run.new.notes)))
+          (ap (generated_left g.A.MakesInput.generated) c.new-source.ensures) does.told;
+      faults = does.faults;
+    }
 
 pub returns-clause-made : goal.returns-clause-made
 returns-clause-made g c =
@@ -34,15 +41,7 @@ returns-clause-made g c =
     let few = rw c.requires.generated at c.requires.settings.generated in
     let law = c.generated_text_is_accepted.ensures in
     made_ends meaning telling INPUT_BYTES text left None old new c.run.result
-    (λ is. let risen = c.run.ensures.read is in absurd (omega (arith, risen (omega arith))))
+    (λ is. let risen = c.run.ensures.does.faults.read is in absurd (omega (arith, risen (omega arith))))
     (ap (λ (a : Accepted). a.ending) (law.within c.args.job.now.app size c.args.generated.seed c.args.generated.events c.requires.settings.some_ids c.requires.settings.few_ids few.1)
     ∙ law.ended c.args.job.now.app size c.args.generated.seed c.args.generated.events c.requires.settings.some_ids c.requires.settings.few_ids few.1)
-    (subst (λ t. EndsSo meaning telling INPUT_BYTES t left old c.run.result new) (ap (generated_left g.A.MakesInput.generated) c.new-source.ensures) c.run.ensures.ends)
-
-pub returns-clause-told : goal.returns-clause-told
-returns-clause-told g c =
-    let meaning = g.A.EventApp.event_of c.args.job.now.app c.args.job.now.settings.size in
-    let telling = telling_by c.args.job.now.settings.generated (g.A.EventApp.table_count c.args.job.now.app) c.args.job.now.settings.size (g.A.EventApp.name_of c.args.job.now.app) in
-    subst (λ text. RunTold telling (option_map (accepted_within meaning INPUT_BYTES) (Some text)) c.args.job.now.settings (status_of c.run.result) c.run.new.tally
-    (outputs_of (g.K.Sink.written c.args.sink.now) (g.N.Sink.written c.args.notes.now)) (outputs_of (g.K.Sink.written c.run.new.sink) (g.N.Sink.written c.run.new.notes)))
-    (ap (generated_left g.A.MakesInput.generated) c.new-source.ensures) c.run.ensures.told
+    (subst (λ t. EndsSo meaning telling INPUT_BYTES t left old c.run.result new) (ap (generated_left g.A.MakesInput.generated) c.new-source.ensures) c.run.ensures.does.ends)

@@ -3,11 +3,10 @@ ghost use Rattle.std.specs.Prelude.{◌≡◌, IfOk, OnOk};
 ghost use Rattle.morph_base.specs.declared.strategy.Abort.TheVariants.{Lazy};
 ghost use Rattle.morph_base.specs.Flat.{contents};
 ghost use Rattle.morph_base.specs.Graphs.{IsValidPlan};
-ghost use Rattle.morph_base.specs.Outcomes.{fates};
 ghost use Rattle.morph_base.specs.Plans.{HasBases, IsPlan, IsSettledOf, PlanKeysIn};
-ghost use Rattle.morph_base.specs.Plans.{event_count, state_at, transactions};
-ghost use Rattle.morph_engine.specs.Accounts.{IsAccount, account_of};
-ghost use Rattle.morph_engine.specs.Fates.{settled_fates};
+ghost use Rattle.morph_base.specs.Plans.{event_count, state_at};
+ghost use Rattle.morph_engine.specs.Accounts.{account_of};
+ghost use Rattle.morph_engine.specs.Ends.{IsEnd};
 ghost use Rattle.morph_engine.specs.Runs.{IsJournalledRun, journal_room};
 ghost use Rattle.morph_cli.specs.Tallies.{IsChecked};
 
@@ -34,13 +33,7 @@ pub fn run_checked<R: Threads + Sync, G>(
     ensures state { OnOk result
         (contents engine.new ≡ state_at plan (contents engine.old) (event_count plan)) }
     ensures layout { engine.new.layout ≡ engine.old.layout }
-    ensures plan { IfOk result (λ end. end.plan ≡ plan) }
-    ensures strategy { IfOk result (λ end. end.strategy ≡ strategy.now) }
-    ensures settled { IfOk result (λ end. IsSettledOf plan end.settled) }
-    ensures fates { IfOk result (λ end. settled_fates plan end.settled
-        ≡ fates (contents engine.old) (transactions plan)) }
-    ensures account { IfOk result
-        (λ end. IsAccount strategy.now.explore strategy.now.abort 1 (account_of end)) }
+    ensures ended { IfOk result (IsEnd plan strategy.now 1 (contents engine.old)) }
     ensures checked { IfOk result (λ end. IsChecked (account_of end)) }
 {
     let end = engine.run_kept(host.rt, host.alloc, plan, strategy)?;

@@ -1,6 +1,6 @@
 -- Runners that are set aside while the others explore, and brought back.
-use Rattle.std.proofs.Common.{◌≡◌, ℕ, ◌+◌, ◌-◌, ◌<◌, ◌≤◌, List, [], ◌∷◌, ◌++◌, length, get_or, reverse, refl, sym, ap, ◌∙◌, subst, append_assoc, arith, length-append, inl, inr}
-use Rattle.std.specs.Prelude.{All, None, Contains, slice_index_or}
+use Rattle.std.proofs.Common.{◌≡◌, ℕ, ◌+◌, ◌-◌, ◌<◌, ◌≤◌, List, [], ◌∷◌, ◌++◌, length, get_or, reverse, sym, ap, ◌∙◌, subst, append_assoc, arith, length-append, inl, inr}
+use Rattle.std.specs.Prelude.{All, None, slice_index_or}
 use Rattle.std.proofs.Math.Seq.{get_or-append_right}
 use Rattle.std.proofs.lemmas.Bool.{cases_lt}
 use Rattle.std.proofs.lemmas.List.{get_or_append_left, get_or-append-add, reverse-append, length-reverse}
@@ -17,13 +17,13 @@ use Rattle.op_eval.specs.declared.runners.Runners.{Runners}
 use Rattle.op_eval.specs.Alone.{IsNewRoot, HasRunAll, Ran}
 use Rattle.op_eval.specs.Exploring.{AreExplored, IsExploring, Unused}
 use Rattle.op_eval.specs.Further.{AreFurther, IsFurther}
-use Rattle.op_eval.specs.Gathering.{runners_of, HasPlaces, AreAtRest}
+use Rattle.op_eval.specs.Gathering.{runners_of, HasPlaces}
 use Rattle.op_eval.specs.Running.{hand_view}
 use Rattle.op_eval.proofs.Further.{same_further}
 use Rattle.steal_explorer.specs.Handed.{AreReached}
 use Rattle.morph_engine.specs.Crews.{IsCrew, AreWaiting}
 use Rattle.morph_engine.specs.declared.crew.Crew.{Crew}
-use Rattle.morph_engine.specs.Exploring.{AreOwn, HaveHanded}
+use Rattle.morph_engine.specs.Exploring.{HaveHanded}
 
 -- ---- one after the other
 

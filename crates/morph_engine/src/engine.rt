@@ -1,23 +1,16 @@
-ghost use Rattle.std.specs.Prelude.{◌≡◌, ℕ, ◌≤◌, IfOk, OnOk, OnErr, length, map};
+ghost use Rattle.std.specs.Prelude.{◌≡◌, ℕ, ◌≤◌, IfOk, OnOk, OnErr, length};
 ghost use Rattle.morph_base.specs.Limits.{most_workers};
 ghost use Rattle.morph_base.specs.declared.key.Layout.{Layout};
 ghost use Rattle.morph_base.specs.Flat.{contents};
 ghost use Rattle.morph_base.specs.States.{opening_state, IsUpTo};
 ghost use Rattle.morph_base.specs.Transactions.{IsBatch, BatchKeysIn, high_of_all, transactions_of};
-ghost use Rattle.morph_base.specs.Outcomes.{fates};
-ghost use Rattle.morph_base.specs.Plans.{HasBases, IsPlanOf, IsSettledOf, PlanKeysIn, event_count};
+ghost use Rattle.morph_base.specs.Plans.{HasBases, IsPlanOf, PlanKeysIn, event_count};
 ghost use Rattle.morph_base.specs.Plans.{high_of, state_at, transactions};
 ghost use Rattle.morph_base.specs.Graphs.{IsValidPlan};
-ghost use Rattle.morph_engine.specs.Accounts.{IsAccount, account_of};
-ghost use Rattle.morph_engine.specs.Caps.{cap_for};
-ghost use Rattle.morph_engine.specs.Fates.{settled_fates};
-ghost use Rattle.morph_engine.specs.Runs.{IsPrepared, HasJournalRoom, HasRun, IsJournalledRun};
+ghost use Rattle.morph_engine.specs.Runs.{IsPrepared, HasJournalRoom, IsJournalledRun};
 ghost use Rattle.morph_engine.specs.Ends.{IsEnd};
 ghost use Rattle.morph_engine.specs.Exploring.{explore_of};
 ghost use Rattle.op_eval.specs.Gathering.{runners_of};
-ghost use Rattle.op_words.specs.Closing.{IsClosed};
-ghost use Rattle.op_words.specs.Hands.{counts_of};
-ghost use Rattle.op_words.specs.declared.trail.View.{View as RootView};
 
 use crate::prepared::{Prepared, Ran};
 use morph_base::{Batch, Layout, List, OutOfMemory, Plan, Settled, Strategy};
@@ -175,22 +168,7 @@ impl Engine {
         ensures state { OnOk result
             (contents self.new ≡ state_at plan (contents self.old) (event_count plan)) }
         ensures layout { self.new.layout ≡ self.old.layout }
-        ensures plan { IfOk result (λ end. end.plan ≡ plan) }
-        ensures strategy { IfOk result (λ end. end.strategy ≡ strategy.now) }
-        ensures settled { IfOk result (λ end. IsSettledOf plan end.settled) }
-
-        // What was settled says what becomes of each event.
-        ensures fates { IfOk result (λ end. settled_fates plan end.settled
-            ≡ fates (contents self.old) (transactions plan)) }
-        ensures run { IfOk result
-            (λ end. HasRun plan strategy.now.explore strategy.now.abort workers end.closed
-            (map (λ list. list.items) end.left.items) end.settled.by.items end.handed end.stolen) }
-        ensures counts { IfOk result (λ end. (counters : ℕ) (v : RootView)
-            (is : IsClosed plan (cap_for strategy.now.abort) counters v end.closed)
-            → end.counts ≡ counts_of is.ends.history) }
-        ensures account { IfOk result
-            (λ end. IsAccount strategy.now.explore strategy.now.abort workers
-            (account_of end)) }
+        ensures ended { IfOk result (IsEnd plan strategy.now workers (contents self.old)) }
         ensures refused { OnErr result (self.new ≡ self.old) }
     {
         let side_by_side = gate.needs_threads();

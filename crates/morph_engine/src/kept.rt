@@ -1,16 +1,10 @@
 //! Runs that keep a journal.
-ghost use Rattle.std.specs.Prelude.{◌≡◌, ◌+◌, ◌*◌, ◌^◌, ◌<◌, ℕ, IfOk, OnOk, OnErr, map};
+ghost use Rattle.std.specs.Prelude.{◌≡◌, ◌+◌, ◌*◌, ◌^◌, ◌<◌, IfOk, OnOk, OnErr};
 ghost use Rattle.morph_base.specs.Flat.{contents};
-ghost use Rattle.morph_base.specs.Outcomes.{fates};
-ghost use Rattle.morph_base.specs.Plans.{HasBases, IsSettledOf, PlanKeysIn, event_count, state_at, transactions};
+ghost use Rattle.morph_base.specs.Plans.{HasBases, PlanKeysIn, event_count, state_at};
 ghost use Rattle.morph_base.specs.Graphs.{IsValidPlan};
-ghost use Rattle.morph_engine.specs.Accounts.{IsAccount, account_of};
-ghost use Rattle.morph_engine.specs.Caps.{cap_for};
-ghost use Rattle.morph_engine.specs.Fates.{settled_fates};
-ghost use Rattle.morph_engine.specs.Runs.{HasRun, IsJournalledRun, journal_room};
-ghost use Rattle.op_words.specs.Closing.{IsClosed};
-ghost use Rattle.op_words.specs.Hands.{counts_of};
-ghost use Rattle.op_words.specs.declared.trail.View.{View as RootView};
+ghost use Rattle.morph_engine.specs.Ends.{IsEnd};
+ghost use Rattle.morph_engine.specs.Runs.{IsJournalledRun, journal_room};
 
 use crate::engine::{BatchEnd, Engine};
 use crate::prepared::Prepared;
@@ -45,19 +39,7 @@ impl Engine {
         ensures state { OnOk result
             (contents self.new ≡ state_at plan (contents self.old) (event_count plan)) }
         ensures layout { self.new.layout ≡ self.old.layout }
-        ensures plan { IfOk result (λ end. end.plan ≡ plan) }
-        ensures strategy { IfOk result (λ end. end.strategy ≡ strategy.now) }
-        ensures settled { IfOk result (λ end. IsSettledOf plan end.settled) }
-        ensures fates { IfOk result (λ end. settled_fates plan end.settled
-            ≡ fates (contents self.old) (transactions plan)) }
-        ensures run { IfOk result
-            (λ end. HasRun plan strategy.now.explore strategy.now.abort 1 end.closed
-            (map (λ list. list.items) end.left.items) end.settled.by.items end.handed end.stolen) }
-        ensures counts { IfOk result (λ end. (counters : ℕ) (v : RootView)
-            (is : IsClosed plan (cap_for strategy.now.abort) counters v end.closed)
-            → end.counts ≡ counts_of is.ends.history) }
-        ensures account { IfOk result
-            (λ end. IsAccount strategy.now.explore strategy.now.abort 1 (account_of end)) }
+        ensures ended { IfOk result (IsEnd plan strategy.now 1 (contents self.old)) }
         ensures kept { IfOk result
             (λ end. IsJournalledRun plan strategy.now.abort (journal_room plan) end.closed) }
         ensures refused { OnErr result (self.new ≡ self.old) }

@@ -15,7 +15,7 @@ use Rattle.batch_pipe.proofs.runner.run_one.Goals as goal
 
 pub returns-clause-run : goal.returns-clause-run
 returns-clause-run g c =
-    let e = c.in_ok-end.ensures.plan in
+    let e = c.in_ok-end.ensures.ended.plan in
     let s = contents c.args.engine.now in
     let end = c.in_ok-end.end in
     let r = end.settled in
@@ -25,23 +25,15 @@ returns-clause-run g c =
       events = ap transactions e ∙ c.rebase.ensures.transactions;
       valid = subst IsValidPlan (sym e) c.rebase.ensures.valid;
       bases = subst (λ (p : Plan). HasBases p s) (sym e) c.rebase.ensures.bases;
-      settled = subst (λ (p : Plan). IsSettledOf p r) (sym e) c.in_ok-end.ensures.settled;
-      fates_are = ap (λ (p : Plan). settled_fates p r) e ∙ c.in_ok-end.ensures.fates ∙ ap (fates s) c.rebase.ensures.transactions;
+      settled = subst (λ (p : Plan). IsSettledOf p r) (sym e) c.in_ok-end.ensures.ended.settled;
+      fates_are = ap (λ (p : Plan). settled_fates p r) e ∙ c.in_ok-end.ensures.ended.fates_are ∙ ap (fates s) c.rebase.ensures.transactions;
       strategy = c.pick-strategy.ensures ∙ ap (picked host.pick c.args.last.now) (sym e);
-      run_by = c.in_ok-end.ensures.strategy;
+      run_by = c.in_ok-end.ensures.ended.strategy_is;
       ended =
           subst (λ (p : Plan). IsEnd p end.strategy host.workers s end) (sym e)
-          (subst (λ (t : Strategy). IsEnd c.rebase.new.plan t host.workers s end) (sym c.in_ok-end.ensures.strategy)
-          record {
-            plan = e;
-            strategy_is = c.in_ok-end.ensures.strategy;
-            settled = c.in_ok-end.ensures.settled;
-            fates_are = c.in_ok-end.ensures.fates;
-            run = c.in_ok-end.ensures.run;
-            counts = c.in_ok-end.ensures.counts;
-            account = c.in_ok-end.ensures.account;
-          });
-      account = subst (λ (t : Strategy). IsAccount t.explore t.abort host.workers (account_of c.in_ok-end.end)) (sym c.in_ok-end.ensures.strategy) c.in_ok-end.ensures.account;
+          (subst (λ (t : Strategy). IsEnd c.rebase.new.plan t host.workers s end) (sym c.in_ok-end.ensures.ended.strategy_is)
+          c.in_ok-end.ensures.ended);
+      account = subst (λ (t : Strategy). IsAccount t.explore t.abort host.workers (account_of c.in_ok-end.end)) (sym c.in_ok-end.ensures.ended.strategy_is) c.in_ok-end.ensures.ended.account;
     }
 
 pub returns-clause-state : goal.returns-clause-state

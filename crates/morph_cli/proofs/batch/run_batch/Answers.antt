@@ -14,10 +14,12 @@ use Rattle.morph_base.specs.declared.event.Batch.{Batch}
 use Rattle.morph_base.specs.Flat.{Kept, contents}
 use Rattle.morph_base.specs.Outcomes.{fates}
 use Rattle.morph_base.specs.Plans.{IsSettledOf, PlanKeysIn, transactions}
+use Rattle.morph_base.specs.States.{State}
 use Rattle.morph_base.specs.Transactions.{transactions_of, by_time}
 use Rattle.morph_base.proofs.EndLaws.{state_at-fold}
 use Rattle.morph_engine.specs.declared.engine.BatchEnd.{BatchEnd}
 use Rattle.morph_engine.specs.Accounts.{IsAccount, account_of}
+use Rattle.morph_engine.specs.Ends.{IsEnd}
 use Rattle.morph_engine.specs.Fates.{settled_fates}
 use Rattle.decision_model.specs.declared.counts.Last.{Last}
 use Rattle.run_text.specs.declared.choices.Settings.{Settings}
@@ -32,18 +34,17 @@ returns-clause-state g c =
 
 -- what came of the run is what came of the batch
 ends_are : {E : Type 0} (r : Result BatchEnd E) (s : Settings) (last : Last) (before : Kept) (batch : Batch) (p : Plan) (q : Strategy) →
-    IfOk r (λ end. end.plan ≡ p) → IfOk r (λ end. end.strategy ≡ q) → IfOk r (λ end. settled_fates p end.settled ≡ fates (contents before) (transactions p)) →
-    IfOk r (λ end. IsSettledOf p end.settled) → IfOk r (λ end. IsAccount q.explore q.abort s.workers (account_of end)) → IfOk r (λ end. IsTrue (is_checked s.check) → IsChecked (account_of end)) →
+    IfOk r (IsEnd p q s.workers (contents before)) → IfOk r (λ end. IsTrue (is_checked s.check) → IsChecked (account_of end)) →
     transactions p ≡ by_time (transactions_of batch) → IsMadeOf (contents before) (transactions_of batch) p → PlanKeysIn p before.layout → q ≡ strategy_by s.planning p last →
     IfOk r (IsEndOf s last before batch)
-ends_are (Err e) s last before batch p q plan strategy fates_are settled account checked events made keys chosen = tt
-ends_are (Ok end) s last before batch p q plan strategy fates_are settled account checked events made keys chosen = record {
-  fates_are = ap (λ (x : Plan). settled_fates x end.settled) plan ∙ fates_are ∙ ap (fates (contents before)) events;
-  made = subst (IsMadeOf (contents before) (transactions_of batch)) (sym plan) made;
-  keys = subst (λ (x : Plan). PlanKeysIn x before.layout) (sym plan) keys;
-  settled = subst (λ (x : Plan). IsSettledOf x end.settled) (sym plan) settled;
-  strategy = strategy ∙ chosen ∙ ap (λ (x : Plan). strategy_by s.planning x last) (sym plan);
-  account = subst (λ (x : Strategy). IsAccount x.explore x.abort s.workers (account_of end)) (sym strategy) account;
+ends_are (Err e) s last before batch p q ended checked events made keys chosen = tt
+ends_are (Ok end) s last before batch p q ended checked events made keys chosen = record {
+  fates_are = ap (λ (x : Plan). settled_fates x end.settled) ended.plan ∙ ended.fates_are ∙ ap (fates (contents before)) events;
+  made = subst (IsMadeOf (contents before) (transactions_of batch)) (sym ended.plan) made;
+  keys = subst (λ (x : Plan). PlanKeysIn x before.layout) (sym ended.plan) keys;
+  settled = subst (λ (x : Plan). IsSettledOf x end.settled) (sym ended.plan) ended.settled;
+  strategy = ended.strategy_is ∙ chosen ∙ ap (λ (x : Plan). strategy_by s.planning x last) (sym ended.plan);
+  account = subst (λ (x : Strategy). IsAccount x.explore x.abort s.workers (account_of end)) (sym ended.strategy_is) ended.account;
   checked = checked;
 }
 
@@ -57,8 +58,8 @@ asked : {E : Type 0} (r : Result BatchEnd E) (s : Settings) → IfOk r (λ end. 
 asked (Err e) s checked = tt
 asked (Ok end) s checked = λ on. checked
 
-one_worker : {E : Type 0} (r : Result BatchEnd E) (q : Strategy) (workers : ℕ) → workers ≡ 1 → IfOk r (λ end. IsAccount q.explore q.abort 1 (account_of end)) → IfOk r (λ end. IsAccount q.explore q.abort workers (account_of end))
-one_worker r q workers one account = subst (λ n. IfOk r (λ end. IsAccount q.explore q.abort n (account_of end))) (sym one) account
+one_worker : {E : Type 0} (r : Result BatchEnd E) (p : Plan) (q : Strategy) (state : State) (workers : ℕ) → workers ≡ 1 → IfOk r (IsEnd p q 1 state) → IfOk r (IsEnd p q workers state)
+one_worker r p q state workers one ended = subst (λ n. IfOk r (IsEnd p q n state)) (sym one) ended
 
 -- the strategy that is given has lazy abort
 lazy_given : (planning : Planning) (p : Plan) (last : Last) → is_lazy planning ≡ true → (strategy_by planning p last).abort ≡ Lazy
@@ -80,8 +81,7 @@ returns-then-is_on-clause-state g c =
 pub returns-then-is_on-clause-ran : goal.returns-then-is_on-clause-ran
 returns-then-is_on-clause-ran g c =
     ends_are c.run_checked.result c.args.settings.now c.args.last c.args.engine.now c.args.batch.now c.in_ok-plan.plan c.strategy_for-strategy.result
-    c.run_checked.ensures.plan c.run_checked.ensures.strategy c.run_checked.ensures.fates c.run_checked.ensures.settled
-    (one_worker c.run_checked.result c.strategy_for-strategy.result c.args.settings.now.workers (c.requires.settings.unchecked (sym c.is_on.ensures ∙ c.if-is_on.true)).2 c.run_checked.ensures.account)
+    (one_worker c.run_checked.result c.in_ok-plan.plan c.strategy_for-strategy.result (contents c.args.engine.now) c.args.settings.now.workers (c.requires.settings.unchecked (sym c.is_on.ensures ∙ c.if-is_on.true)).2 c.run_checked.ensures.ended)
     (asked c.run_checked.result c.args.settings.now c.run_checked.ensures.checked)
     c.in_ok-plan.ensures.events (record { valid = c.in_ok-plan.ensures.valid; events = c.in_ok-plan.ensures.events; bases = c.in_ok-plan.ensures.bases })
     c.in_ok-plan.ensures.keys c.strategy_for-strategy.ensures
@@ -89,6 +89,6 @@ returns-then-is_on-clause-ran g c =
 pub returns-clause-ran : goal.returns-clause-ran
 returns-clause-ran g c =
     ends_are c.run_batch.result c.args.settings.now c.args.last c.args.engine.now c.args.batch.now c.in_ok-plan.plan c.strategy_for-strategy.result
-    c.run_batch.ensures.plan c.run_batch.ensures.strategy c.run_batch.ensures.fates c.run_batch.ensures.settled c.run_batch.ensures.account (unasked c.run_batch.result c.args.settings.now (sym c.is_on.ensures ∙ c.if-is_on.false))
+    c.run_batch.ensures.ended (unasked c.run_batch.result c.args.settings.now (sym c.is_on.ensures ∙ c.if-is_on.false))
     c.in_ok-plan.ensures.events (record { valid = c.in_ok-plan.ensures.valid; events = c.in_ok-plan.ensures.events; bases = c.in_ok-plan.ensures.bases })
     c.in_ok-plan.ensures.keys c.strategy_for-strategy.ensures

@@ -1,4 +1,4 @@
-use Rattle.std.specs.Prelude.{◌≡◌, ◌+◌, ◌≤◌, ◌++◌, length, reverse}
+use Rattle.std.specs.Prelude.{◌≡◌, ◌+◌, ◌++◌, length, reverse}
 use Rattle.op_eval.specs.Gathering.{runners_of, spare, HasPlaces}
 use Rattle.morph_engine.proofs.crew.set_aside.Given as goal
 

@@ -1,6 +1,4 @@
-use Rattle.std.proofs.Common.{◌≡◌, ℕ, ◌∙◌, ap, refl}
-use Rattle.op_eval.specs.Exploring.{AreExplored}
-use Rattle.op_eval.specs.Gathering.{runners_of}
+use Rattle.std.proofs.Common.{ℕ, ap}
 use Rattle.op_eval.specs.declared.explored.RunEnd.{RunEnd}
 use Rattle.op_eval.specs.declared.runners.Runners.{Runners}
 use Rattle.op_words.specs.declared.board.Board.{Board}

@@ -1,7 +1,7 @@
-use Rattle.std.proofs.Common.{length, sym, subst}
+use Rattle.std.proofs.Common.{sym, subst}
 use Rattle.op_words.specs.Hands.{cap_of}
 use Rattle.op_eval.specs.Gathering.{runners_of}
-use Rattle.morph_engine.specs.Exploring.{explore_of, IsSupply, HasExploredBy}
+use Rattle.morph_engine.specs.Exploring.{explore_of, HasExploredBy}
 use Rattle.morph_engine.proofs.Passing.{have_passed}
 use Rattle.morph_engine.proofs.exploring.explore_by.Goals as goal
 

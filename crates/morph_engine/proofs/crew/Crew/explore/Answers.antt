@@ -1,4 +1,4 @@
-use Rattle.std.proofs.Common.{◌≡◌, ℕ, ◌<◌, ◌∙◌, length, reverse, sym, ap, subst}
+use Rattle.std.proofs.Common.{◌<◌, length, sym, subst}
 use Rattle.op_words.specs.Hands.{cap_of}
 use Rattle.op_eval.specs.Gathering.{runners_of}
 use Rattle.morph_engine.proofs.HandingOut.{have_handed}

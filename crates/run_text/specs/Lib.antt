@@ -3,6 +3,8 @@ pub mod Text
 pub mod Reports
 pub mod Counts
 pub mod Notes
+pub mod Words
+pub mod Values
 pub mod Settings
 pub mod NoSettings
 pub mod SaidSettings

@@ -3,7 +3,7 @@ use Rattle.std.proofs.lemmas.Bool.{cond-true}
 use Rattle.morph_io.specs.Told.{Puts}
 use Rattle.morph_io.proofs.Putting.{puts_nothing}
 use Rattle.run_text.specs.Text.{value_line}
-use Rattle.run_text.proofs.writing.put_value.Goals as goal
+use Rattle.run_text.proofs.tables.put_value.Goals as goal
 
 no_line : (name : List ℕ) (id value : ℕ) → value ≡ 0 → value_line name id value ≡ []
 no_line name id value zero = cond-true (value == 0) [] _ (eq-eqb value 0 zero)

@@ -9,7 +9,7 @@ use Rattle.morph_io.proofs.Putting.{puts_nothing}
 use Rattle.run_text.specs.Text.{value_line}
 use Rattle.version_table.proofs.Summing.{inside_range, all_of_range}
 use Rattle.run_text.proofs.Pieces.{on_err, puts_more, puts_stop}
-use Rattle.run_text.proofs.writing.put_table.Goals as goal
+use Rattle.run_text.proofs.tables.put_table.Goals as goal
 
 abbrev at_id : List ℕ → State → ℕ → ℕ → List ℕ
 at_id name s table id = value_line name id (s (record { table = table; id = id }))

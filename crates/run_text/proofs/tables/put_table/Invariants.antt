@@ -3,7 +3,7 @@ use Rattle.std.specs.List.{flat_map, range_with_len}
 use Rattle.morph_base.specs.Flat.{contents}
 use Rattle.morph_io.specs.Told.{Puts}
 use Rattle.run_text.specs.Text.{value_line}
-use Rattle.run_text.proofs.writing.put_table.Given as goal
+use Rattle.run_text.proofs.tables.put_table.Given as goal
 
 abbrev pub invariant-loop-id : goal.invariant-loop-id
 invariant-loop-id g l = record {

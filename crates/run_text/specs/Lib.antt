@@ -1,4 +1,5 @@
 pub mod Checks
+pub mod Calls
 pub mod Text
 pub mod Reports
 pub mod Counts

@@ -2,8 +2,7 @@ ghost use Rattle.std.specs.Prelude.{◌≡◌, ◌<◌, ◌≤◌, ◌++◌, len
 ghost use Rattle.morph_base.specs.Flat.{contents};
 ghost use Rattle.event_reader.specs.declared.limits.TheConstants.{NAME_BYTES};
 ghost use Rattle.run_text.specs.declared.choices.TheConstants.{GREATEST_SIZE};
-ghost use Rattle.morph_io.specs.Told.{HasRisen, Puts};
-ghost use Rattle.morph_io.specs.Writing.{AppendsPart};
+ghost use Rattle.run_text.specs.Calls.{PutsText};
 ghost use Rattle.run_text.specs.Text.{value_line, table_lines, total_line, told_table, told_values};
 ghost use Rattle.version_table.specs.Totals.{total_of};
 
@@ -22,13 +21,8 @@ fn put_value<K: Sink>(
     value: u64,
 ) -> Result<(), WriteFailed>
     requires short { length name.now ≤ NAME_BYTES }
-    ensures puts { OnOk result (Puts (K.written sink.old) out.old (value_line name.now id value)
-        (K.written sink.new) out.new) }
-    ensures prefix { OnErr result (AppendsPart (K.written sink.old)
-        (out.old ++ value_line name.now id value) (K.written sink.new)) }
-    ensures never_falls { K.faults sink.old ≤ K.faults sink.new }
-    ensures steady { OnOk result (K.faults sink.new ≡ K.faults sink.old) }
-    ensures cause { OnErr result (HasRisen (K.faults sink.old) (K.faults sink.new)) }
+    ensures { PutsText K.written K.faults (value_line name.now id value)
+        result sink.old out.old sink.new out.new }
 {
     if value == 0 {
         return Ok(());
@@ -53,15 +47,8 @@ fn put_table<K: Sink>(
 ) -> Result<(), WriteFailed>
     requires table { table < values.now.layout.tables }
     requires short { length name.now ≤ NAME_BYTES }
-    ensures puts { OnOk result (Puts (K.written sink.old) out.old
-        (table_lines name.now (contents values.now) table values.now.layout.size)
-        (K.written sink.new) out.new) }
-    ensures prefix { OnErr result (AppendsPart (K.written sink.old)
-        (out.old ++ table_lines name.now (contents values.now) table values.now.layout.size)
-        (K.written sink.new)) }
-    ensures never_falls { K.faults sink.old ≤ K.faults sink.new }
-    ensures steady { OnOk result (K.faults sink.new ≡ K.faults sink.old) }
-    ensures cause { OnErr result (HasRisen (K.faults sink.old) (K.faults sink.new)) }
+    ensures { PutsText K.written K.faults (table_lines name.now (contents values.now) table values.now.layout.size)
+        result sink.old out.old sink.new out.new }
 {
     for id in 0..values.layout().size {
         let value = values.get(Key { table, id });
@@ -94,15 +81,8 @@ fn put_total<K: Sink>(
     requires table { table < values.now.layout.tables }
     requires few_ids { values.now.layout.size ≤ GREATEST_SIZE }
     requires short { length name.now ≤ NAME_BYTES }
-    ensures puts { OnOk result (Puts (K.written sink.old) out.old
-        (total_line name.now (contents values.now) table values.now.layout.size)
-        (K.written sink.new) out.new) }
-    ensures prefix { OnErr result (AppendsPart (K.written sink.old)
-        (out.old ++ total_line name.now (contents values.now) table values.now.layout.size)
-        (K.written sink.new)) }
-    ensures never_falls { K.faults sink.old ≤ K.faults sink.new }
-    ensures steady { OnOk result (K.faults sink.new ≡ K.faults sink.old) }
-    ensures cause { OnErr result (HasRisen (K.faults sink.old) (K.faults sink.new)) }
+    ensures { PutsText K.written K.faults (total_line name.now (contents values.now) table values.now.layout.size)
+        result sink.old out.old sink.new out.new }
 {
     let mut line = LineBuf::new();
     line.word(name.as_bytes());
@@ -124,15 +104,8 @@ fn put_told_table<K: Sink>(
     requires table { table < values.now.layout.tables }
     requires few_ids { values.now.layout.size ≤ GREATEST_SIZE }
     requires short { length name.now ≤ NAME_BYTES }
-    ensures puts { OnOk result (Puts (K.written sink.old) out.old
-        (told_table report name.now (contents values.now) table values.now.layout.size)
-        (K.written sink.new) out.new) }
-    ensures prefix { OnErr result (AppendsPart (K.written sink.old)
-        (out.old ++ told_table report name.now (contents values.now) table values.now.layout.size)
-        (K.written sink.new)) }
-    ensures never_falls { K.faults sink.old ≤ K.faults sink.new }
-    ensures steady { OnOk result (K.faults sink.new ≡ K.faults sink.old) }
-    ensures cause { OnErr result (HasRisen (K.faults sink.old) (K.faults sink.new)) }
+    ensures { PutsText K.written K.faults (told_table report name.now (contents values.now) table values.now.layout.size)
+        result sink.old out.old sink.new out.new }
 {
     match report {
         Report::Whole => put_table(out, sink, name, values, table),
@@ -150,15 +123,8 @@ pub fn put_told_values<A: EventApp, K: Sink>(
 ) -> Result<(), WriteFailed>
     requires tables { values.now.layout.tables ≡ A.table_count app.now }
     requires few_ids { values.now.layout.size ≤ GREATEST_SIZE }
-    ensures puts { OnOk result (Puts (K.written sink.old) out.old
-        (told_values report values.now.layout (A.name_of app.now) (contents values.now))
-        (K.written sink.new) out.new) }
-    ensures prefix { OnErr result (AppendsPart (K.written sink.old)
-        (out.old ++ told_values report values.now.layout (A.name_of app.now) (contents values.now))
-        (K.written sink.new)) }
-    ensures never_falls { K.faults sink.old ≤ K.faults sink.new }
-    ensures steady { OnOk result (K.faults sink.new ≡ K.faults sink.old) }
-    ensures cause { OnErr result (HasRisen (K.faults sink.old) (K.faults sink.new)) }
+    ensures { PutsText K.written K.faults (told_values report values.now.layout (A.name_of app.now) (contents values.now))
+        result sink.old out.old sink.new out.new }
 {
     for table in 0..app.tables() {
         let name = app.table_name(table);

@@ -3,7 +3,8 @@ ghost use Rattle.morph_base.specs.Flat.{contents};
 ghost use Rattle.morph_base.specs.Plans.{IsPlan, IsSettledOf};
 ghost use Rattle.morph_engine.specs.Fates.{settled_fates};
 ghost use Rattle.run_text.specs.declared.choices.TheConstants.{GREATEST_SIZE};
-ghost use Rattle.morph_io.specs.Told.{behind, HasRisen, Puts};
+ghost use Rattle.run_text.specs.Calls.{PutsText, WritesText};
+ghost use Rattle.morph_io.specs.Told.{behind, HasRisen};
 ghost use Rattle.morph_io.specs.Writing.{AppendsPart};
 ghost use Rattle.run_text.specs.Text.{lines_of, told_lines, told_values, counts_line, cause_word, refused_text};
 
@@ -47,14 +48,9 @@ fn write_lines<K: Sink>(out: &mut Out, sink: &mut K, end: &BatchEnd) -> Result<(
     requires empty { out.old ≡ [] }
     requires plan { IsPlan end.now.plan }
     requires settled { IsSettledOf end.now.plan end.now.settled }
-    ensures written { OnOk result (K.written sink.new ≡ behind (K.written sink.old)
-        (lines_of (settled_fates end.now.plan end.now.settled))) }
-    ensures prefix { OnErr result (AppendsPart (K.written sink.old)
-        (lines_of (settled_fates end.now.plan end.now.settled)) (K.written sink.new)) }
+    ensures text { WritesText K.written K.faults (lines_of (settled_fates end.now.plan end.now.settled))
+        result sink.old sink.new }
     ensures empty { OnOk result (out.new ≡ []) }
-    ensures never_falls { K.faults sink.old ≤ K.faults sink.new }
-    ensures steady { OnOk result (K.faults sink.new ≡ K.faults sink.old) }
-    ensures cause { OnErr result (HasRisen (K.faults sink.old) (K.faults sink.new)) }
 {
     put_events(out, sink, &end.plan, &end.settled)?;
     out.flush(sink)
@@ -132,13 +128,8 @@ fn put_events<K: Sink>(
 ) -> Result<(), WriteFailed>
     requires plan { IsPlan plan.now }
     requires settled { IsSettledOf plan.now settled.now }
-    ensures puts { OnOk result (Puts (K.written sink.old) out.old
-        (lines_of (settled_fates plan.now settled.now)) (K.written sink.new) out.new) }
-    ensures prefix { OnErr result (AppendsPart (K.written sink.old)
-        (out.old ++ lines_of (settled_fates plan.now settled.now)) (K.written sink.new)) }
-    ensures never_falls { K.faults sink.old ≤ K.faults sink.new }
-    ensures steady { OnOk result (K.faults sink.new ≡ K.faults sink.old) }
-    ensures cause { OnErr result (HasRisen (K.faults sink.old) (K.faults sink.new)) }
+    ensures { PutsText K.written K.faults (lines_of (settled_fates plan.now settled.now))
+        result sink.old out.old sink.new out.new }
 {
     let mut line = LineBuf::new();
     for i in 0..plan.events.len() as u32 {
@@ -152,13 +143,8 @@ fn put_events<K: Sink>(
 
 /// Puts the line of the counts.
 fn put_counts<K: Sink>(out: &mut Out, sink: &mut K, tally: &Tally) -> Result<(), WriteFailed>
-    ensures puts { OnOk result (Puts (K.written sink.old) out.old
-        (counts_line tally.now.committed tally.now.aborted) (K.written sink.new) out.new) }
-    ensures prefix { OnErr result (AppendsPart (K.written sink.old)
-        (out.old ++ counts_line tally.now.committed tally.now.aborted) (K.written sink.new)) }
-    ensures never_falls { K.faults sink.old ≤ K.faults sink.new }
-    ensures steady { OnOk result (K.faults sink.new ≡ K.faults sink.old) }
-    ensures cause { OnErr result (HasRisen (K.faults sink.old) (K.faults sink.new)) }
+    ensures { PutsText K.written K.faults (counts_line tally.now.committed tally.now.aborted)
+        result sink.old out.old sink.new out.new }
 {
     let mut line = LineBuf::new();
     line.word(b"committed ");
@@ -176,13 +162,8 @@ fn put_refused<K: Sink>(
     number: u64,
     cause: Cause,
 ) -> Result<(), WriteFailed>
-    ensures puts { OnOk result (Puts (K.written sink.old) out.old (refused_text number cause)
-        (K.written sink.new) out.new) }
-    ensures prefix { OnErr result (AppendsPart (K.written sink.old)
-        (out.old ++ refused_text number cause) (K.written sink.new)) }
-    ensures never_falls { K.faults sink.old ≤ K.faults sink.new }
-    ensures steady { OnOk result (K.faults sink.new ≡ K.faults sink.old) }
-    ensures cause { OnErr result (HasRisen (K.faults sink.old) (K.faults sink.new)) }
+    ensures { PutsText K.written K.faults (refused_text number cause)
+        result sink.old out.old sink.new out.new }
 {
     let mut line = LineBuf::new();
     line.word(b"refused line ");

@@ -62,7 +62,8 @@ fn write_check<N: Sink>(
 ) -> Result<(), WriteFailed>
     requires empty { out.old ≡ [] }
     requires plan { IsPlan plan.now }
-    ensures text { WritesText N.written N.faults (step_notes check journal.now ++ check_note number (is_cut plan.now journal.now))
+    ensures text { WritesText N.written N.faults
+        (step_notes check journal.now ++ check_note number (is_cut plan.now journal.now))
         result notes.old notes.new }
     ensures empty { OnOk result (out.new ≡ []) }
 {

@@ -47,7 +47,8 @@ fn put_table<K: Sink>(
 ) -> Result<(), WriteFailed>
     requires table { table < values.now.layout.tables }
     requires short { length name.now ≤ NAME_BYTES }
-    ensures { PutsText K.written K.faults (table_lines name.now (contents values.now) table values.now.layout.size)
+    ensures { PutsText K.written K.faults
+        (table_lines name.now (contents values.now) table values.now.layout.size)
         result sink.old out.old sink.new out.new }
 {
     for id in 0..values.layout().size {
@@ -81,7 +82,8 @@ fn put_total<K: Sink>(
     requires table { table < values.now.layout.tables }
     requires few_ids { values.now.layout.size ≤ GREATEST_SIZE }
     requires short { length name.now ≤ NAME_BYTES }
-    ensures { PutsText K.written K.faults (total_line name.now (contents values.now) table values.now.layout.size)
+    ensures { PutsText K.written K.faults
+        (total_line name.now (contents values.now) table values.now.layout.size)
         result sink.old out.old sink.new out.new }
 {
     let mut line = LineBuf::new();
@@ -104,7 +106,8 @@ fn put_told_table<K: Sink>(
     requires table { table < values.now.layout.tables }
     requires few_ids { values.now.layout.size ≤ GREATEST_SIZE }
     requires short { length name.now ≤ NAME_BYTES }
-    ensures { PutsText K.written K.faults (told_table report name.now (contents values.now) table values.now.layout.size)
+    ensures { PutsText K.written K.faults
+        (told_table report name.now (contents values.now) table values.now.layout.size)
         result sink.old out.old sink.new out.new }
 {
     match report {
@@ -123,7 +126,8 @@ pub fn put_told_values<A: EventApp, K: Sink>(
 ) -> Result<(), WriteFailed>
     requires tables { values.now.layout.tables ≡ A.table_count app.now }
     requires few_ids { values.now.layout.size ≤ GREATEST_SIZE }
-    ensures { PutsText K.written K.faults (told_values report values.now.layout (A.name_of app.now) (contents values.now))
+    ensures { PutsText K.written K.faults
+        (told_values report values.now.layout (A.name_of app.now) (contents values.now))
         result sink.old out.old sink.new out.new }
 {
     for table in 0..app.tables() {

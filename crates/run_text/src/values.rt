@@ -86,8 +86,8 @@ pub fn meaning_under<T: Copy>(
     table: &[(&[u8], T)],
     default: T,
 ) -> Option<T>
-    ensures { result ≡ given_under name (meaning_in (map (λ row. (row.0.now, row.1)) table.now)) default
-        (map (λ word. word.items) words.now) }
+    ensures { result ≡ given_under name (meaning_in (map (λ row. (row.0.now, row.1)) table.now))
+        default (map (λ word. word.items) words.now) }
 {
     match value_under(words, name) {
         Some(value) => meaning_in(table, value),
@@ -117,15 +117,16 @@ fn number_in(value: &[u8], range: Range) -> Option<u64>
     }
 }
 
-/// The number that is given under a name, or the other one if the name is not given.
-pub fn number_under(words: &[List<u8>], name: Name, range: Range, other: u64) -> Option<u64>
+/// The number that is given under a name, or the default if the name is not given.
+pub fn number_under(words: &[List<u8>], name: Name, range: Range, default: u64) -> Option<u64>
     requires range { range.greatest ≤ GREATEST_NUMBER }
-    requires other { (range.least ≤ other) × (other ≤ range.greatest) }
-    ensures says { result ≡ given_under name (number_in range) other (map (λ word. word.items) words.now) }
+    requires default { (range.least ≤ default) × (default ≤ range.greatest) }
+    ensures says { result ≡ given_under name (number_in range) default
+        (map (λ word. word.items) words.now) }
     ensures fits { IfSome result (λ n. (range.least ≤ n) × (n ≤ range.greatest)) }
 {
     match value_under(words, name) {
         Some(value) => number_in(value, range),
-        None => Some(other),
+        None => Some(default),
     }
 }

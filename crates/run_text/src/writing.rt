@@ -48,7 +48,8 @@ fn write_lines<K: Sink>(out: &mut Out, sink: &mut K, end: &BatchEnd) -> Result<(
     requires empty { out.old ≡ [] }
     requires plan { IsPlan end.now.plan }
     requires settled { IsSettledOf end.now.plan end.now.settled }
-    ensures text { WritesText K.written K.faults (lines_of (settled_fates end.now.plan end.now.settled))
+    ensures text { WritesText K.written K.faults
+        (lines_of (settled_fates end.now.plan end.now.settled))
         result sink.old sink.new }
     ensures empty { OnOk result (out.new ≡ []) }
 {

@@ -1,6 +1,6 @@
 """The settings that the program accepts, and what is wrong with words that are none.
 
-The table is that of the program: crates/run_text/src/words.rt reads the words, and specs/Settings.antt and
+The table is that of the program: src/values.rt of crates/run_text has the values, and specs/Values.antt and
 specs/NoSettings.antt beside it say what they mean. tests/script compares the two.
 """
 import difflib

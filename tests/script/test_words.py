@@ -29,21 +29,22 @@ class Table(unittest.TestCase):
     """The table against the sources."""
 
     def setUp(self):
-        self.spec = (RUN_TEXT / "specs/Settings.antt").read_text()
+        self.words = (RUN_TEXT / "specs/Words.antt").read_text()
+        self.values = (RUN_TEXT / "specs/Values.antt").read_text()
 
     def test_names(self):
         names = re.findall(r'b"(\w+)=",', (RUN_TEXT / "src/names.rt").read_text())
         self.assertEqual(names, list(SETTINGS))
-        self.assertEqual(re.findall(r'^text_of \w+ = codes "(\w+)"', self.spec, re.M), list(SETTINGS))
+        self.assertEqual(re.findall(r'^text_of \w+ = codes "(\w+)"', self.words, re.M), list(SETTINGS))
 
     def test_ranges(self):
         for name, defined in RANGES.items():
-            least, greatest = re.search(rf"^{defined} = from_to (\d+) (\d+)$", self.spec, re.M).groups()
+            least, greatest = re.search(rf"^{defined} = from_to (\d+) (\d+)$", self.values, re.M).groups()
             self.assertEqual(SETTINGS[name].values, (int(least), int(greatest)), name)
 
     def test_words(self):
         for name, defined in WORDS.items():
-            body = re.search(rf"^{defined} value =((?:.*\n)+?)\n", self.spec, re.M).group(1)
+            body = re.search(rf"^{defined} value =((?:.*\n)+?)\n", self.values, re.M).group(1)
             self.assertEqual(sorted(re.findall(r'codes "(\w+)"', body)), sorted(SETTINGS[name].values), name)
 
     def test_every_setting_is_compared(self):

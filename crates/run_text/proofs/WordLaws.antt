@@ -6,7 +6,7 @@ use Rattle.std.specs.Str.{bytes_eq}
 use Rattle.std.proofs.lemmas.Bool.{and_parts, both_ways, not-true}
 use Rattle.run_text.specs.declared.names.Name.{Name}
 use Rattle.run_text.specs.declared.names.Name.TheVariants.{App, Own, Workers, Size, Unit as UnitName, Explore as ExploreName, Abort as AbortName, Plan as PlanName, Seed, Events, Notes, Ahead, Watch, Check}
-use Rattle.run_text.specs.Settings.{text_of, has_equals, name_of, has_name, value_in}
+use Rattle.run_text.specs.Words.{text_of, has_equals, name_of, has_name, value_in}
 
 abbrev is_other : ℕ → Bool
 is_other byte = not (byte == 61)

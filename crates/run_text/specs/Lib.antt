@@ -1,8 +1,11 @@
 pub mod Checks
+pub mod Calls
 pub mod Text
 pub mod Reports
 pub mod Counts
 pub mod Notes
+pub mod Words
+pub mod Values
 pub mod Settings
 pub mod NoSettings
 pub mod SaidSettings

@@ -5,8 +5,11 @@ use Rattle.std.specs.Str.{bytes_eq}
 use Rattle.run_text.specs.declared.names.Name.{Name}
 use Rattle.run_text.specs.declared.names.Name.TheVariants.{App, Own, Workers, Size, Unit as UnitName, Explore as ExploreName, Abort as AbortName, Plan as PlanName, Seed, Events, Notes, Ahead, Watch, Check as CheckName}
 use Rattle.run_text.specs.declared.choices.Check.{Check}
+use Rattle.run_text.specs.declared.choices.Check.TheVariants.{Off}
 use Rattle.run_text.specs.declared.choices.Planning.{Planning}
-use Rattle.run_text.specs.Settings.{text_of, all_names, has_equals, name_of, has_name, value_under, is_given, app_in, switch_in, unit_in, explore_in, abort_in, auto_in, auto_under, is_strategy_given, says_in, worker_counts, sizes, seeds, event_counts, ahead_counts, number_under, switch_under, check_in, check_under, planning_of, is_alone, can_check}
+use Rattle.run_text.specs.Words.{text_of, all_names, has_equals, name_of, has_name, value_under, is_given}
+use Rattle.run_text.specs.Values.{app_in, switch_in, unit_in, explore_in, abort_in, auto_in, says_in, worker_counts, sizes, seeds, event_counts, ahead_counts, check_in, number_in, given_under}
+use Rattle.run_text.specs.Settings.{is_strategy_given, planning_of, is_alone, can_check}
 
 -- The test whether bytes are a name that there is
 abbrev pub is_name : List ℕ → Bool
@@ -49,13 +52,13 @@ pub data NoSettings (words : List (List ℕ)) : Type 0 where
   -- A seed or a number of events is given without `self`
   made_alone : (is_given Seed words || is_given Events words) ≡ true → is_given Own words ≡ false → NoSettings words
   -- A part of the strategy is given though the program chooses it
-  chosen_and_given : auto_under PlanName words ≡ Some true → is_strategy_given words ≡ true → NoSettings words
+  chosen_and_given : given_under PlanName auto_in false words ≡ Some true → is_strategy_given words ≡ true → NoSettings words
   -- More than one is asked for of what may not go together
-  not_alone : (ahead : ℕ) (watch : Bool) (check : Check) → number_under Ahead ahead_counts 0 words ≡ Some ahead
-      → switch_under Watch words ≡ Some watch
-      → check_under CheckName words ≡ Some check → is_alone ahead watch check ≡ false → NoSettings words
+  not_alone : (ahead : ℕ) (watch : Bool) (check : Check) → given_under Ahead (number_in ahead_counts) 0 words ≡ Some ahead
+      → given_under Watch switch_in false words ≡ Some watch
+      → given_under CheckName check_in Off words ≡ Some check → is_alone ahead watch check ≡ false → NoSettings words
   -- Journals are to be checked of runs that cannot be: by several workers, with eager abort, or by strategies that the
   -- program chooses
-  not_checkable : (check : Check) (workers : ℕ) (planning : Planning) → check_under CheckName words ≡ Some check
-      → number_under Workers worker_counts 1 words ≡ Some workers
+  not_checkable : (check : Check) (workers : ℕ) (planning : Planning) → given_under CheckName check_in Off words ≡ Some check
+      → given_under Workers (number_in worker_counts) 1 words ≡ Some workers
       → planning_of words ≡ Some planning → can_check check workers planning ≡ false → NoSettings words

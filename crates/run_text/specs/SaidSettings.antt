@@ -13,7 +13,8 @@ use Rattle.run_text.specs.declared.choices.Planning.TheVariants.{Fixed, Auto}
 use Rattle.run_text.specs.declared.choices.Settings.{Settings}
 use Rattle.run_text.specs.declared.names.Name.{Name}
 use Rattle.run_text.specs.declared.names.Name.TheVariants.{App as AppName, Own, Workers, Size, Unit as UnitName, Explore as ExploreName, Abort as AbortName, Plan as PlanName, Seed, Events, Notes, Ahead, Watch, Check as CheckName}
-use Rattle.run_text.specs.Settings.{text_of, has_name, app_in, switch_in, unit_in, explore_in, abort_in, auto_in, check_in, number_in, worker_counts, sizes, seeds, event_counts, ahead_counts}
+use Rattle.run_text.specs.Words.{text_of, has_name}
+use Rattle.run_text.specs.Values.{app_in, switch_in, unit_in, explore_in, abort_in, auto_in, check_in, number_in, worker_counts, sizes, seeds, event_counts, ahead_counts}
 
 -- The word that gives a value under a name: `name=value`
 abbrev pub word_of : Name → (value : List ℕ) → List ℕ

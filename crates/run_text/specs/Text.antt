@@ -69,24 +69,19 @@ abbrev pub table_lines : (name : List ℕ) → State → (table size : ℕ) → 
 table_lines name s table size =
     flat_map (λ id. value_line name id (s (record { table = table; id = id }))) (range_with_len 0 size)
 
--- The lines of all values that are not zero, by table and then by id
-abbrev pub value_lines : Layout → (ℕ → List ℕ) → State → List ℕ
-value_lines layout name s =
-    flat_map (λ table. table_lines (name table) s table layout.size) (range_with_len 0 layout.tables)
-
 -- The line of the sum of the values of a table, under the table's name
 abbrev pub total_line : (name : List ℕ) → State → (table size : ℕ) → List ℕ
 total_line name s table size = line (name ++ codes " total" ++ after_space (total_of s table size))
 
--- The lines of the sums of all tables
-abbrev pub total_lines : Layout → (ℕ → List ℕ) → State → List ℕ
-total_lines layout name s =
-    flat_map (λ table. total_line (name table) s table layout.size) (range_with_len 0 layout.tables)
+-- What is reported of the values of a table: those that are not zero, or their sum in a summary
+abbrev pub told_table : Report → (name : List ℕ) → State → (table size : ℕ) → List ℕ
+told_table Whole name s table size = table_lines name s table size
+told_table Summary name s table size = total_line name s table size
 
--- What is reported of the values: those that are not zero, or their sums in a summary
+-- What is reported of the values, table by table
 abbrev pub told_values : Report → Layout → (ℕ → List ℕ) → State → List ℕ
-told_values Whole layout name s = value_lines layout name s
-told_values Summary layout name s = total_lines layout name s
+told_values report layout name s =
+    flat_map (λ table. told_table report (name table) s table layout.size) (range_with_len 0 layout.tables)
 
 -- The line of how many events committed and how many aborted
 abbrev pub counts_line : (committed aborted : ℕ) → List ℕ

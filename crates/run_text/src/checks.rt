@@ -1,7 +1,8 @@
 //! What the notes say of journals.
 ghost use Rattle.std.specs.Prelude.{◌≡◌, ◌+◌, ◌*◌, ◌^◌, ◌<◌, ◌≤◌, [], ◌++◌, length, IsTrue, OnOk, OnErr};
 ghost use Rattle.morph_base.specs.Plans.{IsPlan};
-ghost use Rattle.morph_io.specs.Told.{behind, HasRisen, Puts};
+ghost use Rattle.run_text.specs.Calls.{PutsText, WritesText};
+ghost use Rattle.morph_io.specs.Told.{behind, HasRisen};
 ghost use Rattle.morph_io.specs.Writing.{AppendsPart};
 ghost use Rattle.run_checker.specs.Lines.{text_of};
 ghost use Rattle.run_text.specs.Checks.{is_checked};
@@ -61,15 +62,10 @@ fn write_check<N: Sink>(
 ) -> Result<(), WriteFailed>
     requires empty { out.old ≡ [] }
     requires plan { IsPlan plan.now }
-    ensures written { OnOk result (N.written notes.new ≡ behind (N.written notes.old)
-        (step_notes check journal.now ++ check_note number (is_cut plan.now journal.now))) }
-    ensures prefix { OnErr result (AppendsPart (N.written notes.old)
+    ensures text { WritesText N.written N.faults
         (step_notes check journal.now ++ check_note number (is_cut plan.now journal.now))
-        (N.written notes.new)) }
+        result notes.old notes.new }
     ensures empty { OnOk result (out.new ≡ []) }
-    ensures never_falls { N.faults notes.old ≤ N.faults notes.new }
-    ensures steady { OnOk result (N.faults notes.new ≡ N.faults notes.old) }
-    ensures cause { OnErr result (HasRisen (N.faults notes.old) (N.faults notes.new)) }
 {
     write_steps(out, notes, check, journal)?;
     let line = check_line(number, is_cut(plan, journal));
@@ -84,14 +80,9 @@ fn write_steps<N: Sink>(
     journal: &[CoreEvent],
 ) -> Result<(), WriteFailed>
     requires empty { out.old ≡ [] }
-    ensures written { OnOk result (N.written notes.new ≡ behind (N.written notes.old)
-        (step_notes check journal.now)) }
-    ensures prefix { OnErr result (AppendsPart (N.written notes.old)
-        (step_notes check journal.now) (N.written notes.new)) }
+    ensures text { WritesText N.written N.faults (step_notes check journal.now)
+        result notes.old notes.new }
     ensures empty { OnOk result (out.new ≡ []) }
-    ensures never_falls { N.faults notes.old ≤ N.faults notes.new }
-    ensures steady { OnOk result (N.faults notes.new ≡ N.faults notes.old) }
-    ensures cause { OnErr result (HasRisen (N.faults notes.old) (N.faults notes.new)) }
 {
     match check {
         Check::Off | Check::On => Ok(()),
@@ -106,14 +97,9 @@ fn write_journal<N: Sink>(
     journal: &[CoreEvent],
 ) -> Result<(), WriteFailed>
     requires empty { out.old ≡ [] }
-    ensures written { OnOk result (N.written notes.new ≡ behind (N.written notes.old)
-        (text_of journal.now)) }
-    ensures prefix { OnErr result (AppendsPart (N.written notes.old)
-        (text_of journal.now) (N.written notes.new)) }
+    ensures text { WritesText N.written N.faults (text_of journal.now)
+        result notes.old notes.new }
     ensures empty { OnOk result (out.new ≡ []) }
-    ensures never_falls { N.faults notes.old ≤ N.faults notes.new }
-    ensures steady { OnOk result (N.faults notes.new ≡ N.faults notes.old) }
-    ensures cause { OnErr result (HasRisen (N.faults notes.old) (N.faults notes.new)) }
 {
     put_steps(out, notes, journal)?;
     out.flush(notes)
@@ -125,13 +111,8 @@ fn put_steps<N: Sink>(
     notes: &mut N,
     journal: &[CoreEvent],
 ) -> Result<(), WriteFailed>
-    ensures puts { OnOk result (Puts (N.written notes.old) out.old (text_of journal.now)
-        (N.written notes.new) out.new) }
-    ensures prefix { OnErr result (AppendsPart (N.written notes.old)
-        (out.old ++ text_of journal.now) (N.written notes.new)) }
-    ensures never_falls { N.faults notes.old ≤ N.faults notes.new }
-    ensures steady { OnOk result (N.faults notes.new ≡ N.faults notes.old) }
-    ensures cause { OnErr result (HasRisen (N.faults notes.old) (N.faults notes.new)) }
+    ensures { PutsText N.written N.faults (text_of journal.now)
+        result notes.old out.old notes.new out.new }
 {
     let mut line = LineBuf::new();
     for i in 0..journal.len() {

@@ -1,5 +1,5 @@
 ghost use Rattle.std.specs.Prelude.{◌≡◌, [], ◌∷◌, ◌++◌};
-ghost use Rattle.run_text.specs.Settings.{text_of};
+ghost use Rattle.run_text.specs.Words.{text_of};
 
 /// The names of the settings.
 #[derive(Clone, Copy, Debug, PartialEq, Eq)]

@@ -1,6 +1,7 @@
 ghost use Rattle.std.specs.Prelude.{◌≡◌, ◌+◌, ◌≤◌, ◌++◌, length, IsTrue, OnOk, OnErr};
 ghost use Rattle.morph_base.specs.declared.limits.TheConstants.{WORKERS};
 ghost use Rattle.morph_io.specs.declared.line_buf.TheConstants.{LINE_BYTES};
+ghost use Rattle.run_text.specs.Calls.{WritesText};
 ghost use Rattle.morph_io.specs.Told.{behind, HasRisen};
 ghost use Rattle.morph_io.specs.Writing.{AppendsPart};
 ghost use Rattle.run_text.specs.Notes.{noted, unit_word, explore_word, abort_word, strategy_words, batch_note};
@@ -77,13 +78,8 @@ pub fn note_tally<N: Sink>(
 fn write_tally<N: Sink>(notes: &mut N, workers: u32, tally: &Tally) -> Result<(), WriteFailed>
     requires few { workers ≤ WORKERS }
     requires all { length tally.now.settled_by ≡ 17 }
-    ensures written { OnOk result (N.written notes.new ≡ behind (N.written notes.old)
-        (closing_notes workers tally.now)) }
-    ensures prefix { OnErr result (AppendsPart (N.written notes.old)
-        (closing_notes workers tally.now) (N.written notes.new)) }
-    ensures never_falls { N.faults notes.old ≤ N.faults notes.new }
-    ensures steady { OnOk result (N.faults notes.new ≡ N.faults notes.old) }
-    ensures cause { OnErr result (HasRisen (N.faults notes.old) (N.faults notes.new)) }
+    ensures { WritesText N.written N.faults (closing_notes workers tally.now)
+        result notes.old notes.new }
 {
     let first = tally_line(tally);
     write_all(notes, first.bytes())?;

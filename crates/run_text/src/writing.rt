@@ -2,18 +2,18 @@ ghost use Rattle.std.specs.Prelude.{◌≡◌, ◌<◌, ◌≤◌, [], ◌++◌,
 ghost use Rattle.morph_base.specs.Flat.{contents};
 ghost use Rattle.morph_base.specs.Plans.{IsPlan, IsSettledOf};
 ghost use Rattle.morph_engine.specs.Fates.{settled_fates};
-ghost use Rattle.event_reader.specs.declared.limits.TheConstants.{NAME_BYTES};
 ghost use Rattle.run_text.specs.declared.choices.TheConstants.{GREATEST_SIZE};
-ghost use Rattle.morph_io.specs.Told.{behind, HasRisen, Puts};
+ghost use Rattle.run_text.specs.Calls.{PutsText, WritesText};
+ghost use Rattle.morph_io.specs.Told.{behind, HasRisen};
 ghost use Rattle.morph_io.specs.Writing.{AppendsPart};
-ghost use Rattle.run_text.specs.Text.{lines_of, told_lines, value_line, table_lines, value_lines, told_values, counts_line, cause_word, refused_text};
+ghost use Rattle.run_text.specs.Text.{lines_of, told_lines, told_values, counts_line, cause_word, refused_text};
 
 use crate::report::Report;
+use crate::tables::put_told_values;
 use crate::tally::Tally;
 use crate::text::event_line;
-use crate::totals::put_totals;
 use event_reader::{Cause, EventApp};
-use morph_base::{Key, Plan, Settled};
+use morph_base::{Plan, Settled};
 use morph_engine::BatchEnd;
 use morph_io::{LineBuf, Out, Sink, WriteFailed};
 use version_table::State;
@@ -48,14 +48,10 @@ fn write_lines<K: Sink>(out: &mut Out, sink: &mut K, end: &BatchEnd) -> Result<(
     requires empty { out.old ≡ [] }
     requires plan { IsPlan end.now.plan }
     requires settled { IsSettledOf end.now.plan end.now.settled }
-    ensures written { OnOk result (K.written sink.new ≡ behind (K.written sink.old)
-        (lines_of (settled_fates end.now.plan end.now.settled))) }
-    ensures prefix { OnErr result (AppendsPart (K.written sink.old)
-        (lines_of (settled_fates end.now.plan end.now.settled)) (K.written sink.new)) }
+    ensures text { WritesText K.written K.faults
+        (lines_of (settled_fates end.now.plan end.now.settled))
+        result sink.old sink.new }
     ensures empty { OnOk result (out.new ≡ []) }
-    ensures never_falls { K.faults sink.old ≤ K.faults sink.new }
-    ensures steady { OnOk result (K.faults sink.new ≡ K.faults sink.old) }
-    ensures cause { OnErr result (HasRisen (K.faults sink.old) (K.faults sink.new)) }
 {
     put_events(out, sink, &end.plan, &end.settled)?;
     out.flush(sink)
@@ -133,13 +129,8 @@ fn put_events<K: Sink>(
 ) -> Result<(), WriteFailed>
     requires plan { IsPlan plan.now }
     requires settled { IsSettledOf plan.now settled.now }
-    ensures puts { OnOk result (Puts (K.written sink.old) out.old
-        (lines_of (settled_fates plan.now settled.now)) (K.written sink.new) out.new) }
-    ensures prefix { OnErr result (AppendsPart (K.written sink.old)
-        (out.old ++ lines_of (settled_fates plan.now settled.now)) (K.written sink.new)) }
-    ensures never_falls { K.faults sink.old ≤ K.faults sink.new }
-    ensures steady { OnOk result (K.faults sink.new ≡ K.faults sink.old) }
-    ensures cause { OnErr result (HasRisen (K.faults sink.old) (K.faults sink.new)) }
+    ensures { PutsText K.written K.faults (lines_of (settled_fates plan.now settled.now))
+        result sink.old out.old sink.new out.new }
 {
     let mut line = LineBuf::new();
     for i in 0..plan.events.len() as u32 {
@@ -151,122 +142,10 @@ fn put_events<K: Sink>(
     Ok(())
 }
 
-/// Puts the line of a value, if it is not zero: the table's name, the id and the value.
-fn put_value<K: Sink>(
-    out: &mut Out,
-    sink: &mut K,
-    name: &str,
-    id: u32,
-    value: u64,
-) -> Result<(), WriteFailed>
-    requires short { length name.now ≤ NAME_BYTES }
-    ensures puts { OnOk result (Puts (K.written sink.old) out.old (value_line name.now id value)
-        (K.written sink.new) out.new) }
-    ensures prefix { OnErr result (AppendsPart (K.written sink.old)
-        (out.old ++ value_line name.now id value) (K.written sink.new)) }
-    ensures never_falls { K.faults sink.old ≤ K.faults sink.new }
-    ensures steady { OnOk result (K.faults sink.new ≡ K.faults sink.old) }
-    ensures cause { OnErr result (HasRisen (K.faults sink.old) (K.faults sink.new)) }
-{
-    if value == 0 {
-        return Ok(());
-    }
-    let mut line = LineBuf::new();
-    line.word(name.as_bytes());
-    line.word(b" ");
-    line.number(u64::from(id));
-    line.word(b" ");
-    line.number(value);
-    line.word(b"\n");
-    out.put(sink, &line)
-}
-
-/// Puts the lines of the values of a table that are not zero, by id.
-fn put_table<K: Sink>(
-    out: &mut Out,
-    sink: &mut K,
-    name: &str,
-    values: &State,
-    table: u8,
-) -> Result<(), WriteFailed>
-    requires table { table < values.now.layout.tables }
-    requires short { length name.now ≤ NAME_BYTES }
-    ensures puts { OnOk result (Puts (K.written sink.old) out.old
-        (table_lines name.now (contents values.now) table values.now.layout.size)
-        (K.written sink.new) out.new) }
-    ensures prefix { OnErr result (AppendsPart (K.written sink.old)
-        (out.old ++ table_lines name.now (contents values.now) table values.now.layout.size)
-        (K.written sink.new)) }
-    ensures never_falls { K.faults sink.old ≤ K.faults sink.new }
-    ensures steady { OnOk result (K.faults sink.new ≡ K.faults sink.old) }
-    ensures cause { OnErr result (HasRisen (K.faults sink.old) (K.faults sink.new)) }
-{
-    for id in 0..values.layout().size {
-        let value = values.get(Key { table, id });
-        put_value(out, sink, name, id, value)?;
-    }
-    Ok(())
-}
-
-/// Puts the lines of the values that are not zero, table by table.
-fn put_values<A: EventApp, K: Sink>(
-    out: &mut Out,
-    sink: &mut K,
-    app: &A,
-    values: &State,
-) -> Result<(), WriteFailed>
-    requires tables { values.now.layout.tables ≡ A.table_count app.now }
-    ensures puts { OnOk result (Puts (K.written sink.old) out.old
-        (value_lines values.now.layout (A.name_of app.now) (contents values.now))
-        (K.written sink.new) out.new) }
-    ensures prefix { OnErr result (AppendsPart (K.written sink.old)
-        (out.old ++ value_lines values.now.layout (A.name_of app.now) (contents values.now))
-        (K.written sink.new)) }
-    ensures never_falls { K.faults sink.old ≤ K.faults sink.new }
-    ensures steady { OnOk result (K.faults sink.new ≡ K.faults sink.old) }
-    ensures cause { OnErr result (HasRisen (K.faults sink.old) (K.faults sink.new)) }
-{
-    for table in 0..app.tables() {
-        put_table(out, sink, app.table_name(table), values, table)?;
-    }
-    Ok(())
-}
-
-/// Puts what is reported of the values.
-fn put_told_values<A: EventApp, K: Sink>(
-    out: &mut Out,
-    sink: &mut K,
-    app: &A,
-    report: Report,
-    values: &State,
-) -> Result<(), WriteFailed>
-    requires tables { values.now.layout.tables ≡ A.table_count app.now }
-    requires few_ids { values.now.layout.size ≤ GREATEST_SIZE }
-    ensures puts { OnOk result (Puts (K.written sink.old) out.old
-        (told_values report values.now.layout (A.name_of app.now) (contents values.now))
-        (K.written sink.new) out.new) }
-    ensures prefix { OnErr result (AppendsPart (K.written sink.old)
-        (out.old ++ told_values report values.now.layout (A.name_of app.now) (contents values.now))
-        (K.written sink.new)) }
-    ensures never_falls { K.faults sink.old ≤ K.faults sink.new }
-    ensures steady { OnOk result (K.faults sink.new ≡ K.faults sink.old) }
-    ensures cause { OnErr result (HasRisen (K.faults sink.old) (K.faults sink.new)) }
-{
-    match report {
-        Report::Whole => put_values(out, sink, app, values),
-        Report::Summary => put_totals(out, sink, app, values),
-    }
-}
-
 /// Puts the line of the counts.
 fn put_counts<K: Sink>(out: &mut Out, sink: &mut K, tally: &Tally) -> Result<(), WriteFailed>
-    ensures puts { OnOk result (Puts (K.written sink.old) out.old
-        (counts_line tally.now.committed tally.now.aborted) (K.written sink.new) out.new) }
-    ensures prefix { OnErr result (AppendsPart (K.written sink.old)
-        (out.old ++ counts_line tally.now.committed tally.now.aborted) (K.written sink.new)) }
-    ensures never_falls { K.faults sink.old ≤ K.faults sink.new }
-    ensures steady { OnOk result (K.faults sink.new ≡ K.faults sink.old) }
-    ensures cause { OnErr result (HasRisen (K.faults sink.old) (K.faults sink.new)) }
+    ensures { PutsText K.written K.faults (counts_line tally.now.committed tally.now.aborted)
+        result sink.old out.old sink.new out.new }
 {
     let mut line = LineBuf::new();
     line.word(b"committed ");
@@ -284,13 +163,8 @@ fn put_refused<K: Sink>(
     number: u64,
     cause: Cause,
 ) -> Result<(), WriteFailed>
-    ensures puts { OnOk result (Puts (K.written sink.old) out.old (refused_text number cause)
-        (K.written sink.new) out.new) }
-    ensures prefix { OnErr result (AppendsPart (K.written sink.old)
-        (out.old ++ refused_text number cause) (K.written sink.new)) }
-    ensures never_falls { K.faults sink.old ≤ K.faults sink.new }
-    ensures steady { OnOk result (K.faults sink.new ≡ K.faults sink.old) }
-    ensures cause { OnErr result (HasRisen (K.faults sink.old) (K.faults sink.new)) }
+    ensures { PutsText K.written K.faults (refused_text number cause)
+        result sink.old out.old sink.new out.new }
 {
     let mut line = LineBuf::new();
     line.word(b"refused line ");

@@ -1,6 +1,6 @@
 use Rattle.std.proofs.Common.{◌≡◌, take}
 use Rattle.std.specs.Prelude.{count_by}
-use Rattle.run_text.specs.Settings.{has_name}
+use Rattle.run_text.specs.Words.{has_name}
 use Rattle.run_text.proofs.words.is_once.Given as goal
 
 abbrev pub invariant-loop-word : goal.invariant-loop-word

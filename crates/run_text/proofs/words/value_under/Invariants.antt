@@ -1,5 +1,5 @@
 use Rattle.std.proofs.Common.{◌≡◌, map, drop}
-use Rattle.run_text.specs.Settings.{value_under}
+use Rattle.run_text.specs.Words.{value_under}
 use Rattle.run_text.proofs.words.value_under.Given as goal
 
 -- no word so far has the name

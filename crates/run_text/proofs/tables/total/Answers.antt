@@ -2,7 +2,7 @@ use Rattle.std.proofs.Common.{◌≡◌, ◌<◌, ap, arith}
 use Rattle.morph_base.specs.declared.key.Layout.{Layout}
 use Rattle.morph_base.specs.Flat.{contents}
 use Rattle.version_table.proofs.Summing.{total-more, total-all}
-use Rattle.run_text.proofs.totals.total.Goals as goal
+use Rattle.run_text.proofs.tables.total.Goals as goal
 
 pub loop-id-preserved : goal.loop-id-preserved
 loop-id-preserved c =

@@ -1,3 +1,4 @@
+pub mod Grounds
 pub mod Targets
 pub mod Finding
 pub mod Popping

@@ -19,8 +19,10 @@ mod answers;
 mod behind;
 mod cascade;
 mod finding;
+mod ground;
 pub mod laws;
 
 pub use answers::{Target, Touch, Touched};
 pub use behind::cascade_behind;
 pub use cascade::Cascade;
+pub use ground::Ground;

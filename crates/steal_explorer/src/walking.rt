@@ -7,10 +7,9 @@ ghost use Rattle.op_eval.specs.Evaluations.{Tries};
 ghost use Rattle.op_eval.specs.Running.{hand_view, IsFreeRunner};
 ghost use Rattle.abort_eager.specs.Sweeps.{cascade_for, IsSwept, Sweeps};
 ghost use Rattle.steal_explorer.specs.Calls.{AsksWhetherReady, HasTouched, GoesQuietly, TriesQuietly, WalkedUnit};
-ghost use Rattle.steal_explorer.specs.Members.{IsGround};
+ghost use Rattle.abort_eager.specs.Grounds.{IsGround};
 
-use crate::members::Ground;
-use abort_eager::{Cascade, cascade_behind};
+use abort_eager::{Cascade, Ground, cascade_behind};
 use op_eval::{Evaluation, Runner, evaluate};
 use op_words::Readied;
 use worker_gate::Turns;

@@ -15,7 +15,6 @@ use Rattle.morph_base.specs.Plans.{op_count, op_at, keys_of, origin_at, origins_
 use Rattle.morph_base.proofs.LevelLaws.{op_level-rises, op_level-range, length-op_levels}
 use Rattle.morph_base.proofs.NumberLaws.{op_count-small}
 use Rattle.morph_base.proofs.OutcomeLaws.{source_precedes, keys_fit}
-use Rattle.chain_units.specs.Places.{IsPartition}
 use Rattle.op_words.specs.Trails.{IsSourceOf}
 use Rattle.strata_explorer.specs.Levels.{ops_of, op_of, AreLevels}
 use Rattle.op_eval.proofs.Elements.{contains_filter}
@@ -197,14 +196,11 @@ module _ (p : Plan) (valid : IsValidPlan p) where
         | inr past ↦ let none : length (ops_of p l) ≡ 0 = ap length (level_past l past) in omega arith
       ]
 
-  pub levels_of : (units : List (List ℕ)) (many : ℕ) → IsPartition units (op_count p) → many ≡ op_count p → AreLevels p units many
-  levels_of units many partition many_is = record {
+  pub levels_of : AreLevels p
+  levels_of = record {
     few = few_levels;
     fits = λ l.
         record {
-          valid = valid;
-          partition = partition;
-          many_is = many_is;
           few = let short : length (ops_of p l) ≤ op_count p = short_level l in let small : op_count p ≤ EVENT_OPS * EVENTS = op_count-small p valid.plan in omega arith;
           inside = λ k d lt. subst (λ o. o < op_count p) (get_or_default (ops_of p l) k 0 d lt) (in_level l k lt).0;
         };

@@ -2,9 +2,7 @@
 use Rattle.std.specs.Prelude.{◌≡◌, ℕ, ◌+◌, ◌<◌, ◌≤◌, ◌^◌, ◌⊎◌, Bool, true, false, List, Contains, All, length, count_by, slice_index_or, nat_lt}
 use Rattle.morph_base.specs.declared.plan.Plan.{Plan}
 use Rattle.morph_base.specs.declared.strategy.Abort.{Abort}
-use Rattle.morph_base.specs.Graphs.{IsValidPlan}
 use Rattle.morph_base.specs.Plans.{op_count}
-use Rattle.chain_units.specs.Places.{IsPartition}
 use Rattle.op_words.specs.Counting.{place, times}
 use Rattle.op_eval.specs.declared.runner.Runner.{Runner}
 use Rattle.op_eval.specs.Running.{hand_view}
@@ -23,11 +21,8 @@ abbrev pub names : ℕ → PassCall → Bool
 names len (Took c n) = nat_lt n len
 names len (Tried o) = false
 
--- The plan is valid, each of its operations is in one unit, and the operations of the pass are the plan's
-pub record FitsPass (p : Plan) (units : List (List ℕ)) (many : ℕ) (ops : List ℕ) : Type 0 where
-  pub valid : IsValidPlan p
-  pub partition : IsPartition units (op_count p)
-  pub many_is : many ≡ op_count p
+-- The operations of the pass are the plan's
+pub record FitsPass (p : Plan) (ops : List ℕ) : Type 0 where
   pub few : length ops < 2 ^ 32
   pub inside : All (λ o. o < op_count p) ops
 

@@ -23,8 +23,8 @@
 //! `morph_base`.
 #![tactic(auto)]
 
+mod course;
 mod exploring;
-mod ground;
 pub mod laws;
 mod passing;
 mod sweeping;

@@ -1,14 +1,15 @@
 //! A pass over one level, by all workers or by the first alone.
-ghost use Rattle.std.specs.Prelude.{◌≡◌, ◌<◌, All, length, slice_index_or};
-ghost use Rattle.op_words.specs.Hands.{plan_of, cap_of, counters_of};
+ghost use Rattle.std.specs.Prelude.{◌<◌, All, length, slice_index_or};
+ghost use Rattle.abort_eager.specs.Grounds.{IsGround};
+ghost use Rattle.op_words.specs.Hands.{cap_of, counters_of};
 ghost use Rattle.op_eval.specs.declared.runner.Runner.{Runner as Worker};
 ghost use Rattle.op_eval.specs.Exploring.{Unused};
 ghost use Rattle.op_eval.specs.Turns.{IsEnough};
 ghost use Rattle.strata_explorer.specs.Passes.{FitsPass, IsPassed};
 ghost use Rattle.op_eval.specs.Running.{IsFreeRunner};
 
-use crate::ground::Ground;
 use crate::walking::work;
+use abort_eager::Ground;
 use op_eval::Runner;
 use std::thread::Threads;
 use worker_gate::{Gate, Job, Told, is_few, pieces_for, run_all};
@@ -23,17 +24,17 @@ pub(crate) struct Pass<'a, G> {
 }
 
 impl<G: Gate> Job<Runner> for Pass<'_, G> {
-    ghost use Rattle.std.specs.Prelude.{◌≡◌, ◌<◌, length};
-    ghost use Rattle.op_words.specs.Hands.{plan_of, cap_of, counters_of};
+    ghost use Rattle.std.specs.Prelude.{◌<◌, length};
+    ghost use Rattle.abort_eager.specs.Grounds.{IsGround};
+    ghost use Rattle.op_words.specs.Hands.{cap_of, counters_of};
     ghost use Rattle.op_eval.specs.Exploring.{Unused};
     ghost use Rattle.op_eval.specs.Turns.{IsEnough};
     ghost use Rattle.strata_explorer.specs.Passes.{FitsPass, Worked};
     ghost use Rattle.op_eval.specs.Running.{IsFreeRunner};
     ghost use Rattle.strata_explorer.specs.Walks.{WalksAll};
 
-    ghost can_run = { λ pass runner. (pass.ground.plan.now ≡ plan_of pass.ground.board.now)
-        × FitsPass pass.ground.plan.now pass.ground.units.now.units pass.ground.units.now.ops
-        pass.ops.now
+    ghost can_run = { λ pass runner. IsGround pass.ground
+        × FitsPass pass.ground.plan.now pass.ops.now
         × (pass.counter < counters_of pass.ground.board.now)
         × IsFreeRunner pass.ground.board.now runner × Unused pass.counter runner };
 
@@ -60,10 +61,8 @@ pub(crate) fn pass_by<R: Threads + Sync, G: Gate>(
     pass: &Pass<'_, G>,
 )
     requires some { 0 < length runners.old }
-    requires plan { pass.now.ground.plan.now ≡ plan_of pass.now.ground.board.now }
-    requires fits { FitsPass pass.now.ground.plan.now pass.now.ground.units.now.units
-        pass.now.ground.units.now.ops
-        pass.now.ops.now }
+    requires ground { IsGround pass.now.ground }
+    requires fits { FitsPass pass.now.ground.plan.now pass.now.ops.now }
     requires in_range { pass.now.counter < counters_of pass.now.ground.board.now }
     requires seated { All (IsFreeRunner pass.now.ground.board.now) runners.old }
     requires unused { All (Unused pass.now.counter) runners.old }

@@ -1,9 +1,8 @@
 //! What one worker does in a pass.
-ghost use Rattle.std.specs.Prelude.{◌≡◌, ◌<◌, ◌≤◌, length};
-ghost use Rattle.chain_units.specs.Places.{IsPartition};
-ghost use Rattle.morph_base.specs.Graphs.{IsValidPlan};
+ghost use Rattle.std.specs.Prelude.{◌<◌, length};
+ghost use Rattle.abort_eager.specs.Grounds.{IsGround};
 ghost use Rattle.morph_base.specs.Plans.{op_count};
-ghost use Rattle.op_words.specs.Hands.{plan_of, cap_of, counters_of};
+ghost use Rattle.op_words.specs.Hands.{cap_of, counters_of};
 ghost use Rattle.op_eval.specs.Exploring.{Unused};
 ghost use Rattle.op_eval.specs.Turns.{IsEnough};
 ghost use Rattle.abort_eager.specs.Sweeps.{Attempts};
@@ -11,8 +10,8 @@ ghost use Rattle.strata_explorer.specs.Passes.{FitsPass, WalkedWithCalls, Worked
 ghost use Rattle.op_eval.specs.Running.{IsFreeRunner};
 ghost use Rattle.strata_explorer.specs.Walks.{WalksUnit, WalksAll};
 
-use crate::ground::Ground;
 use crate::sweeping::sweep;
+use abort_eager::Ground;
 use op_eval::{Evaluation, Runner, evaluate};
 use worker_gate::Turns;
 
@@ -24,8 +23,7 @@ fn attempt<T: Turns>(
     runner: &mut Runner,
     op: u32,
 ) -> Evaluation
-    requires plan { ground.now.plan.now ≡ plan_of ground.now.board.now }
-    requires valid { IsValidPlan ground.now.plan.now }
+    requires ground { IsGround ground.now }
     requires in_range { op < op_count ground.now.plan.now }
     requires seated { IsFreeRunner ground.now.board.now runner.old }
     ensures seated { IsFreeRunner ground.now.board.now runner.new }
@@ -40,11 +38,8 @@ fn attempt<T: Turns>(
 
 /// Walks the unit of an operation from it on, until an answer is not `Evaluated`.
 fn walk<T: Turns>(ground: &Ground<'_>, told: &T, turn: u64, runner: &mut Runner, op: u32)
-    requires plan { ground.now.plan.now ≡ plan_of ground.now.board.now }
-    requires valid { IsValidPlan ground.now.plan.now }
+    requires ground { IsGround ground.now }
     requires in_range { op < op_count ground.now.plan.now }
-    requires units { IsPartition ground.now.units.now.units (op_count ground.now.plan.now) }
-    requires number { ground.now.units.now.ops ≡ op_count ground.now.plan.now }
     requires seated { IsFreeRunner ground.now.board.now runner.old }
     ensures seated { IsFreeRunner ground.now.board.now runner.new }
     ensures does { WalkedWithCalls ground.now.plan.now (cap_of ground.now.board.now) ground.now.abort op
@@ -72,9 +67,8 @@ pub(crate) fn work<T: Turns>(
     counter: u32,
     runner: &mut Runner,
 )
-    requires plan { ground.now.plan.now ≡ plan_of ground.now.board.now }
-    requires fits { FitsPass ground.now.plan.now ground.now.units.now.units ground.now.units.now.ops
-        ops.now }
+    requires ground { IsGround ground.now }
+    requires fits { FitsPass ground.now.plan.now ops.now }
     requires in_range { counter < counters_of ground.now.board.now }
     requires seated { IsFreeRunner ground.now.board.now runner.old }
     requires unused { Unused counter runner.old }

@@ -14,7 +14,7 @@ loop-i-init g c = (
 )
 
 pub attempt-answer-requires-in-loop-i-clause-in_range : goal.attempt-answer-requires-in-loop-i-clause-in_range
-attempt-answer-requires-in-loop-i-clause-in_range g c = unit_inside _ _ c.requires.units _ _ c.ops-unit.ensures _ c.loop-i-test.true
+attempt-answer-requires-in-loop-i-clause-in_range g c = unit_inside _ _ c.requires.ground.units _ _ c.ops-unit.ensures _ c.loop-i-test.true
 
 pub loop-i-preserved : goal.loop-i-preserved
 loop-i-preserved g c = (

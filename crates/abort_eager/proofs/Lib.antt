@@ -7,3 +7,4 @@ pub mod Starting
 pub mod Knowing
 pub mod Touching
 pub mod Sweeping
+pub mod Noting

@@ -13,7 +13,8 @@ use Rattle.op_eval.proofs.Following.{evaluated_more}
 use Rattle.abort_eager.proofs.Touching.{touched_one}
 use Rattle.abort_eager.specs.declared.answers.Target.{Target}
 use Rattle.abort_eager.specs.declared.answers.Touched.{Touched}
-use Rattle.steal_explorer.specs.Calls.{ServeCall, Asked, Tried, Swept, AsksWhetherReady, SweepsOne, MakesServeCalls}
+use Rattle.abort_eager.specs.Sweeps.{SweepsOne}
+use Rattle.steal_explorer.specs.Calls.{ServeCall, Asked, Tried, Swept, AsksWhetherReady, MakesServeCalls}
 
 -- ---- answers
 

@@ -7,7 +7,6 @@ use Rattle.crossbeam_deque.specs.Handles.{Pass, view, IsPassOf, worker_deque, st
 use Rattle.morph_base.specs.declared.plan.Plan.{Plan}
 use Rattle.morph_base.specs.Plans.{op_count}
 use Rattle.op_words.specs.Hands.{up_to}
-use Rattle.op_eval.specs.declared.runner.Runner.{Runner}
 use Rattle.op_eval.specs.Running.{IsFreeRunner}
 use Rattle.steal_explorer.specs.declared.handing.Fair.{Fair}
 use Rattle.steal_explorer.specs.declared.handing.Log.{Log}

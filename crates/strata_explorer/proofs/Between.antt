@@ -11,13 +11,13 @@ use Rattle.op_eval.specs.declared.runner.Runner.{Runner}
 use Rattle.op_eval.specs.Evaluations.{EvaluationDoes, Tries}
 use Rattle.op_eval.specs.Exploring.{Unused}
 use Rattle.op_eval.specs.Running.{hand_view, counted}
-use Rattle.abort_eager.specs.Sweeps.{cascade_for, SweepsFor, Attempts}
+use Rattle.abort_eager.specs.Sweeps.{cascade_for, IsLike, SweepsFor, Attempts}
 use Rattle.abort_eager.specs.Targets.{targets}
 use Rattle.abort_eager.specs.Touching.{Touching}
 use Rattle.op_eval.specs.Turns.{IsEnough, TakesNumber}
 use Rattle.strata_explorer.specs.Calls.{PassCall, Took, Tried, MakesPassCall, MakesPassCalls}
 use Rattle.worker_gate.specs.Sharing.{shared_from}
-use Rattle.strata_explorer.specs.Passes.{IsLike, AreLike, Worked, IsPassed}
+use Rattle.strata_explorer.specs.Passes.{AreLike, Worked, IsPassed}
 use Rattle.strata_explorer.specs.Walks.{has_evaluated, TriesInTurn, WalksUnit, WalksPlaces, WalksAll}
 use Rattle.strata_explorer.proofs.Turning.{times_some}
 use Rattle.strata_explorer.proofs.UnitWalks.{drop_at}

@@ -1,4 +1,3 @@
-pub mod Trying
 pub mod Turning
 pub mod UnitWalks
 pub mod Running

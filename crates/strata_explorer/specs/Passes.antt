@@ -4,11 +4,12 @@ use Rattle.morph_base.specs.declared.plan.Plan.{Plan}
 use Rattle.morph_base.specs.declared.strategy.Abort.{Abort}
 use Rattle.morph_base.specs.Plans.{op_count}
 use Rattle.op_words.specs.Counting.{place, times}
+use Rattle.abort_eager.specs.Sweeps.{IsLike}
 use Rattle.op_eval.specs.declared.runner.Runner.{Runner}
 use Rattle.op_eval.specs.Running.{hand_view}
 use Rattle.op_eval.specs.Turns.{IsEnough}
 use Rattle.worker_gate.specs.Sharing.{shared_from}
-use Rattle.strata_explorer.specs.Calls.{PassCall, Took, Tried, MakesPassCalls, IsFree}
+use Rattle.strata_explorer.specs.Calls.{PassCall, Took, Tried, MakesPassCalls}
 use Rattle.strata_explorer.specs.Walks.{WalksAll}
 
 -- The test whether a call tried an operation
@@ -25,12 +26,6 @@ names len (Tried o) = false
 pub record FitsPass (p : Plan) (ops : List ℕ) : Type 0 where
   pub few : length ops < 2 ^ 32
   pub inside : All (λ o. o < op_count p) ops
-
--- Runner b is runner a as far as contracts see it, after a call that changes no view
-pub record IsLike (a b : Runner) : Type 0 where
-  pub view : hand_view b ≡ hand_view a
-  pub answers : b.answers ≡ a.answers
-  pub kept : b.kept ≡ a.kept
 
 -- The first runner is the same as far as contracts see it, and the others are the same
 pub record AreLike (before after : List Runner) : Type 0 where

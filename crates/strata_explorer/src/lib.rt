@@ -26,8 +26,8 @@
 mod course;
 mod exploring;
 pub mod laws;
+mod noting;
 mod passing;
-mod sweeping;
 mod walking;
 
 pub use exploring::{counters, explore};

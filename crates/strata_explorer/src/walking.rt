@@ -5,36 +5,14 @@ ghost use Rattle.morph_base.specs.Plans.{op_count};
 ghost use Rattle.op_words.specs.Hands.{cap_of, counters_of};
 ghost use Rattle.op_eval.specs.Exploring.{Unused};
 ghost use Rattle.op_eval.specs.Turns.{IsEnough};
-ghost use Rattle.abort_eager.specs.Sweeps.{Attempts};
 ghost use Rattle.strata_explorer.specs.Passes.{FitsPass, WalkedWithCalls, Worked};
 ghost use Rattle.op_eval.specs.Running.{IsFreeRunner};
 ghost use Rattle.strata_explorer.specs.Walks.{WalksUnit, WalksAll};
 
-use crate::sweeping::sweep;
-use abort_eager::Ground;
-use op_eval::{Evaluation, Runner, evaluate};
+use crate::noting::LevelNotes;
+use abort_eager::{Ground, attempt_with_cascade};
+use op_eval::{Evaluation, Runner};
 use worker_gate::Turns;
-
-/// Tries to evaluate an operation in a turn, tells the gate, and runs the cascade that follows.
-fn attempt<T: Turns>(
-    ground: &Ground<'_>,
-    told: &T,
-    turn: u64,
-    runner: &mut Runner,
-    op: u32,
-) -> Evaluation
-    requires ground { IsGround ground.now }
-    requires in_range { op < op_count ground.now.plan.now }
-    requires seated { IsFreeRunner ground.now.board.now runner.old }
-    ensures seated { IsFreeRunner ground.now.board.now runner.new }
-    ensures does { Attempts ground.now.plan.now (cap_of ground.now.board.now) ground.now.abort op
-        runner.old runner.new result }
-{
-    let answer = evaluate(ground.board, runner, ground.plan, op);
-    told.done(turn);
-    sweep(ground.board, runner, ground.plan, ground.abort, op, answer);
-    answer
-}
 
 /// Walks the unit of an operation from it on, until an answer is not `Evaluated`.
 fn walk<T: Turns>(ground: &Ground<'_>, told: &T, turn: u64, runner: &mut Runner, op: u32)
@@ -47,7 +25,7 @@ fn walk<T: Turns>(ground: &Ground<'_>, told: &T, turn: u64, runner: &mut Runner,
     ensures unit { WalksUnit ground.now.plan.now (cap_of ground.now.board.now) ground.now.abort
         ground.now.units.now.units op runner.old runner.new }
 {
-    let mut answer = attempt(ground, told, turn, runner, op);
+    let mut answer = attempt_with_cascade(ground, told, turn, &LevelNotes, runner, op);
     let unit = ground.units.ops(ground.units.unit_of(op));
     let place = ground.units.place_of(op) as usize;
     for i in place + 1..unit.len() {
@@ -55,7 +33,7 @@ fn walk<T: Turns>(ground: &Ground<'_>, told: &T, turn: u64, runner: &mut Runner,
             Evaluation::Evaluated { .. } => {}
             _ => return,
         }
-        answer = attempt(ground, told, turn, runner, unit[i]);
+        answer = attempt_with_cascade(ground, told, turn, &LevelNotes, runner, unit[i]);
     }
 }
 

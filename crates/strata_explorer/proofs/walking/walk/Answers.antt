@@ -8,19 +8,19 @@ use Rattle.strata_explorer.proofs.walking.walk.Goals as goal
 
 pub loop-i-init : goal.loop-i-init
 loop-i-init g c = (
-  c.attempt-answer.ensures.seated,
-  walked_first _ _ _ _ c.attempt-answer.ensures.does,
-  on_first _ _ _ _ _ _ _ _ _ (subst (λ os. slice_get os c.place_of-place.result ≡ Some c.args.op) (sym c.ops-unit.ensures) (stands_there _ _ _ _ c.unit_of.ensures.stands c.place_of-place.ensures.alone)) c.attempt-answer.ensures.does,
+  c.attempt_with_cascade-answer.ensures.idle,
+  walked_first _ _ _ _ c.attempt_with_cascade-answer.ensures.does,
+  on_first _ _ _ _ _ _ _ _ _ (subst (λ os. slice_get os c.place_of-place.result ≡ Some c.args.op) (sym c.ops-unit.ensures) (stands_there _ _ _ _ c.unit_of.ensures.stands c.place_of-place.ensures.alone)) c.attempt_with_cascade-answer.ensures.does,
 )
 
-pub attempt-answer-requires-in-loop-i-clause-in_range : goal.attempt-answer-requires-in-loop-i-clause-in_range
-attempt-answer-requires-in-loop-i-clause-in_range g c = unit_inside _ _ c.requires.ground.units _ _ c.ops-unit.ensures _ c.loop-i-test.true
+pub attempt_with_cascade-answer-requires-in-loop-i-clause-in_range : goal.attempt_with_cascade-answer-requires-in-loop-i-clause-in_range
+attempt_with_cascade-answer-requires-in-loop-i-clause-in_range g c = unit_inside _ _ c.requires.ground.units _ _ c.ops-unit.ensures _ c.loop-i-test.true
 
 pub loop-i-preserved : goal.loop-i-preserved
 loop-i-preserved g c = (
-  c.attempt-answer-in-loop-i.ensures.seated,
-  walked_more _ _ _ _ _ c.loop-i.invariant.1 c.attempt-answer-in-loop-i.ensures.does,
-  on_more _ _ _ _ _ _ _ _ _ _ _ c.loop-i-test.true (ap has_evaluated c.in-Evaluated.is) c.loop-i.invariant.2 c.attempt-answer-in-loop-i.ensures.does,
+  c.attempt_with_cascade-answer-in-loop-i.ensures.idle,
+  walked_more _ _ _ _ _ c.loop-i.invariant.1 c.attempt_with_cascade-answer-in-loop-i.ensures.does,
+  on_more _ _ _ _ _ _ _ _ _ _ _ c.loop-i-test.true (ap has_evaluated c.in-Evaluated.is) c.loop-i.invariant.2 c.attempt_with_cascade-answer-in-loop-i.ensures.does,
 )
 
 pub returns-clause-unit : goal.returns-clause-unit

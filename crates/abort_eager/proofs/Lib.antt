@@ -8,3 +8,4 @@ pub mod Knowing
 pub mod Touching
 pub mod Sweeping
 pub mod Noting
+pub mod UnitWalks

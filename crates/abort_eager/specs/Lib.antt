@@ -4,3 +4,4 @@ pub mod Finding
 pub mod Popping
 pub mod Touching
 pub mod Sweeps
+pub mod Walks

@@ -3,16 +3,18 @@ ghost use Rattle.std.specs.Prelude.{◌≡◌, ◌<◌, true, Some};
 ghost use Rattle.morph_base.specs.Plans.{op_count};
 ghost use Rattle.op_words.specs.Hands.{cap_of};
 ghost use Rattle.op_words.specs.Views.{HasShownFailure};
+ghost use Rattle.op_eval.specs.declared.runner.Runner.{Runner as R};
 ghost use Rattle.op_eval.specs.Evaluations.{Tries};
 ghost use Rattle.op_eval.specs.Running.{hand_view, IsFreeRunner};
 ghost use Rattle.abort_eager.specs.Grounds.{IsGround};
-ghost use Rattle.abort_eager.specs.Sweeps.{cascade_for, Attempts, SweepsAll, SweepsAllFor, AttemptsNoting};
+ghost use Rattle.abort_eager.specs.Sweeps.{cascade_for, IsLike, SweepsAll, SweepsAllFor};
 ghost use Rattle.abort_eager.specs.Targets.{targets};
 
+use crate::answers::Touched;
 use crate::behind::cascade_behind;
 use crate::cascade::Cascade;
 use crate::ground::Ground;
-use crate::notes::Notes;
+use crate::walking::Walking;
 use op_eval::{Evaluation, Runner, evaluate};
 use worker_gate::Turns;
 
@@ -34,6 +36,21 @@ pub fn attempt<T: Turns>(
     let answer = evaluate(ground.board, runner, ground.plan, op);
     told.done(turn);
     answer
+}
+
+/// What a worker notes of the targets of its cascades. A note changes nothing that contracts see of the runner.
+pub trait Notes {
+    /// What a note makes of a runner.
+    ghost leaves: { R → R → Type 0 };
+
+    /// Notes a target that was touched, before the next one is.
+    fn note(&self, ground: &Ground<'_>, runner: &mut Runner, touched: Touched)
+        requires ground { IsGround ground.now }
+        requires in_range { touched.op < op_count ground.now.plan.now }
+        requires idle { IsFreeRunner ground.now.board.now runner.old }
+        ensures idle { IsFreeRunner ground.now.board.now runner.new }
+        ensures like { IsLike runner.old runner.new }
+        ensures leaves { leaves runner.old runner.new };
 }
 
 /// Runs the cascade of an operation to its end.
@@ -68,27 +85,28 @@ fn sweep<N: Notes>(ground: &Ground<'_>, notes: &N, runner: &mut Runner, op: u32,
     }
 }
 
-/// Tries to evaluate an operation in a turn, tells the gate, and runs the cascade that follows to its end: under eager
-/// abort there is one after an evaluation that failed, or that was a second or later attempt.
-pub fn attempt_with_cascade<T: Turns, N: Notes>(
-    ground: &Ground<'_>,
-    told: &T,
-    turn: u64,
-    notes: &N,
-    runner: &mut Runner,
-    op: u32,
-) -> Evaluation
-    requires ground { IsGround ground.now }
-    requires in_range { op < op_count ground.now.plan.now }
-    requires idle { IsFreeRunner ground.now.board.now runner.old }
-    ensures idle { IsFreeRunner ground.now.board.now runner.new }
-    ensures does { Attempts ground.now.plan.now (cap_of ground.now.board.now) ground.now.abort op
-        runner.old runner.new result }
-    ensures noting { AttemptsNoting ground.now.plan.now (cap_of ground.now.board.now) N.leaves
-        ground.now.abort op
-        runner.old runner.new result }
-{
-    let answer = attempt(ground, told, turn, runner, op);
-    sweep(ground, notes, runner, op, answer);
-    answer
+/// Attempts at the operations of a unit. Each is told to the gate, and the cascade that follows it is run to its end:
+/// under eager abort there is one after an evaluation that failed, or that was a second or later attempt.
+#[derive(Drop)]
+pub struct AttemptWithCascade<'a, T, N> {
+    pub told: &'a T,
+    /// The turn in which the unit is walked.
+    pub turn: u64,
+    pub notes: &'a N,
+}
+
+impl<T: Turns, N: Notes> Walking<Runner> for AttemptWithCascade<'_, T, N> {
+    ghost use Rattle.op_words.specs.Hands.{cap_of};
+    ghost use Rattle.op_eval.specs.Running.{IsFreeRunner};
+    ghost use Rattle.abort_eager.specs.Sweeps.{AttemptsNoting};
+
+    ghost can_walk = { λ g runner. IsFreeRunner g.board.now runner };
+
+    ghost visits = { λ g. AttemptsNoting g.plan.now (cap_of g.board.now) N.leaves g.abort };
+
+    fn visit(&self, ground: &Ground<'_>, worker: &mut Runner, op: u32) -> Evaluation {
+        let answer = attempt(ground, self.told, self.turn, worker, op);
+        sweep(ground, self.notes, worker, op, answer);
+        answer
+    }
 }

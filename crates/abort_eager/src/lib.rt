@@ -13,8 +13,8 @@
 //!
 //! [`laws`] says what a whole cascade makes of a hand's view.
 //!
-//! Explorers share the rest: their [`Ground`], an [`attempt`] at an operation, and one with the cascade that follows it
-//! ([`attempt_with_cascade`]), in which they take [`Notes`] of what was touched.
+//! Explorers share the rest: their [`Ground`], the walk through a unit ([`walk_unit`]), an [`attempt`] at an operation,
+//! and the [`AttemptWithCascade`] with the cascade that follows, in which they take [`Notes`] of what was touched.
 //!
 //! The crate uses `op_eval`, `op_words` and `interleaving_core`, for the board and its runners; `chain_units`;
 //! `worker_gate`; and `morph_base`.
@@ -27,11 +27,11 @@ mod cascade;
 mod finding;
 mod ground;
 pub mod laws;
-mod notes;
+mod walking;
 
 pub use answers::{Target, Touch, Touched};
-pub use attempting::{attempt, attempt_with_cascade};
+pub use attempting::{AttemptWithCascade, Notes, attempt};
 pub use behind::cascade_behind;
 pub use cascade::Cascade;
 pub use ground::Ground;
-pub use notes::Notes;
+pub use walking::{Walking, walk_unit};

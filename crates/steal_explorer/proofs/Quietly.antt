@@ -12,7 +12,9 @@ use Rattle.op_eval.proofs.Turns.{in_turn_append}
 use Rattle.abort_eager.specs.declared.answers.Target.{Target}
 use Rattle.abort_eager.specs.Sweeps.{cascade_for, SweepsOne, SweepsAll, SweepsAllFor, AttemptsNoting}
 use Rattle.abort_eager.specs.Targets.{targets}
+use Rattle.abort_eager.specs.Walks.{WalksUnit}
 use Rattle.abort_eager.proofs.Noting.{attempts_of}
+use Rattle.abort_eager.proofs.UnitWalks.{by_walk}
 use Rattle.steal_explorer.specs.Calls.{ServeCall, Tried, Swept, is_asked, NoneSwept, MakesServeCall, MakesServeCalls, WalkedUnit}
 use Rattle.steal_explorer.proofs.Cascading.{eager_lazy}
 use Rattle.steal_explorer.proofs.Going.{lazy_one, lazy_both}
@@ -44,7 +46,7 @@ cascade_lazy p o Lazy r = λ _ k d lt. absurd (omega arith)
 cascade_lazy p o Eager r = λ lazy. absurd (eager_lazy Eager refl lazy)
 
 -- a note that leaves the runner as it was
-abbrev pub unnoted : Runner → Runner → Type 0
+abbrev unnoted : Runner → Runner → Type 0
 unnoted m n = n ≡ m
 
 module _ (p : Plan) (cap : ℕ) where
@@ -75,7 +77,7 @@ module _ (p : Plan) (cap : ℕ) where
 -- ---- walking
 
 module _ (p : Plan) (cap : ℕ) (abort : Abort) where
-  pub walked_first : (o : ℕ) {a b : Runner} {r : Evaluation} → AttemptsNoting p cap unnoted abort o a b r → WalkedUnit p cap abort o a b
+  walked_first : (o : ℕ) {a b : Runner} {r : Evaluation} → AttemptsNoting p cap unnoted abort o a b r → WalkedUnit p cap abort o a b
   walked_first o {a} {b} {r} tries = record {
     ops = o ∷ [];
     attempts = (a, refl, (r, attempts_of p cap unnoted abort o a b r tries));
@@ -87,7 +89,7 @@ module _ (p : Plan) (cap : ℕ) (abort : Abort) where
     lazy = tried_lazy p cap abort o r;
   }
 
-  pub walked_more : (o q : ℕ) {a m b : Runner} {r : Evaluation} → WalkedUnit p cap abort o a m → AttemptsNoting p cap unnoted abort q m b r → WalkedUnit p cap abort o a b
+  walked_more : (o q : ℕ) {a m b : Runner} {r : Evaluation} → WalkedUnit p cap abort o a m → AttemptsNoting p cap unnoted abort q m b r → WalkedUnit p cap abort o a b
   walked_more o q {a} {m} {b} {r} walked tries = record {
     ops = q ∷ walked.ops;
     attempts = (m, walked.attempts, (r, attempts_of p cap unnoted abort q m b r tries));
@@ -98,3 +100,7 @@ module _ (p : Plan) (cap : ℕ) (abort : Abort) where
     only = All-append (λ c. is_asked c ≡ false) (tried_calls p cap abort q r) walked.calls (tried_unasked p cap abort q r) walked.only;
     lazy = lazy_both abort (tried_calls p cap abort q r) walked.calls (tried_lazy p cap abort q r) walked.lazy;
   }
+
+  pub walked_unit : (units : List (List ℕ)) (o : ℕ) (a b : Runner) → WalksUnit (AttemptsNoting p cap unnoted abort) units o a b → WalkedUnit p cap abort o a b
+  walked_unit units o a b =
+      by_walk (AttemptsNoting p cap unnoted abort) units o a b (λ m. WalkedUnit p cap abort o a m) (λ m r tries. walked_first o tries) (λ q m n r walked tries. walked_more o q walked tries)

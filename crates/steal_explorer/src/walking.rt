@@ -6,8 +6,8 @@ ghost use Rattle.op_eval.specs.Running.{IsFreeRunner};
 ghost use Rattle.abort_eager.specs.Grounds.{IsGround};
 ghost use Rattle.steal_explorer.specs.Calls.{AsksWhetherReady, WalkedUnit};
 
-use abort_eager::{Ground, Notes, Touched, attempt_with_cascade};
-use op_eval::{Evaluation, Runner};
+use abort_eager::{AttemptWithCascade, Ground, Notes, Touched, walk_unit};
+use op_eval::Runner;
 use op_words::Readied;
 use worker_gate::Turns;
 
@@ -45,13 +45,10 @@ pub(crate) fn walk<T: Turns>(ground: &Ground<'_>, told: &T, turn: u64, runner: &
     ensures does { WalkedUnit ground.now.plan.now (cap_of ground.now.board.now) ground.now.abort op
         runner.old runner.new }
 {
-    let mut answer = attempt_with_cascade(ground, told, turn, &NoNotes, runner, op);
-    let unit = ground.units.ops(ground.units.unit_of(op));
-    for i in (ground.units.place_of(op) as usize + 1)..unit.len() {
-        match answer {
-            Evaluation::Evaluated { .. } => {}
-            _ => return,
-        }
-        answer = attempt_with_cascade(ground, told, turn, &NoNotes, runner, unit[i]);
-    }
+    let attempting = AttemptWithCascade {
+        told,
+        turn,
+        notes: &NoNotes,
+    };
+    walk_unit(ground, &attempting, runner, op);
 }

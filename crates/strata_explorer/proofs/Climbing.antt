@@ -24,7 +24,7 @@ use Rattle.strata_explorer.specs.Levels.{ops_of, op_of, level_of, named, IsStrat
 use Rattle.strata_explorer.specs.Walks.{WalksAll}
 use Rattle.abort_eager.proofs.Sweeping.{attempted}
 use Rattle.strata_explorer.proofs.Turning.{count_first, times_some}
-use Rattle.strata_explorer.proofs.UnitWalks.{all_none}
+use Rattle.strata_explorer.proofs.Turning.{all_none}
 use Rattle.strata_explorer.proofs.Running.{calls_keep, calls_reach, calls_places, calls_hold, calls_running}
 
 pub calls_total : (p : Plan) (cap : ℕ) (abort : Abort) (cs : List PassCall) (a b : Runner) → MakesPassCalls p cap abort cs a b → (total a.answers + count_by is_tried cs ≤ total b.answers) ⊎ (2 ^ 64 ≤ total b.answers + 1)

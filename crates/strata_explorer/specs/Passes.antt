@@ -33,13 +33,6 @@ pub record AreLike (before after : List Runner) : Type 0 where
   pub first : (d : Runner) → IsLike (slice_index_or before 0 d) (slice_index_or after 0 d)
   pub others : (k : ℕ) (d : Runner) → 0 < k → slice_index_or after k d ≡ slice_index_or before k d
 
--- The runner tried operations, o among them, and did nothing else
-pub record WalkedWithCalls (p : Plan) (cap : ℕ) (abort : Abort) (o : ℕ) (a b : Runner) : Type 0 where
-  pub calls : List PassCall
-  pub made : MakesPassCalls p cap abort calls a b
-  pub tried : Contains calls (Tried o)
-  pub only : All (λ c. is_tried c ≡ true) calls
-
 -- The runner took numbers from counter c alone, and tried each operation that they name
 pub record Worked (p : Plan) (cap : ℕ) (abort : Abort) (c : ℕ) (ops : List ℕ) (a b : Runner) : Type 0 where
   pub calls : List PassCall

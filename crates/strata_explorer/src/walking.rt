@@ -1,41 +1,17 @@
 //! What one worker does in a pass.
 ghost use Rattle.std.specs.Prelude.{◌<◌, length};
 ghost use Rattle.abort_eager.specs.Grounds.{IsGround};
-ghost use Rattle.morph_base.specs.Plans.{op_count};
 ghost use Rattle.op_words.specs.Hands.{cap_of, counters_of};
 ghost use Rattle.op_eval.specs.Exploring.{Unused};
 ghost use Rattle.op_eval.specs.Turns.{IsEnough};
-ghost use Rattle.strata_explorer.specs.Passes.{FitsPass, WalkedWithCalls, Worked};
+ghost use Rattle.strata_explorer.specs.Passes.{FitsPass, Worked};
 ghost use Rattle.op_eval.specs.Running.{IsFreeRunner};
-ghost use Rattle.strata_explorer.specs.Walks.{WalksUnit, WalksAll};
+ghost use Rattle.strata_explorer.specs.Walks.{WalksAll};
 
 use crate::noting::LevelNotes;
-use abort_eager::{Ground, attempt_with_cascade};
-use op_eval::{Evaluation, Runner};
+use abort_eager::{AttemptWithCascade, Ground, walk_unit};
+use op_eval::Runner;
 use worker_gate::Turns;
-
-/// Walks the unit of an operation from it on, until an answer is not `Evaluated`.
-fn walk<T: Turns>(ground: &Ground<'_>, told: &T, turn: u64, runner: &mut Runner, op: u32)
-    requires ground { IsGround ground.now }
-    requires in_range { op < op_count ground.now.plan.now }
-    requires seated { IsFreeRunner ground.now.board.now runner.old }
-    ensures seated { IsFreeRunner ground.now.board.now runner.new }
-    ensures does { WalkedWithCalls ground.now.plan.now (cap_of ground.now.board.now) ground.now.abort op
-        runner.old runner.new }
-    ensures unit { WalksUnit ground.now.plan.now (cap_of ground.now.board.now) ground.now.abort
-        ground.now.units.now.units op runner.old runner.new }
-{
-    let mut answer = attempt_with_cascade(ground, told, turn, &LevelNotes, runner, op);
-    let unit = ground.units.ops(ground.units.unit_of(op));
-    let place = ground.units.place_of(op) as usize;
-    for i in place + 1..unit.len() {
-        match answer {
-            Evaluation::Evaluated { .. } => {}
-            _ => return,
-        }
-        answer = attempt_with_cascade(ground, told, turn, &LevelNotes, runner, unit[i]);
-    }
-}
 
 /// Takes places of a pass, and walks the unit of each, until no place is left.
 pub(crate) fn work<T: Turns>(
@@ -63,6 +39,11 @@ pub(crate) fn work<T: Turns>(
             return;
         }
         told.pass(turn as u64);
-        walk(ground, told, turn as u64, runner, ops[number as usize]);
+        let attempting = AttemptWithCascade {
+            told,
+            turn: turn as u64,
+            notes: &LevelNotes,
+        };
+        walk_unit(ground, &attempting, runner, ops[number as usize]);
     }
 }

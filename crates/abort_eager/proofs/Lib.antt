@@ -9,3 +9,4 @@ pub mod Touching
 pub mod Sweeping
 pub mod Noting
 pub mod UnitWalks
+pub mod Exploring

@@ -19,10 +19,10 @@ use Rattle.abort_eager.specs.declared.cascade.Cascade.{Cascade}
 use Rattle.abort_eager.specs.Sweeps.{cascade_for}
 use Rattle.abort_eager.specs.Targets.{targets_left}
 use Rattle.abort_eager.specs.Touching.{HasCause, NextDoes}
-use Rattle.abort_eager.proofs.Touching.{touched_one}
 use Rattle.steal_explorer.specs.declared.members.Member.{Member}
-use Rattle.steal_explorer.specs.Calls.{ServeCall, Asked, Tried, Swept, MakesServeCalls}
+use Rattle.steal_explorer.specs.Calls.{ServeCall, Swept, MakesServeCalls}
 use Rattle.steal_explorer.specs.Serving.{ServesOn, AsksAndPuts, TouchesNext, TouchesAll, TouchesFor}
+use Rattle.steal_explorer.proofs.Further.{call_adds}
 use Rattle.steal_explorer.proofs.Going.{goes_calls}
 
 -- ---- when there is a cascade
@@ -45,10 +45,7 @@ shown_more o goes shown = record { entry = shown.entry; inside = goes.adds.publi
 
 calls_shown : (p : Plan) (cap o : ℕ) (cs : List ServeCall) (a b : Runner) → MakesServeCalls p cap cs a b → HasShownFailure (hand_view a) o → HasShownFailure (hand_view b) o
 calls_shown p cap o [] a b calls shown = subst (λ r. HasShownFailure (hand_view r) o) (sym calls) shown
-calls_shown p cap o (Asked q ∷ cs) a b calls shown = shown_more o calls.2.1.does.goes (calls_shown p cap o cs a calls.0 calls.1 shown)
-calls_shown p cap o (Tried q ∷ cs) a b calls shown = shown_more o calls.2.1.does.goes (calls_shown p cap o cs a calls.0 calls.1 shown)
-calls_shown p cap o (Swept g ∷ cs) a b calls shown =
-    shown_more o (touched_one p cap g (hand_view calls.0) (hand_view b) calls.2.0 calls.2.1.touches).goes (calls_shown p cap o cs a calls.0 calls.1 shown)
+calls_shown p cap o (c ∷ cs) a b calls shown = shown_more o (call_adds p cap c calls.0 b calls.2).goes (calls_shown p cap o cs a calls.0 calls.1 shown)
 
 pub cause_kept : (p : Plan) (cap : ℕ) (abort : Abort) (c : Cascade) (a b : Member) → ServesOn p cap abort a b → HasCause c (hand_view a.runner) → HasCause c (hand_view b.runner)
 cause_kept p cap abort c a b goes cause = λ failed. calls_shown p cap c.op goes.calls a.runner b.runner goes.made (cause failed)

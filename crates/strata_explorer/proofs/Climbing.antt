@@ -23,9 +23,9 @@ use Rattle.strata_explorer.specs.Passes.{is_tried, names, Worked, IsPassed}
 use Rattle.strata_explorer.specs.Levels.{ops_of, op_of, level_of, named, IsStrata, AreStrata, IsWholeCounter}
 use Rattle.strata_explorer.specs.Walks.{WalksAll}
 use Rattle.abort_eager.proofs.Sweeping.{attempted}
-use Rattle.strata_explorer.proofs.Turning.{count_first, times_some}
-use Rattle.strata_explorer.proofs.Turning.{all_none}
-use Rattle.strata_explorer.proofs.Running.{calls_keep, calls_reach, calls_places, calls_hold, calls_running}
+use Rattle.strata_explorer.proofs.Turning.{count_first, times_some, all_none}
+use Rattle.strata_explorer.proofs.Further.{calls_keep, calls_reach}
+use Rattle.strata_explorer.proofs.Running.{calls_places, calls_hold, calls_running}
 
 pub calls_total : (p : Plan) (cap : ℕ) (abort : Abort) (cs : List PassCall) (a b : Runner) → MakesPassCalls p cap abort cs a b → (total a.answers + count_by is_tried cs ≤ total b.answers) ⊎ (2 ^ 64 ≤ total b.answers + 1)
 calls_total p cap abort [] a b calls = inl (let e : total b.answers ≡ total a.answers = ap (λ r. total r.answers) calls in omega arith)

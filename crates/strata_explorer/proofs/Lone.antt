@@ -14,29 +14,25 @@ use Rattle.op_words.specs.Views.{IsLone}
 use Rattle.op_eval.specs.declared.runner.Runner.{Runner}
 use Rattle.op_words.specs.Counting.{times, place}
 use Rattle.op_eval.specs.Running.{hand_view}
-use Rattle.op_words.proofs.Adding.{lone_more}
 use Rattle.op_words.proofs.Trailing.{last-none}
 use Rattle.interleaving_core.specs.Core.{blocked}
 use Rattle.op_eval.specs.Alone.{Ran, IsNewRoot, HasRunAll}
 use Rattle.op_eval.proofs.Alone.{IsBegun, come_first, explores, keeps_ran, runs_it}
 use Rattle.op_eval.proofs.Elements.{contains_first, contains_later, contains_cases}
-use Rattle.op_eval.specs.Turns.{IsEnough, TakesNumber}
+use Rattle.op_eval.specs.Turns.{IsEnough}
 use Rattle.op_eval.proofs.Turns.{times_one}
 use Rattle.strata_explorer.specs.Calls.{PassCall, Took, Tried, MakesPassCalls}
 use Rattle.strata_explorer.specs.Passes.{Worked, IsPassed}
 use Rattle.strata_explorer.specs.Levels.{ops_of, op_of, AreLevels, AreStrata, IsLoneStrata, IsAlone}
+use Rattle.abort_eager.proofs.Exploring.{further_lone}
 use Rattle.abort_eager.proofs.Sweeping.{attempted, lazy_tries}
+use Rattle.strata_explorer.proofs.Further.{calls_further}
 use Rattle.strata_explorer.proofs.Turning.{times_some}
 use Rattle.strata_explorer.proofs.Running.{calls_places}
 use Rattle.strata_explorer.proofs.Climbing.{only_later}
 
-pub taking_lone : (c n : ℕ) {a b : Runner} → TakesNumber c n a b → IsLone (hand_view a) → IsLone (hand_view b)
-taking_lone c n taken lone = subst IsLone (sym taken.view) (record { root = lone.root; alone = lone.alone })
-
 pub calls_lone : (p : Plan) (cap : ℕ) (abort : Abort) (cs : List PassCall) (a b : Runner) → MakesPassCalls p cap abort cs a b → IsLone (hand_view a) → IsLone (hand_view b)
-calls_lone p cap abort [] a b calls lone = subst (λ r. IsLone (hand_view r)) (sym calls) lone
-calls_lone p cap abort (Took c n ∷ cs) a b calls lone = taking_lone c n calls.2 (calls_lone p cap abort cs a calls.0 calls.1 lone)
-calls_lone p cap abort (Tried o ∷ cs) a b calls lone = let does = attempted p cap abort o calls.0 b calls.2 in lone_more does.goes.adds (calls_lone p cap abort cs a calls.0 calls.1 lone)
+calls_lone p cap abort cs a b calls lone = further_lone (calls_further p cap abort cs a b calls) lone
 
 -- the numbers that it takes from a counter are those from 0 on
 pub lone_takes : (p : Plan) (cap : ℕ) (abort : Abort) (l : ℕ) (cs : List PassCall) (a b : Runner) → IsLone (hand_view a) → times l (hand_view a).places ≡ 0 → ((k n : ℕ) → Contains cs (Took k n) → k ≡ l) → MakesPassCalls p cap abort cs a b

@@ -17,7 +17,7 @@ use Rattle.op_eval.specs.Exploring.{Unused}
 use Rattle.op_eval.specs.Running.{hand_view}
 use Rattle.op_eval.proofs.Elements.{contains_first, contains_later, contains_cases}
 use Rattle.op_eval.proofs.Turns.{in_turn_append, times_one}
-use Rattle.strata_explorer.specs.Calls.{PassCall, Took, Tried, MakesPassCalls, MakesPassCall, IsFree}
+use Rattle.strata_explorer.specs.Calls.{PassCall, Took, Tried, MakesPassCalls, MakesPassCall}
 use Rattle.abort_eager.specs.Sweeps.{Attempts}
 use Rattle.op_eval.specs.Turns.{IsEnough, TakesNumber}
 use Rattle.strata_explorer.specs.Passes.{is_tried, names, Worked, IsWorking}
@@ -25,9 +25,6 @@ use Rattle.strata_explorer.specs.Walks.{WalksAll}
 use Rattle.abort_eager.specs.Walks.{WalksUnit}
 use Rattle.abort_eager.proofs.Sweeping.{attempted}
 use Rattle.abort_eager.proofs.UnitWalks.{by_walk}
-
-pub taking_free : (c n : ℕ) {a b : Runner} → TakesNumber c n a b → IsFree a → IsFree b
-taking_free c n taken free = ap (λ (v : View). v.claim) taken.view ∙ free
 
 -- ---- walks
 

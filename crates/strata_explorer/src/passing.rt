@@ -12,7 +12,7 @@ use crate::walking::work;
 use abort_eager::Ground;
 use op_eval::Runner;
 use std::thread::Threads;
-use worker_gate::{Gate, Job, Told, is_few, pieces_for, run_all};
+use worker_gate::{Gate, Job, Told, pieces_for, run_few_or_all};
 
 /// A pass over the operations of a level, whose places workers take from a counter.
 #[derive(Drop)]
@@ -54,7 +54,7 @@ impl<G: Gate> Job<Runner> for Pass<'_, G> {
     }
 }
 
-/// Makes a pass by all runners, or by the first runner alone if the level has [few](is_few) operations.
+/// Makes a pass by all runners, or by the first runner alone if the level has [few](run_few_or_all) operations.
 pub(crate) fn pass_by<R: Threads + Sync, G: Gate>(
     rt: &R,
     runners: &mut [Runner],
@@ -73,10 +73,6 @@ pub(crate) fn pass_by<R: Threads + Sync, G: Gate>(
     ensures first { (d : Worker)
         → IsEnough pass.now.counter (length pass.now.ops.now) (slice_index_or runners.new 0 d) }
 {
-    if is_few(pass.ops.len()) {
-        pass.run(&mut runners[0]);
-    } else {
-        let pieces = pieces_for(pass.gate, pass.ops.len());
-        run_all(rt, runners, pieces, pass);
-    }
+    let pieces = pieces_for(pass.gate, pass.ops.len());
+    run_few_or_all(rt, runners, pass.ops.len(), pieces, pass);
 }

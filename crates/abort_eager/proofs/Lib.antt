@@ -7,3 +7,6 @@ pub mod Starting
 pub mod Knowing
 pub mod Touching
 pub mod Sweeping
+pub mod Noting
+pub mod UnitWalks
+pub mod Exploring

@@ -1,10 +1,11 @@
 -- What a filter, a map and a range have.
-use Rattle.std.proofs.Common.{◌≡◌, ℕ, ◌+◌, ◌-◌, ◌<◌, ◌≤◌, List, [], ◌∷◌, map, length, sym, ap, ◌∙◌, subst, refl, inl, inr, arith, zero-lt-suc, not-suc-le-zero}
+use Rattle.std.proofs.Common.{◌≡◌, ℕ, ◌+◌, ◌-◌, ◌<◌, ◌≤◌, List, [], ◌∷◌, map, length, get_or, sym, ap, ◌∙◌, subst, refl, inl, inr, arith, zero-lt-suc, not-suc-le-zero, zero-add}
 use Rattle.std.specs.Prelude.{Contains, All}
 use Rattle.std.specs.List.{range_with_len, flat_map}
 use Rattle.std.proofs.lemmas.List.{length-map, get_or-map}
 use Rattle.std.proofs.lemmas.List.Elements.{Contains-append_left, Contains-append_right, Contains-append_cases, All-append}
 use Rattle.std.proofs.lemmas.List.FromFn.{length-range_with_len, get_or-range_with_len}
+use Rattle.morph_base.specs.Graphs.{below}
 use Rattle.op_words.proofs.Rows.{one_inside}
 
 pub contains_map : {X Y : Type 0} (f : X → Y) (xs : List X) (x : X) → Contains xs x → Contains (map f xs) (f x)
@@ -35,3 +36,10 @@ range_within a n k inside =
     let lt : inside.0 < n = subst (λ m. inside.0 < m) (length-range_with_len a n) inside.1 in
     let is : a + inside.0 ≡ k = sym (get_or-range_with_len a n inside.0 k lt) ∙ inside.2 in
     (omega arith, omega arith)
+
+-- the numbers below n
+pub below_inside : (n : ℕ) → All (λ o. o < n) (below n)
+below_inside n k d lt = let less : k < n = subst (λ m. k < m) (length-range_with_len 0 n) lt in let is : get_or (below n) k d ≡ 0 + k = get_or-range_with_len 0 n k d less in omega arith
+
+pub below_all : (n o : ℕ) → o < n → Contains (below n) o
+below_all n o lt = (o, subst (λ m. o < m) (sym (length-range_with_len 0 n)) lt, get_or-range_with_len 0 n o o lt ∙ zero-add o)

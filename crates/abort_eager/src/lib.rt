@@ -11,16 +11,27 @@
 //! }
 //! ```
 //!
-//! [`laws`] says what a whole cascade makes of a hand's view. The crate uses `op_words` and `interleaving_core`, for
-//! the board, and `morph_base`.
+//! [`laws`] says what a whole cascade makes of a hand's view.
+//!
+//! Explorers share the rest: their [`Ground`], the walk through a unit ([`walk_unit`]), an [`attempt`] at an operation,
+//! and the [`AttemptWithCascade`] with the cascade that follows, in which they take [`Notes`] of what was touched.
+//!
+//! The crate uses `op_eval`, `op_words` and `interleaving_core`, for the board and its runners; `chain_units`;
+//! `worker_gate`; and `morph_base`.
 #![tactic(auto)]
 
 mod answers;
+mod attempting;
 mod behind;
 mod cascade;
 mod finding;
+mod ground;
 pub mod laws;
+mod walking;
 
 pub use answers::{Target, Touch, Touched};
+pub use attempting::{AttemptWithCascade, Notes, attempt};
 pub use behind::cascade_behind;
 pub use cascade::Cascade;
+pub use ground::Ground;
+pub use walking::{Walking, walk_unit};

@@ -1,8 +1,7 @@
 -- Turns of a runner at one level.
 use Rattle.std.proofs.Common.{◌≡◌, ℕ, ◌+◌, ◌<◌, ◌≤◌, eqb, List, [], ◌∷◌, length, get_or, refl, sym, ap, ◌∙◌, subst, inl, inr, arith, None}
-use Rattle.std.specs.Prelude.{Contains, All, nat_lt, slice_index_or, slice_set, sum_by}
+use Rattle.std.specs.Prelude.{Contains, nat_lt, slice_index_or, sum_by}
 use Rattle.std.proofs.lemmas.Bool.{cases_eq, cond-true, cond-false, eq-eqb, le-ltb, lt-ltb}
-use Rattle.std.proofs.lemmas.List.{length-set, get_or-set_same, get_or-set_other}
 use Rattle.std.proofs.lemmas.List.Elements.{Contains-append_right}
 use Rattle.std.proofs.lemmas.List.Sums.{sum_by-append, sum_by-cons}
 use Rattle.morph_base.specs.declared.plan.Plan.{Plan}
@@ -21,8 +20,7 @@ use Rattle.abort_lazy.specs.declared.run.sweeping.Call.{Call}
 use Rattle.abort_lazy.specs.declared.run.sweeping.Call.TheVariants.{Took, Tried}
 use Rattle.op_eval.specs.Turns.{TakesNumber}
 use Rattle.op_eval.proofs.Turns.{times_one}
-use Rattle.worker_gate.specs.Sharing.{shared_from}
-use Rattle.abort_lazy.specs.Sweeps.{HasTriedOne, Swept, IsThrough, HasSwept, AreSwept, IsSweeping, CanSweep, tried_by, taken_by, weight_at}
+use Rattle.abort_lazy.specs.Sweeps.{HasTriedOne, Swept, HasSwept, IsSweeping, tried_by, taken_by, weight_at}
 use Rattle.abort_lazy.proofs.Trying.{calls_lone}
 
 pub times_taking : (c n : ℕ) (v : View) → times c (taking c n v).places ≡ times c v.places + 1
@@ -194,47 +192,9 @@ all_turns b p c events turn a r past sweeping = record {
   };
 }
 
--- the first runner alone took part
-pub first_alone : (b : Board) (p : Plan) (c : ℕ) (events : List ℕ) (rs : List Runner) (x y : Runner) → 0 < length rs → ((d : Runner) → slice_index_or rs 0 d ≡ x)
-    → All (CanSweep b c events) rs → length events < shared_from → HasSwept b p c events x y → AreSwept b p c events rs (slice_set rs 0 y)
-first_alone b p c events rs x y some is can few has = record {
-  len = length-set rs 0 y;
-  hands = λ k d lt.
-      elim (cases_eq k 0) [
-        | inl same ↦ subst (λ j. IsHandOf b (slice_index_or (slice_set rs 0 y) j d).hand) (sym same) (subst (λ (z : Runner). IsHandOf b z.hand) (sym (get_or-set_same rs 0 y d some)) has.hand)
-        | inr other ↦
-            let here = can k d (subst (λ n. k < n) (length-set rs 0 y) lt) in
-            subst (λ (z : Runner). IsHandOf b z.hand) (sym (get_or-set_other rs 0 k y d other)) here.hand
-      ];
-  each = λ k d lt.
-      elim (cases_eq k 0) [
-        | inl same ↦
-            subst (λ j. Swept p c events (slice_index_or rs j d) (slice_index_or (slice_set rs 0 y) j d)) (sym same)
-            (subst (λ z. Swept p c events (slice_index_or rs 0 d) z) (sym (get_or-set_same rs 0 y d some)) (subst (λ z. Swept p c events z y) (sym (is d)) has.swept))
-        | inr other ↦
-            let here = can k d lt in
-            subst (λ z. Swept p c events (slice_index_or rs k d) z) (sym (get_or-set_other rs 0 k y d other)) (swept_none p c events (slice_index_or rs k d) here.unused)
-      ];
-  through = (0, some, λ d. subst (λ z. IsThrough c events (slice_index_or rs 0 d) z) (sym (get_or-set_same rs 0 y d some)) (subst (λ z. IsThrough c events z y) (sym (is d)) has.through));
-  first = λ less k d above lt. get_or-set_other rs 0 k y d (λ same. absurd (omega (arith, above, same)));
-  shared = λ many. absurd (omega (arith, few, many));
-}
-
 -- what a number that was taken leaves as it was
 pub taken_free : (c n : ℕ) (a b : Runner) → TakesNumber c n a b → (hand_view a).claim ≡ None → (hand_view b).claim ≡ None
 taken_free c n a b taken free = ap (λ (v : View). v.claim) taken.view ∙ free
 
 pub taken_room : (c n : ℕ) (a b : Runner) → TakesNumber c n a b → b.kept.room ≡ a.kept.room
 taken_room c n a b taken = ap (λ l. l.room) taken.kept
-
--- all took part
-pub all_alike : (b : Board) (p : Plan) (c : ℕ) (events : List ℕ) (rs qs : List Runner) → 0 < length rs → shared_from ≤ length events → length qs ≡ length rs
-    → ((k : ℕ) (d : Runner) → k < length rs → HasSwept b p c events (slice_index_or rs k d) (slice_index_or qs k d)) → AreSwept b p c events rs qs
-all_alike b p c events rs qs some many len has = record {
-  len = len;
-  hands = λ k d lt. let one-has = has k d (subst (λ n. k < n) len lt) in one-has.hand;
-  each = λ k d lt. let one-has = has k d lt in one-has.swept;
-  through = (0, some, λ d. let one-has = has 0 d some in one-has.through);
-  first = λ few. absurd (omega (arith, few, many));
-  shared = λ enough k d lt. let one-has = has k d lt in one-has.through;
-}

@@ -12,7 +12,7 @@ use Rattle.morph_base.specs.Graphs.{below, greatest, op_level, op_depth, IsGraph
 use Rattle.morph_base.specs.Plans.{op_at, op_count, origins_of, no_plan_op}
 use Rattle.morph_base.proofs.LevelLaws.{le-greatest, length-op_levels}
 use Rattle.steal_explorer.specs.Dealing.{level_one}
-use Rattle.steal_explorer.proofs.Depending.{below_inside}
+use Rattle.abort_eager.proofs.Listing.{below_inside}
 
 abbrev items_of : Contents ℕ → List ℕ
 items_of l = l.items

@@ -1,5 +1,5 @@
 -- Cascades behind evaluations: their targets one after another, and what was rolled back asked.
-use Rattle.std.proofs.Common.{◌≡◌, ◌≢◌, ℕ, zero, suc, ◌<◌, true, false, Bool, Some, List, [], ◌∷◌, length, get_or, refl, sym, ap, subst, arith}
+use Rattle.std.proofs.Common.{◌≡◌, ◌≢◌, ℕ, suc, ◌<◌, true, false, Bool, Some, List, [], ◌∷◌, length, refl, sym, ap, subst, arith}
 use Rattle.std.proofs.lemmas.Bool.{false≢true}
 use Rattle.std.proofs.lemmas.Option.{none-some}
 use Rattle.morph_base.specs.declared.plan.Plan.{Plan}
@@ -19,11 +19,11 @@ use Rattle.abort_eager.specs.declared.cascade.Cascade.{Cascade}
 use Rattle.abort_eager.specs.Sweeps.{cascade_for}
 use Rattle.abort_eager.specs.Targets.{targets_left}
 use Rattle.abort_eager.specs.Touching.{HasCause, NextDoes}
-use Rattle.abort_eager.proofs.Touching.{touched_one}
 use Rattle.steal_explorer.specs.declared.members.Member.{Member}
-use Rattle.steal_explorer.specs.Calls.{ServeCall, Asked, Tried, Swept, is_asked, is_swept, MakesServeCalls, HasTouched, GoesQuietly}
+use Rattle.steal_explorer.specs.Calls.{ServeCall, Swept, MakesServeCalls}
 use Rattle.steal_explorer.specs.Serving.{ServesOn, AsksAndPuts, TouchesNext, TouchesAll, TouchesFor}
-use Rattle.steal_explorer.proofs.Going.{goes_calls, lazy_none}
+use Rattle.steal_explorer.proofs.Further.{call_adds}
+use Rattle.steal_explorer.proofs.Going.{goes_calls}
 
 -- ---- when there is a cascade
 
@@ -45,54 +45,16 @@ shown_more o goes shown = record { entry = shown.entry; inside = goes.adds.publi
 
 calls_shown : (p : Plan) (cap o : ℕ) (cs : List ServeCall) (a b : Runner) → MakesServeCalls p cap cs a b → HasShownFailure (hand_view a) o → HasShownFailure (hand_view b) o
 calls_shown p cap o [] a b calls shown = subst (λ r. HasShownFailure (hand_view r) o) (sym calls) shown
-calls_shown p cap o (Asked q ∷ cs) a b calls shown = shown_more o calls.2.1.does.goes (calls_shown p cap o cs a calls.0 calls.1 shown)
-calls_shown p cap o (Tried q ∷ cs) a b calls shown = shown_more o calls.2.1.does.goes (calls_shown p cap o cs a calls.0 calls.1 shown)
-calls_shown p cap o (Swept g ∷ cs) a b calls shown =
-    shown_more o (touched_one p cap g (hand_view calls.0) (hand_view b) calls.2.0 calls.2.1.touches).goes (calls_shown p cap o cs a calls.0 calls.1 shown)
+calls_shown p cap o (c ∷ cs) a b calls shown = shown_more o (call_adds p cap c calls.0 b calls.2).goes (calls_shown p cap o cs a calls.0 calls.1 shown)
 
 pub cause_kept : (p : Plan) (cap : ℕ) (abort : Abort) (c : Cascade) (a b : Member) → ServesOn p cap abort a b → HasCause c (hand_view a.runner) → HasCause c (hand_view b.runner)
 cause_kept p cap abort c a b goes cause = λ failed. calls_shown p cap c.op goes.calls a.runner b.runner goes.made (cause failed)
 
--- ---- cascades that push nothing
-
-pub touched_none : (p : Plan) (cap : ℕ) (a : Runner) → HasTouched p cap a a
-touched_none p cap a = record { calls = []; made = refl; only = λ k d lt. absurd (omega arith) }
-
-pub touched_next : (p : Plan) (cap : ℕ) (c d : Cascade) (a m : Runner) (h : Hand) (t : Touched) → HasTouched p cap a m → NextDoes p cap c d (hand_view m) (view_of h) (Some t) → HasTouched p cap a (record m { hand = h })
-touched_next p cap c d a m h t touched next = record {
-  calls = Swept next.target ∷ touched.calls;
-  made = (m, touched.made, (t, record { touches = next.touches; answers = refl; kept = refl }));
-  only = λ k e lt. each k e lt;
-}
-  where
-    each : (k : ℕ) (e : ServeCall) → k < length (Swept next.target ∷ touched.calls) → is_swept (get_or (Swept next.target ∷ touched.calls) k e) ≡ true
-    each zero e lt = refl
-    each (suc k) e lt = touched.only k e (less k lt)
-      where
-        less : (k : ℕ) → suc k < suc (length touched.calls) → k < length touched.calls
-        less k lt = omega arith
-
-pub quiet_none : (p : Plan) (cap : ℕ) (abort : Abort) (a : Runner) → GoesQuietly p cap abort a a
-quiet_none p cap abort a = record { calls = []; made = refl; only = λ k d lt. absurd (omega arith); lazy = lazy_none abort }
+-- ---- cascades that ask what they rolled back
 
 -- under eager abort
-eager_lazy : (abort : Abort) → abort ≡ Eager → abort ≡ Lazy → ⊥
+pub eager_lazy : (abort : Abort) → abort ≡ Eager → abort ≡ Lazy → ⊥
 eager_lazy abort eager lazy = cc
-
-pub quiet_touched : (p : Plan) (cap : ℕ) (abort : Abort) (a b : Runner) → abort ≡ Eager → HasTouched p cap a b → GoesQuietly p cap abort a b
-quiet_touched p cap abort a b eager touched = record {
-  calls = touched.calls;
-  made = touched.made;
-  only = λ k d lt. unasked (get_or touched.calls k d) (touched.only k d lt);
-  lazy = λ lazy. absurd (eager_lazy abort eager lazy);
-}
-  where
-    unasked : (c : ServeCall) → is_swept c ≡ true → is_asked c ≡ false
-    unasked (Swept g) is = refl
-    unasked (Tried o) is = refl
-    unasked (Asked o) is = cc
-
--- ---- cascades that ask what they rolled back
 
 -- a hand that did nothing
 pub left_as : (m : Member) (h : Hand) → h ≡ m.runner.hand → record m { runner = record m.runner { hand = h } } ≡ m

@@ -22,7 +22,7 @@ use Rattle.steal_explorer.specs.declared.handing.Log.{Log}
 use Rattle.steal_explorer.specs.Dealing.{dealt_to, pushed_on, IsOpenedSeat, AreOpened, CanTake, HasGot, HaveGot}
 use Rattle.steal_explorer.specs.Handing.{log, parts_of, put}
 use Rattle.steal_explorer.specs.Members.{Owner, Thief}
-use Rattle.steal_explorer.proofs.Depending.{below_inside}
+use Rattle.abort_eager.proofs.Listing.{below_inside}
 use Rattle.steal_explorer.proofs.Places.{set_at}
 
 -- ---- what is dealt

@@ -1,11 +1,11 @@
 -- The dependents of an operation of a valid plan are its operations that have it as a source.
-use Rattle.std.proofs.Common.{◌≡◌, ℕ, ◌+◌, ◌<◌, Bool, true, false, List, [], map, length, get_or, sym, ap, ◌∙◌, subst, inl, inr, ◌⊎◌, arith, zero-add}
+use Rattle.std.proofs.Common.{◌≡◌, ℕ, ◌<◌, Bool, true, false, List, [], map, length, get_or, sym, ap, ◌∙◌, subst, inl, inr, ◌⊎◌, arith, zero-add}
 use Rattle.std.specs.Prelude.{All, Contains, slice_index_or}
 use Rattle.std.proofs.lemmas.Bool.{false≢true, eq-eqb, cases_eq, ne_eqb}
 use Rattle.std.proofs.lemmas.List.Folds.{Any-from_list_any, list_any_at}
 use Rattle.std.proofs.lemmas.List.{length-map, length-take-le, get_or-take, get_or_default}
 use Rattle.std.proofs.lemmas.List.Elements.{All-filter, filter_passes}
-use Rattle.std.proofs.lemmas.List.FromFn.{length-range_with_len, get_or-range_with_len, get_or-map-range_with_len}
+use Rattle.std.proofs.lemmas.List.FromFn.{length-range_with_len, get_or-map-range_with_len}
 use Rattle.morph_base.specs.Contents.{Contents}
 use Rattle.morph_base.specs.declared.plan.Origin.{Origin}
 use Rattle.morph_base.specs.declared.plan.Origin.TheVariants.{Base, Op as Written}
@@ -16,15 +16,10 @@ use Rattle.morph_base.proofs.OutcomeLaws.{keys_fit}
 use Rattle.op_words.specs.Trails.{IsSourceOf}
 use Rattle.steal_explorer.specs.Serving.{readers}
 use Rattle.op_eval.proofs.Elements.{contains_filter}
+use Rattle.abort_eager.proofs.Listing.{below_inside, below_all}
 
 abbrev items_of : Contents ℕ → List ℕ
 items_of l = l.items
-
-pub below_inside : (n : ℕ) → All (λ o. o < n) (below n)
-below_inside n k d lt = let less : k < n = subst (λ m. k < m) (length-range_with_len 0 n) lt in let is : get_or (below n) k d ≡ 0 + k = get_or-range_with_len 0 n k d less in omega arith
-
-below_all : (n o : ℕ) → o < n → Contains (below n) o
-below_all n o lt = (o, subst (λ m. o < m) (sym (length-range_with_len 0 n)) lt, get_or-range_with_len 0 n o o lt ∙ zero-add o)
 
 -- ---- who reads from an operation
 

@@ -1,6 +1,6 @@
 -- Calls in turn, and what they and pushes make of a worker.
 use Rattle.std.proofs.Common.{◌≡◌, ℕ, zero, suc, ◌+◌, ◌<◌, false, List, [], ◌∷◌, ◌++◌, length, get_or, refl, sym, ap, ◌∙◌, subst, arith, append_assoc}
-use Rattle.std.specs.Prelude.{All, slice_index_or}
+use Rattle.std.specs.Prelude.{slice_index_or}
 use Rattle.std.proofs.lemmas.List.Elements.{All-append, Contains-append_right}
 use Rattle.crossbeam_deque.specs.Handles.{view, stealer_deque, worker_view, SameWorker}
 use Rattle.morph_base.specs.Contents.{Contents}
@@ -18,8 +18,8 @@ use Rattle.op_eval.proofs.Elements.{contains_first, contains_later}
 use Rattle.op_eval.proofs.Turns.{in_turn_append}
 use Rattle.steal_explorer.specs.declared.handing.Log.{Log}
 use Rattle.steal_explorer.specs.declared.members.Member.{Member}
-use Rattle.abort_eager.specs.Sweeps.{cascade_for, Sweeps}
-use Rattle.steal_explorer.specs.Calls.{ServeCall, Asked, Tried, is_asked, is_swept, NoneSwept, AsksWhetherReady, MakesServeCalls, MakesServeCall, GoesQuietly, TriesQuietly, WalkedUnit}
+use Rattle.abort_eager.specs.Sweeps.{cascade_for}
+use Rattle.steal_explorer.specs.Calls.{ServeCall, Asked, Tried, is_swept, NoneSwept, AsksWhetherReady, MakesServeCalls, MakesServeCall, WalkedUnit}
 use Rattle.steal_explorer.specs.Handing.{log, one, parts_of, put}
 use Rattle.steal_explorer.specs.Members.{Owner, Thief, Ticket, own, stolen_by, AreSeated, HasTickets}
 use Rattle.steal_explorer.specs.Serving.{ServesOn, TouchesFor, AsksAll, AsksReaders, Visits, Serves, readers}
@@ -30,58 +30,15 @@ use Rattle.steal_explorer.specs.Serving.{ServesOn, TouchesFor, AsksAll, AsksRead
 pub lazy_none : (abort : Abort) → NoneSwept abort []
 lazy_none abort lazy = λ k d lt. absurd (omega arith)
 
-lazy_one : (abort : Abort) (c : ServeCall) → is_swept c ≡ false → NoneSwept abort (c ∷ [])
+pub lazy_one : (abort : Abort) (c : ServeCall) → is_swept c ≡ false → NoneSwept abort (c ∷ [])
 lazy_one abort c other lazy = λ k d lt. subst (λ e. is_swept e ≡ false) (first k d (omega arith)) other
   where
     first : (k : ℕ) (d : ServeCall) → k < 1 → c ≡ get_or (c ∷ []) k d
     first zero d lt = refl
     first (suc k) d lt = absurd (omega arith)
 
-lazy_both : (abort : Abort) (ds cs : List ServeCall) → NoneSwept abort ds → NoneSwept abort cs → NoneSwept abort (ds ++ cs)
+pub lazy_both : (abort : Abort) (ds cs : List ServeCall) → NoneSwept abort ds → NoneSwept abort cs → NoneSwept abort (ds ++ cs)
 lazy_both abort ds cs second first lazy = All-append (λ c. is_swept c ≡ false) ds cs (second lazy) (first lazy)
-
--- ---- walking
-
-module _ (p : Plan) (cap : ℕ) (abort : Abort) where
-  pub tries_quietly : (o : ℕ) {a m b : Runner} {r : Evaluation} → Tries p cap o a m r → Sweeps p cap abort o r m b → GoesQuietly p cap abort m b → TriesQuietly p cap abort o a b r
-  tries_quietly o {a} {m} {b} {r} tries sweeps quiet = record {
-    attempts = (m, tries, sweeps);
-    quiet = record {
-      calls = quiet.calls ++ Tried o ∷ [];
-      made = in_turn_append (MakesServeCall p cap) quiet.calls (Tried o ∷ []) a m b (a, refl, (r, tries)) quiet.made;
-      only = All-append (λ c. is_asked c ≡ false) quiet.calls (Tried o ∷ []) quiet.only one;
-      lazy = lazy_both abort quiet.calls (Tried o ∷ []) quiet.lazy (lazy_one abort (Tried o) refl);
-    };
-    tried = Contains-append_right quiet.calls (Tried o ∷ []) (Tried o) (contains_first (Tried o) []);
-  }
-    where
-      one : All (λ c. is_asked c ≡ false) (Tried o ∷ [])
-      one zero d lt = refl
-      one (suc k) d lt = absurd (omega arith)
-
-  pub walked_first : (o : ℕ) {a b : Runner} {r : Evaluation} → TriesQuietly p cap abort o a b r → WalkedUnit p cap abort o a b
-  walked_first o {a} {b} {r} tries = record {
-    ops = o ∷ [];
-    attempts = (a, refl, (r, tries.attempts));
-    first = contains_first o [];
-    calls = tries.quiet.calls;
-    made = tries.quiet.made;
-    tried = tries.tried;
-    only = tries.quiet.only;
-    lazy = tries.quiet.lazy;
-  }
-
-  pub walked_more : (o q : ℕ) {a m b : Runner} {r : Evaluation} → WalkedUnit p cap abort o a m → TriesQuietly p cap abort q m b r → WalkedUnit p cap abort o a b
-  walked_more o q {a} {m} {b} {r} walked tries = record {
-    ops = q ∷ walked.ops;
-    attempts = (m, walked.attempts, (r, tries.attempts));
-    first = contains_later q walked.ops o walked.first;
-    calls = tries.quiet.calls ++ walked.calls;
-    made = in_turn_append (MakesServeCall p cap) tries.quiet.calls walked.calls a m b walked.made tries.quiet.made;
-    tried = Contains-append_right tries.quiet.calls walked.calls (Tried o) walked.tried;
-    only = All-append (λ c. is_asked c ≡ false) tries.quiet.calls walked.calls tries.quiet.only walked.only;
-    lazy = lazy_both abort tries.quiet.calls walked.calls tries.quiet.lazy walked.lazy;
-  }
 
 -- ---- what a worker becomes
 

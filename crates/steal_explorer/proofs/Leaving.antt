@@ -9,7 +9,7 @@ use Rattle.op_eval.specs.Alone.{Ran}
 use Rattle.op_eval.specs.Running.{hand_view}
 use Rattle.op_eval.proofs.Alone.{come_first}
 use Rattle.steal_explorer.specs.declared.handing.Log.{Log}
-use Rattle.steal_explorer.specs.declared.members.Ground.{Ground}
+use Rattle.abort_eager.specs.declared.ground.Ground.{Ground}
 use Rattle.steal_explorer.specs.declared.members.Member.{Member}
 use Rattle.steal_explorer.specs.Alone.{AreSourcesRun, HasRunOp, EndsAlone, LeavesAlone}
 use Rattle.steal_explorer.specs.Draining.{IsCleared, IsEmptied, IsEmptiedBy}

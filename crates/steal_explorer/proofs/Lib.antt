@@ -3,6 +3,7 @@ pub mod Stealing
 pub mod Owning
 pub mod Going
 pub mod Cascading
+pub mod Quietly
 pub mod Depending
 pub mod Turning
 pub mod Places

@@ -21,7 +21,7 @@ use Rattle.crossbeam_deque.specs.Handles.{view, stealer_deque}
 use Rattle.steal_explorer.specs.declared.finding.Found.{Found}
 use Rattle.steal_explorer.specs.declared.finding.Found.TheVariants.{Item, Nothing, Retry}
 use Rattle.steal_explorer.specs.declared.handing.Log.{Log}
-use Rattle.steal_explorer.specs.declared.members.Ground.{Ground}
+use Rattle.abort_eager.specs.declared.ground.Ground.{Ground}
 use Rattle.steal_explorer.specs.declared.members.Member.{Member}
 use Rattle.steal_explorer.specs.Calls.{ServeCall, is_tried, MakesServeCalls, MakesServeCall}
 use Rattle.steal_explorer.specs.Draining.{in_plan, IsEven, IsLeftWithNobody, IsCleared, HasAll, IsEmptiedBy, AreEmptied}

@@ -18,7 +18,6 @@ use Rattle.op_words.specs.declared.trail.View.{View}
 use Rattle.op_words.specs.Calls.{MakeDoes}
 use Rattle.op_words.specs.Trails.{loaded, last_word, IsSourceOf, ComeFirst, NoneOwn}
 use Rattle.op_words.specs.Views.{IsLone}
-use Rattle.op_words.proofs.Adding.{lone_more}
 use Rattle.op_eval.specs.declared.answers.Evaluation.{Evaluation}
 use Rattle.op_eval.specs.declared.answers.Evaluation.TheVariants.{Evaluated, Blocked as BlockedOn, Busy as BusyAt, Already}
 use Rattle.op_eval.specs.declared.runner.Runner.{Runner}
@@ -28,7 +27,8 @@ use Rattle.op_eval.specs.Running.{hand_view}
 use Rattle.op_eval.proofs.Alone.{come_first, run_valued, lone_unclaimed, lone_undisturbed, lone_evaluates, knew_first, knew_other, left_last, others_same, none_changed, others_stay, ran_kept}
 use Rattle.op_eval.proofs.Following.{one_none}
 use Rattle.op_eval.proofs.Elements.{contains_cases}
-use Rattle.abort_eager.proofs.Touching.{touched_one}
+use Rattle.abort_eager.proofs.Exploring.{further_lone}
+use Rattle.steal_explorer.proofs.Further.{calls_further}
 use Rattle.steal_explorer.specs.Alone.{AreSourcesRun, IsWaiting, IsQueued, HasGone, Stands}
 use Rattle.steal_explorer.specs.Calls.{ServeCall, Asked, Tried, Swept, is_swept, MakesServeCalls}
 use Rattle.steal_explorer.specs.HandingOut.{is_one}
@@ -114,11 +114,7 @@ module _ {p : Plan} {cap d : ℕ} {v u : View} (lone : IsLone v) (first_ones : C
 
 -- what ran stays so, whatever a lone root calls
 pub calls_lone : (p : Plan) (cap : ℕ) (cs : List ServeCall) (a b : Runner) → MakesServeCalls p cap cs a b → IsLone (hand_view a) → IsLone (hand_view b)
-calls_lone p cap [] a b calls lone = subst (λ r. IsLone (hand_view r)) (sym calls) lone
-calls_lone p cap (Asked o ∷ cs) a b calls lone = lone_more calls.2.1.does.goes.adds (calls_lone p cap cs a calls.0 calls.1 lone)
-calls_lone p cap (Tried o ∷ cs) a b calls lone = lone_more calls.2.1.does.goes.adds (calls_lone p cap cs a calls.0 calls.1 lone)
-calls_lone p cap (Swept g ∷ cs) a b calls lone =
-    lone_more (touched_one p cap g (hand_view calls.0) (hand_view b) calls.2.0 calls.2.1.touches).goes.adds (calls_lone p cap cs a calls.0 calls.1 lone)
+calls_lone p cap cs a b calls lone = further_lone (calls_further p cap cs a b calls) lone
 
 -- where no target of a cascade was touched
 pub calls_ran : (p : Plan) → IsPlan p → (cap : ℕ) (cs : List ServeCall) (a b : Runner) → MakesServeCalls p cap cs a b → All (λ c. is_swept c ≡ false) cs → IsLone (hand_view a) → (k : ℕ) → Ran (hand_view a).trail k → Ran (hand_view b).trail k

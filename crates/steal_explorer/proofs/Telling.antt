@@ -10,13 +10,16 @@ use Rattle.morph_base.specs.Contents.{Contents}
 use Rattle.morph_base.specs.Plans.{op_count}
 use Rattle.op_words.specs.Trails.{IsReached}
 use Rattle.op_words.proofs.Trailing.{reached_more, reached_later}
+use Rattle.op_eval.specs.declared.answers.Evaluation.{Evaluation}
 use Rattle.op_eval.specs.declared.runner.Runner.{Runner}
+use Rattle.op_eval.specs.Evaluations.{Tries}
 use Rattle.op_eval.specs.Exploring.{total}
 use Rattle.op_eval.specs.Running.{hand_view}
 use Rattle.op_eval.proofs.Totals.{tries_total, full_stays}
 use Rattle.op_eval.proofs.Elements.{contains_cases}
 use Rattle.op_eval.proofs.Turns.{in_turn_append}
-use Rattle.abort_eager.proofs.Touching.{touched_one}
+use Rattle.abort_eager.proofs.Exploring.{further_reached}
+use Rattle.steal_explorer.proofs.Further.{call_adds, calls_further}
 use Rattle.steal_explorer.specs.declared.finding.Found.{Found}
 use Rattle.steal_explorer.specs.declared.finding.Found.TheVariants.{Item, Nothing, Retry}
 use Rattle.steal_explorer.specs.declared.handing.Log.{Log}
@@ -31,48 +34,19 @@ use Rattle.steal_explorer.specs.Turns.{After, Turns}
 -- ---- calls
 
 pub calls_keep : (p : Plan) (cap o : ℕ) (cs : List ServeCall) (a b : Runner) → MakesServeCalls p cap cs a b → IsReached p o (hand_view a).trail → IsReached p o (hand_view b).trail
-calls_keep p cap o [] a b calls is = subst (λ r. IsReached p o (hand_view r).trail) (sym calls) is
-calls_keep p cap o (Asked q ∷ cs) a b calls is =
-    let does = calls.2.1.does in
-    subst (IsReached p o) (sym does.goes.adds.trail) (reached_more does.words (calls_keep p cap o cs a calls.0 calls.1 is))
-calls_keep p cap o (Tried q ∷ cs) a b calls is =
-    let does = calls.2.1.does in
-    subst (IsReached p o) (sym does.goes.adds.trail) (reached_more does.words (calls_keep p cap o cs a calls.0 calls.1 is))
-calls_keep p cap o (Swept g ∷ cs) a b calls is =
-    let does = touched_one p cap g (hand_view calls.0) (hand_view b) calls.2.0 calls.2.1.touches in
-    subst (IsReached p o) (sym does.goes.adds.trail) (reached_more does.words (calls_keep p cap o cs a calls.0 calls.1 is))
+calls_keep p cap o cs a b calls is = further_reached p o (calls_further p cap cs a b calls) is
 
 -- what was tried was reached
 pub calls_reach : (p : Plan) (cap o : ℕ) (cs : List ServeCall) (a b : Runner) → MakesServeCalls p cap cs a b → Contains cs (Tried o) → IsReached p o (hand_view b).trail
 calls_reach p cap o [] a b calls found = absurd (omega (arith, found.1))
-calls_reach p cap o (Asked q ∷ cs) a b calls found =
-    let does = calls.2.1.does in
-    elim (contains_cases (Asked q) cs (Tried o) found) [
-      | inl same ↦ absurd (apart same)
-      | inr later ↦ subst (IsReached p o) (sym does.goes.adds.trail) (reached_more does.words (calls_reach p cap o cs a calls.0 calls.1 later))
+calls_reach p cap o (c ∷ cs) a b calls found =
+    elim (contains_cases c cs (Tried o) found) [
+      | inl same ↦ tried_reached (subst (λ d. MakesServeCall p cap d calls.0 b) (sym same) calls.2)
+      | inr later ↦ (let new = call_adds p cap c calls.0 b calls.2 in subst (IsReached p o) (sym new.goes.adds.trail) (reached_more new.words (calls_reach p cap o cs a calls.0 calls.1 later)))
     ]
   where
-    apart : Tried o ≡ Asked q → ⊥
-    apart e = cc
-calls_reach p cap o (Tried q ∷ cs) a b calls found =
-    let does = calls.2.1.does in
-    subst (IsReached p o) (sym does.goes.adds.trail)
-    (elim (contains_cases (Tried q) cs (Tried o) found) [
-      | inl same ↦ reached_later (hand_view calls.0).trail (subst (λ k. IsReached p k does.words) (sym (op_is same)) does.reached)
-      | inr later ↦ reached_more does.words (calls_reach p cap o cs a calls.0 calls.1 later)
-    ])
-  where
-    op_is : Tried o ≡ Tried q → o ≡ q
-    op_is e = cc
-calls_reach p cap o (Swept g ∷ cs) a b calls found =
-    let does = touched_one p cap g (hand_view calls.0) (hand_view b) calls.2.0 calls.2.1.touches in
-    elim (contains_cases (Swept g) cs (Tried o) found) [
-      | inl same ↦ absurd (apart same)
-      | inr later ↦ subst (IsReached p o) (sym does.goes.adds.trail) (reached_more does.words (calls_reach p cap o cs a calls.0 calls.1 later))
-    ]
-  where
-    apart : Tried o ≡ Swept g → ⊥
-    apart e = cc
+    tried_reached : {m : Runner} → (r : Evaluation) × Tries p cap o m b r → IsReached p o (hand_view b).trail
+    tried_reached {m} tried = let does = tried.1.does in subst (IsReached p o) (sym does.goes.adds.trail) (reached_later (hand_view m).trail does.reached)
 
 -- ---- serving takes nothing
 

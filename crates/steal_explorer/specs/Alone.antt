@@ -1,7 +1,7 @@
 -- What a lone root does with its one deque: it pushes each operation once its sources have run, and runs it
-use Rattle.std.specs.Prelude.{◌≡◌, ◌⊎◌, ℕ, ◌+◌, ◌<◌, ◌≤◌, List, [], ◌∷◌, All, Contains, filter, length, sum_by}
+use Rattle.std.specs.Prelude.{◌≡◌, ◌⊎◌, ℕ, ◌+◌, ◌<◌, ◌≤◌, List, [], ◌∷◌, All, Contains, length, sum_by}
 use Rattle.crossbeam_deque.specs.Handles.{worker_capacity, worker_index}
-use Rattle.morph_base.specs.Graphs.{below, reads_from}
+use Rattle.morph_base.specs.Graphs.{below}
 use Rattle.morph_base.specs.declared.plan.Plan.{Plan}
 use Rattle.morph_base.specs.Plans.{op_count}
 use Rattle.interleaving_core.specs.Core.{blocked, ready}

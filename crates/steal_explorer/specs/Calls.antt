@@ -13,8 +13,7 @@ use Rattle.op_eval.specs.Running.{hand_view}
 use Rattle.op_eval.specs.Turns.{InTurn}
 use Rattle.abort_eager.specs.declared.answers.Target.{Target}
 use Rattle.abort_eager.specs.declared.answers.Touched.{Touched}
-use Rattle.abort_eager.specs.Sweeps.{Attempts}
-use Rattle.abort_eager.specs.Touching.{Touches}
+use Rattle.abort_eager.specs.Sweeps.{SweepsOne, Attempts}
 
 -- The runner asked whether an operation can be made ready, tried to evaluate it, or touched a target of a cascade
 pub data ServeCall : Type 0 where
@@ -51,12 +50,6 @@ pub record AsksWhetherReady (p : Plan) (cap o : ℕ) (before after : Runner) (r 
   pub answers : after.answers ≡ before.answers
   pub kept : after.kept ≡ before.kept
 
--- The runner touched the target, and only its view changed
-pub record SweepsOne (p : Plan) (cap : ℕ) (g : Target) (before after : Runner) (t : Touched) : Type 0 where
-  pub touches : Touches p cap g (hand_view before) (hand_view after) t
-  pub answers : after.answers ≡ before.answers
-  pub kept : after.kept ≡ before.kept
-
 -- The call led from runner a to runner b
 abbrev pub MakesServeCall : Plan → (cap : ℕ) → ServeCall → Runner → Runner → Type 0
 MakesServeCall p cap (Asked o) a b = (r : Readied) × AsksWhetherReady p cap o a b r
@@ -66,25 +59,6 @@ MakesServeCall p cap (Swept g) a b = (t : Touched) × SweepsOne p cap g a b t
 -- The calls, the last one first, led from runner a to runner b
 abbrev pub MakesServeCalls : Plan → (cap : ℕ) → List ServeCall → Runner → Runner → Type 0
 MakesServeCalls p cap = InTurn (MakesServeCall p cap)
-
--- The runner touched targets of cascades, and called nothing else
-pub record HasTouched (p : Plan) (cap : ℕ) (a b : Runner) : Type 0 where
-  pub calls : List ServeCall
-  pub made : MakesServeCalls p cap calls a b
-  pub only : All (λ c. is_swept c ≡ true) calls
-
--- The runner made calls, and asked no operation
-pub record GoesQuietly (p : Plan) (cap : ℕ) (abort : Abort) (a b : Runner) : Type 0 where
-  pub calls : List ServeCall
-  pub made : MakesServeCalls p cap calls a b
-  pub only : All (λ c. is_asked c ≡ false) calls
-  pub lazy : NoneSwept abort calls
-
--- Operation o was tried and the cascade that follows was run, and no operation was asked
-pub record TriesQuietly (p : Plan) (cap : ℕ) (abort : Abort) (o : ℕ) (a b : Runner) (r : Evaluation) : Type 0 where
-  pub attempts : Attempts p cap abort o a b r
-  pub quiet : GoesQuietly p cap abort a b
-  pub tried : Contains quiet.calls (Tried o)
 
 -- These operations were tried in turn, the last one first, and after each the cascade that follows was run
 abbrev pub Attempting : Plan → (cap : ℕ) → Abort → List ℕ → Runner → Runner → Type 0

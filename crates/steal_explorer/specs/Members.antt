@@ -5,15 +5,12 @@ use Rattle.crossbeam_deque.specs.declared.handles.Worker.{Worker}
 use Rattle.crossbeam_deque.specs.declared.handles.Stealer.{Stealer}
 use Rattle.crossbeam_deque.specs.Handles.{Pass, view, IsPassOf, worker_deque, stealer_deque, worker_flavor, stealer_flavor, worker_view}
 use Rattle.morph_base.specs.declared.plan.Plan.{Plan}
-use Rattle.morph_base.specs.Graphs.{IsValidPlan}
 use Rattle.morph_base.specs.Plans.{op_count}
-use Rattle.chain_units.specs.Places.{IsPartition}
-use Rattle.op_words.specs.Hands.{plan_of, up_to}
-use Rattle.op_eval.specs.declared.runner.Runner.{Runner}
+use Rattle.op_words.specs.Hands.{up_to}
 use Rattle.op_eval.specs.Running.{IsFreeRunner}
 use Rattle.steal_explorer.specs.declared.handing.Fair.{Fair}
 use Rattle.steal_explorer.specs.declared.handing.Log.{Log}
-use Rattle.steal_explorer.specs.declared.members.Ground.{Ground}
+use Rattle.abort_eager.specs.declared.ground.Ground.{Ground}
 use Rattle.steal_explorer.specs.declared.members.Member.{Member}
 use Rattle.steal_explorer.specs.Handing.{whole, log, one}
 
@@ -44,13 +41,6 @@ stolen_by h xs = sum_by (λ (x : Ticket). sum_by h (view x).stolen) xs
 -- The sum of h over the items that the worker popped or stole
 abbrev pub taken_by : (ℕ → ℕ) → Member → ℕ
 taken_by h m = sum_by h (own m).popped + stolen_by h (tickets_of m)
-
--- The plan is the board's and valid, and the units are the plan's
-pub record IsGround (g : Ground) : Type 0 where
-  pub plan : g.plan.now ≡ plan_of g.board.now
-  pub valid : IsValidPlan g.plan.now
-  pub units : IsPartition g.units.now.units (op_count g.plan.now)
-  pub number : g.units.now.ops ≡ op_count g.plan.now
 
 -- The worker's deque is first in first out, and the worker has a part of it. What it pushed are the plan's operations
 pub record HasDeque (p : Plan) (m : Member) : Type 0 where

@@ -5,12 +5,14 @@ ghost use Rattle.morph_base.specs.Plans.{op_count};
 ghost use Rattle.op_words.specs.Hands.{cap_of};
 ghost use Rattle.steal_explorer.specs.Draining.{WalkedKnown, IsLeftWithNobody, IsCleared, HasAll, IsEmptied, AreEmptied};
 ghost use Rattle.steal_explorer.specs.Handing.{whole};
-ghost use Rattle.steal_explorer.specs.Members.{own, IsGround};
+ghost use Rattle.abort_eager.specs.Grounds.{IsGround};
+ghost use Rattle.steal_explorer.specs.Members.{own};
 ghost use Rattle.op_eval.specs.Running.{IsFreeRunner};
 
 use crate::handing::{Leaves, Pops};
-use crate::members::{Ground, Member};
+use crate::members::Member;
 use crate::walking::walk;
+use abort_eager::Ground;
 use op_eval::{RunEnd, Runner};
 use worker_gate::Untold;
 

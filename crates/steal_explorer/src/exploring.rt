@@ -15,9 +15,10 @@ ghost use Rattle.steal_explorer.specs.Handed.{pushed_of, taken_of, stolen_of, un
 ghost use Rattle.steal_explorer.specs.Seating.{AreReady};
 
 use crate::deques::Deques;
-use crate::members::{Ground, Member};
+use crate::members::Member;
 use crate::running::hand_out;
 use crate::seating::{seat_all, unseat_all};
+use abort_eager::Ground;
 use chain_units::Units;
 use morph_base::{Abort, List, Plan};
 use op_eval::{Explored, RunEnd, Runners};

@@ -1,18 +1,7 @@
 //! What a worker has while it explores.
 use crate::handing::{Owner, Ticket};
-use chain_units::Units;
-use morph_base::{Abort, List, Plan};
+use morph_base::List;
 use op_eval::{RunEnd, Runner};
-use op_words::Board;
-
-/// What all workers share while they explore.
-#[derive(Clone, Copy)]
-pub struct Ground<'a> {
-    pub board: &'a Board,
-    pub plan: &'a Plan,
-    pub units: &'a Units,
-    pub abort: Abort,
-}
 
 /// A worker: its runner beside its deque.
 #[derive(Drop)]

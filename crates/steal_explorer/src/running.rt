@@ -6,15 +6,17 @@ ghost use Rattle.steal_explorer.specs.declared.members.Member.{Member as M};
 ghost use Rattle.steal_explorer.specs.Alone.{BeginsAlone, EndsAlone, LeavesAlone};
 ghost use Rattle.steal_explorer.specs.Handing.{whole};
 ghost use Rattle.steal_explorer.specs.HandingOut.{IsBeginning, HasHandedOut};
-ghost use Rattle.steal_explorer.specs.Members.{IsGround, IsWorkerOf};
+ghost use Rattle.abort_eager.specs.Grounds.{IsGround};
+ghost use Rattle.steal_explorer.specs.Members.{IsWorkerOf};
 ghost use Rattle.op_eval.specs.Running.{IsFreeRunner};
 ghost use Rattle.steal_explorer.specs.Turns.{HasTakenTurns};
 
 use crate::draining::empty_all;
 use crate::gathering::gather;
 use crate::handing::Thief;
-use crate::members::{Ground, Member};
+use crate::members::Member;
 use crate::working::work;
+use abort_eager::Ground;
 use morph_base::Plan;
 use std::thread::Threads;
 use worker_gate::{Gate, Job, Told, pieces_for, run_all};
@@ -32,7 +34,8 @@ impl<G: Gate> Job<Member> for Working<'_, G> {
     ghost use Rattle.steal_explorer.specs.Alone.{BeginsAlone, EndsAlone};
     ghost use Rattle.morph_base.specs.declared.strategy.Abort.TheVariants.{Lazy};
     ghost use Rattle.op_words.specs.Hands.{cap_of};
-    ghost use Rattle.steal_explorer.specs.Members.{IsGround, IsWorkerOf};
+    ghost use Rattle.abort_eager.specs.Grounds.{IsGround};
+    ghost use Rattle.steal_explorer.specs.Members.{IsWorkerOf};
     ghost use Rattle.steal_explorer.specs.Turns.{HasTakenTurns};
 
     ghost can_run = { λ job member. IsGround job.ground

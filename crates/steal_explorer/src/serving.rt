@@ -7,16 +7,18 @@ ghost use Rattle.op_words.specs.Hands.{cap_of};
 ghost use Rattle.op_words.specs.Trails.{IsSourceOf};
 ghost use Rattle.steal_explorer.specs.Alone.{IsHandingAlone, Pushes, ServesAlone};
 ghost use Rattle.steal_explorer.specs.Serving.{readers};
-ghost use Rattle.steal_explorer.specs.Members.{IsGround, HasDeque};
+ghost use Rattle.abort_eager.specs.Grounds.{IsGround};
+ghost use Rattle.steal_explorer.specs.Members.{HasDeque};
 ghost use Rattle.op_eval.specs.Running.{IsFreeRunner};
 ghost use Rattle.steal_explorer.specs.declared.finding.Found.TheVariants.{Item};
-ghost use Rattle.steal_explorer.specs.Serving.{ServesOn, PutsOrWalks, AsksAndPuts, AsksAll, Visits, Serves};
+ghost use Rattle.steal_explorer.specs.Serving.{ServesOn, PutsOrWalks, AsksAndPuts, AsksAll, Serves};
 ghost use Rattle.steal_explorer.specs.Turns.{After};
 
 use crate::handing::Puts;
-use crate::members::{Ground, Member};
+use crate::members::Member;
 use crate::sweeping::sweep;
-use crate::walking::{ask, attempt, walk};
+use crate::walking::{ask, walk};
+use abort_eager::{Ground, Walking, attempt, walk_unit};
 use op_eval::Evaluation;
 use op_words::Readied;
 use worker_gate::Turns;
@@ -91,37 +93,43 @@ fn ask_all<T: Turns>(ground: &Ground<'_>, told: &T, turn: u64, member: &mut Memb
     }
 }
 
-/// Tries to evaluate an operation, runs the cascade that follows, and asks the dependents if the operation was
-/// evaluated.
-fn evaluate_and_ask<T: Turns>(
-    ground: &Ground<'_>,
-    told: &T,
+/// What a worker does with the operations of the unit of an item that it took.
+#[derive(Drop)]
+struct Serving<'a, T> {
+    told: &'a T,
     turn: u64,
-    member: &mut Member,
-    op: u32,
-) -> Evaluation
-    requires ground { IsGround ground.now }
-    requires in_range { op < op_count ground.now.plan.now }
-    requires idle { IsFreeRunner ground.now.board.now member.old.runner }
-    requires deque { HasDeque ground.now.plan.now member.old }
-    ensures idle { IsFreeRunner ground.now.board.now member.new.runner }
-    ensures deque { HasDeque ground.now.plan.now member.new }
-    ensures serves { Serves ground.now.plan.now (cap_of ground.now.board.now) ground.now.abort op
-        member.old member.new }
-    ensures visits { Visits ground.now.plan.now (cap_of ground.now.board.now) ground.now.abort op
-        member.old member.new }
-    ensures alone { ground.now.abort ≡ Lazy → 1 ≤ cap_of ground.now.board.now
-        → IsHandingAlone ground.now.plan.now [] member.old
-        → ServesAlone ground.now.plan.now op member.old member.new }
-{
-    let answer = attempt(ground, told, turn, &mut member.runner, op);
-    sweep(ground, told, turn, member, op, answer);
-    match answer {
-        Evaluation::Evaluated { .. } => {
-            ask_all(ground, told, turn, member, op);
-            answer
+}
+
+impl<T: Turns> Walking<Member> for Serving<'_, T> {
+    ghost use Rattle.std.specs.Prelude.{◌≡◌, ◌≤◌, []};
+    ghost use Rattle.morph_base.specs.declared.strategy.Abort.TheVariants.{Lazy};
+    ghost use Rattle.op_words.specs.Hands.{cap_of};
+    ghost use Rattle.op_eval.specs.Running.{IsFreeRunner};
+    ghost use Rattle.steal_explorer.specs.Alone.{IsHandingAlone, ServesAlone};
+    ghost use Rattle.steal_explorer.specs.Members.{HasDeque};
+    ghost use Rattle.steal_explorer.specs.Serving.{Visits, Serves};
+
+    ghost can_walk = { λ g member. IsFreeRunner g.board.now member.runner
+        × HasDeque g.plan.now member };
+
+    ghost visits = { λ g op before after answer. Serves g.plan.now (cap_of g.board.now) g.abort op
+        before after
+        × Visits g.plan.now (cap_of g.board.now) g.abort op before after
+        × (g.abort ≡ Lazy → 1 ≤ cap_of g.board.now → IsHandingAlone g.plan.now [] before
+        → ServesAlone g.plan.now op before after) };
+
+    /// Tries to evaluate an operation, runs the cascade that follows, and asks the dependents if the operation was
+    /// evaluated.
+    fn visit(&self, ground: &Ground<'_>, worker: &mut Member, op: u32) -> Evaluation {
+        let answer = attempt(ground, self.told, self.turn, &mut worker.runner, op);
+        sweep(ground, self.told, self.turn, worker, op, answer);
+        match answer {
+            Evaluation::Evaluated { .. } => {
+                ask_all(ground, self.told, self.turn, worker, op);
+                answer
+            }
+            _ => answer,
         }
-        _ => answer,
     }
 }
 
@@ -140,15 +148,7 @@ fn serve<T: Turns>(ground: &Ground<'_>, told: &T, turn: u64, member: &mut Member
         → IsHandingAlone ground.now.plan.now [] member.old
         → ServesAlone ground.now.plan.now op member.old member.new }
 {
-    let mut answer = evaluate_and_ask(ground, told, turn, member, op);
-    let unit = ground.units.ops(ground.units.unit_of(op));
-    for i in (ground.units.place_of(op) as usize + 1)..unit.len() {
-        match answer {
-            Evaluation::Evaluated { .. } => {}
-            _ => return,
-        }
-        answer = evaluate_and_ask(ground, told, turn, member, unit[i]);
-    }
+    walk_unit(ground, &Serving { told, turn }, member, op);
 }
 
 /// Serves an item if it is one of the plan's operations. All items are.

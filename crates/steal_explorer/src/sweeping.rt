@@ -9,12 +9,13 @@ ghost use Rattle.abort_eager.specs.declared.answers.Touch.TheVariants.{RolledBac
 ghost use Rattle.abort_eager.specs.Sweeps.{cascade_for};
 ghost use Rattle.abort_eager.specs.Targets.{targets, IsCascade};
 ghost use Rattle.abort_eager.specs.Touching.{HasCause};
-ghost use Rattle.steal_explorer.specs.Members.{IsGround, HasDeque};
+ghost use Rattle.abort_eager.specs.Grounds.{IsGround};
+ghost use Rattle.steal_explorer.specs.Members.{HasDeque};
 ghost use Rattle.steal_explorer.specs.Serving.{ServesOn, AsksAndPuts, TouchesNext, TouchesAll, TouchesFor};
 
-use crate::members::{Ground, Member};
+use crate::members::Member;
 use crate::serving::ask_one;
-use abort_eager::{Cascade, Touch, Touched, cascade_behind};
+use abort_eager::{Cascade, Ground, Touch, Touched, cascade_behind};
 use op_eval::Evaluation;
 use worker_gate::Turns;
 

@@ -3,15 +3,17 @@ ghost use Rattle.std.specs.Prelude.{◌≡◌, ◌+◌, ◌*◌, ◌<◌, ◌≤
 ghost use Rattle.morph_base.specs.declared.strategy.Abort.TheVariants.{Lazy};
 ghost use Rattle.op_words.specs.Hands.{cap_of};
 ghost use Rattle.steal_explorer.specs.Alone.{IsTurningAlone, TurnsAlone, BeginsAlone, EndsAlone};
-ghost use Rattle.steal_explorer.specs.Members.{IsGround, HasDeque, HasTickets};
+ghost use Rattle.abort_eager.specs.Grounds.{IsGround};
+ghost use Rattle.steal_explorer.specs.Members.{HasDeque, HasTickets};
 ghost use Rattle.op_eval.specs.Running.{IsFreeRunner};
 ghost use Rattle.steal_explorer.specs.Turns.{Turn, RanTurns, row_then};
 ghost use Rattle.steal_explorer.specs.declared.working.TheConstants.{EMPTY_TURNS};
 
 use crate::finding::{Found, find};
 use crate::handing::Thief;
-use crate::members::{Ground, Member};
+use crate::members::Member;
 use crate::serving::serve_known;
+use abort_eager::Ground;
 use op_eval::RunEnd;
 use worker_gate::Turns;
 

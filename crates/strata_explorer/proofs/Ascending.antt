@@ -80,9 +80,9 @@ module _ (p : Plan) (cap : ℕ) (abort : Abort) (units : List (List ℕ)) where
       below : k < suc (length ls) → k ≢ length ls → k < length ls
       below lt other = omega arith
 
-  pub climbing_more : IsPlan p → (many : ℕ) → AreLevels p units many → (level counter next : ℕ) (start rs qs : List Runner) → IsClimbing level counter start rs → level < depth → IsPassed p cap abort units counter (ops_of p level) rs qs → FollowsPass p cap abort next (level ∷ []) rs qs
+  pub climbing_more : IsPlan p → AreLevels p → (level counter next : ℕ) (start rs qs : List Runner) → IsClimbing level counter start rs → level < depth → IsPassed p cap abort units counter (ops_of p level) rs qs → FollowsPass p cap abort next (level ∷ []) rs qs
       → IsClimbing next (counter + 1) start qs
-  climbing_more valid many levels level counter next start rs qs old low pass follows =
+  climbing_more valid levels level counter next start rs qs old low pass follows =
       let ls = old.levels in
       let passed : IsPassed p cap abort units (length ls) (ops_of p level) rs qs = subst (λ c. IsPassed p cap abort units c (ops_of p level) rs qs) old.counted pass in
       record {
@@ -100,7 +100,7 @@ module _ (p : Plan) (cap : ℕ) (abort : Abort) (units : List (List ℕ)) where
             (omega arith, in_turn level ls is (old.lazy lazy).1);
         alone = λ lazy some.
             subst (λ l. IsAlone p l start qs) (sym (lazy_next next level rs qs lazy follows))
-            (alone_more p valid cap some units many levels level ls start rs qs old.further.len old.strata (subst (λ a. IsPassed p cap a units (length ls) (ops_of p level) rs qs) lazy passed) (old.alone lazy some));
+            (alone_more p valid cap some units levels level ls start rs qs old.further.len old.strata (subst (λ a. IsPassed p cap a units (length ls) (ops_of p level) rs qs) lazy passed) (old.alone lazy some));
       }
 
   -- ---- the end

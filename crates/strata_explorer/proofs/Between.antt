@@ -11,16 +11,17 @@ use Rattle.op_eval.specs.declared.runner.Runner.{Runner}
 use Rattle.op_eval.specs.Evaluations.{EvaluationDoes, Tries}
 use Rattle.op_eval.specs.Exploring.{Unused}
 use Rattle.op_eval.specs.Running.{hand_view, counted}
-use Rattle.abort_eager.specs.Sweeps.{cascade_for, SweepsFor, Attempts}
+use Rattle.abort_eager.specs.Sweeps.{cascade_for, IsLike, SweepsFor, Attempts}
 use Rattle.abort_eager.specs.Targets.{targets}
 use Rattle.abort_eager.specs.Touching.{Touching}
 use Rattle.op_eval.specs.Turns.{IsEnough, TakesNumber}
 use Rattle.strata_explorer.specs.Calls.{PassCall, Took, Tried, MakesPassCall, MakesPassCalls}
 use Rattle.worker_gate.specs.Sharing.{shared_from}
-use Rattle.strata_explorer.specs.Passes.{IsLike, AreLike, Worked, IsPassed}
-use Rattle.strata_explorer.specs.Walks.{has_evaluated, TriesInTurn, WalksUnit, WalksPlaces, WalksAll}
+use Rattle.strata_explorer.specs.Passes.{AreLike, Worked, IsPassed}
+use Rattle.strata_explorer.specs.Walks.{WalksPlaces, WalksAll}
+use Rattle.abort_eager.specs.Walks.{has_evaluated, VisitsInTurn, WalksUnit}
 use Rattle.strata_explorer.proofs.Turning.{times_some}
-use Rattle.strata_explorer.proofs.UnitWalks.{drop_at}
+use Rattle.abort_eager.proofs.UnitWalks.{drop_at}
 use Rattle.strata_explorer.proofs.Running.{calls_places}
 
 module _ (p : Plan) (cap : ℕ) (abort : Abort) where
@@ -113,10 +114,10 @@ module _ (p : Plan) (cap : ℕ) (abort : Abort) where
   -- ---- walks
 
   -- behind an attempt, operations of a list
-  ends_to : (os : List ℕ) (o : ℕ) (r : Evaluation) (a m b to : Runner) → Attempts p cap abort o a m r → (t : Bool) → TriesInTurn p cap abort t os m b → IsLike b to → (n : Runner) × Attempts p cap abort o a n r × TriesInTurn p cap abort t os n to
+  ends_to : (os : List ℕ) (o : ℕ) (r : Evaluation) (a m b to : Runner) → Attempts p cap abort o a m r → (t : Bool) → VisitsInTurn (Attempts p cap abort) t os m b → IsLike b to → (n : Runner) × Attempts p cap abort o a n r × VisitsInTurn (Attempts p cap abort) t os n to
   ends_to [] o r a m b to tries t rest like = (to, sweeps_to o a m to r (cascade_for abort r) tries (subst (λ x. IsLike x to) rest like), none t)
     where
-      none : (t : Bool) → TriesInTurn p cap abort t [] to to
+      none : (t : Bool) → VisitsInTurn (Attempts p cap abort) t [] to to
       none true = refl
       none false = refl
   ends_to (q ∷ qs) o r a m b to tries false rest like = (to, sweeps_to o a m to r (cascade_for abort r) tries (subst (λ x. IsLike x to) rest like), refl)
@@ -124,12 +125,12 @@ module _ (p : Plan) (cap : ℕ) (abort : Abort) where
       let next = ends_to qs q rest.1 m rest.0 b to rest.2 (has_evaluated rest.1) rest.3 like in
       (m, tries, (next.0, rest.1, next.1, next.2))
 
-  unit_to : (units : List (List ℕ)) (o : ℕ) (a b to : Runner) → WalksUnit p cap abort units o a b → IsLike b to → WalksUnit p cap abort units o a to
+  unit_to : (units : List (List ℕ)) (o : ℕ) (a b to : Runner) → WalksUnit (Attempts p cap abort) units o a b → IsLike b to → WalksUnit (Attempts p cap abort) units o a to
   unit_to units o a b to walks like = record {
     unit = walks.unit;
     at = walks.at;
     stands = walks.stands;
-    tries = subst (λ os. TriesInTurn p cap abort true os a to) (sym whole) (next.0, made.1, next.1, next.2);
+    visited = subst (λ os. VisitsInTurn (Attempts p cap abort) true os a to) (sym whole) (next.0, made.1, next.1, next.2);
   }
     where
       ops : List ℕ
@@ -138,10 +139,10 @@ module _ (p : Plan) (cap : ℕ) (abort : Abort) where
       whole : drop walks.at ops ≡ o ∷ drop (walks.at + 1) ops
       whole = drop_at ops walks.at o walks.stands
 
-      made : TriesInTurn p cap abort true (o ∷ drop (walks.at + 1) ops) a b
-      made = subst (λ os. TriesInTurn p cap abort true os a b) whole walks.tries
+      made : VisitsInTurn (Attempts p cap abort) true (o ∷ drop (walks.at + 1) ops) a b
+      made = subst (λ os. VisitsInTurn (Attempts p cap abort) true os a b) whole walks.visited
 
-      next : (n : Runner) × Attempts p cap abort o a n made.1 × TriesInTurn p cap abort (has_evaluated made.1) (drop (walks.at + 1) ops) n to
+      next : (n : Runner) × Attempts p cap abort o a n made.1 × VisitsInTurn (Attempts p cap abort) (has_evaluated made.1) (drop (walks.at + 1) ops) n to
       next = ends_to (drop (walks.at + 1) ops) o made.1 a made.0 b to made.2 (has_evaluated made.1) made.3 like
 
   module _ (units : List (List ℕ)) (c : ℕ) (ops : List ℕ) where

@@ -1,5 +1,5 @@
 -- Passes one after another, and the union over runners.
-use Rattle.std.proofs.Common.{◌≡◌, ◌≢◌, ◌⊎◌, ℕ, zero, suc, ◌+◌, ◌<◌, ◌≤◌, ◌^◌, false, cond, eqb, List, [], ◌∷◌, length, get_or, set, refl, sym, ap, ◌∙◌, subst, inl, inr, arith}
+use Rattle.std.proofs.Common.{◌≡◌, ◌≢◌, ◌⊎◌, ℕ, zero, suc, ◌+◌, ◌<◌, ◌≤◌, ◌^◌, false, cond, eqb, List, [], ◌∷◌, length, set, refl, sym, ap, ◌∙◌, subst, inl, inr, arith}
 use Rattle.std.specs.Prelude.{Contains, All, count_by, slice_index_or, nat_lt}
 use Rattle.std.proofs.lemmas.Bool.{cases_eq, cases_lt, eq-eqb, ne_eqb}
 use Rattle.std.proofs.lemmas.List.Sums.{sum_by-append}
@@ -18,14 +18,12 @@ use Rattle.op_eval.proofs.Totals.{tries_total, full_stays}
 use Rattle.op_eval.proofs.Elements.{contains_first, contains_later}
 use Rattle.strata_explorer.specs.Calls.{PassCall, Took, Tried, MakesPassCalls}
 use Rattle.op_eval.specs.Turns.{IsEnough}
-use Rattle.worker_gate.specs.Sharing.{shared_from}
 use Rattle.strata_explorer.specs.Passes.{is_tried, names, Worked, IsPassed}
 use Rattle.strata_explorer.specs.Levels.{ops_of, op_of, level_of, named, IsStrata, AreStrata, IsWholeCounter}
-use Rattle.strata_explorer.specs.Walks.{WalksAll}
 use Rattle.abort_eager.proofs.Sweeping.{attempted}
 use Rattle.strata_explorer.proofs.Turning.{count_first, times_some}
-use Rattle.strata_explorer.proofs.UnitWalks.{all_none}
-use Rattle.strata_explorer.proofs.Running.{calls_keep, calls_reach, calls_places, calls_hold, calls_running}
+use Rattle.strata_explorer.proofs.Further.{calls_keep, calls_reach}
+use Rattle.strata_explorer.proofs.Running.{calls_places, calls_hold, calls_running}
 
 pub calls_total : (p : Plan) (cap : ℕ) (abort : Abort) (cs : List PassCall) (a b : Runner) → MakesPassCalls p cap abort cs a b → (total a.answers + count_by is_tried cs ≤ total b.answers) ⊎ (2 ^ 64 ≤ total b.answers + 1)
 calls_total p cap abort [] a b calls = inl (let e : total b.answers ≡ total a.answers = ap (λ r. total r.answers) calls in omega arith)
@@ -204,12 +202,9 @@ union p levels rs strata d c lt whole n less =
 pub level_is : (p : Plan) (l : ℕ) → l < length p.op_levels.items → (level : Contents ℕ) → ((d : Contents ℕ) → level ≡ slice_index_or p.op_levels.items l d) → (ops : List ℕ) → ops ≡ level.items → ops ≡ ops_of p l
 level_is p l lt level at ops same = same ∙ ap (λ (x : Contents ℕ). x.items) (at level) ∙ sym (get_or-map (λ (x : Contents ℕ). x.items) p.op_levels.items l level [] lt)
 
--- ---- the first runner alone
+-- ---- who took no part, and the first runner alone
 
-abbrev pub first_of : List Runner → Runner → Runner
-first_of rs d = slice_index_or rs 0 d
-
-worked_none : (p : Plan) (cap : ℕ) (abort : Abort) (c : ℕ) (ops : List ℕ) (a : Runner) → Worked p cap abort c ops a a
+pub worked_none : (p : Plan) (cap : ℕ) (abort : Abort) (c : ℕ) (ops : List ℕ) (a : Runner) → Worked p cap abort c ops a a
 worked_none p cap abort c ops a = record {
   calls = [];
   made = refl;
@@ -217,30 +212,6 @@ worked_none p cap abort c ops a = record {
   tried = λ n found. absurd (omega (arith, found.1));
   counted = omega arith;
 }
-
-pub first_passed : (p : Plan) (cap : ℕ) (abort : Abort) (units : List (List ℕ)) (c : ℕ) (ops : List ℕ) (rs : List Runner) (a b : Runner) → 0 < length rs → Worked p cap abort c ops (first_of rs a) b → WalksAll p cap abort units c ops (first_of rs a) b → IsEnough c (length ops) b
-    → length ops < shared_from → IsPassed p cap abort units c ops rs (set rs 0 b)
-first_passed p cap abort units c ops [] a b some worked all enough few = absurd (omega arith)
-first_passed p cap abort units c ops (r ∷ rs) a b some worked all enough few = record {
-  len = refl;
-  each = each;
-  walks = walks;
-  enough = (0, some, λ d. enough);
-  first = λ less. others;
-  shared = λ many. absurd (omega (arith, few, many));
-}
-  where
-    walks : (k : ℕ) (d : Runner) → k < length (r ∷ rs) → WalksAll p cap abort units c ops (get_or (r ∷ rs) k d) (get_or (b ∷ rs) k d)
-    walks zero d lt = all
-    walks (suc k) d lt = all_none p cap abort units c ops (get_or rs k d)
-
-    each : (k : ℕ) (d : Runner) → k < length (r ∷ rs) → Worked p cap abort c ops (get_or (r ∷ rs) k d) (get_or (b ∷ rs) k d)
-    each zero d lt = worked
-    each (suc k) d lt = worked_none p cap abort c ops (get_or rs k d)
-
-    others : (k : ℕ) (d : Runner) → 0 < k → k < length (r ∷ rs) → get_or (b ∷ rs) k d ≡ get_or (r ∷ rs) k d
-    others zero d above lt = absurd (omega (arith, above))
-    others (suc k) d above lt = refl
 
 pub first_set : (P : Runner → Type 0) (rs : List Runner) (b : Runner) → All P rs → P b → All P (set rs 0 b)
 first_set P [] b all holds k d lt = absurd (omega arith)

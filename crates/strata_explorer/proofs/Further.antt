@@ -1,36 +1,51 @@
 -- Calls in turn are those of one hand, and settle nothing.
-use Rattle.std.proofs.Common.{ℕ, ◌<◌, List, [], ◌∷◌, length, sym, ap, ◌∙◌, subst, arith}
-use Rattle.std.specs.Prelude.{slice_index_or}
+use Rattle.std.proofs.Common.{ℕ, ◌<◌, List, [], ◌∷◌, length, sym, ap, ◌∙◌, subst, inl, inr, arith}
+use Rattle.std.specs.Prelude.{Contains, slice_index_or}
 use Rattle.morph_base.specs.declared.plan.Plan.{Plan}
 use Rattle.morph_base.specs.declared.strategy.Abort.{Abort}
 use Rattle.op_words.specs.declared.trail.View.{View}
-use Rattle.op_words.specs.Trails.{IsCalmAt}
+use Rattle.op_words.specs.Trails.{IsCalmAt, IsReached}
 use Rattle.op_words.proofs.Rows.{no_more}
-use Rattle.op_words.proofs.Trailing.{along_none}
+use Rattle.op_words.proofs.Trailing.{along_none, reached_later}
 use Rattle.op_eval.specs.declared.runner.Runner.{Runner}
 use Rattle.op_eval.specs.Running.{hand_view}
 use Rattle.op_eval.specs.Further.{IsFurther, AreFurther}
+use Rattle.op_eval.proofs.Elements.{contains_cases}
 use Rattle.op_eval.proofs.Further.{same_further, goes_further, further_then}
-use Rattle.strata_explorer.specs.Calls.{PassCall, Took, Tried, MakesPassCalls}
+use Rattle.strata_explorer.specs.Calls.{PassCall, Took, Tried, MakesPassCall, MakesPassCalls}
 use Rattle.strata_explorer.specs.Passes.{IsPassed}
+use Rattle.abort_eager.proofs.Exploring.{further_reached}
 use Rattle.abort_eager.proofs.Sweeping.{attempted}
 
-calls_further : (p : Plan) (cap : ℕ) (abort : Abort) (cs : List PassCall) (a b : Runner) → MakesPassCalls p cap abort cs a b → IsFurther a b
-calls_further p cap abort [] a b calls = same_further a b calls
-calls_further p cap abort (Took c n ∷ cs) a b calls = further_then a calls.0 b (calls_further p cap abort cs a calls.0 calls.1) (record {
-  tag = ap (λ (v : View). v.tag) calls.2.view;
-  made = ap (λ (v : View). v.made) calls.2.view;
-  room = ap (λ (v : View). v.room) calls.2.view;
-  joined = ap (λ (v : View). v.joined) calls.2.view;
+call_further : (p : Plan) (cap : ℕ) (abort : Abort) (c : PassCall) (a b : Runner) → MakesPassCall p cap abort c a b → IsFurther a b
+call_further p cap abort (Took c n) a b call = record {
+  tag = ap (λ (v : View). v.tag) call.view;
+  made = ap (λ (v : View). v.made) call.view;
+  room = ap (λ (v : View). v.room) call.view;
+  joined = ap (λ (v : View). v.joined) call.view;
   words = [];
-  trail = ap (λ (v : View). v.trail) calls.2.view ∙ no_more (hand_view calls.0).trail;
-  notes = ap (λ (v : View). v.notes) calls.2.view ∙ no_more (hand_view calls.0).notes;
+  trail = ap (λ (v : View). v.trail) call.view ∙ no_more (hand_view a).trail;
+  notes = ap (λ (v : View). v.notes) call.view ∙ no_more (hand_view a).notes;
   open_own = λ t inside. absurd (omega (arith, inside.1));
-  calm = λ lone. along_none IsCalmAt (hand_view calls.0).trail;
-})
-calls_further p cap abort (Tried o ∷ cs) a b calls =
-    let does = attempted p cap abort o calls.0 b calls.2 in
-    further_then a calls.0 b (calls_further p cap abort cs a calls.0 calls.1) (goes_further calls.0 b does.words does.goes does.open_own)
+  calm = λ lone. along_none IsCalmAt (hand_view a).trail;
+}
+call_further p cap abort (Tried o) a b call = let does = attempted p cap abort o a b call in goes_further a b does.words does.goes does.open_own
+
+pub calls_further : (p : Plan) (cap : ℕ) (abort : Abort) (cs : List PassCall) (a b : Runner) → MakesPassCalls p cap abort cs a b → IsFurther a b
+calls_further p cap abort [] a b calls = same_further a b calls
+calls_further p cap abort (c ∷ cs) a b calls = further_then a calls.0 b (calls_further p cap abort cs a calls.0 calls.1) (call_further p cap abort c calls.0 b calls.2)
+
+-- what is reached stays so
+pub calls_keep : (p : Plan) (cap : ℕ) (abort : Abort) (o : ℕ) (cs : List PassCall) (a b : Runner) → MakesPassCalls p cap abort cs a b → IsReached p o (hand_view a).trail → IsReached p o (hand_view b).trail
+calls_keep p cap abort o cs a b calls is = further_reached p o (calls_further p cap abort cs a b calls) is
+
+pub calls_reach : (p : Plan) (cap : ℕ) (abort : Abort) (o : ℕ) (cs : List PassCall) (a b : Runner) → MakesPassCalls p cap abort cs a b → Contains cs (Tried o) → IsReached p o (hand_view b).trail
+calls_reach p cap abort o [] a b calls found = absurd (omega (arith, found.1))
+calls_reach p cap abort o (c ∷ cs) a b calls found =
+    elim (contains_cases c cs (Tried o) found) [
+      | inl same ↦ (let does = attempted p cap abort o calls.0 b (subst (λ d. MakesPassCall p cap abort d calls.0 b) (sym same) calls.2) in subst (IsReached p o) (sym does.goes.adds.trail) (reached_later (hand_view calls.0).trail does.reached))
+      | inr later ↦ further_reached p o (call_further p cap abort c calls.0 b calls.2) (calls_reach p cap abort o cs a calls.0 calls.1 later)
+    ]
 
 pub passed_further : (p : Plan) (cap : ℕ) (abort : Abort) (units : List (List ℕ)) (c : ℕ) (ops : List ℕ) (start rs qs : List Runner) → AreFurther start rs → IsPassed p cap abort units c ops rs qs → AreFurther start qs
 passed_further p cap abort units c ops start rs qs old passed = record {

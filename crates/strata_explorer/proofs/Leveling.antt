@@ -1,10 +1,10 @@
 -- The level lists of a valid plan: all operations, each above its sources.
 use Rattle.std.proofs.Common.{◌≡◌, ℕ, zero, suc, ◌+◌, ◌-◌, ◌*◌, ◌<◌, ◌≤◌, Bool, true, false, cond, eqb, List, [], ◌∷◌, map, length, get_or, filter, refl, sym, ap, ◌∙◌, subst, inl, inr, arith, not-suc-le-zero, zero-add, zero-lt-suc, suc-le-suc}
-use Rattle.std.specs.Prelude.{Contains, All}
+use Rattle.std.specs.Prelude.{Contains}
 use Rattle.std.proofs.lemmas.Bool.{false≢true, cases_eq, cases_lt, ne_eqb, eq-eqb}
 use Rattle.std.proofs.lemmas.List.{get_or_default, get_or_past, get_or-take, length-map, length-take-le}
 use Rattle.std.proofs.lemmas.List.Elements.{All-filter, filter_passes}
-use Rattle.std.proofs.lemmas.List.FromFn.{length-range_with_len, get_or-range_with_len, get_or-map-range_with_len}
+use Rattle.std.proofs.lemmas.List.FromFn.{length-range_with_len, get_or-map-range_with_len}
 use Rattle.morph_base.specs.Contents.{Contents}
 use Rattle.morph_base.specs.declared.limits.TheConstants.{EVENT_OPS, EVENTS}
 use Rattle.morph_base.specs.declared.plan.Origin.{Origin}
@@ -15,10 +15,10 @@ use Rattle.morph_base.specs.Plans.{op_count, op_at, keys_of, origin_at, origins_
 use Rattle.morph_base.proofs.LevelLaws.{op_level-rises, op_level-range, length-op_levels}
 use Rattle.morph_base.proofs.NumberLaws.{op_count-small}
 use Rattle.morph_base.proofs.OutcomeLaws.{source_precedes, keys_fit}
-use Rattle.chain_units.specs.Places.{IsPartition}
 use Rattle.op_words.specs.Trails.{IsSourceOf}
 use Rattle.strata_explorer.specs.Levels.{ops_of, op_of, AreLevels}
 use Rattle.op_eval.proofs.Elements.{contains_filter}
+use Rattle.abort_eager.proofs.Listing.{below_inside, below_all}
 
 -- ---- lists
 
@@ -50,13 +50,6 @@ count_most t (x ∷ xs) = let rest = count_most t xs in fits (t x) rest
 
 eqb_eq : (a b : ℕ) → eqb a b ≡ true → a ≡ b
 eqb_eq a b same = elim (cases_eq a b) [ inl is ↦ is | inr other ↦ absurd (false≢true (sym (ne_eqb a b other) ∙ same)) ]
-
--- the numbers below n
-below_inside : (n : ℕ) → All (λ o. o < n) (below n)
-below_inside n k d lt = let less : k < n = subst (λ m. k < m) (length-range_with_len 0 n) lt in let is : get_or (below n) k d ≡ 0 + k = get_or-range_with_len 0 n k d less in omega arith
-
-below_all : (n o : ℕ) → o < n → Contains (below n) o
-below_all n o lt = (o, subst (λ m. o < m) (sym (length-range_with_len 0 n)) lt, get_or-range_with_len 0 n o o lt ∙ zero-add o)
 
 module _ (p : Plan) (valid : IsValidPlan p) where
   abbrev of_level : ℕ → ℕ → Bool
@@ -197,14 +190,11 @@ module _ (p : Plan) (valid : IsValidPlan p) where
         | inr past ↦ let none : length (ops_of p l) ≡ 0 = ap length (level_past l past) in omega arith
       ]
 
-  pub levels_of : (units : List (List ℕ)) (many : ℕ) → IsPartition units (op_count p) → many ≡ op_count p → AreLevels p units many
-  levels_of units many partition many_is = record {
+  pub levels_of : AreLevels p
+  levels_of = record {
     few = few_levels;
     fits = λ l.
         record {
-          valid = valid;
-          partition = partition;
-          many_is = many_is;
           few = let short : length (ops_of p l) ≤ op_count p = short_level l in let small : op_count p ≤ EVENT_OPS * EVENTS = op_count-small p valid.plan in omega arith;
           inside = λ k d lt. subst (λ o. o < op_count p) (get_or_default (ops_of p l) k 0 d lt) (in_level l k lt).0;
         };

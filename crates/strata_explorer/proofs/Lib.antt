@@ -1,6 +1,4 @@
-pub mod Trying
 pub mod Turning
-pub mod UnitWalks
 pub mod Running
 pub mod Further
 pub mod Climbing

@@ -14,29 +14,25 @@ use Rattle.op_words.specs.Views.{IsLone}
 use Rattle.op_eval.specs.declared.runner.Runner.{Runner}
 use Rattle.op_words.specs.Counting.{times, place}
 use Rattle.op_eval.specs.Running.{hand_view}
-use Rattle.op_words.proofs.Adding.{lone_more}
 use Rattle.op_words.proofs.Trailing.{last-none}
 use Rattle.interleaving_core.specs.Core.{blocked}
 use Rattle.op_eval.specs.Alone.{Ran, IsNewRoot, HasRunAll}
 use Rattle.op_eval.proofs.Alone.{IsBegun, come_first, explores, keeps_ran, runs_it}
 use Rattle.op_eval.proofs.Elements.{contains_first, contains_later, contains_cases}
-use Rattle.op_eval.specs.Turns.{IsEnough, TakesNumber}
+use Rattle.op_eval.specs.Turns.{IsEnough}
 use Rattle.op_eval.proofs.Turns.{times_one}
 use Rattle.strata_explorer.specs.Calls.{PassCall, Took, Tried, MakesPassCalls}
 use Rattle.strata_explorer.specs.Passes.{Worked, IsPassed}
 use Rattle.strata_explorer.specs.Levels.{ops_of, op_of, AreLevels, AreStrata, IsLoneStrata, IsAlone}
+use Rattle.abort_eager.proofs.Exploring.{further_lone}
 use Rattle.abort_eager.proofs.Sweeping.{attempted, lazy_tries}
+use Rattle.strata_explorer.proofs.Further.{calls_further}
 use Rattle.strata_explorer.proofs.Turning.{times_some}
 use Rattle.strata_explorer.proofs.Running.{calls_places}
 use Rattle.strata_explorer.proofs.Climbing.{only_later}
 
-pub taking_lone : (c n : ℕ) {a b : Runner} → TakesNumber c n a b → IsLone (hand_view a) → IsLone (hand_view b)
-taking_lone c n taken lone = subst IsLone (sym taken.view) (record { root = lone.root; alone = lone.alone })
-
 pub calls_lone : (p : Plan) (cap : ℕ) (abort : Abort) (cs : List PassCall) (a b : Runner) → MakesPassCalls p cap abort cs a b → IsLone (hand_view a) → IsLone (hand_view b)
-calls_lone p cap abort [] a b calls lone = subst (λ r. IsLone (hand_view r)) (sym calls) lone
-calls_lone p cap abort (Took c n ∷ cs) a b calls lone = taking_lone c n calls.2 (calls_lone p cap abort cs a calls.0 calls.1 lone)
-calls_lone p cap abort (Tried o ∷ cs) a b calls lone = let does = attempted p cap abort o calls.0 b calls.2 in lone_more does.goes.adds (calls_lone p cap abort cs a calls.0 calls.1 lone)
+calls_lone p cap abort cs a b calls lone = further_lone (calls_further p cap abort cs a b calls) lone
 
 -- the numbers that it takes from a counter are those from 0 on
 pub lone_takes : (p : Plan) (cap : ℕ) (abort : Abort) (l : ℕ) (cs : List PassCall) (a b : Runner) → IsLone (hand_view a) → times l (hand_view a).places ≡ 0 → ((k n : ℕ) → Contains cs (Took k n) → k ≡ l) → MakesPassCalls p cap abort cs a b
@@ -142,8 +138,8 @@ module _ (p : Plan) (valid : IsPlan p) (cap : ℕ) (some : 1 ≤ cap) where
       op_is : {o : ℕ} → Tried o ≡ Tried q → o ≡ q
       op_is e = cc
 
-  pub lone_more_levels : (units : List (List ℕ)) (many : ℕ) → AreLevels p units many → (c l : ℕ) (a b : Runner) → IsLoneStrata p l a → times c (hand_view a).places ≡ 0 → Worked p cap Lazy c (ops_of p l) a b → IsEnough c (length (ops_of p l)) b → IsLoneStrata p (l + 1) b
-  lone_more_levels units many levels c l a b alone none worked enough =
+  pub lone_more_levels : AreLevels p → (c l : ℕ) (a b : Runner) → IsLoneStrata p l a → times c (hand_view a).places ≡ 0 → Worked p cap Lazy c (ops_of p l) a b → IsEnough c (length (ops_of p l)) b → IsLoneStrata p (l + 1) b
+  lone_more_levels levels c l a b alone none worked enough =
       let calls = lone_calls worked.calls a b alone.lone (record { each = alone.exploring }) worked.made in
       record {
         lone = calls_lone p cap Lazy worked.calls a b worked.made alone.lone;
@@ -164,11 +160,11 @@ module _ (p : Plan) (valid : IsPlan p) (cap : ℕ) (some : 1 ≤ cap) where
       lower : (k : ℕ) → k < l + 1 → k ≢ l → k < l
       lower k below other = omega arith
 
-  pub alone_more : (units : List (List ℕ)) (many : ℕ) → AreLevels p units many → (l : ℕ) (ls : List ℕ) (start rs qs : List Runner) → length rs ≡ length start → AreStrata p ls rs → IsPassed p cap Lazy units (length ls) (ops_of p l) rs qs → IsAlone p l start rs → IsAlone p (l + 1) start qs
-  alone_more units many levels l ls start rs qs len strata passed alone one d begins =
+  pub alone_more : (units : List (List ℕ)) → AreLevels p → (l : ℕ) (ls : List ℕ) (start rs qs : List Runner) → length rs ≡ length start → AreStrata p ls rs → IsPassed p cap Lazy units (length ls) (ops_of p l) rs qs → IsAlone p l start rs → IsAlone p (l + 1) start qs
+  alone_more units levels l ls start rs qs len strata passed alone one d begins =
       let lt : 0 < length rs = less (len ∙ one) in
       let which : passed.enough.0 ≡ 0 = only (len ∙ one) passed.enough.0 passed.enough.1 in
-      lone_more_levels units many levels (length ls) l (slice_index_or rs 0 d) (slice_index_or qs 0 d) (alone one d begins) ((strata.each 0 d lt).unused (length ls) (le (length ls))) (passed.each 0 d lt)
+      lone_more_levels levels (length ls) l (slice_index_or rs 0 d) (slice_index_or qs 0 d) (alone one d begins) ((strata.each 0 d lt).unused (length ls) (le (length ls))) (passed.each 0 d lt)
       (subst (λ k. IsEnough (length ls) (length (ops_of p l)) (slice_index_or qs k d)) which (passed.enough.2 d))
     where
       less : length rs ≡ 1 → 0 < length rs
@@ -181,13 +177,13 @@ module _ (p : Plan) (valid : IsPlan p) (cap : ℕ) (some : 1 ≤ cap) where
       le k = omega arith
 
 -- in the end every word is executed or failed at attempt 1
-pub lone_all_ran : (p : Plan) (units : List (List ℕ)) (many : ℕ) → AreLevels p units many → (r : Runner) → IsLoneStrata p (length p.op_levels.items) r → (o : ℕ) → o < op_count p → Ran (hand_view r).trail o
-lone_all_ran p units many levels r alone o lt =
+pub lone_all_ran : (p : Plan) → AreLevels p → (r : Runner) → IsLoneStrata p (length p.op_levels.items) r → (o : ℕ) → o < op_count p → Ran (hand_view r).trail o
+lone_all_ran p levels r alone o lt =
     let at = levels.all o lt in
     subst (Ran (hand_view r).trail) at.4 (alone.ran at.0 at.1 at.2 at.3)
 
-pub lone_root_ran : (p : Plan) (units : List (List ℕ)) (many : ℕ) → AreLevels p units many → (start rs : List Runner) → IsNewRoot start → IsAlone p (length p.op_levels.items) start rs → HasRunAll p rs
-lone_root_ran p units many levels start rs root alone d o lt = lone_all_ran p units many levels (slice_index_or rs 0 d) (alone root.one d begins) o lt
+pub lone_root_ran : (p : Plan) → AreLevels p → (start rs : List Runner) → IsNewRoot start → IsAlone p (length p.op_levels.items) start rs → HasRunAll p rs
+lone_root_ran p levels start rs root alone d o lt = lone_all_ran p levels (slice_index_or rs 0 d) (alone root.one d begins) o lt
   where
     begins : IsLoneStrata p 0 (slice_index_or start 0 d)
     begins = record {

@@ -1,6 +1,6 @@
 -- What calls in turn keep of a runner.
 use Rattle.std.proofs.Common.{◌≡◌, ◌⊎◌, ℕ, ◌≤◌, List, [], ◌∷◌, sym, ap, ◌∙◌, subst, inl, inr, arith}
-use Rattle.std.specs.Prelude.{Contains, count_by}
+use Rattle.std.specs.Prelude.{Contains}
 use Rattle.std.proofs.lemmas.List.Elements.{Contains-append_left, Contains-append_cases}
 use Rattle.morph_base.specs.declared.plan.Plan.{Plan}
 use Rattle.morph_base.specs.declared.strategy.Abort.{Abort}
@@ -8,50 +8,17 @@ use Rattle.morph_base.specs.Plans.{event_count}
 use Rattle.op_words.specs.declared.trail.Place.{Place}
 use Rattle.op_words.specs.declared.trail.View.{View}
 use Rattle.interleaving_core.specs.Counts.{evaluated}
-use Rattle.op_words.specs.Trails.{IsReached}
 use Rattle.op_eval.specs.declared.answers.Answers.{Answers}
 use Rattle.op_eval.specs.declared.runner.Runner.{Runner}
 use Rattle.op_words.specs.Counting.{place}
 use Rattle.op_eval.specs.Running.{hand_view}
 use Rattle.op_eval.specs.Turns.{TakesNumber}
 use Rattle.strata_explorer.specs.Calls.{PassCall, Took, Tried, MakesPassCalls}
-use Rattle.op_eval.specs.Exploring.{stopped, is_load, loads, IsExploring}
-use Rattle.op_eval.proofs.Answering.{loads_more, tries_running}
-use Rattle.op_eval.proofs.Following.{evaluated_more}
+use Rattle.op_eval.specs.Exploring.{stopped, loads, IsExploring}
+use Rattle.op_eval.proofs.Answering.{tries_running}
 use Rattle.op_eval.proofs.Elements.{contains_first, contains_later, contains_cases}
-use Rattle.op_words.proofs.Trailing.{reached_more, reached_later}
-use Rattle.abort_eager.proofs.Sweeping.{IsSweptOver, attempted}
-
--- ---- what is reached stays so
-
-pub calls_keep : (p : Plan) (cap : ℕ) (abort : Abort) (o : ℕ) (cs : List PassCall) (a b : Runner) → MakesPassCalls p cap abort cs a b → IsReached p o (hand_view a).trail → IsReached p o (hand_view b).trail
-calls_keep p cap abort o [] a b calls is = subst (λ r. IsReached p o (hand_view r).trail) (sym calls) is
-calls_keep p cap abort o (Took c n ∷ cs) a b calls is =
-    subst (λ (v : View). IsReached p o v.trail) (sym calls.2.view) (calls_keep p cap abort o cs a calls.0 calls.1 is)
-calls_keep p cap abort o (Tried q ∷ cs) a b calls is =
-    let does = attempted p cap abort q calls.0 b calls.2 in
-    subst (IsReached p o) (sym does.goes.adds.trail) (reached_more does.words (calls_keep p cap abort o cs a calls.0 calls.1 is))
-
-pub calls_reach : (p : Plan) (cap : ℕ) (abort : Abort) (o : ℕ) (cs : List PassCall) (a b : Runner) → MakesPassCalls p cap abort cs a b → Contains cs (Tried o) → IsReached p o (hand_view b).trail
-calls_reach p cap abort o [] a b calls found = absurd (omega (arith, found.1))
-calls_reach p cap abort o (Took c n ∷ cs) a b calls found =
-    elim (contains_cases (Took c n) cs (Tried o) found) [
-      | inl same ↦ absurd (apart same)
-      | inr later ↦ subst (λ (v : View). IsReached p o v.trail) (sym calls.2.view) (calls_reach p cap abort o cs a calls.0 calls.1 later)
-    ]
-  where
-    apart : Tried o ≡ Took c n → ⊥
-    apart e = cc
-calls_reach p cap abort o (Tried q ∷ cs) a b calls found =
-    let does = attempted p cap abort q calls.0 b calls.2 in
-    subst (IsReached p o) (sym does.goes.adds.trail)
-    (elim (contains_cases (Tried q) cs (Tried o) found) [
-      | inl same ↦ reached_later (hand_view calls.0).trail (subst (λ k. IsReached p k does.words) (sym (op_is same)) does.reached)
-      | inr later ↦ reached_more does.words (calls_reach p cap abort o cs a calls.0 calls.1 later)
-    ])
-  where
-    op_is : Tried o ≡ Tried q → o ≡ q
-    op_is e = cc
+use Rattle.abort_eager.proofs.Exploring.{swept_running}
+use Rattle.abort_eager.proofs.Sweeping.{attempted}
 
 -- ---- places
 
@@ -82,22 +49,6 @@ calls_hold p cap abort (Tried q ∷ cs) a b calls x found =
     subst (λ xs. Contains xs x) (sym does.goes.adds.places) (calls_hold p cap abort cs a calls.0 calls.1 x found)
 
 -- ---- answers
-
--- with the words of a cascade a runner is still exploring
-swept_running : (p : Plan) (a b : Runner) → IsExploring p a → IsSweptOver a b → IsExploring p b
-swept_running p a b running over =
-    let more = evaluated_more (hand_view a) (hand_view b) over.goes.adds.events in
-    let e : b.answers.evaluated ≡ a.answers.evaluated = ap (λ (n : Answers). n.evaluated) over.answers in
-    let s : stopped b.answers ≡ stopped a.answers = ap stopped over.answers in
-    let high : loads (hand_view a) ≤ loads (hand_view b) = subst (λ xs. loads (hand_view a) ≤ count_by is_load xs) (sym over.goes.adds.trail) (loads_more (hand_view a).trail over.words) in
-    let old = running.finishes in
-    let few = running.stops in
-    record {
-      finishes = omega arith;
-      stops = omega arith;
-      kept = ap (λ l. l.items) over.kept ∙ running.kept;
-      room = subst (λ l. event_count p ≤ l.room) (sym over.kept) running.room;
-    }
 
 pub takes_running : (p : Plan) (c n : ℕ) (a b : Runner) → IsExploring p a → TakesNumber c n a b → IsExploring p b
 takes_running p c n a b running t = record {

@@ -17,16 +17,25 @@ use Rattle.op_eval.specs.Exploring.{Unused}
 use Rattle.op_eval.specs.Running.{hand_view}
 use Rattle.op_eval.proofs.Elements.{contains_first, contains_later, contains_cases}
 use Rattle.op_eval.proofs.Turns.{in_turn_append, times_one}
-use Rattle.strata_explorer.specs.Calls.{PassCall, Took, Tried, MakesPassCalls, MakesPassCall, IsFree}
+use Rattle.strata_explorer.specs.Calls.{PassCall, Took, Tried, MakesPassCalls, MakesPassCall}
 use Rattle.abort_eager.specs.Sweeps.{Attempts}
 use Rattle.op_eval.specs.Turns.{IsEnough, TakesNumber}
-use Rattle.strata_explorer.specs.Passes.{is_tried, names, WalkedWithCalls, Worked, IsWorking}
+use Rattle.strata_explorer.specs.Passes.{is_tried, names, Worked, IsWorking}
+use Rattle.strata_explorer.specs.Walks.{WalksAll}
+use Rattle.abort_eager.specs.Walks.{WalksUnit}
 use Rattle.abort_eager.proofs.Sweeping.{attempted}
+use Rattle.abort_eager.proofs.UnitWalks.{by_walk}
 
-pub taking_free : (c n : ℕ) {a b : Runner} → TakesNumber c n a b → IsFree a → IsFree b
-taking_free c n taken free = ap (λ (v : View). v.claim) taken.view ∙ free
+-- ---- walks
 
-pub walked_first : (p : Plan) (cap : ℕ) (abort : Abort) (o : ℕ) {a b : Runner} {r : Evaluation} → Attempts p cap abort o a b r → WalkedWithCalls p cap abort o a b
+-- the runner tried operations, o among them, and did nothing else
+pub record WalkedWithCalls (p : Plan) (cap : ℕ) (abort : Abort) (o : ℕ) (a b : Runner) : Type 0 where
+  pub calls : List PassCall
+  pub made : MakesPassCalls p cap abort calls a b
+  pub tried : Contains calls (Tried o)
+  pub only : All (λ c. is_tried c ≡ true) calls
+
+walked_first : (p : Plan) (cap : ℕ) (abort : Abort) (o : ℕ) {a b : Runner} {r : Evaluation} → Attempts p cap abort o a b r → WalkedWithCalls p cap abort o a b
 walked_first p cap abort o {a} {b} {r} tries = record {
   calls = Tried o ∷ [];
   made = (a, refl, (r, tries));
@@ -38,7 +47,7 @@ walked_first p cap abort o {a} {b} {r} tries = record {
     one zero d lt = refl
     one (suc k) d lt = absurd (omega arith)
 
-pub walked_more : (p : Plan) (cap : ℕ) (abort : Abort) (o q : ℕ) {a m b : Runner} {r : Evaluation} → WalkedWithCalls p cap abort o a m → Attempts p cap abort q m b r → WalkedWithCalls p cap abort o a b
+walked_more : (p : Plan) (cap : ℕ) (abort : Abort) (o q : ℕ) {a m b : Runner} {r : Evaluation} → WalkedWithCalls p cap abort o a m → Attempts p cap abort q m b r → WalkedWithCalls p cap abort o a b
 walked_more p cap abort o q {a} {m} {b} {r} walked tries = record {
   calls = Tried q ∷ walked.calls;
   made = (m, walked.made, (r, tries));
@@ -52,6 +61,10 @@ walked_more p cap abort o q {a} {m} {b} {r} walked tries = record {
       where
         less : (k : ℕ) → suc k < suc (length walked.calls) → k < length walked.calls
         less k lt = omega arith
+
+pub walked_calls : (p : Plan) (cap : ℕ) (abort : Abort) (units : List (List ℕ)) (o : ℕ) (a b : Runner) → WalksUnit (Attempts p cap abort) units o a b → WalkedWithCalls p cap abort o a b
+walked_calls p cap abort units o a b =
+    by_walk (Attempts p cap abort) units o a b (λ m. WalkedWithCalls p cap abort o a m) (λ m r tries. walked_first p cap abort o tries) (λ q m n r walked tries. walked_more p cap abort o q walked tries)
 
 -- ---- only evaluations
 
@@ -222,3 +235,16 @@ module _ (p : Plan) (cap : ℕ) (abort : Abort) (c : ℕ) (ops : List ℕ) (a : 
   -- all turns were made
   pub all_turns : (b : Runner) → IsWorking p cap abort c ops (length ops) a b → IsEnough c (length ops) b
   all_turns b working = working.last
+
+-- ---- walks behind numbers
+
+module _ (p : Plan) (cap : ℕ) (abort : Abort) (units : List (List ℕ)) (c : ℕ) (ops : List ℕ) where
+  pub all_none : (a : Runner) → WalksAll p cap abort units c ops a a
+  all_none a = record { numbers = []; walks = refl }
+
+  -- the number names no operation
+  pub all_ended : (n : ℕ) (a m b : Runner) → WalksAll p cap abort units c ops a m → TakesNumber c n m b → length ops ≤ n → WalksAll p cap abort units c ops a b
+  all_ended n a m b all takes past = record { numbers = n ∷ all.numbers; walks = (m, b, all.walks, takes, (λ lt. absurd (omega arith)), (λ _. refl)) }
+
+  pub all_more : (n : ℕ) (a m t b : Runner) → WalksAll p cap abort units c ops a m → TakesNumber c n m t → n < length ops → WalksUnit (Attempts p cap abort) units (slice_index_or ops n 0) t b → WalksAll p cap abort units c ops a b
+  all_more n a m t b all takes lt walks = record { numbers = n ∷ all.numbers; walks = (m, t, all.walks, takes, (λ _. walks), (λ past. absurd (omega arith))) }

@@ -1,10 +1,9 @@
 -- What the calls of an explorer make of a runner
-use Rattle.std.specs.Prelude.{◌≡◌, ℕ, List, None}
+use Rattle.std.specs.Prelude.{ℕ, List}
 use Rattle.morph_base.specs.declared.plan.Plan.{Plan}
 use Rattle.morph_base.specs.declared.strategy.Abort.{Abort}
 use Rattle.op_eval.specs.declared.answers.Evaluation.{Evaluation}
 use Rattle.op_eval.specs.declared.runner.Runner.{Runner}
-use Rattle.op_eval.specs.Running.{hand_view}
 use Rattle.op_eval.specs.Turns.{InTurn, TakesNumber}
 use Rattle.abort_eager.specs.Sweeps.{Attempts}
 
@@ -12,10 +11,6 @@ use Rattle.abort_eager.specs.Sweeps.{Attempts}
 pub data PassCall : Type 0 where
   Took : (counter number : ℕ) → PassCall
   Tried : (op : ℕ) → PassCall
-
--- The runner holds nothing
-abbrev pub IsFree : Runner → Type 0
-IsFree r = (hand_view r).claim ≡ None
 
 -- The call led from runner a to runner b: the runner took a number, or tried an operation
 abbrev pub MakesPassCall : Plan → (cap : ℕ) → Abort → PassCall → Runner → Runner → Type 0

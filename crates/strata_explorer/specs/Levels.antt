@@ -45,9 +45,9 @@ abbrev pub rolled_by : List Runner → ℕ
 rolled_by rs = sum_by (λ r. rolled (hand_view r).events) rs
 
 -- The levels are those of a valid plan: they have all of the plan's operations, and sources are in lower levels
-pub record AreLevels (p : Plan) (units : List (List ℕ)) (many : ℕ) : Type 0 where
+pub record AreLevels (p : Plan) : Type 0 where
   pub few : length p.op_levels.items ≤ op_count p
-  pub fits : (l : ℕ) → FitsPass p units many (ops_of p l)
+  pub fits : (l : ℕ) → FitsPass p (ops_of p l)
   pub sources : (l n s : ℕ) → n < length (ops_of p l) → IsSourceOf p (op_of p l n) s
       → (k : ℕ) × (m : ℕ) × (k < l) × (m < length (ops_of p k)) × (op_of p k m ≡ s)
   pub all : (o : ℕ) → o < op_count p

@@ -2,15 +2,14 @@
 use Rattle.std.specs.Prelude.{◌≡◌, ℕ, ◌+◌, ◌<◌, ◌≤◌, ◌^◌, ◌⊎◌, Bool, true, false, List, Contains, All, length, count_by, slice_index_or, nat_lt}
 use Rattle.morph_base.specs.declared.plan.Plan.{Plan}
 use Rattle.morph_base.specs.declared.strategy.Abort.{Abort}
-use Rattle.morph_base.specs.Graphs.{IsValidPlan}
 use Rattle.morph_base.specs.Plans.{op_count}
-use Rattle.chain_units.specs.Places.{IsPartition}
 use Rattle.op_words.specs.Counting.{place, times}
+use Rattle.abort_eager.specs.Sweeps.{IsLike}
 use Rattle.op_eval.specs.declared.runner.Runner.{Runner}
 use Rattle.op_eval.specs.Running.{hand_view}
 use Rattle.op_eval.specs.Turns.{IsEnough}
 use Rattle.worker_gate.specs.Sharing.{shared_from}
-use Rattle.strata_explorer.specs.Calls.{PassCall, Took, Tried, MakesPassCalls, IsFree}
+use Rattle.strata_explorer.specs.Calls.{PassCall, Took, Tried, MakesPassCalls}
 use Rattle.strata_explorer.specs.Walks.{WalksAll}
 
 -- The test whether a call tried an operation
@@ -23,32 +22,16 @@ abbrev pub names : ℕ → PassCall → Bool
 names len (Took c n) = nat_lt n len
 names len (Tried o) = false
 
--- The plan is valid, each of its operations is in one unit, and the operations of the pass are the plan's
-pub record FitsPass (p : Plan) (units : List (List ℕ)) (many : ℕ) (ops : List ℕ) : Type 0 where
-  pub valid : IsValidPlan p
-  pub partition : IsPartition units (op_count p)
-  pub many_is : many ≡ op_count p
+-- The operations of the pass are the plan's
+pub record FitsPass (p : Plan) (ops : List ℕ) : Type 0 where
   pub few : length ops < 2 ^ 32
   pub inside : All (λ o. o < op_count p) ops
-
--- Runner b is runner a as far as contracts see it, after a call that changes no view
-pub record IsLike (a b : Runner) : Type 0 where
-  pub view : hand_view b ≡ hand_view a
-  pub answers : b.answers ≡ a.answers
-  pub kept : b.kept ≡ a.kept
 
 -- The first runner is the same as far as contracts see it, and the others are the same
 pub record AreLike (before after : List Runner) : Type 0 where
   pub len : length after ≡ length before
   pub first : (d : Runner) → IsLike (slice_index_or before 0 d) (slice_index_or after 0 d)
   pub others : (k : ℕ) (d : Runner) → 0 < k → slice_index_or after k d ≡ slice_index_or before k d
-
--- The runner tried operations, o among them, and did nothing else
-pub record WalkedWithCalls (p : Plan) (cap : ℕ) (abort : Abort) (o : ℕ) (a b : Runner) : Type 0 where
-  pub calls : List PassCall
-  pub made : MakesPassCalls p cap abort calls a b
-  pub tried : Contains calls (Tried o)
-  pub only : All (λ c. is_tried c ≡ true) calls
 
 -- The runner took numbers from counter c alone, and tried each operation that they name
 pub record Worked (p : Plan) (cap : ℕ) (abort : Abort) (c : ℕ) (ops : List ℕ) (a b : Runner) : Type 0 where

@@ -14,8 +14,9 @@ ghost use Rattle.op_eval.specs.Running.{hand_view, IsFreeRunner};
 ghost use Rattle.strata_explorer.specs.Levels.{ops_of, rolled_by, AreStrata, FollowsPass, HasPassed, IsAlone, counters_for};
 ghost use Rattle.strata_explorer.specs.Passes.{AreLike, IsPassed};
 
-use crate::ground::{Course, Ground};
+use crate::course::Course;
 use crate::passing::{Pass, pass_by};
+use abort_eager::Ground;
 use chain_units::Units;
 use morph_base::{Abort, Plan};
 use op_eval::{Explored, RunEnd, Runner, Runners};

@@ -3,7 +3,7 @@
 //! [`explore`] makes passes over the levels of a plan, from the lowest on. The places of a pass are the operations of
 //! its level, in the plan's order. Workers take them from the pass's own counter, so each goes to one of them. At a
 //! place a worker walks the unit of that operation, from it on: it evaluates one operation after the other, until an
-//! answer is not `Evaluated`. A level with [few](worker_gate::is_few) operations is left to the first worker alone.
+//! answer is not `Evaluated`. A level with [few](worker_gate::run_few_or_all) operations is left to the first worker alone.
 //!
 //! Under lazy abort nothing is rolled back on the way: failures are left to settling, and each level is passed once.
 //! Under eager abort a worker runs the cascade of an operation after each evaluation that failed, or that was a second
@@ -23,11 +23,11 @@
 //! `morph_base`.
 #![tactic(auto)]
 
+mod course;
 mod exploring;
-mod ground;
 pub mod laws;
+mod noting;
 mod passing;
-mod sweeping;
 mod walking;
 
 pub use exploring::{counters, explore};

@@ -1,17 +1,18 @@
 //! A pass over one level, by all workers or by the first alone.
-ghost use Rattle.std.specs.Prelude.{◌≡◌, ◌<◌, All, length, slice_index_or};
-ghost use Rattle.op_words.specs.Hands.{plan_of, cap_of, counters_of};
+ghost use Rattle.std.specs.Prelude.{◌<◌, All, length, slice_index_or};
+ghost use Rattle.abort_eager.specs.Grounds.{IsGround};
+ghost use Rattle.op_words.specs.Hands.{cap_of, counters_of};
 ghost use Rattle.op_eval.specs.declared.runner.Runner.{Runner as Worker};
 ghost use Rattle.op_eval.specs.Exploring.{Unused};
 ghost use Rattle.op_eval.specs.Turns.{IsEnough};
 ghost use Rattle.strata_explorer.specs.Passes.{FitsPass, IsPassed};
 ghost use Rattle.op_eval.specs.Running.{IsFreeRunner};
 
-use crate::ground::Ground;
 use crate::walking::work;
+use abort_eager::Ground;
 use op_eval::Runner;
 use std::thread::Threads;
-use worker_gate::{Gate, Job, Told, is_few, pieces_for, run_all};
+use worker_gate::{Gate, Job, Told, pieces_for, run_few_or_all};
 
 /// A pass over the operations of a level, whose places workers take from a counter.
 #[derive(Drop)]
@@ -23,17 +24,17 @@ pub(crate) struct Pass<'a, G> {
 }
 
 impl<G: Gate> Job<Runner> for Pass<'_, G> {
-    ghost use Rattle.std.specs.Prelude.{◌≡◌, ◌<◌, length};
-    ghost use Rattle.op_words.specs.Hands.{plan_of, cap_of, counters_of};
+    ghost use Rattle.std.specs.Prelude.{◌<◌, length};
+    ghost use Rattle.abort_eager.specs.Grounds.{IsGround};
+    ghost use Rattle.op_words.specs.Hands.{cap_of, counters_of};
     ghost use Rattle.op_eval.specs.Exploring.{Unused};
     ghost use Rattle.op_eval.specs.Turns.{IsEnough};
     ghost use Rattle.strata_explorer.specs.Passes.{FitsPass, Worked};
     ghost use Rattle.op_eval.specs.Running.{IsFreeRunner};
     ghost use Rattle.strata_explorer.specs.Walks.{WalksAll};
 
-    ghost can_run = { λ pass runner. (pass.ground.plan.now ≡ plan_of pass.ground.board.now)
-        × FitsPass pass.ground.plan.now pass.ground.units.now.units pass.ground.units.now.ops
-        pass.ops.now
+    ghost can_run = { λ pass runner. IsGround pass.ground
+        × FitsPass pass.ground.plan.now pass.ops.now
         × (pass.counter < counters_of pass.ground.board.now)
         × IsFreeRunner pass.ground.board.now runner × Unused pass.counter runner };
 
@@ -53,17 +54,15 @@ impl<G: Gate> Job<Runner> for Pass<'_, G> {
     }
 }
 
-/// Makes a pass by all runners, or by the first runner alone if the level has [few](is_few) operations.
+/// Makes a pass by all runners, or by the first runner alone if the level has [few](run_few_or_all) operations.
 pub(crate) fn pass_by<R: Threads + Sync, G: Gate>(
     rt: &R,
     runners: &mut [Runner],
     pass: &Pass<'_, G>,
 )
     requires some { 0 < length runners.old }
-    requires plan { pass.now.ground.plan.now ≡ plan_of pass.now.ground.board.now }
-    requires fits { FitsPass pass.now.ground.plan.now pass.now.ground.units.now.units
-        pass.now.ground.units.now.ops
-        pass.now.ops.now }
+    requires ground { IsGround pass.now.ground }
+    requires fits { FitsPass pass.now.ground.plan.now pass.now.ops.now }
     requires in_range { pass.now.counter < counters_of pass.now.ground.board.now }
     requires seated { All (IsFreeRunner pass.now.ground.board.now) runners.old }
     requires unused { All (Unused pass.now.counter) runners.old }
@@ -74,10 +73,6 @@ pub(crate) fn pass_by<R: Threads + Sync, G: Gate>(
     ensures first { (d : Worker)
         → IsEnough pass.now.counter (length pass.now.ops.now) (slice_index_or runners.new 0 d) }
 {
-    if is_few(pass.ops.len()) {
-        pass.run(&mut runners[0]);
-    } else {
-        let pieces = pieces_for(pass.gate, pass.ops.len());
-        run_all(rt, runners, pieces, pass);
-    }
+    let pieces = pieces_for(pass.gate, pass.ops.len());
+    run_few_or_all(rt, runners, pass.ops.len(), pieces, pass);
 }

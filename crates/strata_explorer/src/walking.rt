@@ -1,68 +1,17 @@
 //! What one worker does in a pass.
-ghost use Rattle.std.specs.Prelude.{◌≡◌, ◌<◌, ◌≤◌, length};
-ghost use Rattle.chain_units.specs.Places.{IsPartition};
-ghost use Rattle.morph_base.specs.Graphs.{IsValidPlan};
-ghost use Rattle.morph_base.specs.Plans.{op_count};
-ghost use Rattle.op_words.specs.Hands.{plan_of, cap_of, counters_of};
+ghost use Rattle.std.specs.Prelude.{◌<◌, length};
+ghost use Rattle.abort_eager.specs.Grounds.{IsGround};
+ghost use Rattle.op_words.specs.Hands.{cap_of, counters_of};
 ghost use Rattle.op_eval.specs.Exploring.{Unused};
 ghost use Rattle.op_eval.specs.Turns.{IsEnough};
-ghost use Rattle.abort_eager.specs.Sweeps.{Attempts};
-ghost use Rattle.strata_explorer.specs.Passes.{FitsPass, WalkedWithCalls, Worked};
+ghost use Rattle.strata_explorer.specs.Passes.{FitsPass, Worked};
 ghost use Rattle.op_eval.specs.Running.{IsFreeRunner};
-ghost use Rattle.strata_explorer.specs.Walks.{WalksUnit, WalksAll};
+ghost use Rattle.strata_explorer.specs.Walks.{WalksAll};
 
-use crate::ground::Ground;
-use crate::sweeping::sweep;
-use op_eval::{Evaluation, Runner, evaluate};
+use crate::noting::LevelNotes;
+use abort_eager::{AttemptWithCascade, Ground, walk_unit};
+use op_eval::Runner;
 use worker_gate::Turns;
-
-/// Tries to evaluate an operation in a turn, tells the gate, and runs the cascade that follows.
-fn attempt<T: Turns>(
-    ground: &Ground<'_>,
-    told: &T,
-    turn: u64,
-    runner: &mut Runner,
-    op: u32,
-) -> Evaluation
-    requires plan { ground.now.plan.now ≡ plan_of ground.now.board.now }
-    requires valid { IsValidPlan ground.now.plan.now }
-    requires in_range { op < op_count ground.now.plan.now }
-    requires seated { IsFreeRunner ground.now.board.now runner.old }
-    ensures seated { IsFreeRunner ground.now.board.now runner.new }
-    ensures does { Attempts ground.now.plan.now (cap_of ground.now.board.now) ground.now.abort op
-        runner.old runner.new result }
-{
-    let answer = evaluate(ground.board, runner, ground.plan, op);
-    told.done(turn);
-    sweep(ground.board, runner, ground.plan, ground.abort, op, answer);
-    answer
-}
-
-/// Walks the unit of an operation from it on, until an answer is not `Evaluated`.
-fn walk<T: Turns>(ground: &Ground<'_>, told: &T, turn: u64, runner: &mut Runner, op: u32)
-    requires plan { ground.now.plan.now ≡ plan_of ground.now.board.now }
-    requires valid { IsValidPlan ground.now.plan.now }
-    requires in_range { op < op_count ground.now.plan.now }
-    requires units { IsPartition ground.now.units.now.units (op_count ground.now.plan.now) }
-    requires number { ground.now.units.now.ops ≡ op_count ground.now.plan.now }
-    requires seated { IsFreeRunner ground.now.board.now runner.old }
-    ensures seated { IsFreeRunner ground.now.board.now runner.new }
-    ensures does { WalkedWithCalls ground.now.plan.now (cap_of ground.now.board.now) ground.now.abort op
-        runner.old runner.new }
-    ensures unit { WalksUnit ground.now.plan.now (cap_of ground.now.board.now) ground.now.abort
-        ground.now.units.now.units op runner.old runner.new }
-{
-    let mut answer = attempt(ground, told, turn, runner, op);
-    let unit = ground.units.ops(ground.units.unit_of(op));
-    let place = ground.units.place_of(op) as usize;
-    for i in place + 1..unit.len() {
-        match answer {
-            Evaluation::Evaluated { .. } => {}
-            _ => return,
-        }
-        answer = attempt(ground, told, turn, runner, unit[i]);
-    }
-}
 
 /// Takes places of a pass, and walks the unit of each, until no place is left.
 pub(crate) fn work<T: Turns>(
@@ -72,9 +21,8 @@ pub(crate) fn work<T: Turns>(
     counter: u32,
     runner: &mut Runner,
 )
-    requires plan { ground.now.plan.now ≡ plan_of ground.now.board.now }
-    requires fits { FitsPass ground.now.plan.now ground.now.units.now.units ground.now.units.now.ops
-        ops.now }
+    requires ground { IsGround ground.now }
+    requires fits { FitsPass ground.now.plan.now ops.now }
     requires in_range { counter < counters_of ground.now.board.now }
     requires seated { IsFreeRunner ground.now.board.now runner.old }
     requires unused { Unused counter runner.old }
@@ -91,6 +39,11 @@ pub(crate) fn work<T: Turns>(
             return;
         }
         told.pass(turn as u64);
-        walk(ground, told, turn as u64, runner, ops[number as usize]);
+        let attempting = AttemptWithCascade {
+            told,
+            turn: turn as u64,
+            notes: &LevelNotes,
+        };
+        walk_unit(ground, &attempting, runner, ops[number as usize]);
     }
 }

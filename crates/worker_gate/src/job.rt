@@ -1,11 +1,11 @@
-ghost use Rattle.std.specs.Prelude.{ℕ, ◌<◌, ◌≤◌, ◌↔◌, max, length, All, slice_index_or, IsTrue};
+ghost use Rattle.std.specs.Prelude.{◌≡◌, ◌⊎◌, ℕ, ◌<◌, ◌≤◌, max, length, All, slice_index_or};
 ghost use Rattle.worker_gate.specs.Sharing.{shared_from};
 
 use crate::gate::Gate;
 use std::thread;
 use std::thread::Threads;
 
-/// With fewer pieces of work than this, the first worker does them alone.
+/// With fewer items than this, the first worker does them alone.
 const FEW: usize = 8;
 
 /// How many pieces of work are worth a thread. With fewer, workers who share them lose more by writing to the same
@@ -24,13 +24,6 @@ pub trait Job<W>: Sync {
     fn run(&self, worker: &mut W)
         requires { can_run self.now worker.old }
         ensures { changes self.now worker.old worker.new };
-}
-
-/// Whether a job has so few pieces that it is left to the first worker alone: fewer than 8.
-pub fn is_few(pieces: usize) -> bool
-    ensures { IsTrue result ↔ (pieces < shared_from) }
-{
-    pieces < FEW
 }
 
 /// How many threads this many pieces of work are worth, for this many workers: one for each 262,144 pieces, at least
@@ -69,4 +62,31 @@ pub fn run_all<R: Threads + Sync, W: Send, J: Job<W>>(
 {
     let threads = threads_for(workers.len(), pieces);
     thread::for_each_mut(rt, workers, threads, &|_, worker| job.run(worker));
+}
+
+/// Has each worker do the job, as [`run_all`] does, or the first worker alone if it is a job of fewer than 8 items.
+pub fn run_few_or_all<R: Threads + Sync, W: Send, J: Job<W>>(
+    rt: &R,
+    workers: &mut [W],
+    items: usize,
+    pieces: usize,
+    job: &J,
+)
+    requires some { 0 < length workers.old }
+    requires can { All (J.can_run job.now) workers.old }
+    ensures first { (d : W)
+        → J.changes job.now (slice_index_or workers.old 0 d) (slice_index_or workers.new 0 d) }
+    ensures each { (i : ℕ) (d : W) → i < length workers.old
+        → J.changes job.now (slice_index_or workers.old i d) (slice_index_or workers.new i d)
+        ⊎ (slice_index_or workers.new i d ≡ slice_index_or workers.old i d) }
+    ensures few { items < shared_from → (i : ℕ) (d : W) → 0 < i
+        → slice_index_or workers.new i d ≡ slice_index_or workers.old i d }
+    ensures many { shared_from ≤ items → (i : ℕ) (d : W) → i < length workers.old
+        → J.changes job.now (slice_index_or workers.old i d) (slice_index_or workers.new i d) }
+{
+    if items < FEW {
+        job.run(&mut workers[0]);
+    } else {
+        run_all(rt, workers, pieces, job);
+    }
 }

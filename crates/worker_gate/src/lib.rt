@@ -2,9 +2,10 @@
 //! that hold workers.
 //!
 //! It uses std alone. A caller states as a [`Job`] what a worker has to be and what becomes of it, and calls
-//! [`run_all`]. Then each worker is what the job makes of it, as if one thread had done the job for all. A thread is
-//! started only for as much work as [is worth it](threads_for). A [`Gate`] may hold a worker for a while at each turn
-//! of its work. A run takes a gate, and must have the same result whatever gate it is.
+//! [`run_all`]. Then each worker is what the job makes of it, as if one thread had done the job for all. By
+//! [`run_few_or_all`] a job of few items is left to the first worker. A thread is started only for as much work as
+//! [is worth it](threads_for). A [`Gate`] may hold a worker for a while at each turn of its work. A run takes a gate,
+//! and must have the same result whatever gate it is.
 #![tactic(auto)]
 
 mod gate;
@@ -17,6 +18,6 @@ mod turns;
 
 pub use gate::{FreeGate, Gate};
 pub use hold_gate::HoldGate;
-pub use job::{Job, is_few, pieces_for, run_all, threads_for};
+pub use job::{Job, pieces_for, run_all, run_few_or_all, threads_for};
 pub use meet_gate::MeetGate;
 pub use turns::{Told, Turns, Untold};

@@ -10,7 +10,7 @@ use morph_base::Plan;
 use op_eval::{Left, Runner};
 use op_words::Board;
 use std::thread::Threads;
-use worker_gate::{Job, is_few, run_all};
+use worker_gate::{Job, run_few_or_all};
 
 /// The events of a level. Workers take their numbers in the level from a counter.
 #[derive(Drop)]
@@ -94,7 +94,7 @@ impl Job<Runner> for Sweep<'_> {
     }
 }
 
-/// Tries the level's events by all runners, or by the first runner alone if there are [few](is_few).
+/// Tries the level's events by all runners, or by the first runner alone if there are [few](run_few_or_all).
 pub fn sweep_by<T: Threads + Sync>(rt: &T, runners: &mut [Runner], sweep: &Sweep<'_>)
     requires some { 0 < length runners.old }
     requires fits { FitsBoard sweep.now.board.now sweep.now.plan.now sweep.now.counter
@@ -105,9 +105,6 @@ pub fn sweep_by<T: Threads + Sync>(rt: &T, runners: &mut [Runner], sweep: &Sweep
         sweep.now.events.now
         runners.old runners.new }
 {
-    if is_few(sweep.events.len()) {
-        sweep.run(&mut runners[0]);
-    } else {
-        run_all(rt, runners, sweep.events.len(), sweep);
-    }
+    let events = sweep.events.len();
+    run_few_or_all(rt, runners, events, events, sweep);
 }

@@ -48,8 +48,7 @@ pub returns-clause-ran : goal.returns-clause-ran
 returns-clause-ran g c =
     let back = handed_back _ _ c.args.runners _ _ _ _ c.new.ensures.parts c.as_mut_slice.ensures.items c.pass_all-end.ensures.hands.len in
     let p = c.args.plan.now in
-    let levels = levels_of p c.requires.valid c.args.units.now.units c.args.units.now.ops c.requires.units c.requires.number in
     λ lazy first root.
-    lone_root_ran p c.args.units.now.units c.args.units.now.ops levels (runners_of c.args.runners) (runners_of (parts_of c.new.result).1) root
+    lone_root_ran p (levels_of p c.requires.valid) (runners_of c.args.runners) (runners_of (parts_of c.new.result).1) root
     (subst (λ rs. IsAlone p (length p.op_levels.items) rs (runners_of (parts_of c.new.result).1)) c.as_mut_slice.ensures.items
     (subst (λ rs. IsAlone p (length p.op_levels.items) c.as_mut_slice.result.now rs) (sym back) (c.pass_all-end.ensures.alone lazy first)))

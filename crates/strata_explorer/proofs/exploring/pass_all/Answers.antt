@@ -18,13 +18,13 @@ loop-level-preserved g c =
     let counter = c.loop-level.passes in
     let rs = c.loop-level.runners in
     let qs = c.pass_once-level.new.runners in
-    let levels = levels_of p c.requires.valid c.args.course.now.units.now.units c.args.course.now.units.now.ops c.requires.units c.requires.number in (
+    let levels = levels_of p c.requires.valid in (
       pass.seated,
       pass.plan ∙ is.1,
       pass.cap ∙ is.2,
       pass.counters ∙ is.3,
       omega (arith, c.if-passes-most.true, c.counters-most.ensures),
-      climbing_more p (cap_of c.args.board.now) c.args.course.now.abort c.args.course.now.units.now.units c.requires.valid.plan c.args.course.now.units.now.ops levels level counter c.pass_once-level.result c.args.runners.now rs qs is.5 (omega (arith, c.loop-level-test.true, c.len-levels.ensures))
+      climbing_more p (cap_of c.args.board.now) c.args.course.now.abort c.args.course.now.units.now.units c.requires.valid.plan levels level counter c.pass_once-level.result c.args.runners.now rs qs is.5 (omega (arith, c.loop-level-test.true, c.len-levels.ensures))
           (subst (λ cap. IsPassed p cap c.args.course.now.abort c.args.course.now.units.now.units counter (ops_of p level) rs qs) is.2 pass.passed)
           (subst (λ cap. FollowsPass p cap c.args.course.now.abort c.pass_once-level.result (level ∷ []) rs qs) is.2 pass.next),
     )

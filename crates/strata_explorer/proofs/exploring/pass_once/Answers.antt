@@ -12,9 +12,8 @@ use Rattle.strata_explorer.proofs.exploring.pass_once.Goals as goal
 
 pub pass_by-requires-clause-fits : goal.pass_by-requires-clause-fits
 pass_by-requires-clause-fits g c κs within =
-    let levels = levels_of c.args.course.now.plan.now c.requires.valid c.args.course.now.units.now.units c.args.course.now.units.now.ops c.requires.units c.requires.number in
-    subst (λ ops. FitsPass c.args.course.now.plan.now c.args.course.now.units.now.units c.args.course.now.units.now.ops ops)
-    (sym (level_is c.args.course.now.plan.now c.args.level c.requires.level _ c.get.ensures.at _ c.as_slice.ensures)) (levels.fits c.args.level)
+    subst (FitsPass c.args.course.now.plan.now)
+    (sym (level_is c.args.course.now.plan.now c.args.level c.requires.level _ c.get.ensures.at _ c.as_slice.ensures)) ((levels_of c.args.course.now.plan.now c.requires.valid).fits c.args.level)
 
 pub next_level-requires-clause-small : goal.next_level-requires-clause-small
 next_level-requires-clause-small g c = omega (arith, c.requires.level, small_levels c.args.course.now.plan.now c.requires.valid)

@@ -1,5 +1,6 @@
-use Rattle.strata_explorer.proofs.Turning.{working_none, ended, went_on}
-use Rattle.strata_explorer.proofs.UnitWalks.{all_none, all_ended, all_more}
+use Rattle.abort_eager.proofs.Noting.{attempts_of}
+use Rattle.abort_eager.proofs.UnitWalks.{walks_as}
+use Rattle.strata_explorer.proofs.Turning.{working_none, ended, went_on, walked_calls, all_none, all_ended, all_more}
 use Rattle.strata_explorer.proofs.walking.work.Goals as goal
 
 pub returns-then-number-ops-clause-does : goal.returns-then-number-ops-clause-does
@@ -9,11 +10,12 @@ pub returns-then-number-ops-clause-enough : goal.returns-then-number-ops-clause-
 returns-then-number-ops-clause-enough g c = (ended _ _ _ _ _ _ _ _ _ _ c.loop-turn.invariant.1 c.take-number.ensures.does c.if-number-ops.true).1
 
 pub loop-turn-preserved : goal.loop-turn-preserved
-loop-turn-preserved g c = (
-  c.walk.ensures.seated,
-  went_on _ _ _ _ _ _ _ _ _ _ c.loop-turn.invariant.1 c.take-number.ensures.does _ c.if-number-ops.false c.walk.ensures.does,
-  all_more _ _ _ _ _ _ _ _ _ _ _ c.loop-turn.invariant.2 c.take-number.ensures.does c.if-number-ops.false c.walk.ensures.unit,
-)
+loop-turn-preserved g c =
+    let unit = walks_as _ _ (attempts_of _ _ _ _) _ _ _ _ c.walk_unit.ensures.walks in (
+      c.walk_unit.ensures.can,
+      went_on _ _ _ _ _ _ _ _ _ _ c.loop-turn.invariant.1 c.take-number.ensures.does _ c.if-number-ops.false (walked_calls _ _ _ _ _ _ _ unit),
+      all_more _ _ _ _ _ _ _ _ _ _ _ c.loop-turn.invariant.2 c.take-number.ensures.does c.if-number-ops.false unit,
+    )
 
 pub returns-then-number-ops-clause-walks : goal.returns-then-number-ops-clause-walks
 returns-then-number-ops-clause-walks g c = all_ended _ _ _ _ _ _ _ _ _ _ c.loop-turn.invariant.2 c.take-number.ensures.does c.if-number-ops.true

@@ -1,7 +1,6 @@
 //! What stays the same while a batch is explored.
 use chain_units::Units;
 use morph_base::{Abort, Plan};
-use op_words::Board;
 
 /// What all passes over the levels of a plan have in common.
 #[derive(Drop)]
@@ -10,13 +9,4 @@ pub(crate) struct Course<'a, G> {
     pub(crate) units: &'a Units,
     pub(crate) abort: Abort,
     pub(crate) gate: &'a G,
-}
-
-/// What all workers share in a pass.
-#[derive(Clone, Copy)]
-pub(crate) struct Ground<'a> {
-    pub(crate) board: &'a Board,
-    pub(crate) plan: &'a Plan,
-    pub(crate) units: &'a Units,
-    pub(crate) abort: Abort,
 }

@@ -1,0 +1,14 @@
+-- What workers share while they explore a batch
+use Rattle.std.specs.Prelude.{◌≡◌}
+use Rattle.morph_base.specs.Graphs.{IsValidPlan}
+use Rattle.morph_base.specs.Plans.{op_count}
+use Rattle.chain_units.specs.Places.{IsPartition}
+use Rattle.op_words.specs.Hands.{plan_of}
+use Rattle.abort_eager.specs.declared.ground.Ground.{Ground}
+
+-- The plan is the board's and valid, and the units are the plan's
+pub record IsGround (g : Ground) : Type 0 where
+  pub plan : g.plan.now ≡ plan_of g.board.now
+  pub valid : IsValidPlan g.plan.now
+  pub units : IsPartition g.units.now.units (op_count g.plan.now)
+  pub number : g.units.now.ops ≡ op_count g.plan.now

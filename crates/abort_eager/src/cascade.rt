@@ -8,7 +8,7 @@ ghost use Rattle.abort_eager.specs.Popping.{GoesOn, PlacePops, Pops};
 ghost use Rattle.abort_eager.specs.Touching.{HasCause, CanTouch, Touches, NextDoes, touch_steps};
 
 use crate::answers::{Target, Touch, Touched};
-use crate::finding::{place_from, reader_from};
+use crate::search::{place_from, reader_from};
 use morph_base::Plan;
 use op_words::{Board, Hand};
 

@@ -21,17 +21,17 @@
 #![tactic(auto)]
 
 mod answers;
-mod attempting;
+mod attempt;
 mod behind;
 mod cascade;
-mod finding;
 mod ground;
 pub mod laws;
-mod walking;
+mod search;
+mod walk;
 
 pub use answers::{Target, Touch, Touched};
-pub use attempting::{AttemptWithCascade, Notes, attempt};
+pub use attempt::{AttemptWithCascade, Notes, attempt};
 pub use behind::cascade_behind;
 pub use cascade::Cascade;
 pub use ground::Ground;
-pub use walking::{Walking, walk_unit};
+pub use walk::{Walking, walk_unit};

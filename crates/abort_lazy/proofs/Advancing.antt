@@ -18,8 +18,8 @@ use Rattle.op_eval.specs.declared.runner.Runner.{Runner}
 use Rattle.op_eval.specs.Running.{hand_view}
 use Rattle.op_eval.proofs.Elements.{contains_first, contains_later, contains_none}
 use Rattle.op_eval.proofs.Turns.{in_turn_append}
-use Rattle.abort_lazy.specs.declared.run.sweeping.Call.{Call}
-use Rattle.abort_lazy.specs.declared.run.sweeping.Call.TheVariants.{Took, Tried}
+use Rattle.abort_lazy.specs.declared.run.level.Call.{Call}
+use Rattle.abort_lazy.specs.declared.run.level.Call.TheVariants.{Took, Tried}
 use Rattle.op_eval.specs.Turns.{IsEnough}
 use Rattle.worker_gate.specs.Sharing.{shared_from}
 use Rattle.abort_lazy.specs.Sweeps.{IsThrough, MakesCalls, MakesCall, Swept, AreSwept, FitsBoard, CanSweep, tried_by, taken_by, weight_at}

@@ -13,7 +13,7 @@ use Rattle.op_words.specs.Hands.{counters_of}
 use Rattle.op_words.proofs.Sizes.{sum_above, sum_below}
 use Rattle.op_eval.specs.declared.runner.Runner.{Runner}
 use Rattle.op_eval.specs.Running.{hand_view}
-use Rattle.abort_lazy.specs.declared.run.sweeping.Call.{Call}
+use Rattle.abort_lazy.specs.declared.run.level.Call.{Call}
 use Rattle.abort_lazy.specs.Ended.{AreAtStart, AreTries}
 use Rattle.abort_lazy.specs.Runs.{HasTried, AreSettling, events_of, root_view}
 use Rattle.abort_lazy.specs.Sweeps.{MakesCalls, taken_by, tried_by, weight_at}

@@ -16,8 +16,8 @@ use Rattle.op_eval.specs.declared.runner.Runner.{Runner}
 use Rattle.op_eval.specs.Exploring.{Unused}
 use Rattle.op_eval.specs.Running.{hand_view}
 use Rattle.op_eval.proofs.Elements.{contains_first, contains_later, contains_cases, contains_none}
-use Rattle.abort_lazy.specs.declared.run.sweeping.Call.{Call}
-use Rattle.abort_lazy.specs.declared.run.sweeping.Call.TheVariants.{Took, Tried}
+use Rattle.abort_lazy.specs.declared.run.level.Call.{Call}
+use Rattle.abort_lazy.specs.declared.run.level.Call.TheVariants.{Took, Tried}
 use Rattle.op_eval.specs.Turns.{TakesNumber}
 use Rattle.op_eval.proofs.Turns.{times_one}
 use Rattle.abort_lazy.specs.Sweeps.{HasTriedOne, Swept, HasSwept, IsSweeping, tried_by, taken_by, weight_at}

@@ -17,8 +17,8 @@ use Rattle.op_words.proofs.Sizes.{none_left, sum_above, sum_below, sum_inside}
 use Rattle.op_eval.specs.declared.runner.Runner.{Runner}
 use Rattle.op_eval.specs.Gathering.{gathered}
 use Rattle.op_eval.specs.Running.{hand_view}
-use Rattle.abort_lazy.specs.declared.run.sweeping.Call.{Call}
-use Rattle.abort_lazy.specs.declared.run.sweeping.Call.TheVariants.{Took, Tried}
+use Rattle.abort_lazy.specs.declared.run.level.Call.{Call}
+use Rattle.abort_lazy.specs.declared.run.level.Call.TheVariants.{Took, Tried}
 use Rattle.abort_lazy.specs.Runs.{root_view}
 use Rattle.abort_lazy.specs.Sweeps.{MakesCalls, taken_by, weight_at}
 use Rattle.abort_lazy.proofs.Summing.{below_same, sum_map, sum_none, sum_places, sum_same}

@@ -14,7 +14,7 @@ use Rattle.op_eval.specs.declared.answers.Left.{Left}
 use Rattle.op_eval.specs.declared.runner.Runner.{Runner}
 use Rattle.op_eval.specs.Exploring.{Unused}
 use Rattle.op_eval.specs.Running.{hand_view}
-use Rattle.abort_lazy.specs.declared.run.sweeping.Call.{Call}
+use Rattle.abort_lazy.specs.declared.run.level.Call.{Call}
 use Rattle.abort_lazy.specs.Sweeps.{MakesCalls, tried_by}
 
 -- ---- each event once

@@ -1,4 +1,4 @@
--- What is known on the way through one transaction
+-- Inside the crate: what is known on the way through one transaction
 use Rattle.std.specs.Prelude.{◌≡◌, ◌≢◌, ℕ, ◌≤◌, ◌<◌, ◌⊎◌, Bool, true, false, List, ◌++◌, Contains, Option, Some, None, Result, Ok, Err}
 use Rattle.morph_base.specs.declared.plan.Plan.{Plan}
 use Rattle.morph_base.specs.declared.word.OpState.TheVariants.{Failed, Spread}

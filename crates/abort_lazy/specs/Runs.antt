@@ -20,8 +20,8 @@ use Rattle.op_eval.specs.Exploring.{Unused}
 use Rattle.op_eval.specs.Gathering.{runners_of, gathered, HasPlaces, AreAtRest}
 use Rattle.op_eval.specs.Running.{hand_view}
 use Rattle.abort_lazy.specs.declared.run.SettledRun.{SettledRun}
-use Rattle.abort_lazy.specs.declared.run.sweeping.Call.{Call}
-use Rattle.abort_lazy.specs.declared.run.sweeping.Call.TheVariants.{Took, Tried}
+use Rattle.abort_lazy.specs.declared.run.level.Call.{Call}
+use Rattle.abort_lazy.specs.declared.run.level.Call.TheVariants.{Took, Tried}
 use Rattle.op_eval.specs.Turns.{IsEnough}
 use Rattle.worker_gate.specs.Sharing.{shared_from}
 use Rattle.abort_lazy.specs.Sweeps.{MakesCalls, tried_by, taken_by, weight_at}

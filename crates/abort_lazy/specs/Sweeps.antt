@@ -13,8 +13,8 @@ use Rattle.op_eval.specs.Exploring.{Unused}
 use Rattle.op_eval.specs.Running.{hand_view}
 use Rattle.op_eval.specs.Turns.{InTurn, IsEnough, TakesNumber}
 use Rattle.worker_gate.specs.Sharing.{shared_from}
-use Rattle.abort_lazy.specs.declared.run.sweeping.Call.{Call}
-use Rattle.abort_lazy.specs.declared.run.sweeping.Call.TheVariants.{Took, Tried}
+use Rattle.abort_lazy.specs.declared.run.level.Call.{Call}
+use Rattle.abort_lazy.specs.declared.run.level.Call.TheVariants.{Took, Tried}
 use Rattle.abort_lazy.specs.declared.transaction.TxnAnswer.{TxnAnswer}
 use Rattle.abort_lazy.specs.declared.transaction.TxnAnswer.TheVariants.{Settled as AllSettled, NotYet, Busy}
 use Rattle.abort_lazy.specs.Transactions.{TxnDoes, counted_all}

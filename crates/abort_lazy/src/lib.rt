@@ -17,14 +17,14 @@
 //! It uses `op_eval`, `op_words` and `interleaving_core`, for the board; `worker_gate`; and `morph_base`.
 #![tactic(auto)]
 
-mod finishing;
 pub mod laws;
+mod plain_finish;
 mod room;
 mod run;
 mod sources;
 mod transaction;
 
-pub use finishing::finish;
+pub use plain_finish::finish;
 pub use room::Room;
 pub use run::{SettledRun, settle_all};
 pub use transaction::{TxnAnswer, settle_txn};

@@ -14,9 +14,9 @@ use op_eval::{Explored, Left, Runner, Runners};
 use op_words::{Board, Closed};
 use std::thread::Threads;
 
-mod sweeping;
+mod level;
 
-use sweeping::{Sweep, sweep_by};
+use level::{Sweep, sweep_by};
 
 /// A board and its runners after each event of a batch was tried, before the board is closed.
 #[derive(Drop)]

@@ -9,13 +9,13 @@ use morph_base::{OpState, OpWord, Plan};
 use op_eval::Runner;
 use op_words::Board;
 
-mod deciding;
-mod ending;
-mod preparing;
+mod decide;
+mod prepare;
+mod settle;
 
-use deciding::decide_now;
-use ending::settle_rest;
-use preparing::prepare_all;
+use decide::decide_now;
+use settle::settle_rest;
+use prepare::prepare_all;
 
 /// The outcome when a runner tries to settle a transaction.
 #[derive(Clone, Copy, Debug, PartialEq, Eq)]

@@ -1,4 +1,4 @@
--- What a pipe keeps true
+-- Inside the crate: what a pipe keeps true
 use Rattle.std.specs.Prelude.{◌≡◌, ℕ, ◌+◌, ◌-◌, ◌≤◌, List, ◌++◌, length, All, None}
 use Rattle.morph_base.specs.Flat.{contents}
 use Rattle.morph_base.specs.States.{IsUpTo}

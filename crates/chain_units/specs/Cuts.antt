@@ -1,4 +1,4 @@
--- What a cut makes of operations
+-- Inside the crate: what a cut makes of operations
 use Rattle.std.specs.Prelude.{[], ◌∷◌, map}
 use Rattle.morph_base.specs.Graphs.{below}
 use Rattle.chain_units.specs.declared.cut.Cut.{Cut}

@@ -13,13 +13,13 @@
 #![tactic(auto)]
 
 mod alone;
+mod by_unit;
 mod chained;
 mod chains;
 mod cut;
-mod cutting;
-mod grouping;
 pub mod laws;
 mod places;
+mod units;
 
-pub use cutting::units;
-pub use grouping::Units;
+pub use by_unit::units;
+pub use units::Units;

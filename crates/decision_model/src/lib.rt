@@ -6,9 +6,9 @@
 #![tactic(auto)]
 
 mod choice;
-mod counting;
 mod counts;
+mod profile;
 
 pub use choice::choose;
-pub use counting::profile;
+pub use profile::profile;
 pub use counts::{Last, Profile};

@@ -1,4 +1,4 @@
--- What the buffer of a reader of lines keeps true
+-- Inside the crate: what the buffer of a reader of lines keeps true
 use Rattle.std.specs.Prelude.{◌≡◌, ◌+◌, ◌-◌, ◌≤◌, IsTrue, length}
 use Rattle.event_reader.specs.declared.limits.TheConstants.{BUFFER_BYTES}
 use Rattle.event_reader.specs.Limits.{input_bytes}

@@ -1,4 +1,5 @@
--- What the bytes that a reader keeps say of the first line of all that is unread, whatever follows them
+-- Inside the crate: what the bytes that a reader keeps say of the first line of all that is unread, whatever follows
+-- them
 use Rattle.std.specs.Prelude.{◌≡◌, ℕ, ◌<◌, ◌≤◌, Bool, false, IsTrue, List, [], ◌∷◌, ◌++◌, length, take, drop}
 use Rattle.event_reader.specs.Limits.{longest_line, deciding_bytes}
 use Rattle.event_reader.specs.declared.decision.Decision.{Decision}

@@ -1,4 +1,4 @@
--- What a reader of lines has after it asked its source for more bytes
+-- Inside the crate: what a reader of lines has after it asked its source for more bytes
 use Rattle.std.specs.Prelude.{◌≡◌, ℕ, ◌+◌, ◌-◌, ◌<◌, ◌≤◌, true, false, IsTrue, List, [], ◌∷◌, ◌++◌, length, Option, Result, Ok, Err}
 use Rattle.morph_io.specs.Told.{ahead, IsAtEnd}
 use Rattle.event_reader.specs.declared.fault.ReaderFault.{ReaderFault}

@@ -1,4 +1,4 @@
--- What a source of a generated text keeps true
+-- Inside the crate: what a source of a generated text keeps true
 use Rattle.std.specs.Prelude.{◌+◌, ◌≤◌, length}
 use Rattle.event_reader.specs.Limits.{generated_events, generated_ids}
 use Rattle.event_reader.specs.declared.gen_source.GenSource.TheInside.{Inside}

@@ -1,4 +1,4 @@
--- The unfinished batch of a reader
+-- Inside the crate: the unfinished batch of a reader
 use Rattle.std.specs.Prelude.{◌≡◌, ℕ, ◌+◌, ◌<◌, ◌≤◌, List, [], ◌∷◌, ◌++◌, length, map, Option, Some, None}
 use Rattle.std.specs.List.{All}
 use Rattle.morph_base.specs.declared.key.Layout.{Layout}

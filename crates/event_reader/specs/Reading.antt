@@ -1,4 +1,4 @@
--- What a reader of batches keeps true
+-- Inside the crate: what a reader of batches keeps true
 use Rattle.std.specs.Prelude.{◌≡◌, ◌+◌, ◌≤◌, false, IsTrue, []}
 use Rattle.event_reader.specs.Limits.{input_bytes}
 use Rattle.event_reader.specs.declared.version.Version.TheVariants.{One}

@@ -1,4 +1,4 @@
--- What the timestamps of a batch keep true
+-- Inside the crate: what the timestamps of a batch keep true
 use Rattle.std.specs.Prelude.{ℕ, ◌<◌, ◌≤◌, All, length, slice_index}
 use Rattle.event_reader.specs.declared.times.Times.TheInside.{Inside}
 

@@ -1,4 +1,4 @@
--- Timestamps as a list in some order
+-- Inside the crate: timestamps as a list in some order
 use Rattle.std.specs.Prelude.{ℕ, Bool, ◌==◌, List}
 use Rattle.std.specs.List.{list_any}
 

@@ -4,7 +4,7 @@ ghost use Rattle.event_reader.specs.Forms.{said_in};
 ghost use Rattle.event_reader.specs.Reader.{GivesEvent};
 ghost use Rattle.grep_app.specs.Grep.{most_cells, settings, gather, sums, grep_event};
 
-use crate::generating::{write_setting, write_sum};
+use crate::draws::{write_setting, write_sum};
 use event_reader::{
     Cause, Draws, EventApp, Form, LineFault, MakesInput, Range, TIMES, Version, Words,
     are_distinct, has_key, key_of, keys_of,

@@ -6,7 +6,7 @@
 //! the words and their numbers, and `morph_base`, whose operations an event has.
 #![tactic(auto)]
 
-mod generating;
+mod draws;
 mod grep;
 
 pub use grep::{CELLS, Grep};

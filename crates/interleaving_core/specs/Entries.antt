@@ -1,4 +1,4 @@
--- The entries that were shown, by number, and what is sought among those of an operation
+-- Inside the crate: the entries that were shown, by number, and what is sought among those of an operation
 use Rattle.std.specs.Prelude.{◌≡◌, ◌≢◌, ℕ, Bool, true, false, ◌==◌, not, List, Contains, slice_index_or}
 use Rattle.interleaving_core.specs.declared.entry.Entry.{Entry}
 use Rattle.interleaving_core.specs.declared.state.published.Sought.{Sought}

@@ -4,7 +4,7 @@ ghost use Rattle.event_reader.specs.Reader.{GivesEvent};
 ghost use Rattle.event_reader.specs.Versions.{greatest_of};
 ghost use Rattle.ledger_app.specs.Ledger.{deposits, transfers, most_floors, most_paid, payout, payouts, ledger_event};
 
-use crate::generating::{write_deposit, write_transfer};
+use crate::draws::{write_deposit, write_transfer};
 use event_reader::{
     Cause, Draws, EventApp, Form, LineFault, MakesInput, Range, TIMES, Version, Words,
     are_distinct, has_key, key_of, keys_of,

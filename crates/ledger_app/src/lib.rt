@@ -8,7 +8,7 @@
 //! event has, and `morph_io`, into whose buffer a line is written.
 #![tactic(auto)]
 
-mod generating;
+mod draws;
 mod ledger;
 
 pub use ledger::{ACCOUNTS, ASSETS, Ledger};

@@ -1,4 +1,4 @@
--- How a run that reads ahead ends, by the tail that its pipe met
+-- Inside the crate: how a run that reads ahead ends, by the tail that its pipe met
 use Rattle.std.specs.Prelude.{◌≡◌, ℕ, List, Option, Some, None, Result, Ok, Err}
 use Rattle.batch_pipe.specs.declared.tail.Tail.{Tail}
 use Rattle.batch_pipe.specs.declared.tail.Tail.TheVariants.{End, Refused as RefusedLine, Fault as Unread, RunMemory}

@@ -1,4 +1,4 @@
--- What a fault of the reader means for a run
+-- Inside the crate: what a fault of the reader means for a run
 use Rattle.event_reader.specs.declared.fault.ReaderFault.{ReaderFault}
 use Rattle.event_reader.specs.declared.fault.ReaderFault.TheVariants.{ReadFault, TooLong as LongInput, OutOfMemory as NoMemory}
 use Rattle.morph_cli.specs.declared.fault.Fault.{Fault}

@@ -31,7 +31,7 @@ use crate::job::Job;
 use crate::progress::Opening;
 use crate::run::Finish;
 use crate::tell::{Refusal, tell_closing, tell_counted, tell_refused};
-use crate::watching::Watched;
+use crate::watch::Watched;
 use batch_pipe::{Picker, Pipe, Ran, Tail};
 use decision_model::Last;
 use event_reader::EventApp;

@@ -25,7 +25,7 @@ mod run;
 mod strategies;
 mod tell;
 mod top_call;
-mod watching;
+mod watch;
 
 pub use application::run_application;
 pub use arguments::{program, words_of};

@@ -18,7 +18,7 @@ use crate::fault::Fault;
 use crate::job::Job;
 use crate::progress::Progress;
 use crate::tell::tell_counted;
-use crate::watching::{Watched, publish, run_watched};
+use crate::watch::{Watched, publish, run_watched};
 use event_reader::EventApp;
 use morph_base::Batch;
 use morph_io::Sink;

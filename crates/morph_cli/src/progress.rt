@@ -9,7 +9,7 @@ ghost use Rattle.decision_model.specs.Choices.{no_last};
 ghost use Rattle.run_text.specs.Settings.{AreInRange};
 
 use crate::job::Job;
-use crate::watching::Watching;
+use crate::watch::Watching;
 use decision_model::Last;
 use event_reader::{BatchReader, EventApp, INPUT_BYTES};
 use morph_base::OutOfMemory;

@@ -18,7 +18,7 @@ ghost use Rattle.run_text.specs.Text.{told_lines, told_values, counts_line, refu
 
 use crate::job::Job;
 use crate::strategies::count;
-use crate::watching::Watched;
+use crate::watch::Watched;
 use decision_model::Last;
 use event_reader::{Cause, EventApp};
 use morph_engine::BatchEnd;

@@ -34,8 +34,8 @@ use Rattle.op_words.proofs.Sizes.{range_size}
 use Rattle.op_eval.specs.declared.runner.Runner.{Runner}
 use Rattle.op_eval.specs.Running.{hand_view}
 use Rattle.op_eval.specs.Alone.{Ran}
-use Rattle.abort_lazy.specs.declared.run.sweeping.Call.{Call}
-use Rattle.abort_lazy.specs.declared.run.sweeping.Call.TheVariants.{Took, Tried}
+use Rattle.abort_lazy.specs.declared.run.level.Call.{Call}
+use Rattle.abort_lazy.specs.declared.run.level.Call.TheVariants.{Took, Tried}
 use Rattle.abort_lazy.specs.Sweeps.{MakesCalls}
 use Rattle.abort_lazy.specs.Transactions.{IsSettledOn}
 use Rattle.abort_lazy.proofs.Agreeing.{settles_on}

@@ -26,8 +26,8 @@ use Rattle.op_eval.specs.Running.{hand_view}
 use Rattle.op_eval.proofs.Elements.{contains_first, contains_later}
 use Rattle.strata_explorer.specs.Levels.{ops_of, op_of, level_of, AreStrata, IsWholeCounter}
 use Rattle.strata_explorer.proofs.Climbing.{union}
-use Rattle.abort_lazy.specs.declared.run.sweeping.Call.{Call}
-use Rattle.abort_lazy.specs.declared.run.sweeping.Call.TheVariants.{Took, Tried}
+use Rattle.abort_lazy.specs.declared.run.level.Call.{Call}
+use Rattle.abort_lazy.specs.declared.run.level.Call.TheVariants.{Took, Tried}
 use Rattle.abort_lazy.specs.Runs.{AreSettling, root_view}
 use Rattle.abort_lazy.specs.Sweeps.{MakesCalls}
 use Rattle.abort_lazy.proofs.Gathered.{gathered_has, gathered_tag, gathered_trail}

@@ -16,8 +16,8 @@ use Rattle.strata_explorer.specs.Levels.{AreStrata, counters_for, level_of}
 use Rattle.steal_explorer.specs.Dealing.{level_one}
 use Rattle.steal_explorer.specs.Handed.{AreReached}
 use Rattle.morph_engine.specs.Crews.{IsCrew}
-use Rattle.morph_engine.specs.declared.exploring.Supply.{Supply}
-use Rattle.morph_engine.specs.declared.exploring.Supply.TheVariants.{Counters, Deques}
+use Rattle.morph_engine.specs.declared.supply.Supply.{Supply}
+use Rattle.morph_engine.specs.declared.supply.Supply.TheVariants.{Counters, Deques}
 
 -- ---- before
 

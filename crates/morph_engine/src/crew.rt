@@ -13,7 +13,7 @@ ghost use Rattle.op_eval.specs.Further.{AreFurther};
 ghost use Rattle.op_eval.specs.Gathering.{runners_of, spare, HasPlaces};
 ghost use Rattle.op_words.specs.Hands.{plan_of, cap_of, counters_of};
 
-use crate::exploring::Tallied;
+use crate::supply::Tallied;
 use chain_units::Units;
 use morph_base::{Abort, List, OutOfMemory, Plan};
 use op_eval::{Explored, Runner, Runners};

@@ -34,8 +34,8 @@
 
 mod crew;
 mod engine;
-mod exploring;
 mod kept;
 mod prepared;
+mod supply;
 
 pub use engine::{BatchEnd, Engine, plan_batch};

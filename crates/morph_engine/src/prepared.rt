@@ -11,7 +11,7 @@ ghost use Rattle.morph_engine.specs.Caps.{cap_for};
 ghost use Rattle.morph_engine.specs.Exploring.{explore_of};
 ghost use Rattle.morph_engine.specs.Runs.{IsPrepared, HasJournalRoom, HasRun, IsJournalledRun};
 
-use crate::exploring::{Supply, Tallied, explore_by};
+use crate::supply::{Supply, Tallied, explore_by};
 use abort_lazy::{Room, finish, settle_all};
 use chain_units::{Units, units};
 use morph_base::{Abort, List, OutOfMemory, Plan, Settled, Strategy};

@@ -23,7 +23,7 @@
 #![tactic(auto)]
 
 mod calls;
-mod copying;
+mod copy;
 pub mod laws;
 mod line_buf;
 mod mem_sink;

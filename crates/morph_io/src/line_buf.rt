@@ -1,7 +1,7 @@
 ghost use Rattle.std.specs.Prelude.{◌≡◌, ℕ, ◌+◌, ◌≤◌, ◌↔◌, List, [], ◌++◌, length, take, decimal, IsTrue};
 ghost use Rattle.morph_io.specs.Limits.{line_bytes};
 
-use crate::copying::copy_to;
+use crate::copy::copy_to;
 use itoa::write_digits;
 use std::marker::Model;
 

@@ -2,7 +2,7 @@ ghost use Rattle.std.specs.Prelude.{◌≡◌, ◌-◌, ◌<◌, ◌≤◌, ◌�
 ghost use Rattle.morph_io.specs.InMemory.{Store, StoreWrites, counted, IsRefused};
 
 use crate::calls::{is_next_call_among, next_count};
-use crate::copying::append;
+use crate::copy::append;
 use crate::sink::{Sink, WriteFailed};
 use morph_base::{List, OutOfMemory};
 use std::alloc::Global;

@@ -2,7 +2,7 @@ ghost use Rattle.std.specs.Prelude.{◌≡◌, ℕ, ◌+◌, ◌<◌, ◌↔◌,
 ghost use Rattle.morph_io.specs.InMemory.{Supply, SupplyReads, counted};
 
 use crate::calls::{is_next_call_among, next_count};
-use crate::copying::copy_to;
+use crate::copy::copy_to;
 use crate::source::{ReadFailed, Source};
 use morph_base::List;
 use std::marker::Model;

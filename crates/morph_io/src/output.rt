@@ -3,7 +3,7 @@ ghost use Rattle.morph_io.specs.Told.{behind, HasRisen, Puts, kept_of};
 ghost use Rattle.morph_io.specs.Limits.{out_bytes};
 ghost use Rattle.morph_io.specs.Writing.{AppendsPart, WritesAll, WritesFull};
 
-use crate::copying::append;
+use crate::copy::append;
 use crate::line_buf::LineBuf;
 use crate::sink::{Sink, WriteFailed};
 use morph_base::OutOfMemory;

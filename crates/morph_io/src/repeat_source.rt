@@ -1,7 +1,7 @@
 ghost use Rattle.std.specs.Prelude.{◌≡◌, ◌<◌, ◌≤◌, [], ◌++◌, length, take, Some, IsOk, IfOk};
 ghost use Rattle.morph_io.specs.InMemory.{GivesBytes, repeated, left_from};
 
-use crate::copying::copy_to;
+use crate::copy::copy_to;
 use crate::source::{ReadFailed, Source};
 use morph_base::List;
 use std::marker::Model;

@@ -16,13 +16,13 @@
 #![tactic(auto)]
 
 mod answers;
-mod evaluating;
+mod evaluate;
 mod explored;
 mod runner;
 mod runners;
 
 pub use answers::{Answers, Evaluation, Left};
-pub use evaluating::evaluate;
+pub use evaluate::evaluate;
 pub use explored::{Explored, RunEnd};
 pub use runner::Runner;
 pub use runners::Runners;

@@ -1,4 +1,5 @@
--- Records of an operation beside its settled sources, and what a hand has to have seen to decide and settle
+-- Inside the crate: records of an operation beside its settled sources, and what a hand has to have seen to decide and
+-- settle
 use Rattle.std.specs.Prelude.{◌≡◌, ◌≢◌, ℕ, ◌≤◌, ◌<◌, ◌⊎◌, Bool, true, false, List, [], ◌∷◌, Contains, None, Result, Ok, Err}
 use Rattle.morph_base.specs.declared.plan.Plan.{Plan}
 use Rattle.morph_base.specs.declared.plan.Origin.TheVariants.{Op as Written}

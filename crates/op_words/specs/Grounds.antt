@@ -1,4 +1,4 @@
--- What a hand has to have seen before it takes a value back, and how it looks for it
+-- Inside the crate: what a hand has to have seen before it takes a value back, and how it looks for it
 use Rattle.std.specs.Prelude.{◌≡◌, ◌≢◌, ℕ, ◌+◌, ◌≤◌, ◌<◌, ◌⊎◌, Bool, true, false, List, Contains, Option, Some, None, Result, Ok, Err}
 use Rattle.morph_base.specs.declared.plan.Plan.{Plan}
 use Rattle.morph_base.specs.declared.plan.Origin.{Origin}

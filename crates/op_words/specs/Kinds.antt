@@ -19,7 +19,20 @@ use Rattle.op_words.specs.Layout.{record_index, packed_record, decision_base, pa
 use Rattle.op_words.specs.Rule.{Seats, Lawful, Stays, Steps, most_taken}
 use Rattle.op_words.specs.Counting.{taking, times}
 use Rattle.op_words.specs.Plays.{end_of}
-use Rattle.op_words.specs.Stepping.{IsUsable}
+
+-- The hand may read the value x of operation s at attempt a: it loaded a word of s that has this value, and that is
+-- settled if the attempt is the last one
+pub record IsSeenUsable (v : View) (cap a s x : ℕ) : Type 0 where
+  pub word : OpWord
+  pub inside : Contains v.notes (loaded s word)
+  pub shown : is_idle word.state ≡ false
+  pub at_last : a ≡ cap + 1 → is_settled word.state ≡ true
+  pub value_is : word.value ≡ x
+
+-- The hand may read the value x at a place with this source, at attempt a. A base has its own value
+abbrev pub IsUsable : View → ℕ → ℕ → Origin → ℕ → Type 0
+IsUsable v cap a (Base b) x = b ≡ x
+IsUsable v cap a (Written s) x = IsSeenUsable v cap a s x
 
 -- A state of the table that keeps the rule, and a seat with its view, whose hand makes the next step
 pub record Moment (p : Plan) (cap counters : ℕ) : Type 0 where

@@ -1,4 +1,4 @@
--- The results of the single steps of a hand
+-- Inside the crate: the results of the single steps of a hand
 use Rattle.std.specs.Prelude.{◌≡◌, ◌≢◌, ℕ, ◌+◌, ◌≤◌, ◌<◌, Bool, true, false, List, Contains, Option, Some, None}
 use Rattle.morph_base.specs.declared.limits.TheConstants.{MAX}
 use Rattle.morph_base.specs.declared.plan.Plan.{Plan}
@@ -107,20 +107,6 @@ pub record IsSoughtUpTo (b : Board) (p : Plan) (o j : ℕ) (h g : Hand) : Type 0
   pub values : (k : ℕ) → k < j → HasValueAt p o k words
 
 -- ---- the next place of what is held
-
--- The hand may read the value x of operation s at attempt a: it loaded a word of s that has this value, and that is
--- settled if the attempt is the last one
-pub record IsSeenUsable (v : View) (cap a s x : ℕ) : Type 0 where
-  pub word : OpWord
-  pub inside : Contains v.notes (loaded s word)
-  pub shown : is_idle word.state ≡ false
-  pub at_last : a ≡ cap + 1 → is_settled word.state ≡ true
-  pub value_is : word.value ≡ x
-
--- The hand may read the value x at a place with this source, at attempt a. A base has its own value
-abbrev pub IsUsable : View → ℕ → ℕ → Origin → ℕ → Type 0
-IsUsable v cap a (Base b) x = b ≡ x
-IsUsable v cap a (Written s) x = IsSeenUsable v cap a s x
 
 -- The next place of the held operation got the value x
 pub record IsPlaceKept (b : Board) (o a : ℕ) (xs : List ℕ) (x : ℕ) (h g : Hand) : Type 0 where

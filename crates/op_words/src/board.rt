@@ -11,18 +11,18 @@ use std::alloc::Global;
 
 mod calls;
 mod changes;
-mod closing;
+mod close;
 mod counters;
-mod deciding;
+mod decide;
 mod grounds;
 mod hands;
-mod judging;
 mod loads;
-mod retrying;
-mod settling;
+mod roll_back;
+mod settle;
 mod sources;
 mod steps;
 mod values;
+mod verdict;
 
 /// The words of a plan's operations, their records and decisions, a level word and some counters, which several hands
 /// change at once, each by single atomic steps.

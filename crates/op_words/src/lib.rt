@@ -26,15 +26,15 @@
 //! |---|---|
 //! | `board` | `Board` and `Hand` |
 //! | `board/calls` | a new board; its hands; `peek`, `ready`, `claim`, `fetch`, `finish`, `give_back` |
-//! | `board/judging`, `board/deciding`, `board/settling` | `verdict`, `decide`, `settle` |
-//! | `board/retrying` | `spread`, `roll_back` |
-//! | `board/counters`, `board/hands`, `board/closing` | counters and level word; a hand's own calls; the end |
+//! | `board/verdict`, `board/decide`, `board/settle` | the calls of these names |
+//! | `board/roll_back` | `spread`, `roll_back` |
+//! | `board/counters`, `board/hands`, `board/close` | counters and level word; a hand's own calls; the end |
 //! | `board/steps`, `board/changes`, `board/loads` | the single atomic steps that the calls are made of |
 //! | `board/sources`, `board/grounds`, `board/values` | sources loaded place by place; values that a hand fetched |
 //! | `answers` | what the calls return |
 //! | `trail`, `journal` | what contracts see of a hand; the steps that a hand writes down |
-//! | `rule`, `counting` | the rule of the table, and the kinds of atomic step |
-//! | `words`, `places`, `writing` | the numbers in the row; the places of an operation; notes in a journal |
+//! | `rule`, `counter_plays` | the rule of the table, and the kinds of atomic step |
+//! | `words`, `places`, `note` | the numbers in the row; the places of an operation; notes in a journal |
 //! | `closed`, `laws` | a board after its end; what is proved of every step |
 //!
 //! # The specs
@@ -48,14 +48,14 @@
 mod answers;
 mod board;
 mod closed;
-mod counting;
+mod counter_plays;
 mod journal;
 pub mod laws;
+mod note;
 mod places;
 mod rule;
 mod trail;
 mod words;
-mod writing;
 
 pub use answers::{
     Claimed, Counts, Decided, Fetched, Outcome, Readied, Rolled, SettleAnswer, Spreaded, Verdict,

@@ -5,14 +5,14 @@
 //! in.
 #![tactic(auto)]
 
-mod building;
+mod build;
 mod dependents;
 mod edges;
 mod level_lists;
 mod links;
-mod planning;
+mod planned;
 mod sources;
 mod transactions;
 mod writers;
 
-pub use building::build;
+pub use build::build;

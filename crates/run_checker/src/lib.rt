@@ -23,17 +23,17 @@
 //! into words, `morph_io`, whose buffer a line is put into, and the kit's `memchr` and `thiserror`.
 #![tactic(auto)]
 
+mod check;
 mod checked;
-mod checking;
 mod fault;
 pub mod laws;
-mod reading;
-mod replaying;
+mod read;
+mod replay;
 mod words;
-mod writing;
+mod write;
 
 pub use checked::Checked;
-pub use checking::check;
+pub use check::check;
 pub use fault::JournalFault;
-pub use reading::read_journal;
-pub use writing::write_event;
+pub use read::read_journal;
+pub use write::write_event;

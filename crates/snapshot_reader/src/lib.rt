@@ -22,15 +22,15 @@
 
 mod balances;
 mod change;
-mod making;
 mod publisher;
 mod rule;
-mod showing;
-mod summing;
+mod show;
+mod snapshots;
+mod sum;
 mod view;
 mod viewer;
 mod writes;
 
-pub use making::{MOST_VIEWERS, snapshots};
+pub use snapshots::{MOST_VIEWERS, snapshots};
 pub use publisher::Publisher;
 pub use viewer::{At, Look, Total, Viewer};

@@ -1,6 +1,6 @@
 use crate::change::Change;
 use crate::rule::{BalanceWriter, Telling};
-use crate::showing::{add, show};
+use crate::show::{add, show};
 use crate::viewer::Viewer;
 use morph_base::{OutOfMemory, Plan, Settled};
 use std::alloc::Global;

@@ -1,5 +1,5 @@
 use crate::rule::{BalanceReader, Seeing};
-use crate::summing::sum;
+use crate::sum::sum;
 use morph_base::{Key, Layout};
 use std::marker::Model;
 

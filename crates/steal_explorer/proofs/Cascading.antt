@@ -19,7 +19,7 @@ use Rattle.abort_eager.specs.declared.cascade.Cascade.{Cascade}
 use Rattle.abort_eager.specs.Sweeps.{cascade_for}
 use Rattle.abort_eager.specs.Targets.{targets_left}
 use Rattle.abort_eager.specs.Touching.{HasCause, NextDoes}
-use Rattle.steal_explorer.specs.declared.members.Member.{Member}
+use Rattle.steal_explorer.specs.declared.member.Member.{Member}
 use Rattle.steal_explorer.specs.Calls.{ServeCall, Swept, MakesServeCalls}
 use Rattle.steal_explorer.specs.Serving.{ServesOn, AsksAndPuts, TouchesNext, TouchesAll, TouchesFor}
 use Rattle.steal_explorer.proofs.Further.{call_adds}

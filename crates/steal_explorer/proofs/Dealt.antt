@@ -18,7 +18,7 @@ use Rattle.morph_base.proofs.OutcomeLaws.{map-agree}
 use Rattle.op_words.proofs.Rows.{no_more}
 use Rattle.op_words.specs.Hands.{up_to}
 use Rattle.steal_explorer.specs.declared.deques.Seat.{Seat}
-use Rattle.steal_explorer.specs.declared.handing.Log.{Log}
+use Rattle.steal_explorer.specs.declared.deque_rule.Log.{Log}
 use Rattle.steal_explorer.specs.Dealing.{dealt_to, pushed_on, IsOpenedSeat, AreOpened, CanTake, HasGot, HaveGot}
 use Rattle.steal_explorer.specs.Handing.{log, parts_of, put}
 use Rattle.steal_explorer.specs.Members.{Owner, Thief}

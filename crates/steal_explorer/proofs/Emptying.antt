@@ -14,8 +14,8 @@ use Rattle.op_words.specs.declared.board.Board.{Board}
 use Rattle.op_eval.specs.declared.runner.Runner.{Runner}
 use Rattle.op_eval.proofs.Elements.{contains_cases}
 use Rattle.op_eval.proofs.Turns.{in_turn_append}
-use Rattle.steal_explorer.specs.declared.handing.Log.{Log}
-use Rattle.steal_explorer.specs.declared.members.Member.{Member}
+use Rattle.steal_explorer.specs.declared.deque_rule.Log.{Log}
+use Rattle.steal_explorer.specs.declared.member.Member.{Member}
 use Rattle.steal_explorer.specs.Calls.{ServeCall, Tried, is_tried, MakesServeCalls, MakesServeCall}
 use Rattle.steal_explorer.specs.Draining.{in_plan, IsLeftWithNobody, WalkedKnown, IsCleared, IsEmptied}
 use Rattle.steal_explorer.specs.Handing.{whole, log, parts_of, got, spare, came, gone, one, MayBeEmpty, MayTake}

@@ -16,8 +16,8 @@ use Rattle.op_eval.specs.declared.runner.Runner.{Runner}
 use Rattle.op_eval.specs.Evaluations.{Tries}
 use Rattle.op_eval.proofs.Elements.{contains_first, contains_later}
 use Rattle.op_eval.proofs.Turns.{in_turn_append}
-use Rattle.steal_explorer.specs.declared.handing.Log.{Log}
-use Rattle.steal_explorer.specs.declared.members.Member.{Member}
+use Rattle.steal_explorer.specs.declared.deque_rule.Log.{Log}
+use Rattle.steal_explorer.specs.declared.member.Member.{Member}
 use Rattle.abort_eager.specs.Sweeps.{cascade_for}
 use Rattle.steal_explorer.specs.Calls.{ServeCall, Asked, Tried, is_swept, NoneSwept, AsksWhetherReady, MakesServeCalls, MakesServeCall, WalkedUnit}
 use Rattle.steal_explorer.specs.Handing.{log, one, parts_of, put}

@@ -6,7 +6,7 @@ use mathlib.Core.Option.{some, some-ne-none}
 use lib.ListN.{get_elem?}
 use Rattle.crossbeam_deque.specs.Tasks.{Pushes, Takes, Finds, FindsFew, Admits, Forks, Merges}
 use Rattle.crossbeam_deque.proofs.Lists.{at_set, at_snoc}
-use Rattle.steal_explorer.specs.declared.handing.Log.{Log}
+use Rattle.steal_explorer.specs.declared.deque_rule.Log.{Log}
 use Rattle.steal_explorer.specs.Handing.{whole, log, put, got, stole, spare, both, came, gone, parts_of, DidNothing, Balanced, MayBeEmpty, MayTake}
 
 some_is : {v w : Log} → some v ≡ some w → v ≡ w

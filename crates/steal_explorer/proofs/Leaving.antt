@@ -8,9 +8,9 @@ use Rattle.op_eval.specs.declared.runner.Runner.{Runner}
 use Rattle.op_eval.specs.Alone.{Ran}
 use Rattle.op_eval.specs.Running.{hand_view}
 use Rattle.op_eval.proofs.Alone.{come_first}
-use Rattle.steal_explorer.specs.declared.handing.Log.{Log}
+use Rattle.steal_explorer.specs.declared.deque_rule.Log.{Log}
 use Rattle.abort_eager.specs.declared.ground.Ground.{Ground}
-use Rattle.steal_explorer.specs.declared.members.Member.{Member}
+use Rattle.steal_explorer.specs.declared.member.Member.{Member}
 use Rattle.steal_explorer.specs.Alone.{AreSourcesRun, HasRunOp, EndsAlone, LeavesAlone}
 use Rattle.steal_explorer.specs.Draining.{IsCleared, IsEmptied, IsEmptiedBy}
 use Rattle.steal_explorer.specs.Gathering.{KeptByWorker, kept_of}

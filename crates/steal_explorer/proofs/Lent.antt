@@ -7,7 +7,7 @@ use Rattle.std.proofs.lemmas.List.Sums.{sum_by_push}
 use Rattle.std.proofs.Math.ListN.{get_or-append}
 use Rattle.crossbeam_deque.specs.Handles.{view, IsPassOf, worker_deque, stealer_deque, worker_view}
 use Rattle.steal_explorer.specs.declared.deques.Seat.{Seat}
-use Rattle.steal_explorer.specs.declared.handing.Log.{Log}
+use Rattle.steal_explorer.specs.declared.deque_rule.Log.{Log}
 use Rattle.steal_explorer.specs.Handing.{whole, log}
 use Rattle.steal_explorer.specs.Lending.{LendsPart, Gets, HasFirstTickets, AreLending}
 use Rattle.steal_explorer.specs.Members.{Owner, Thief, Ticket, stolen_by, SitsAt}

@@ -15,10 +15,10 @@ use Rattle.op_eval.specs.declared.explored.RunEnd.TheVariants.{Drained, Spent}
 use Rattle.op_eval.specs.declared.runner.Runner.{Runner}
 use Rattle.op_eval.specs.Alone.{Ran}
 use Rattle.op_eval.specs.Running.{hand_view}
-use Rattle.steal_explorer.specs.declared.finding.Found.{Found}
-use Rattle.steal_explorer.specs.declared.finding.Found.TheVariants.{Item, Nothing, Retry}
-use Rattle.steal_explorer.specs.declared.handing.Log.{Log}
-use Rattle.steal_explorer.specs.declared.members.Member.{Member}
+use Rattle.steal_explorer.specs.declared.find.Found.{Found}
+use Rattle.steal_explorer.specs.declared.find.Found.TheVariants.{Item, Nothing, Retry}
+use Rattle.steal_explorer.specs.declared.deque_rule.Log.{Log}
+use Rattle.steal_explorer.specs.declared.member.Member.{Member}
 use Rattle.steal_explorer.specs.Alone.{Stands, HasRunOp, IsHandingAlone, ServesAlone, FindsAlone, IsTurningAlone, TurnsAlone, BeginsAlone, EndsAlone}
 use Rattle.steal_explorer.specs.Draining.{IsEven}
 use Rattle.steal_explorer.specs.Finding.{Finds}

@@ -18,11 +18,11 @@ use Rattle.op_eval.specs.Running.{hand_view, IsFreeRunner}
 use Rattle.op_eval.proofs.Elements.{contains_first, contains_later}
 use Rattle.op_eval.proofs.Turns.{in_turn_append}
 use Rattle.crossbeam_deque.specs.Handles.{view, stealer_deque}
-use Rattle.steal_explorer.specs.declared.finding.Found.{Found}
-use Rattle.steal_explorer.specs.declared.finding.Found.TheVariants.{Item, Nothing, Retry}
-use Rattle.steal_explorer.specs.declared.handing.Log.{Log}
+use Rattle.steal_explorer.specs.declared.find.Found.{Found}
+use Rattle.steal_explorer.specs.declared.find.Found.TheVariants.{Item, Nothing, Retry}
+use Rattle.steal_explorer.specs.declared.deque_rule.Log.{Log}
 use Rattle.abort_eager.specs.declared.ground.Ground.{Ground}
-use Rattle.steal_explorer.specs.declared.members.Member.{Member}
+use Rattle.steal_explorer.specs.declared.member.Member.{Member}
 use Rattle.steal_explorer.specs.Calls.{ServeCall, is_tried, MakesServeCalls, MakesServeCall}
 use Rattle.steal_explorer.specs.Draining.{in_plan, IsEven, IsLeftWithNobody, IsCleared, HasAll, IsEmptiedBy, AreEmptied}
 use Rattle.steal_explorer.specs.Finding.{weight_of}

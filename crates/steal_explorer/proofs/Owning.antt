@@ -11,10 +11,10 @@ use Rattle.morph_base.specs.Plans.{op_count}
 use Rattle.op_words.specs.Hands.{up_to}
 use Rattle.op_eval.specs.declared.explored.RunEnd.{RunEnd}
 use Rattle.op_eval.specs.declared.runner.Runner.{Runner}
-use Rattle.steal_explorer.specs.declared.finding.Found.{Found}
-use Rattle.steal_explorer.specs.declared.finding.Found.TheVariants.{Item, Nothing, Retry}
-use Rattle.steal_explorer.specs.declared.handing.Log.{Log}
-use Rattle.steal_explorer.specs.declared.members.Member.{Member}
+use Rattle.steal_explorer.specs.declared.find.Found.{Found}
+use Rattle.steal_explorer.specs.declared.find.Found.TheVariants.{Item, Nothing, Retry}
+use Rattle.steal_explorer.specs.declared.deque_rule.Log.{Log}
+use Rattle.steal_explorer.specs.declared.member.Member.{Member}
 use Rattle.steal_explorer.specs.Alone.{FindsAlone}
 use Rattle.steal_explorer.specs.Handing.{one, parts_of, put, got, MayBeEmpty}
 use Rattle.steal_explorer.specs.Members.{Owner, Thief, Ticket, own, tickets_of, stolen_by, HasDeque, AreSeated, HasTickets}

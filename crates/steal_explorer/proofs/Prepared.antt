@@ -8,7 +8,7 @@ use Rattle.morph_base.specs.Plans.{op_count}
 use Rattle.op_words.specs.Hands.{up_to}
 use Rattle.steal_explorer.specs.declared.deques.Deques.{Deques}
 use Rattle.steal_explorer.specs.declared.deques.Seat.{Seat}
-use Rattle.steal_explorer.specs.declared.handing.Log.{Log}
+use Rattle.steal_explorer.specs.declared.deque_rule.Log.{Log}
 use Rattle.steal_explorer.specs.Dealing.{level_one, dealt_to, pushed_on, LieIn, IsOpenedSeat, AreOpened, CanTake, HaveGot}
 use Rattle.steal_explorer.specs.Handing.{whole, log, put, parts_of}
 use Rattle.steal_explorer.specs.Lending.{with_parts, HasFirstTickets, AreLent, KeepsSeats}

@@ -21,8 +21,8 @@ use Rattle.op_eval.specs.declared.runner.Runner.{Runner}
 use Rattle.op_eval.specs.Evaluations.{Tries}
 use Rattle.op_eval.specs.Running.{hand_view}
 use Rattle.op_eval.proofs.Alone.{come_first}
-use Rattle.steal_explorer.specs.declared.handing.Log.{Log}
-use Rattle.steal_explorer.specs.declared.members.Member.{Member}
+use Rattle.steal_explorer.specs.declared.deque_rule.Log.{Log}
+use Rattle.steal_explorer.specs.declared.member.Member.{Member}
 use Rattle.steal_explorer.specs.Alone.{Stands, HasRunOp, IsHandingAlone, Pushes, ServesAlone}
 use Rattle.steal_explorer.specs.Serving.{readers}
 use Rattle.steal_explorer.specs.Calls.{AsksWhetherReady}

@@ -8,8 +8,8 @@ use Rattle.std.proofs.Math.ListN.{get_or-append}
 use Rattle.std.proofs.Math.Seq.{get_or-append_seam, map-set_same}
 use Rattle.crossbeam_deque.specs.Handles.{view, IsPassOf, worker_deque, worker_flavor}
 use Rattle.op_words.proofs.Rows.{no_more}
-use Rattle.steal_explorer.specs.declared.handing.Log.{Log}
-use Rattle.steal_explorer.specs.declared.members.Member.{Member}
+use Rattle.steal_explorer.specs.declared.deque_rule.Log.{Log}
+use Rattle.steal_explorer.specs.declared.member.Member.{Member}
 use Rattle.steal_explorer.specs.Handing.{whole, log, both, gone, parts_of}
 use Rattle.steal_explorer.specs.Members.{Thief, Ticket, own, tickets_of, stolen_by, SitsAt}
 use Rattle.steal_explorer.proofs.Places.{first_of, set_at}

@@ -10,7 +10,7 @@ use Rattle.op_words.proofs.Rows.{no_more}
 use Rattle.op_eval.specs.declared.explored.RunEnd.TheVariants.{Spent}
 use Rattle.op_eval.specs.declared.runner.Runner.{Runner}
 use Rattle.steal_explorer.specs.declared.deques.Seat.{Seat}
-use Rattle.steal_explorer.specs.declared.members.Member.{Member}
+use Rattle.steal_explorer.specs.declared.member.Member.{Member}
 use Rattle.steal_explorer.specs.Seating.{runner_of, seat_of, AreSeatedBy}
 
 map-snoc : {X : Type 0} (f : Member → X) (ms : List Member) (m : Member) → map f (ms ++ m ∷ []) ≡ map f ms ++ f m ∷ []

@@ -5,9 +5,9 @@ use Rattle.std.proofs.lemmas.Bool.{cases_eq, false≢true}
 use Rattle.std.proofs.lemmas.List.{get_or-set_same, get_or-set_other, get_or_default, length-set}
 use Rattle.std.proofs.lemmas.List.Sums.{sum_by-set, sum_by_push}
 use Rattle.crossbeam_deque.specs.Handles.{view}
-use Rattle.steal_explorer.specs.declared.finding.Found.{Found}
-use Rattle.steal_explorer.specs.declared.finding.Found.TheVariants.{Item, Nothing, Retry}
-use Rattle.steal_explorer.specs.declared.handing.Log.{Log}
+use Rattle.steal_explorer.specs.declared.find.Found.{Found}
+use Rattle.steal_explorer.specs.declared.find.Found.TheVariants.{Item, Nothing, Retry}
+use Rattle.steal_explorer.specs.declared.deque_rule.Log.{Log}
 use Rattle.steal_explorer.specs.Handing.{parts_of, MayBeEmpty}
 use Rattle.steal_explorer.specs.Members.{Thief, Ticket, SitsAt, AreSeated, stolen_by}
 use Rattle.steal_explorer.specs.Finding.{is_item, or_then, weight_of, Misses, AreMissed, Steals, MayBeAllEmpty, StealsAmong, StealsRound}

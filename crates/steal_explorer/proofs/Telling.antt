@@ -20,10 +20,10 @@ use Rattle.op_eval.proofs.Elements.{contains_cases}
 use Rattle.op_eval.proofs.Turns.{in_turn_append}
 use Rattle.abort_eager.proofs.Exploring.{further_reached}
 use Rattle.steal_explorer.proofs.Further.{call_adds, calls_further}
-use Rattle.steal_explorer.specs.declared.finding.Found.{Found}
-use Rattle.steal_explorer.specs.declared.finding.Found.TheVariants.{Item, Nothing, Retry}
-use Rattle.steal_explorer.specs.declared.handing.Log.{Log}
-use Rattle.steal_explorer.specs.declared.members.Member.{Member}
+use Rattle.steal_explorer.specs.declared.find.Found.{Found}
+use Rattle.steal_explorer.specs.declared.find.Found.TheVariants.{Item, Nothing, Retry}
+use Rattle.steal_explorer.specs.declared.deque_rule.Log.{Log}
+use Rattle.steal_explorer.specs.declared.member.Member.{Member}
 use Rattle.steal_explorer.specs.Calls.{ServeCall, Asked, Tried, Swept, is_tried, MakesServeCalls, MakesServeCall}
 use Rattle.steal_explorer.specs.Draining.{in_plan}
 use Rattle.steal_explorer.specs.Finding.{weight_of}

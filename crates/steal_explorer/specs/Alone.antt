@@ -13,10 +13,10 @@ use Rattle.op_eval.specs.declared.explored.RunEnd.TheVariants.{Drained}
 use Rattle.op_eval.specs.declared.runner.Runner.{Runner}
 use Rattle.op_eval.specs.Alone.{Ran, NotBegun, HasRunAll}
 use Rattle.op_eval.specs.Running.{hand_view}
-use Rattle.steal_explorer.specs.declared.exploring.Handed.{Handed}
-use Rattle.steal_explorer.specs.declared.finding.Found.{Found}
-use Rattle.steal_explorer.specs.declared.finding.Found.TheVariants.{Item as Got, Nothing, Retry}
-use Rattle.steal_explorer.specs.declared.members.Member.{Member}
+use Rattle.steal_explorer.specs.declared.explore.Handed.{Handed}
+use Rattle.steal_explorer.specs.declared.find.Found.{Found}
+use Rattle.steal_explorer.specs.declared.find.Found.TheVariants.{Item as Got, Nothing, Retry}
+use Rattle.steal_explorer.specs.declared.member.Member.{Member}
 use Rattle.steal_explorer.specs.Draining.{IsEven}
 use Rattle.steal_explorer.specs.Handed.{workers_of, pushed_of}
 use Rattle.steal_explorer.specs.Handing.{one, put, got, came, gone, MayBeEmpty, MayTake}

@@ -8,7 +8,7 @@ use Rattle.op_words.specs.declared.board.Board.{Board}
 use Rattle.op_eval.specs.declared.explored.RunEnd.{RunEnd}
 use Rattle.op_eval.specs.declared.explored.RunEnd.TheVariants.{Whole, Drained, Spent}
 use Rattle.op_eval.specs.declared.runner.Runner.{Runner}
-use Rattle.steal_explorer.specs.declared.members.Member.{Member}
+use Rattle.steal_explorer.specs.declared.member.Member.{Member}
 use Rattle.steal_explorer.specs.Calls.{ServeCall, Tried, is_tried, MakesServeCalls, WalkedUnit}
 use Rattle.steal_explorer.specs.Handing.{whole, got, spare, came, gone}
 use Rattle.steal_explorer.specs.Members.{Owner, own}

@@ -1,9 +1,9 @@
 -- What a worker finds in a turn
 use Rattle.std.specs.Prelude.{◌≡◌, ◌≢◌, ℕ, ◌+◌, ◌<◌, ◌≤◌, ◌⊎◌, Bool, true, false, List, [], ◌∷◌, length, slice_index_or}
 use Rattle.crossbeam_deque.specs.Handles.{view, taken, worker_deque}
-use Rattle.steal_explorer.specs.declared.finding.Found.{Found}
-use Rattle.steal_explorer.specs.declared.finding.Found.TheVariants.{Item, Nothing, Retry}
-use Rattle.steal_explorer.specs.declared.members.Member.{Member}
+use Rattle.steal_explorer.specs.declared.find.Found.{Found}
+use Rattle.steal_explorer.specs.declared.find.Found.TheVariants.{Item, Nothing, Retry}
+use Rattle.steal_explorer.specs.declared.member.Member.{Member}
 use Rattle.steal_explorer.specs.Handing.{stole, MayBeEmpty}
 use Rattle.steal_explorer.specs.Members.{Thief, Ticket, own, tickets_of, stolen_by, taken_by}
 

@@ -1,9 +1,10 @@
--- How workers get all parts of their deques back: the last deque first, and from each worker its last ticket
+-- Inside the crate: how workers get all parts of their deques back: the last deque first, and from each worker its
+-- last ticket
 use Rattle.std.specs.Prelude.{◌≡◌, ◌≢◌, ℕ, ◌+◌, ◌<◌, ◌≤◌, List, [], map, length, sum_by, slice_index_or}
 use Rattle.crossbeam_deque.specs.Handles.{view, worker_deque, stealer_deque, worker_flavor, SameWorker}
 use Rattle.op_eval.specs.declared.explored.RunEnd.{RunEnd}
 use Rattle.op_eval.specs.declared.runner.Runner.{Runner}
-use Rattle.steal_explorer.specs.declared.members.Member.{Member}
+use Rattle.steal_explorer.specs.declared.member.Member.{Member}
 use Rattle.steal_explorer.specs.Handing.{whole, log, both, came, gone}
 use Rattle.steal_explorer.specs.Members.{Owner, Thief, Ticket, own, tickets_of, stolen_by, SitsAt}
 

@@ -9,7 +9,7 @@ use Rattle.op_eval.specs.declared.explored.RunEnd.TheVariants.{Drained}
 use Rattle.op_eval.specs.Exploring.{total}
 use Rattle.op_eval.specs.Running.{hand_view}
 use Rattle.abort_eager.specs.declared.ground.Ground.{Ground}
-use Rattle.steal_explorer.specs.declared.members.Member.{Member}
+use Rattle.steal_explorer.specs.declared.member.Member.{Member}
 use Rattle.steal_explorer.specs.Calls.{ServeCall, MakesServeCalls}
 use Rattle.steal_explorer.specs.Draining.{in_plan, IsEven}
 use Rattle.steal_explorer.specs.Members.{Thief, own, taken_by, IsWorkerOf}

@@ -1,8 +1,8 @@
--- How parts of the deques are lent: the first deque first, and to worker 1 first
+-- Inside the crate: how parts of the deques are lent: the first deque first, and to worker 1 first
 use Rattle.std.specs.Prelude.{◌≡◌, ◌≢◌, ℕ, ◌+◌, ◌<◌, ◌≤◌, List, [], ◌∷◌, ◌++◌, All, length, slice_index_or}
 use Rattle.crossbeam_deque.specs.Handles.{view, IsPassOf, worker_deque, stealer_deque, stealer_flavor, worker_view, worker_index, SameWorker}
 use Rattle.steal_explorer.specs.declared.deques.Seat.{Seat}
-use Rattle.steal_explorer.specs.declared.handing.Log.{Log}
+use Rattle.steal_explorer.specs.declared.deque_rule.Log.{Log}
 use Rattle.steal_explorer.specs.Handing.{whole, log}
 use Rattle.steal_explorer.specs.Members.{Owner, Thief, Ticket, stolen_by, SitsAt}
 

@@ -8,10 +8,10 @@ use Rattle.morph_base.specs.declared.plan.Plan.{Plan}
 use Rattle.morph_base.specs.Plans.{op_count}
 use Rattle.op_words.specs.Hands.{up_to}
 use Rattle.op_eval.specs.Running.{IsFreeRunner}
-use Rattle.steal_explorer.specs.declared.handing.Fair.{Fair}
-use Rattle.steal_explorer.specs.declared.handing.Log.{Log}
+use Rattle.steal_explorer.specs.declared.deque_rule.Fair.{Fair}
+use Rattle.steal_explorer.specs.declared.deque_rule.Log.{Log}
 use Rattle.abort_eager.specs.declared.ground.Ground.{Ground}
-use Rattle.steal_explorer.specs.declared.members.Member.{Member}
+use Rattle.steal_explorer.specs.declared.member.Member.{Member}
 use Rattle.steal_explorer.specs.Handing.{whole, log, one}
 
 -- A deque as its own worker holds it

@@ -8,7 +8,7 @@ use Rattle.op_eval.specs.declared.explored.RunEnd.TheVariants.{Spent}
 use Rattle.op_eval.specs.declared.runner.Runner.{Runner}
 use Rattle.steal_explorer.specs.declared.deques.Deques.{Deques}
 use Rattle.steal_explorer.specs.declared.deques.Seat.{Seat}
-use Rattle.steal_explorer.specs.declared.members.Member.{Member}
+use Rattle.steal_explorer.specs.declared.member.Member.{Member}
 use Rattle.steal_explorer.specs.Dealing.{level_one}
 use Rattle.steal_explorer.specs.Handing.{whole, log}
 use Rattle.steal_explorer.specs.Members.{Thief, Ticket, stolen_by, AreSeated}

@@ -17,7 +17,7 @@ use Rattle.abort_eager.specs.declared.answers.Touched.{Touched}
 use Rattle.abort_eager.specs.declared.cascade.Cascade.{Cascade}
 use Rattle.abort_eager.specs.Sweeps.{cascade_for, SweepsOne}
 use Rattle.abort_eager.specs.Targets.{targets, targets_left}
-use Rattle.steal_explorer.specs.declared.members.Member.{Member}
+use Rattle.steal_explorer.specs.declared.member.Member.{Member}
 use Rattle.steal_explorer.specs.Calls.{ServeCall, Tried, NoneSwept, AsksWhetherReady, MakesServeCalls, WalkedUnit}
 use Rattle.steal_explorer.specs.Handing.{put}
 use Rattle.steal_explorer.specs.Members.{own}

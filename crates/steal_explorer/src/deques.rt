@@ -7,10 +7,10 @@ ghost use Rattle.steal_explorer.specs.Dealing.{LieIn, AreOpened};
 ghost use Rattle.steal_explorer.specs.Handing.{whole};
 ghost use Rattle.steal_explorer.specs.Seating.{IsSeat};
 
-use crate::dealing::{deal, open_all};
-use crate::handing::{Owner, Thief, Ticket};
-use crate::lending::lend_all;
-use crate::members::Member;
+use crate::deal::{deal, open_all};
+use crate::deque_rule::{Owner, Thief, Ticket};
+use crate::lend::lend_all;
+use crate::member::Member;
 use morph_base::{List, OutOfMemory, Plan};
 use std::alloc::Global;
 

@@ -23,23 +23,23 @@
 //! `chain_units`; `worker_gate`; and `morph_base`.
 #![tactic(auto)]
 
-mod dealing;
+mod cascade;
+mod deal;
+mod deque_rule;
 mod deques;
-mod draining;
-mod exploring;
-mod finding;
-mod gathering;
-mod handing;
-mod lending;
-mod members;
-mod running;
-mod seating;
-mod serving;
-mod sweeping;
-mod walking;
-mod working;
+mod drain;
+mod explore;
+mod find;
+mod gather;
+mod job;
+mod lend;
+mod member;
+mod seats;
+mod serve;
+mod walk;
+mod worker;
 
 pub use deques::Deques;
-pub use exploring::{Handed, explore};
-pub use running::pieces;
-pub use working::EMPTY_TURNS;
+pub use explore::{Handed, explore};
+pub use job::pieces;
+pub use worker::EMPTY_TURNS;

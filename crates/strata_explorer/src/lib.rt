@@ -24,10 +24,10 @@
 #![tactic(auto)]
 
 mod course;
-mod exploring;
+mod explore;
 pub mod laws;
-mod noting;
-mod passing;
-mod walking;
+mod level_notes;
+mod pass;
+mod walk;
 
-pub use exploring::{counters, explore};
+pub use explore::{counters, explore};

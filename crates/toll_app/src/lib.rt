@@ -6,7 +6,7 @@
 //! whose operations an event has. The toll itself is a function of `morph_base`.
 #![tactic(auto)]
 
-mod generating;
+mod draws;
 mod toll;
 
 pub use toll::{BILLS, COUNTS, GREATEST_BILL, PLACES, SPEEDS, Toll};

@@ -3,7 +3,7 @@ ghost use Rattle.event_reader.specs.Forms.{said_in};
 ghost use Rattle.event_reader.specs.Reader.{GivesEvent};
 ghost use Rattle.toll_app.specs.Toll.{key, segments, table_name, reports, toll_event};
 
-use crate::generating::write_report;
+use crate::draws::write_report;
 use event_reader::{
     Cause, Draws, EventApp, Form, LineFault, MakesInput, Range, TIMES, Version, Words,
 };

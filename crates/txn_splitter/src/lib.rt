@@ -4,8 +4,8 @@
 //! and operations have numbers. `precedence_graph` makes a plan of them.
 #![tactic(auto)]
 
-mod splitting;
+mod split;
 mod txns;
 
-pub use splitting::split;
+pub use split::split;
 pub use txns::{TxnEvent, Txns};

@@ -5,7 +5,7 @@
 //! within the batch ([`State::version`]), and applies what was settled ([`State::apply`]).
 #![tactic(auto)]
 
-mod filling;
+mod fill;
 mod state;
 
 pub use state::State;

@@ -6,7 +6,7 @@ ghost use Rattle.morph_base.specs.Flat.{contents};
 ghost use Rattle.morph_base.specs.Plans.{IsPlan, high_of, HasBases, PlanKeysIn, IsSettledOf};
 ghost use Rattle.morph_base.specs.Plans.{event_count, event_at, state_at, filled_plan};
 
-use crate::filling::fill;
+use crate::fill::fill;
 use morph_base::{Key, Layout, OutOfMemory, Plan, PlanOp, Settled, Values};
 use std::alloc::Global;
 use std::marker::Model;

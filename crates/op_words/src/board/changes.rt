@@ -13,7 +13,7 @@ use super::{Board, Hand};
 use crate::answers::Counts;
 use crate::rule::{Roll, Spread};
 use crate::words::spread;
-use crate::writing::note;
+use crate::note::note;
 use interleaving_core::CoreEvent;
 use morph_base::OpWord;
 

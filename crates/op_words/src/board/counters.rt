@@ -6,7 +6,7 @@ ghost use Rattle.op_words.specs.declared.board.Hand.{Hand};
 ghost use Rattle.op_words.specs.Hands.{plan_of, cap_of, counters_of, view_of, IsHandOf};
 
 use super::{Board, Hand};
-use crate::counting::{Pass, Take};
+use crate::counter_plays::{Pass, Take};
 use crate::words::NO_LEVEL;
 
 impl Board {

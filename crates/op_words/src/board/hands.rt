@@ -7,7 +7,7 @@ ghost use Rattle.op_words.specs.Views.{IsLone};
 
 use super::{Board, Hand};
 use crate::answers::Counts;
-use crate::counting::Fit;
+use crate::counter_plays::Fit;
 use crate::journal::Journal;
 use morph_base::OutOfMemory;
 use std::alloc::Global;

@@ -16,7 +16,7 @@ use crate::answers::Counts;
 use crate::rule::{Claim, End, Give, Keep, Look, Make, Tell};
 use crate::trail::View;
 use crate::words::{claimed, pack_record, ready};
-use crate::writing::note;
+use crate::note::note;
 use atomic_table::Seat;
 use interleaving_core::CoreEvent;
 use morph_base::{OpWord, Plan, READS};

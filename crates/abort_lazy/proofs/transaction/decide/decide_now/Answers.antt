@@ -1,0 +1,25 @@
+use Rattle.std.proofs.Common.{arith, sym, subst}
+use Rattle.morph_base.specs.Plans.{IsPlan}
+use Rattle.abort_lazy.proofs.Ending.{committed, aborted, waits_source, waits_own, waits_settled, decided_then}
+use Rattle.abort_lazy.proofs.transaction.decide.decide_now.Goals as goal
+
+pub returns-in-Committed-clause-does : goal.returns-in-Committed-clause-does
+returns-in-Committed-clause-does c = committed _ _ _ c.in-Committed.ensures.does
+
+pub returns-in-Aborted-clause-does : goal.returns-in-Aborted-clause-does
+returns-in-Aborted-clause-does c = aborted _ _ _ c.in-Aborted.ensures.does
+
+pub returns-then-op-first_of-clause-does : goal.returns-then-op-first_of-clause-does
+returns-then-op-first_of-clause-does c =
+    waits_source _ _ _ (subst IsPlan (sym c.requires.plan) c.requires.hand.valid) c.requires.in_range (omega (arith, c.if-op-first_of.true, c.first_of.ensures)) c.in-NotYet.ensures.does
+
+pub returns-in-Some-clause-does : goal.returns-in-Some-clause-does
+returns-in-Some-clause-does c =
+    waits_own _ _ _ (subst IsPlan (sym c.requires.plan) c.requires.hand.valid) c.requires.in_range (omega (arith, c.if-op-first_of.false, c.first_of.ensures)) c.in-NotYet.ensures.does c.in-Some.ensures
+
+pub decide_again-requires-clause-seen : goal.decide_again-requires-clause-seen
+decide_again-requires-clause-seen c =
+    waits_settled _ _ _ (subst IsPlan (sym c.requires.plan) c.requires.hand.valid) c.requires.in_range (omega (arith, c.if-op-first_of.false, c.first_of.ensures)) c.in-NotYet.ensures.does c.in-None.ensures
+
+pub returns-in-None-clause-does : goal.returns-in-None-clause-does
+returns-in-None-clause-does c = let decide = c.in-NotYet.ensures.does in decided_then _ _ decide.goes decide.none c.decide_again.ensures.does

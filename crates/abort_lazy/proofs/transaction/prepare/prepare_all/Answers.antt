@@ -1,0 +1,50 @@
+use Rattle.std.proofs.Common.{arith, sym, subst, refl}
+use Rattle.morph_base.specs.Plans.{IsPlan, InEvent}
+use Rattle.abort_lazy.proofs.Answering.{answered_none, answered_then, answered_most}
+use Rattle.abort_lazy.proofs.Ending.{in_range, ready_none, ready_up, ready_stops, ready_end}
+use Rattle.abort_lazy.proofs.transaction.prepare.prepare_all.Goals as goal
+
+pub loop-op-init : goal.loop-op-init
+loop-op-init c = (c.requires.hand, ready_none _ _ _ _ c.requires.free c.requires.hand.told.agree, answered_none _ _ _ refl refl)
+
+pub prepare-requires-clause-hand : goal.prepare-requires-clause-hand
+prepare-requires-clause-hand c = c.loop-op.invariant.0
+
+pub prepare-requires-clause-in_range : goal.prepare-requires-clause-in_range
+prepare-requires-clause-in_range c =
+    let inside : InEvent c.args.plan.now c.args.event c.loop-op.op = record { from = omega (arith, c.first_of-first.ensures, c.loop-op.auto.op); below = omega (arith, c.end_of-end.ensures) } in
+    in_range _ _ _ (subst IsPlan (sym c.requires.plan) c.requires.hand.valid) c.requires.in_range inside
+
+pub prepare-requires-clause-inside : goal.prepare-requires-clause-inside
+prepare-requires-clause-inside c =
+    let inside : InEvent c.args.plan.now c.args.event c.loop-op.op = record { from = omega (arith, c.first_of-first.ensures, c.loop-op.auto.op); below = omega (arith, c.end_of-end.ensures) } in inside
+
+pub prepare-requires-clause-free : goal.prepare-requires-clause-free
+prepare-requires-clause-free c = c.loop-op.invariant.1.goes.free
+
+pub returns-in-Some-clause-does : goal.returns-in-Some-clause-does
+returns-in-Some-clause-does c =
+    let inside : InEvent c.args.plan.now c.args.event c.loop-op.op = record { from = omega (arith, c.first_of-first.ensures, c.loop-op.auto.op); below = omega (arith, c.end_of-end.ensures) } in
+    ready_stops _ _ _ _ inside c.loop-op.invariant.1 c.in-Some.ensures.does
+
+pub returns-in-Some-clause-answered : goal.returns-in-Some-clause-answered
+returns-in-Some-clause-answered c =
+    answered_most _ _ _ (omega (arith, c.first_of-first.ensures, c.loop-op.auto.op, c.end_of-end.ensures)) (answered_then _ _ _ c.loop-op.invariant.2 c.in-Some.ensures.answered)
+
+pub loop-op-preserved : goal.loop-op-preserved
+loop-op-preserved c =
+    let inside : InEvent c.args.plan.now c.args.event c.loop-op.op = record { from = omega (arith, c.first_of-first.ensures, c.loop-op.auto.op); below = omega (arith, c.end_of-end.ensures) } in (
+      c.in-None.ensures.hand,
+      ready_up _ _ _ _ inside c.loop-op.invariant.1 c.in-None.ensures.does,
+      answered_most _ _ _ (omega (arith, c.loop-op.auto.op)) (answered_then _ _ _ c.loop-op.invariant.2 c.in-None.ensures.answered),
+    )
+
+pub returns-clause-does : goal.returns-clause-does
+returns-clause-does c =
+    let high = c.loop-op-test.false in let most = c.loop-op.auto.op-end (omega (arith, c.first_of-first.ensures, c.end_of-end.ensures)) in
+    ready_end _ _ _ _ c.first_of-first.ensures (omega (arith, high, most, c.end_of-end.ensures)) c.loop-op.invariant.1
+
+pub returns-clause-answered : goal.returns-clause-answered
+returns-clause-answered c =
+    let most = c.loop-op.auto.op-end (omega (arith, c.first_of-first.ensures, c.end_of-end.ensures)) in
+    answered_most _ _ _ (omega (arith, most, c.first_of-first.ensures, c.end_of-end.ensures)) c.loop-op.invariant.2

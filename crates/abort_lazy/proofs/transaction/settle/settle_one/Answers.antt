@@ -1,0 +1,28 @@
+use Rattle.std.proofs.Common.{sym, subst}
+use Rattle.std.specs.Prelude.{Bool}
+use Rattle.morph_base.specs.Plans.{IsPlan}
+use Rattle.op_words.specs.Hands.{view_of}
+use Rattle.op_words.specs.Views.{IsDecisionSeen}
+use Rattle.abort_lazy.proofs.Ending.{one_done, one_source, one_own, in_range, of_event}
+use Rattle.abort_lazy.proofs.transaction.settle.settle_one.Goals as goal
+
+pub settle-requires-clause-in_range : goal.settle-requires-clause-in_range
+settle-requires-clause-in_range c = in_range _ _ _ (subst IsPlan (sym c.requires.plan) c.requires.hand.valid) c.requires.in_event c.requires.inside
+
+pub settle-requires-clause-decided : goal.settle-requires-clause-decided
+settle-requires-clause-decided c =
+    subst (λ i. (b : Bool) × IsDecisionSeen (view_of c.args.hand.now) i b) (sym (of_event _ _ _ (subst IsPlan (sym c.requires.plan) c.requires.hand.valid) c.requires.in_event c.requires.inside)) c.requires.decided
+
+pub returns-in-Done-clause-does : goal.returns-in-Done-clause-does
+returns-in-Done-clause-does c =
+    let valid = (subst IsPlan (sym c.requires.plan) c.requires.hand.valid) in one_done _ _ _ _ valid (in_range _ _ _ valid c.requires.in_event c.requires.inside) c.requires.inside c.in-Done.ensures.does
+
+pub returns-then-at-op-clause-does : goal.returns-then-at-op-clause-does
+returns-then-at-op-clause-does c =
+    let valid = (subst IsPlan (sym c.requires.plan) c.requires.hand.valid) in
+    one_own _ _ _ _ valid (in_range _ _ _ valid c.requires.in_event c.requires.inside) c.requires.inside c.if-at-op.true c.in-Not.ensures.does c.stop.ensures
+
+pub returns-else-at-op-clause-does : goal.returns-else-at-op-clause-does
+returns-else-at-op-clause-does c =
+    let valid = (subst IsPlan (sym c.requires.plan) c.requires.hand.valid) in
+    one_source _ _ _ _ valid (in_range _ _ _ valid c.requires.in_event c.requires.inside) c.requires.inside c.if-at-op.false c.in-Not.ensures.does

@@ -1,0 +1,103 @@
+//! Decides events by the verdicts on their operations.
+ghost use Rattle.std.specs.Prelude.{◌≡◌, ◌+◌, ◌<◌, None};
+ghost use Rattle.morph_base.specs.Plans.{op_count, event_count, event_at};
+ghost use Rattle.op_words.specs.Judging.{DecideDoes};
+ghost use Rattle.op_words.specs.Comparing.{IsWeighed, HasFoundGrounds, MaySayOf, IsConcluded};
+ghost use Rattle.op_words.specs.Hands.{plan_of, cap_of, view_of, IsHandOf};
+
+use super::{Board, Hand};
+use crate::answers::{Decided, Verdict};
+use crate::rule::Decide;
+use crate::words::{decision_of, pack_decision};
+use crate::note::note;
+use interleaving_core::CoreEvent;
+use morph_base::Plan;
+
+impl Board {
+    /// Returns the decision on an event, and makes one if there is none. The event aborts if an operation is bad, and
+    /// commits if all are good.
+    ///
+    /// The call loads the decision and then judges the operations in order, up to the first bad one. The exchange comes
+    /// last.
+    pub fn decide(&self, hand: &mut Hand, plan: &Plan, event: u32) -> Decided
+        requires hand { IsHandOf self.now hand.old }
+        requires plan { plan.now ≡ plan_of self.now }
+        requires in_range { event < event_count plan.now }
+        requires free { (view_of hand.old).claim ≡ None }
+        ensures hand { IsHandOf self.now hand.new }
+        ensures does { DecideDoes plan.now (cap_of self.now) event (view_of hand.old)
+            (view_of hand.new) result }
+    {
+        if let Some(committed) = self.learn(hand, plan, event) {
+            return Decided::of(committed);
+        }
+        let committed = match self.grounds(hand, plan, event) {
+            Decided::Committed => true,
+            Decided::Aborted => false,
+            Decided::NotYet { op, word } => return Decided::NotYet { op, word },
+        };
+        Decided::of(self.conclude(hand, plan, event, committed))
+    }
+
+    /// What the verdicts on its operations say of an event.
+    fn grounds(&self, hand: &mut Hand, plan: &Plan, event: u32) -> Decided
+        requires hand { IsHandOf self.now hand.old }
+        requires plan { plan.now ≡ plan_of self.now }
+        requires in_range { event < event_count plan.now }
+        requires free { (view_of hand.old).claim ≡ None }
+        ensures { HasFoundGrounds self.now plan.now (cap_of self.now) event
+            (event_at plan.now event).first
+            ((event_at plan.now event).first + (event_at plan.now event).count) hand.old hand.new result }
+    {
+        let entry = plan.events.get(event as usize);
+        let (first, end) = (entry.first, entry.first + entry.count);
+        let mut grounds = Decided::Committed;
+        for op in first..end {
+            let next = self.weigh(hand, plan, op);
+            if let Decided::Aborted = next {
+                return next;
+            }
+            grounds = grounds.and(next);
+        }
+        grounds
+    }
+
+    /// What the verdict on one operation says of the event.
+    fn weigh(&self, hand: &mut Hand, plan: &Plan, op: u32) -> Decided
+        requires hand { IsHandOf self.now hand.old }
+        requires plan { plan.now ≡ plan_of self.now }
+        requires in_range { op < op_count plan.now }
+        requires free { (view_of hand.old).claim ≡ None }
+        ensures { IsWeighed self.now plan.now (cap_of self.now) op hand.old hand.new result }
+    {
+        let (word, verdict) = self.judge(hand, plan, op);
+        match verdict {
+            Verdict::Good(_) => Decided::Committed,
+            Verdict::Bad => Decided::Aborted,
+            Verdict::Stale { .. } => Decided::NotYet { op, word },
+            Verdict::Unready { at, word } => Decided::NotYet { op: at, word },
+        }
+    }
+
+    /// Exchanges no decision for this one, and returns the decision that stands.
+    fn conclude(&self, hand: &mut Hand, plan: &Plan, event: u32, committed: bool) -> bool
+        requires hand { IsHandOf self.now hand.old }
+        requires plan { plan.now ≡ plan_of self.now }
+        requires in_range { event < event_count plan.now }
+        requires grounds { MaySayOf plan.now (view_of hand.old) event committed }
+        requires free { (view_of hand.old).claim ≡ None }
+        ensures { IsConcluded self.now plan.now event hand.old hand.new result }
+    {
+        let place = self.level - plan.events.len() + event as usize;
+        let new = pack_decision(committed);
+        let found = self
+            .table
+            .shared
+            .compare_exchange::<Decide>(&mut hand.seat, place, 0, new);
+        if found == 0 {
+            note(&mut hand.journal, CoreEvent::Decide { event, committed });
+            return committed;
+        }
+        decision_of(found).unwrap_or(committed)
+    }
+}

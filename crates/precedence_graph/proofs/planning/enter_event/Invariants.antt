@@ -1,9 +1,0 @@
-use Rattle.precedence_graph.specs.Planned.{HasWriters, HasLevels, HasEventLevels}
-use Rattle.precedence_graph.proofs.planning.enter_event.Given as goal
-
-abbrev pub invariant-loop-o : goal.invariant-loop-o
-invariant-loop-o l = record {
-  writers : HasWriters l.txns l.o l.writers;
-  levels : HasLevels l.ops l.o l.writers;
-  event_levels : HasEventLevels l.ops l.events l.o l.writers;
-}

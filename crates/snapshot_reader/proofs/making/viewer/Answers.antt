@@ -1,5 +1,0 @@
-use Rattle.snapshot_reader.proofs.Steps.{admits}
-use Rattle.snapshot_reader.proofs.making.viewer.Goals as goal
-
-pub reader-requires : goal.reader-requires
-reader-requires c = admits

@@ -1,0 +1,47 @@
+use Rattle.std.proofs.Common.{sym, subst}
+use Rattle.op_words.specs.Hands.{cap_of}
+use Rattle.abort_eager.proofs.Sweeping.{cause_shown}
+use Rattle.steal_explorer.specs.Alone.{IsHandingAlone, HasRunOp, ServesAlone}
+use Rattle.steal_explorer.specs.Serving.{readers}
+use Rattle.steal_explorer.proofs.Cascading.{none_under_lazy}
+use Rattle.steal_explorer.proofs.Going.{goes_none, visited, serves_first, asked_where, none_asked}
+use Rattle.steal_explorer.proofs.Queueing.{tried_and_evaluated, tried_in_vain, goes_ran}
+use Rattle.steal_explorer.proofs.serve.ServingWalkingMember.visit.Goals as goal
+
+pub sweep-requires-clause-deque : goal.sweep-requires-clause-deque
+sweep-requires-clause-deque g c = let old = c.requires.can.1 in record { fifo = old.fifo; part = old.part; below = old.below; handed = old.handed }
+
+pub sweep-requires-clause-cause : goal.sweep-requires-clause-cause
+sweep-requires-clause-cause g c = cause_shown _ _ _ c.args.ground.now.abort _ _ c.attempt-answer.result c.attempt-answer.ensures.does.does
+
+pub returns-in-Evaluated-clause-does : goal.returns-in-Evaluated-clause-does
+returns-in-Evaluated-clause-does g c =
+    let p = c.args.ground.now.plan.now in
+    let asks = asked_where p (cap_of c.args.ground.now.board.now) c.args.ground.now.abort c.args.op _ _ c.attempt-answer.result c.sweep.new.member c.ask_all.new.member c.in-Evaluated.is c.ask_all.ensures.asks in (
+      serves_first _ _ _ c.args.op c.args.worker.now c.attempt-answer.new.runner _ c.attempt-answer.ensures.does c.sweep.new.member _ c.sweep.ensures.touches c.sweep.ensures.goes c.ask_all.ensures.goes asks,
+      visited _ _ _ c.args.op c.args.worker.now c.attempt-answer.new.runner _ c.attempt-answer.ensures.does c.sweep.new.member _ c.sweep.ensures.touches c.sweep.ensures.goes c.ask_all.ensures.goes asks,
+      λ lazy some is.
+          let still = none_under_lazy p (cap_of c.args.ground.now.board.now) c.args.ground.now.abort c.args.op c.attempt-answer.result _ c.sweep.new.member lazy c.sweep.ensures.touches in
+          let made = tried_and_evaluated p c.requires.ground.valid _ c.args.worker.now some c.args.op c.attempt-answer.new.runner is _ _ c.in-Evaluated.ensures.does in
+          let handing = subst (IsHandingAlone p (readers p c.args.op)) (sym still) made.0 in
+          record {
+            handing = c.ask_all.ensures.alone handing;
+            ran = λ _. goes_ran p c.requires.ground.valid _ c.sweep.new.member _ lazy c.ask_all.new.member c.ask_all.ensures.goes handing.lone c.args.op (subst (HasRunOp c.args.op) (sym still) made.1);
+          },
+    )
+
+pub returns-in_default : goal.returns-in_default
+returns-in_default g c =
+    let p = c.args.ground.now.plan.now in
+    let asks = none_asked p (cap_of c.args.ground.now.board.now) c.args.ground.now.abort c.args.op c.attempt-answer.result c.sweep.new.member c.in_default.not-Evaluated in
+    record {
+      can = (c.sweep.ensures.idle, c.sweep.ensures.deque);
+      does = (
+        serves_first _ _ _ c.args.op c.args.worker.now c.attempt-answer.new.runner _ c.attempt-answer.ensures.does c.sweep.new.member _ c.sweep.ensures.touches c.sweep.ensures.goes (goes_none _ _ _ _) asks,
+        visited _ _ _ c.args.op c.args.worker.now c.attempt-answer.new.runner _ c.attempt-answer.ensures.does c.sweep.new.member _ c.sweep.ensures.touches c.sweep.ensures.goes (goes_none _ _ _ _) asks,
+        λ lazy some is.
+            let still = none_under_lazy p (cap_of c.args.ground.now.board.now) c.args.ground.now.abort c.args.op c.attempt-answer.result _ c.sweep.new.member lazy c.sweep.ensures.touches in
+            subst (ServesAlone p c.args.op c.args.worker.now) (sym still)
+            (tried_in_vain _ c.requires.ground.valid _ c.args.worker.now some c.args.op c.attempt-answer.new.runner is _ c.attempt-answer.ensures.does c.in_default.not-Evaluated),
+      );
+    }

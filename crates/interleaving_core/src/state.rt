@@ -13,6 +13,7 @@ use morph_base::{List, OpWord, OutOfMemory, Plan, READS, WORKERS};
 use published::Published;
 use std::alloc::Global;
 
+mod answers;
 mod effects;
 mod guards;
 mod published;

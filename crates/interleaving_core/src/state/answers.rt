@@ -1,11 +1,9 @@
 //! Whether an operation answers, or fails, on settled sources, and whether its records agree with them.
 ghost use Rattle.std.specs.Prelude.{◌≡◌, ◌+◌, ◌*◌, ◌<◌, ◌↔◌, Some, None, IsTrue};
-ghost use Rattle.morph_base.specs.declared.limits.TheConstants.{READS, WORKERS};
-ghost use Rattle.morph_base.specs.declared.word.OpState.{OpState};
+ghost use Rattle.morph_base.specs.declared.limits.TheConstants.{READS};
 ghost use Rattle.morph_base.specs.Plans.{IsPlan, op_count, event_count};
 ghost use Rattle.morph_base.specs.Clean.{source, outcome};
 ghost use Rattle.morph_base.specs.Known.{AreKnown};
-ghost use Rattle.interleaving_core.specs.declared.claim.Claim.{Claim};
 ghost use Rattle.interleaving_core.specs.Core.{IsSettledIn, value_in, places};
 ghost use Rattle.interleaving_core.specs.Steps.{AnswersOnSettled, FailsOnSettled, AllAnswer, OneFails, RecordAgrees, RecordsAgree, IsRecordedOtherwise};
 ghost use Rattle.interleaving_core.specs.Stored.{core_of, IsStateOf};

@@ -8,6 +8,16 @@
 //!
 //! The batches, their order, their plans but for the bases, and their results do not depend on how far the planner got
 //! while another batch was run. [`laws`] says what whole runs do, round after round.
+//!
+//! # The files
+//!
+//! | File | What it has |
+//! |---|---|
+//! | `pipe`, `tail` | `Pipe`; `Tail` |
+//! | `items` | `Sent`, `Ran`, and `Picker`, which picks strategies |
+//! | `planner`, `runner` | the side that reads and plans; the side that runs |
+//! | `halves` | both sides of a round, side by side or one after the other |
+//! | `laws` | what the rounds of a whole run do together |
 #![tactic(auto)]
 
 mod halves;

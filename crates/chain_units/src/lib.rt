@@ -10,6 +10,15 @@
 //! ```
 //!
 //! The crate uses `morph_base`, whose plans it cuts.
+//!
+//! # The files
+//!
+//! | File | What it has |
+//! |---|---|
+//! | `by_unit`, `units` | `units`; `Units` |
+//! | `cut`, `alone`, `chained` | which form units have: each operation alone, or units of any length |
+//! | `chains`, `places` | the chain of each key; the unit of each operation, and its place there |
+//! | `laws` | that each operation is in one unit, and which keys have chains |
 #![tactic(auto)]
 
 mod alone;

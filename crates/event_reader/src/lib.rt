@@ -24,6 +24,25 @@
 //! The definitions stand in `specs/`: `Accepted` has the batches of an input, `Steps` what a line does. The crate uses
 //! `morph_io`, whose sources give the bytes, `morph_base`, whose events and batches are made, and the kit's `memchr`
 //! and `thiserror`.
+//!
+//! # The files
+//!
+//! Read `app` and `batches` first: what an application gives, and what a reader makes of it.
+//!
+//! | File | What it has |
+//! |---|---|
+//! | `app`, `version` | `EventApp`; `Version`, with its greatest value and its most events |
+//! | `batches` | `BatchReader` |
+//! | `answers`, `cause`, `fault` | `LineNext` and `Next`; `Cause` and `LineFault`; `ReaderFault` |
+//! | `pending`, `times`, `past` | the unfinished batch; its timestamps; what was read before it |
+//! | `lines`, `decision` | `Lines`; what the bytes that it keeps decide of the next line |
+//! | `words`, `number` | `Words`, a line cut at its spaces; `Number` and `read_number` |
+//! | `form`, `ranges` | `Form`, a letter and the places of its numbers; `Range`, which numbers a place may have |
+//! | `numbers` | `Words::read`, which reads a line of a form, and its `Numbers` |
+//! | `keys` | `key_of`, `keys_of`, `has_key`, `are_distinct`: the keys of ids |
+//! | `makes_input`, `gen_source` | `MakesInput`; `GenSource`, a source of the text that is made |
+//! | `draws`, `plain` | `Draws`, the random numbers; `write_line` |
+//! | `limits`, `laws` | the constants, such as `LONGEST_LINE`; what follows from the definitions |
 #![tactic(auto)]
 
 mod answers;

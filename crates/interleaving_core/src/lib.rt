@@ -4,6 +4,18 @@
 //! [`CoreState`] runs the machine on plain data, and [`laws`] says what holds after every list of steps. A layer that
 //! shares the words between threads shows that each of its atomic steps is a step of this machine. The crate uses
 //! `morph_base` alone.
+//!
+//! # The files
+//!
+//! | File | What it has |
+//! |---|---|
+//! | `event` | `CoreEvent`, a step of the machine; `Step`, whether it was made |
+//! | `entry`, `claim` | `Record`, `Held`, `Entry` and `Settling`; what a worker holds, as `CoreState` keeps it |
+//! | `state` | `CoreState`: `new`, `step`, `word`, `decision` |
+//! | `state/guards`, `state/reads` | whether a step may be made; what guards need to know of a state and its plan |
+//! | `state/steps`, `state/effects` | how a step is made; the single changes that it consists of |
+//! | `state/published` | the values that were shown, linked by operation |
+//! | `laws` | what holds after each step, and after every list of steps |
 #![tactic(auto)]
 
 mod claim;

@@ -22,6 +22,21 @@
 //!
 //! [`Op`], [`Event`] and [`Batch`] say when they are valid. Calls ask for valid ones, with their keys in the layout of
 //! the values. This crate uses std alone.
+//!
+//! # The files
+//!
+//! | File | What it has |
+//! |---|---|
+//! | `key`, `limits` | `Key` and `Layout`; the greatest numbers, such as `MAX` |
+//! | `operation`, `evaluation` | `Func` and `Op`; `eval` and `evaluate` |
+//! | `event`, `validity` | `Event` and `Batch`; whether a batch that was put together by hand is valid |
+//! | `values` | `Values`: a value for each key |
+//! | `plain`, `outcome` | `fold`, the events one at a time; the `Outcome` of an event |
+//! | `plan`, `rows` | `Plan`, `PlanEvent`, `PlanOp`, `Origin`, `Edges` and `Settled`; `Rows` of numbers in one list |
+//! | `word` | `OpState`, `OpWord`, and a word as one number |
+//! | `strategy` | `Strategy`: `Unit`, `Explore` and `Abort` |
+//! | `list`, `memory` | `List`, whose contracts see its spare room; `OutOfMemory` |
+//! | `laws` | what follows from the definitions, in a file for each subject |
 #![tactic(auto)]
 
 mod evaluation;

@@ -7,6 +7,23 @@
 //! which cuts the input into batches, `decision_model`, which chooses the strategy of a batch if that is asked for,
 //! `morph_engine`, which runs them, `batch_pipe`, which reads and plans ahead, `snapshot_reader` and `run_checker`, by
 //! which a run is watched and checked, and `morph_io`, which reads and writes.
+//!
+//! # The files
+//!
+//! Read `top_call` first, which has the contract of the whole call, and then `run`.
+//!
+//! | File | What it has |
+//! |---|---|
+//! | `top_call`, `application` | `morph`; `run_application` |
+//! | `arguments` | `program` and `words_of` |
+//! | `ended`, `note` | `Ended`, the statuses and the last lines of the notes; how such a line is written |
+//! | `job`, `fault` | what a run is to do, and with what; what cuts it off |
+//! | `run`, `progress` | a run, batch by batch; how far it has got |
+//! | `one_batch`, `batch` | a batch run, written and published; its plan made and run |
+//! | `strategies`, `tell` | the strategy of a batch, and how it is counted; what is written of it, and at the end |
+//! | `watch`, `checked` | balances that are watched; journals that are checked |
+//! | `ahead` | runs that read and plan batches ahead |
+//! | `laws` | which lines the notes have if nothing is watched or checked |
 #![tactic(auto)]
 
 mod ahead;

@@ -20,6 +20,19 @@
 //! ```
 //!
 //! It uses only `List` and `OutOfMemory` of `morph_base`.
+//!
+//! # The files
+//!
+//! | File | What it has |
+//! |---|---|
+//! | `source`, `sink` | `Source` and `ReadFailed`; `Sink` and `WriteFailed` |
+//! | `line_buf`, `output` | `LineBuf`, a line that is being written; `Out` and `write_all` |
+//! | `mem_source`, `mem_sink` | `MemSource` and `MemSink`, which hold their bytes and fail at chosen calls |
+//! | `repeat_source` | `RepeatSource`, one line again and again |
+//! | `std_source`, `std_sink` | `StdSource` and `StdSink` |
+//! | `retries` | `MAX_RETRIES`, and whether an interrupted call is tried again |
+//! | `copy`, `calls` | copies into buffers; counts of calls, and whether a call is a chosen one |
+//! | `laws` | that the constants are those of the definitions |
 #![tactic(auto)]
 
 mod calls;

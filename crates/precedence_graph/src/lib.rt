@@ -3,6 +3,17 @@
 //! It uses the vocabulary of `morph_base` and the numbered transactions of `txn_splitter`. A caller gives the
 //! [`Txns`](txn_splitter::Txns) of a batch to [`build`] and gets a valid plan whose bases are 0, for a state to fill
 //! in.
+//!
+//! # The files
+//!
+//! | File | What it has |
+//! |---|---|
+//! | `build` | `build`, which makes the parts of a plan in turn |
+//! | `planned`, `transactions` | operations and events with their sources and levels; an event of the split batch |
+//! | `writers`, `sources` | the last operation that changes each key; what an operation reads from |
+//! | `edges` | how many dependencies there are |
+//! | `dependents`, `links` | which operations read from each one; items put in groups |
+//! | `level_lists` | the operations and the events of each level |
 #![tactic(auto)]
 
 mod build;

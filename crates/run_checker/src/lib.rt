@@ -21,6 +21,17 @@
 //!
 //! It uses `interleaving_core`, which has the machine, `morph_base` with its plans, `event_reader`, which cuts lines
 //! into words, `morph_io`, whose buffer a line is put into, and the kit's `memchr` and `thiserror`.
+//!
+//! # The files
+//!
+//! | File | What it has |
+//! |---|---|
+//! | `check`, `checked` | `check`; `Checked`, its answer |
+//! | `replay` | the journal's steps on the machine, and the first operation that is unsettled or differs |
+//! | `read`, `fault` | `read_journal`; `JournalFault` |
+//! | `words` | what the words of a line say |
+//! | `write` | `write_event` |
+//! | `laws` | that one answer is right and what follows from it; that journals are what their texts say |
 #![tactic(auto)]
 
 mod check;

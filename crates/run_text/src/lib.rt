@@ -5,6 +5,20 @@
 //! what they left, `version_table` for their values, `run_checker` for the lines of journals and `morph_io` for what is
 //! written. [`settings()`] reads the words, and [`own_settings`] those of a program of one application. The writing
 //! functions take a sink that bytes go to, and their contracts say which bytes these are.
+//!
+//! # The files
+//!
+//! Read `choices` first: what a run can be asked for.
+//!
+//! | File | What it has |
+//! |---|---|
+//! | `choices`, `report` | `Settings`, `App`, `Planning`, `Check`, `Generated`; `Report` |
+//! | `words`, `names` | `settings` and `own_settings`; the names that words may have |
+//! | `output` | `write_events`, `write_closing`, `write_refused` |
+//! | `text`, `totals` | `event_line`, the line of an event; the lines of the sums of tables |
+//! | `tally` | `Tally` |
+//! | `notes`, `checks` | `note_batch`, `note_audit`, `note_tally`; `note_check` and `is_cut`, for journals |
+//! | `laws` | that settings are what the words say |
 #![tactic(auto)]
 
 mod checks;

@@ -18,6 +18,17 @@
 //! so that a look never waits, and publishing waits only for a viewer that is reading. `specs/Keeping` has the rule
 //! over both copies: they are the state after some list of batches, which begins with what each viewer has seen and was
 //! told of. The crate uses `morph_base`, and `version_table`, whose sum of a table it cites.
+//!
+//! # The files
+//!
+//! | File | What it has |
+//! |---|---|
+//! | `snapshots` | `snapshots` and `MOST_VIEWERS` |
+//! | `publisher`, `show` | `Publisher`; how a change is added and made visible |
+//! | `viewer`, `sum` | `Viewer`, `At`, `Total` and `Look`; the sum of a table |
+//! | `balances` | the values, of which there are two copies |
+//! | `change`, `writes` | what a batch writes, and at which places |
+//! | `rule`, `view` | the rule over both copies; what a thread has seen and was told of |
 #![tactic(auto)]
 
 mod balances;

@@ -21,6 +21,20 @@
 //!
 //! It uses `crossbeam_deque`; `abort_eager` for the cascades; `op_eval` and `op_words`, the board and its runners;
 //! `chain_units`; `worker_gate`; and `morph_base`.
+//!
+//! # The files
+//!
+//! | File | What it has |
+//! |---|---|
+//! | `deques`, `deque_rule` | `Deques`; what workers know of a deque: its rule, and what each call on it does |
+//! | `deal`, `drain` | deques are made and the operations of level 1 dealt; deques are emptied in the end |
+//! | `lend`, `gather` | tickets, by which others steal from a deque: lent, and given back |
+//! | `find` | an item is popped or stolen |
+//! | `serve`, `walk` | an item's unit is walked, and dependents are asked and pushed; the same without a push |
+//! | `cascade` | what follows an evaluation under eager abort |
+//! | `member`, `seats` | what a worker has; runners are put beside their deques, and taken back |
+//! | `job`, `worker` | all workers side by side, and `pieces`; the turns of one, and `EMPTY_TURNS` |
+//! | `explore` | `explore` and `Handed` |
 #![tactic(auto)]
 
 mod cascade;

@@ -3,6 +3,17 @@
 //!
 //! They are in one crate, so that none of the others is proved again with its tests, and so that all of them share what
 //! reads the batches of a source, and what says how an application takes a line.
+//!
+//! # The files
+//!
+//! | File | What it has |
+//! |---|---|
+//! | `counter`, `readings` | an application for these tests; all batches that a source gives |
+//! | `app_lines` | how an application takes a line, and which lines it writes |
+//! | `copies`, `adapters` | `morph_io`: sources, sinks and buffers in memory; those over std |
+//! | `lines`, `batches` | `event_reader`: numbers, words, lines, faults and draws; batches and limits |
+//! | `ledger`, `grep`, `toll` | the applications; `ledger` also reads whole texts to their end |
+//! | `journals` | `run_checker`: lines of journals, and the first wrong one |
 #![tactic(auto)]
 
 #[cfg(test)]

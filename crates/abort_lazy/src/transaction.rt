@@ -14,8 +14,8 @@ mod prepare;
 mod settle;
 
 use decide::decide_now;
-use settle::settle_rest;
 use prepare::prepare_all;
+use settle::settle_rest;
 
 /// The outcome when a runner tries to settle a transaction.
 #[derive(Clone, Copy, Debug, PartialEq, Eq)]

@@ -10,5 +10,5 @@ mod counts;
 mod profile;
 
 pub use choice::choose;
-pub use profile::profile;
 pub use counts::{Last, Profile};
+pub use profile::profile;

@@ -1,4 +1,4 @@
--- One changed number, one more entry, and the states of a word.
+-- One changed number, and one more entry.
 use Rattle.std.proofs.Common.{◌≡◌, ◌≢◌, ℕ, suc, ◌+◌, ◌≤◌, Bool, true, false, cond, ◌&&◌, eqb, List, [], ◌∷◌, ◌++◌, length, get_or, refl, ap, ◌∙◌, inl, inr, ◌⊎◌, arith, zero-lt-suc, suc-le-suc}
 use Rattle.std.specs.Prelude.{Contains, count_by, ◌==◌}
 use Rattle.std.proofs.lemmas.Bool.{eq-eqb, ne_eqb, eqb-true, cases_eq, cases_Bool, cond-true, cond-false, and_from, and_left, and_right, and_parts}

@@ -1,4 +1,4 @@
--- The steps on an operation: it is made ready, claimed, finished or given back.
+-- The steps on an operation before it is evaluated: it is made ready, claimed or given back.
 use Rattle.std.proofs.Common.{◌≡◌, ◌≢◌, ℕ, ◌+◌, ◌<◌, [], length, set, refl, sym, ap, ◌∙◌, subst, inl, arith, Some, None}
 use Rattle.std.specs.Prelude.{slice_index, ◌==◌}
 use Rattle.std.proofs.lemmas.Option.{same_Some}

@@ -1,4 +1,4 @@
--- What `ready` and `claim` tell, from what their steps told.
+-- What `ready`, `claim` and `give_back` say, from what their steps said.
 use Rattle.std.proofs.Common.{◌≡◌, ◌≢◌, ℕ, suc, true, false, List, [], ◌∷◌, ◌++◌, refl, sym, ap, ◌∙◌, subst, inl, inr, arith, suc-le-suc, None}
 use Rattle.std.specs.Prelude.{Contains}
 use Rattle.std.proofs.lemmas.Bool.{false≢true}

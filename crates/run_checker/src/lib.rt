@@ -43,8 +43,8 @@ mod replay;
 mod words;
 mod write;
 
-pub use checked::Checked;
 pub use check::check;
+pub use checked::Checked;
 pub use fault::JournalFault;
 pub use read::read_journal;
 pub use write::write_event;

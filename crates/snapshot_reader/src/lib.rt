@@ -10,7 +10,7 @@
 //! let (mut publisher, mut viewers) = snapshots(alloc, layout, 1)?;
 //! publisher.publish(rt, alloc, &plan, &settled)?;
 //! publisher.tell(&mut viewers[0]);
-//! viewers[0].total(0) // Some(Total { number: 1, .. }), or None where left_right hands out no guard
+//! viewers[0].total(0) // Some(Total { number: 1, .. }), or None if left_right gives no guard
 //! publisher.end(rt);
 //! ```
 //!
@@ -42,6 +42,6 @@ mod view;
 mod viewer;
 mod writes;
 
-pub use snapshots::{MOST_VIEWERS, snapshots};
 pub use publisher::Publisher;
+pub use snapshots::{MOST_VIEWERS, snapshots};
 pub use viewer::{At, Look, Total, Viewer};

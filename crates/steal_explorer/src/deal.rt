@@ -5,8 +5,8 @@ ghost use Rattle.morph_base.specs.Graphs.{IsGraph};
 ghost use Rattle.morph_base.specs.Plans.{op_count};
 ghost use Rattle.steal_explorer.specs.Dealing.{IsOpenedSeat, AreOpened, CanTake, HasGot, HaveGot, level_one};
 
-use crate::deques::Seat;
 use crate::deque_rule::{Owner, Puts, Thief};
+use crate::deques::Seat;
 use morph_base::{List, OutOfMemory, Plan};
 use std::alloc::Global;
 

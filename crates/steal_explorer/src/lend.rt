@@ -3,8 +3,8 @@ ghost use Rattle.std.specs.Prelude.{◌≡◌, ◌+◌, ◌<◌, length};
 ghost use Rattle.crossbeam_deque.specs.Handles.{worker_view};
 ghost use Rattle.steal_explorer.specs.Lending.{LendsPart, Gets, AreLent, AreLending, KeepsSeats};
 
-use crate::deques::Seat;
 use crate::deque_rule::{Lends, Thief, Ticket};
+use crate::deques::Seat;
 
 /// Lends one part of a deque.
 fn give(seat: &mut Seat) -> Ticket

@@ -11,9 +11,9 @@ ghost use Rattle.op_words.specs.Hands.{plan_of, cap_of, view_of, IsHandOf};
 
 use super::{Board, Hand};
 use crate::answers::Counts;
+use crate::note::note;
 use crate::rule::{Roll, Spread};
 use crate::words::spread;
-use crate::note::note;
 use interleaving_core::CoreEvent;
 use morph_base::OpWord;
 

@@ -7,9 +7,9 @@ ghost use Rattle.op_words.specs.Hands.{plan_of, cap_of, view_of, IsHandOf};
 
 use super::{Board, Hand};
 use crate::answers::{Decided, Verdict};
+use crate::note::note;
 use crate::rule::Decide;
 use crate::words::{decision_of, pack_decision};
-use crate::note::note;
 use interleaving_core::CoreEvent;
 use morph_base::Plan;
 

@@ -11,9 +11,9 @@ ghost use Rattle.op_words.specs.Hands.{plan_of, cap_of, view_of, IsHandOf};
 
 use super::{Board, Hand};
 use crate::answers::{Compared, SettleAnswer};
+use crate::note::note;
 use crate::rule::Settle;
 use crate::words::{is_in, settled, settled_aborted};
-use crate::note::note;
 use interleaving_core::CoreEvent;
 use morph_base::{OpState, OpWord, Plan};
 

@@ -13,10 +13,10 @@ ghost use Rattle.op_words.specs.Hands.{plan_of, cap_of, view_of, IsHandOf};
 
 use super::{Board, Hand, Holding};
 use crate::answers::Counts;
+use crate::note::note;
 use crate::rule::{Claim, End, Give, Keep, Look, Make, Tell};
 use crate::trail::View;
 use crate::words::{claimed, pack_record, ready};
-use crate::note::note;
 use atomic_table::Seat;
 use interleaving_core::CoreEvent;
 use morph_base::{OpWord, Plan, READS};

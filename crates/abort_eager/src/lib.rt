@@ -18,6 +18,18 @@
 //!
 //! The crate uses `op_eval`, `op_words` and `interleaving_core`, for the board and its runners; `chain_units`;
 //! `worker_gate`; and `morph_base`.
+//!
+//! # The files
+//!
+//! | File | What it has |
+//! |---|---|
+//! | `ground` | `Ground`, what workers share while they explore |
+//! | `walk` | `walk_unit`, and `Walking`: what a worker does with each operation |
+//! | `attempt` | `attempt`, `AttemptWithCascade`, `Notes` |
+//! | `behind` | whether a cascade follows an evaluation |
+//! | `cascade`, `search` | `Cascade`; how its next target is found |
+//! | `answers` | `Target`, `Touch`, `Touched` |
+//! | `laws` | what a whole cascade makes of a view |
 #![tactic(auto)]
 
 mod answers;

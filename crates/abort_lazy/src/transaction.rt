@@ -1,7 +1,7 @@
 //! Settles transactions on the shared board, one at a time, by any runner.
 ghost use Rattle.std.specs.Prelude.{◌≡◌, ◌+◌, ◌<◌, None};
 ghost use Rattle.morph_base.specs.Plans.{IsPlan, event_at, event_count};
-ghost use Rattle.op_words.specs.Hands.{plan_of, cap_of, IsHandOf};
+ghost use Rattle.op_words.specs.Hands.{plan_of, IsHandOf};
 ghost use Rattle.op_eval.specs.Running.{hand_view};
 ghost use Rattle.abort_lazy.specs.Transactions.{StopsAt, TxnDoes, IsAnswered};
 

@@ -1,6 +1,6 @@
-ghost use Rattle.std.specs.Prelude.{◌≡◌, ℕ, ◌<◌, ◌↔◌, List, length, IsTrue, IfOk, Some};
+ghost use Rattle.std.specs.Prelude.{◌≡◌, ◌<◌, ◌↔◌, List, IfOk};
 ghost use Rattle.morph_base.specs.Limits.{most_attempts};
-ghost use Rattle.morph_base.specs.Plans.{IsPlan, op_count, event_count};
+ghost use Rattle.morph_base.specs.Plans.{IsPlan};
 ghost use Rattle.interleaving_core.specs.declared.event.Step.TheVariants.{Taken, Refused};
 ghost use Rattle.interleaving_core.specs.Core.{start};
 ghost use Rattle.interleaving_core.specs.Steps.{May, after};

@@ -11,7 +11,7 @@ ghost use Rattle.op_eval.specs.Alone.{IsNewRoot, HasRunAll};
 ghost use Rattle.op_eval.specs.Exploring.{AreExplored, IsExploredBoard};
 ghost use Rattle.op_eval.specs.Further.{AreFurther};
 ghost use Rattle.op_eval.specs.Gathering.{runners_of, spare, HasPlaces};
-ghost use Rattle.op_words.specs.Hands.{plan_of, cap_of, counters_of};
+ghost use Rattle.op_words.specs.Hands.{plan_of, cap_of};
 
 use crate::supply::Tallied;
 use chain_units::Units;

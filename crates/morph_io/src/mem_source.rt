@@ -1,4 +1,4 @@
-ghost use Rattle.std.specs.Prelude.{◌≡◌, ℕ, ◌+◌, ◌<◌, ◌↔◌, min, List, [], ◌++◌, length, take, drop, Some, Contains, IsErr, IfOk, OnErr};
+ghost use Rattle.std.specs.Prelude.{◌≡◌, ◌+◌, ◌<◌, ◌↔◌, min, List, [], ◌++◌, length, take, drop, Some, Contains, IsErr, IfOk, OnErr};
 ghost use Rattle.morph_io.specs.InMemory.{Supply, SupplyReads, counted};
 
 use crate::calls::{is_next_call_among, next_count};
@@ -22,7 +22,7 @@ pub struct MemSource {
 }
 
 impl Model for MemSource {
-    ghost use Rattle.std.specs.Prelude.{ℕ, ◌<◌, ◌≤◌, length, drop};
+    ghost use Rattle.std.specs.Prelude.{◌<◌, ◌≤◌, length, drop};
     ghost use Rattle.morph_io.specs.InMemory.{Supply};
 
     ghost Value = { Supply };

@@ -1,4 +1,4 @@
-ghost use Rattle.std.specs.Prelude.{◌≡◌, ℕ, ◌<◌, ◌≤◌, List, [], None};
+ghost use Rattle.std.specs.Prelude.{◌≡◌, ℕ, ◌<◌, List, [], None};
 ghost use Rattle.morph_base.specs.declared.word.OpState.TheVariants.{Ready, Blocked};
 ghost use Rattle.morph_base.specs.declared.word.OpWord.{OpWord as Word};
 ghost use Rattle.morph_base.specs.Plans.{op_count};
@@ -6,7 +6,7 @@ ghost use Rattle.interleaving_core.specs.Core.{places};
 ghost use Rattle.op_words.specs.declared.trail.Item.{Item};
 ghost use Rattle.op_words.specs.declared.trail.View.{View};
 ghost use Rattle.op_words.specs.Hands.{plan_of, cap_of, view_of, IsHandOf};
-ghost use Rattle.op_words.specs.Views.{Agrees, Holds};
+ghost use Rattle.op_words.specs.Views.{Holds};
 ghost use Rattle.op_eval.specs.Evaluations.{EvaluationDoes, FetchAllTells, IsEvaluatingSoFar, Tries};
 ghost use Rattle.op_eval.specs.Running.{hand_view};
 

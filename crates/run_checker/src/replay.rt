@@ -1,4 +1,4 @@
-ghost use Rattle.std.specs.Prelude.{◌≡◌, ◌+◌, ◌<◌, ◌≤◌, length, IfSome, IfNone};
+ghost use Rattle.std.specs.Prelude.{◌≡◌, ◌+◌, ◌<◌, length, IfSome, IfNone};
 ghost use Rattle.morph_base.specs.Plans.{IsPlan, op_count};
 ghost use Rattle.interleaving_core.specs.Core.{start};
 ghost use Rattle.interleaving_core.specs.Orders.{Leads};

@@ -1,5 +1,5 @@
 //! What the notes say of journals.
-ghost use Rattle.std.specs.Prelude.{◌≡◌, ◌+◌, ◌*◌, ◌^◌, ◌<◌, ◌≤◌, [], ◌++◌, length, IsTrue, OnOk, OnErr};
+ghost use Rattle.std.specs.Prelude.{◌≡◌, ◌+◌, ◌*◌, ◌<◌, ◌≤◌, [], ◌++◌, length, IsTrue, OnOk, OnErr};
 ghost use Rattle.morph_base.specs.Plans.{IsPlan};
 ghost use Rattle.run_text.specs.Calls.{PutsText, WritesText};
 ghost use Rattle.morph_io.specs.Told.{behind, HasRisen};

@@ -13,9 +13,11 @@
 //! | File | What it has |
 //! |---|---|
 //! | `choices`, `report` | `Settings`, `App`, `Planning`, `Check`, `Generated`; `Report` |
-//! | `words`, `names` | `settings` and `own_settings`; the names that words may have |
+//! | `words`, `names` | words and their names, of which each is given once |
+//! | `values` | what a value under a name means, by tables, or the default |
+//! | `read_settings` | `settings` and `own_settings` |
 //! | `output` | `write_events`, `write_closing`, `write_refused` |
-//! | `text`, `totals` | `event_line`, the line of an event; the lines of the sums of tables |
+//! | `text`, `tables` | `event_line`, the line of an event; the lines of the values of tables, or of their sums |
 //! | `tally` | `Tally` |
 //! | `notes`, `checks` | `note_batch`, `note_audit`, `note_tally`; `note_check` and `is_cut`, for journals |
 //! | `laws` | that settings are what the words say |
@@ -38,8 +40,8 @@ mod words;
 pub use checks::{is_cut, note_check};
 pub use choices::{App, Check, GREATEST_SIZE, Generated, Planning, Settings};
 pub use notes::{note_audit, note_batch, note_tally};
+pub use output::{write_closing, write_events, write_refused};
 pub use read_settings::{own_settings, settings};
 pub use report::Report;
 pub use tally::Tally;
 pub use text::event_line;
-pub use output::{write_closing, write_events, write_refused};

@@ -1,4 +1,4 @@
-ghost use Rattle.std.specs.Prelude.{◌≡◌, ◌<◌, ◌≤◌, ◌++◌, length, OnOk, OnErr};
+ghost use Rattle.std.specs.Prelude.{◌≡◌, ◌<◌, ◌≤◌, length};
 ghost use Rattle.morph_base.specs.Flat.{contents};
 ghost use Rattle.event_reader.specs.declared.limits.TheConstants.{NAME_BYTES};
 ghost use Rattle.run_text.specs.declared.choices.TheConstants.{GREATEST_SIZE};

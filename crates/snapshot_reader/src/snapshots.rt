@@ -1,4 +1,4 @@
-ghost use Rattle.std.specs.Prelude.{◌≡◌, ◌*◌, ◌<◌, ◌≤◌, [], length, replicate, drop, IfOk, All};
+ghost use Rattle.std.specs.Prelude.{◌≡◌, ◌<◌, ◌≤◌, [], length, drop, IfOk, All};
 ghost use Rattle.left_right.specs.Sides.{view};
 ghost use Rattle.snapshot_reader.specs.Known.{IsNew, most_ids, most_viewers};
 ghost use Rattle.snapshot_reader.specs.Steady.{NoChangeWaits};

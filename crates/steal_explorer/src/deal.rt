@@ -1,6 +1,5 @@
 //! Makes the deques, and deals the operations of level 1 to them.
-ghost use Rattle.std.specs.Prelude.{◌≡◌, ℕ, ◌<◌, ◌≤◌, ◌∷◌, [], All, IfOk, length};
-ghost use Rattle.crossbeam_deque.specs.Handles.{worker_view, worker_index, worker_capacity};
+ghost use Rattle.std.specs.Prelude.{◌≡◌, ◌<◌, ◌≤◌, ◌∷◌, [], All, IfOk, length};
 ghost use Rattle.morph_base.specs.Graphs.{IsGraph};
 ghost use Rattle.morph_base.specs.Plans.{op_count};
 ghost use Rattle.steal_explorer.specs.Dealing.{IsOpenedSeat, AreOpened, CanTake, HasGot, HaveGot, level_one};

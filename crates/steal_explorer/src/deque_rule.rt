@@ -1,5 +1,4 @@
 //! What workers know of a deque: the rule that all of them keep, and what each call on a deque makes of a view.
-ghost use Rattle.std.specs.Prelude.{ℕ};
 
 use crossbeam_deque::protocol::{Join, Outcome, Protocol, Split};
 use crossbeam_deque::{Pass, Stealer, Worker};

@@ -1,7 +1,6 @@
 //! Empties the deques once all workers have returned.
-ghost use Rattle.std.specs.Prelude.{◌≡◌, ◌<◌, ◌≤◌, All};
+ghost use Rattle.std.specs.Prelude.{◌≡◌, ◌<◌, All};
 ghost use Rattle.crossbeam_deque.specs.Handles.{worker_flavor};
-ghost use Rattle.morph_base.specs.Plans.{op_count};
 ghost use Rattle.op_words.specs.Hands.{cap_of};
 ghost use Rattle.steal_explorer.specs.Draining.{WalkedKnown, IsLeftWithNobody, IsCleared, HasAll, IsEmptied, AreEmptied};
 ghost use Rattle.steal_explorer.specs.Handing.{whole};

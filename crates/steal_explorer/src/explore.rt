@@ -15,8 +15,8 @@ ghost use Rattle.steal_explorer.specs.Handed.{pushed_of, taken_of, stolen_of, un
 ghost use Rattle.steal_explorer.specs.Seating.{AreReady};
 
 use crate::deques::Deques;
-use crate::member::Member;
 use crate::job::hand_out;
+use crate::member::Member;
 use crate::seats::{seat_all, unseat_all};
 use abort_eager::Ground;
 use chain_units::Units;

@@ -1,5 +1,5 @@
 //! How a worker finds an item.
-ghost use Rattle.std.specs.Prelude.{◌≡◌, ◌≢◌, ◌+◌, ◌<◌, ◌≤◌, length};
+ghost use Rattle.std.specs.Prelude.{◌≡◌, ◌+◌, ◌<◌, ◌≤◌, length};
 ghost use Rattle.steal_explorer.specs.Alone.{FindsAlone};
 ghost use Rattle.steal_explorer.specs.declared.find.Found.TheVariants.{Nothing, Retry};
 ghost use Rattle.steal_explorer.specs.Members.{SitsAt, AreSeated, HasTickets, HasDeque};

@@ -1,5 +1,5 @@
 //! Gives workers all parts of their deques back, once all have returned.
-ghost use Rattle.std.specs.Prelude.{◌≡◌, ◌+◌, ◌<◌, ◌≤◌, ◌++◌, ◌∷◌, [], ℕ, length};
+ghost use Rattle.std.specs.Prelude.{◌≡◌, ◌+◌, ◌<◌, ◌++◌, ◌∷◌, [], length};
 ghost use Rattle.crossbeam_deque.specs.Handles.{IsPassOf, worker_deque};
 ghost use Rattle.steal_explorer.specs.Gathering.{Regains, AreRegaining, AreHolding, AreTotals};
 ghost use Rattle.steal_explorer.specs.Members.{own, tickets_of};

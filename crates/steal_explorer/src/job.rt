@@ -11,9 +11,9 @@ ghost use Rattle.steal_explorer.specs.Members.{IsWorkerOf};
 ghost use Rattle.op_eval.specs.Running.{IsFreeRunner};
 ghost use Rattle.steal_explorer.specs.Turns.{HasTakenTurns};
 
+use crate::deque_rule::Thief;
 use crate::drain::empty_all;
 use crate::gather::gather;
-use crate::deque_rule::Thief;
 use crate::member::Member;
 use crate::worker::work;
 use abort_eager::Ground;

@@ -1,5 +1,5 @@
 //! Lends parts of the deques, by which workers steal from one another.
-ghost use Rattle.std.specs.Prelude.{◌≡◌, ◌+◌, ◌<◌, length};
+ghost use Rattle.std.specs.Prelude.{◌+◌, ◌<◌, length};
 ghost use Rattle.crossbeam_deque.specs.Handles.{worker_view};
 ghost use Rattle.steal_explorer.specs.Lending.{LendsPart, Gets, AreLent, AreLending, KeepsSeats};
 

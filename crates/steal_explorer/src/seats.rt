@@ -1,5 +1,5 @@
 //! Puts runners beside their deques, and takes them back.
-ghost use Rattle.std.specs.Prelude.{◌≡◌, ℕ, ◌+◌, ◌≤◌, [], length, map, reverse};
+ghost use Rattle.std.specs.Prelude.{◌≡◌, ◌+◌, ◌≤◌, [], length, map, reverse};
 ghost use Rattle.op_eval.specs.declared.explored.RunEnd.TheVariants.{Spent};
 ghost use Rattle.op_eval.specs.Gathering.{runners_of, spare, HasPlaces};
 ghost use Rattle.steal_explorer.specs.Seating.{AreSeatedBy, runner_of};

@@ -1,5 +1,5 @@
 //! What a worker does with an item that it took.
-ghost use Rattle.std.specs.Prelude.{◌≡◌, ℕ, ◌+◌, ◌<◌, ◌≤◌, List, [], ◌∷◌};
+ghost use Rattle.std.specs.Prelude.{◌≡◌, ℕ, ◌<◌, ◌≤◌, List, [], ◌∷◌};
 ghost use Rattle.crossbeam_deque.specs.Handles.{worker_capacity, worker_index};
 ghost use Rattle.morph_base.specs.declared.strategy.Abort.TheVariants.{Lazy};
 ghost use Rattle.morph_base.specs.Plans.{op_count};
@@ -14,9 +14,9 @@ ghost use Rattle.steal_explorer.specs.declared.find.Found.TheVariants.{Item};
 ghost use Rattle.steal_explorer.specs.Serving.{ServesOn, PutsOrWalks, AsksAndPuts, AsksAll, Serves};
 ghost use Rattle.steal_explorer.specs.Turns.{After};
 
+use crate::cascade::sweep;
 use crate::deque_rule::Puts;
 use crate::member::Member;
-use crate::cascade::sweep;
 use crate::walk::{ask, walk};
 use abort_eager::{Ground, Walking, attempt, walk_unit};
 use op_eval::Evaluation;

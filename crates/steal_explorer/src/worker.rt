@@ -9,8 +9,8 @@ ghost use Rattle.op_eval.specs.Running.{IsFreeRunner};
 ghost use Rattle.steal_explorer.specs.Turns.{Turn, RanTurns, row_then};
 ghost use Rattle.steal_explorer.specs.declared.worker.TheConstants.{EMPTY_TURNS};
 
-use crate::find::{Found, find};
 use crate::deque_rule::Thief;
+use crate::find::{Found, find};
 use crate::member::Member;
 use crate::serve::serve_known;
 use abort_eager::Ground;

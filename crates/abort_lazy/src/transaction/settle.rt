@@ -1,6 +1,6 @@
 //! Settles the operations of a decided event.
 ghost use Rattle.std.specs.Prelude.{◌≡◌, ◌<◌, Bool, None};
-ghost use Rattle.morph_base.specs.Plans.{op_count, event_count, InEvent};
+ghost use Rattle.morph_base.specs.Plans.{event_count, InEvent};
 ghost use Rattle.op_words.specs.Views.{IsDecisionSeen};
 ghost use Rattle.op_words.specs.Hands.{plan_of, view_of, IsHandOf};
 ghost use Rattle.abort_lazy.specs.Progress.{OneDoes, RestDoes};

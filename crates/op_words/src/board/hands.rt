@@ -1,5 +1,4 @@
 ghost use Rattle.std.specs.Prelude.{◌≡◌, [], OnOk, OnErr};
-ghost use Rattle.interleaving_core.specs.declared.event.CoreEvent.{CoreEvent};
 ghost use Rattle.op_words.specs.declared.board.Board.{Board as B};
 ghost use Rattle.op_words.specs.Hands.{view_of, op_held, counts_of, IsHandOf};
 ghost use Rattle.op_words.specs.Journals.{roomed};

@@ -57,15 +57,15 @@ returns-in_err-tell_next-in-Some g c =
     let failed = error_is c.from_residual.result Write c.from_residual.ensures.1 in
     record {
       does = record {
-            ends = ends_in_run c.picker-pick.ensures refl c.turns.invariant.run c.in-Some.ran c.next.new.self.rans got.1 (g.S.Source.left c.turns.source)
-                (outputs_of (g.K.Sink.written c.tell_next.new.sink) (g.N.Sink.written c.tell_next.new.notes)) (told_note c.args.job.now.settings c.tell_next.new.tally.batches None (account_of c.in-Some.ran.end))
-                (error_is c.from_residual.result Write c.from_residual.ensures.1) c.in_err-tell_next-in-Some.ensures.told;
-            told = told_in_run c.picker-pick.ensures refl c.turns.invariant.run c.in-Some.ran c.next.new.self.rans got.1
-                (outputs_of (g.K.Sink.written c.tell_next.new.sink) (g.N.Sink.written c.tell_next.new.notes)) c.tell_next.new.tally (unchecked_ahead c.args.job.now.settings c.requires.settings c.requires.ahead)
-                (error_is c.from_residual.result Write c.from_residual.ensures.1) c.tell_next.ensures.adds c.in_err-tell_next-in-Some.ensures.told;
-            faults = faults_since c.args.job.now.settings (counts_still refl c.turns.invariant.sink_steady c.turns.invariant.notes_steady refl) (faults_ahead c.args.job.now.settings (noted_so c.args.job.now.settings) c.requires.ahead c.turns.invariant.source_faults
-                (λ is. absurd (let both = sym failed ∙ is in cc)) c.in_err-tell_next-in-Some.ensures.sink_faults c.in_err-tell_next-in-Some.ensures.notes_faults (λ is. c.in_err-tell_next-in-Some.ensures.cause) (λ other. absurd (other failed)));
-          };
+        ends = ends_in_run c.picker-pick.ensures refl c.turns.invariant.run c.in-Some.ran c.next.new.self.rans got.1 (g.S.Source.left c.turns.source)
+            (outputs_of (g.K.Sink.written c.tell_next.new.sink) (g.N.Sink.written c.tell_next.new.notes)) (told_note c.args.job.now.settings c.tell_next.new.tally.batches None (account_of c.in-Some.ran.end))
+            (error_is c.from_residual.result Write c.from_residual.ensures.1) c.in_err-tell_next-in-Some.ensures.told;
+        told = told_in_run c.picker-pick.ensures refl c.turns.invariant.run c.in-Some.ran c.next.new.self.rans got.1
+            (outputs_of (g.K.Sink.written c.tell_next.new.sink) (g.N.Sink.written c.tell_next.new.notes)) c.tell_next.new.tally (unchecked_ahead c.args.job.now.settings c.requires.settings c.requires.ahead)
+            (error_is c.from_residual.result Write c.from_residual.ensures.1) c.tell_next.ensures.adds c.in_err-tell_next-in-Some.ensures.told;
+        faults = faults_since c.args.job.now.settings (counts_still refl c.turns.invariant.sink_steady c.turns.invariant.notes_steady refl) (faults_ahead c.args.job.now.settings (noted_so c.args.job.now.settings) c.requires.ahead c.turns.invariant.source_faults
+            (λ is. absurd (let both = sym failed ∙ is in cc)) c.in_err-tell_next-in-Some.ensures.sink_faults c.in_err-tell_next-in-Some.ensures.notes_faults (λ is. c.in_err-tell_next-in-Some.ensures.cause) (λ other. absurd (other failed)));
+      };
     }
 
 pub turns-preserved-in-Some : goal.turns-preserved-in-Some
@@ -126,14 +126,14 @@ returns g c =
     let over : IsGoing c.next.new.self → ⊥ = λ going. true≢false (sym (c.going.ensures.going.1 going) ∙ c.if-going.false) in
     record {
       does = record {
-            ends = ends_by_tail c.end_ahead.result (outputs_of (g.K.Sink.written c.end_ahead.new.sink) (g.N.Sink.written c.end_ahead.new.notes))
-                (closing_text c.args.job.now.settings (g.A.EventApp.name_of c.args.job.now.app) c.next.new.self.engine c.turns.tally) p (ap (λ (v : PipeView _). v.rans) got.0 ∙ got.1) over
-                (closing_there c.args.job.now.settings (g.A.EventApp.name_of c.args.job.now.app) c.next.new.self.engine c.turns.tally _ p.layout) c.end_ahead.ensures.ends;
-            told = told_by_tail c.end_ahead.result (outputs_of (g.K.Sink.written c.end_ahead.new.sink) (g.N.Sink.written c.end_ahead.new.notes))
-                (closing_text c.args.job.now.settings (g.A.EventApp.name_of c.args.job.now.app) c.next.new.self.engine c.turns.tally) p (ap (λ (v : PipeView _). v.rans) got.0 ∙ got.1) over
-                (closing_there c.args.job.now.settings (g.A.EventApp.name_of c.args.job.now.app) c.next.new.self.engine c.turns.tally _ p.layout) c.end_ahead.ensures.ends;
-            faults = faults_since c.args.job.now.settings (counts_still refl c.turns.invariant.sink_steady c.turns.invariant.notes_steady refl) (faults_ahead c.args.job.now.settings (noted_so c.args.job.now.settings) c.requires.ahead c.turns.invariant.source_faults
-                (λ is. c.turns.invariant.read (sym (ap (λ (v : PipeView _). v.tail) got.0) ∙ read_by_tail _ c.end_ahead.result _ _ _ _ c.end_ahead.ensures.ends is))
-                c.end_ahead.ensures.sink_faults c.end_ahead.ensures.notes_faults c.end_ahead.ensures.write c.end_ahead.ensures.steady);
-          };
+        ends = ends_by_tail c.end_ahead.result (outputs_of (g.K.Sink.written c.end_ahead.new.sink) (g.N.Sink.written c.end_ahead.new.notes))
+            (closing_text c.args.job.now.settings (g.A.EventApp.name_of c.args.job.now.app) c.next.new.self.engine c.turns.tally) p (ap (λ (v : PipeView _). v.rans) got.0 ∙ got.1) over
+            (closing_there c.args.job.now.settings (g.A.EventApp.name_of c.args.job.now.app) c.next.new.self.engine c.turns.tally _ p.layout) c.end_ahead.ensures.ends;
+        told = told_by_tail c.end_ahead.result (outputs_of (g.K.Sink.written c.end_ahead.new.sink) (g.N.Sink.written c.end_ahead.new.notes))
+            (closing_text c.args.job.now.settings (g.A.EventApp.name_of c.args.job.now.app) c.next.new.self.engine c.turns.tally) p (ap (λ (v : PipeView _). v.rans) got.0 ∙ got.1) over
+            (closing_there c.args.job.now.settings (g.A.EventApp.name_of c.args.job.now.app) c.next.new.self.engine c.turns.tally _ p.layout) c.end_ahead.ensures.ends;
+        faults = faults_since c.args.job.now.settings (counts_still refl c.turns.invariant.sink_steady c.turns.invariant.notes_steady refl) (faults_ahead c.args.job.now.settings (noted_so c.args.job.now.settings) c.requires.ahead c.turns.invariant.source_faults
+            (λ is. c.turns.invariant.read (sym (ap (λ (v : PipeView _). v.tail) got.0) ∙ read_by_tail _ c.end_ahead.result _ _ _ _ c.end_ahead.ensures.ends is))
+            c.end_ahead.ensures.sink_faults c.end_ahead.ensures.notes_faults c.end_ahead.ensures.write c.end_ahead.ensures.steady);
+      };
     }

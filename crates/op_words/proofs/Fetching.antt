@@ -26,7 +26,8 @@ use Rattle.op_words.specs.Views.{Agrees, Adds, Holds, IsApart, records_from, fet
 use Rattle.op_words.specs.Calls.{Elsewhere, IsReadValue, IsPlaceTaken, FetchDoes, FinishDoes, answer_of, outcome_of}
 use Rattle.op_words.specs.Plays.{Leaves}
 use Rattle.op_words.specs.Hands.{view_of}
-use Rattle.op_words.specs.Stepping.{Looked, Left, IsPlaceKept, IsUsable}
+use Rattle.op_words.specs.Stepping.{Looked, Left, IsPlaceKept}
+use Rattle.op_words.specs.Kinds.{IsUsable}
 use Rattle.op_words.proofs.Rows.{no_more, not_inside, one_inside}
 use Rattle.op_words.proofs.Trailing.{along_none}
 use Rattle.op_words.proofs.Adding.{adds_then, adds_look, along_one, calm_left}

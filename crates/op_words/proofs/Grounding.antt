@@ -35,7 +35,7 @@ use Rattle.op_words.specs.Views.{HasShownFailure, IsRecordSeen, last_op, last_pl
 use Rattle.op_words.specs.Rule.{Seats, live, Knows, Lawful, Steps}
 use Rattle.op_words.specs.Plays.{Sat, Leaves, Swaps, spreads, rolls}
 use Rattle.op_words.specs.Hands.{view_of, held_of, counts_of}
-use Rattle.op_words.specs.Stepping.{IsUsable}
+use Rattle.op_words.specs.Kinds.{IsUsable}
 use Rattle.op_words.specs.Grounds.{HasGroundsToSpread, HasGroundsToRoll, AreSourcesSettled, IsSeenStale, IsSpreadSeen}
 use Rattle.op_words.proofs.Rows.{no_more, sum_has}
 use Rattle.op_words.proofs.Knowing.{words_more}

@@ -27,7 +27,7 @@ use Rattle.op_words.specs.Views.{fetching}
 use Rattle.op_words.specs.Layout.{record_index, packed_record}
 use Rattle.op_words.specs.Rule.{Seats, Knows, Lawful, Steps}
 use Rattle.op_words.specs.Plays.{Sat, IsTold, keeps}
-use Rattle.op_words.specs.Stepping.{IsUsable}
+use Rattle.op_words.specs.Kinds.{IsUsable}
 use Rattle.op_words.proofs.Rows.{no_more, not_inside}
 use Rattle.op_words.proofs.Knowing.{words_more, knows_more}
 use Rattle.op_words.proofs.Moving.{with_view, advanced, grown, root_before}

@@ -26,7 +26,8 @@ use Rattle.op_words.specs.Trails.{loaded, left, last_word, HasLast, IsSourceOf, 
 use Rattle.op_words.specs.Views.{Adds, IsRecordSeen, IsSourceSeen, last_place, rolling_back}
 use Rattle.op_words.specs.Calls.{IsReadValue}
 use Rattle.op_words.specs.Hands.{plan_of, cap_of, view_of, IsHandOf}
-use Rattle.op_words.specs.Stepping.{Looked, Left, Recalled, IsUsable, IsWalk}
+use Rattle.op_words.specs.Stepping.{Looked, Left, Recalled, IsWalk}
+use Rattle.op_words.specs.Kinds.{IsUsable}
 use Rattle.op_words.specs.Retrying.{IsSpreadAside, RollDoes}
 use Rattle.op_words.specs.Grounds.{HasGroundsToRoll, AreSourcesSettled, IsSourceLoaded, SourceDoes, OpenDoes, OpenTells}
 use Rattle.op_words.proofs.Retrying.{count_one, adds_first, free_next, adds_front, last_front, none_front, free_front, events_first, events_front}

@@ -17,7 +17,8 @@ use Rattle.op_words.specs.declared.trail.View.{View}
 use Rattle.op_words.specs.Trails.{loaded, IsSourceOf, OfSources}
 use Rattle.op_words.specs.Views.{IsRecordSeen, IsSettledSeen, IsSourceSeen, last_op}
 use Rattle.op_words.specs.Hands.{view_of}
-use Rattle.op_words.specs.Stepping.{IsRow, IsUsable}
+use Rattle.op_words.specs.Stepping.{IsRow}
+use Rattle.op_words.specs.Kinds.{IsUsable}
 use Rattle.op_words.specs.Retrying.{IsSpreadFrom}
 
 -- The hand saw all sources of operation o settled

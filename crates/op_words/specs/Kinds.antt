@@ -1,18 +1,21 @@
 -- What the table is after each kind of step of a hand, and which step of the machine that is
-use Rattle.std.specs.Prelude.{◌≡◌, ◌≢◌, ℕ, ◌+◌, ◌<◌, Bool, List, [], ◌∷◌, ◌++◌, length, Some, None, slice_index, slice_set}
+use Rattle.std.specs.Prelude.{◌≡◌, ◌≢◌, ℕ, ◌+◌, ◌<◌, Bool, true, false, List, Contains, [], ◌∷◌, ◌++◌, length, Some, None, slice_index, slice_set}
 use mathlib.Core.Option.{some}
 use lib.ListN.{get_elem?}
 use Rattle.morph_base.specs.Limits.{most_workers}
 use Rattle.morph_base.specs.declared.plan.Plan.{Plan}
+use Rattle.morph_base.specs.declared.plan.Origin.{Origin}
+use Rattle.morph_base.specs.declared.plan.Origin.TheVariants.{Base, Op as Written}
 use Rattle.morph_base.specs.Plans.{op_count, event_count, origin_at}
 use Rattle.morph_base.specs.declared.word.OpWord.{OpWord}
-use Rattle.morph_base.specs.Words.{packed}
+use Rattle.morph_base.specs.Words.{is_idle, is_settled, packed}
 use Rattle.interleaving_core.specs.declared.entry.Held.{Held}
 use Rattle.interleaving_core.specs.declared.event.CoreEvent.{CoreEvent}
 use Rattle.interleaving_core.specs.declared.event.CoreEvent.TheVariants.{Ready as ReadyStep, Claim, Fetch, Finish, GiveBack, Spread as SpreadStep, RollBack, Decide, Settle}
 use Rattle.interleaving_core.specs.Core.{blocked, ready, claimed, places, record_value}
 use Rattle.interleaving_core.specs.Steps.{May, after, spread_of}
 use Rattle.op_words.specs.declared.trail.View.{View}
+use Rattle.op_words.specs.Trails.{loaded}
 use Rattle.op_words.specs.Views.{looked, making, claiming, fetching, finishing, giving_back, spreading, rolling_back, recalling, learning, deciding, settling, last_op, last_place, parent, child, merged}
 use Rattle.op_words.specs.Journals.{roomed}
 use Rattle.op_words.specs.Layout.{record_index, packed_record, decision_base, packed_decision, level_index, counter_base}

@@ -8,7 +8,8 @@ ghost use Rattle.op_words.specs.declared.trail.View.{View as V};
 ghost use Rattle.op_words.specs.Trails.{left};
 ghost use Rattle.op_words.specs.Views.{Holds, IsLone, making, claiming, finishing, giving_back};
 ghost use Rattle.op_words.specs.Plays.{IsTold};
-ghost use Rattle.op_words.specs.Stepping.{IsUsable, IsPlaceKept, Looked, Left, Swapped};
+ghost use Rattle.op_words.specs.Stepping.{IsPlaceKept, Looked, Left, Swapped};
+ghost use Rattle.op_words.specs.Kinds.{IsUsable};
 ghost use Rattle.op_words.specs.Hands.{plan_of, cap_of, view_of, IsHandOf};
 
 use super::{Board, Hand, Holding};

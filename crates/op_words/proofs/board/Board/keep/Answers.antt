@@ -9,7 +9,7 @@ use Rattle.interleaving_core.specs.Core.{places}
 use Rattle.op_words.specs.Layout.{packed_record}
 use Rattle.op_words.specs.Plays.{Sat, keeps}
 use Rattle.op_words.specs.Rule.{Lawful}
-use Rattle.op_words.specs.Stepping.{IsUsable}
+use Rattle.op_words.specs.Kinds.{IsUsable}
 use Rattle.op_words.specs.Hands.{plan_of, cap_of, counters_of, view_of}
 use Rattle.op_words.proofs.Keeping.{allows_keep}
 use Rattle.op_words.proofs.Handing.{kept, held_parts}

@@ -2,7 +2,7 @@ use Rattle.std.proofs.Common.{◌∙◌, sym, subst, ap, ℕ, ◌<◌, inl, inr}
 use Rattle.morph_base.specs.Plans.{IsPlan, origin_at}
 use Rattle.interleaving_core.specs.Core.{places}
 use Rattle.op_words.specs.Hands.{cap_of, view_of}
-use Rattle.op_words.specs.Stepping.{IsUsable}
+use Rattle.op_words.specs.Kinds.{IsUsable}
 use Rattle.op_words.proofs.Seeking.{source_other}
 use Rattle.op_words.proofs.Handing.{kept, held_parts}
 use Rattle.op_words.proofs.Fetching.{still_holds, source_usable, fetched_source, unfetched_source}

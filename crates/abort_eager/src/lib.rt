@@ -25,7 +25,7 @@
 //! |---|---|
 //! | `ground` | `Ground`, what workers share while they explore |
 //! | `walk` | `walk_unit`, and `Walking`: what a worker does with each operation |
-//! | `attempt` | `attempt`, `AttemptWithCascade`, `Notes` |
+//! | `attempts` | `attempt`, `AttemptWithCascade`, `Notes` |
 //! | `behind` | whether a cascade follows an evaluation |
 //! | `cascade`, `search` | `Cascade`; how its next target is found |
 //! | `answers` | `Target`, `Touch`, `Touched` |
@@ -33,7 +33,7 @@
 #![tactic(auto)]
 
 mod answers;
-mod attempt;
+mod attempts;
 mod behind;
 mod cascade;
 mod ground;
@@ -42,7 +42,7 @@ mod search;
 mod walk;
 
 pub use answers::{Target, Touch, Touched};
-pub use attempt::{AttemptWithCascade, Notes, attempt};
+pub use attempts::{AttemptWithCascade, Notes, attempt};
 pub use behind::cascade_behind;
 pub use cascade::Cascade;
 pub use ground::Ground;

@@ -5,7 +5,7 @@ ghost use Rattle.chain_units.specs.Units.{units_of};
 use crate::alone::Alone;
 use crate::chained::Chained;
 use crate::chains::chains;
-use crate::units::Units;
+use crate::unit_lists::Units;
 use morph_base::{OutOfMemory, Plan, Unit};
 use std::alloc::Global;
 

@@ -15,7 +15,7 @@
 //!
 //! | File | What it has |
 //! |---|---|
-//! | `by_unit`, `units` | `units`; `Units` |
+//! | `by_unit`, `unit_lists` | `units`; `Units` |
 //! | `cut`, `alone`, `chained` | which form units have: each operation alone, or units of any length |
 //! | `chains`, `places` | the chain of each key; the unit of each operation, and its place there |
 //! | `laws` | that each operation is in one unit, and which keys have chains |
@@ -28,7 +28,7 @@ mod chains;
 mod cut;
 pub mod laws;
 mod places;
-mod units;
+mod unit_lists;
 
 pub use by_unit::units;
-pub use units::Units;
+pub use unit_lists::Units;

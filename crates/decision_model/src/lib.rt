@@ -7,8 +7,8 @@
 
 mod choice;
 mod counts;
-mod profile;
+mod profiles;
 
 pub use choice::choose;
 pub use counts::{Last, Profile};
-pub use profile::profile;
+pub use profiles::profile;

@@ -13,7 +13,7 @@ use Rattle.op_eval.specs.declared.runner.Runner.{Runner}
 use Rattle.op_eval.specs.Alone.{IsNewRoot}
 use Rattle.op_eval.specs.Gathering.{runners_of}
 use Rattle.steal_explorer.specs.declared.deques.Deques.{Deques}
-use Rattle.steal_explorer.specs.declared.explore.Handed.{Handed}
+use Rattle.steal_explorer.specs.declared.exploration.Handed.{Handed}
 use Rattle.steal_explorer.specs.declared.member.Member.{Member}
 use Rattle.steal_explorer.specs.Alone.{IsHandedAlone}
 use Rattle.steal_explorer.specs.Handed.{workers_of, pushed_of, taken_from, taken_of, unserved_of, stolen_of, AreReached, HasTurns}

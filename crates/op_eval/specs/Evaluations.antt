@@ -19,7 +19,7 @@ use Rattle.op_words.specs.Views.{Adds, AddsAndFrees, Holds, HasRecordsSeen}
 use Rattle.op_words.specs.Calls.{answer_of, Elsewhere, IsReadValue, IsSourceOpen}
 use Rattle.op_eval.specs.declared.answers.Evaluation.{Evaluation}
 use Rattle.op_eval.specs.declared.answers.Evaluation.TheVariants.{Evaluated, Blocked as BlockedOn, Busy as BusyAt, Already}
-use Rattle.op_eval.specs.declared.evaluate.Stopped.{Stopped}
+use Rattle.op_eval.specs.declared.evaluation.Stopped.{Stopped}
 use Rattle.op_eval.specs.declared.runner.Runner.{Runner}
 use Rattle.op_eval.specs.Running.{hand_view, counted}
 

@@ -16,13 +16,13 @@
 #![tactic(auto)]
 
 mod answers;
-mod evaluate;
+mod evaluation;
 mod explored;
 mod runner;
 mod runners;
 
 pub use answers::{Answers, Evaluation, Left};
-pub use evaluate::evaluate;
+pub use evaluation::evaluate;
 pub use explored::{Explored, RunEnd};
 pub use runner::Runner;
 pub use runners::Runners;

@@ -8,7 +8,7 @@
 //!
 //! | File | What it has |
 //! |---|---|
-//! | `build` | `build`, which makes the parts of a plan in turn |
+//! | `builder` | `build`, which makes the parts of a plan in turn |
 //! | `planned`, `transactions` | operations and events with their sources and levels; an event of the split batch |
 //! | `writers`, `sources` | the last operation that changes each key; what an operation reads from |
 //! | `edges` | how many dependencies there are |
@@ -16,7 +16,7 @@
 //! | `level_lists` | the operations and the events of each level |
 #![tactic(auto)]
 
-mod build;
+mod builder;
 mod dependents;
 mod edges;
 mod level_lists;
@@ -26,4 +26,4 @@ mod sources;
 mod transactions;
 mod writers;
 
-pub use build::build;
+pub use builder::build;

@@ -26,7 +26,7 @@
 //!
 //! | File | What it has |
 //! |---|---|
-//! | `check`, `checked` | `check`; `Checked`, its answer |
+//! | `checker`, `checked` | `check`; `Checked`, its answer |
 //! | `replay` | the journal's steps on the machine, and the first operation that is unsettled or differs |
 //! | `read`, `fault` | `read_journal`; `JournalFault` |
 //! | `words` | what the words of a line say |
@@ -34,8 +34,8 @@
 //! | `laws` | that one answer is right and what follows from it; that journals are what their texts say |
 #![tactic(auto)]
 
-mod check;
 mod checked;
+mod checker;
 mod fault;
 pub mod laws;
 mod read;
@@ -43,8 +43,8 @@ mod replay;
 mod words;
 mod write;
 
-pub use check::check;
 pub use checked::Checked;
+pub use checker::check;
 pub use fault::JournalFault;
 pub use read::read_journal;
 pub use write::write_event;

@@ -23,7 +23,7 @@
 //!
 //! | File | What it has |
 //! |---|---|
-//! | `snapshots` | `snapshots` and `MOST_VIEWERS` |
+//! | `setup` | `snapshots` and `MOST_VIEWERS` |
 //! | `publisher`, `show` | `Publisher`; how a change is added and made visible |
 //! | `viewer`, `sum` | `Viewer`, `At`, `Total` and `Look`; the sum of a table |
 //! | `balances` | the values, of which there are two copies |
@@ -35,13 +35,13 @@ mod balances;
 mod change;
 mod publisher;
 mod rule;
+mod setup;
 mod show;
-mod snapshots;
 mod sum;
 mod view;
 mod viewer;
 mod writes;
 
 pub use publisher::Publisher;
-pub use snapshots::{MOST_VIEWERS, snapshots};
+pub use setup::{MOST_VIEWERS, snapshots};
 pub use viewer::{At, Look, Total, Viewer};

@@ -25,7 +25,7 @@ use Rattle.op_eval.specs.Alone.{Ran, IsNewRoot}
 use Rattle.op_eval.specs.Running.{hand_view, IsFreeRunner}
 use Rattle.steal_explorer.specs.declared.deques.Deques.{Deques}
 use Rattle.steal_explorer.specs.declared.deques.Seat.{Seat}
-use Rattle.steal_explorer.specs.declared.explore.Handed.{Handed}
+use Rattle.steal_explorer.specs.declared.exploration.Handed.{Handed}
 use Rattle.abort_eager.specs.declared.ground.Ground.{Ground}
 use Rattle.steal_explorer.specs.declared.member.Member.{Member}
 use Rattle.op_eval.specs.Further.{AreFurther}

@@ -10,7 +10,7 @@ use Rattle.morph_base.specs.Plans.{op_count}
 use Rattle.op_eval.specs.declared.runner.Runner.{Runner}
 use Rattle.steal_explorer.specs.declared.deques.Deques.{Deques}
 use Rattle.steal_explorer.specs.declared.deques.Seat.{Seat}
-use Rattle.steal_explorer.specs.declared.explore.Handed.{Handed}
+use Rattle.steal_explorer.specs.declared.exploration.Handed.{Handed}
 use Rattle.steal_explorer.specs.declared.find.Found.{Found}
 use Rattle.steal_explorer.specs.declared.find.Found.TheVariants.{Item, Nothing, Retry}
 use Rattle.steal_explorer.specs.declared.deque_rule.Log.{Log}

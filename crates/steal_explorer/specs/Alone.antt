@@ -13,7 +13,7 @@ use Rattle.op_eval.specs.declared.explored.RunEnd.TheVariants.{Drained}
 use Rattle.op_eval.specs.declared.runner.Runner.{Runner}
 use Rattle.op_eval.specs.Alone.{Ran, NotBegun, HasRunAll}
 use Rattle.op_eval.specs.Running.{hand_view}
-use Rattle.steal_explorer.specs.declared.explore.Handed.{Handed}
+use Rattle.steal_explorer.specs.declared.exploration.Handed.{Handed}
 use Rattle.steal_explorer.specs.declared.find.Found.{Found}
 use Rattle.steal_explorer.specs.declared.find.Found.TheVariants.{Item as Got, Nothing, Retry}
 use Rattle.steal_explorer.specs.declared.member.Member.{Member}

@@ -7,7 +7,7 @@ use Rattle.op_eval.specs.declared.runner.Runner.{Runner}
 use Rattle.op_eval.specs.Exploring.{total}
 use Rattle.op_eval.specs.Running.{hand_view}
 use Rattle.steal_explorer.specs.declared.deques.Deques.{Deques}
-use Rattle.steal_explorer.specs.declared.explore.Handed.{Handed}
+use Rattle.steal_explorer.specs.declared.exploration.Handed.{Handed}
 use Rattle.steal_explorer.specs.declared.member.Member.{Member}
 use Rattle.steal_explorer.specs.HandingOut.{HasHandedOut}
 use Rattle.steal_explorer.specs.Members.{own}

@@ -34,7 +34,7 @@
 //! | `cascade` | what follows an evaluation under eager abort |
 //! | `member`, `seats` | what a worker has; runners are put beside their deques, and taken back |
 //! | `job`, `worker` | all workers side by side, and `pieces`; the turns of one, and `EMPTY_TURNS` |
-//! | `explore` | `explore` and `Handed` |
+//! | `exploration` | `explore` and `Handed` |
 #![tactic(auto)]
 
 mod cascade;
@@ -42,7 +42,7 @@ mod deal;
 mod deque_rule;
 mod deques;
 mod drain;
-mod explore;
+mod exploration;
 mod find;
 mod gather;
 mod job;
@@ -54,6 +54,6 @@ mod walk;
 mod worker;
 
 pub use deques::Deques;
-pub use explore::{Handed, explore};
+pub use exploration::{Handed, explore};
 pub use job::pieces;
 pub use worker::EMPTY_TURNS;

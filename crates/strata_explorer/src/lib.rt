@@ -24,10 +24,10 @@
 #![tactic(auto)]
 
 mod course;
-mod explore;
+mod exploration;
 pub mod laws;
 mod level_notes;
 mod pass;
 mod walk;
 
-pub use explore::{counters, explore};
+pub use exploration::{counters, explore};

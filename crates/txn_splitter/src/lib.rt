@@ -4,8 +4,8 @@
 //! and operations have numbers. `precedence_graph` makes a plan of them.
 #![tactic(auto)]
 
-mod split;
+mod splitter;
 mod txns;
 
-pub use split::split;
+pub use splitter::split;
 pub use txns::{TxnEvent, Txns};

@@ -1,0 +1,7 @@
+use Rattle.std.specs.Prelude.{◌≡◌, sum_by, take}
+use Rattle.op_words.specs.Hands.{up_to}
+use Rattle.steal_explorer.proofs.Closing.{many_pushed}
+use Rattle.steal_explorer.proofs.exploration.count_handed.Given as goal
+
+abbrev pub invariant-loop-k : goal.invariant-loop-k
+invariant-loop-k l = l.total ≡ up_to (sum_by many_pushed (take l.k l.members))

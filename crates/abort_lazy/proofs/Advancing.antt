@@ -1,5 +1,5 @@
 -- One level of events after another, by one runner and by all.
-use Rattle.std.proofs.Common.{◌≡◌, ◌≢◌, ℕ, ◌+◌, ◌<◌, ◌≤◌, false, cond, eqb, List, [], ◌∷◌, ◌++◌, length, refl, sym, ap, ◌∙◌, subst, inl, inr, arith}
+use Rattle.std.proofs.Common.{◌≡◌, ℕ, ◌+◌, ◌<◌, ◌≤◌, false, eqb, List, [], ◌∷◌, ◌++◌, length, refl, sym, ap, ◌∙◌, subst, inl, inr, arith}
 use Rattle.std.specs.Prelude.{Contains, All, slice_index_or, sum_by}
 use Rattle.std.proofs.lemmas.Bool.{ne_eqb, cases_eq, cond-false}
 use Rattle.std.proofs.lemmas.List.Elements.{Contains-append_cases, Contains-append_right, Contains-append_left}
@@ -9,28 +9,24 @@ use Rattle.morph_base.specs.declared.limits.TheConstants.{EVENTS}
 use Rattle.morph_base.specs.Graphs.{below, IsGraph, IsValidPlan}
 use Rattle.morph_base.specs.Plans.{IsPlan, event_at, event_count}
 use Rattle.op_words.specs.declared.board.Board.{Board}
-use Rattle.op_words.specs.declared.trail.View.{View}
 use Rattle.op_words.specs.Counting.{place, times}
 use Rattle.op_words.specs.Hands.{plan_of, counters_of, IsHandOf}
-use Rattle.op_words.specs.Rule.{of_counter, one}
 use Rattle.op_words.specs.Views.{IsTrailNoted}
 use Rattle.op_eval.specs.declared.runner.Runner.{Runner}
 use Rattle.op_eval.specs.Running.{hand_view}
 use Rattle.op_eval.proofs.Elements.{contains_first, contains_later, contains_none}
 use Rattle.op_eval.proofs.Turns.{in_turn_append}
-use Rattle.abort_lazy.specs.declared.run.level.Call.{Call}
-use Rattle.abort_lazy.specs.declared.run.level.Call.TheVariants.{Took, Tried}
-use Rattle.op_eval.specs.Turns.{IsEnough}
+use Rattle.op_eval.specs.Turns.{TakingCall, Took, Tried, IsEnough}
 use Rattle.worker_gate.specs.Sharing.{shared_from}
 use Rattle.abort_lazy.specs.Sweeps.{IsThrough, MakesCalls, MakesCall, Swept, AreSwept, FitsBoard, CanSweep, tried_by, taken_by, weight_at}
 use Rattle.abort_lazy.specs.Runs.{Rising, HasTried, IsSettling, AreSettling, events_of, event_in}
 use Rattle.abort_lazy.proofs.Alone.{settled_alone}
 use Rattle.abort_lazy.proofs.Levelling.{level_is, next_room, events_inside, events_few}
 use Rattle.abort_lazy.proofs.Summing.{sum_more, below_same}
-use Rattle.abort_lazy.proofs.Trying.{calls_free, calls_tag, calls_made, calls_room, calls_joined, calls_hold, calls_left}
+use Rattle.abort_lazy.proofs.Trying.{calls_free, calls_tag, calls_made, calls_room, calls_joined, calls_hold, calls_times, calls_left}
 
 module _ (p : Plan) where
-  rising_append : (ds cs : List Call) → Rising p cs → Rising p ds → ((i j : ℕ) → Contains cs (Tried i) → Contains ds (Tried j) → (event_at p i).level ≤ (event_at p j).level) → Rising p (ds ++ cs)
+  rising_append : (ds cs : List TakingCall) → Rising p cs → Rising p ds → ((i j : ℕ) → Contains cs (Tried i) → Contains ds (Tried j) → (event_at p i).level ≤ (event_at p j).level) → Rising p (ds ++ cs)
   rising_append [] cs first second above = first
   rising_append (Took c n ∷ ds) cs first second above = rising_append ds cs first second (λ i j low high. above i j low (contains_later (Took c n) ds (Tried j) high))
   rising_append (Tried k ∷ ds) cs first second above = (
@@ -43,7 +39,7 @@ module _ (p : Plan) where
   )
 
   -- all of one level
-  rising_level : (level : ℕ) (cs : List Call) → ((i : ℕ) → Contains cs (Tried i) → (event_at p i).level ≡ level) → Rising p cs
+  rising_level : (level : ℕ) (cs : List TakingCall) → ((i : ℕ) → Contains cs (Tried i) → (event_at p i).level ≡ level) → Rising p cs
   rising_level level [] all = tt
   rising_level level (Took c n ∷ cs) all = rising_level level cs (λ i found. all i (contains_later (Took c n) cs (Tried i) found))
   rising_level level (Tried k ∷ cs) all = (
@@ -54,28 +50,8 @@ module _ (p : Plan) where
     rising_level level cs (λ i found. all i (contains_later (Tried k) cs (Tried i) found)),
   )
 
-  later_only : (l : ℕ) (c : Call) (cs : List Call) → ((k n : ℕ) → Contains (c ∷ cs) (Took k n) → k ≡ l) → (k n : ℕ) → Contains cs (Took k n) → k ≡ l
-  later_only l c cs only k n found = only k n (contains_later c cs (Took k n) found)
-
-  -- other counters are as they were
-  calls_times : (c l : ℕ) → c ≢ l → (cs : List Call) (a b : Runner) → ((k n : ℕ) → Contains cs (Took k n) → k ≡ l) → MakesCalls p cs a b → times c (hand_view b).places ≡ times c (hand_view a).places
-  calls_times c l other [] a b only calls = ap (λ r. times c (hand_view r).places) calls
-  calls_times c l other (Took k n ∷ cs) a b only calls =
-      let same : k ≡ l = only k n (contains_first (Took k n) cs) in
-      ap (λ (v : View). times c v.places) calls.2.view
-      ∙ sum_by-append (of_counter c one) (hand_view calls.0).places (place k n ∷ [])
-      ∙ ap (λ t. times c (hand_view calls.0).places + (0 + cond t 1 0)) (ne_eqb k c (λ e. other (sym e ∙ same)))
-      ∙ none_more (times c (hand_view calls.0).places)
-      ∙ calls_times c l other cs a calls.0 (later_only l (Took k n) cs only) calls.1
-    where
-      none_more : (m : ℕ) → m + (0 + cond false 1 0) ≡ m
-      none_more m = omega arith
-  calls_times c l other (Tried q ∷ cs) a b only calls =
-      let does = calls.2.1.does in
-      ap (times c) does.goes.adds.places ∙ calls_times c l other cs a calls.0 (later_only l (Tried q) cs only) calls.1
-
 -- no number was taken from the counter
-took_none : (c : ℕ) (weight : ℕ → ℕ) (cs : List Call) → ((n : ℕ) → Contains cs (Took c n) → ⊥) → sum_by (taken_by c weight) cs ≡ 0
+took_none : (c : ℕ) (weight : ℕ → ℕ) (cs : List TakingCall) → ((n : ℕ) → Contains cs (Took c n) → ⊥) → sum_by (taken_by c weight) cs ≡ 0
 took_none c weight [] none = refl
 took_none c weight (Took k n ∷ cs) none =
     let rest = took_none c weight cs (λ m found. none m (contains_later (Took k n) cs (Took c m) found)) in
@@ -107,13 +83,13 @@ module _ (p : Plan) (valid : IsPlan p) (graph : IsGraph p) (from level : ℕ) (l
     now : (i : ℕ) → Contains swept.calls (Tried i) → (event_at p i).level ≡ level + 1
     now i found = let is = swept.inside i found in ap (λ k. (event_at p k).level) (sym is.2) ∙ level_is p graph level is.0 lt is.1
 
-    all_calls : List Call
+    all_calls : List TakingCall
     all_calls = swept.calls ++ before.calls
 
-    in_new : (x : Call) → Contains swept.calls x → Contains (swept.calls ++ before.calls) x
+    in_new : (x : TakingCall) → Contains swept.calls x → Contains (swept.calls ++ before.calls) x
     in_new x found = Contains-append_left swept.calls before.calls x found
 
-    in_old : (x : Call) → Contains before.calls x → Contains (swept.calls ++ before.calls) x
+    in_old : (x : TakingCall) → Contains before.calls x → Contains (swept.calls ++ before.calls) x
     in_old x found = Contains-append_right swept.calls before.calls x found
 
     made_all : MakesCalls p (swept.calls ++ before.calls) a b
@@ -142,7 +118,7 @@ module _ (p : Plan) (valid : IsPlan p) (graph : IsGraph p) (from level : ℕ) (l
         omega (arith, two, zero_new)) in
         omega (arith, tried, new, old, more, last, none, same)
       where
-        of_level : ℕ → Call → ℕ
+        of_level : ℕ → TakingCall → ℕ
         of_level l = taken_by (from + l) (weight_at (events_of p l) weight)
 
     tried_more : HasTried p from (level + 1) a b
@@ -191,7 +167,7 @@ module _ (p : Plan) (valid : IsPlan p) (graph : IsGraph p) (from level : ℕ) (l
       joined = calls_joined p swept.calls m b swept.made ∙ old.joined;
     }
 
-  enough_hold : (c many : ℕ) (calls : List Call) (m b : Runner) → MakesCalls p calls m b → IsEnough c many m → IsEnough c many b
+  enough_hold : (c many : ℕ) (calls : List TakingCall) (m b : Runner) → MakesCalls p calls m b → IsEnough c many m → IsEnough c many b
   enough_hold c many calls m b made is =
       elim is [ inl none ↦ inl none | inr last ↦ inr (last.0, calls_hold p calls m b made (place c last.0) last.1, last.2) ]
 

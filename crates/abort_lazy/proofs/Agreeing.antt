@@ -17,8 +17,7 @@ use Rattle.op_words.proofs.Trailing.{calm_open}
 use Rattle.op_eval.specs.declared.runner.Runner.{Runner}
 use Rattle.op_eval.specs.Running.{hand_view}
 use Rattle.op_eval.proofs.Elements.{contains_first, contains_later, contains_cases, contains_none}
-use Rattle.abort_lazy.specs.declared.run.level.Call.{Call}
-use Rattle.abort_lazy.specs.declared.run.level.Call.TheVariants.{Took, Tried}
+use Rattle.op_eval.specs.Turns.{TakingCall, Took, Tried}
 use Rattle.abort_lazy.specs.declared.transaction.TxnAnswer.{TxnAnswer}
 use Rattle.abort_lazy.specs.declared.transaction.TxnAnswer.TheVariants.{Settled as AllSettled, NotYet, Busy}
 use Rattle.abort_lazy.specs.Transactions.{IsSettledOn, is_all_settled}
@@ -125,7 +124,7 @@ other_unseen {v} {u} {xs} o goes lone noted apart unseen seen =
     ]
 
 module _ (p : Plan) (valid : IsPlan p) (o : ℕ) (lt : o < op_count p) where
-  pub settles_on : (cs : List Call) (a b : Runner) → IsLone (hand_view a) → IsTrailNoted (hand_view a) → MakesCalls p cs a b → b.kept.items ≡ []
+  pub settles_on : (cs : List TakingCall) (a b : Runner) → IsLone (hand_view a) → IsTrailNoted (hand_view a) → MakesCalls p cs a b → b.kept.items ≡ []
       → (IsSettledSeen (hand_view a) o → ⊥) → IsSettledSeen (hand_view b) o → IsSettledOn p (hand_view b) o
   settles_on [] a b lone noted calls none unseen seen = absurd (unseen (subst (λ r. IsSettledSeen (hand_view r) o) calls seen))
   settles_on (Took c n ∷ cs) a b lone noted calls none unseen seen =

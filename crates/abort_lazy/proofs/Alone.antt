@@ -11,8 +11,7 @@ use Rattle.op_words.specs.Views.{IsLone, IsSettledSeen}
 use Rattle.op_eval.specs.declared.runner.Runner.{Runner}
 use Rattle.op_eval.specs.Running.{hand_view}
 use Rattle.op_eval.proofs.Elements.{contains_first, contains_later, contains_cases, contains_none, contains_filter}
-use Rattle.abort_lazy.specs.declared.run.level.Call.{Call}
-use Rattle.abort_lazy.specs.declared.run.level.Call.TheVariants.{Took, Tried}
+use Rattle.op_eval.specs.Turns.{TakingCall, Took, Tried}
 use Rattle.abort_lazy.specs.declared.transaction.TxnAnswer.{TxnAnswer}
 use Rattle.abort_lazy.specs.declared.transaction.TxnAnswer.TheVariants.{Settled as AllSettled, NotYet, Busy}
 use Rattle.abort_lazy.specs.Transactions.{is_all_settled}
@@ -52,12 +51,12 @@ module _ (p : Plan) (valid : IsPlan p) (graph : IsGraph p) where
   append_left : {X : Type 0} (xs ys : List X) → ys ≡ [] → xs ++ ys ≡ xs
   append_left xs ys none = ap (λ zs. xs ++ zs) none ∙ append-nil xs
 
-  record IsDone (level : ℕ) (cs : List Call) (m b : Runner) : Type 0 where
+  record IsDone (level : ℕ) (cs : List TakingCall) (m b : Runner) : Type 0 where
     pub before : AreSettledUpTo p level (hand_view b)
     pub none : b.kept.items ≡ m.kept.items
     pub now : (i : ℕ) → Contains cs (Tried i) → (o : ℕ) → InEvent p i o → IsSettledSeen (hand_view b) o
 
-  calls_settle : (level : ℕ) (cs : List Call) (m b : Runner) → IsLone (hand_view m) → AreSettledUpTo p level (hand_view m) → ((i : ℕ) → Contains cs (Tried i) → (event_at p i).level ≡ level + 1)
+  calls_settle : (level : ℕ) (cs : List TakingCall) (m b : Runner) → IsLone (hand_view m) → AreSettledUpTo p level (hand_view m) → ((i : ℕ) → Contains cs (Tried i) → (event_at p i).level ≡ level + 1)
       → MakesCalls p cs m b → IsDone level cs m b
   calls_settle level [] m b lone up of_level calls = record {
     before = subst (λ r. AreSettledUpTo p level (hand_view r)) (sym calls) up;

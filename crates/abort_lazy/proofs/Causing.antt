@@ -29,8 +29,7 @@ use Rattle.op_eval.specs.declared.answers.Left.{Left}
 use Rattle.op_eval.specs.declared.runner.Runner.{Runner}
 use Rattle.op_eval.specs.Running.{hand_view}
 use Rattle.op_eval.proofs.Elements.{contains_first, contains_later, contains_cases, contains_none}
-use Rattle.abort_lazy.specs.declared.run.level.Call.{Call}
-use Rattle.abort_lazy.specs.declared.run.level.Call.TheVariants.{Took, Tried}
+use Rattle.op_eval.specs.Turns.{TakingCall, Took, Tried}
 use Rattle.abort_lazy.specs.declared.transaction.TxnAnswer.{TxnAnswer}
 use Rattle.abort_lazy.specs.declared.transaction.TxnAnswer.TheVariants.{Settled as AllSettled, NotYet, Busy}
 use Rattle.abort_lazy.specs.Ended.{AreAtStart, AreCauses, IsKept, causes_of}
@@ -68,7 +67,7 @@ kept_most i j (Busy at w) = let e = kept_one i j (Busy at w) refl in omega (arit
 
 module _ (p : Plan) (i : ℕ) where
   -- no more than the event was tried
-  calls_kept : (cs : List Call) (a b : Runner) → MakesCalls p cs a b → kept_of i b.kept.items ≤ kept_of i a.kept.items + sum_by (tried_by (is_it i)) cs
+  calls_kept : (cs : List TakingCall) (a b : Runner) → MakesCalls p cs a b → kept_of i b.kept.items ≤ kept_of i a.kept.items + sum_by (tried_by (is_it i)) cs
   calls_kept [] a b calls = let same = ap (λ r. kept_of i r.kept.items) calls in omega (arith, same)
   calls_kept (Took c n ∷ cs) a b calls =
       let before = calls_kept cs a calls.0 calls.1 in
@@ -92,7 +91,7 @@ module _ (p : Plan) (i : ℕ) where
   answer_told v u (NotYet at w) does = let e = kept_one i i (NotYet at w) refl in let is : is_it i i ≡ 1 = cond-true (eqb i i) 1 0 (eq-eqb i i refl) in inr (omega (arith, e, is))
   answer_told v u (Busy at w) does = let e = kept_one i i (Busy at w) refl in let is : is_it i i ≡ 1 = cond-true (eqb i i) 1 0 (eq-eqb i i refl) in inr (omega (arith, e, is))
 
-  calls_answered : (cs : List Call) (a b : Runner) → MakesCalls p cs a b → Contains cs (Tried i) → IsAnswered b
+  calls_answered : (cs : List TakingCall) (a b : Runner) → MakesCalls p cs a b → Contains cs (Tried i) → IsAnswered b
   calls_answered [] a b calls found = absurd (contains_none (Tried i) found)
   calls_answered (Took c n ∷ cs) a b calls found =
       elim (contains_cases (Took c n) cs (Tried i) found) [
@@ -123,7 +122,7 @@ module _ (p : Plan) (i : ℕ) where
       event_is : Tried i ≡ Tried j → i ≡ j
       event_is e = cc
 
-has_tried : (i : ℕ) (cs : List Call) → 1 ≤ sum_by (tried_by (is_it i)) cs → Contains cs (Tried i)
+has_tried : (i : ℕ) (cs : List TakingCall) → 1 ≤ sum_by (tried_by (is_it i)) cs → Contains cs (Tried i)
 has_tried i [] some = absurd (omega (arith, some))
 has_tried i (Took c n ∷ cs) some =
     let first = sum_by-cons (tried_by (is_it i)) (Took c n) cs in
@@ -204,7 +203,7 @@ module _ {p : Plan} {cap counters : ℕ} {ws : List ℕ} {v : View} (end : EndsS
 
 module _ (p : Plan) (valid : IsValidPlan p) (b : Board) (from : ℕ) (start rs : List Runner) (d : Runner) (begun : AreAtStart from start)
     (settling : AreSettling b p from (length p.event_levels.items) start rs) (some : 0 < length rs) {cap : ℕ} {ws : List ℕ} (end : EndsSound p cap (counters_of b) ws (root_view d rs)) where
-  abbrev calls : ℕ → List Call
+  abbrev calls : ℕ → List TakingCall
   calls = calls_made p valid b from start rs d begun settling some end
 
   made : (k : ℕ) → k < length rs → MakesCalls p (calls k) (slice_index_or start k d) (slice_index_or rs k d)

@@ -13,7 +13,7 @@ use Rattle.op_words.specs.Hands.{counters_of}
 use Rattle.op_words.proofs.Sizes.{sum_above, sum_below}
 use Rattle.op_eval.specs.declared.runner.Runner.{Runner}
 use Rattle.op_eval.specs.Running.{hand_view}
-use Rattle.abort_lazy.specs.declared.run.level.Call.{Call}
+use Rattle.op_eval.specs.Turns.{TakingCall}
 use Rattle.abort_lazy.specs.Ended.{AreAtStart, AreTries}
 use Rattle.abort_lazy.specs.Runs.{HasTried, AreSettling, events_of, root_view}
 use Rattle.abort_lazy.specs.Sweeps.{MakesCalls, taken_by, tried_by, weight_at}
@@ -58,14 +58,14 @@ sum_levels p valid graph weight =
 -- ---- the calls of each runner
 
 module _ (p : Plan) (b : Board) (from level : ℕ) (start rs : List Runner) (d : Runner) (settling : AreSettling b p from level start rs) where
-  abbrev pub calls_at : (k : ℕ) → (k < length rs) ⊎ (length rs ≤ k) → List Call
+  abbrev pub calls_at : (k : ℕ) → (k < length rs) ⊎ (length rs ≤ k) → List TakingCall
   calls_at k (inl lt) = (settling.each k d lt).tried.calls
   calls_at k (inr past) = []
 
-  abbrev pub calls_of : ℕ → List Call
+  abbrev pub calls_of : ℕ → List TakingCall
   calls_of k = calls_at k (cases_lt k (length rs))
 
-  abbrev pub IsTriedBy : ℕ → List Call → Type 0
+  abbrev pub IsTriedBy : ℕ → List TakingCall → Type 0
   IsTriedBy k cs = (t : HasTried p from level (slice_index_or start k d) (slice_index_or rs k d)) × (t.calls ≡ cs)
 
   tried_at : (k : ℕ) → k < length rs → (x : (k < length rs) ⊎ (length rs ≤ k)) → IsTriedBy k (calls_at k x)
@@ -80,7 +80,7 @@ module _ (p : Plan) (b : Board) (from level : ℕ) (start rs : List Runner) (d :
 
   -- the weights of the events that all tried are those of the numbers that they took
   module _ (begun : AreAtStart from start) (weight : ℕ → ℕ) where
-    abbrev of_level : ℕ → Call → ℕ
+    abbrev of_level : ℕ → TakingCall → ℕ
     of_level l = taken_by (from + l) (weight_at (events_of p l) weight)
 
     turns_of : (k : ℕ) → k < length rs → sum_by (tried_by weight) (calls_of k) ≡ sum_by (λ l. sum_by (of_level l) (calls_of k)) (below level)
@@ -110,7 +110,7 @@ module _ (p : Plan) (b : Board) (from level : ℕ) (start rs : List Runner) (d :
 
 module _ (p : Plan) (valid : IsValidPlan p) (b : Board) (from : ℕ) (start rs : List Runner) (d : Runner) (begun : AreAtStart from start)
     (settling : AreSettling b p from (length p.event_levels.items) start rs) (some : 0 < length rs) {cap : ℕ} {ws : List ℕ} (end : EndsSound p cap (counters_of b) ws (root_view d rs)) where
-  abbrev pub calls_made : ℕ → List Call
+  abbrev pub calls_made : ℕ → List TakingCall
   calls_made = calls_of p b from (length p.event_levels.items) start rs d settling
 
   root_joined : (hand_view (slice_index_or rs 0 d)).joined ≡ []

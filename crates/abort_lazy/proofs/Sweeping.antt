@@ -16,9 +16,7 @@ use Rattle.op_eval.specs.declared.runner.Runner.{Runner}
 use Rattle.op_eval.specs.Exploring.{Unused}
 use Rattle.op_eval.specs.Running.{hand_view}
 use Rattle.op_eval.proofs.Elements.{contains_first, contains_later, contains_cases, contains_none}
-use Rattle.abort_lazy.specs.declared.run.level.Call.{Call}
-use Rattle.abort_lazy.specs.declared.run.level.Call.TheVariants.{Took, Tried}
-use Rattle.op_eval.specs.Turns.{TakesNumber}
+use Rattle.op_eval.specs.Turns.{TakingCall, Took, Tried, TakesNumber}
 use Rattle.op_eval.proofs.Turns.{times_one}
 use Rattle.abort_lazy.specs.Sweeps.{HasTriedOne, Swept, HasSwept, IsSweeping, tried_by, taken_by, weight_at}
 use Rattle.abort_lazy.proofs.Trying.{calls_lone}
@@ -28,7 +26,7 @@ times_taking c n v = sum_by-append (of_counter c one) v.places (place c n ∷ []
 
 -- ---- an event is tried where its number was taken
 
-module _ (c : ℕ) (events : List ℕ) (weight : ℕ → ℕ) (n : ℕ) (cs : List Call) where
+module _ (c : ℕ) (events : List ℕ) (weight : ℕ → ℕ) (n : ℕ) (cs : List TakingCall) where
   abbrev of_number : ℕ → ℕ
   of_number = weight_at events weight
 
@@ -138,7 +136,7 @@ module _ (b : Board) (p : Plan) (c : ℕ) (events : List ℕ) (a : Runner) (turn
   pub swept_on : (e : Runner) → IsHandOf b e.hand → n < length events → slice_index_or events n 0 < event_count p → HasTriedOne p (slice_index_or events n 0) r e → IsSweeping b p c events (turn + 1) a e
   swept_on e hand lt in_range tries =
       let i : ℕ = slice_index_or events n 0 in
-      let cs : List Call = sweeping.swept.calls in
+      let cs : List TakingCall = sweeping.swept.calls in
       let does = tries.does in
       let same_places : (hand_view e).places ≡ (hand_view r).places = does.goes.adds.places in
       record {

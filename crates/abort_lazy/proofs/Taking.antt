@@ -17,8 +17,7 @@ use Rattle.op_words.proofs.Sizes.{none_left, sum_above, sum_below, sum_inside}
 use Rattle.op_eval.specs.declared.runner.Runner.{Runner}
 use Rattle.op_eval.specs.Gathering.{gathered}
 use Rattle.op_eval.specs.Running.{hand_view}
-use Rattle.abort_lazy.specs.declared.run.level.Call.{Call}
-use Rattle.abort_lazy.specs.declared.run.level.Call.TheVariants.{Took, Tried}
+use Rattle.op_eval.specs.Turns.{TakingCall, Took, Tried}
 use Rattle.abort_lazy.specs.Runs.{root_view}
 use Rattle.abort_lazy.specs.Sweeps.{MakesCalls, taken_by, weight_at}
 use Rattle.abort_lazy.proofs.Summing.{below_same, sum_map, sum_none, sum_places, sum_same}
@@ -30,7 +29,7 @@ abbrev pub weights_of : ℕ → (ℕ → ℕ) → Runner → ℕ
 weights_of c weight r = sum_by (of_counter c weight) (hand_view r).places
 
 module _ (c : ℕ) (weight : ℕ → ℕ) where
-  pub calls_taken : (p : Plan) (cs : List Call) (a b : Runner) → MakesCalls p cs a b → weights_of c weight b ≡ weights_of c weight a + sum_by (taken_by c weight) cs
+  pub calls_taken : (p : Plan) (cs : List TakingCall) (a b : Runner) → MakesCalls p cs a b → weights_of c weight b ≡ weights_of c weight a + sum_by (taken_by c weight) cs
   calls_taken p [] a b calls = let same = ap (weights_of c weight) calls in omega (arith, same)
   calls_taken p (Took k n ∷ cs) a b calls =
       let before = calls_taken p cs a calls.0 calls.1 in

@@ -1,5 +1,5 @@
 -- What calls in turn keep of a runner, and why what it left stays true.
-use Rattle.std.proofs.Common.{◌≡◌, ℕ, ◌<◌, ◌≤◌, true, false, List, [], ◌∷◌, ◌++◌, sym, ap, ◌∙◌, subst, inl, inr, arith, None}
+use Rattle.std.proofs.Common.{◌≡◌, ◌≢◌, ◌⊎◌, ℕ, ◌<◌, ◌≤◌, true, false, List, [], ◌∷◌, ◌++◌, sym, ap, ◌∙◌, subst, inl, inr, arith, None}
 use Rattle.std.specs.Prelude.{Contains}
 use Rattle.std.proofs.lemmas.Bool.{false≢true}
 use Rattle.std.proofs.lemmas.List.Elements.{Contains-append_left, Contains-append_right, Contains-append_cases}
@@ -13,21 +13,20 @@ use Rattle.morph_base.proofs.OutcomeLaws.{source_precedes}
 use Rattle.op_words.specs.declared.trail.Item.{Item}
 use Rattle.op_words.specs.declared.trail.Place.{Place}
 use Rattle.op_words.specs.declared.trail.View.{View}
-use Rattle.op_words.specs.Counting.{place}
+use Rattle.op_words.specs.Counting.{place, times}
 use Rattle.op_words.specs.Trails.{loaded, left, IsSourceOf, IsShaken, OwnIn}
 use Rattle.op_words.specs.Views.{IsLone, IsTrailNoted, IsSettledSeen, AddsAndFrees}
 use Rattle.op_words.proofs.Trailing.{disturbed_more, disturbed_later}
 use Rattle.op_eval.specs.declared.answers.Left.{Left}
 use Rattle.op_eval.specs.declared.runner.Runner.{Runner}
 use Rattle.op_eval.specs.Running.{hand_view}
+use Rattle.op_eval.proofs.Turns.{places_taken, places_hold, times_still}
 use Rattle.op_eval.proofs.Elements.{contains_first, contains_later, contains_cases, contains_none}
-use Rattle.abort_lazy.specs.declared.run.level.Call.{Call}
-use Rattle.abort_lazy.specs.declared.run.level.Call.TheVariants.{Took, Tried}
+use Rattle.op_eval.specs.Turns.{TakingCall, Took, Tried, TakesNumber}
 use Rattle.abort_lazy.specs.declared.transaction.TxnAnswer.{TxnAnswer}
 use Rattle.abort_lazy.specs.declared.transaction.TxnAnswer.TheVariants.{Settled as AllSettled, NotYet, Busy}
 use Rattle.abort_lazy.specs.Transactions.{TxnDoes, IsSourceCause}
-use Rattle.op_eval.specs.Turns.{TakesNumber}
-use Rattle.abort_lazy.specs.Sweeps.{left_of, MakesCalls}
+use Rattle.abort_lazy.specs.Sweeps.{left_of, HasTriedOne, MakesCalls}
 use Rattle.abort_lazy.specs.Runs.{IsLeft, IsLeftBySource, Rising}
 use Rattle.abort_lazy.proofs.Carrying.{load_is_settled}
 use Rattle.abort_lazy.proofs.Ending.{in_range, of_event}
@@ -40,45 +39,48 @@ seen_taken c n o a b taken seen =
 -- ---- what calls keep of a runner
 
 module _ (p : Plan) where
-  pub calls_free : (cs : List Call) (a b : Runner) → MakesCalls p cs a b → (hand_view a).claim ≡ None → (hand_view b).claim ≡ None
+  pub calls_free : (cs : List TakingCall) (a b : Runner) → MakesCalls p cs a b → (hand_view a).claim ≡ None → (hand_view b).claim ≡ None
   calls_free [] a b calls free = ap (λ r. (hand_view r).claim) calls ∙ free
   calls_free (Took c n ∷ cs) a b calls free = ap (λ (v : View). v.claim) calls.2.view ∙ calls_free cs a calls.0 calls.1 free
   calls_free (Tried i ∷ cs) a b calls free = let does = calls.2.1.does in does.goes.free
 
-  pub calls_tag : (cs : List Call) (a b : Runner) → MakesCalls p cs a b → (hand_view b).tag ≡ (hand_view a).tag
+  pub calls_tag : (cs : List TakingCall) (a b : Runner) → MakesCalls p cs a b → (hand_view b).tag ≡ (hand_view a).tag
   calls_tag [] a b calls = ap (λ r. (hand_view r).tag) calls
   calls_tag (Took c n ∷ cs) a b calls = ap (λ (v : View). v.tag) calls.2.view ∙ calls_tag cs a calls.0 calls.1
   calls_tag (Tried i ∷ cs) a b calls = let does = calls.2.1.does in does.goes.adds.tag ∙ calls_tag cs a calls.0 calls.1
 
-  pub calls_made : (cs : List Call) (a b : Runner) → MakesCalls p cs a b → (hand_view b).made ≡ (hand_view a).made
+  pub calls_made : (cs : List TakingCall) (a b : Runner) → MakesCalls p cs a b → (hand_view b).made ≡ (hand_view a).made
   calls_made [] a b calls = ap (λ r. (hand_view r).made) calls
   calls_made (Took c n ∷ cs) a b calls = ap (λ (v : View). v.made) calls.2.view ∙ calls_made cs a calls.0 calls.1
   calls_made (Tried i ∷ cs) a b calls = let does = calls.2.1.does in does.goes.adds.made ∙ calls_made cs a calls.0 calls.1
 
-  pub calls_room : (cs : List Call) (a b : Runner) → MakesCalls p cs a b → (hand_view b).room ≡ (hand_view a).room
+  pub calls_room : (cs : List TakingCall) (a b : Runner) → MakesCalls p cs a b → (hand_view b).room ≡ (hand_view a).room
   calls_room [] a b calls = ap (λ r. (hand_view r).room) calls
   calls_room (Took c n ∷ cs) a b calls = ap (λ (v : View). v.room) calls.2.view ∙ calls_room cs a calls.0 calls.1
   calls_room (Tried i ∷ cs) a b calls = let does = calls.2.1.does in does.goes.adds.room ∙ calls_room cs a calls.0 calls.1
 
-  pub calls_joined : (cs : List Call) (a b : Runner) → MakesCalls p cs a b → (hand_view b).joined ≡ (hand_view a).joined
+  pub calls_joined : (cs : List TakingCall) (a b : Runner) → MakesCalls p cs a b → (hand_view b).joined ≡ (hand_view a).joined
   calls_joined [] a b calls = ap (λ r. (hand_view r).joined) calls
   calls_joined (Took c n ∷ cs) a b calls = ap (λ (v : View). v.joined) calls.2.view ∙ calls_joined cs a calls.0 calls.1
   calls_joined (Tried i ∷ cs) a b calls = let does = calls.2.1.does in does.goes.adds.joined ∙ calls_joined cs a calls.0 calls.1
 
-  pub calls_lone : (cs : List Call) (a b : Runner) → MakesCalls p cs a b → IsLone (hand_view a) → IsLone (hand_view b)
+  pub calls_lone : (cs : List TakingCall) (a b : Runner) → MakesCalls p cs a b → IsLone (hand_view a) → IsLone (hand_view b)
   calls_lone cs a b calls lone = record { root = calls_tag cs a b calls ∙ lone.root; alone = calls_made cs a b calls ∙ lone.alone }
 
-  -- places stay
-  pub calls_hold : (cs : List Call) (a b : Runner) → MakesCalls p cs a b → (x : Place) → Contains (hand_view a).places x → Contains (hand_view b).places x
-  calls_hold [] a b calls x found = subst (λ r. Contains (hand_view r).places x) (sym calls) found
-  calls_hold (Took k m ∷ cs) a b calls x found =
-      subst (λ (v : View). Contains v.places x) (sym calls.2.view)
-      (Contains-append_left (hand_view calls.0).places (place k m ∷ []) x (calls_hold cs a calls.0 calls.1 x found))
-  calls_hold (Tried q ∷ cs) a b calls x found =
-      let does = calls.2.1.does in
-      subst (λ xs. Contains xs x) (sym does.goes.adds.places) (calls_hold cs a calls.0 calls.1 x found)
+  -- the places of a counter, where trying an event takes none
+  calls_still : (i : ℕ) (a b : Runner) → (i < event_count p) × HasTriedOne p i a b → (hand_view b).places ≡ (hand_view a).places
+  calls_still i a b tried = let does = tried.1.does in does.goes.adds.places
 
-  pub calls_noted : (cs : List Call) (a b : Runner) → MakesCalls p cs a b → IsTrailNoted (hand_view a) → IsTrailNoted (hand_view b)
+  pub calls_places : (cs : List TakingCall) (a b : Runner) → MakesCalls p cs a b → (c n : ℕ) → Contains (hand_view b).places (place c n) → Contains (hand_view a).places (place c n) ⊎ Contains cs (Took c n)
+  calls_places = places_taken _ calls_still
+
+  pub calls_hold : (cs : List TakingCall) (a b : Runner) → MakesCalls p cs a b → (x : Place) → Contains (hand_view a).places x → Contains (hand_view b).places x
+  calls_hold = places_hold _ calls_still
+
+  pub calls_times : (c l : ℕ) → c ≢ l → (cs : List TakingCall) (a b : Runner) → ((k n : ℕ) → Contains cs (Took k n) → k ≡ l) → MakesCalls p cs a b → times c (hand_view b).places ≡ times c (hand_view a).places
+  calls_times = times_still _ calls_still
+
+  pub calls_noted : (cs : List TakingCall) (a b : Runner) → MakesCalls p cs a b → IsTrailNoted (hand_view a) → IsTrailNoted (hand_view b)
   calls_noted [] a b calls noted = subst (λ r. IsTrailNoted (hand_view r)) (sym calls) noted
   calls_noted (Took c n ∷ cs) a b calls noted =
       subst IsTrailNoted (sym calls.2.view) (let before = calls_noted cs a calls.0 calls.1 noted in record { each = before.each })
@@ -208,7 +210,7 @@ module _ (p : Plan) (valid : IsPlan p) (graph : IsGraph p) where
           )
         ]
 
-  pub calls_tried : (cs : List Call) (a b : Runner) → MakesCalls p cs a b → (i : ℕ) → Contains cs (Tried i) → i < event_count p
+  pub calls_tried : (cs : List TakingCall) (a b : Runner) → MakesCalls p cs a b → (i : ℕ) → Contains cs (Tried i) → i < event_count p
   calls_tried [] a b calls i found = absurd (omega (arith, found.1))
   calls_tried (Took c n ∷ cs) a b calls i found =
       elim (contains_cases (Took c n) cs (Tried i) found) [
@@ -228,7 +230,7 @@ module _ (p : Plan) (valid : IsPlan p) (graph : IsGraph p) where
       event_is e = cc
 
   -- each cause that a runner kept is true of its trail in the end, if it tried events by rising level
-  pub calls_left : (cs : List Call) (a b : Runner) → IsTrailNoted (hand_view a) → a.kept.items ≡ [] → Rising p cs → MakesCalls p cs a b
+  pub calls_left : (cs : List TakingCall) (a b : Runner) → IsTrailNoted (hand_view a) → a.kept.items ≡ [] → Rising p cs → MakesCalls p cs a b
       → (x : Left) → Contains b.kept.items x → Contains cs (Tried x.event) × IsLeft p x.event (hand_view b).tag (hand_view b).trail x.at x.word
   calls_left [] a b noted empty rising calls x found = absurd (contains_none x (subst (λ zs. Contains zs x) (ap (λ r. r.kept.items) calls ∙ empty) found))
   calls_left (Took c n ∷ cs) a b noted empty rising calls x found =

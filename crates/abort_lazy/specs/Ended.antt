@@ -14,7 +14,7 @@ use Rattle.op_eval.specs.declared.answers.Left.{Left}
 use Rattle.op_eval.specs.declared.runner.Runner.{Runner}
 use Rattle.op_eval.specs.Exploring.{Unused}
 use Rattle.op_eval.specs.Running.{hand_view}
-use Rattle.abort_lazy.specs.declared.run.level.Call.{Call}
+use Rattle.op_eval.specs.Turns.{TakingCall}
 use Rattle.abort_lazy.specs.Sweeps.{MakesCalls, tried_by}
 
 -- ---- each event once
@@ -29,7 +29,7 @@ pub record AreAtStart (from : ℕ) (start : List Runner) : Type 0 where
 
 -- Over the calls of all runners, each event of the plan was tried once, and no other
 pub record AreTries (p : Plan) (start rs : List Runner) : Type 0 where
-  pub calls : ℕ → List Call
+  pub calls : ℕ → List TakingCall
   pub made : (k : ℕ) (d : Runner) → k < length start
       → MakesCalls p (calls k) (slice_index_or start k d) (slice_index_or rs k d)
   pub once : (weight : ℕ → ℕ)

@@ -20,9 +20,7 @@ use Rattle.op_eval.specs.Exploring.{Unused}
 use Rattle.op_eval.specs.Gathering.{runners_of, gathered, HasPlaces, AreAtRest}
 use Rattle.op_eval.specs.Running.{hand_view}
 use Rattle.abort_lazy.specs.declared.run.SettledRun.{SettledRun}
-use Rattle.abort_lazy.specs.declared.run.level.Call.{Call}
-use Rattle.abort_lazy.specs.declared.run.level.Call.TheVariants.{Took, Tried}
-use Rattle.op_eval.specs.Turns.{IsEnough}
+use Rattle.op_eval.specs.Turns.{TakingCall, Took, Tried, IsEnough}
 use Rattle.worker_gate.specs.Sharing.{shared_from}
 use Rattle.abort_lazy.specs.Sweeps.{MakesCalls, tried_by, taken_by, weight_at}
 
@@ -69,7 +67,7 @@ AreSettledUpTo p level v =
     (i : ℕ) → i < event_count p → (event_at p i).level ≤ level → (o : ℕ) → InEvent p i o → IsSettledSeen v o
 
 -- Events were tried by rising level
-abbrev pub Rising : Plan → List Call → Type 0
+abbrev pub Rising : Plan → List TakingCall → Type 0
 Rising p [] = Unit {0}
 Rising p (Took c n ∷ cs) = Rising p cs
 Rising p (Tried j ∷ cs) = ((i : ℕ) → Contains cs (Tried i) → (event_at p i).level ≤ (event_at p j).level) × Rising p cs
@@ -79,7 +77,7 @@ Rising p (Tried j ∷ cs) = ((i : ℕ) → Contains cs (Tried i) → (event_at p
 -- The runner took numbers from the counters of the levels up to this one, and tried the events of these numbers, each
 -- as often as its number was taken, and no others
 pub record HasTried (p : Plan) (from level : ℕ) (a b : Runner) : Type 0 where
-  pub calls : List Call
+  pub calls : List TakingCall
   pub made : MakesCalls p calls a b
   pub turns : (weight : ℕ → ℕ)
       → sum_by (tried_by weight) calls

@@ -11,10 +11,8 @@ use Rattle.op_eval.specs.declared.answers.Left.{Left}
 use Rattle.op_eval.specs.declared.runner.Runner.{Runner}
 use Rattle.op_eval.specs.Exploring.{Unused}
 use Rattle.op_eval.specs.Running.{hand_view}
-use Rattle.op_eval.specs.Turns.{InTurn, IsEnough, TakesNumber}
+use Rattle.op_eval.specs.Turns.{InTurn, IsEnough, TakingCall, Took, Tried, MakesTakingCall}
 use Rattle.worker_gate.specs.Sharing.{shared_from}
-use Rattle.abort_lazy.specs.declared.run.level.Call.{Call}
-use Rattle.abort_lazy.specs.declared.run.level.Call.TheVariants.{Took, Tried}
 use Rattle.abort_lazy.specs.declared.transaction.TxnAnswer.{TxnAnswer}
 use Rattle.abort_lazy.specs.declared.transaction.TxnAnswer.TheVariants.{Settled as AllSettled, NotYet, Busy}
 use Rattle.abort_lazy.specs.Transactions.{TxnDoes, counted_all}
@@ -37,21 +35,20 @@ pub record HasTriedOne (p : Plan) (i : ℕ) (a b : Runner) : Type 0 where
   pub room : a.kept.room ≤ b.kept.room + 1
 
 -- The call led from runner a to runner b: the runner took a number, or tried an event
-abbrev pub MakesCall : Plan → Call → Runner → Runner → Type 0
-MakesCall p (Took c n) a b = TakesNumber c n a b
-MakesCall p (Tried i) a b = (i < event_count p) × HasTriedOne p i a b
+abbrev pub MakesCall : Plan → TakingCall → Runner → Runner → Type 0
+MakesCall p = MakesTakingCall (λ i a b. (i < event_count p) × HasTriedOne p i a b)
 
 -- The calls, the last one first, led from runner a to runner b
-abbrev pub MakesCalls : Plan → List Call → Runner → Runner → Type 0
+abbrev pub MakesCalls : Plan → List TakingCall → Runner → Runner → Type 0
 MakesCalls p = InTurn (MakesCall p)
 
 -- The weight of the event that the call tried
-abbrev pub tried_by : (ℕ → ℕ) → Call → ℕ
+abbrev pub tried_by : (ℕ → ℕ) → TakingCall → ℕ
 tried_by weight (Took c n) = 0
 tried_by weight (Tried i) = weight i
 
 -- The weight of the number that the call took from counter c
-abbrev pub taken_by : ℕ → (ℕ → ℕ) → Call → ℕ
+abbrev pub taken_by : ℕ → (ℕ → ℕ) → TakingCall → ℕ
 taken_by c weight (Took k n) = if k == c then weight n else 0
 taken_by c weight (Tried i) = 0
 
@@ -76,7 +73,7 @@ pub record CanSweep (b : Board) (c : ℕ) (events : List ℕ) (r : Runner) : Typ
 -- The runner took numbers from the counter, and tried the events of these numbers, each as often as its number was
 -- taken, and no others
 pub record Swept (p : Plan) (c : ℕ) (events : List ℕ) (a b : Runner) : Type 0 where
-  pub calls : List Call
+  pub calls : List TakingCall
   pub made : MakesCalls p calls a b
   pub only : (k n : ℕ) → Contains calls (Took k n) → k ≡ c
   pub tried :

@@ -22,26 +22,24 @@ use Rattle.interleaving_core.proofs.Basics.{count_some}
 use Rattle.interleaving_core.proofs.Bounds.{sum_equal, evaluated-rolled}
 use Rattle.interleaving_core.proofs.Ordering.{run_same}
 use Rattle.interleaving_core.proofs.Sources.{settled_right}
-use Rattle.interleaving_core.proofs.Stale.{one_small, rolled-stale}
+use Rattle.interleaving_core.proofs.Stale.{one_small, rolled-stale, run_shown}
 use Rattle.op_words.specs.declared.trail.View.{View}
 use Rattle.op_words.specs.Closing.{EndsSound}
 use Rattle.op_words.specs.Plays.{IsTold}
 use Rattle.op_words.specs.Trails.{last_word}
 use Rattle.op_words.specs.Views.{IsLone, IsSettledSeen}
 use Rattle.op_words.proofs.Noting.{noted_present, noted_source}
-use Rattle.interleaving_core.proofs.Stale.{run_shown}
 use Rattle.op_words.proofs.Sizes.{range_size}
 use Rattle.op_eval.specs.declared.runner.Runner.{Runner}
 use Rattle.op_eval.specs.Running.{hand_view}
 use Rattle.op_eval.specs.Alone.{Ran}
-use Rattle.abort_lazy.specs.declared.run.level.Call.{Call}
-use Rattle.abort_lazy.specs.declared.run.level.Call.TheVariants.{Took, Tried}
+use Rattle.op_eval.specs.Turns.{TakingCall, Took, Tried}
 use Rattle.abort_lazy.specs.Sweeps.{MakesCalls}
 use Rattle.abort_lazy.specs.Transactions.{IsSettledOn}
 use Rattle.abort_lazy.proofs.Agreeing.{settles_on}
 
 -- steps are put before those that there were
-calls_steps : (p : Plan) (cs : List Call) (a b : Runner) → MakesCalls p cs a b → (es : List CoreEvent) × ((hand_view b).events ≡ es ++ (hand_view a).events)
+calls_steps : (p : Plan) (cs : List TakingCall) (a b : Runner) → MakesCalls p cs a b → (es : List CoreEvent) × ((hand_view b).events ≡ es ++ (hand_view a).events)
 calls_steps p [] a b calls = ([], ap (λ r. (hand_view r).events) calls)
 calls_steps p (Took c n ∷ cs) a b calls = let before = calls_steps p cs a calls.0 calls.1 in (before.0, ap (λ (v : View). v.events) calls.2.view ∙ before.1)
 calls_steps p (Tried i ∷ cs) a b calls =
@@ -58,7 +56,7 @@ pub record IsLoneRun (p : Plan) (m b : Runner) : Type 0 where
   pub cap : (hand_view m).cap ≡ 1
   pub ran : (o : ℕ) → o < op_count p → Ran (hand_view m).trail o
   pub unseen : (o : ℕ) → IsSettledSeen (hand_view m) o → ⊥
-  pub calls : List Call
+  pub calls : List TakingCall
   pub made : MakesCalls p calls m b
   pub none : b.kept.items ≡ []
   pub settled : (o : ℕ) → o < op_count p → IsSettledSeen (hand_view b) o

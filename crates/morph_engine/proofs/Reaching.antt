@@ -3,7 +3,6 @@ use Rattle.std.proofs.Common.{◌≡◌, ℕ, zero, suc, ◌+◌, ◌<◌, ◌�
 use Rattle.std.specs.Prelude.{Contains, slice_index, slice_index_or, sum_by}
 use Rattle.std.proofs.lemmas.Bool.{cases_eq, cond-true, cond-false, eq-eqb, ne_eqb}
 use Rattle.std.proofs.lemmas.List.{length-map, get_or-map, get_or_default}
-use Rattle.std.proofs.lemmas.List.Elements.{Contains-append_cases}
 use Rattle.std.proofs.lemmas.List.Sums.{sum_by-cons, get_or-le-sum_by}
 use Rattle.morph_base.specs.declared.plan.Plan.{Plan}
 use Rattle.morph_base.specs.Graphs.{below}
@@ -26,40 +25,24 @@ use Rattle.op_eval.specs.Running.{hand_view}
 use Rattle.op_eval.proofs.Elements.{contains_first, contains_later}
 use Rattle.strata_explorer.specs.Levels.{ops_of, op_of, level_of, AreStrata, IsWholeCounter}
 use Rattle.strata_explorer.proofs.Climbing.{union}
-use Rattle.abort_lazy.specs.declared.run.level.Call.{Call}
-use Rattle.abort_lazy.specs.declared.run.level.Call.TheVariants.{Took, Tried}
+use Rattle.op_eval.specs.Turns.{TakingCall, Took, Tried}
 use Rattle.abort_lazy.specs.Runs.{AreSettling, root_view}
 use Rattle.abort_lazy.specs.Sweeps.{MakesCalls}
 use Rattle.abort_lazy.proofs.Gathered.{gathered_has, gathered_tag, gathered_trail}
 use Rattle.abort_lazy.proofs.Summing.{below_has, below_some, sum_places}
 use Rattle.abort_lazy.proofs.Taking.{weights_of, root_taken, taken_below}
-use Rattle.abort_lazy.proofs.Trying.{calls_hold}
+use Rattle.abort_lazy.proofs.Trying.{calls_hold, calls_places}
 use Rattle.morph_engine.specs.Runs.{HasHand, IsPlaceReached, IsItemReached}
 
 -- ---- while events are tried
 
 module _ (p : Plan) where
   -- a place of a counter that was not used then was taken before
-  calls_back : (c n : ℕ) (cs : List Call) (a b : Runner) → ((m : ℕ) → Contains cs (Took c m) → ⊥) → MakesCalls p cs a b → Contains (hand_view b).places (place c n) → Contains (hand_view a).places (place c n)
-  calls_back c n [] a b unused calls found = subst (λ r. Contains (hand_view r).places (place c n)) calls found
-  calls_back c n (Took k m ∷ cs) a b unused calls found =
-      elim (Contains-append_cases (hand_view calls.0).places (place k m ∷ []) (place c n) (subst (λ (v : View). Contains v.places (place c n)) calls.2.view found)) [
-        | inl old ↦ calls_back c n cs a calls.0 (λ j inside. unused j (contains_later (Took k m) cs (Took c j) inside)) calls.1 old
-        | inr new ↦ absurd (unused m (subst (λ j. Contains (Took k m ∷ cs) (Took j m)) (sym (its new)) (contains_first (Took k m) cs)))
-      ]
-    where
-      its : Contains (place k m ∷ []) (place c n) → c ≡ k
-      its inside = at inside.0 inside.1 inside.2
-        where
-          at : (j : ℕ) → j < 1 → slice_index_or (place k m ∷ []) j (place c n) ≡ place c n → c ≡ k
-          at zero lt is = ap (λ (x : Place). x.counter) (sym is)
-          at (suc j) lt is = absurd (omega (arith, lt))
-  calls_back c n (Tried i ∷ cs) a b unused calls found =
-      let does = calls.2.1.does in
-      calls_back c n cs a calls.0 (λ j inside. unused j (contains_later (Tried i) cs (Took c j) inside)) calls.1 (subst (λ xs. Contains xs (place c n)) does.goes.adds.places found)
+  calls_back : (c n : ℕ) (cs : List TakingCall) (a b : Runner) → ((m : ℕ) → Contains cs (Took c m) → ⊥) → MakesCalls p cs a b → Contains (hand_view b).places (place c n) → Contains (hand_view a).places (place c n)
+  calls_back c n cs a b unused calls found = elim (calls_places p cs a b calls c n found) [ inl before ↦ before | inr took ↦ absurd (unused n took) ]
 
   -- what was reached stays so
-  calls_reached : (o : ℕ) (cs : List Call) (a b : Runner) → MakesCalls p cs a b → IsReached p o (hand_view a).trail → IsReached p o (hand_view b).trail
+  calls_reached : (o : ℕ) (cs : List TakingCall) (a b : Runner) → MakesCalls p cs a b → IsReached p o (hand_view a).trail → IsReached p o (hand_view b).trail
   calls_reached o [] a b calls is = subst (λ r. IsReached p o (hand_view r).trail) (sym calls) is
   calls_reached o (Took c n ∷ cs) a b calls is = subst (λ (v : View). IsReached p o v.trail) (sym calls.2.view) (calls_reached o cs a calls.0 calls.1 is)
   calls_reached o (Tried i ∷ cs) a b calls is =

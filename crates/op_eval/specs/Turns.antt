@@ -19,3 +19,13 @@ pub record TakesNumber (c n : ℕ) (a b : Runner) : Type 0 where
 -- The runner saw counter c run out: it took the last of this many numbers or a later one, or there are none
 abbrev pub IsEnough : ℕ → ℕ → Runner → Type 0
 IsEnough c many r = (many ≡ 0) ⊎ ((n : ℕ) × Contains (hand_view r).places (place c n) × (many ≤ n + 1))
+
+-- A runner that takes numbers from counters took one, or tried what it names: an operation or an event
+pub data TakingCall : Type 0 where
+  Took : (counter number : ℕ) → TakingCall
+  Tried : (item : ℕ) → TakingCall
+
+-- The call led from runner a to runner b: the runner took a number, or tried an item as the relation says
+abbrev pub MakesTakingCall : (ℕ → Runner → Runner → Type 0) → TakingCall → Runner → Runner → Type 0
+MakesTakingCall tries (Took c n) a b = TakesNumber c n a b
+MakesTakingCall tries (Tried i) a b = tries i a b

@@ -14,8 +14,8 @@ use Rattle.op_eval.specs.Running.{hand_view, counted}
 use Rattle.abort_eager.specs.Sweeps.{cascade_for, IsLike, SweepsFor, Attempts}
 use Rattle.abort_eager.specs.Targets.{targets}
 use Rattle.abort_eager.specs.Touching.{Touching}
-use Rattle.op_eval.specs.Turns.{IsEnough, TakesNumber}
-use Rattle.strata_explorer.specs.Calls.{PassCall, Took, Tried, MakesPassCall, MakesPassCalls}
+use Rattle.op_eval.specs.Turns.{IsEnough, TakesNumber, TakingCall, Took, Tried}
+use Rattle.strata_explorer.specs.Calls.{MakesPassCall, MakesPassCalls}
 use Rattle.worker_gate.specs.Sharing.{shared_from}
 use Rattle.strata_explorer.specs.Passes.{AreLike, Worked, IsPassed}
 use Rattle.strata_explorer.specs.Walks.{WalksPlaces, WalksAll}
@@ -55,7 +55,7 @@ module _ (p : Plan) (cap : ℕ) (abort : Abort) where
     },
   )
 
-  calling_from : (c : PassCall) (a from b : Runner) → IsLike a from → MakesPassCall p cap abort c from b → MakesPassCall p cap abort c a b
+  calling_from : (c : TakingCall) (a from b : Runner) → IsLike a from → MakesPassCall p cap abort c from b → MakesPassCall p cap abort c a b
   calling_from (Took c n) a from b like took = record {
     view = took.view ∙ ap (taking c n) like.view;
     takes = subst (IsNumberTaken c n) like.view took.takes;
@@ -64,7 +64,7 @@ module _ (p : Plan) (cap : ℕ) (abort : Abort) where
   }
   calling_from (Tried o) a from b like tried = (tried.0, (tried.1.0, tries_from o a from tried.1.0 tried.0 like tried.1.1, tried.1.2))
 
-  calling_to : (c : PassCall) (a b to : Runner) → MakesPassCall p cap abort c a b → IsLike b to → MakesPassCall p cap abort c a to
+  calling_to : (c : TakingCall) (a b to : Runner) → MakesPassCall p cap abort c a b → IsLike b to → MakesPassCall p cap abort c a to
   calling_to (Took c n) a b to took like = record {
     view = like.view ∙ took.view;
     takes = took.takes;
@@ -75,12 +75,12 @@ module _ (p : Plan) (cap : ℕ) (abort : Abort) where
 
   -- ---- calls in turn: with none of them it would be the same runner
 
-  calls_from : (cs : List PassCall) (a from b : Runner) → 0 < length cs → IsLike a from → MakesPassCalls p cap abort cs from b → MakesPassCalls p cap abort cs a b
+  calls_from : (cs : List TakingCall) (a from b : Runner) → 0 < length cs → IsLike a from → MakesPassCalls p cap abort cs from b → MakesPassCalls p cap abort cs a b
   calls_from [] a from b some like calls = absurd (omega arith)
   calls_from (c ∷ []) a from b some like calls = (a, refl, calling_from c a from b like (subst (λ m. MakesPassCall p cap abort c m b) calls.1 calls.2))
   calls_from (c ∷ d ∷ ds) a from b some like calls = (calls.0, calls_from (d ∷ ds) a from calls.0 (omega arith) like calls.1, calls.2)
 
-  calls_to : (cs : List PassCall) (a b to : Runner) → 0 < length cs → MakesPassCalls p cap abort cs a b → IsLike b to → MakesPassCalls p cap abort cs a to
+  calls_to : (cs : List TakingCall) (a b to : Runner) → 0 < length cs → MakesPassCalls p cap abort cs a b → IsLike b to → MakesPassCalls p cap abort cs a to
   calls_to [] a b to some calls like = absurd (omega arith)
   calls_to (c ∷ cs) a b to some calls like = (calls.0, calls.1, calling_to c calls.0 b to calls.2 like)
 

@@ -1,5 +1,5 @@
 -- Passes one after another, and the union over runners.
-use Rattle.std.proofs.Common.{◌≡◌, ◌≢◌, ◌⊎◌, ℕ, zero, suc, ◌+◌, ◌<◌, ◌≤◌, ◌^◌, false, cond, eqb, List, [], ◌∷◌, length, set, refl, sym, ap, ◌∙◌, subst, inl, inr, arith}
+use Rattle.std.proofs.Common.{◌≡◌, ◌≢◌, ◌⊎◌, ℕ, zero, suc, ◌+◌, ◌<◌, ◌≤◌, ◌^◌, cond, List, [], ◌∷◌, length, set, refl, sym, ap, ◌∙◌, subst, inl, inr, arith}
 use Rattle.std.specs.Prelude.{Contains, All, count_by, slice_index_or, nat_lt}
 use Rattle.std.proofs.lemmas.Bool.{cases_eq, cases_lt, eq-eqb, ne_eqb}
 use Rattle.std.proofs.lemmas.List.Sums.{sum_by-append}
@@ -11,21 +11,22 @@ use Rattle.op_words.specs.declared.trail.Place.{Place}
 use Rattle.op_words.specs.declared.trail.View.{View}
 use Rattle.op_words.specs.Trails.{IsReached}
 use Rattle.op_eval.specs.declared.runner.Runner.{Runner}
-use Rattle.op_words.specs.Counting.{times, place}
+use Rattle.op_words.specs.Counting.{place}
 use Rattle.op_eval.specs.Exploring.{total}
 use Rattle.op_eval.specs.Running.{hand_view}
 use Rattle.op_eval.proofs.Totals.{tries_total, full_stays}
 use Rattle.op_eval.proofs.Elements.{contains_first, contains_later}
-use Rattle.strata_explorer.specs.Calls.{PassCall, Took, Tried, MakesPassCalls}
-use Rattle.op_eval.specs.Turns.{IsEnough}
+use Rattle.op_eval.proofs.Turns.{only_later}
+use Rattle.op_eval.specs.Turns.{TakingCall, Took, Tried, IsEnough}
+use Rattle.strata_explorer.specs.Calls.{MakesPassCalls}
 use Rattle.strata_explorer.specs.Passes.{is_tried, names, Worked, IsPassed}
 use Rattle.strata_explorer.specs.Levels.{ops_of, op_of, level_of, named, IsStrata, AreStrata, IsWholeCounter}
 use Rattle.abort_eager.proofs.Sweeping.{attempted}
 use Rattle.strata_explorer.proofs.Turning.{count_first, times_some}
 use Rattle.strata_explorer.proofs.Further.{calls_keep, calls_reach}
-use Rattle.strata_explorer.proofs.Running.{calls_places, calls_hold, calls_running}
+use Rattle.strata_explorer.proofs.Running.{calls_places, calls_hold, calls_times, calls_running}
 
-pub calls_total : (p : Plan) (cap : ℕ) (abort : Abort) (cs : List PassCall) (a b : Runner) → MakesPassCalls p cap abort cs a b → (total a.answers + count_by is_tried cs ≤ total b.answers) ⊎ (2 ^ 64 ≤ total b.answers + 1)
+pub calls_total : (p : Plan) (cap : ℕ) (abort : Abort) (cs : List TakingCall) (a b : Runner) → MakesPassCalls p cap abort cs a b → (total a.answers + count_by is_tried cs ≤ total b.answers) ⊎ (2 ^ 64 ≤ total b.answers + 1)
 calls_total p cap abort [] a b calls = inl (let e : total b.answers ≡ total a.answers = ap (λ r. total r.answers) calls in omega arith)
 calls_total p cap abort (Took c n ∷ cs) a b calls =
     let e : total b.answers ≡ total calls.0.answers = ap total calls.2.answers in
@@ -42,31 +43,12 @@ calls_total p cap abort (Tried o ∷ cs) a b calls =
     ]
 
 -- and full stays full
-pub calls_full : (p : Plan) (cap : ℕ) (abort : Abort) (cs : List PassCall) (a b : Runner) → MakesPassCalls p cap abort cs a b → 2 ^ 64 ≤ total a.answers + 1 → 2 ^ 64 ≤ total b.answers + 1
+pub calls_full : (p : Plan) (cap : ℕ) (abort : Abort) (cs : List TakingCall) (a b : Runner) → MakesPassCalls p cap abort cs a b → 2 ^ 64 ≤ total a.answers + 1 → 2 ^ 64 ≤ total b.answers + 1
 calls_full p cap abort cs a b calls full = elim (calls_total p cap abort cs a b calls) [ inl few ↦ omega arith | inr there ↦ there ]
 
 -- ---- places of one counter alone
 
-pub only_later : (l : ℕ) (c : PassCall) (cs : List PassCall) → ((k n : ℕ) → Contains (c ∷ cs) (Took k n) → k ≡ l) → (k n : ℕ) → Contains cs (Took k n) → k ≡ l
-only_later l c cs only k n found = only k n (contains_later c cs (Took k n) found)
-
-pub calls_times : (p : Plan) (cap : ℕ) (abort : Abort) (c l : ℕ) → c ≢ l → (cs : List PassCall) (a b : Runner) → ((k n : ℕ) → Contains cs (Took k n) → k ≡ l) → MakesPassCalls p cap abort cs a b → times c (hand_view b).places ≡ times c (hand_view a).places
-calls_times p cap abort c l other [] a b only calls = ap (λ r. times c (hand_view r).places) calls
-calls_times p cap abort c l other (Took k n ∷ cs) a b only calls =
-    let same : k ≡ l = only k n (contains_first (Took k n) cs) in
-    ap (λ (v : View). times c v.places) calls.2.view
-    ∙ sum_by-append (λ (x : Place). cond (eqb x.counter c) 1 0) (hand_view calls.0).places (place k n ∷ [])
-    ∙ ap (λ t. times c (hand_view calls.0).places + (0 + cond t 1 0)) (ne_eqb k c (λ e. other (sym e ∙ same)))
-    ∙ none_more (times c (hand_view calls.0).places)
-    ∙ calls_times p cap abort c l other cs a calls.0 (only_later l (Took k n) cs only) calls.1
-  where
-    none_more : (m : ℕ) → m + (0 + cond false 1 0) ≡ m
-    none_more m = omega arith
-calls_times p cap abort c l other (Tried q ∷ cs) a b only calls =
-    let does = attempted p cap abort q calls.0 b calls.2 in
-    ap (times c) does.goes.adds.places ∙ calls_times p cap abort c l other cs a calls.0 (only_later l (Tried q) cs only) calls.1
-
-pub calls_named : (p : Plan) (cap : ℕ) (abort : Abort) (ls : List ℕ) (l : ℕ) (cs : List PassCall) (a b : Runner) → ((k n : ℕ) → Contains cs (Took k n) → k ≡ l) → MakesPassCalls p cap abort cs a b
+pub calls_named : (p : Plan) (cap : ℕ) (abort : Abort) (ls : List ℕ) (l : ℕ) (cs : List TakingCall) (a b : Runner) → ((k n : ℕ) → Contains cs (Took k n) → k ≡ l) → MakesPassCalls p cap abort cs a b
     → named p ls (hand_view b).places ≡ named p ls (hand_view a).places + count_by (names (length (ops_of p (level_of ls l)))) cs
 calls_named p cap abort ls l [] a b only calls = ap (λ r. named p ls (hand_view r).places) calls ∙ sum_none (named p ls (hand_view a).places)
   where
@@ -154,7 +136,7 @@ module _ (p : Plan) (cap : ℕ) (abort : Abort) (l : ℕ) (ls : List ℕ) where
       past : (c : ℕ) → suc (length ls) ≤ c → c ≡ length ls → ⊥
       past c above same = absurd (omega arith)
 
-  enough_stays : (c : ℕ) (ops : List ℕ) (cs : List PassCall) (a b : Runner) → MakesPassCalls p cap abort cs a b → IsEnough c (length ops) a → IsEnough c (length ops) b
+  enough_stays : (c : ℕ) (ops : List ℕ) (cs : List TakingCall) (a b : Runner) → MakesPassCalls p cap abort cs a b → IsEnough c (length ops) a → IsEnough c (length ops) b
   enough_stays c ops cs a b calls enough = elim enough [ inl none ↦ inl none | inr is ↦ inr (is.0, calls_hold p cap abort cs a b calls (place c is.0) is.1, is.2) ]
 
   pub all_strata_more : (units : List (List ℕ)) (rs qs : List Runner) → AreStrata p ls rs → IsPassed p cap abort units (length ls) (ops_of p l) rs qs → AreStrata p (l ∷ ls) qs

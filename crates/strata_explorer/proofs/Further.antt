@@ -12,12 +12,13 @@ use Rattle.op_eval.specs.Running.{hand_view}
 use Rattle.op_eval.specs.Further.{IsFurther, AreFurther}
 use Rattle.op_eval.proofs.Elements.{contains_cases}
 use Rattle.op_eval.proofs.Further.{same_further, goes_further, further_then}
-use Rattle.strata_explorer.specs.Calls.{PassCall, Took, Tried, MakesPassCall, MakesPassCalls}
+use Rattle.op_eval.specs.Turns.{TakingCall, Took, Tried}
+use Rattle.strata_explorer.specs.Calls.{MakesPassCall, MakesPassCalls}
 use Rattle.strata_explorer.specs.Passes.{IsPassed}
 use Rattle.abort_eager.proofs.Exploring.{further_reached}
 use Rattle.abort_eager.proofs.Sweeping.{attempted}
 
-call_further : (p : Plan) (cap : ℕ) (abort : Abort) (c : PassCall) (a b : Runner) → MakesPassCall p cap abort c a b → IsFurther a b
+call_further : (p : Plan) (cap : ℕ) (abort : Abort) (c : TakingCall) (a b : Runner) → MakesPassCall p cap abort c a b → IsFurther a b
 call_further p cap abort (Took c n) a b call = record {
   tag = ap (λ (v : View). v.tag) call.view;
   made = ap (λ (v : View). v.made) call.view;
@@ -31,15 +32,15 @@ call_further p cap abort (Took c n) a b call = record {
 }
 call_further p cap abort (Tried o) a b call = let does = attempted p cap abort o a b call in goes_further a b does.words does.goes does.open_own
 
-pub calls_further : (p : Plan) (cap : ℕ) (abort : Abort) (cs : List PassCall) (a b : Runner) → MakesPassCalls p cap abort cs a b → IsFurther a b
+pub calls_further : (p : Plan) (cap : ℕ) (abort : Abort) (cs : List TakingCall) (a b : Runner) → MakesPassCalls p cap abort cs a b → IsFurther a b
 calls_further p cap abort [] a b calls = same_further a b calls
 calls_further p cap abort (c ∷ cs) a b calls = further_then a calls.0 b (calls_further p cap abort cs a calls.0 calls.1) (call_further p cap abort c calls.0 b calls.2)
 
 -- what is reached stays so
-pub calls_keep : (p : Plan) (cap : ℕ) (abort : Abort) (o : ℕ) (cs : List PassCall) (a b : Runner) → MakesPassCalls p cap abort cs a b → IsReached p o (hand_view a).trail → IsReached p o (hand_view b).trail
+pub calls_keep : (p : Plan) (cap : ℕ) (abort : Abort) (o : ℕ) (cs : List TakingCall) (a b : Runner) → MakesPassCalls p cap abort cs a b → IsReached p o (hand_view a).trail → IsReached p o (hand_view b).trail
 calls_keep p cap abort o cs a b calls is = further_reached p o (calls_further p cap abort cs a b calls) is
 
-pub calls_reach : (p : Plan) (cap : ℕ) (abort : Abort) (o : ℕ) (cs : List PassCall) (a b : Runner) → MakesPassCalls p cap abort cs a b → Contains cs (Tried o) → IsReached p o (hand_view b).trail
+pub calls_reach : (p : Plan) (cap : ℕ) (abort : Abort) (o : ℕ) (cs : List TakingCall) (a b : Runner) → MakesPassCalls p cap abort cs a b → Contains cs (Tried o) → IsReached p o (hand_view b).trail
 calls_reach p cap abort o [] a b calls found = absurd (omega (arith, found.1))
 calls_reach p cap abort o (c ∷ cs) a b calls found =
     elim (contains_cases c cs (Tried o) found) [

@@ -19,9 +19,9 @@ use Rattle.interleaving_core.specs.Core.{blocked}
 use Rattle.op_eval.specs.Alone.{Ran, IsNewRoot, HasRunAll}
 use Rattle.op_eval.proofs.Alone.{IsBegun, come_first, explores, keeps_ran, runs_it}
 use Rattle.op_eval.proofs.Elements.{contains_first, contains_later, contains_cases}
-use Rattle.op_eval.specs.Turns.{IsEnough}
-use Rattle.op_eval.proofs.Turns.{times_one}
-use Rattle.strata_explorer.specs.Calls.{PassCall, Took, Tried, MakesPassCalls}
+use Rattle.op_eval.specs.Turns.{IsEnough, TakingCall, Took, Tried}
+use Rattle.op_eval.proofs.Turns.{times_one, only_later}
+use Rattle.strata_explorer.specs.Calls.{MakesPassCalls}
 use Rattle.strata_explorer.specs.Passes.{Worked, IsPassed}
 use Rattle.strata_explorer.specs.Levels.{ops_of, op_of, AreLevels, AreStrata, IsLoneStrata, IsAlone}
 use Rattle.abort_eager.proofs.Exploring.{further_lone}
@@ -29,13 +29,12 @@ use Rattle.abort_eager.proofs.Sweeping.{attempted, lazy_tries}
 use Rattle.strata_explorer.proofs.Further.{calls_further}
 use Rattle.strata_explorer.proofs.Turning.{times_some}
 use Rattle.strata_explorer.proofs.Running.{calls_places}
-use Rattle.strata_explorer.proofs.Climbing.{only_later}
 
-pub calls_lone : (p : Plan) (cap : ℕ) (abort : Abort) (cs : List PassCall) (a b : Runner) → MakesPassCalls p cap abort cs a b → IsLone (hand_view a) → IsLone (hand_view b)
+pub calls_lone : (p : Plan) (cap : ℕ) (abort : Abort) (cs : List TakingCall) (a b : Runner) → MakesPassCalls p cap abort cs a b → IsLone (hand_view a) → IsLone (hand_view b)
 calls_lone p cap abort cs a b calls lone = further_lone (calls_further p cap abort cs a b calls) lone
 
 -- the numbers that it takes from a counter are those from 0 on
-pub lone_takes : (p : Plan) (cap : ℕ) (abort : Abort) (l : ℕ) (cs : List PassCall) (a b : Runner) → IsLone (hand_view a) → times l (hand_view a).places ≡ 0 → ((k n : ℕ) → Contains cs (Took k n) → k ≡ l) → MakesPassCalls p cap abort cs a b
+pub lone_takes : (p : Plan) (cap : ℕ) (abort : Abort) (l : ℕ) (cs : List TakingCall) (a b : Runner) → IsLone (hand_view a) → times l (hand_view a).places ≡ 0 → ((k n : ℕ) → Contains cs (Took k n) → k ≡ l) → MakesPassCalls p cap abort cs a b
     → ((m : ℕ) → m < times l (hand_view b).places → Contains cs (Took l m)) × ((m : ℕ) → Contains cs (Took l m) → m < times l (hand_view b).places)
 lone_takes p cap abort l [] a b lone none only calls =
     let e : times l (hand_view b).places ≡ times l (hand_view a).places = ap (λ r. times l (hand_view r).places) calls in
@@ -98,7 +97,7 @@ lone_tries p cap abort l ops a b lone none worked enough n less =
 -- ---- what it evaluates, under lazy
 
 module _ (p : Plan) (valid : IsPlan p) (cap : ℕ) (some : 1 ≤ cap) where
-  pub lone_calls : (cs : List PassCall) (a b : Runner) → IsLone (hand_view a) → IsBegun (hand_view a).trail → MakesPassCalls p cap Lazy cs a b
+  pub lone_calls : (cs : List TakingCall) (a b : Runner) → IsLone (hand_view a) → IsBegun (hand_view a).trail → MakesPassCalls p cap Lazy cs a b
       → IsBegun (hand_view b).trail × ((k : ℕ) → Ran (hand_view a).trail k → Ran (hand_view b).trail k) × ((o : ℕ) → Contains cs (Tried o) → ((s : ℕ) → IsSourceOf p o s → Ran (hand_view a).trail s) → Ran (hand_view b).trail o)
   lone_calls [] a b lone exploring calls = (
     subst (λ r. IsBegun (hand_view r).trail) (sym calls) exploring,

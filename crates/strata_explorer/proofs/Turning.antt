@@ -1,11 +1,9 @@
 -- Calls in turn.
-use Rattle.std.proofs.Common.{◌≡◌, ℕ, zero, suc, ◌+◌, ◌<◌, ◌≤◌, Bool, true, false, cond, List, [], ◌∷◌, ◌++◌, length, get_or, refl, sym, ap, ◌∙◌, subst, inl, inr, arith, suc-le-suc}
+use Rattle.std.proofs.Common.{◌≡◌, ℕ, zero, suc, ◌+◌, ◌<◌, ◌≤◌, Bool, true, false, cond, List, [], ◌∷◌, ◌++◌, length, get_or, refl, sym, ap, ◌∙◌, subst, inl, inr, arith, suc-le-suc, eqb}
 use Rattle.std.specs.Prelude.{Contains, All, count_by, slice_index_or, nat_lt}
-use Rattle.std.proofs.lemmas.Bool.{false≢true}
+use Rattle.std.proofs.lemmas.Bool.{false≢true, eq-eqb}
 use Rattle.std.proofs.lemmas.List.Elements.{Contains-append_left, Contains-append_right, Contains-append_cases}
 use Rattle.std.proofs.lemmas.List.Sums.{sum_by-append}
-use Rattle.std.proofs.lemmas.Bool.{eq-eqb}
-use Rattle.std.proofs.Common.{eqb}
 use Rattle.morph_base.specs.declared.plan.Plan.{Plan}
 use Rattle.morph_base.specs.declared.strategy.Abort.{Abort}
 use Rattle.op_words.specs.declared.trail.Place.{Place}
@@ -17,9 +15,9 @@ use Rattle.op_eval.specs.Exploring.{Unused}
 use Rattle.op_eval.specs.Running.{hand_view}
 use Rattle.op_eval.proofs.Elements.{contains_first, contains_later, contains_cases}
 use Rattle.op_eval.proofs.Turns.{in_turn_append, times_one}
-use Rattle.strata_explorer.specs.Calls.{PassCall, Took, Tried, MakesPassCalls, MakesPassCall}
+use Rattle.op_eval.specs.Turns.{TakingCall, Took, Tried, IsEnough, TakesNumber}
+use Rattle.strata_explorer.specs.Calls.{MakesPassCalls, MakesPassCall}
 use Rattle.abort_eager.specs.Sweeps.{Attempts}
-use Rattle.op_eval.specs.Turns.{IsEnough, TakesNumber}
 use Rattle.strata_explorer.specs.Passes.{is_tried, names, Worked, IsWorking}
 use Rattle.strata_explorer.specs.Walks.{WalksAll}
 use Rattle.abort_eager.specs.Walks.{WalksUnit}
@@ -30,7 +28,7 @@ use Rattle.abort_eager.proofs.UnitWalks.{by_walk}
 
 -- the runner tried operations, o among them, and did nothing else
 pub record WalkedWithCalls (p : Plan) (cap : ℕ) (abort : Abort) (o : ℕ) (a b : Runner) : Type 0 where
-  pub calls : List PassCall
+  pub calls : List TakingCall
   pub made : MakesPassCalls p cap abort calls a b
   pub tried : Contains calls (Tried o)
   pub only : All (λ c. is_tried c ≡ true) calls
@@ -43,7 +41,7 @@ walked_first p cap abort o {a} {b} {r} tries = record {
   only = λ k d lt. one k d lt;
 }
   where
-    one : (k : ℕ) (d : PassCall) → k < 1 → is_tried (get_or (Tried o ∷ []) k d) ≡ true
+    one : (k : ℕ) (d : TakingCall) → k < 1 → is_tried (get_or (Tried o ∷ []) k d) ≡ true
     one zero d lt = refl
     one (suc k) d lt = absurd (omega arith)
 
@@ -55,7 +53,7 @@ walked_more p cap abort o q {a} {m} {b} {r} walked tries = record {
   only = λ k d lt. one k d lt;
 }
   where
-    one : (k : ℕ) (d : PassCall) → k < length (Tried q ∷ walked.calls) → is_tried (get_or (Tried q ∷ walked.calls) k d) ≡ true
+    one : (k : ℕ) (d : TakingCall) → k < length (Tried q ∷ walked.calls) → is_tried (get_or (Tried q ∷ walked.calls) k d) ≡ true
     one zero d lt = refl
     one (suc k) d lt = walked.only k d (less k lt)
       where
@@ -72,26 +70,26 @@ pub count_first : {X : Type 0} (t : X → Bool) (x : X) (xs : List X) → count_
 count_first t x xs = sum_by-append (λ y. cond (t y) 1 0) (x ∷ []) xs
 
 -- where all are evaluations, none takes a place
-no_take : (cs : List PassCall) → All (λ c. is_tried c ≡ true) cs → (c n : ℕ) → Contains cs (Took c n) → ⊥
+no_take : (cs : List TakingCall) → All (λ c. is_tried c ≡ true) cs → (c n : ℕ) → Contains cs (Took c n) → ⊥
 no_take cs all c n found = false≢true (ap is_tried (sym found.2) ∙ all found.0 (Took c n) found.1)
 
-all_later : (x : PassCall) (xs : List PassCall) → All (λ c. is_tried c ≡ true) (x ∷ xs) → All (λ c. is_tried c ≡ true) xs
+all_later : (x : TakingCall) (xs : List TakingCall) → All (λ c. is_tried c ≡ true) (x ∷ xs) → All (λ c. is_tried c ≡ true) xs
 all_later x xs all k d lt = all (suc k) d (suc-le-suc lt)
 
-pub tried_places : (p : Plan) (cap : ℕ) (abort : Abort) (cs : List PassCall) (a b : Runner) → MakesPassCalls p cap abort cs a b → All (λ c. is_tried c ≡ true) cs → (hand_view b).places ≡ (hand_view a).places
+pub tried_places : (p : Plan) (cap : ℕ) (abort : Abort) (cs : List TakingCall) (a b : Runner) → MakesPassCalls p cap abort cs a b → All (λ c. is_tried c ≡ true) cs → (hand_view b).places ≡ (hand_view a).places
 tried_places p cap abort [] a b calls all = ap (λ r. (hand_view r).places) calls
 tried_places p cap abort (Took c n ∷ cs) a b calls all = absurd (no_take (Took c n ∷ cs) all c n (contains_first (Took c n) cs))
 tried_places p cap abort (Tried o ∷ cs) a b calls all =
     let does = attempted p cap abort o calls.0 b calls.2 in
     does.goes.adds.places ∙ tried_places p cap abort cs a calls.0 calls.1 (all_later (Tried o) cs all)
 
-tried_names : (len : ℕ) (cs : List PassCall) → All (λ c. is_tried c ≡ true) cs → count_by (names len) cs ≡ 0
+tried_names : (len : ℕ) (cs : List TakingCall) → All (λ c. is_tried c ≡ true) cs → count_by (names len) cs ≡ 0
 tried_names len [] all = refl
 tried_names len (Took c n ∷ cs) all = absurd (no_take (Took c n ∷ cs) all c n (contains_first (Took c n) cs))
 tried_names len (Tried o ∷ cs) all = tried_names len cs (all_later (Tried o) cs all)
 
 -- one of them is counted
-one_tried : (cs : List PassCall) (o : ℕ) → Contains cs (Tried o) → 1 ≤ count_by is_tried cs
+one_tried : (cs : List TakingCall) (o : ℕ) → Contains cs (Tried o) → 1 ≤ count_by is_tried cs
 one_tried [] o found = absurd (omega (arith, found.1))
 one_tried (Tried q ∷ cs) o found = let e : count_by is_tried (Tried q ∷ cs) ≡ 1 + count_by is_tried cs = count_first is_tried (Tried q) cs in omega arith
 one_tried (Took c n ∷ cs) o found =

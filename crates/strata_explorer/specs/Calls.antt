@@ -4,19 +4,14 @@ use Rattle.morph_base.specs.declared.plan.Plan.{Plan}
 use Rattle.morph_base.specs.declared.strategy.Abort.{Abort}
 use Rattle.op_eval.specs.declared.answers.Evaluation.{Evaluation}
 use Rattle.op_eval.specs.declared.runner.Runner.{Runner}
-use Rattle.op_eval.specs.Turns.{InTurn, TakesNumber}
+use Rattle.op_eval.specs.Turns.{InTurn, TakingCall, MakesTakingCall}
 use Rattle.abort_eager.specs.Sweeps.{Attempts}
 
--- The runner took a number from a counter, or tried to evaluate an operation and ran the cascade that follows
-pub data PassCall : Type 0 where
-  Took : (counter number : ℕ) → PassCall
-  Tried : (op : ℕ) → PassCall
-
--- The call led from runner a to runner b: the runner took a number, or tried an operation
-abbrev pub MakesPassCall : Plan → (cap : ℕ) → Abort → PassCall → Runner → Runner → Type 0
-MakesPassCall p cap abort (Took c n) a b = TakesNumber c n a b
-MakesPassCall p cap abort (Tried o) a b = (r : Evaluation) × Attempts p cap abort o a b r
+-- The call led from runner a to runner b: the runner took a number, or tried an operation and ran the cascade that
+-- follows
+abbrev pub MakesPassCall : Plan → (cap : ℕ) → Abort → TakingCall → Runner → Runner → Type 0
+MakesPassCall p cap abort = MakesTakingCall (λ o a b. (r : Evaluation) × Attempts p cap abort o a b r)
 
 -- The calls, the last one first, led from runner a to runner b
-abbrev pub MakesPassCalls : Plan → (cap : ℕ) → Abort → List PassCall → Runner → Runner → Type 0
+abbrev pub MakesPassCalls : Plan → (cap : ℕ) → Abort → List TakingCall → Runner → Runner → Type 0
 MakesPassCalls p cap abort = InTurn (MakesPassCall p cap abort)

@@ -7,18 +7,18 @@ use Rattle.op_words.specs.Counting.{place, times}
 use Rattle.abort_eager.specs.Sweeps.{IsLike}
 use Rattle.op_eval.specs.declared.runner.Runner.{Runner}
 use Rattle.op_eval.specs.Running.{hand_view}
-use Rattle.op_eval.specs.Turns.{IsEnough}
+use Rattle.op_eval.specs.Turns.{IsEnough, TakingCall, Took, Tried}
 use Rattle.worker_gate.specs.Sharing.{shared_from}
-use Rattle.strata_explorer.specs.Calls.{PassCall, Took, Tried, MakesPassCalls}
+use Rattle.strata_explorer.specs.Calls.{MakesPassCalls}
 use Rattle.strata_explorer.specs.Walks.{WalksAll}
 
 -- The test whether a call tried an operation
-abbrev pub is_tried : PassCall → Bool
+abbrev pub is_tried : TakingCall → Bool
 is_tried (Took c n) = false
 is_tried (Tried o) = true
 
 -- The test whether a call took a number below this length, which names an operation of the pass
-abbrev pub names : ℕ → PassCall → Bool
+abbrev pub names : ℕ → TakingCall → Bool
 names len (Took c n) = nat_lt n len
 names len (Tried o) = false
 
@@ -35,7 +35,7 @@ pub record AreLike (before after : List Runner) : Type 0 where
 
 -- The runner took numbers from counter c alone, and tried each operation that they name
 pub record Worked (p : Plan) (cap : ℕ) (abort : Abort) (c : ℕ) (ops : List ℕ) (a b : Runner) : Type 0 where
-  pub calls : List PassCall
+  pub calls : List TakingCall
   pub made : MakesPassCalls p cap abort calls a b
   pub only : (k n : ℕ) → Contains calls (Took k n) → k ≡ c
   pub tried : (n : ℕ) → Contains calls (Took c n) → n < length ops → Contains calls (Tried (slice_index_or ops n 0))

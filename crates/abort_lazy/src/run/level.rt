@@ -21,15 +21,6 @@ pub struct Sweep<'a> {
     pub counter: u32,
 }
 
-/// A call that a runner makes. No value of this type is made.
-#[derive(Clone, Copy, Debug, PartialEq, Eq)]
-pub enum Call {
-    /// It took this number from the counter.
-    Took { counter: u32, number: u64 },
-    /// It tried to settle the event.
-    Tried { event: u32 },
-}
-
 /// Tries to settle an event, and keeps why it was not settled.
 fn try_event(board: &Board, runner: &mut Runner, plan: &Plan, event: u32)
     requires hand { IsHandOf board.now runner.old.hand }

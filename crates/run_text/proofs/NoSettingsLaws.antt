@@ -16,7 +16,6 @@ use Rattle.morph_base.specs.declared.strategy.Abort.TheVariants.{Lazy}
 use Rattle.run_text.specs.declared.choices.App.{App}
 use Rattle.run_text.specs.declared.choices.Check.{Check}
 use Rattle.run_text.specs.declared.choices.Check.TheVariants.{Off}
-use Rattle.run_text.specs.declared.choices.Planning.{Planning}
 use Rattle.run_text.specs.declared.choices.Planning.TheVariants.{Auto}
 use Rattle.run_text.specs.declared.choices.Settings.{Settings}
 use Rattle.run_text.specs.declared.names.Name.{Name}
@@ -24,7 +23,7 @@ use Rattle.run_text.specs.declared.names.Name.TheVariants.{App as AppName, Own, 
 use Rattle.run_text.specs.declared.read_settings.Input.{Input}
 use Rattle.run_text.specs.Words.{text_of, all_names, has_equals, name_of, has_name, is_known, is_once, are_once, value_under, is_given}
 use Rattle.run_text.specs.Values.{app_in, switch_in, unit_in, explore_in, abort_in, auto_in, check_in, worker_counts, sizes, seeds, event_counts, ahead_counts, says_in, number_in, given, given_under, app_under}
-use Rattle.run_text.specs.Settings.{◌>>=◌, strategy_of, is_strategy_given, planning_by, planning_of, read_input, made_input, input_by, input_of, is_alone, can_check, given_with, settings_of}
+use Rattle.run_text.specs.Settings.{◌>>=◌, strategy_of, is_strategy_given, planning_by, planning_of, made_input, input_by, input_of, is_alone, can_check, given_with, settings_of}
 use Rattle.run_text.specs.NoSettings.{is_name, is_value_of, NoSettings, no_equals, unknown_name, given_twice, other_value, both_inputs, no_input, made_alone, chosen_and_given, not_alone, not_checkable}
 use Rattle.run_text.proofs.Parts.{none_at, none_after, none_by_some, none_cases, none_if, none_unless}
 

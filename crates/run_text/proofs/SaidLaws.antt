@@ -16,14 +16,14 @@ use Rattle.morph_base.specs.declared.strategy.Abort.TheVariants.{Lazy}
 use Rattle.run_text.specs.declared.choices.App.{App}
 use Rattle.run_text.specs.declared.choices.Check.TheVariants.{Off}
 use Rattle.run_text.specs.declared.choices.Planning.{Planning}
-use Rattle.run_text.specs.declared.choices.Planning.TheVariants.{Fixed, Auto}
+use Rattle.run_text.specs.declared.choices.Planning.TheVariants.{Fixed}
 use Rattle.run_text.specs.declared.choices.Settings.{Settings}
 use Rattle.run_text.specs.declared.names.Name.{Name}
 use Rattle.run_text.specs.declared.names.Name.TheVariants.{App as AppName, Own, Workers, Size, Unit as UnitName, Explore as ExploreName, Abort as AbortName, Plan as PlanName, Seed, Events, Notes, Ahead, Watch, Check as CheckName}
 use Rattle.run_text.specs.declared.read_settings.Input.{Input}
 use Rattle.run_text.specs.Words.{text_of, all_names, has_name, value_in, is_known, is_once, are_once, value_under, is_given}
 use Rattle.run_text.specs.Values.{app_in, switch_in, unit_in, explore_in, abort_in, auto_in, check_in, worker_counts, sizes, seeds, event_counts, ahead_counts, number_in, given, given_under, app_under}
-use Rattle.run_text.specs.Settings.{strategy_of, is_strategy_given, planning_by, planning_of, read_input, made_input, input_by, input_of, is_alone, can_check, given_with, settings_of}
+use Rattle.run_text.specs.Settings.{strategy_of, is_strategy_given, planning_by, planning_of, read_input, made_input, input_by, input_of, is_alone, can_check, settings_of}
 use Rattle.run_text.specs.SaidSettings.{word_of, SaysValue, IsMissing, IsSaid, IsRead, IsInputMade, IsFixed, IsChosen, AreSaid}
 use Rattle.run_text.proofs.NoSettingsLaws.{all_false}
 use Rattle.run_text.proofs.Parts.{some_if, some_unless}

@@ -1,6 +1,6 @@
 -- Texts that are put and written one after another.
 use Rattle.std.proofs.Common.{◌≡◌, ℕ, ◌+◌, ◌<◌, ◌≤◌, List, [], ◌++◌, Option, Result, Ok, Err, drop, length, get_or, ap, subst, sym, refl, ◌∙◌, arith}
-use Rattle.std.specs.Result.{IsErr}
+use Rattle.std.specs.Result.{OnErr, IsErr}
 use Rattle.std.specs.List.{flat_map, range_with_len}
 use Rattle.std.proofs.lemmas.List.{drop_more, drop_all}
 use Rattle.std.proofs.lemmas.List.FromFn.{get_or-range_with_len, length-range_with_len}
@@ -13,6 +13,11 @@ use Rattle.morph_io.proofs.Putting.{puts_nothing, puts_next, puts_cut, part_more
 use Rattle.morph_io.specs.declared.sink.WriteFailed.{WriteFailed}
 use Rattle.run_text.specs.Calls.{PutsText, WritesText}
 use Rattle.version_table.proofs.Summing.{inside_range}
+
+-- what holds, holds where there is an error
+pub on_err : {T E P : Type 0} (r : Result T E) → P → OnErr r P
+on_err (Ok x) p = tt
+on_err (Err e) p = p
 
 -- ---- calls that put texts, one after another
 

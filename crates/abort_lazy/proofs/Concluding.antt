@@ -12,7 +12,7 @@ use Rattle.op_words.specs.Hands.{plan_of, counters_of}
 use Rattle.op_words.specs.Views.{joined_of}
 use Rattle.op_eval.specs.declared.runner.Runner.{Runner}
 use Rattle.op_eval.specs.declared.runners.Runners.{Runners}
-use Rattle.op_eval.specs.Exploring.{AreExplored}
+use Rattle.op_eval.specs.Exploring.{MayExplore}
 use Rattle.op_eval.specs.Gathering.{runners_of, gathered, HasPlaces, AreAtRest}
 use Rattle.op_eval.specs.Lending.{with_runners}
 use Rattle.op_eval.specs.Running.{hand_view}
@@ -22,7 +22,7 @@ use Rattle.abort_lazy.proofs.Levelling.{first_room}
 use Rattle.abort_lazy.proofs.Advancing.{tried_none}
 use Rattle.abort_lazy.proofs.Gathered.{gathered_made, gathered_tag, gathered_joined, gathered_has}
 
-pub settling_begins : (b : Board) (p : Plan) (from : ℕ) (rs : Runners) → IsValidPlan p → p ≡ plan_of b → from ≤ counters_of b → AreExplored b from rs → AreSettling b p from 0 (runners_of rs) (runners_of rs)
+pub settling_begins : (b : Board) (p : Plan) (from : ℕ) (rs : Runners) → IsValidPlan p → p ≡ plan_of b → from ≤ counters_of b → MayExplore b from rs → AreSettling b p from 0 (runners_of rs) (runners_of rs)
 settling_begins b p from rs valid plan counters explored = record {
   counters = omega (arith, counters);
   len = refl;
@@ -96,17 +96,17 @@ module _ (b : Board) (p : Plan) (from level : ℕ) (rs : Runners) (start items :
   pub settled_back : AreSettling b p from level (runners_of rs) (runners_of (with_runners rs items))
   settled_back = subst (AreSettling b p from level (runners_of rs)) (sym back_is) settling_now
 
-  pub all_back : AreExplored b from rs → AreAllHands (runners_of rs) → AreAllHands (runners_of (with_runners rs items))
+  pub all_back : MayExplore b from rs → AreAllHands (runners_of rs) → AreAllHands (runners_of (with_runners rs items))
   all_back explored all = subst AreAllHands (sym back_is) (settling_all b p from level (runners_of rs) items settling_now explored.rest.some all)
 
-  pub given_back : AreExplored b from rs → HasPlaces (with_runners rs items) × AreAtRest b (runners_of (with_runners rs items))
+  pub given_back : MayExplore b from rs → HasPlaces (with_runners rs items) × AreAtRest b (runners_of (with_runners rs items))
   given_back explored = (
     places_back rs items back_len explored.places,
     subst (AreAtRest b) (sym back_is) (settling_rests b p from level (runners_of rs) items settling_now explored.rest),
   )
 
 -- a lone root has settled all
-pub alone_back : (b : Board) (p : Plan) (from : ℕ) (rs : Runners) (start items : List Runner) → start ≡ runners_of rs → IsValidPlan p → AreExplored b from rs
+pub alone_back : (b : Board) (p : Plan) (from : ℕ) (rs : Runners) (start items : List Runner) → start ≡ runners_of rs → IsValidPlan p → MayExplore b from rs
     → AreSettling b p from (length p.event_levels.items) start items → IsSettledByRoot p (runners_of rs) (runners_of (with_runners rs items))
 alone_back b p from rs start items same valid explored settling =
     alone_ends p valid.plan valid.graph b from (runners_of rs) (runners_of (with_runners rs items)) (λ d. let first = explored.exploring 0 d explored.rest.some in first.kept)

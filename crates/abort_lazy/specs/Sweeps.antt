@@ -11,7 +11,7 @@ use Rattle.op_eval.specs.declared.answers.Left.{Left}
 use Rattle.op_eval.specs.declared.runner.Runner.{Runner}
 use Rattle.op_eval.specs.Exploring.{Unused}
 use Rattle.op_eval.specs.Running.{hand_view}
-use Rattle.op_eval.specs.Turns.{InTurn, IsEnough, TakingCall, Took, Tried, MakesTakingCall}
+use Rattle.op_eval.specs.Turns.{CallsInOrder, IsEnough, TakingCall, Took, Tried, MakesTakingCall}
 use Rattle.worker_gate.specs.Sharing.{shared_from}
 use Rattle.abort_lazy.specs.declared.transaction.TxnAnswer.{TxnAnswer}
 use Rattle.abort_lazy.specs.declared.transaction.TxnAnswer.TheVariants.{Settled as AllSettled, NotYet, Busy}
@@ -40,7 +40,7 @@ MakesCall p = MakesTakingCall (λ i a b. (i < event_count p) × HasTriedOne p i 
 
 -- The calls, the last one first, led from runner a to runner b
 abbrev pub MakesCalls : Plan → List TakingCall → Runner → Runner → Type 0
-MakesCalls p = InTurn (MakesCall p)
+MakesCalls p = CallsInOrder (MakesCall p)
 
 -- The weight of the event that the call tried
 abbrev pub tried_by : (ℕ → ℕ) → TakingCall → ℕ

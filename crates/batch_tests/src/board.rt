@@ -1,6 +1,7 @@
 //! A hand's way through an operation, alone and beside another hand.
 ghost use Rattle.std.specs.Prelude.{◌≡◌, ◌≢◌, ◌<◌, true, Some, None};
-ghost use Rattle.morph_base.specs.Plans.{op_count, event_of};
+ghost use Rattle.morph_base.specs.Plans.{op_count};
+ghost use Rattle.op_words.specs.Hands.{MayBegin};
 ghost use Rattle.op_words.specs.Hands.{plan_of, view_of, IsHandOf};
 ghost use Rattle.op_words.specs.Views.{HasShownFailure};
 ghost use Rattle.op_words.specs.declared.answers.Outcome.TheVariants.{Failed as HasFailed};
@@ -23,10 +24,7 @@ pub(crate) struct Way {
 
 /// Makes an operation ready that reads one place, claims it, fetches the place and finishes it.
 pub(crate) fn evaluate(board: &Board, hand: &mut Hand, plan: &Plan, op: u32) -> Way
-    requires hand { IsHandOf board.now hand.old }
-    requires plan { plan.now ≡ plan_of board.now }
-    requires in_range { op < op_count plan.now }
-    requires free { (view_of hand.old).claim ≡ None }
+    requires may { MayBegin board.now hand.old plan.now op }
     ensures hand { IsHandOf board.now hand.new }
     ensures free { (view_of hand.new).claim ≡ None }
     ensures tag { (view_of hand.new).tag ≡ (view_of hand.old).tag }
@@ -134,10 +132,7 @@ fn one_hand_evaluates(rt: HostRuntime) -> Result<(), Fail> {
 
 /// Evaluates an operation that reads one place, and returns whether it failed.
 pub(crate) fn fails(board: &Board, hand: &mut Hand, plan: &Plan, op: u32) -> bool
-    requires hand { IsHandOf board.now hand.old }
-    requires plan { plan.now ≡ plan_of board.now }
-    requires in_range { op < op_count plan.now }
-    requires free { (view_of hand.old).claim ≡ None }
+    requires may { MayBegin board.now hand.old plan.now op }
     ensures hand { IsHandOf board.now hand.new }
     ensures free { (view_of hand.new).claim ≡ None }
     ensures shown { result ≡ true → HasShownFailure (view_of hand.new) op }
@@ -157,12 +152,9 @@ fn spread_twice(
     op: u32,
     sibling: u32,
 ) -> Option<(Spreaded, Spreaded)>
-    requires hand { IsHandOf board.now hand.old }
-    requires plan { plan.now ≡ plan_of board.now }
-    requires in_range { op < op_count plan.now }
+    requires may { MayBegin board.now hand.old plan.now op }
     requires sibling { sibling < op_count plan.now }
     requires another { sibling ≢ op }
-    requires free { (view_of hand.old).claim ≡ None }
     ensures hand { IsHandOf board.now hand.new }
     ensures free { (view_of hand.new).claim ≡ None }
 {
@@ -251,10 +243,7 @@ fn nothing_is_spread_at_the_cap(rt: HostRuntime) -> Result<(), Fail> {
 
 /// Claims an operation, and gives it back at once.
 fn touch(board: &Board, hand: &mut Hand, plan: &Plan, op: u32) -> Claimed
-    requires hand { IsHandOf board.now hand.old }
-    requires plan { plan.now ≡ plan_of board.now }
-    requires in_range { op < op_count plan.now }
-    requires free { (view_of hand.old).claim ≡ None }
+    requires may { MayBegin board.now hand.old plan.now op }
     ensures hand { IsHandOf board.now hand.new }
     ensures free { (view_of hand.new).claim ≡ None }
 {

@@ -1,6 +1,6 @@
 //! The four events' first operations, evaluated by one runner.
 ghost use Rattle.std.specs.Prelude.{◌≡◌, ◌<◌, None};
-ghost use Rattle.morph_base.specs.Plans.{op_count};
+ghost use Rattle.op_words.specs.Hands.{MayBegin};
 ghost use Rattle.op_words.specs.Hands.{plan_of, view_of, IsHandOf};
 ghost use Rattle.op_eval.specs.Running.{hand_view};
 
@@ -91,11 +91,8 @@ fn answered(
     op: u32,
 ) -> Option<Evaluation>
     requires holder { IsHandOf board.now holder.old }
-    requires hand { IsHandOf board.now runner.old.hand }
-    requires plan { plan.now ≡ plan_of board.now }
-    requires in_range { op < op_count plan.now }
+    requires may { MayBegin board.now runner.old.hand plan.now op }
     requires holder_free { (view_of holder.old).claim ≡ None }
-    requires free { (hand_view runner.old).claim ≡ None }
     ensures holder { IsHandOf board.now holder.new }
     ensures hand { IsHandOf board.now runner.new.hand }
     ensures free { (hand_view runner.new).claim ≡ None }

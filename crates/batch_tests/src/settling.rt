@@ -1,7 +1,7 @@
 //! A hand decides on an event and settles its operations.
 ghost use Rattle.std.specs.Prelude.{◌≡◌, ◌<◌, None};
-ghost use Rattle.morph_base.specs.Plans.{op_count};
-ghost use Rattle.op_words.specs.Hands.{plan_of, view_of, IsHandOf};
+ghost use Rattle.op_words.specs.Hands.{MayBegin};
+ghost use Rattle.op_words.specs.Hands.{view_of, IsHandOf};
 
 use crate::board::evaluate;
 use crate::four_events::plan_at;
@@ -12,10 +12,7 @@ use std::test::Fail;
 /// What the hand decides on the event of an operation, and how it then settles the operation. The second is `None` if
 /// nothing is decided.
 fn settle(board: &Board, hand: &mut Hand, plan: &Plan, op: u32) -> (Decided, Option<SettleAnswer>)
-    requires hand { IsHandOf board.now hand.old }
-    requires plan { plan.now ≡ plan_of board.now }
-    requires in_range { op < op_count plan.now }
-    requires free { (view_of hand.old).claim ≡ None }
+    requires may { MayBegin board.now hand.old plan.now op }
     ensures hand { IsHandOf board.now hand.new }
     ensures free { (view_of hand.new).claim ≡ None }
     ensures tag { (view_of hand.new).tag ≡ (view_of hand.old).tag }

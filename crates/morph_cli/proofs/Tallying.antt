@@ -30,14 +30,14 @@ use Rattle.run_text.proofs.Workers.{counted_more, counts_of_none, settled_beyond
 use Rattle.steal_explorer.specs.Dealing.{level_one}
 use Rattle.morph_cli.specs.Strategies.{last_from, strategy_by}
 use Rattle.decision_model.specs.Choices.{last_of, no_last}
-use Rattle.morph_cli.specs.Tallies.{IsMadeOf, AreRunFrom, IsSoundAccount, AreLazy, AreExploredBy, IsTallyOf, IsLazyTally, IsFounded, IsBalancedBy, IsBalanced, committed_by_workers, dealt_by, dealt_count}
+use Rattle.morph_cli.specs.Tallies.{IsMadeOf, AreRunFrom, IsSoundAccount, AreLazy, AreExploredBy, IsTallyOf, IsLazyTally, FollowsAccounts, IsBalancedBy, IsBalanced, committed_by_workers, dealt_by, dealt_count}
 
 -- between two batches: the accounts of those that were done, and their tally with the bounds of its numbers
 pub record Tallied (planning : Planning) (workers : ℕ) (done : List (List Transaction)) (accounts : List Account) (t : Tally) : Type 0 where
   pub ran : AreRunFrom planning opening_state no_last done accounts
   pub sound : All (IsSoundAccount workers) accounts
   pub counts : IsTallyOf done accounts t
-  pub founded : IsFounded workers accounts t
+  pub founded : FollowsAccounts workers accounts t
   pub balanced : IsBalanced planning workers t
   pub few_batches : t.batches ≤ t.events
   pub few_ops : t.ops ≤ EVENT_OPS * EVENTS * t.batches
@@ -85,7 +85,7 @@ ran_fixed planning f s last (b ∷ bs) (x ∷ xs) is ran =
     (ran_fixed planning f (after_all s (by_time b)) (last_of (fates s (by_time b))) bs xs is ran.2)
 
 -- and the laws that name the batches hold of the tally
-by_strategy : (f : Strategy) (workers : ℕ) (accounts : List Account) (t : Tally) → All (λ a. a.strategy ≡ f) accounts → IsFounded workers accounts t → IsBalancedBy f workers t
+by_strategy : (f : Strategy) (workers : ℕ) (accounts : List Account) (t : Tally) → All (λ a. a.strategy ≡ f) accounts → FollowsAccounts workers accounts t → IsBalancedBy f workers t
 by_strategy f workers accounts t all founded =
     let explored : (e : Explore) → f.explore ≡ e → AreExploredBy e accounts = λ e is k d lt. ap (λ (s : Strategy). s.explore) (all k d lt) ∙ is in
     let lazy : f.abort ≡ Lazy → AreLazy accounts = λ is k d lt. ap (λ (s : Strategy). s.abort) (all k d lt) ∙ is in
@@ -231,7 +231,7 @@ module _ (planning : Planning) (workers : ℕ) (done : List (List Transaction)) 
         spread = let before = old.spread in let new = sound.spread is in let now = adds.spread in omega (arith, before, new, now);
       }
 
-  founded_more : IsFounded workers (accounts ++ a ∷ []) t'
+  founded_more : FollowsAccounts workers (accounts ++ a ∷ []) t'
   founded_more =
       let before = so_far.founded in
       let ops = adds.ops in

@@ -109,7 +109,7 @@ pub record IsLazyTally (t : Tally) : Type 0 where
 -- Of the batches explored by deques each operation of level 1 was handed out; if there are none, nothing was. If all
 -- aborted lazily, the tally is a lazy one. With one worker and lazy abort, the operations rolled back are those with a
 -- source whose guess is not its value, each evaluated once more; and by deques each operation is handed out once
-pub record IsFounded (workers : ℕ) (accounts : List Account) (t : Tally) : Type 0 where
+pub record FollowsAccounts (workers : ℕ) (accounts : List Account) (t : Tally) : Type 0 where
   pub committed : sum_by committed_by_workers accounts ≤ t.evaluated
   pub dealt : counted_to (sum_by dealt_count accounts) ≤ t.handed
   pub by_strata : AreExploredBy Strata accounts → t.handed ≡ 0
@@ -164,7 +164,7 @@ pub record RunTold (telling : Telling) (told : Option Accepted) (s : Settings) (
   pub sound : All (IsSoundAccount s.workers) accounts
   pub checked : IsTrue (is_checked s.check) → All IsChecked accounts
   pub counts : IsTallyOf done accounts t
-  pub founded : IsFounded s.workers accounts t
+  pub founded : FollowsAccounts s.workers accounts t
   pub balanced : IsBalanced s.planning s.workers t
   -- At 0 and 3 the end was written behind the batches, and the tally was noted
   pub whole : (status ≡ 0) ⊎ (status ≡ 3) → (last : IsAtLast told rest)

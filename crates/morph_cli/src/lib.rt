@@ -10,7 +10,10 @@
 //!
 //! # The files
 //!
-//! Read `top_call` first, which has the contract of the whole call, and then `run`.
+//! Read `top_call` first, which has the contract of the whole call, and then `run`. From the top down, `morph` calls
+//! `run_app`, which knows the application, that calls `run_over`, which knows the input, and that `run`, which reads
+//! ahead or not. `run_batches` takes each batch by `take_batch`, which has it run by `run_watched`, beside a viewer or
+//! not, and that by `run_batch`, which chooses the strategy and asks the engine.
 //!
 //! | File | What it has |
 //! |---|---|
@@ -19,7 +22,7 @@
 //! | `ended`, `note` | `Ended`, the statuses and the last lines of the notes; how such a line is written |
 //! | `job`, `fault` | what a run is to do, and with what; what cuts it off |
 //! | `run`, `progress` | a run, batch by batch; how far it has got |
-//! | `one_batch`, `batch` | a batch run, written and published; its plan made and run |
+//! | `take_batch`, `run_batch` | a batch run, written and published; its plan made and run |
 //! | `strategies`, `tell` | the strategy of a batch, and how it is counted; what is written of it, and at the end |
 //! | `watch`, `checked` | balances that are watched; journals that are checked |
 //! | `ahead` | runs that read and plan batches ahead |
@@ -29,17 +32,17 @@
 mod ahead;
 mod application;
 mod arguments;
-mod batch;
 mod checked;
 mod ended;
 mod fault;
 mod job;
 mod laws;
 mod note;
-mod one_batch;
 mod progress;
 mod run;
+mod run_batch;
 mod strategies;
+mod take_batch;
 mod tell;
 mod top_call;
 mod watch;

@@ -13,8 +13,8 @@ ghost use Rattle.version_table.specs.Totals.{total_of};
 ghost use Rattle.morph_cli.specs.Batches.{IsEndOf, IsSeen, also_posted};
 ghost use Rattle.morph_cli.specs.Runs.{layout_of};
 
-use crate::batch::run_batch;
 use crate::job::{Host, Job};
+use crate::run_batch::run_batch;
 use decision_model::Last;
 use event_reader::EventApp;
 use morph_base::{Batch, Layout, OutOfMemory};

@@ -27,11 +27,11 @@ use Rattle.op_words.proofs.Trailing.{calm_open}
 use Rattle.op_eval.specs.declared.answers.Left.{Left}
 use Rattle.op_eval.specs.declared.explored.Explored.{Explored}
 use Rattle.op_eval.specs.declared.runner.Runner.{Runner}
-use Rattle.op_eval.specs.Exploring.{AreExplored}
+use Rattle.op_eval.specs.Exploring.{MayExplore}
 use Rattle.op_eval.specs.Gathering.{gathered, runners_of}
 use Rattle.op_eval.specs.Running.{hand_view}
 use Rattle.op_eval.specs.Alone.{IsNewRoot, HasRunAll}
-use Rattle.op_eval.specs.Further.{IsFurther, AreFurther}
+use Rattle.op_eval.specs.Further.{IsFurther, HaveGoneOn}
 use Rattle.strata_explorer.specs.Levels.{counters_for}
 use Rattle.abort_lazy.specs.Ended.{AreAtStart, AreCauses, causes}
 use Rattle.abort_lazy.specs.Finishing.{settler}
@@ -75,12 +75,12 @@ closed_at p cap b n v c plan same is = subst (λ (z : Plan × ℕ). IsClosed z.0
 
 -- ---- hands that further hands come from
 
-further_first : (before rs : List Runner) → AreFurther before rs → AreFirstRunners before → (k : ℕ) (d : Runner) → k < length rs → (hand_view (slice_index_or rs k d)).tag ≡ k + 1
+further_first : (before rs : List Runner) → HaveGoneOn before rs → AreFirstRunners before → (k : ℕ) (d : Runner) → k < length rs → (hand_view (slice_index_or rs k d)).tag ≡ k + 1
 further_first before rs further first k d lt =
     let less : k < length before = subst (λ n. k < n) further.len lt in
     (further.each k d less).tag ∙ first.tags k d less
 
-further_all : (before rs : List Runner) → 0 < length before → AreFurther before rs → AreFirstRunners before → AreAllHands rs
+further_all : (before rs : List Runner) → 0 < length before → HaveGoneOn before rs → AreFirstRunners before → AreAllHands rs
 further_all before rs some further first t d above most =
     let made = (further.each 0 d some).made ∙ first.made d in
     let less : t - 1 < length rs = (let many = further.len in omega arith) in
@@ -93,8 +93,8 @@ further_unseen a b further no_trail no_notes lone o seen =
     calm_open o [] further.words (subst (λ l. IsCalm l further.words) no_trail (further.calm lone)) (λ t found own here. further.open_own t found own)
     (λ t found here settled. absurd (omega (arith, found.1))) seen.note inside seen.op_is seen.settled
 
-module _ (p : Plan) (valid : IsValidPlan p) (x : Prepared) (prepared : IsPrepared p x) (e : Explored) (rs : List Runner) (explored : AreExplored e.board e.next_counter e.runners)
-    (same_plan : plan_of e.board ≡ plan_of x.board) (same_cap : cap_of e.board ≡ cap_of x.board) (further : AreFurther (runners_of x.runners) (runners_of e.runners))
+module _ (p : Plan) (valid : IsValidPlan p) (x : Prepared) (prepared : IsPrepared p x) (e : Explored) (rs : List Runner) (explored : MayExplore e.board e.next_counter e.runners)
+    (same_plan : plan_of e.board ≡ plan_of x.board) (same_cap : cap_of e.board ≡ cap_of x.board) (further : HaveGoneOn (runners_of x.runners) (runners_of e.runners))
     (ran : x.abort ≡ Lazy → IsNewRoot (runners_of x.runners) → HasRunAll p (runners_of e.runners))
     (settling : AreSettling e.board p e.next_counter (length p.event_levels.items) (runners_of e.runners) rs) (by_root : IsSettledByRoot p (runners_of e.runners) rs) where
   abbrev before : List Runner

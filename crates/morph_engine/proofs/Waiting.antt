@@ -15,8 +15,8 @@ use Rattle.op_eval.specs.declared.explored.Explored.{Explored}
 use Rattle.op_eval.specs.declared.runner.Runner.{Runner}
 use Rattle.op_eval.specs.declared.runners.Runners.{Runners}
 use Rattle.op_eval.specs.Alone.{IsNewRoot, HasRunAll, Ran}
-use Rattle.op_eval.specs.Exploring.{AreExplored, IsExploring, Unused}
-use Rattle.op_eval.specs.Further.{AreFurther, IsFurther}
+use Rattle.op_eval.specs.Exploring.{MayExplore, IsExploring, Unused}
+use Rattle.op_eval.specs.Further.{HaveGoneOn, IsFurther}
 use Rattle.op_eval.specs.Gathering.{runners_of, HasPlaces}
 use Rattle.op_eval.specs.Running.{hand_view}
 use Rattle.op_eval.proofs.Further.{same_further}
@@ -70,7 +70,7 @@ module _ (b : Board) (whole : List Runner) (front behind : List Runner) (is : wh
   both_all P one other = subst (All P) (sym is) (All-append P front behind one other)
 
 -- the runners that go on can explore, where all can
-pub front_explored : (b : Board) (old new : Runners) (behind : List Runner) → runners_of old ≡ runners_of new ++ behind → 0 < length (runners_of new) → HasPlaces new → AreExplored b 0 old → AreExplored b 0 new
+pub front_explored : (b : Board) (old new : Runners) (behind : List Runner) → runners_of old ≡ runners_of new ++ behind → 0 < length (runners_of new) → HasPlaces new → MayExplore b 0 old → MayExplore b 0 new
 front_explored b old new behind is some places explored = record {
   places = places;
   rest = record {
@@ -83,7 +83,7 @@ front_explored b old new behind is some places explored = record {
   unused = λ c high. front_all b (runners_of old) (runners_of new) behind is (Unused c) (explored.unused c high);
 }
 
-pub behind_waits : (b : Board) (old : Runners) (front behind : List Runner) → runners_of old ≡ front ++ behind → AreExplored b 0 old → AreWaiting b behind
+pub behind_waits : (b : Board) (old : Runners) (front behind : List Runner) → runners_of old ≡ front ++ behind → MayExplore b 0 old → AreWaiting b behind
 behind_waits b old front behind is explored = record {
   hands = behind_all b (runners_of old) front behind is (IsOf b) explored.rest.hands;
   free = behind_all b (runners_of old) front behind is IsFree explored.rest.free;
@@ -105,7 +105,7 @@ some_work p crew all front aside is many made =
     omega arith
 
 -- all can go on to settling, where those that explored and those that waited can
-pub both_explored : (b : Board) (next : ℕ) (old new : Runners) (behind : List Runner) → runners_of new ≡ runners_of old ++ behind → HasPlaces new → AreExplored b next old → AreWaiting b behind → AreExplored b next new
+pub both_explored : (b : Board) (next : ℕ) (old new : Runners) (behind : List Runner) → runners_of new ≡ runners_of old ++ behind → HasPlaces new → MayExplore b next old → AreWaiting b behind → MayExplore b next new
 both_explored b next old new behind is places explored waiting = record {
   places = places;
   rest = record {
@@ -123,9 +123,9 @@ both_explored b next old new behind is places explored waiting = record {
 
 -- ---- what is said of those that explored is said of all
 
-pub further_all : (old new front after behind : List Runner) → old ≡ front ++ behind → new ≡ after ++ behind → AreFurther front after → AreFurther old new
+pub further_all : (old new front after behind : List Runner) → old ≡ front ++ behind → new ≡ after ++ behind → HaveGoneOn front after → HaveGoneOn old new
 further_all old new front after behind old_is new_is further =
-    subst (λ l. AreFurther l new) (sym old_is) (subst (AreFurther (front ++ behind)) (sym new_is) (record {
+    subst (λ l. HaveGoneOn l new) (sym old_is) (subst (HaveGoneOn (front ++ behind)) (sym new_is) (record {
       len =
           let a = length-append front behind in
           let b = length-append after behind in

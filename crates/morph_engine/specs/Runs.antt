@@ -22,7 +22,7 @@ use Rattle.op_words.specs.Hands.{plan_of, cap_of, counters_of}
 use Rattle.op_words.specs.Trails.{IsReached}
 use Rattle.op_eval.specs.declared.answers.Left.{Left}
 use Rattle.op_eval.specs.declared.runner.Runner.{Runner}
-use Rattle.op_eval.specs.Exploring.{AreExplored}
+use Rattle.op_eval.specs.Exploring.{MayExplore}
 use Rattle.op_eval.specs.Gathering.{runners_of}
 use Rattle.op_eval.specs.Running.{hand_view}
 use Rattle.strata_explorer.specs.Levels.{counters_for, level_of, ops_of, op_of}
@@ -51,7 +51,7 @@ pub record IsPrepared (p : Plan) (x : Prepared) : Type 0 where
   pub counters : counters_of x.board ≡ counters_for p + length p.event_levels.items
   pub partition : IsPartition x.units.units (op_count p)
   pub number : x.units.ops ≡ op_count p
-  pub ready : AreExplored x.board 0 x.runners
+  pub ready : MayExplore x.board 0 x.runners
   pub first : AreFirstRunners (runners_of x.runners)
   pub supply : IsSupply p (length (runners_of x.runners)) x.supply
   pub room : IsRoomFor p x.room

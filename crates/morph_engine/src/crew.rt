@@ -8,8 +8,8 @@ ghost use Rattle.morph_base.specs.Plans.{op_count};
 ghost use Rattle.morph_engine.specs.Crews.{IsCrew, AreWaiting};
 ghost use Rattle.morph_engine.specs.Exploring.{HaveHanded};
 ghost use Rattle.op_eval.specs.Alone.{IsNewRoot, HasRunAll};
-ghost use Rattle.op_eval.specs.Exploring.{AreExplored, IsExploredBoard};
-ghost use Rattle.op_eval.specs.Further.{AreFurther};
+ghost use Rattle.op_eval.specs.Exploring.{MayExplore, IsExploredBoard};
+ghost use Rattle.op_eval.specs.Further.{HaveGoneOn};
 ghost use Rattle.op_eval.specs.Gathering.{runners_of, spare, HasPlaces};
 ghost use Rattle.op_words.specs.Hands.{plan_of, cap_of};
 
@@ -138,11 +138,11 @@ impl Crew {
         requires units { IsPartition units.now.units (op_count plan.now) }
         requires number { units.now.ops ≡ op_count plan.now }
         requires cap { 1 ≤ cap_of board }
-        requires ready { AreExplored board 0 runners }
+        requires ready { MayExplore board 0 runners }
         requires crew { IsCrew plan.now (length (runners_of runners)) self }
         ensures explored { IsExploredBoard result.0 }
         ensures board { result.0.board ≡ board }
-        ensures hands { AreFurther (runners_of runners) (runners_of result.0.runners) }
+        ensures hands { HaveGoneOn (runners_of runners) (runners_of result.0.runners) }
         ensures ran { abort ≡ Lazy → IsNewRoot (runners_of runners)
             → HasRunAll plan.now (runners_of result.0.runners) }
         ensures next_counter { result.0.next_counter ≡ 0 }

@@ -7,8 +7,8 @@ ghost use Rattle.morph_base.specs.Limits.{most_workers};
 ghost use Rattle.morph_base.specs.Plans.{op_count};
 ghost use Rattle.morph_engine.specs.Exploring.{explore_of, IsSupply, HasExploredBy};
 ghost use Rattle.op_eval.specs.Alone.{IsNewRoot, HasRunAll};
-ghost use Rattle.op_eval.specs.Exploring.{AreExplored, IsExploredBoard};
-ghost use Rattle.op_eval.specs.Further.{AreFurther};
+ghost use Rattle.op_eval.specs.Exploring.{MayExplore, IsExploredBoard};
+ghost use Rattle.op_eval.specs.Further.{HaveGoneOn};
 ghost use Rattle.op_eval.specs.Gathering.{runners_of};
 ghost use Rattle.op_words.specs.Hands.{plan_of, cap_of, counters_of};
 ghost use Rattle.strata_explorer.specs.Levels.{counters_for};
@@ -80,13 +80,13 @@ pub(crate) fn explore_by<R: Threads + Sync, G: Gate>(
     requires number { units.now.ops ≡ op_count plan.now }
     requires counters { counters_for plan.now ≤ counters_of board }
     requires cap { 1 ≤ cap_of board }
-    requires ready { AreExplored board 0 runners }
+    requires ready { MayExplore board 0 runners }
     requires supply { IsSupply plan.now (length (runners_of runners)) supply }
     ensures explored { IsExploredBoard result.0 }
     ensures plan { plan_of result.0.board ≡ plan_of board }
     ensures cap { cap_of result.0.board ≡ cap_of board }
     ensures counters { counters_of result.0.board ≡ counters_of board }
-    ensures hands { AreFurther (runners_of runners) (runners_of result.0.runners) }
+    ensures hands { HaveGoneOn (runners_of runners) (runners_of result.0.runners) }
     ensures ran { abort ≡ Lazy → IsNewRoot (runners_of runners)
         → HasRunAll plan.now (runners_of result.0.runners) }
     ensures next_counter { result.0.next_counter ≤ counters_for plan.now }

@@ -10,7 +10,7 @@ use Rattle.op_words.specs.Hands.{plan_of}
 use Rattle.op_eval.specs.declared.answers.Answers.{Answers}
 use Rattle.op_eval.specs.declared.runner.Runner.{Runner}
 use Rattle.op_eval.specs.declared.runners.Runners.{Runners}
-use Rattle.op_eval.specs.Exploring.{stopped, IsExploring, Unused, AreExplored}
+use Rattle.op_eval.specs.Exploring.{stopped, IsExploring, Unused, MayExplore}
 use Rattle.op_eval.specs.Gathering.{runners_of, HasBegun, HasPlaces, AreNew}
 use Rattle.op_eval.proofs.Seating.{new_at_rest}
 
@@ -23,7 +23,7 @@ begun_explores p events r fits begun = record {
 }
 
 pub new_explored : (b : Board) (v : View) (n events : ℕ) (rs : Runners) → 0 < n → v.tag ≡ 1 → HasPlaces rs → AreNew b v n events (runners_of rs) → v.claim ≡ None → v.places ≡ []
-    → event_count (plan_of b) ≤ events → AreExplored b 0 rs
+    → event_count (plan_of b) ≤ events → MayExplore b 0 rs
 new_explored b v n events rs some first has are free none fits = record {
   places = has;
   rest = new_at_rest b v n events (runners_of rs) some first free are;

@@ -8,7 +8,7 @@ use Rattle.op_words.specs.Views.{AddsAndFrees}
 use Rattle.op_words.proofs.Rows.{no_more}
 use Rattle.op_words.proofs.Trailing.{along_none, along-append}
 use Rattle.op_eval.specs.declared.runner.Runner.{Runner}
-use Rattle.op_eval.specs.Further.{IsFurther, AreFurther}
+use Rattle.op_eval.specs.Further.{IsFurther, HaveGoneOn}
 use Rattle.op_eval.specs.Running.{hand_view}
 
 pub same_further : (a b : Runner) → b ≡ a → IsFurther a b
@@ -56,5 +56,5 @@ further_then a m b first second = record {
       (subst (λ l. IsCalm l second.words) first.trail (second.calm (record { root = first.tag ∙ lone.root; alone = first.made ∙ lone.alone })));
 }
 
-pub all_same : (rs : List Runner) → AreFurther rs rs
+pub all_same : (rs : List Runner) → HaveGoneOn rs rs
 all_same rs = record { len = refl; each = λ k d lt. same_further (slice_index_or rs k d) (slice_index_or rs k d) refl }

@@ -9,12 +9,12 @@ use Rattle.op_words.specs.declared.trail.View.{View}
 use Rattle.op_words.specs.Counting.{place, times}
 use Rattle.op_eval.specs.declared.runner.Runner.{Runner}
 use Rattle.op_eval.specs.Running.{hand_view}
-use Rattle.op_eval.specs.Turns.{InTurn, TakingCall, Took, Tried, MakesTakingCall}
+use Rattle.op_eval.specs.Turns.{CallsInOrder, TakingCall, Took, Tried, MakesTakingCall}
 use Rattle.op_eval.proofs.Elements.{contains_first, contains_later, contains_cases}
 
 pub in_turn_append : {C : Type 0} (makes : C → Runner → Runner → Type 0) (ds cs : List C) (a m b : Runner)
-    → InTurn makes cs a m → InTurn makes ds m b → InTurn makes (ds ++ cs) a b
-in_turn_append makes [] cs a m b first second = subst (InTurn makes cs a) (sym second) first
+    → CallsInOrder makes cs a m → CallsInOrder makes ds m b → CallsInOrder makes (ds ++ cs) a b
+in_turn_append makes [] cs a m b first second = subst (CallsInOrder makes cs a) (sym second) first
 in_turn_append makes (d ∷ ds) cs a m b first second = (second.0, in_turn_append makes ds cs a m second.0 first second.1, second.2)
 
 -- one number of a counter
@@ -29,7 +29,7 @@ only_later l c cs only k n found = only k n (contains_later c cs (Took k n) foun
 -- where what is tried takes no number
 module _ (tries : ℕ → Runner → Runner → Type 0) (still : (i : ℕ) (a b : Runner) → tries i a b → (hand_view b).places ≡ (hand_view a).places) where
   -- a place that was not there before was taken
-  pub places_taken : (cs : List TakingCall) (a b : Runner) → InTurn (MakesTakingCall tries) cs a b → (c n : ℕ) → Contains (hand_view b).places (place c n) → Contains (hand_view a).places (place c n) ⊎ Contains cs (Took c n)
+  pub places_taken : (cs : List TakingCall) (a b : Runner) → CallsInOrder (MakesTakingCall tries) cs a b → (c n : ℕ) → Contains (hand_view b).places (place c n) → Contains (hand_view a).places (place c n) ⊎ Contains cs (Took c n)
   places_taken [] a b calls c n found = inl (subst (λ r. Contains (hand_view r).places (place c n)) calls found)
   places_taken (Took k m ∷ cs) a b calls c n found =
       elim (Contains-append_cases (hand_view calls.0).places (place k m ∷ []) (place c n) (subst (λ (v : View). Contains v.places (place c n)) calls.2.view found)) [
@@ -46,14 +46,14 @@ module _ (tries : ℕ → Runner → Runner → Type 0) (still : (i : ℕ) (a b 
   places_taken (Tried q ∷ cs) a b calls c n found =
       elim (places_taken cs a calls.0 calls.1 c n (subst (λ xs. Contains xs (place c n)) (still q calls.0 b calls.2) found)) [ inl before ↦ inl before | inr later ↦ inr (contains_later (Tried q) cs (Took c n) later) ]
 
-  pub places_hold : (cs : List TakingCall) (a b : Runner) → InTurn (MakesTakingCall tries) cs a b → (x : Place) → Contains (hand_view a).places x → Contains (hand_view b).places x
+  pub places_hold : (cs : List TakingCall) (a b : Runner) → CallsInOrder (MakesTakingCall tries) cs a b → (x : Place) → Contains (hand_view a).places x → Contains (hand_view b).places x
   places_hold [] a b calls x found = subst (λ r. Contains (hand_view r).places x) (sym calls) found
   places_hold (Took k m ∷ cs) a b calls x found =
       subst (λ (v : View). Contains v.places x) (sym calls.2.view) (Contains-append_left (hand_view calls.0).places (place k m ∷ []) x (places_hold cs a calls.0 calls.1 x found))
   places_hold (Tried q ∷ cs) a b calls x found = subst (λ xs. Contains xs x) (sym (still q calls.0 b calls.2)) (places_hold cs a calls.0 calls.1 x found)
 
   -- where numbers were taken from one counter, the others are as they were
-  pub times_still : (c l : ℕ) → c ≢ l → (cs : List TakingCall) (a b : Runner) → ((k n : ℕ) → Contains cs (Took k n) → k ≡ l) → InTurn (MakesTakingCall tries) cs a b → times c (hand_view b).places ≡ times c (hand_view a).places
+  pub times_still : (c l : ℕ) → c ≢ l → (cs : List TakingCall) (a b : Runner) → ((k n : ℕ) → Contains cs (Took k n) → k ≡ l) → CallsInOrder (MakesTakingCall tries) cs a b → times c (hand_view b).places ≡ times c (hand_view a).places
   times_still c l other [] a b only calls = ap (λ r. times c (hand_view r).places) calls
   times_still c l other (Took k n ∷ cs) a b only calls =
       let same : k ≡ l = only k n (contains_first (Took k n) cs) in

@@ -46,7 +46,7 @@ Unused c r = times c (hand_view r).places ≡ 0
 
 -- The runners of a board after exploring are at rest, and none of them took a number from the counter `next` or a later
 -- one
-pub record AreExplored (b : Board) (next : ℕ) (rs : Runners) : Type 0 where
+pub record MayExplore (b : Board) (next : ℕ) (rs : Runners) : Type 0 where
   pub places : HasPlaces rs
   pub rest : AreAtRest b (runners_of rs)
   pub exploring : All (IsExploring (plan_of b)) (runners_of rs)
@@ -58,4 +58,4 @@ parts_of e = (e.board, e.runners, e.end, e.next_counter)
 
 -- The parts meet what `Explored::new` asks of them
 abbrev pub IsExploredBoard : Explored → Type 0
-IsExploredBoard e = AreExplored e.board e.next_counter e.runners
+IsExploredBoard e = MayExplore e.board e.next_counter e.runners

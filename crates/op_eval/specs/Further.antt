@@ -20,6 +20,6 @@ pub record IsFurther (a b : Runner) : Type 0 where
   pub calm : IsLone (hand_view a) → IsCalm (hand_view a).trail words
 
 -- Each runner is the same as before, after calls that settled nothing
-pub record AreFurther (before after : List Runner) : Type 0 where
+pub record HaveGoneOn (before after : List Runner) : Type 0 where
   pub len : length after ≡ length before
   pub each : (k : ℕ) (d : Runner) → k < length before → IsFurther (slice_index_or before k d) (slice_index_or after k d)

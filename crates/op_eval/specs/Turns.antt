@@ -5,9 +5,9 @@ use Rattle.op_eval.specs.declared.runner.Runner.{Runner}
 use Rattle.op_eval.specs.Running.{hand_view}
 
 -- The calls, the last one first, lead from runner a to runner b: each makes of a runner what the relation says
-abbrev pub InTurn : {C : Type 0} → (C → Runner → Runner → Type 0) → List C → Runner → Runner → Type 0
-InTurn makes [] a b = b ≡ a
-InTurn makes (c ∷ cs) a b = (m : Runner) × InTurn makes cs a m × makes c m b
+abbrev pub CallsInOrder : {C : Type 0} → (C → Runner → Runner → Type 0) → List C → Runner → Runner → Type 0
+CallsInOrder makes [] a b = b ≡ a
+CallsInOrder makes (c ∷ cs) a b = (m : Runner) × CallsInOrder makes cs a m × makes c m b
 
 -- The number n was taken from counter c, and nothing else of the runner changed
 pub record TakesNumber (c n : ℕ) (a b : Runner) : Type 0 where

@@ -1,14 +1,13 @@
 ghost use Rattle.std.specs.Prelude.{◌≡◌, ℕ, ◌<◌, List, [], None};
 ghost use Rattle.morph_base.specs.declared.word.OpState.TheVariants.{Ready, Blocked};
 ghost use Rattle.morph_base.specs.declared.word.OpWord.{OpWord as Word};
-ghost use Rattle.morph_base.specs.Plans.{op_count};
 ghost use Rattle.interleaving_core.specs.Core.{places};
 ghost use Rattle.op_words.specs.declared.trail.Item.{Item};
 ghost use Rattle.op_words.specs.declared.trail.View.{View};
-ghost use Rattle.op_words.specs.Hands.{plan_of, cap_of, view_of, IsHandOf};
+ghost use Rattle.op_words.specs.Hands.{MayBegin, MayCall};
+ghost use Rattle.op_words.specs.Hands.{cap_of, view_of, IsHandOf};
 ghost use Rattle.op_words.specs.Views.{Holds};
 ghost use Rattle.op_eval.specs.Evaluations.{EvaluationDoes, FetchAllTells, IsEvaluatingSoFar, Tries};
-ghost use Rattle.op_eval.specs.Running.{hand_view};
 
 use crate::answers::Evaluation;
 use crate::runner::Runner;
@@ -24,9 +23,7 @@ pub(crate) struct Stopped {
 
 /// Fetches all places of the operation that the hand holds, and stops at the first source that stands in the way.
 fn fetch_all(board: &Board, hand: &mut Hand, plan: &Plan, op: u32) -> Option<Stopped>
-    requires hand { IsHandOf board.now hand.old }
-    requires plan { plan.now ≡ plan_of board.now }
-    requires in_range { op < op_count plan.now }
+    requires may { MayCall board.now hand.old plan.now op }
     requires held { (a : ℕ) × Holds (view_of hand.old) op a [] }
     ensures hand { IsHandOf board.now hand.new }
     ensures does { (a : ℕ) → Holds (view_of hand.old) op a []
@@ -45,10 +42,7 @@ fn fetch_all(board: &Board, hand: &mut Hand, plan: &Plan, op: u32) -> Option<Sto
 /// Claims an operation that is ready, fetches its places and finishes it. If a source stops this, the operation is
 /// given back.
 fn hold(board: &Board, hand: &mut Hand, plan: &Plan, op: u32) -> Evaluation
-    requires hand { IsHandOf board.now hand.old }
-    requires plan { plan.now ≡ plan_of board.now }
-    requires in_range { op < op_count plan.now }
-    requires free { (view_of hand.old).claim ≡ None }
+    requires may { MayBegin board.now hand.old plan.now op }
     ensures hand { IsHandOf board.now hand.new }
     ensures does { (start : View) (xs : List Item) (w : Word)
         → IsEvaluatingSoFar op start (view_of hand.old) xs w
@@ -72,10 +66,7 @@ fn hold(board: &Board, hand: &mut Hand, plan: &Plan, op: u32) -> Evaluation
 
 /// Makes a blocked operation ready, and goes on.
 fn make(board: &Board, hand: &mut Hand, plan: &Plan, op: u32) -> Evaluation
-    requires hand { IsHandOf board.now hand.old }
-    requires plan { plan.now ≡ plan_of board.now }
-    requires in_range { op < op_count plan.now }
-    requires free { (view_of hand.old).claim ≡ None }
+    requires may { MayBegin board.now hand.old plan.now op }
     ensures hand { IsHandOf board.now hand.new }
     ensures does { (start : View) (xs : List Item) (w : Word)
         → IsEvaluatingSoFar op start (view_of hand.old) xs w
@@ -96,10 +87,7 @@ fn make(board: &Board, hand: &mut Hand, plan: &Plan, op: u32) -> Evaluation
 
 /// Loads an operation's word, and evaluates the operation if it is idle.
 fn evaluate_by(board: &Board, hand: &mut Hand, plan: &Plan, op: u32) -> Evaluation
-    requires hand { IsHandOf board.now hand.old }
-    requires plan { plan.now ≡ plan_of board.now }
-    requires in_range { op < op_count plan.now }
-    requires free { (view_of hand.old).claim ≡ None }
+    requires may { MayBegin board.now hand.old plan.now op }
     ensures hand { IsHandOf board.now hand.new }
     ensures does { EvaluationDoes plan.now (cap_of board.now) op (view_of hand.old)
         (view_of hand.new) result }
@@ -128,10 +116,7 @@ fn evaluate_by(board: &Board, hand: &mut Hand, plan: &Plan, op: u32) -> Evaluati
 /// The runner holds nothing before and after. Its `answers` count the answer. The call takes no memory and waits for
 /// nobody.
 pub fn evaluate(board: &Board, runner: &mut Runner, plan: &Plan, op: u32) -> Evaluation
-    requires hand { IsHandOf board.now runner.old.hand }
-    requires plan { plan.now ≡ plan_of board.now }
-    requires in_range { op < op_count plan.now }
-    requires free { (hand_view runner.old).claim ≡ None }
+    requires may { MayBegin board.now runner.old.hand plan.now op }
     ensures hand { IsHandOf board.now runner.new.hand }
     ensures does { Tries plan.now (cap_of board.now) op runner.old runner.new result }
 {

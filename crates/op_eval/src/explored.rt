@@ -26,7 +26,7 @@ pub struct Explored {
 
 impl Explored {
     ghost use Rattle.std.specs.Prelude.{◌≡◌};
-    ghost use Rattle.op_eval.specs.Exploring.{parts_of, AreExplored, IsExploredBoard};
+    ghost use Rattle.op_eval.specs.Exploring.{parts_of, MayExplore, IsExploredBoard};
 
     /// Puts together what is handed on to settling: runners of the board that hold nothing, the first with the root.
     ///
@@ -34,7 +34,7 @@ impl Explored {
     /// are at most the number of words that it loaded, and `kept` is empty, with room for what the plan's events leave.
     /// No runner took a number from the counter `next_counter` or a later one.
     pub fn new(board: Board, runners: Runners, end: RunEnd, next_counter: u32) -> Explored
-        requires { AreExplored board next_counter runners }
+        requires { MayExplore board next_counter runners }
         ensures parts { parts_of result ≡ (board, runners, end, next_counter) }
         ensures explored { IsExploredBoard result }
     {
@@ -50,7 +50,7 @@ impl Explored {
     pub fn parts(self) -> (Board, Runners, RunEnd, u32)
         requires { IsExploredBoard self }
         ensures parts { result ≡ parts_of self }
-        ensures explored { AreExplored result.0 result.3 result.1 }
+        ensures explored { MayExplore result.0 result.3 result.1 }
     {
         let Explored {
             board,

@@ -102,7 +102,7 @@ fn join_all(board: &Board, root: &mut Hand, runners: &mut List<Runner>, left: &m
 impl Runners {
     ghost use Rattle.morph_base.specs.Plans.{event_count};
     ghost use Rattle.op_words.specs.Hands.{plan_of};
-    ghost use Rattle.op_eval.specs.Exploring.{AreExplored};
+    ghost use Rattle.op_eval.specs.Exploring.{MayExplore};
     ghost use Rattle.op_eval.specs.Lending.{LendsRunner, LendsRunners};
 
     /// Makes a runner for each worker from 1 to `workers`, with room for what `events` events leave. The first has the
@@ -129,7 +129,7 @@ impl Runners {
             → AreAtRest board.now (runners_of runners)) }
         ensures fresh { IfOk result (λ runners. (view_of root).claim ≡ None
             → (view_of root).places ≡ []
-            → event_count (plan_of board.now) ≤ events → AreExplored board.now 0 runners) }
+            → event_count (plan_of board.now) ≤ events → MayExplore board.now 0 runners) }
     {
         let mut runners = List::with_room(alloc, workers as usize)?;
         let mut left = empty_lists(alloc, workers as usize, events as usize)?;

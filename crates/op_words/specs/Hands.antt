@@ -3,7 +3,7 @@ use Rattle.std.specs.Prelude.{◌≡◌, ℕ, ◌-◌, ◌^◌, ◌≤◌, ◌<�
 use Rattle.morph_base.specs.declared.limits.TheConstants.{MAX, READS}
 use Rattle.morph_base.specs.Limits.{most_attempts}
 use Rattle.morph_base.specs.declared.plan.Plan.{Plan}
-use Rattle.morph_base.specs.Plans.{IsPlan}
+use Rattle.morph_base.specs.Plans.{IsPlan, op_count}
 use Rattle.interleaving_core.specs.declared.entry.Held.{Held}
 use Rattle.interleaving_core.specs.declared.event.CoreEvent.{CoreEvent}
 use Rattle.interleaving_core.specs.Counts.{evaluated, spreads, rolled}
@@ -122,3 +122,14 @@ pub record IsHandOf (b : Board) (h : Hand) : Type 0 where
   -- The settled words that it saw are one for each operation, and it noted its trail. If it is the only hand ever made,
   -- its own steps lead to a state whose words are the ones that it last loaded or left
   pub told : IsTold (view_of h)
+
+-- ---- what a call of the board asks for
+
+-- A call may use hand h for operation o of plan p: the hand is one of the board's, and the plan is the board's and has
+-- the operation
+abbrev pub MayCall : Board → (h : Hand) → (p : Plan) → (o : ℕ) → Type 0
+MayCall b h p o = IsHandOf b h × (p ≡ plan_of b) × (o < op_count p)
+
+-- A call may use hand h for operation o of plan p, and the hand holds nothing
+abbrev pub MayBegin : Board → (h : Hand) → (p : Plan) → (o : ℕ) → Type 0
+MayBegin b h p o = IsHandOf b h × (p ≡ plan_of b) × (o < op_count p) × ((view_of h).claim ≡ None)

@@ -29,18 +29,18 @@ impl TableRule<(), Option<View>, Known> for Rule {
 }
 
 /// A load of an operation's word.
-pub(crate) struct Look;
+pub(crate) struct LoadWord;
 
-impl Play<(), Option<View>> for Look {
+impl Play<(), Option<View>> for LoadWord {
     ghost use Rattle.op_words.specs.Plays.{looks};
 
     ghost then = { looks };
 }
 
 /// A load that the view does not note.
-pub(crate) struct Tell;
+pub(crate) struct LoadUnnoted;
 
-impl Play<(), Option<View>> for Tell {
+impl Play<(), Option<View>> for LoadUnnoted {
     ghost use Rattle.op_words.specs.Plays.{tells};
 
     ghost then = { tells };
@@ -92,18 +92,18 @@ impl Play<(), Option<View>> for Give {
 }
 
 /// A load of a record.
-pub(crate) struct Recall;
+pub(crate) struct LoadRecord;
 
-impl Play<(), Option<View>> for Recall {
+impl Play<(), Option<View>> for LoadRecord {
     ghost use Rattle.op_words.specs.Plays.{recalls};
 
     ghost then = { recalls };
 }
 
 /// A load of a decision.
-pub(crate) struct Learn;
+pub(crate) struct LoadDecision;
 
-impl Play<(), Option<View>> for Learn {
+impl Play<(), Option<View>> for LoadDecision {
     ghost use Rattle.op_words.specs.Plays.{learns};
 
     ghost then = { learns };
@@ -146,9 +146,9 @@ impl Play<(), Option<View>> for Roll {
 }
 
 /// A new hand is split off.
-pub(crate) struct Part;
+pub(crate) struct SplitHand;
 
-impl Split<Option<View>> for Part {
+impl Split<Option<View>> for SplitHand {
     ghost use Rattle.op_words.specs.Plays.{staying, going};
 
     ghost left = { staying };
@@ -157,9 +157,9 @@ impl Split<Option<View>> for Part {
 }
 
 /// A hand is joined.
-pub(crate) struct Merge;
+pub(crate) struct JoinHand;
 
-impl Join<Option<View>> for Merge {
+impl Join<Option<View>> for JoinHand {
     ghost use Rattle.op_words.specs.Plays.{both};
     ghost use Rattle.std.specs.Prelude.{None};
 

@@ -93,7 +93,7 @@ is_number range value = by_test (value_of value) (says_in range value)
     by_test n true = refl
     by_test n false = refl
 
-abbrev app_or_none : List ℕ → Option (Option App)
+abbrev pub app_or_none : List ℕ → Option (Option App)
 app_or_none value = option_map Some (app_in value)
 
 is_app : (value : List ℕ) → is_some (app_or_none value) ≡ is_some (app_in value)

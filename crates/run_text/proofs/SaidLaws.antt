@@ -25,7 +25,7 @@ use Rattle.run_text.specs.Words.{text_of, all_names, has_name, value_in, is_know
 use Rattle.run_text.specs.Values.{app_in, switch_in, unit_in, explore_in, abort_in, auto_in, check_in, worker_counts, sizes, seeds, event_counts, ahead_counts, number_in, given, given_under, app_under}
 use Rattle.run_text.specs.Settings.{strategy_of, is_strategy_given, planning_by, planning_of, read_input, made_input, input_by, input_of, is_alone, can_check, settings_of}
 use Rattle.run_text.specs.SaidSettings.{word_of, SaysValue, IsMissing, IsSaid, IsRead, IsInputMade, IsFixed, IsChosen, AreSaid}
-use Rattle.run_text.proofs.NoSettingsLaws.{all_false}
+use Rattle.run_text.proofs.NoSettingsLaws.{all_false, app_or_none}
 use Rattle.run_text.proofs.Parts.{some_if, some_unless}
 use Rattle.run_text.proofs.WordLaws.{named}
 
@@ -108,9 +108,6 @@ said : {A : Type 0} (words : List (List ℕ)) (name : Name) (meaning : List ℕ 
 said words name meaning default x is = said_by words name meaning default x (value_under name words) (finds words name) is
 
 -- ---- the input
-
-abbrev app_or_none : List ℕ → Option (Option App)
-app_or_none value = option_map Some (app_in value)
 
 app_said : (words : List (List ℕ)) (name : Name) (app : App) → app_under name words ≡ Some (Some app) → SaysValue words name app_in app
 app_said words name app is = by_said (said words name app_or_none None (Some app) is)

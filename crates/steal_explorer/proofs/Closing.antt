@@ -19,7 +19,7 @@ use Rattle.op_eval.specs.declared.explored.RunEnd.{RunEnd}
 use Rattle.op_eval.specs.declared.explored.RunEnd.TheVariants.{Drained}
 use Rattle.op_eval.specs.declared.runner.Runner.{Runner}
 use Rattle.op_eval.specs.declared.runners.Runners.{Runners}
-use Rattle.op_eval.specs.Exploring.{total, IsExploring, Unused, AreExplored}
+use Rattle.op_eval.specs.Exploring.{total, IsExploring, Unused, MayExplore}
 use Rattle.op_eval.specs.Gathering.{runners_of, HasPlaces, AreAtRest}
 use Rattle.op_eval.specs.Alone.{Ran, IsNewRoot}
 use Rattle.op_eval.specs.Running.{hand_view, IsFreeRunner}
@@ -28,7 +28,7 @@ use Rattle.steal_explorer.specs.declared.deques.Seat.{Seat}
 use Rattle.steal_explorer.specs.declared.exploration.Handed.{Handed}
 use Rattle.abort_eager.specs.declared.ground.Ground.{Ground}
 use Rattle.steal_explorer.specs.declared.member.Member.{Member}
-use Rattle.op_eval.specs.Further.{AreFurther}
+use Rattle.op_eval.specs.Further.{HaveGoneOn}
 use Rattle.op_eval.proofs.Elements.{contains_first, contains_later}
 use Rattle.steal_explorer.specs.Calls.{ServeCall, MakesServeCalls}
 use Rattle.steal_explorer.specs.Draining.{in_plan}
@@ -280,11 +280,11 @@ module _ (p : Plan) (cap : ℕ) (abort : Abort) (ts : List Thief) (ms ns : List 
     same_many : length (map runner_of ns) ≡ length rs
     same_many = length-map ns runner_of ∙ law.len ∙ sym (length-map ms runner_of) ∙ ap length rs_is
 
-    pub further_is : AreFurther rs (map runner_of ns)
+    pub further_is : HaveGoneOn rs (map runner_of ns)
     further_is = record { len = same_many; each = λ k d lt. let calls = runner_calls k d lt in calls_further p cap calls.0 (slice_index_or rs k d) (slice_index_or (map runner_of ns) k d) calls.1 }
 
     -- what is handed on to settling
-    pub explored_is : (b : Board) (old new : Runners) → p ≡ plan_of b → runners_of old ≡ rs → AreExplored b 0 old → HasPlaces new → runners_of new ≡ map runner_of ns → All (λ m. IsFreeRunner b m.runner) ns → AreExplored b 0 new
+    pub explored_is : (b : Board) (old new : Runners) → p ≡ plan_of b → runners_of old ≡ rs → MayExplore b 0 old → HasPlaces new → runners_of new ≡ map runner_of ns → All (λ m. IsFreeRunner b m.runner) ns → MayExplore b 0 new
     explored_is b old new plan old_is explored places new_is idle = record {
       places = places;
       rest = subst (AreAtRest b) (sym new_is) (record {

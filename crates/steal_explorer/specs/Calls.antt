@@ -10,7 +10,7 @@ use Rattle.op_eval.specs.declared.answers.Evaluation.{Evaluation}
 use Rattle.op_eval.specs.declared.runner.Runner.{Runner}
 use Rattle.op_eval.specs.Evaluations.{Tries}
 use Rattle.op_eval.specs.Running.{hand_view}
-use Rattle.op_eval.specs.Turns.{InTurn}
+use Rattle.op_eval.specs.Turns.{CallsInOrder}
 use Rattle.abort_eager.specs.declared.answers.Target.{Target}
 use Rattle.abort_eager.specs.declared.answers.Touched.{Touched}
 use Rattle.abort_eager.specs.Sweeps.{SweepsOne, Attempts}
@@ -58,11 +58,11 @@ MakesServeCall p cap (Swept g) a b = (t : Touched) × SweepsOne p cap g a b t
 
 -- The calls, the last one first, led from runner a to runner b
 abbrev pub MakesServeCalls : Plan → (cap : ℕ) → List ServeCall → Runner → Runner → Type 0
-MakesServeCalls p cap = InTurn (MakesServeCall p cap)
+MakesServeCalls p cap = CallsInOrder (MakesServeCall p cap)
 
 -- These operations were tried in turn, the last one first, and after each the cascade that follows was run
 abbrev pub Attempting : Plan → (cap : ℕ) → Abort → List ℕ → Runner → Runner → Type 0
-Attempting p cap abort = InTurn (λ o a b. (r : Evaluation) × Attempts p cap abort o a b r)
+Attempting p cap abort = CallsInOrder (λ o a b. (r : Evaluation) × Attempts p cap abort o a b r)
 
 -- A unit was walked from operation o on: operations were tried, o among them, the cascades that follow were run, and no
 -- operation was asked

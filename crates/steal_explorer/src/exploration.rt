@@ -6,8 +6,8 @@ ghost use Rattle.morph_base.specs.Plans.{op_count};
 ghost use Rattle.op_words.specs.Hands.{plan_of, cap_of, up_to};
 ghost use Rattle.op_eval.specs.declared.explored.RunEnd.TheVariants.{Drained, Spent};
 ghost use Rattle.op_eval.specs.Alone.{IsNewRoot};
-ghost use Rattle.op_eval.specs.Further.{AreFurther};
-ghost use Rattle.op_eval.specs.Exploring.{AreExplored, IsExploredBoard, parts_of};
+ghost use Rattle.op_eval.specs.Further.{HaveGoneOn};
+ghost use Rattle.op_eval.specs.Exploring.{MayExplore, IsExploredBoard, parts_of};
 ghost use Rattle.op_eval.specs.Gathering.{runners_of, spare};
 ghost use Rattle.steal_explorer.specs.Alone.{IsHandedAlone};
 ghost use Rattle.steal_explorer.specs.Handed.{workers_of, pushed_by, AreReached, AreAnswered, HasTurns};
@@ -146,12 +146,12 @@ pub fn explore<R: Threads + Sync, G: Gate>(
     requires plan { plan.now ≡ plan_of board }
     requires units { IsPartition units.now.units (op_count plan.now) }
     requires number { units.now.ops ≡ op_count plan.now }
-    requires ready { AreExplored board 0 runners }
+    requires ready { MayExplore board 0 runners }
     requires deques { AreReady plan.now deques }
     requires workers { length (runners_of runners) ≡ length deques.seats.items }
     ensures explored { IsExploredBoard result.0 }
     ensures board { (parts_of result.0).0 ≡ board }
-    ensures hands { AreFurther (runners_of runners) (runners_of (parts_of result.0).1) }
+    ensures hands { HaveGoneOn (runners_of runners) (runners_of (parts_of result.0).1) }
     ensures spare { spare (parts_of result.0).1 ≡ spare runners }
     ensures next_counter { (parts_of result.0).3 ≡ 0 }
     ensures turns { HasTurns plan.now (cap_of board) abort deques (runners_of runners) result.1 }

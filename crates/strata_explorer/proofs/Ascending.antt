@@ -8,7 +8,7 @@ use Rattle.morph_base.specs.declared.strategy.Abort.TheVariants.{Lazy, Eager}
 use Rattle.morph_base.specs.Plans.{IsPlan}
 use Rattle.op_eval.specs.declared.explored.RunEnd.TheVariants.{Whole, Spent}
 use Rattle.op_eval.specs.declared.runner.Runner.{Runner}
-use Rattle.op_eval.specs.Further.{AreFurther}
+use Rattle.op_eval.specs.Further.{HaveGoneOn}
 use Rattle.op_eval.proofs.Further.{all_same}
 use Rattle.op_eval.proofs.Elements.{contains_first, contains_later}
 use Rattle.strata_explorer.specs.Levels.{counters_for, ops_of, level_of, AreLevels, AreStrata, FollowsPass, Passes, HasPassed, IsAlone}
@@ -29,7 +29,7 @@ module _ (p : Plan) (cap : ℕ) (abort : Abort) (units : List (List ℕ)) where
     pub levels : List ℕ
     pub before : List Runner
     pub passes : Passes p cap abort units levels start before now
-    pub further : AreFurther start now
+    pub further : HaveGoneOn start now
     pub strata : AreStrata p levels now
     pub counted : counters ≡ length levels
     pub inside : All (λ l. l < depth) levels

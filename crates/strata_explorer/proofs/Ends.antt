@@ -11,7 +11,7 @@ use Rattle.op_eval.specs.declared.explored.Explored.{Explored}
 use Rattle.op_eval.specs.declared.explored.RunEnd.{RunEnd}
 use Rattle.op_eval.specs.declared.runner.Runner.{Runner}
 use Rattle.op_eval.specs.declared.runners.Runners.{Runners}
-use Rattle.op_eval.specs.Exploring.{IsExploring, Unused, AreExplored, parts_of}
+use Rattle.op_eval.specs.Exploring.{IsExploring, Unused, MayExplore, parts_of}
 use Rattle.op_eval.specs.Gathering.{runners_of, AreAtRest}
 use Rattle.op_eval.specs.Running.{hand_view, IsFreeRunner}
 use Rattle.op_eval.proofs.Seating.{come_back}
@@ -27,7 +27,7 @@ no_places (x ∷ xs) none =
     let zero_times = none x.counter in
     absurd (omega arith)
 
-pub strata_none : (p : Plan) (b : Board) (rs : Runners) → p ≡ plan_of b → AreExplored b 0 rs → (lent : List Runner) → lent ≡ runners_of rs → AreStrata p [] lent
+pub strata_none : (p : Plan) (b : Board) (rs : Runners) → p ≡ plan_of b → MayExplore b 0 rs → (lent : List Runner) → lent ≡ runners_of rs → AreStrata p [] lent
 strata_none p b rs same old lent is = subst (AreStrata p []) (sym is) (record {
   each = λ k d lt.
       record {
@@ -45,9 +45,9 @@ strata_none p b rs same old lent is = subst (AreStrata p []) (sym is) (record {
 })
 
 -- passes may have changed the board, but not its plan
-pub handed_on : (p : Plan) (b now : Board) (rs : Runners) (ls : List ℕ) (m : ℕ) (lent qs : List Runner) → p ≡ plan_of b → plan_of now ≡ plan_of b → AreExplored b 0 rs → lent ≡ runners_of rs → length qs ≡ length lent → All (IsFreeRunner now) qs
+pub handed_on : (p : Plan) (b now : Board) (rs : Runners) (ls : List ℕ) (m : ℕ) (lent qs : List Runner) → p ≡ plan_of b → plan_of now ≡ plan_of b → MayExplore b 0 rs → lent ≡ runners_of rs → length qs ≡ length lent → All (IsFreeRunner now) qs
     → ((d : Runner) → (hand_view (slice_index_or qs 0 d)).tag ≡ (hand_view (slice_index_or lent 0 d)).tag) → AreStrata p ls qs → m ≡ length ls
-    → AreExplored now m (record { runners = with_items rs.runners qs; left = rs.left })
+    → MayExplore now m (record { runners = with_items rs.runners qs; left = rs.left })
 handed_on p b now rs ls m lent qs same plan old is len seated root strata next = record {
   places = record {
     none = old.places.none;

@@ -9,7 +9,7 @@ use Rattle.op_words.proofs.Rows.{no_more}
 use Rattle.op_words.proofs.Trailing.{along_none, reached_later}
 use Rattle.op_eval.specs.declared.runner.Runner.{Runner}
 use Rattle.op_eval.specs.Running.{hand_view}
-use Rattle.op_eval.specs.Further.{IsFurther, AreFurther}
+use Rattle.op_eval.specs.Further.{IsFurther, HaveGoneOn}
 use Rattle.op_eval.proofs.Elements.{contains_cases}
 use Rattle.op_eval.proofs.Further.{same_further, goes_further, further_then}
 use Rattle.op_eval.specs.Turns.{TakingCall, Took, Tried}
@@ -48,7 +48,7 @@ calls_reach p cap abort o (c ∷ cs) a b calls found =
       | inr later ↦ further_reached p o (call_further p cap abort c calls.0 b calls.2) (calls_reach p cap abort o cs a calls.0 calls.1 later)
     ]
 
-pub passed_further : (p : Plan) (cap : ℕ) (abort : Abort) (units : List (List ℕ)) (c : ℕ) (ops : List ℕ) (start rs qs : List Runner) → AreFurther start rs → IsPassed p cap abort units c ops rs qs → AreFurther start qs
+pub passed_further : (p : Plan) (cap : ℕ) (abort : Abort) (units : List (List ℕ)) (c : ℕ) (ops : List ℕ) (start rs qs : List Runner) → HaveGoneOn start rs → IsPassed p cap abort units c ops rs qs → HaveGoneOn start qs
 passed_further p cap abort units c ops start rs qs old passed = record {
   len = passed.len ∙ old.len;
   each = λ k d lt.

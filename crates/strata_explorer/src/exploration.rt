@@ -7,8 +7,8 @@ ghost use Rattle.morph_base.specs.Plans.{op_count};
 ghost use Rattle.op_words.specs.declared.board.Board.{Board as B};
 ghost use Rattle.op_words.specs.Hands.{plan_of, cap_of, counters_of, up_to, IsHandOf};
 ghost use Rattle.op_eval.specs.Alone.{IsNewRoot, HasRunAll};
-ghost use Rattle.op_eval.specs.Further.{AreFurther};
-ghost use Rattle.op_eval.specs.Exploring.{AreExplored, IsExploredBoard, Unused, parts_of};
+ghost use Rattle.op_eval.specs.Further.{HaveGoneOn};
+ghost use Rattle.op_eval.specs.Exploring.{MayExplore, IsExploredBoard, Unused, parts_of};
 ghost use Rattle.op_eval.specs.Gathering.{runners_of};
 ghost use Rattle.op_eval.specs.Running.{hand_view, IsFreeRunner};
 ghost use Rattle.strata_explorer.specs.Levels.{ops_of, rolled_by, AreStrata, FollowsPass, HasPassed, IsAlone, counters_for};
@@ -164,7 +164,7 @@ fn pass_all<R: Threads + Sync, G: Gate>(
     ensures plan { plan_of board.new ≡ plan_of board.old }
     ensures cap { cap_of board.new ≡ cap_of board.old }
     ensures counters { counters_of board.new ≡ counters_of board.old }
-    ensures hands { AreFurther runners.old runners.new }
+    ensures hands { HaveGoneOn runners.old runners.new }
     ensures passed { HasPassed course.now.plan.now (cap_of board.old) course.now.abort
         course.now.units.now.units runners.old runners.new result.0 result.1 }
     ensures alone { course.now.abort ≡ Lazy → 1 ≤ cap_of board.old
@@ -213,12 +213,12 @@ pub fn explore<R: Threads + Sync, G: Gate>(
     requires units { IsPartition units.now.units (op_count plan.now) }
     requires number { units.now.ops ≡ op_count plan.now }
     requires counters { counters_for plan.now ≤ counters_of board }
-    requires ready { AreExplored board 0 runners }
+    requires ready { MayExplore board 0 runners }
     ensures explored { IsExploredBoard result }
     ensures plan { plan_of (parts_of result).0 ≡ plan_of board }
     ensures cap { cap_of (parts_of result).0 ≡ cap_of board }
     ensures counters { counters_of (parts_of result).0 ≡ counters_of board }
-    ensures hands { AreFurther (runners_of runners) (runners_of (parts_of result).1) }
+    ensures hands { HaveGoneOn (runners_of runners) (runners_of (parts_of result).1) }
     ensures passed { HasPassed plan.now (cap_of board) abort units.now.units (runners_of runners)
         (runners_of (parts_of result).1) (parts_of result).2 (parts_of result).3 }
     ensures alone { abort ≡ Lazy → 1 ≤ cap_of board

@@ -1,9 +1,10 @@
 //! Makes operations ready for the decision on their event.
 ghost use Rattle.std.specs.Prelude.{◌≡◌, ◌<◌, List, None};
-ghost use Rattle.morph_base.specs.Plans.{op_count, event_at, event_count, InEvent};
+ghost use Rattle.morph_base.specs.Plans.{event_at, event_count, InEvent};
 ghost use Rattle.interleaving_core.specs.Core.{places};
 ghost use Rattle.op_words.specs.declared.trail.Item.{Item};
 ghost use Rattle.op_words.specs.declared.trail.View.{View};
+ghost use Rattle.op_words.specs.Hands.{MayBegin};
 ghost use Rattle.op_words.specs.Hands.{plan_of, cap_of, view_of, IsHandOf};
 ghost use Rattle.op_eval.specs.Running.{hand_view};
 ghost use Rattle.abort_lazy.specs.Transactions.{IsAnswered};
@@ -49,11 +50,8 @@ fn prepare(
     event: u32,
     op: u32,
 ) -> Option<TxnAnswer>
-    requires hand { IsHandOf board.now runner.old.hand }
-    requires plan { plan.now ≡ plan_of board.now }
-    requires in_range { op < op_count plan.now }
+    requires may { MayBegin board.now runner.old.hand plan.now op }
     requires inside { InEvent plan.now event op }
-    requires free { (hand_view runner.old).claim ≡ None }
     ensures hand { IsHandOf board.now runner.new.hand }
     ensures free { (hand_view runner.new).claim ≡ None }
     ensures does { ReadyDoes plan.now event op (hand_view runner.old)
@@ -83,11 +81,8 @@ fn mend(
     op: u32,
     word: OpWord,
 ) -> Option<TxnAnswer>
-    requires hand { IsHandOf board.now runner.old.hand }
-    requires plan { plan.now ≡ plan_of board.now }
-    requires in_range { op < op_count plan.now }
+    requires may { MayBegin board.now runner.old.hand plan.now op }
     requires inside { InEvent plan.now event op }
-    requires free { (hand_view runner.old).claim ≡ None }
     ensures hand { IsHandOf board.now runner.new.hand }
     ensures free { (hand_view runner.new).claim ≡ None }
     ensures does { (start : View) (xs : List Item)
@@ -116,12 +111,9 @@ fn redo(
     op: u32,
     j: u8,
 ) -> Option<TxnAnswer>
-    requires hand { IsHandOf board.now runner.old.hand }
-    requires plan { plan.now ≡ plan_of board.now }
-    requires in_range { op < op_count plan.now }
+    requires may { MayBegin board.now runner.old.hand plan.now op }
     requires in_places { j < places plan.now op }
     requires inside { InEvent plan.now event op }
-    requires free { (hand_view runner.old).claim ≡ None }
     ensures hand { IsHandOf board.now runner.new.hand }
     ensures free { (hand_view runner.new).claim ≡ None }
     ensures does { (start : View) (xs : List Item)
@@ -147,11 +139,8 @@ fn redo(
 
 /// Evaluates an operation that was found blocked or ready, and judges it.
 fn run(board: &Board, runner: &mut Runner, plan: &Plan, event: u32, op: u32) -> Option<TxnAnswer>
-    requires hand { IsHandOf board.now runner.old.hand }
-    requires plan { plan.now ≡ plan_of board.now }
-    requires in_range { op < op_count plan.now }
+    requires may { MayBegin board.now runner.old.hand plan.now op }
     requires inside { InEvent plan.now event op }
-    requires free { (hand_view runner.old).claim ≡ None }
     ensures hand { IsHandOf board.now runner.new.hand }
     ensures free { (hand_view runner.new).claim ≡ None }
     ensures does { (start : View) (xs : List Item) → IsIdleSoFar op start (hand_view runner.old) xs
@@ -169,11 +158,8 @@ fn run(board: &Board, runner: &mut Runner, plan: &Plan, event: u32, op: u32) -> 
 /// The verdict on an operation that was evaluated in this call. If a record differs even so, another hand changed the
 /// operation or its source.
 fn judge(board: &Board, hand: &mut Hand, plan: &Plan, event: u32, op: u32) -> Option<TxnAnswer>
-    requires hand { IsHandOf board.now hand.old }
-    requires plan { plan.now ≡ plan_of board.now }
-    requires in_range { op < op_count plan.now }
+    requires may { MayBegin board.now hand.old plan.now op }
     requires inside { InEvent plan.now event op }
-    requires free { (view_of hand.old).claim ≡ None }
     ensures hand { IsHandOf board.now hand.new }
     ensures free { (view_of hand.new).claim ≡ None }
     ensures does { (start : View) (xs : List Item)

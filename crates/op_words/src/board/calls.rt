@@ -2,19 +2,20 @@
 //! made of the single steps in `steps`.
 ghost use Rattle.std.specs.Prelude.{◌≡◌, ℕ, ◌+◌, ◌<◌, ◌↔◌, List, length, None, IfOk, IsTrue};
 ghost use Rattle.morph_base.specs.Limits.{most_attempts, most_workers};
-ghost use Rattle.morph_base.specs.Plans.{IsPlan, op_count, origin_at};
+ghost use Rattle.morph_base.specs.Plans.{IsPlan, origin_at};
 ghost use Rattle.morph_base.specs.declared.plan.Origin.TheVariants.{Op as Written};
 ghost use Rattle.morph_base.specs.Words.{IsWord};
 ghost use Rattle.interleaving_core.specs.Core.{places};
 ghost use Rattle.op_words.specs.Views.{Holds, IsFresh, looked, parent, child, merged};
 ghost use Rattle.op_words.specs.Calls.{PeekDoes, MakeDoes, ClaimDoes, FetchDoes, FinishDoes, GiveBackDoes};
 ghost use Rattle.op_words.specs.Rule.{first_view};
+ghost use Rattle.op_words.specs.Hands.{MayBegin, MayCall};
 ghost use Rattle.op_words.specs.Hands.{plan_of, cap_of, counters_of, view_of, IsHandOf};
 
 use super::{Board, Hand};
 use crate::answers::{Claimed, Counts, Fetched, Outcome, Readied};
 use crate::places::origin_of;
-use crate::rule::{Known, Merge, Part};
+use crate::rule::{JoinHand, Known, SplitHand};
 use crate::words::{first_words, is_in, is_usable};
 use atomic_table::Table;
 use morph_base::{OpState, OpWord, Origin, OutOfMemory, Plan};
@@ -61,9 +62,7 @@ impl Board {
 
     /// Loads the word of an operation. It is no older than what the hand saw or made of the operation.
     pub fn peek(&self, hand: &mut Hand, plan: &Plan, op: u32) -> OpWord
-        requires hand { IsHandOf self.now hand.old }
-        requires plan { plan.now ≡ plan_of self.now }
-        requires in_range { op < op_count plan.now }
+        requires may { MayCall self.now hand.old plan.now op }
         ensures hand { IsHandOf self.now hand.new }
         ensures view { view_of hand.new ≡ looked op result (view_of hand.old) }
         ensures word { IsWord result }
@@ -85,7 +84,7 @@ impl Board {
         ensures parent { view_of root.new ≡ parent (view_of root.old) }
         ensures child { view_of result ≡ child (view_of root.old) }
     {
-        let seat = self.table.shared.split_seat::<Part>(&mut root.seat);
+        let seat = self.table.shared.split_seat::<SplitHand>(&mut root.seat);
         root.made += 1;
         Hand {
             seat,
@@ -107,7 +106,9 @@ impl Board {
         ensures view { view_of root.new ≡ merged (view_of root.old) (view_of other) }
     {
         let Hand { seat, counts, .. } = other;
-        self.table.shared.join_seat::<Merge>(&mut root.seat, seat);
+        self.table
+            .shared
+            .join_seat::<JoinHand>(&mut root.seat, seat);
         root.counts = root.counts.and(counts);
         self.tell(&mut root.seat);
     }
@@ -117,10 +118,7 @@ impl Board {
     /// The call loads the operation's word and then, as long as nothing stops it, those of its sources, place by place.
     /// The exchange comes last.
     pub fn ready(&self, hand: &mut Hand, plan: &Plan, op: u32) -> Readied
-        requires hand { IsHandOf self.now hand.old }
-        requires plan { plan.now ≡ plan_of self.now }
-        requires in_range { op < op_count plan.now }
-        requires free { (view_of hand.old).claim ≡ None }
+        requires may { MayBegin self.now hand.old plan.now op }
         ensures hand { IsHandOf self.now hand.new }
         ensures does { MakeDoes plan.now (cap_of self.now) op (view_of hand.old)
             (view_of hand.new) result }
@@ -143,10 +141,7 @@ impl Board {
 
     /// Claims a ready operation, for a hand that holds nothing.
     pub fn claim(&self, hand: &mut Hand, plan: &Plan, op: u32) -> Claimed
-        requires hand { IsHandOf self.now hand.old }
-        requires plan { plan.now ≡ plan_of self.now }
-        requires in_range { op < op_count plan.now }
-        requires free { (view_of hand.old).claim ≡ None }
+        requires may { MayBegin self.now hand.old plan.now op }
         ensures hand { IsHandOf self.now hand.new }
         ensures does { ClaimDoes plan.now (cap_of self.now) op (view_of hand.old)
             (view_of hand.new) result }
@@ -167,9 +162,7 @@ impl Board {
     ///
     /// A value need not be settled, except at the last attempt.
     pub fn fetch(&self, hand: &mut Hand, plan: &Plan, op: u32, j: u8) -> Fetched
-        requires hand { IsHandOf self.now hand.old }
-        requires plan { plan.now ≡ plan_of self.now }
-        requires in_range { op < op_count plan.now }
+        requires may { MayCall self.now hand.old plan.now op }
         requires in_places { j < places plan.now op }
         requires held { (a : ℕ) × (xs : List ℕ) × Holds (view_of hand.old) op a xs
             × (length xs ≡ j) }
@@ -189,9 +182,7 @@ impl Board {
     /// Fetches the value of a place whose source is an operation: loads its word, and takes its value if it may be
     /// read.
     fn read(&self, hand: &mut Hand, plan: &Plan, op: u32, j: u8, source: u32) -> Fetched
-        requires hand { IsHandOf self.now hand.old }
-        requires plan { plan.now ≡ plan_of self.now }
-        requires in_range { op < op_count plan.now }
+        requires may { MayCall self.now hand.old plan.now op }
         requires in_places { j < places plan.now op }
         requires held { (a : ℕ) × (xs : List ℕ) × Holds (view_of hand.old) op a xs
             × (length xs ≡ j) }
@@ -222,9 +213,7 @@ impl Board {
     /// Finishes the operation that the hand holds, once all its places were fetched. It is executed with the value that
     /// its function gives, or failed with the value of its target. The hand holds nothing afterwards.
     pub fn finish(&self, hand: &mut Hand, plan: &Plan, op: u32) -> Outcome
-        requires hand { IsHandOf self.now hand.old }
-        requires plan { plan.now ≡ plan_of self.now }
-        requires in_range { op < op_count plan.now }
+        requires may { MayCall self.now hand.old plan.now op }
         requires held { (a : ℕ) × (xs : List ℕ) × Holds (view_of hand.old) op a xs
             × (length xs ≡ places plan.now op) }
         ensures hand { IsHandOf self.now hand.new }
@@ -243,9 +232,7 @@ impl Board {
     /// Gives back the operation that the hand holds: it is blocked again, at the same attempt. The hand holds nothing
     /// afterwards.
     pub fn give_back(&self, hand: &mut Hand, plan: &Plan, op: u32)
-        requires hand { IsHandOf self.now hand.old }
-        requires plan { plan.now ≡ plan_of self.now }
-        requires in_range { op < op_count plan.now }
+        requires may { MayCall self.now hand.old plan.now op }
         requires held { (a : ℕ) × (xs : List ℕ) × Holds (view_of hand.old) op a xs }
         ensures hand { IsHandOf self.now hand.new }
         ensures does { GiveBackDoes plan.now (cap_of self.now) op (view_of hand.old)

@@ -1,8 +1,9 @@
 //! Decides events by the verdicts on their operations.
 ghost use Rattle.std.specs.Prelude.{◌≡◌, ◌+◌, ◌<◌, None};
-ghost use Rattle.morph_base.specs.Plans.{op_count, event_count, event_at};
+ghost use Rattle.morph_base.specs.Plans.{event_count, event_at};
 ghost use Rattle.op_words.specs.Judging.{DecideDoes};
 ghost use Rattle.op_words.specs.Comparing.{IsWeighed, HasFoundGrounds, MaySayOf, IsConcluded};
+ghost use Rattle.op_words.specs.Hands.{MayBegin};
 ghost use Rattle.op_words.specs.Hands.{plan_of, cap_of, view_of, IsHandOf};
 
 use super::{Board, Hand};
@@ -64,10 +65,7 @@ impl Board {
 
     /// What the verdict on one operation says of the event.
     fn weigh(&self, hand: &mut Hand, plan: &Plan, op: u32) -> Decided
-        requires hand { IsHandOf self.now hand.old }
-        requires plan { plan.now ≡ plan_of self.now }
-        requires in_range { op < op_count plan.now }
-        requires free { (view_of hand.old).claim ≡ None }
+        requires may { MayBegin self.now hand.old plan.now op }
         ensures { IsWeighed self.now plan.now (cap_of self.now) op hand.old hand.new result }
     {
         let (word, verdict) = self.judge(hand, plan, op);

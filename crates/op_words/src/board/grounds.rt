@@ -1,9 +1,8 @@
 //! What a hand looks for before it takes a value back: the value of one source, and whether all are settled.
-ghost use Rattle.std.specs.Prelude.{◌≡◌, ◌<◌, None};
-ghost use Rattle.morph_base.specs.Plans.{op_count};
+ghost use Rattle.std.specs.Prelude.{◌<◌, None};
 ghost use Rattle.interleaving_core.specs.Core.{places};
 ghost use Rattle.op_words.specs.Grounds.{SourceDoes, OpenDoes};
-ghost use Rattle.op_words.specs.Hands.{plan_of, view_of, IsHandOf};
+ghost use Rattle.op_words.specs.Hands.{MayBegin};
 
 use super::{Board, Hand};
 use crate::answers::Stop;
@@ -22,11 +21,8 @@ impl Board {
         j: u8,
         needed: bool,
     ) -> Result<u64, Stop>
-        requires hand { IsHandOf self.now hand.old }
-        requires plan { plan.now ≡ plan_of self.now }
-        requires in_range { op < op_count plan.now }
+        requires may { MayBegin self.now hand.old plan.now op }
         requires in_places { j < places plan.now op }
-        requires free { (view_of hand.old).claim ≡ None }
         ensures { SourceDoes self.now plan.now op j needed hand.old hand.new result }
     {
         match origin_of(plan, op, j) {
@@ -50,10 +46,7 @@ impl Board {
         op: u32,
         needed: bool,
     ) -> Option<Stop>
-        requires hand { IsHandOf self.now hand.old }
-        requires plan { plan.now ≡ plan_of self.now }
-        requires in_range { op < op_count plan.now }
-        requires free { (view_of hand.old).claim ≡ None }
+        requires may { MayBegin self.now hand.old plan.now op }
         ensures { OpenDoes self.now plan.now op needed hand.old hand.new result }
     {
         if !needed {

@@ -1,26 +1,25 @@
 //! Loads of records and decisions.
 ghost use Rattle.std.specs.Prelude.{◌≡◌, ◌<◌};
-ghost use Rattle.morph_base.specs.Plans.{op_count, event_count};
+ghost use Rattle.morph_base.specs.Plans.{event_count};
 ghost use Rattle.interleaving_core.specs.Core.{places};
 ghost use Rattle.op_words.specs.Stepping.{Recalled, Learned};
+ghost use Rattle.op_words.specs.Hands.{MayCall};
 ghost use Rattle.op_words.specs.Hands.{plan_of, IsHandOf};
 
 use super::{Board, Hand};
-use crate::rule::{Learn, Recall};
+use crate::rule::{LoadDecision, LoadRecord};
 use crate::words::{decision_of, value_of_record};
 use morph_base::{Plan, READS};
 
 impl Board {
     /// Loads the record of an operation at a place that it reads. It is 0 if there is none.
     pub(super) fn recall(&self, hand: &mut Hand, plan: &Plan, op: u32, j: u8) -> u64
-        requires hand { IsHandOf self.now hand.old }
-        requires plan { plan.now ≡ plan_of self.now }
-        requires in_range { op < op_count plan.now }
+        requires may { MayCall self.now hand.old plan.now op }
         requires in_places { j < places plan.now op }
         ensures { Recalled self.now op j hand.old hand.new result }
     {
         let place = plan.ops.len() + op as usize * READS + j as usize;
-        let n = self.table.shared.load::<Recall>(&mut hand.seat, place);
+        let n = self.table.shared.load::<LoadRecord>(&mut hand.seat, place);
         value_of_record(n)
     }
 
@@ -32,7 +31,10 @@ impl Board {
         ensures { Learned self.now event hand.old hand.new result }
     {
         let place = self.level - plan.events.len() + event as usize;
-        let n = self.table.shared.load::<Learn>(&mut hand.seat, place);
+        let n = self
+            .table
+            .shared
+            .load::<LoadDecision>(&mut hand.seat, place);
         decision_of(n)
     }
 }

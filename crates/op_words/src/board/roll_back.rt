@@ -2,10 +2,10 @@
 ghost use Rattle.std.specs.Prelude.{◌≡◌, ◌≢◌, ◌≤◌, ◌<◌, ◌⊎◌, ◌↔◌, true, false, None, IsTrue};
 ghost use Rattle.morph_base.specs.declared.word.OpState.TheVariants.{Executed, Spread as IsSpreadState};
 ghost use Rattle.morph_base.specs.Words.{is_evaluated};
-ghost use Rattle.morph_base.specs.Plans.{op_count};
 ghost use Rattle.interleaving_core.specs.Core.{places};
 ghost use Rattle.op_words.specs.Retrying.{IsSpreadFrom, SpreadDoes, RollDoes};
-ghost use Rattle.op_words.specs.Hands.{plan_of, cap_of, view_of, IsHandOf};
+ghost use Rattle.op_words.specs.Hands.{MayBegin};
+ghost use Rattle.op_words.specs.Hands.{cap_of, view_of, IsHandOf};
 
 use super::{Board, Hand};
 use crate::answers::{Rolled, Spreaded};
@@ -18,11 +18,8 @@ impl Board {
     ///
     /// The call loads the operation's word, its first record, and the word of the sibling. The exchange comes last.
     pub fn spread(&self, hand: &mut Hand, plan: &Plan, op: u32, sibling: u32) -> Spreaded
-        requires hand { IsHandOf self.now hand.old }
-        requires plan { plan.now ≡ plan_of self.now }
-        requires in_range { op < op_count plan.now }
+        requires may { MayBegin self.now hand.old plan.now op }
         requires sibling { IsSpreadFrom plan.now op sibling (view_of hand.old) }
-        requires free { (view_of hand.old).claim ≡ None }
         ensures hand { IsHandOf self.now hand.new }
         ensures does { SpreadDoes plan.now (cap_of self.now) op (view_of hand.old)
             (view_of hand.new) sibling result }
@@ -57,11 +54,8 @@ impl Board {
     /// words of all sources. The exchange comes last. Before the call says that the record is right, it loads the
     /// operation's word again.
     pub fn roll_back(&self, hand: &mut Hand, plan: &Plan, op: u32, j: u8) -> Rolled
-        requires hand { IsHandOf self.now hand.old }
-        requires plan { plan.now ≡ plan_of self.now }
-        requires in_range { op < op_count plan.now }
+        requires may { MayBegin self.now hand.old plan.now op }
         requires in_places { j < places plan.now op }
-        requires free { (view_of hand.old).claim ≡ None }
         ensures hand { IsHandOf self.now hand.new }
         ensures does { RollDoes plan.now (cap_of self.now) op (view_of hand.old)
             (view_of hand.new) j result }

@@ -7,6 +7,7 @@ ghost use Rattle.op_words.specs.Judging.{SettleDoes};
 ghost use Rattle.op_words.specs.Comparing.{IsNotedLast, BeginsWithLoad, IsSealed, MaySettleIt};
 ghost use Rattle.op_words.specs.Stepping.{Learned};
 ghost use Rattle.op_words.specs.Views.{IsDecisionSeen};
+ghost use Rattle.op_words.specs.Hands.{MayBegin};
 ghost use Rattle.op_words.specs.Hands.{plan_of, cap_of, view_of, IsHandOf};
 
 use super::{Board, Hand};
@@ -25,10 +26,7 @@ impl Board {
     /// The call loads the operation's word and the decision; then, place by place, the sources and records that it
     /// needs; and the operation's word again before it says that a record differs. The exchange comes last.
     pub fn settle(&self, hand: &mut Hand, plan: &Plan, op: u32) -> SettleAnswer
-        requires hand { IsHandOf self.now hand.old }
-        requires plan { plan.now ≡ plan_of self.now }
-        requires in_range { op < op_count plan.now }
-        requires free { (view_of hand.old).claim ≡ None }
+        requires may { MayBegin self.now hand.old plan.now op }
         requires decided { (committed : Bool) × IsDecisionSeen (view_of hand.old)
             (event_of plan.now op) committed }
         ensures hand { IsHandOf self.now hand.new }
@@ -62,10 +60,7 @@ impl Board {
 
     /// Settles the operation with this word, if the event commits.
     fn settle_committed(&self, hand: &mut Hand, plan: &Plan, op: u32, word: OpWord) -> SettleAnswer
-        requires hand { IsHandOf self.now hand.old }
-        requires plan { plan.now ≡ plan_of self.now }
-        requires in_range { op < op_count plan.now }
-        requires free { (view_of hand.old).claim ≡ None }
+        requires may { MayBegin self.now hand.old plan.now op }
         requires word { IsWord word }
         requires loaded { IsNotedLast op (view_of hand.old) word }
         requires decided { IsDecisionSeen (view_of hand.old) (event_of plan.now op) true }
@@ -95,10 +90,7 @@ impl Board {
 
     /// Settles the operation with this word, if the event aborts.
     fn settle_aborted(&self, hand: &mut Hand, plan: &Plan, op: u32, word: OpWord) -> SettleAnswer
-        requires hand { IsHandOf self.now hand.old }
-        requires plan { plan.now ≡ plan_of self.now }
-        requires in_range { op < op_count plan.now }
-        requires free { (view_of hand.old).claim ≡ None }
+        requires may { MayBegin self.now hand.old plan.now op }
         requires word { IsWord word }
         requires loaded { IsNotedLast op (view_of hand.old) word }
         requires state { is_open word.state ≡ true }

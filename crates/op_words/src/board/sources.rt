@@ -1,9 +1,8 @@
 //! Loads the sources of an operation, place by place.
-ghost use Rattle.std.specs.Prelude.{◌≡◌, ◌<◌, None};
-ghost use Rattle.morph_base.specs.Plans.{op_count};
+ghost use Rattle.std.specs.Prelude.{◌<◌, None};
 ghost use Rattle.interleaving_core.specs.Core.{places};
 ghost use Rattle.op_words.specs.Stepping.{Sought, SoughtAt};
-ghost use Rattle.op_words.specs.Hands.{plan_of, view_of, IsHandOf};
+ghost use Rattle.op_words.specs.Hands.{MayBegin};
 
 use super::{Board, Hand};
 use crate::answers::Stop;
@@ -13,10 +12,7 @@ use morph_base::Plan;
 impl Board {
     /// Loads the sources of an operation, place by place, and returns the first one that has no value.
     pub(super) fn idle_source(&self, hand: &mut Hand, plan: &Plan, op: u32) -> Option<Stop>
-        requires hand { IsHandOf self.now hand.old }
-        requires plan { plan.now ≡ plan_of self.now }
-        requires in_range { op < op_count plan.now }
-        requires free { (view_of hand.old).claim ≡ None }
+        requires may { MayBegin self.now hand.old plan.now op }
         ensures { Sought self.now plan.now op hand.old hand.new result }
     {
         for j in 0..places_of(plan, op) {
@@ -29,11 +25,8 @@ impl Board {
 
     /// Loads the source at a place, if it is an operation, and returns it if it has no value.
     fn idle_at(&self, hand: &mut Hand, plan: &Plan, op: u32, j: u8) -> Option<Stop>
-        requires hand { IsHandOf self.now hand.old }
-        requires plan { plan.now ≡ plan_of self.now }
-        requires in_range { op < op_count plan.now }
+        requires may { MayBegin self.now hand.old plan.now op }
         requires in_places { j < places plan.now op }
-        requires free { (view_of hand.old).claim ≡ None }
         ensures { SoughtAt self.now plan.now op j hand.old hand.new result }
     {
         self.source_value(hand, plan, op, j, false).err()

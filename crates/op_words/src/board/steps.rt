@@ -15,7 +15,7 @@ ghost use Rattle.op_words.specs.Hands.{plan_of, cap_of, view_of, IsHandOf};
 use super::{Board, Hand, Holding};
 use crate::answers::Counts;
 use crate::note::note;
-use crate::rule::{Claim, End, Give, Keep, Look, Make, Tell};
+use crate::rule::{Claim, End, Give, Keep, LoadUnnoted, LoadWord, Make};
 use crate::trail::View;
 use crate::words::{claimed, pack_record, ready};
 use atomic_table::Seat;
@@ -29,7 +29,10 @@ impl Board {
         requires in_range { op < op_count (plan_of self.now) }
         ensures { Looked self.now op hand.old hand.new result }
     {
-        let n = self.table.shared.load::<Look>(&mut hand.seat, op as usize);
+        let n = self
+            .table
+            .shared
+            .load::<LoadWord>(&mut hand.seat, op as usize);
         OpWord::of_packed(n)
     }
 
@@ -42,7 +45,7 @@ impl Board {
         ensures told { (v : V) → seat.old.me.0 ≡ Some v → IsTold v }
         ensures lone { (v : V) → seat.old.me.0 ≡ Some v → IsLone v → v.joined ≡ [] }
     {
-        self.table.shared.load::<Tell>(seat, 0);
+        self.table.shared.load::<LoadUnnoted>(seat, 0);
     }
 
     /// Exchanges blocked for ready. Returns the word that was found, if it is another one.

@@ -1,9 +1,10 @@
 //! Judges operations by their records and their settled sources.
-ghost use Rattle.std.specs.Prelude.{◌≡◌, ◌<◌, None};
+ghost use Rattle.std.specs.Prelude.{◌<◌};
 ghost use Rattle.morph_base.specs.Plans.{op_count};
 ghost use Rattle.interleaving_core.specs.Core.{places};
 ghost use Rattle.op_words.specs.Judging.{VerdictDoes};
 ghost use Rattle.op_words.specs.Comparing.{IsComparedAt, IsCompared, IsConfirmed, IsJudgedAs};
+ghost use Rattle.op_words.specs.Hands.{MayBegin};
 ghost use Rattle.op_words.specs.Hands.{plan_of, cap_of, view_of, IsHandOf};
 
 use super::{Board, Hand};
@@ -19,10 +20,7 @@ impl Board {
     /// the record; and then the operation's word again. A value can be rolled back and come again between these loads.
     /// If the two words are equal, the records were those of that word all the time.
     pub fn verdict(&self, hand: &mut Hand, plan: &Plan, op: u32) -> Verdict
-        requires hand { IsHandOf self.now hand.old }
-        requires plan { plan.now ≡ plan_of self.now }
-        requires in_range { op < op_count plan.now }
-        requires free { (view_of hand.old).claim ≡ None }
+        requires may { MayBegin self.now hand.old plan.now op }
         ensures hand { IsHandOf self.now hand.new }
         ensures does { VerdictDoes plan.now (cap_of self.now) op (view_of hand.old)
             (view_of hand.new) result }
@@ -33,10 +31,7 @@ impl Board {
 
     /// Returns the verdict on an operation, and the word of it that was loaded last.
     pub(super) fn judge(&self, hand: &mut Hand, plan: &Plan, op: u32) -> (OpWord, Verdict)
-        requires hand { IsHandOf self.now hand.old }
-        requires plan { plan.now ≡ plan_of self.now }
-        requires in_range { op < op_count plan.now }
-        requires free { (view_of hand.old).claim ≡ None }
+        requires may { MayBegin self.now hand.old plan.now op }
         ensures { IsJudgedAs self.now plan.now (cap_of self.now) op hand.old hand.new
             result.0 result.1 }
     {
@@ -88,10 +83,7 @@ impl Board {
     /// Compares an operation's records with its sources, place by place, up to the first source that is not settled or
     /// the first record that differs.
     pub(super) fn compare(&self, hand: &mut Hand, plan: &Plan, op: u32) -> Compared
-        requires hand { IsHandOf self.now hand.old }
-        requires plan { plan.now ≡ plan_of self.now }
-        requires in_range { op < op_count plan.now }
-        requires free { (view_of hand.old).claim ≡ None }
+        requires may { MayBegin self.now hand.old plan.now op }
         ensures { IsCompared self.now plan.now op hand.old hand.new result }
     {
         for j in 0..places_of(plan, op) {
@@ -105,11 +97,8 @@ impl Board {
 
     /// Compares one record with its source. It loads the source's word first and then the record.
     fn compare_at(&self, hand: &mut Hand, plan: &Plan, op: u32, j: u8) -> Compared
-        requires hand { IsHandOf self.now hand.old }
-        requires plan { plan.now ≡ plan_of self.now }
-        requires in_range { op < op_count plan.now }
+        requires may { MayBegin self.now hand.old plan.now op }
         requires in_places { j < places plan.now op }
-        requires free { (view_of hand.old).claim ≡ None }
         ensures { IsComparedAt self.now plan.now op j hand.old hand.new result }
     {
         let settled = match self.source_value(hand, plan, op, j, true) {

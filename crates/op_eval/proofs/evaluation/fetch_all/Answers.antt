@@ -2,7 +2,7 @@ use Rattle.op_eval.proofs.Holding.{fetched_none, fetched_more, fetched_all, fetc
 use Rattle.op_eval.proofs.evaluation.fetch_all.Goals as goal
 
 pub loop-j-init : goal.loop-j-init
-loop-j-init c = (c.requires.hand, λ a holds. fetched_none _ _ _ _ c.requires.hand.told.agree holds)
+loop-j-init c = (c.requires.may.0, λ a holds. fetched_none _ _ _ _ c.requires.may.0.told.agree holds)
 
 pub fetch-requires-clause-held : goal.fetch-requires-clause-held
 fetch-requires-clause-held c = let held = c.requires.held in let up = c.loop-j.invariant.1 held.0 held.1 in (held.0, up.values, up.holds, up.count)

@@ -8,7 +8,7 @@ use Rattle.op_eval.specs.declared.runners.Runners.{Runners}
 use Rattle.op_eval.specs.Gathering.{runners_of, spare}
 use Rattle.op_eval.proofs.Seating.{come_back}
 use Rattle.steal_explorer.specs.declared.member.Member.{Member}
-use Rattle.op_eval.specs.Further.{AreFurther}
+use Rattle.op_eval.specs.Further.{HaveGoneOn}
 use Rattle.steal_explorer.specs.Alone.{BeginsAlone}
 use Rattle.steal_explorer.specs.Handed.{workers_of, pushed_by, stolen_from, taken_from, left_in, AreReached, AreAnswered}
 use Rattle.steal_explorer.specs.Seating.{runner_of, seat_of}
@@ -35,7 +35,7 @@ pub returns-clause-hands : goal.returns-clause-hands
 returns-clause-hands g c =
     let law = c.hand_out.ensures.handed_out in
     let back = come_back c.seat_all.new.members.items c.hand_out.new.members (law.len ∙ ap (λ (l : List Member). length l) c.as_mut_slice.ensures.items) in
-    subst (AreFurther (runners_of c.args.runners)) (sym (ap (λ (t : Board × Runners × RunEnd × ℕ). runners_of t.1) c.new.ensures.parts ∙ c.unseat_all.ensures.runners ∙ ap (map runner_of) back))
+    subst (HaveGoneOn (runners_of c.args.runners)) (sym (ap (λ (t : Board × Runners × RunEnd × ℕ). runners_of t.1) c.new.ensures.parts ∙ c.unseat_all.ensures.runners ∙ ap (map runner_of) back))
     (further_is _ _ _ _ _ _ law (runners_of c.args.runners) (ap (map runner_of) c.as_mut_slice.ensures.items ∙ c.seat_all.ensures.seated.runners))
 
 pub returns-clause-spare : goal.returns-clause-spare

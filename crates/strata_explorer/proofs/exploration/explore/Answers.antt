@@ -5,7 +5,7 @@ use Rattle.op_eval.specs.declared.explored.RunEnd.{RunEnd}
 use Rattle.op_eval.specs.declared.runners.Runners.{Runners}
 use Rattle.op_eval.specs.Exploring.{parts_of}
 use Rattle.op_eval.specs.Gathering.{runners_of}
-use Rattle.op_eval.specs.Further.{AreFurther}
+use Rattle.op_eval.specs.Further.{HaveGoneOn}
 use Rattle.strata_explorer.specs.Levels.{HasPassed, IsAlone}
 use Rattle.strata_explorer.proofs.Ends.{strata_none, handed_on, handed_back}
 use Rattle.strata_explorer.proofs.Lone.{lone_root_ran}
@@ -24,8 +24,8 @@ new-requires g c =
 pub returns-clause-hands : goal.returns-clause-hands
 returns-clause-hands g c =
     let back = handed_back _ _ c.args.runners _ _ _ _ c.new.ensures.parts c.as_mut_slice.ensures.items c.pass_all-end.ensures.hands.len in
-    subst (λ rs. AreFurther rs (runners_of (parts_of c.new.result).1)) c.as_mut_slice.ensures.items
-    (subst (λ rs. AreFurther c.as_mut_slice.result.now rs) (sym back) c.pass_all-end.ensures.hands)
+    subst (λ rs. HaveGoneOn rs (runners_of (parts_of c.new.result).1)) c.as_mut_slice.ensures.items
+    (subst (λ rs. HaveGoneOn c.as_mut_slice.result.now rs) (sym back) c.pass_all-end.ensures.hands)
 
 pub returns-clause-passed : goal.returns-clause-passed
 returns-clause-passed g c =

@@ -7,20 +7,14 @@ use Rattle.abort_lazy.proofs.transaction.prepare.prepare_all.Goals as goal
 pub loop-op-init : goal.loop-op-init
 loop-op-init c = (c.requires.hand, ready_none _ _ _ _ c.requires.free c.requires.hand.told.agree, answered_none _ _ _ refl refl)
 
-pub prepare-requires-clause-hand : goal.prepare-requires-clause-hand
-prepare-requires-clause-hand c = c.loop-op.invariant.0
-
-pub prepare-requires-clause-in_range : goal.prepare-requires-clause-in_range
-prepare-requires-clause-in_range c =
+pub prepare-requires-clause-may : goal.prepare-requires-clause-may
+prepare-requires-clause-may c =
     let inside : InEvent c.args.plan.now c.args.event c.loop-op.op = record { from = omega (arith, c.first_of-first.ensures, c.loop-op.auto.op); below = omega (arith, c.end_of-end.ensures) } in
-    in_range _ _ _ (subst IsPlan (sym c.requires.plan) c.requires.hand.valid) c.requires.in_range inside
+    (c.loop-op.invariant.0, c.requires.plan, in_range _ _ _ (subst IsPlan (sym c.requires.plan) c.requires.hand.valid) c.requires.in_range inside, c.loop-op.invariant.1.goes.free)
 
 pub prepare-requires-clause-inside : goal.prepare-requires-clause-inside
 prepare-requires-clause-inside c =
     let inside : InEvent c.args.plan.now c.args.event c.loop-op.op = record { from = omega (arith, c.first_of-first.ensures, c.loop-op.auto.op); below = omega (arith, c.end_of-end.ensures) } in inside
-
-pub prepare-requires-clause-free : goal.prepare-requires-clause-free
-prepare-requires-clause-free c = c.loop-op.invariant.1.goes.free
 
 pub returns-in-Some-clause-does : goal.returns-in-Some-clause-does
 returns-in-Some-clause-does c =

@@ -6,8 +6,9 @@ use Rattle.op_words.specs.Views.{IsDecisionSeen}
 use Rattle.abort_lazy.proofs.Ending.{one_done, one_source, one_own, in_range, of_event}
 use Rattle.abort_lazy.proofs.transaction.settle.settle_one.Goals as goal
 
-pub settle-requires-clause-in_range : goal.settle-requires-clause-in_range
-settle-requires-clause-in_range c = in_range _ _ _ (subst IsPlan (sym c.requires.plan) c.requires.hand.valid) c.requires.in_event c.requires.inside
+pub settle-requires-clause-may : goal.settle-requires-clause-may
+settle-requires-clause-may c =
+    (c.requires.hand, c.requires.plan, in_range _ _ _ (subst IsPlan (sym c.requires.plan) c.requires.hand.valid) c.requires.in_event c.requires.inside, c.requires.free)
 
 pub settle-requires-clause-decided : goal.settle-requires-clause-decided
 settle-requires-clause-decided c =

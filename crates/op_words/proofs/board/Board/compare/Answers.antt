@@ -6,13 +6,11 @@ use Rattle.op_words.proofs.Comparing.{compare_none, compare_more, compare_stop, 
 use Rattle.op_words.proofs.board.Board.compare.Goals as goal
 
 pub loop-j-init : goal.loop-j-init
-loop-j-init c = compare_none _ _ _ _ c.requires.hand
+loop-j-init c = compare_none _ _ _ _ c.requires.may.0
 
-pub compare_at-compared-requires-clause-hand : goal.compare_at-compared-requires-clause-hand
-compare_at-compared-requires-clause-hand c = c.loop-j.invariant.walk.hand
-
-pub compare_at-compared-requires-clause-free : goal.compare_at-compared-requires-clause-free
-compare_at-compared-requires-clause-free c = c.loop-j.invariant.walk.claim ∙ c.requires.free
+pub compare_at-compared-requires-clause-may : goal.compare_at-compared-requires-clause-may
+compare_at-compared-requires-clause-may c =
+    (c.loop-j.invariant.walk.hand, c.requires.may.1, c.requires.may.2, c.loop-j.invariant.walk.claim ∙ c.requires.may.3)
 
 pub returns-in_default : goal.returns-in_default
 returns-in_default c =

@@ -16,5 +16,5 @@ returns-in-Base-clause-does c =
 
 pub keep-requires-clause-value : goal.keep-requires-clause-value
 keep-requires-clause-value c =
-    let valid = subst IsPlan (sym c.requires.plan) c.requires.hand.valid in
-    le_trans (valid.small c.args.op c.args.j c.in-Base.value c.requires.in_range c.requires.in_places (sym c.origin_of.ensures ∙ c.in-Base.is)) (high_of-small c.args.plan.now valid)
+    let valid = subst IsPlan (sym c.requires.may.1) c.requires.may.0.valid in
+    le_trans (valid.small c.args.op c.args.j c.in-Base.value c.requires.may.2 c.requires.in_places (sym c.origin_of.ensures ∙ c.in-Base.is)) (high_of-small c.args.plan.now valid)

@@ -29,20 +29,14 @@ loop-op-init c =
     apart : Committed ≡ Aborted → ⊥
     apart same = cc
 
-pub weigh-next-requires-clause-hand : goal.weigh-next-requires-clause-hand
-weigh-next-requires-clause-hand c = c.loop-op.invariant.0.hand
-
-pub weigh-next-requires-clause-in_range : goal.weigh-next-requires-clause-in_range
-weigh-next-requires-clause-in_range c =
+pub weigh-next-requires : goal.weigh-next-requires
+weigh-next-requires c =
     let valid = subst IsPlan (sym c.requires.plan) c.requires.hand.valid in
     let entry : c.get-entry.result.now ≡ event_at c.args.plan.now c.args.event = c.get-entry.ensures.at no_event in
     let room = end_in_range c.args.plan.now valid c.args.event c.requires.in_range in
     let same = ap (λ (e : PlanEvent). e.first + e.count) entry in
     let lt = c.loop-op-test.true in
-    omega (arith, room, same, lt)
-
-pub weigh-next-requires-clause-free : goal.weigh-next-requires-clause-free
-weigh-next-requires-clause-free c = c.loop-op.invariant.0.goes.free
+    record { may = (c.loop-op.invariant.0.hand, c.requires.plan, omega (arith, room, same, lt), c.loop-op.invariant.0.goes.free) }
 
 pub returns-in-Aborted : goal.returns-in-Aborted
 returns-in-Aborted c =

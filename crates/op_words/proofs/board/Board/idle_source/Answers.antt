@@ -8,13 +8,11 @@ use Rattle.op_words.proofs.Seeking.{seek_none, seek_more, seek_stop, seek_all}
 use Rattle.op_words.proofs.board.Board.idle_source.Goals as goal
 
 pub loop-j-init : goal.loop-j-init
-loop-j-init c = seek_none _ _ _ _ c.requires.hand
+loop-j-init c = seek_none _ _ _ _ c.requires.may.0
 
-pub idle_at-requires-clause-hand : goal.idle_at-requires-clause-hand
-idle_at-requires-clause-hand c = c.loop-j.invariant.row.hand
-
-pub idle_at-requires-clause-free : goal.idle_at-requires-clause-free
-idle_at-requires-clause-free c = ap (λ (v : View). v.claim) c.loop-j.invariant.row.view ∙ c.requires.free
+pub idle_at-requires-clause-may : goal.idle_at-requires-clause-may
+idle_at-requires-clause-may c =
+    (c.loop-j.invariant.row.hand, c.requires.may.1, c.requires.may.2, ap (λ (v : View). v.claim) c.loop-j.invariant.row.view ∙ c.requires.may.3)
 
 pub returns-in-Some : goal.returns-in-Some
 returns-in-Some c =

@@ -8,7 +8,7 @@ use Rattle.op_words.proofs.Judging.{judged_idle, judged_open, judged_equal, judg
 use Rattle.op_words.proofs.board.Board.judge.Goals as goal
 
 pub returns-then-not-has_run : goal.returns-then-not-has_run
-returns-then-not-has_run c = judged_idle _ _ _ c.requires.plan c.requires.in_range _ _ _ c.requires.hand c.requires.free c.look-first.ensures (sym c.has_run.ensures ∙ c.if-not-has_run.true)
+returns-then-not-has_run c = judged_idle _ _ _ c.requires.may.1 c.requires.may.2 _ _ _ c.requires.may.0 c.requires.may.3 c.look-first.ensures (sym c.has_run.ensures ∙ c.if-not-has_run.true)
 
 pub returns-in-Equal : goal.returns-in-Equal
 returns-in-Equal c =
@@ -16,9 +16,9 @@ returns-in-Equal c =
     let compared = subst (IsCompared b p o c.look-first.new.hand c.compare.new.hand) c.in-Equal.is c.compare.ensures in
     let tells = compared.tells w (look_last b o _ _ w _ c.look-first.ensures) in
     let ran = sym c.has_run.ensures ∙ c.if-not-has_run.false in
-    judged_again b p o c.requires.plan c.requires.in_range _ _ w c.requires.hand c.requires.free c.look-first.ensures ran _ compared.words compared.walk compared.sources _ _ c.confirm.ensures.looked _ _ c.confirm.ensures.tells
+    judged_again b p o c.requires.may.1 c.requires.may.2 _ _ w c.requires.may.0 c.requires.may.3 c.look-first.ensures ran _ compared.words compared.walk compared.sources _ _ c.confirm.ensures.looked _ _ c.confirm.ensures.tells
     (λ same. subst (IsJudgedAs b p (cap_of b) o c.args.hand.now c.confirm.new.hand c.confirm.result.0) (sym c.of.ensures)
-    (judged_equal b p o c.requires.plan c.requires.in_range _ _ w c.requires.hand c.requires.free c.look-first.ensures ran _ compared.words compared.walk compared.sources _ _ c.confirm.ensures.looked same tells))
+    (judged_equal b p o c.requires.may.1 c.requires.may.2 _ _ w c.requires.may.0 c.requires.may.3 c.look-first.ensures ran _ compared.words compared.walk compared.sources _ _ c.confirm.ensures.looked same tells))
 
 pub returns-in-Differs : goal.returns-in-Differs
 returns-in-Differs c =
@@ -26,12 +26,12 @@ returns-in-Differs c =
     let compared = subst (IsCompared b p o c.look-first.new.hand c.compare.new.hand) c.in-Differs.is c.compare.ensures in
     let tells = compared.tells w (look_last b o _ _ w _ c.look-first.ensures) in
     let ran = sym c.has_run.ensures ∙ c.if-not-has_run.false in
-    judged_again b p o c.requires.plan c.requires.in_range _ _ w c.requires.hand c.requires.free c.look-first.ensures ran _ compared.words compared.walk compared.sources _ _ c.confirm-in-Differs.ensures.looked _ _ c.confirm-in-Differs.ensures.tells
-    (λ same. judged_stale b p o c.requires.plan c.requires.in_range _ _ w c.requires.hand c.requires.free c.look-first.ensures ran _ compared.words compared.walk compared.sources _ _ c.confirm-in-Differs.ensures.looked same c.in-Differs.j c.in-Differs.kept c.in-Differs.settled tells)
+    judged_again b p o c.requires.may.1 c.requires.may.2 _ _ w c.requires.may.0 c.requires.may.3 c.look-first.ensures ran _ compared.words compared.walk compared.sources _ _ c.confirm-in-Differs.ensures.looked _ _ c.confirm-in-Differs.ensures.tells
+    (λ same. judged_stale b p o c.requires.may.1 c.requires.may.2 _ _ w c.requires.may.0 c.requires.may.3 c.look-first.ensures ran _ compared.words compared.walk compared.sources _ _ c.confirm-in-Differs.ensures.looked same c.in-Differs.j c.in-Differs.kept c.in-Differs.settled tells)
 
 pub returns-in-Open : goal.returns-in-Open
 returns-in-Open c =
     let compared = subst (IsCompared c.args.self.now c.args.plan.now c.args.op c.look-first.new.hand c.compare.new.hand) c.in-Open.is c.compare.ensures in
     let tells = compared.tells c.look-first.result (look_last _ _ _ _ _ _ c.look-first.ensures) in
-    judged_open _ _ _ c.requires.plan c.requires.in_range _ _ _ c.requires.hand c.requires.free c.look-first.ensures (sym c.has_run.ensures ∙ c.if-not-has_run.false) _ compared.words compared.walk compared.sources _
-    (source_other _ _ _ _ (subst IsPlan (sym c.requires.plan) c.requires.hand.valid) c.requires.in_range tells.source.in_places tells.source.source_is).1 tells
+    judged_open _ _ _ c.requires.may.1 c.requires.may.2 _ _ _ c.requires.may.0 c.requires.may.3 c.look-first.ensures (sym c.has_run.ensures ∙ c.if-not-has_run.false) _ compared.words compared.walk compared.sources _
+    (source_other _ _ _ _ (subst IsPlan (sym c.requires.may.1) c.requires.may.0.valid) c.requires.may.2 tells.source.in_places tells.source.source_is).1 tells

@@ -9,16 +9,14 @@ use Rattle.op_words.proofs.board.Board.open_source.Goals as goal
 
 pub returns-then-not-needed : goal.returns-then-not-needed
 returns-then-not-needed c =
-    subst (λ (n : Bool). OpenDoes c.args.self.now c.args.plan.now c.args.op n c.args.hand.now c.args.hand.now None) (sym c.if-not-needed.true) (open_none _ _ _ _ c.requires.hand)
+    subst (λ (n : Bool). OpenDoes c.args.self.now c.args.plan.now c.args.op n c.args.hand.now c.args.hand.now None) (sym c.if-not-needed.true) (open_none _ _ _ _ c.requires.may.0)
 
 pub loop-k-init : goal.loop-k-init
-loop-k-init c = settled_none _ _ _ _ c.requires.hand
+loop-k-init c = settled_none _ _ _ _ c.requires.may.0
 
-pub source_value-requires-clause-hand : goal.source_value-requires-clause-hand
-source_value-requires-clause-hand c = c.loop-k.invariant.row.hand
-
-pub source_value-requires-clause-free : goal.source_value-requires-clause-free
-source_value-requires-clause-free c = ap (λ (v : View). v.claim) c.loop-k.invariant.row.view ∙ c.requires.free
+pub source_value-requires-clause-may : goal.source_value-requires-clause-may
+source_value-requires-clause-may c =
+    (c.loop-k.invariant.row.hand, c.requires.may.1, c.requires.may.2, ap (λ (v : View). v.claim) c.loop-k.invariant.row.view ∙ c.requires.may.3)
 
 pub returns-in-Err : goal.returns-in-Err
 returns-in-Err c =

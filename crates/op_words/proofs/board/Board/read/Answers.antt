@@ -12,7 +12,7 @@ pub returns-then-not-is_usable-clause-does : goal.returns-then-not-is_usable-cla
 returns-then-not-is_usable-clause-does c =
     let q = c.requires.held in let is = c.requires.source in let b = c.args.self.now in let p = c.args.plan.now in let o = c.args.op in
     let h = c.args.hand.now in let g = c.look-word.new.hand in
-    let other = (source_other p o c.args.j c.args.source (subst IsPlan (sym c.requires.plan) c.requires.hand.valid) c.requires.in_range c.requires.in_places is).1 in
+    let other = (source_other p o c.args.j c.args.source (subst IsPlan (sym c.requires.may.1) c.requires.may.0.valid) c.requires.may.2 c.requires.in_places is).1 in
     let holds = still_holds b p (cap_of b) o c.args.j h g c.args.source c.look-word.result other is c.look-word.ensures q.0 q.1 q.2 q.0 q.1 q.2 in
     let attempt = (held_parts g c.in-Some.holding o q.0 q.1 (kept c.look-word.ensures.hand) c.in-Some.is holds).1 in
     let not = c.is_usable.ensures.unusable c.if-not-is_usable.true in
@@ -23,7 +23,7 @@ pub keep-requires-clause-held : goal.keep-requires-clause-held
 keep-requires-clause-held c =
     let q = c.requires.held in let is = c.requires.source in let b = c.args.self.now in let p = c.args.plan.now in let o = c.args.op in
     let h = c.args.hand.now in let g = c.look-word.new.hand in
-    let other = (source_other p o c.args.j c.args.source (subst IsPlan (sym c.requires.plan) c.requires.hand.valid) c.requires.in_range c.requires.in_places is).1 in
+    let other = (source_other p o c.args.j c.args.source (subst IsPlan (sym c.requires.may.1) c.requires.may.0.valid) c.requires.may.2 c.requires.in_places is).1 in
     let holds = still_holds b p (cap_of b) o c.args.j h g c.args.source c.look-word.result other is c.look-word.ensures q.0 q.1 q.2 q.0 q.1 q.2 in
     let attempt = (held_parts g c.in-Some.holding o q.0 q.1 (kept c.look-word.ensures.hand) c.in-Some.is holds).1 in
     let ok = c.is_usable.ensures.usable c.if-not-is_usable.false in
@@ -32,7 +32,7 @@ keep-requires-clause-held c =
       q.0,
       q.1,
       holds,
-      c.requires.in_range,
+      c.requires.may.2,
       subst (λ (n : ℕ). n < places p o) (sym q.3) c.requires.in_places,
       subst (λ (n : ℕ). IsUsable (view_of g) (cap_of b) q.0 (origin_at p o n) c.look-word.result.value) (sym q.3) usable,
     )
@@ -47,7 +47,7 @@ pub returns-clause-does : goal.returns-clause-does
 returns-clause-does c =
     let q = c.requires.held in let is = c.requires.source in let b = c.args.self.now in let p = c.args.plan.now in let o = c.args.op in
     let h = c.args.hand.now in let g = c.look-word.new.hand in
-    let other = (source_other p o c.args.j c.args.source (subst IsPlan (sym c.requires.plan) c.requires.hand.valid) c.requires.in_range c.requires.in_places is).1 in
+    let other = (source_other p o c.args.j c.args.source (subst IsPlan (sym c.requires.may.1) c.requires.may.0.valid) c.requires.may.2 c.requires.in_places is).1 in
     let holds = still_holds b p (cap_of b) o c.args.j h g c.args.source c.look-word.result other is c.look-word.ensures q.0 q.1 q.2 q.0 q.1 q.2 in
     let attempt = (held_parts g c.in-Some.holding o q.0 q.1 (kept c.look-word.ensures.hand) c.in-Some.is holds).1 in
     let ok = c.is_usable.ensures.usable c.if-not-is_usable.false in

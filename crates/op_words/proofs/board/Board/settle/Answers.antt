@@ -11,7 +11,7 @@ use Rattle.op_words.proofs.board.Board.settle.Goals as goal
 pub returns-then-not-is_open-clause-does : goal.returns-then-not-is_open-clause-does
 returns-then-not-is_open-clause-does c =
     stopped_here c.args.self.now c.args.plan.now c.args.op (view_of c.args.hand.now) c.look-word.new.hand c.look-word.result
-    (opened_first c.args.self.now c.args.plan.now c.args.op c.args.hand.now c.look-word.new.hand c.look-word.result c.requires.free c.look-word.ensures)
+    (opened_first c.args.self.now c.args.plan.now c.args.op c.args.hand.now c.look-word.new.hand c.look-word.result c.requires.may.3 c.look-word.ensures)
     (inl (closed_cases c.look-word.result.state (sym c.is_open.ensures ∙ c.if-not-is_open.true)))
 
 pub decision-requires-clause-decided : goal.decision-requires-clause-decided
@@ -23,28 +23,28 @@ decision-requires-clause-decided c =
     )
 
 pub settle_committed-requires-clause-loaded : goal.settle_committed-requires-clause-loaded
-settle_committed-requires-clause-loaded c = last_then c.args.self.now c.args.plan.now c.args.op _ _ _ c.requires.free c.look-word.ensures _ _ _ c.decision.ensures
+settle_committed-requires-clause-loaded c = last_then c.args.self.now c.args.plan.now c.args.op _ _ _ c.requires.may.3 c.look-word.ensures _ _ _ c.decision.ensures
 
 pub settle_committed-requires-clause-decided : goal.settle_committed-requires-clause-decided
 settle_committed-requires-clause-decided c =
-    known_then c.args.self.now c.args.plan.now c.args.op _ _ _ c.requires.free c.look-word.ensures _ _ _
+    known_then c.args.self.now c.args.plan.now c.args.op _ _ _ c.requires.may.3 c.look-word.ensures _ _ _
     (subst (λ (d : Bool). Learned c.args.self.now c.get.result.now.event c.look-word.new.hand c.decision.new.hand (Some d)) c.if-decision.true c.decision.ensures) (ap (λ (q : PlanOp). q.event) (c.get.ensures.at no_plan_op))
 
 pub settle_committed-requires-clause-commits : goal.settle_committed-requires-clause-commits
 settle_committed-requires-clause-commits c =
-    right_then c.args.self.now c.args.plan.now c.args.op _ _ _ c.requires.free c.look-word.ensures _ _ _
-    (subst (λ (d : Bool). Learned c.args.self.now c.get.result.now.event c.look-word.new.hand c.decision.new.hand (Some d)) c.if-decision.true c.decision.ensures) (ap (λ (q : PlanOp). q.event) (c.get.ensures.at no_plan_op)) c.requires.plan
+    right_then c.args.self.now c.args.plan.now c.args.op _ _ _ c.requires.may.3 c.look-word.ensures _ _ _
+    (subst (λ (d : Bool). Learned c.args.self.now c.get.result.now.event c.look-word.new.hand c.decision.new.hand (Some d)) c.if-decision.true c.decision.ensures) (ap (λ (q : PlanOp). q.event) (c.get.ensures.at no_plan_op)) c.requires.may.1
 
 pub settle_aborted-requires-clause-loaded : goal.settle_aborted-requires-clause-loaded
-settle_aborted-requires-clause-loaded c = last_then c.args.self.now c.args.plan.now c.args.op _ _ _ c.requires.free c.look-word.ensures _ _ _ c.decision.ensures
+settle_aborted-requires-clause-loaded c = last_then c.args.self.now c.args.plan.now c.args.op _ _ _ c.requires.may.3 c.look-word.ensures _ _ _ c.decision.ensures
 
 pub settle_aborted-requires-clause-decided : goal.settle_aborted-requires-clause-decided
 settle_aborted-requires-clause-decided c =
-    known_then c.args.self.now c.args.plan.now c.args.op _ _ _ c.requires.free c.look-word.ensures _ _ _
+    known_then c.args.self.now c.args.plan.now c.args.op _ _ _ c.requires.may.3 c.look-word.ensures _ _ _
     (subst (λ (d : Bool). Learned c.args.self.now c.get.result.now.event c.look-word.new.hand c.decision.new.hand (Some d)) c.if-decision.false c.decision.ensures) (ap (λ (q : PlanOp). q.event) (c.get.ensures.at no_plan_op))
 
 pub returns-then-decision-clause-does : goal.returns-then-decision-clause-does
-returns-then-decision-clause-does c = c.settle_committed.ensures.does (view_of c.args.hand.now) (opened_then c.args.self.now c.args.plan.now c.args.op _ _ _ c.requires.free c.look-word.ensures _ _ _ c.decision.ensures)
+returns-then-decision-clause-does c = c.settle_committed.ensures.does (view_of c.args.hand.now) (opened_then c.args.self.now c.args.plan.now c.args.op _ _ _ c.requires.may.3 c.look-word.ensures _ _ _ c.decision.ensures)
 
 pub returns-else-decision-clause-does : goal.returns-else-decision-clause-does
-returns-else-decision-clause-does c = c.settle_aborted.ensures.does (view_of c.args.hand.now) (opened_then c.args.self.now c.args.plan.now c.args.op _ _ _ c.requires.free c.look-word.ensures _ _ _ c.decision.ensures)
+returns-else-decision-clause-does c = c.settle_aborted.ensures.does (view_of c.args.hand.now) (opened_then c.args.self.now c.args.plan.now c.args.op _ _ _ c.requires.may.3 c.look-word.ensures _ _ _ c.decision.ensures)

@@ -19,8 +19,8 @@ pub seal-requires-clause-new : goal.seal-requires-clause-new
 seal-requires-clause-new c =
     let b = c.args.self.now in let p = c.args.plan.now in let o = c.args.op in let k = c.source_value.new.hand in
     let at = loaded_as b p o 0 c.args.hand.now k _ (subst (SourceDoes b p o 0 true c.args.hand.now k) c.in-Ok.is c.source_value.ensures) in
-    let valid = subst IsPlan (sym c.requires.plan) c.requires.hand.valid in
-    let small = source-small p (final p) o 0 valid c.requires.in_range (zero-lt-suc _) (λ t before. final-small p t valid) in
+    let valid = subst IsPlan (sym c.requires.may.1) c.requires.may.0.valid in
+    let small = source-small p (final p) o 0 valid c.requires.may.2 (zero-lt-suc _) (λ t before. final-small p t valid) in
     let worker = at.walk.hand.worker in let tag = at.walk.hand.tag in let fold = at.tells.fold in
     let low = worker.first in let high = worker.last in
     subst IsWord (sym c.settled_aborted-new.ensures)
@@ -43,14 +43,14 @@ seal-requires-clause-grounds c =
       target = subst (IsSourceSeen (view_of k) (origin_at p o 0)) at.tells.fold at.tells.seen;
       word_is = c.settled_aborted-new.ensures ∙ ap (λ (z : ℕ × ℕ). settled_aborted c.args.word.attempt z.0 z.1) (λ i. (at.tells.fold i, at.walk.hand.tag i));
     } in
-    subst (λ (q : Plan). MaySettleIt q (view_of k) o c.args.word c.settled_aborted-new.result) c.requires.plan (inr aborts)
+    subst (λ (q : Plan). MaySettleIt q (view_of k) o c.args.word c.settled_aborted-new.result) c.requires.may.1 (inr aborts)
 
 pub returns-in-Err-clause-does : goal.returns-in-Err-clause-does
 returns-in-Err-clause-does c v opened =
     let b = c.args.self.now in let p = c.args.plan.now in let o = c.args.op in
     let at = loaded_as b p o 0 c.args.hand.now c.source_value.new.hand _ (subst (SourceDoes b p o 0 true c.args.hand.now c.source_value.new.hand) c.in-Err.is c.source_value.ensures) in
     stopped_there b p o v c.args.hand.now c.args.word opened at.words at.walk (open_unsettled c.args.word.state c.requires.state) _ _
-    (source_other _ _ _ _ (subst IsPlan (sym c.requires.plan) c.requires.hand.valid) c.requires.in_range (zero-lt-suc _) at.tells.source_is).1
+    (source_other _ _ _ _ (subst IsPlan (sym c.requires.may.1) c.requires.may.0.valid) c.requires.may.2 (zero-lt-suc _) at.tells.source_is).1
     (record { place = 0; in_places = zero-lt-suc _; source_is = at.tells.source_is }) at.tells.inside at.tells.settled (inr at.tells.source_is)
 
 pub returns-in-Ok-clause-does : goal.returns-in-Ok-clause-does
@@ -58,5 +58,5 @@ returns-in-Ok-clause-does c v opened =
     let b = c.args.self.now in let p = c.args.plan.now in let o = c.args.op in
     let at = loaded_as b p o 0 c.args.hand.now c.source_value.new.hand _ (subst (SourceDoes b p o 0 true c.args.hand.now c.source_value.new.hand) c.in-Ok.is c.source_value.ensures) in
     let made = c.settled_aborted-new.ensures in
-    sealed_as b p o v c.args.hand.now c.args.word opened at.words at.walk c.seal.new.hand c.requires.plan c.settled_aborted-new.result (ap (λ (x : OpWord). is_settled x.state) made)
+    sealed_as b p o v c.args.hand.now c.args.word opened at.words at.walk c.seal.new.hand c.requires.may.1 c.settled_aborted-new.result (ap (λ (x : OpWord). is_settled x.state) made)
     (ap (λ (x : OpWord). x.by) made ∙ at.walk.hand.tag) (ap (λ (x : OpWord). x.attempt) made) c.seal.result c.seal.ensures

@@ -25,7 +25,7 @@ seal-requires-clause-grounds c =
       equal = compared.tells c.args.word c.requires.loaded;
       word_is = c.settled-new.ensures ∙ ap (λ (t : ℕ). settled c.args.word.attempt c.args.word.value t) compared.walk.hand.tag;
     } in
-    subst (λ (q : Plan). MaySettleIt q (view_of k) o c.args.word c.settled-new.result) c.requires.plan (inl commits)
+    subst (λ (q : Plan). MaySettleIt q (view_of k) o c.args.word c.settled-new.result) c.requires.may.1 (inl commits)
 
 pub returns-in-Open-clause-does : goal.returns-in-Open-clause-does
 returns-in-Open-clause-does c v opened =
@@ -33,13 +33,13 @@ returns-in-Open-clause-does c v opened =
     let compared = subst (IsCompared b p o c.args.hand.now c.compare.new.hand) c.in-Open.is c.compare.ensures in
     let at = compared.tells c.args.word c.requires.loaded in
     stopped_there b p o v c.args.hand.now c.args.word opened compared.words compared.walk (ap is_settled (c.is_in.ensures.0 c.if-not-is_in.false)) _ _
-    (source_other _ _ _ _ (subst IsPlan (sym c.requires.plan) c.requires.hand.valid) c.requires.in_range at.source.in_places at.source.source_is).1 at.source at.inside at.settled (inl c.requires.commits)
+    (source_other _ _ _ _ (subst IsPlan (sym c.requires.may.1) c.requires.may.0.valid) c.requires.may.2 at.source.in_places at.source.source_is).1 at.source at.inside at.settled (inl c.requires.commits)
 
 pub returns-in-Differs-clause-does : goal.returns-in-Differs-clause-does
 returns-in-Differs-clause-does c v opened =
     let b = c.args.self.now in let p = c.args.plan.now in let o = c.args.op in
     let compared = subst (IsCompared b p o c.args.hand.now c.compare.new.hand) c.in-Differs.is c.compare.ensures in
-    record_differs b p o v c.args.hand.now c.args.word opened compared.words compared.walk c.look-word.new.hand c.requires.plan c.requires.word (ap has_run (c.is_in.ensures.0 c.if-not-is_in.false)) c.requires.commits
+    record_differs b p o v c.args.hand.now c.args.word opened compared.words compared.walk c.look-word.new.hand c.requires.may.1 c.requires.word (ap has_run (c.is_in.ensures.0 c.if-not-is_in.false)) c.requires.commits
     c.in-Differs.j c.in-Differs.kept c.in-Differs.settled (compared.tells c.args.word c.requires.loaded) c.look-word.result c.look-word.ensures
 
 pub returns-in-Equal-clause-does : goal.returns-in-Equal-clause-does
@@ -47,5 +47,5 @@ returns-in-Equal-clause-does c v opened =
     let b = c.args.self.now in let p = c.args.plan.now in let o = c.args.op in
     let compared = subst (IsCompared b p o c.args.hand.now c.compare.new.hand) c.in-Equal.is c.compare.ensures in
     let made = c.settled-new.ensures in
-    sealed_as b p o v c.args.hand.now c.args.word opened compared.words compared.walk c.seal.new.hand c.requires.plan c.settled-new.result (ap (λ (x : OpWord). is_settled x.state) made)
+    sealed_as b p o v c.args.hand.now c.args.word opened compared.words compared.walk c.seal.new.hand c.requires.may.1 c.settled-new.result (ap (λ (x : OpWord). is_settled x.state) made)
     (ap (λ (x : OpWord). x.by) made ∙ compared.walk.hand.tag) (ap (λ (x : OpWord). x.attempt) made) c.seal.result c.seal.ensures

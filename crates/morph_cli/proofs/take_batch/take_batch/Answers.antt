@@ -3,7 +3,7 @@ use Rattle.morph_base.specs.Flat.{contents}
 use Rattle.morph_engine.specs.Accounts.{account_of}
 use Rattle.morph_cli.proofs.Takings.{takes_told}
 use Rattle.morph_cli.proofs.Watches.{may_publish}
-use Rattle.morph_cli.proofs.one_batch.take_batch.Goals as goal
+use Rattle.morph_cli.proofs.take_batch.take_batch.Goals as goal
 
 pub tell_and_publish-requires-clause-room : goal.tell_and_publish-requires-clause-room
 tell_and_publish-requires-clause-room g c = c.requires.room (account_of c.in_ok-ran.ran.end) c.in_ok-ran.ensures.ran.made.valid.plan c.in_ok-ran.ensures.ran.account

@@ -26,7 +26,7 @@ use Rattle.run_text.specs.declared.choices.Settings.{Settings}
 use Rattle.morph_cli.specs.Batches.{IsEndOf}
 use Rattle.morph_cli.specs.Strategies.{strategy_by}
 use Rattle.morph_cli.specs.Tallies.{IsMadeOf, IsChecked}
-use Rattle.morph_cli.proofs.batch.run_batch.Goals as goal
+use Rattle.morph_cli.proofs.run_batch.run_batch.Goals as goal
 
 pub returns-clause-state : goal.returns-clause-state
 returns-clause-state g c =

@@ -1,6 +1,6 @@
 use Rattle.morph_cli.specs.declared.fault.Fault.TheVariants.{Write, OutOfMemory}
 use Rattle.morph_cli.proofs.Between.{error_is}
-use Rattle.morph_cli.proofs.one_batch.tell_and_publish.Goals as goal
+use Rattle.morph_cli.proofs.take_batch.tell_and_publish.Goals as goal
 
 pub returns-in_err-progress-clause-tells : goal.returns-in_err-progress-clause-tells
 returns-in_err-progress-clause-tells g c = rw (error_is c.from_residual.result Write c.from_residual.ensures.1) c.in_err-progress.ensures.told

@@ -16,7 +16,7 @@ use Rattle.morph_base.specs.Numbering.{IsNumbering}
 use Rattle.morph_base.specs.Sources.{IsSource}
 use Rattle.morph_base.specs.Transactions.{Transaction}
 use Rattle.morph_base.specs.States.{State}
-use Rattle.morph_base.specs.Plans.{IsPlan, high_of, event_count, op_count, event_at, op_at, event_of, target, keys_of, key_at, origin_at, HasBases, IsSourceIn, PlanKeysIn, no_plan_op, transaction_in, transactions, filled_in, filled, filled_plan}
+use Rattle.morph_base.specs.Plans.{IsPlan, high_of, event_count, op_count, event_at, op_at, event_of, numbers_of, target, keys_of, key_at, origin_at, HasBases, IsSourceIn, PlanKeysIn, no_plan_op, transaction_in, transactions, filled_in, filled, filled_plan}
 use Rattle.morph_base.proofs.BaseLaws.{bases-opening}
 use Rattle.morph_base.proofs.OutcomeLaws.{keys_fit}
 
@@ -113,7 +113,7 @@ module _ (s : State) (p : Plan) where
 
   -- the numbering, as far as filling could change it
   abbrev NumberedBy : ℕ → (ℕ → ℕ) → (ℕ → Op) → Type 0
-  NumberedBy m event_of op = IsNumbering (event_count p) m (λ i. (event_at p i).ts) (λ i. (event_at p i).first) (λ i. (event_at p i).count) event_of op
+  NumberedBy m event_of op = IsNumbering (numbers_of p) m event_of op
 
   numbering-filled : NumberedBy (op_count p) (event_of p) (λ o. (op_at p o).op) → NumberedBy (op_count (filled_plan s p)) (event_of (filled_plan s p)) (λ o. (op_at (filled_plan s p) o).op)
   numbering-filled = subst₃ NumberedBy (sym op_count-filled) (sym event_of-filled) (sym op-filled)

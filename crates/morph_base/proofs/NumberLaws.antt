@@ -7,10 +7,10 @@ use Rattle.std.proofs.lemmas.List.{nil_from_length}
 use Rattle.morph_base.specs.declared.limits.TheConstants.{EVENT_OPS, EVENTS}
 use Rattle.morph_base.specs.declared.operation.Op.{Op}
 use Rattle.morph_base.specs.declared.plan.Plan.{Plan}
-use Rattle.morph_base.specs.Numbering.{IsWithin, IsNumbering}
+use Rattle.morph_base.specs.Numbering.{numbers, IsWithin, IsNumbering}
 use Rattle.morph_base.specs.Plans.{IsPlan, event_count, op_count, event_at, no_event}
 
-module _ (n m : ℕ) (ts first count event_of : ℕ → ℕ) (op : ℕ → Op) (is : IsNumbering n m ts first count event_of op) where
+module _ (n m : ℕ) (ts first count event_of : ℕ → ℕ) (op : ℕ → Op) (is : IsNumbering (numbers n ts first count) m event_of op) where
   -- the first operation of an event is one of its own
   pub first_owned : (i : ℕ) → i < n → (first i < m) × (event_of (first i) ≡ i)
   first_owned i lt =

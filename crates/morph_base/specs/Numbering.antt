@@ -11,18 +11,28 @@ pub record IsWithin (start many o : ℕ) : Type 0 where
   pub from : start ≤ o
   pub below : o < start + many
 
--- There are n events by rising time and m operations. Event i has the time `ts i` and the `count i` operations from
--- `first i` on. Operation o is `op o` and belongs to event `event_of o`. Times, counts, shapes and targets are as in
--- valid events
-pub record IsNumbering (n m : ℕ) (ts first count event_of : ℕ → ℕ) (op : ℕ → Op) : Type 0 where
-  pub few : n ≤ EVENTS
-  pub times : (i : ℕ) → i < n → (0 < ts i) × (ts i ≤ latest_time)
-  pub counts : (i : ℕ) → i < n → (0 < count i) × (count i ≤ EVENT_OPS)
+-- How many events there are, and of each by its number the time, the first operation and the number of operations
+pub record EventNumbers : Type 0 where
+  pub many : ℕ
+  pub ts : ℕ → ℕ
+  pub first : ℕ → ℕ
+  pub count : ℕ → ℕ
+
+-- The numbers of `many` events, with these times, first operations and numbers of operations
+abbrev pub numbers : ℕ → (ts first count : ℕ → ℕ) → EventNumbers
+numbers many ts first count = record { many = many; ts = ts; first = first; count = count }
+
+-- The events e stand by rising time, and there are m operations. Operation o is `op o` and belongs to event
+-- `event_of o`. Times, counts, shapes and targets are as in valid events
+pub record IsNumbering (e : EventNumbers) (m : ℕ) (event_of : ℕ → ℕ) (op : ℕ → Op) : Type 0 where
+  pub few : e.many ≤ EVENTS
+  pub times : (i : ℕ) → i < e.many → (0 < e.ts i) × (e.ts i ≤ latest_time)
+  pub counts : (i : ℕ) → i < e.many → (0 < e.count i) × (e.count i ≤ EVENT_OPS)
   -- Each operation is one of its event's, and of no other event's
-  pub placed : (o : ℕ) → o < m → (event_of o < n) × IsWithin (first (event_of o)) (count (event_of o)) o
-  pub owned : (i o : ℕ) → i < n → IsWithin (first i) (count i) o → (o < m) × (event_of o ≡ i)
+  pub placed : (o : ℕ) → o < m → (event_of o < e.many) × IsWithin (e.first (event_of o)) (e.count (event_of o)) o
+  pub owned : (i o : ℕ) → i < e.many → IsWithin (e.first i) (e.count i) o → (o < m) × (event_of o ≡ i)
   pub in_order : (o t : ℕ) → o ≤ t → t < m → event_of o ≤ event_of t
-  pub rising : (i j : ℕ) → i < j → j < n → ts i < ts j
+  pub rising : (i j : ℕ) → i < j → j < e.many → e.ts i < e.ts j
   -- The targets of an event differ
   pub distinct : (o t : ℕ) → o < m → t < m → event_of o ≡ event_of t → (op o).key ≡ (op t).key → o ≡ t
   pub shaped : (o : ℕ) → o < m → IsShaped (op o)

@@ -15,7 +15,7 @@ pub use Rattle.morph_base.specs.Operations.{no_op}
 use Rattle.morph_base.specs.Transactions.{Transaction, transactions_of, by_time}
 use Rattle.morph_base.specs.States.{State, after_all, commits}
 use Rattle.morph_base.specs.Limits.{most_workers}
-use Rattle.morph_base.specs.Numbering.{IsNumbering, IsWithin}
+use Rattle.morph_base.specs.Numbering.{numbers, EventNumbers, IsNumbering, IsWithin}
 use Rattle.morph_base.specs.Sources.{IsSource, IsLastWriter, IsUnwritten}
 
 -- The operation that is read past the end of a plan's operations
@@ -123,10 +123,14 @@ opening_of (q ∷ qs) key = unwrap_or (base_in (reads q.op) q.origins key) (open
 abbrev pub opening : Plan → State
 opening p = opening_of p.ops.items
 
+-- The numbers of a plan's events
+abbrev pub numbers_of : Plan → EventNumbers
+numbers_of p = numbers (event_count p) (λ i. (event_at p i).ts) (λ i. (event_at p i).first) (λ i. (event_at p i).count)
+
 -- The plan is valid. It is well numbered, all its operations have its greatest value, each used place has its source,
 -- each unused place is `Base 0`, a key has one base value throughout, and no base value is above the greatest value
 pub record IsPlan (p : Plan) : Type 0 where
-  pub numbering : IsNumbering (event_count p) (op_count p) (λ i. (event_at p i).ts) (λ i. (event_at p i).first) (λ i. (event_at p i).count) (event_of p) (λ o. (op_at p o).op)
+  pub numbering : IsNumbering (numbers_of p) (op_count p) (event_of p) (λ o. (op_at p o).op)
   pub alike : (o : ℕ) → o < op_count p → (op_at p o).op.high ≡ high_of p
   pub places : (o : ℕ) → o < op_count p → length (op_at p o).origins ≡ READS
   pub unused : (o j : ℕ) → o < op_count p → length (keys_of p o) ≤ j → j < READS → origin_at p o j ≡ Base 0

@@ -20,7 +20,7 @@ use Rattle.op_words.specs.declared.trail.View.{View}
 use Rattle.op_words.specs.Trails.{loaded, OfSources}
 use Rattle.op_words.specs.Views.{IsSourceSeen, IsRecordSeen, Adds}
 use Rattle.op_words.specs.Calls.{IsSettledRead}
-use Rattle.op_words.specs.Hands.{view_of, IsHandOf}
+use Rattle.op_words.specs.Hands.{view_of, call_on, IsHandOf}
 use Rattle.op_words.specs.Stepping.{Recalled, IsWalk}
 use Rattle.op_words.specs.Grounds.{IsSourceLoaded, SourceDoes}
 use Rattle.op_words.specs.Comparing.{IsSourceRight, IsLoadedAt, IsEqualAt, IsNotedLast, PlaceIsCompared, IsComparedAt, IsComparedUpTo, AllTells, IsCompared}
@@ -65,7 +65,7 @@ sources_none p o t inside = absurd (not_inside t inside)
 
 module _ (b : Board) (p : Plan) (o j : ℕ) where
   -- its source was loaded, and has to be settled
-  pub loaded_as : (h g : Hand) (r : Result ℕ Stop) → SourceDoes b p o j true h g r → IsLoadedAt b p o j h g r
+  pub loaded_as : (h g : Hand) (r : Result ℕ Stop) → SourceDoes (call_on b h g) p o j true r → IsLoadedAt (call_on b h g) p o j r
   loaded_as h g (Ok x) did = record {
     words = did.words;
     walk = walk_row b o did.row;
@@ -96,12 +96,12 @@ module _ (b : Board) (p : Plan) (o j : ℕ) where
   }
 
   -- then its record was loaded
-  module _ (h g k : Hand) (y x : ℕ) (did : Recalled b o j g k y) where
-    pub stopped_here : (stop : Stop) → IsLoadedAt b p o j h g (Err stop) → IsComparedAt b p o j h g (Open stop)
+  module _ (h g k : Hand) (y x : ℕ) (did : Recalled (call_on b g k) o j y) where
+    pub stopped_here : (stop : Stop) → IsLoadedAt (call_on b h g) p o j (Err stop) → IsComparedAt (call_on b h g) p o j (Open stop)
     stopped_here stop at = record { words = at.words; walk = at.walk; sources = at.sources; tells = λ w last. at.tells }
 
-    module _ (lt : j < places p o) (at : IsLoadedAt b p o j h g (Ok x)) where
-      walked : IsWalk b o h k (at.words ++ [])
+    module _ (lt : j < places p o) (at : IsLoadedAt (call_on b h g) p o j (Ok x)) where
+      walked : IsWalk (call_on b h k) o (at.words ++ [])
       walked = walk_then b o at.walk (walk_recall b o at.walk.hand did)
 
       recorded : (w : OpWord) → IsNotedLast o (view_of h) w → IsRecordSeen (view_of k) o j w y
@@ -114,10 +114,10 @@ module _ (b : Board) (p : Plan) (o j : ℕ) where
         fold = at.tells.fold;
       }
 
-      pub compared_here : (r : Compared) → ((w : OpWord) → IsNotedLast o (view_of h) w → PlaceIsCompared p o w j (at.words ++ []) (view_of k) r) → IsComparedAt b p o j h k r
+      pub compared_here : (r : Compared) → ((w : OpWord) → IsNotedLast o (view_of h) w → PlaceIsCompared p o w j (at.words ++ []) (view_of k) r) → IsComparedAt (call_on b h k) p o j r
       compared_here r tells = record { words = at.words ++ []; walk = walked; sources = sources_then p o at.words [] at.sources (sources_none p o); tells = tells }
 
-      pub equal_here : y ≡ x → IsComparedAt b p o j h k Equal
+      pub equal_here : y ≡ x → IsComparedAt (call_on b h k) p o j Equal
       equal_here same =
           compared_here Equal
           (λ w last. record {
@@ -125,20 +125,20 @@ module _ (b : Board) (p : Plan) (o j : ℕ) where
             recorded = subst (IsRecordSeen (view_of k) o j w) (same ∙ right.fold) (recorded w last);
           })
 
-      pub differs_here : y ≢ x → IsComparedAt b p o j h k (Differs j y x)
+      pub differs_here : y ≢ x → IsComparedAt (call_on b h k) p o j (Differs j y x)
       differs_here other = compared_here (Differs j y x) (λ w last. record { in_places = lt; right = right; recorded = recorded w last; differs = other })
 
 -- ---- place by place
 
 module _ (b : Board) (p : Plan) (o : ℕ) where
-  pub compare_none : (h : Hand) → IsHandOf b h → IsComparedUpTo b p o 0 h h
+  pub compare_none : (h : Hand) → IsHandOf b h → IsComparedUpTo (call_on b h h) p o 0
   compare_none h is = record { words = []; walk = walk_none b o h is; sources = sources_none p o; equal = λ w last k lt. absurd (omega (arith, lt)) }
 
-  module _ {h g : Hand} (j : ℕ) (far : IsComparedUpTo b p o j h g) where
+  module _ {h g : Hand} (j : ℕ) (far : IsComparedUpTo (call_on b h g) p o j) where
     noted : (w : OpWord) → IsNotedLast o (view_of h) w → IsNotedLast o (view_of g) w
     noted w last = walk_last b o _ w far.walk last
 
-    pub compare_more : {k : Hand} → IsComparedAt b p o j g k Equal → IsComparedUpTo b p o (j + 1) h k
+    pub compare_more : {k : Hand} → IsComparedAt (call_on b g k) p o j Equal → IsComparedUpTo (call_on b h k) p o (j + 1)
     compare_more {k} here = record {
       words = far.words ++ here.words;
       walk = walk_then b o far.walk here.walk;
@@ -150,7 +150,7 @@ module _ (b : Board) (p : Plan) (o : ℕ) where
           ];
     }
 
-    pub compare_stop : {k : Hand} → j < places p o → (r : Compared) → r ≢ Equal → IsComparedAt b p o j g k r → IsCompared b p o h k r
+    pub compare_stop : {k : Hand} → j < places p o → (r : Compared) → r ≢ Equal → IsComparedAt (call_on b g k) p o j r → IsCompared (call_on b h k) p o r
     compare_stop {k} lt r other here = record {
       words = far.words ++ here.words;
       walk = walk_then b o far.walk here.walk;
@@ -172,5 +172,5 @@ module _ (b : Board) (p : Plan) (o : ℕ) where
           differs = is.differs;
         }
 
-  pub compare_all : {h g : Hand} → IsComparedUpTo b p o (places p o) h g → IsCompared b p o h g Equal
+  pub compare_all : {h g : Hand} → IsComparedUpTo (call_on b h g) p o (places p o) → IsCompared (call_on b h g) p o Equal
   compare_all far = record { words = far.words; walk = far.walk; sources = far.sources; tells = far.equal }

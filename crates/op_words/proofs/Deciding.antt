@@ -25,7 +25,7 @@ use Rattle.op_words.specs.declared.trail.View.{View}
 use Rattle.op_words.specs.declared.board.Board.{Board}
 use Rattle.op_words.specs.declared.board.Hand.{Hand}
 use Rattle.op_words.specs.Trails.{IsSteadyAt, IsCalmAt}
-use Rattle.op_words.specs.Hands.{plan_of, view_in, view_of, held_of, IsHandOf}
+use Rattle.op_words.specs.Hands.{plan_of, view_in, view_of, held_of, call_on, IsHandOf}
 use Rattle.op_words.specs.Views.{IsSourceSeen, IsDecisionSeen, AddsAndFrees, learning, deciding}
 use Rattle.op_words.specs.Layout.{Shows, record_index, decision_base, packed_record, packed_decision}
 use Rattle.op_words.specs.Rule.{Seats, Knows, Lawful, Steps}
@@ -273,7 +273,7 @@ module _ (b : Board) (h g : Hand) (is : IsHandOf b h) (table : g.seat.table_id �
   known_after v = Contains-append_right v.decisions _ _ (0, omega arith, refl)
 
   pub concluded_as : (n : ℕ) → (n ≡ 0 → HasNoted h.journal g.journal (Decide e committed)) → (n ≢ 0 → g.journal ≡ h.journal)
-      → Concluding e (view_of h) committed n h.seat.me g.seat.me → IsConcluded b p e h g committed
+      → Concluding e (view_of h) committed n h.seat.me g.seat.me → IsConcluded (call_on b h g) p e committed
   concluded_as n noted same tells =
       elim tells [
         | inl hit ↦

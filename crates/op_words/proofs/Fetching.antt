@@ -25,7 +25,7 @@ use Rattle.op_words.specs.Trails.{loaded, left, IsSteadyAt, IsCalmAt}
 use Rattle.op_words.specs.Views.{Agrees, Adds, Holds, IsApart, records_from, fetching, finishing}
 use Rattle.op_words.specs.Calls.{Elsewhere, IsReadValue, IsPlaceTaken, FetchDoes, FinishDoes, answer_of, outcome_of}
 use Rattle.op_words.specs.Plays.{Leaves}
-use Rattle.op_words.specs.Hands.{view_of}
+use Rattle.op_words.specs.Hands.{view_of, call_on}
 use Rattle.op_words.specs.Stepping.{Looked, Left, IsPlaceKept}
 use Rattle.op_words.specs.Kinds.{IsUsable}
 use Rattle.op_words.proofs.Rows.{no_more, not_inside, one_inside}
@@ -55,13 +55,13 @@ adds_fetching v k x agree = record {
 }
 
 module _ (b : Board) (p : Plan) (cap o j : ℕ) where
-  adds_kept : (a x : ℕ) (ys : List ℕ) (h g : Hand) → IsPlaceKept b o a ys x h g → Adds (view_of h) (view_of g) []
+  adds_kept : (a x : ℕ) (ys : List ℕ) (h g : Hand) → IsPlaceKept (call_on b h g) o a ys x → Adds (view_of h) (view_of g) []
   adds_kept a x ys h g did =
       subst (λ (u : View). Adds (view_of h) u []) (sym did.view) (adds_fetching (view_of h) (held_at o a ys) x (subst Agrees did.view did.hand.told.agree))
 
   module _ (h g : Hand) (a x : ℕ) (ys : List ℕ) (holds : Holds (view_of h) o a ys) where
     -- a base
-    pub fetched_base : origin_at p o j ≡ Base x → ((n : ℕ) (zs : List ℕ) → Holds (view_of h) o n zs → IsPlaceKept b o n zs x h g) → FetchDoes p cap o (view_of h) (view_of g) j (Value x)
+    pub fetched_base : origin_at p o j ≡ Base x → ((n : ℕ) (zs : List ℕ) → Holds (view_of h) o n zs → IsPlaceKept (call_on b h g) o n zs x) → FetchDoes p cap o (view_of h) (view_of g) j (Value x)
     fetched_base is did = record {
       words = [];
       adds = adds_kept a x ys h g (did a ys holds);
@@ -76,7 +76,7 @@ module _ (b : Board) (p : Plan) (cap o j : ℕ) where
           };
     }
 
-  module _ (h g : Hand) (s : ℕ) (w : OpWord) (other : s ≢ o) (is : origin_at p o j ≡ Written s) (did : Looked b s h g w) (a : ℕ) (ys : List ℕ) (holds : Holds (view_of h) o a ys) where
+  module _ (h g : Hand) (s : ℕ) (w : OpWord) (other : s ≢ o) (is : origin_at p o j ≡ Written s) (did : Looked (call_on b h g) s w) (a : ℕ) (ys : List ℕ) (holds : Holds (view_of h) o a ys) where
     apart : IsApart (view_of h) s
     apart k claim same = other (sym same ∙ ap (λ (z : Held). z.op) (same_Some k (held_at o a ys) (sym claim ∙ holds)))
 
@@ -99,7 +99,7 @@ module _ (b : Board) (p : Plan) (cap o j : ℕ) where
           value_is = refl;
         })
 
-    pub fetched_source : (k : Hand) → is_idle w.state ≡ false → (a ≡ cap + 1 → is_settled w.state ≡ true) → ((n : ℕ) (zs : List ℕ) → Holds (view_of g) o n zs → IsPlaceKept b o n zs w.value g k)
+    pub fetched_source : (k : Hand) → is_idle w.state ≡ false → (a ≡ cap + 1 → is_settled w.state ≡ true) → ((n : ℕ) (zs : List ℕ) → Holds (view_of g) o n zs → IsPlaceKept (call_on b g k) o n zs w.value)
         → FetchDoes p cap o (view_of h) (view_of k) j (Value w.value)
     fetched_source k shown last kept = record {
       words = loaded s w ∷ [];
@@ -169,7 +169,7 @@ adds_finishing v o w xs tells = record {
 }
 
 module _ (b : Board) (p : Plan) (cap o : ℕ) (h g : Hand) (w : OpWord) (a : ℕ) (xs : List ℕ) (holds : Holds (view_of h) o a xs) (all : length xs ≡ places p o) (word_is : w ≡ finished (op_at p o).op a xs)
-    (did : (n : ℕ) (ys : List ℕ) → Holds (view_of h) o n ys → Left b h g (finishing o w ys (view_of h)) (left o w)) where
+    (did : (n : ℕ) (ys : List ℕ) → Holds (view_of h) o n ys → Left (call_on b h g) (finishing o w ys (view_of h)) (left o w)) where
   pub finish_does : (r : Outcome) → r ≡ answer_of (value_of (op_at p o).op xs) → FinishDoes p cap o (view_of h) (view_of g) r
   finish_does r answer = record {
     words = left o w ∷ [];

@@ -30,7 +30,7 @@ use Rattle.op_words.specs.Plays.{Sat, IsTold, Looks, Leaves, Swaps}
 use Rattle.op_words.specs.Stepping.{Looked, Left}
 use Rattle.op_words.specs.Rule.{first_view}
 use Rattle.op_words.specs.Journals.{room_in, steps_in, IsJournal}
-use Rattle.op_words.specs.Hands.{plan_of, cap_of, view_in, view_of, held_of, up_to, counts_of, HasHeldValues, IsHandOf}
+use Rattle.op_words.specs.Hands.{plan_of, cap_of, view_in, view_of, held_of, up_to, counts_of, call_on, HasHeldValues, IsHandOf}
 use Rattle.op_words.proofs.Journaling.{HasNoted, journal_same, journal_step, journal_other}
 use Rattle.op_words.proofs.Rows.{not_inside}
 use Rattle.op_words.proofs.Trailing.{last-none}
@@ -234,11 +234,11 @@ module _ (b : Board) (h g : Hand) (is : IsHandOf b h) (table : g.seat.table_id �
   me_after : {u : View} → g.seat.me ≡ (Some u, h.seat.me.1) → g.seat.me ≡ (Some u, [])
   me_after {u} me = me ∙ ap (λ (m : Sat). (Some u, m.1)) is.seat
 
-  pub left_hand : (u : View) (t : Item) → g.seat.me ≡ (Some u, h.seat.me.1) → u.plan ≡ (view_of h).plan → u.cap ≡ (view_of h).cap → IsKept g u → Leaves (view_of h) u t → Left b h g u t
+  pub left_hand : (u : View) (t : Item) → g.seat.me ≡ (Some u, h.seat.me.1) → u.plan ≡ (view_of h).plan → u.cap ≡ (view_of h).cap → IsKept g u → Leaves (view_of h) u t → Left (call_on b h g) u t
   left_hand u t me plan cap keeps tells = record { hand = still b h g u is table (me_after me) plan cap keeps tells.told; view = ap (λ (m : Sat). view_in m.0) (me_after me); tells = tells }
 
   module _ (o n first : ℕ) (u : View) (w : OpWord) (swaps : Swaps o n first (view_of h) u w h.seat.me g.seat.me) where
-    pub swap_left : n ≡ first → u.plan ≡ (view_of h).plan → u.cap ≡ (view_of h).cap → IsKept g u → Left b h g u (left o w)
+    pub swap_left : n ≡ first → u.plan ≡ (view_of h).plan → u.cap ≡ (view_of h).cap → IsKept g u → Left (call_on b h g) u (left o w)
     swap_left same plan cap keeps =
         elim swaps [
           | inl done ↦ left_hand u (left o w) done.1 plan cap keeps done.2
@@ -254,7 +254,7 @@ module _ (b : Board) (h g : Hand) (is : IsHandOf b h) (table : g.seat.table_id �
         ]
 
     pub swap_found : n ≢ first → (z expected : OpWord) → IsWord z → packed z ≡ n → first ≡ packed expected
-        → g.tag ≡ h.tag → g.made ≡ h.made → g.held ≡ h.held → g.counts ≡ h.counts → g.journal ≡ h.journal → (z ≢ expected) × Looked b o h g z
+        → g.tag ≡ h.tag → g.made ≡ h.made → g.held ≡ h.held → g.counts ≡ h.counts → g.journal ≡ h.journal → (z ≢ expected) × Looked (call_on b h g) o z
     swap_found other z expected is_word n_is first_is tag made held counts journal =
         elim swaps [
           | inl done ↦ absurd (other done.0)

@@ -26,9 +26,9 @@ use Rattle.op_words.specs.Views.{IsJudged, IsRecordSeen, IsSourceSeen, Adds}
 use Rattle.op_words.specs.Calls.{IsSettledRead}
 use Rattle.op_words.specs.Plays.{IsRunResult, IsSight}
 use Rattle.op_words.specs.Judging.{verdict_of, IsStaleAt, IsGood, IsBad, VerdictTells}
-use Rattle.op_words.specs.Hands.{plan_of, cap_of, view_of, IsHandOf}
+use Rattle.op_words.specs.Hands.{plan_of, cap_of, view_of, call_on, IsHandOf}
 use Rattle.op_words.specs.Stepping.{Looked, IsWalk}
-use Rattle.op_words.specs.Comparing.{OfReads, IsEqualAt, IsOtherAt, IsStoppedAt, IsJudgedAs}
+use Rattle.op_words.specs.Comparing.{difference_at, OfReads, IsEqualAt, IsOtherAt, IsStoppedAt, IsJudgedAs}
 use Rattle.op_words.proofs.Rows.{one_inside}
 use Rattle.op_words.proofs.Trailing.{last_later}
 use Rattle.op_words.proofs.Adding.{adds_then, adds_look, free_apart, last_one, none_one}
@@ -82,12 +82,12 @@ value_in Bad = 0
 value_in (Unready at w) = 0
 
 -- what a present word tells, for the board's plan and cap
-pub sight_of : (b : Board) (p : Plan) (o : ℕ) (h g : Hand) (w : OpWord) → IsHandOf b h → p ≡ plan_of b → Looked b o h g w → IsSight p (cap_of b) (view_of h) o w
+pub sight_of : (b : Board) (p : Plan) (o : ℕ) (h g : Hand) (w : OpWord) → IsHandOf b h → p ≡ plan_of b → Looked (call_on b h g) o w → IsSight p (cap_of b) (view_of h) o w
 sight_of b p o h g w is plan did = subst (λ (z : Plan × ℕ). IsSight z.0 z.1 (view_of h) o w) (λ i. ((is.plan ∙ sym plan) i, is.cap i)) did.tells.sight
 
 -- a record that differs from its settled source, under a word that was loaded again
-pub stale_again : (b : Board) (p : Plan) (o : ℕ) → p ≡ plan_of b → (v : View) (k m : Hand) (front : List Item) → IsHandOf b k → (view_of k).claim ≡ None → Adds v (view_of k) front → (z : OpWord) → Looked b o k m z
-    → has_run z.state ≡ true → (j kept value : ℕ) {xs : List Item} → IsOtherAt p o z xs (view_of k) j kept value → IsSettledRead front (origin_at p o j) value
+pub stale_again : (b : Board) (p : Plan) (o : ℕ) → p ≡ plan_of b → (v : View) (k m : Hand) (front : List Item) → IsHandOf b k → (view_of k).claim ≡ None → Adds v (view_of k) front → (z : OpWord) → Looked (call_on b k m) o z
+    → has_run z.state ≡ true → (j kept value : ℕ) {xs : List Item} → IsOtherAt p o z xs (view_of k) (difference_at j kept value) → IsSettledRead front (origin_at p o j) value
     → IsStaleAt p (cap_of b) o v (view_of m) (front ++ loaded o z ∷ []) z j kept value
 stale_again b p o plan v k m front hand free adds z again ran j kept value {xs} at read = record {
   last = last_later front (last_one (loaded o z) (loaded o z ∷ []) refl);
@@ -117,7 +117,7 @@ stale_again b p o plan v k m front hand free adds z again ran j kept value {xs} 
     adds_again : Adds (view_of k) (view_of m) (loaded o z ∷ [])
     adds_again = subst (λ (u : View). Adds (view_of k) u (loaded o z ∷ [])) (sym again.view) (adds_look o _ (view_of k) z (free_apart (view_of k) o free) again.tells)
 
-module _ (b : Board) (p : Plan) (o : ℕ) (plan : p ≡ plan_of b) (lt : o < op_count p) (h g : Hand) (w : OpWord) (hand : IsHandOf b h) (free : (view_of h).claim ≡ None) (did : Looked b o h g w) where
+module _ (b : Board) (p : Plan) (o : ℕ) (plan : p ≡ plan_of b) (lt : o < op_count p) (h g : Hand) (w : OpWord) (hand : IsHandOf b h) (free : (view_of h).claim ≡ None) (did : Looked (call_on b h g) o w) where
   abbrev cap : ℕ
   cap = cap_of b
 
@@ -137,7 +137,7 @@ module _ (b : Board) (p : Plan) (o : ℕ) (plan : p ≡ plan_of b) (lt : o < op_
   not_stale at z j kept value same = cc
 
   -- its word is neither executed nor failed
-  pub judged_idle : has_run w.state ≡ false → IsJudgedAs b p cap o h g w (Unready o w)
+  pub judged_idle : has_run w.state ≡ false → IsJudgedAs (call_on b h g) p cap o w (Unready o w)
   judged_idle idle = record {
     hand = did.hand;
     words = loaded o w ∷ [];
@@ -153,7 +153,7 @@ module _ (b : Board) (p : Plan) (o : ℕ) (plan : p ≡ plan_of b) (lt : o < op_
   }
 
   -- its sources and records were loaded
-  module _ (ran : has_run w.state ≡ true) (k : Hand) (xs : List Item) (walk : IsWalk b o g k xs) (sources : OfSources p o xs) where
+  module _ (ran : has_run w.state ≡ true) (k : Hand) (xs : List Item) (walk : IsWalk (call_on b g k) o xs) (sources : OfSources p o xs) where
     abbrev front : List Item
     front = loaded o w ∷ xs
 
@@ -180,7 +180,7 @@ module _ (b : Board) (p : Plan) (o : ℕ) (plan : p ≡ plan_of b) (lt : o < op_
         ]
 
     -- a source is not settled
-    pub judged_open : (stop : Stop) → stop.source ≢ o → IsStoppedAt p o xs stop → IsJudgedAs b p cap o h k w (Unready stop.source stop.word)
+    pub judged_open : (stop : Stop) → stop.source ≢ o → IsStoppedAt p o xs stop → IsJudgedAs (call_on b h k) p cap o w (Unready stop.source stop.word)
     judged_open stop other at = record {
       hand = walk.hand;
       words = front;
@@ -206,7 +206,7 @@ module _ (b : Board) (p : Plan) (o : ℕ) (plan : p ≡ plan_of b) (lt : o < op_
     }
 
     -- the word was loaded again
-    module _ (m : Hand) (z : OpWord) (again : Looked b o k m z) where
+    module _ (m : Hand) (z : OpWord) (again : Looked (call_on b k m) o z) where
       abbrev all : List Item
       all = front ++ loaded o z ∷ []
 
@@ -230,7 +230,7 @@ module _ (b : Board) (p : Plan) (o : ℕ) (plan : p ≡ plan_of b) (lt : o < op_
           ]
 
       judged_with : (r : Verdict) → VerdictTells p cap o (view_of h) (view_of m) (front ++ loaded o z ∷ []) r
-          → ((j kept value : ℕ) → r ≡ Stale j kept value → IsStaleAt p cap o (view_of h) (view_of m) (front ++ loaded o z ∷ []) z j kept value) → IsJudgedAs b p cap o h m z r
+          → ((j kept value : ℕ) → r ≡ Stale j kept value → IsStaleAt p cap o (view_of h) (view_of m) (front ++ loaded o z ∷ []) z j kept value) → IsJudgedAs (call_on b h m) p cap o z r
       judged_with r tells stale = record {
         hand = again.hand;
         words = all;
@@ -245,7 +245,7 @@ module _ (b : Board) (p : Plan) (o : ℕ) (plan : p ≡ plan_of b) (lt : o < op_
         stale = stale;
       }
 
-      judged_changed : z ≢ w → IsJudgedAs b p cap o h m z (Unready o z)
+      judged_changed : z ≢ w → IsJudgedAs (call_on b h m) p cap o z (Unready o z)
       judged_changed other =
           judged_with (Unready o z)
           (inl (refl, record { last = last_all; seen = seen_all; cause = inr (found_disturbed o front w z last_front other); spread = (sight_of b p o k m z walk.hand plan again).spread }))
@@ -282,7 +282,7 @@ module _ (b : Board) (p : Plan) (o : ℕ) (plan : p ≡ plan_of b) (lt : o < op_
               valid : IsPlan p
               valid = subst IsPlan (sym plan) hand.valid
 
-          pub judged_equal : IsJudgedAs b p cap o h m z (verdict_of w)
+          pub judged_equal : IsJudgedAs (call_on b h m) p cap o z (verdict_of w)
           judged_equal =
               elim (run_cases w.state ran) [
                 | inl executed ↦
@@ -295,7 +295,7 @@ module _ (b : Board) (p : Plan) (o : ℕ) (plan : p ≡ plan_of b) (lt : o < op_
                       value_is = ap (λ (x : OpWord). x.value) same;
                       answer = executed_answer z.attempt run.values (outcome p (final p) o) z word_is state ∙ ap (λ (x : OpWord). Some x.value) same;
                     } in
-                    subst (IsJudgedAs b p cap o h m z) (sym (ap (λ (f : Bool). if f then Bad else Good w.value) executed.0)) (judged_with (Good w.value) good (λ j kept value e. absurd (good_stale w.value j kept value e)))
+                    subst (IsJudgedAs (call_on b h m) p cap o z) (sym (ap (λ (f : Bool). if f then Bad else Good w.value) executed.0)) (judged_with (Good w.value) good (λ j kept value e. absurd (good_stale w.value j kept value e)))
                 | inr fails ↦
                     let state : z.state ≡ Failed = ap (λ (x : OpWord). x.state) same ∙ fails.1 in
                     let bad : IsBad p cap o (view_of h) (view_of m) (front ++ loaded o z ∷ []) = record {
@@ -305,7 +305,7 @@ module _ (b : Board) (p : Plan) (o : ℕ) (plan : p ≡ plan_of b) (lt : o < op_
                       judged = judged;
                       answer = failed_answer z.attempt run.values (outcome p (final p) o) z word_is state;
                     } in
-                    subst (IsJudgedAs b p cap o h m z) (sym (ap (λ (f : Bool). if f then Bad else Good w.value) fails.0)) (judged_with Bad bad (λ j kept value e. absurd (bad_stale j kept value e)))
+                    subst (IsJudgedAs (call_on b h m) p cap o z) (sym (ap (λ (f : Bool). if f then Bad else Good w.value) fails.0)) (judged_with Bad bad (λ j kept value e. absurd (bad_stale j kept value e)))
               ]
             where
               good_stale : (x j kept value : ℕ) → Good x ≡ Stale j kept value → ⊥
@@ -315,21 +315,21 @@ module _ (b : Board) (p : Plan) (o : ℕ) (plan : p ≡ plan_of b) (lt : o < op_
               bad_stale j kept value e = cc
 
         -- a record is another one
-        pub judged_stale : (j kept value : ℕ) → IsOtherAt p o w xs (view_of k) j kept value → IsJudgedAs b p cap o h m z (Stale j kept value)
+        pub judged_stale : (j kept value : ℕ) → IsOtherAt p o w xs (view_of k) (difference_at j kept value) → IsJudgedAs (call_on b h m) p cap o z (Stale j kept value)
         judged_stale j kept value at = judged_with (Stale j kept value) (record { word = z; stale = stale }) (λ n y x e. same_stale n y x e)
           where
             stale : IsStaleAt p cap o (view_of h) (view_of m) (front ++ loaded o z ∷ []) z j kept value
             stale =
-                stale_again b p o plan (view_of h) k m front walk.hand free_front adds_front z again ran_again j kept value (subst (λ (x : OpWord). IsOtherAt p o x xs (view_of k) j kept value) (sym same) at)
+                stale_again b p o plan (view_of h) k m front walk.hand free_front adds_front z again ran_again j kept value (subst (λ (x : OpWord). IsOtherAt p o x xs (view_of k) (difference_at j kept value)) (sym same) at)
                 (read_right (loaded o w ∷ []) xs (origin_at p o j) value at.right.read)
 
             same_stale : (n y x : ℕ) → Stale j kept value ≡ Stale n y x → IsStaleAt p cap o (view_of h) (view_of m) (front ++ loaded o z ∷ []) z n y x
             same_stale n y x e = subst (λ (t : ℕ × ℕ × ℕ). IsStaleAt p cap o (view_of h) (view_of m) (front ++ loaded o z ∷ []) z t.0 t.1 t.2) (λ i. (ap place_in e i, ap kept_in e i, ap value_in e i)) stale
 
       -- the verdict stands, or the word changed
-      pub judged_again : (v r : Verdict) → ((z ≡ w) × (r ≡ v)) ⊎ ((z ≢ w) × (r ≡ Unready o z)) → (z ≡ w → IsJudgedAs b p cap o h m z v) → IsJudgedAs b p cap o h m z r
+      pub judged_again : (v r : Verdict) → ((z ≡ w) × (r ≡ v)) ⊎ ((z ≢ w) × (r ≡ Unready o z)) → (z ≡ w → IsJudgedAs (call_on b h m) p cap o z v) → IsJudgedAs (call_on b h m) p cap o z r
       judged_again v r cases stands =
           elim cases [
-            | inl same ↦ subst (IsJudgedAs b p cap o h m z) (sym same.1) (stands same.0)
-            | inr other ↦ subst (IsJudgedAs b p cap o h m z) (sym other.1) (judged_changed other.0)
+            | inl same ↦ subst (IsJudgedAs (call_on b h m) p cap o z) (sym same.1) (stands same.0)
+            | inr other ↦ subst (IsJudgedAs (call_on b h m) p cap o z) (sym other.1) (judged_changed other.0)
           ]

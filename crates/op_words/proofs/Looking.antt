@@ -17,7 +17,7 @@ use Rattle.op_words.specs.declared.board.Hand.{Hand}
 use Rattle.op_words.specs.declared.trail.Item.{Item}
 use Rattle.op_words.specs.Trails.{loaded, OfSources}
 use Rattle.op_words.specs.Views.{IsApart, IsSourceSeen}
-use Rattle.op_words.specs.Hands.{plan_of, view_of, IsHandOf}
+use Rattle.op_words.specs.Hands.{plan_of, view_of, call_on, IsHandOf}
 use Rattle.std.specs.Result.{result_err}
 use Rattle.op_words.specs.Stepping.{Looked, SoughtAt}
 use Rattle.op_words.specs.Grounds.{IsSourceLoaded, IsLoadedAs, SourceDoes, OpenDoes, IsSettledUpToPlace}
@@ -27,7 +27,7 @@ use Rattle.op_words.proofs.Seeking.{row_none, row_then, row_look}
 -- ---- one source
 
 module _ (b : Board) (p : Plan) (o j : ℕ) (needed : Bool) where
-  pub source_base : (h : Hand) (x : ℕ) → IsHandOf b h → origin_at p o j ≡ Base x → SourceDoes b p o j needed h h (Ok x)
+  pub source_base : (h : Hand) (x : ℕ) → IsHandOf b h → origin_at p o j ≡ Base x → SourceDoes (call_on b h h) p o j needed (Ok x)
   source_base h x is base = record {
     words = [];
     row = row_none b o h is;
@@ -39,11 +39,11 @@ module _ (b : Board) (p : Plan) (o j : ℕ) (needed : Bool) where
     };
   }
 
-  module _ (h g : Hand) (s : ℕ) (w : OpWord) (hand : IsHandOf b h) (plan : p ≡ plan_of b) (lt : j < places p o) (other : s ≢ o) (apart : IsApart (view_of h) s) (is : origin_at p o j ≡ Written s) (did : Looked b s h g w) where
+  module _ (h g : Hand) (s : ℕ) (w : OpWord) (hand : IsHandOf b h) (plan : p ≡ plan_of b) (lt : j < places p o) (other : s ≢ o) (apart : IsApart (view_of h) s) (is : origin_at p o j ≡ Written s) (did : Looked (call_on b h g) s w) where
     of_source : OfSources p o (loaded s w ∷ [])
     of_source t inside = record { place = j; in_places = lt; source_is = is ∙ ap (λ (x : Item). Written x.op) (one_inside (loaded s w) t inside) }
 
-    pub source_ready : is_idle w.state ≡ false → (needed ≡ true → is_settled w.state ≡ true) → SourceDoes b p o j needed h g (Ok w.value)
+    pub source_ready : is_idle w.state ≡ false → (needed ≡ true → is_settled w.state ≡ true) → SourceDoes (call_on b h g) p o j needed (Ok w.value)
     source_ready shown settled = record {
       words = loaded s w ∷ [];
       row = row_look b o s other apart did;
@@ -58,7 +58,7 @@ module _ (b : Board) (p : Plan) (o j : ℕ) (needed : Bool) where
       };
     }
 
-    pub source_unready : (is_settled w.state ≡ false) × ((is_idle w.state ≡ true) ⊎ (needed ≡ true)) → SourceDoes b p o j needed h g (Err (record { source = s; word = w }))
+    pub source_unready : (is_settled w.state ≡ false) × ((is_idle w.state ≡ true) ⊎ (needed ≡ true)) → SourceDoes (call_on b h g) p o j needed (Err (record { source = s; word = w }))
     source_unready not = record {
       words = loaded s w ∷ [];
       row = row_look b o s other apart did;
@@ -69,13 +69,13 @@ module _ (b : Board) (p : Plan) (o j : ℕ) (needed : Bool) where
 -- ---- place by place
 
 module _ (b : Board) (p : Plan) (o : ℕ) where
-  pub open_none : (h : Hand) → IsHandOf b h → OpenDoes b p o false h h None
+  pub open_none : (h : Hand) → IsHandOf b h → OpenDoes (call_on b h h) p o false None
   open_none h is = record { words = []; row = row_none b o h is; tells = λ asked. absurd (false≢true asked) }
 
-  pub settled_none : (h : Hand) → IsHandOf b h → IsSettledUpToPlace b p o 0 h h
+  pub settled_none : (h : Hand) → IsHandOf b h → IsSettledUpToPlace (call_on b h h) p o 0
   settled_none h is = record { words = []; row = row_none b o h is; settled = λ k lt. absurd (omega (arith, lt)) }
 
-  pub settled_more : {h g k : Hand} {x : ℕ} (j : ℕ) → IsSettledUpToPlace b p o j h g → SourceDoes b p o j true g k (Ok x) → IsSettledUpToPlace b p o (j + 1) h k
+  pub settled_more : {h g k : Hand} {x : ℕ} (j : ℕ) → IsSettledUpToPlace (call_on b h g) p o j → SourceDoes (call_on b g k) p o j true (Ok x) → IsSettledUpToPlace (call_on b h k) p o (j + 1)
   settled_more {h} {g} {k} {x} j far here = record {
     words = far.words ++ here.words;
     row = row_then b o far.row here.row;
@@ -89,7 +89,7 @@ module _ (b : Board) (p : Plan) (o : ℕ) where
         ];
   }
 
-  pub settled_stop : {h g k : Hand} {stop : Stop} (j : ℕ) → j < places p o → IsSettledUpToPlace b p o j h g → SourceDoes b p o j true g k (Err stop) → OpenDoes b p o true h k (Some stop)
+  pub settled_stop : {h g k : Hand} {stop : Stop} (j : ℕ) → j < places p o → IsSettledUpToPlace (call_on b h g) p o j → SourceDoes (call_on b g k) p o j true (Err stop) → OpenDoes (call_on b h k) p o true (Some stop)
   settled_stop {h} {g} {k} {stop} j lt far here = record {
     words = far.words ++ here.words;
     row = row_then b o far.row here.row;
@@ -101,13 +101,13 @@ module _ (b : Board) (p : Plan) (o : ℕ) where
     };
   }
 
-  pub settled_all : {h g : Hand} → IsSettledUpToPlace b p o (places p o) h g → OpenDoes b p o true h g None
+  pub settled_all : {h g : Hand} → IsSettledUpToPlace (call_on b h g) p o (places p o) → OpenDoes (call_on b h g) p o true None
   settled_all far = record { words = far.words; row = far.row; tells = λ asked s source. far.settled source.place source.in_places s source.source_is }
 
 -- ---- up to the first that has no value
 
 -- one place, of which a value is enough
-pub sought_as : (b : Board) (p : Plan) (o j : ℕ) (h g : Hand) (r : Result ℕ Stop) → SourceDoes b p o j false h g r → SoughtAt b p o j h g (result_err r)
+pub sought_as : (b : Board) (p : Plan) (o j : ℕ) (h g : Hand) (r : Result ℕ Stop) → SourceDoes (call_on b h g) p o j false r → SoughtAt (call_on b h g) p o j (result_err r)
 sought_as b p o j h g (Ok x) did = record { words = did.words; row = did.row; tells = λ s is. let read : IsLoadedAs did.words false s x = subst (λ (q : Origin). IsSourceLoaded did.words false q x) is did.tells.read in (read.word, read.inside, read.shown) }
 sought_as b p o j h g (Err stop) did = record {
   words = did.words;

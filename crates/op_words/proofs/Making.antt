@@ -22,7 +22,7 @@ use Rattle.op_words.specs.Trails.{loaded, left, last_word, HasLast, IsDisturbed,
 use Rattle.op_words.specs.Views.{Adds, looking, looked, Holds, leaving, making, claiming, giving_back}
 use Rattle.op_words.specs.Calls.{Elsewhere, MakeDoes, ClaimDoes, GiveBackDoes}
 use Rattle.op_words.specs.Plays.{Leaves}
-use Rattle.op_words.specs.Hands.{view_of}
+use Rattle.op_words.specs.Hands.{view_of, call_on}
 use Rattle.op_words.specs.Stepping.{Looked, Left, IsRow}
 use Rattle.op_words.proofs.Rows.{one_inside}
 use Rattle.op_words.proofs.Trailing.{same_parts, last-none, last-append, last-skip, last_later}
@@ -130,7 +130,7 @@ open_left o xs w unsettled none t inside own =
 
 -- ---- ready
 
-module _ (b : Board) (p : Plan) (cap o : ℕ) (h g : Hand) (w : OpWord) (free : (view_of h).claim ≡ None) (did : Looked b o h g w) where
+module _ (b : Board) (p : Plan) (cap o : ℕ) (h g : Hand) (w : OpWord) (free : (view_of h).claim ≡ None) (did : Looked (call_on b h g) o w) where
   adds_first : Adds (view_of h) (view_of g) (loaded o w ∷ [])
   adds_first = subst (λ (u : View). Adds (view_of h) u (loaded o w ∷ [])) (sym did.view) (adds_look o _ (view_of h) w (free_apart (view_of h) o free) did.tells)
 
@@ -156,7 +156,7 @@ module _ (b : Board) (p : Plan) (cap o : ℕ) (h g : Hand) (w : OpWord) (free : 
     tells = record { free = free_next; last = last_one (loaded o w) (loaded o w ∷ []) refl; seen = (0, omega arith, refl); none = none_one o w; cause = inl other; view_is = did.view };
   }
 
-  module _ (state : w.state ≡ Blocked) {k : Hand} (xs : List Item) (row : IsRow b o g k xs) where
+  module _ (state : w.state ≡ Blocked) {k : Hand} (xs : List Item) (row : IsRow (call_on b g k) o xs) where
     abbrev front : List Item
     front = loaded o w ∷ xs
 
@@ -204,7 +204,7 @@ module _ (b : Board) (p : Plan) (cap o : ℕ) (h g : Hand) (w : OpWord) (free : 
     -- the exchange
     module _ (m : Hand) where
       pub made_ready : ((s : ℕ) → IsSourceOf p o s → (z : OpWord) × Contains xs (loaded s z) × (is_idle z.state ≡ false))
-          → Left b k m (making o w.attempt (view_of k)) (left o (ready w.attempt)) → MakeDoes p cap o (view_of h) (view_of m) Made
+          → Left (call_on b k m) (making o w.attempt (view_of k)) (left o (ready w.attempt)) → MakeDoes p cap o (view_of h) (view_of m) Made
       made_ready sources step = record {
         words = front ++ left o (ready w.attempt) ∷ [];
         goes = record {
@@ -227,7 +227,7 @@ module _ (b : Board) (p : Plan) (cap o : ℕ) (h g : Hand) (w : OpWord) (free : 
         };
       }
 
-      pub found_another : {z : OpWord} → z ≢ blocked w.attempt → Looked b o k m z → MakeDoes p cap o (view_of h) (view_of m) (Unmade o z)
+      pub found_another : {z : OpWord} → z ≢ blocked w.attempt → Looked (call_on b k m) o z → MakeDoes p cap o (view_of h) (view_of m) (Unmade o z)
       found_another {z} other step = record {
         words = front ++ loaded o z ∷ [];
         goes = record {
@@ -257,7 +257,7 @@ module _ (b : Board) (p : Plan) (cap o : ℕ) (h g : Hand) (w : OpWord) (free : 
     claim_view : looked o w (view_of h) ≡ looked o (ready w.attempt) (view_of h)
     claim_view = ap (λ (x : OpWord). looked o x (view_of h)) (bare_ready w did.tells.is_word state)
 
-    pub held_now : Left b g m (claiming o w.attempt (view_of g)) (left o (claimed w.attempt (view_of g).tag)) → ClaimDoes p cap o (view_of h) (view_of m) (HeldAt w.attempt)
+    pub held_now : Left (call_on b g m) (claiming o w.attempt (view_of g)) (left o (claimed w.attempt (view_of g).tag)) → ClaimDoes p cap o (view_of h) (view_of m) (HeldAt w.attempt)
     held_now step = record {
       words = loaded o w ∷ left o (claimed w.attempt (view_of g).tag) ∷ [];
       adds = adds_then adds_first (subst (λ (u : View). Adds (view_of g) u (left o (claimed w.attempt (view_of g).tag) ∷ [])) (sym step.view) (adds_claiming (view_of g) o w.attempt step.tells));
@@ -270,7 +270,7 @@ module _ (b : Board) (p : Plan) (cap o : ℕ) (h g : Hand) (w : OpWord) (free : 
       };
     }
 
-    pub found_held : {z : OpWord} → z ≢ ready w.attempt → Looked b o g m z → ClaimDoes p cap o (view_of h) (view_of m) (Unheld z)
+    pub found_held : {z : OpWord} → z ≢ ready w.attempt → Looked (call_on b g m) o z → ClaimDoes p cap o (view_of h) (view_of m) (Unheld z)
     found_held {z} other step = record {
       words = loaded o w ∷ loaded o z ∷ [];
       adds = adds_then adds_first (subst (λ (u : View). Adds (view_of g) u (loaded o z ∷ [])) (sym step.view) (adds_look o _ (view_of g) z (free_apart (view_of g) o free_next) step.tells));
@@ -310,7 +310,7 @@ adds_giving v o a tells = record {
 }
 
 module _ (b : Board) (p : Plan) (cap o a : ℕ) (h g : Hand) (zs : List ℕ) (holds : Holds (view_of h) o a zs) where
-  pub gave_back : Left b h g (giving_back o a (view_of h)) (left o (blocked a)) → GiveBackDoes p cap o (view_of h) (view_of g)
+  pub gave_back : Left (call_on b h g) (giving_back o a (view_of h)) (left o (blocked a)) → GiveBackDoes p cap o (view_of h) (view_of g)
   gave_back step = record {
     words = left o (blocked a) ∷ [];
     adds = subst (λ (u : View). Adds (view_of h) u (left o (blocked a) ∷ [])) (sym step.view) (adds_giving (view_of h) o a step.tells);

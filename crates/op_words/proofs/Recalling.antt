@@ -26,7 +26,7 @@ use Rattle.op_words.specs.Rule.{Seats, taken, Knows, Lawful, Stays}
 use Rattle.op_words.specs.Plays.{Sat, IsDecision, IsTold, recalls, learns}
 use Rattle.op_words.specs.declared.board.Board.{Board}
 use Rattle.op_words.specs.declared.board.Hand.{Hand}
-use Rattle.op_words.specs.Hands.{plan_of, view_in, view_of, held_of, IsHandOf}
+use Rattle.op_words.specs.Hands.{plan_of, view_in, view_of, held_of, call_on, IsHandOf}
 use Rattle.op_words.specs.Stepping.{Recalled, Learned}
 use Rattle.op_words.proofs.Handing.{still}
 use Rattle.op_words.proofs.Journaling.{journal_same}
@@ -217,7 +217,7 @@ module _ (b : Board) (h g : Hand) (is : IsHandOf b h) (table : g.seat.table_id �
   pub mine : (u : View) → g.seat.me ≡ (Some u, h.seat.me.1) → g.seat.me ≡ (Some u, [])
   mine u me = me ∙ ap (λ (m : Sat). (Some u, m.1)) is.seat
 
-  pub recalled_hand : (o j x : ℕ) → x ≤ MAX → g.seat.me ≡ (Some (recalling o j x (view_of h)), h.seat.me.1) → Recalled b o j h g x
+  pub recalled_hand : (o j x : ℕ) → x ≤ MAX → g.seat.me ≡ (Some (recalling o j x (view_of h)), h.seat.me.1) → Recalled (call_on b h g) o j x
   recalled_hand o j x small me = record {
     hand = noted_hand (recalling o j x (view_of h)).records (view_of h).decisions (mine (recalling o j x (view_of h)) me);
     view = ap (λ (m : Sat). view_in m.0) me;
@@ -228,7 +228,7 @@ module _ (b : Board) (h g : Hand) (is : IsHandOf b h) (table : g.seat.table_id �
   learned_still e None seat = noted_hand (view_of h).records (view_of h).decisions seat
   learned_still e (Some committed) seat = noted_hand (view_of h).records (learning e (Some committed) (view_of h)).decisions seat
 
-  pub learned_hand : (e : ℕ) (d : Option Bool) → IsDecision (view_of h).plan.value (view_of h) e d → g.seat.me ≡ (Some (learning e d (view_of h)), h.seat.me.1) → Learned b e h g d
+  pub learned_hand : (e : ℕ) (d : Option Bool) → IsDecision (view_of h).plan.value (view_of h) e d → g.seat.me ≡ (Some (learning e d (view_of h)), h.seat.me.1) → Learned (call_on b h g) e d
   learned_hand e d tells me = record {
     hand = learned_still e d (mine (learning e d (view_of h)) me);
     view = ap (λ (m : Sat). view_in m.0) me;

@@ -18,7 +18,7 @@ use Rattle.op_words.specs.declared.trail.View.{View}
 use Rattle.op_words.specs.Trails.{loaded, left, HasLast, NoneOwn, IsSteadyAt, IsCalmAt}
 use Rattle.op_words.specs.Views.{Adds, HasShownFailure, IsRecordSeen, last_op, spreading}
 use Rattle.op_words.specs.Plays.{Leaves}
-use Rattle.op_words.specs.Hands.{view_of}
+use Rattle.op_words.specs.Hands.{view_of, call_on}
 use Rattle.op_words.specs.Stepping.{Looked, Left, Recalled, IsWalk}
 use Rattle.op_words.specs.Retrying.{IsSpreadFrom, SpreadDoes}
 use Rattle.op_words.specs.Grounds.{HasGroundsToSpread}
@@ -60,7 +60,7 @@ count_one q e es is = sum_by-cons (λ x. cond (q x) 1 0) e es ∙ ap (λ b. cond
 
 -- ---- the operation's word was loaded, and words of others after it
 
-module _ (b : Board) (p : Plan) (cap o : ℕ) (h g : Hand) (w : OpWord) (free : (view_of h).claim ≡ None) (did : Looked b o h g w) where
+module _ (b : Board) (p : Plan) (cap o : ℕ) (h g : Hand) (w : OpWord) (free : (view_of h).claim ≡ None) (did : Looked (call_on b h g) o w) where
   pub adds_first : Adds (view_of h) (view_of g) (loaded o w ∷ [])
   adds_first = subst (λ (u : View). Adds (view_of h) u (loaded o w ∷ [])) (sym did.view) (adds_look o _ (view_of h) w (free_apart (view_of h) o free) did.tells)
 
@@ -85,7 +85,7 @@ module _ (b : Board) (p : Plan) (cap o : ℕ) (h g : Hand) (w : OpWord) (free : 
     };
   }
 
-  module _ {k : Hand} (xs : List Item) (walk : IsWalk b o g k xs) where
+  module _ {k : Hand} (xs : List Item) (walk : IsWalk (call_on b g k) o xs) where
     abbrev front : List Item
     front = loaded o w ∷ xs
 
@@ -106,7 +106,7 @@ module _ (b : Board) (p : Plan) (cap o : ℕ) (h g : Hand) (w : OpWord) (free : 
 
     module _ (m : Hand) where
       pub spread_done : (q : ℕ) → last_op 0 (view_of k).notes ≡ q → (x : ℕ) → w.state ≡ Executed → w.attempt < cap → IsRecordSeen (view_of k) o 0 w x
-          → Left b k m (spreading o (spread (w.attempt + 1) x) (view_of k)) (left o (spread (w.attempt + 1) x)) → SpreadDoes p cap o (view_of h) (view_of m) q HasSpread
+          → Left (call_on b k m) (spreading o (spread (w.attempt + 1) x) (view_of k)) (left o (spread (w.attempt + 1) x)) → SpreadDoes p cap o (view_of h) (view_of m) q HasSpread
       spread_done q sibling x executed below seen step =
           let z : OpWord = spread (w.attempt + 1) x in
           record {
@@ -132,7 +132,7 @@ module _ (b : Board) (p : Plan) (cap o : ℕ) (h g : Hand) (w : OpWord) (free : 
             };
           }
 
-      pub found_unspread : (q : ℕ) {z : OpWord} → z ≢ w → Looked b o k m z → SpreadDoes p cap o (view_of h) (view_of m) q (Unspread z)
+      pub found_unspread : (q : ℕ) {z : OpWord} → z ≢ w → Looked (call_on b k m) o z → SpreadDoes p cap o (view_of h) (view_of m) q (Unspread z)
       found_unspread q {z} other step = record {
         words = front ++ loaded o z ∷ [];
         goes = record {
@@ -153,11 +153,11 @@ module _ (b : Board) (p : Plan) (cap o : ℕ) (h g : Hand) (w : OpWord) (free : 
 -- ---- before a spread: the record and the sibling's word are loaded
 
 module _ (b : Board) (p : Plan) (cap o q : ℕ) (h g k m : Hand) (w z : OpWord) (x : ℕ) (free : (view_of h).claim ≡ None) (from : IsSpreadFrom p o q (view_of h))
-    (did : Looked b o h g w) (record_did : Recalled b o 0 g k x) (sibling_did : Looked b q k m z) where
-  walk_record : IsWalk b o g k []
+    (did : Looked (call_on b h g) o w) (record_did : Recalled (call_on b g k) o 0 x) (sibling_did : Looked (call_on b k m) q z) where
+  walk_record : IsWalk (call_on b g k) o []
   walk_record = walk_recall b o did.hand record_did
 
-  pub walk_spread : IsWalk b o g m (loaded q z ∷ [])
+  pub walk_spread : IsWalk (call_on b g m) o (loaded q z ∷ [])
   walk_spread = walk_then b o walk_record (walk_look b o q from.another (free_apart (view_of k) q (walk_record.claim ∙ free_next b p cap o h g w free did)) sibling_did)
 
   pub record_spread : IsRecordSeen (view_of m) o 0 w x

@@ -25,7 +25,7 @@ use Rattle.op_words.specs.declared.trail.View.{View}
 use Rattle.op_words.specs.Trails.{loaded, left, last_word, HasLast, IsSourceOf, NoneOwn}
 use Rattle.op_words.specs.Views.{Adds, IsRecordSeen, IsSourceSeen, last_place, rolling_back}
 use Rattle.op_words.specs.Calls.{IsReadValue}
-use Rattle.op_words.specs.Hands.{plan_of, cap_of, view_of, IsHandOf}
+use Rattle.op_words.specs.Hands.{plan_of, cap_of, view_of, call_on, IsHandOf}
 use Rattle.op_words.specs.Stepping.{Looked, Left, Recalled, IsWalk}
 use Rattle.op_words.specs.Kinds.{IsUsable}
 use Rattle.op_words.specs.Retrying.{IsSpreadAside, RollDoes}
@@ -94,7 +94,7 @@ usable_more xs needed v cap a (Written t) x noted asked is = record {
     before : a + 1 ≡ cap + 1 → a ≡ cap
     before last = omega (arith, last)
 
-module _ (b : Board) (p : Plan) (o j : ℕ) (h g : Hand) (w : OpWord) (free : (view_of h).claim ≡ None) (is : IsHandOf b h) (did : Looked b o h g w) where
+module _ (b : Board) (p : Plan) (o j : ℕ) (h g : Hand) (w : OpWord) (free : (view_of h).claim ≡ None) (is : IsHandOf b h) (did : Looked (call_on b h g) o w) where
   pub not_rolled : (is_evaluated w.state ≡ false) ⊎ (cap_of b < w.attempt) → RollDoes p (cap_of b) o (view_of h) (view_of g) j (Unrolled o w)
   not_rolled other = record {
     words = loaded o w ∷ [];
@@ -116,7 +116,7 @@ module _ (b : Board) (p : Plan) (o j : ℕ) (h g : Hand) (w : OpWord) (free : (v
     );
   }
 
-  module _ (evaluated : is_evaluated w.state ≡ true) {k : Hand} (xs : List Item) (walk : IsWalk b o g k xs) where
+  module _ (evaluated : is_evaluated w.state ≡ true) {k : Hand} (xs : List Item) (walk : IsWalk (call_on b g k) o xs) where
     abbrev front : List Item
     front = loaded o w ∷ xs
 
@@ -163,7 +163,7 @@ module _ (b : Board) (p : Plan) (o j : ℕ) (h g : Hand) (w : OpWord) (free : (v
 
     module _ (m : Hand) where
       -- another word was found
-      pub found_unrolled : {z : OpWord} → z ≢ w → Looked b o k m z → RollDoes p (cap_of b) o (view_of h) (view_of m) j (Unrolled o z)
+      pub found_unrolled : {z : OpWord} → z ≢ w → Looked (call_on b k m) o z → RollDoes p (cap_of b) o (view_of h) (view_of m) j (Unrolled o z)
       found_unrolled {z} other step = record {
         words = front ++ loaded o z ∷ [];
         goes = record {
@@ -184,7 +184,7 @@ module _ (b : Board) (p : Plan) (o j : ℕ) (h g : Hand) (w : OpWord) (free : (v
         );
       }
 
-      pub rolled_done : w.attempt ≤ cap_of b → last_place 0 (view_of k).records ≡ j → Left b k m (rolling_back o (w.attempt + 1) (view_of k)) (left o (blocked (w.attempt + 1))) → RollDoes p (cap_of b) o (view_of h) (view_of m) j HasRolled
+      pub rolled_done : w.attempt ≤ cap_of b → last_place 0 (view_of k).records ≡ j → Left (call_on b k m) (rolling_back o (w.attempt + 1) (view_of k)) (left o (blocked (w.attempt + 1))) → RollDoes p (cap_of b) o (view_of h) (view_of m) j HasRolled
       rolled_done most place step =
           let z : OpWord = blocked (w.attempt + 1) in
           record {
@@ -210,7 +210,7 @@ module _ (b : Board) (p : Plan) (o j : ℕ) (h g : Hand) (w : OpWord) (free : (v
           }
 
       -- the same word was found, under which the record is right
-      pub found_fresh : (x : ℕ) → p ≡ plan_of b → j < places p o → w.state ≢ Spread → IsRecordSeen (view_of k) o j w x → Looked b o k m w
+      pub found_fresh : (x : ℕ) → p ≡ plan_of b → j < places p o → w.state ≢ Spread → IsRecordSeen (view_of k) o j w x → Looked (call_on b k m) o w
           → IsReadValue (front ++ loaded o w ∷ []) (origin_at p o j) x → ((y : ℕ) → IsSourceSeen (view_of h) (origin_at p o j) y → y ≡ x) → RollDoes p (cap_of b) o (view_of h) (view_of m) j (Fresh x)
       found_fresh x plan below other seen step read known = record {
         words = front ++ loaded o w ∷ [];
@@ -240,11 +240,11 @@ module _ (b : Board) (p : Plan) (o j : ℕ) (h g : Hand) (w : OpWord) (free : (v
 -- ---- before an exchange: the source and the record were loaded, and then the sources that have to be settled
 
 module _ (b : Board) (p : Plan) (o j : ℕ) (h g k m : Hand) (w : OpWord) (kept x : ℕ) (needed : Bool) (free : (view_of h).claim ≡ None)
-    (did : Looked b o h g w) (source_did : SourceDoes b p o j needed g k (Ok x)) (record_did : Recalled b o j k m kept) where
+    (did : Looked (call_on b h g) o w) (source_did : SourceDoes (call_on b g k) p o j needed (Ok x)) (record_did : Recalled (call_on b k m) o j kept) where
   abbrev words_source : List Item
   words_source = source_did.words
 
-  pub walk_source : IsWalk b o g m (source_did.words ++ [])
+  pub walk_source : IsWalk (call_on b g m) o (source_did.words ++ [])
   walk_source = walk_then b o (walk_row b o source_did.row) (walk_recall b o source_did.row.hand record_did)
 
   pub record_rolled : IsRecordSeen (view_of m) o j w kept
@@ -259,8 +259,8 @@ module _ (b : Board) (p : Plan) (o j : ℕ) (h g k m : Hand) (w : OpWord) (kept 
   pub source_known : (y : ℕ) → IsSourceSeen (view_of h) (origin_at p o j) y → y ≡ x
   source_known y seen = source_did.tells.known y (source_seen_more (view_of h) (view_of g) (loaded o w ∷ []) (adds_first b p (cap_of b) o h g w free did).notes (origin_at p o j) y seen)
 
-  module _ {n : Hand} {r : Option Stop} (asked : Bool) (open_did : OpenDoes b p o asked m n r) where
-    pub walk_sources : IsWalk b o g n ((source_did.words ++ []) ++ open_did.words)
+  module _ {n : Hand} {r : Option Stop} (asked : Bool) (open_did : OpenDoes (call_on b m n) p o asked r) where
+    pub walk_sources : IsWalk (call_on b g n) o ((source_did.words ++ []) ++ open_did.words)
     walk_sources = walk_then b o walk_source (walk_row b o open_did.row)
 
     noted_source : (t : Item) → Contains source_did.words t → Contains (view_of n).notes t

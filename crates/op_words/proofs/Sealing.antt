@@ -24,9 +24,9 @@ use Rattle.op_words.specs.Trails.{loaded, left, HasLast, IsDisturbed, IsSourceOf
 use Rattle.op_words.specs.Views.{IsDecisionSeen, Adds, settling}
 use Rattle.op_words.specs.Plays.{Leaves}
 use Rattle.op_words.specs.Judging.{IsStaleWord, SettleDoes}
-use Rattle.op_words.specs.Hands.{plan_of, cap_of, view_of}
+use Rattle.op_words.specs.Hands.{plan_of, cap_of, view_of, call_on}
 use Rattle.op_words.specs.Stepping.{Looked, Left, Learned, IsWalk}
-use Rattle.op_words.specs.Comparing.{IsNotedLast, IsOtherAt, BeginsWithLoad, IsSealed}
+use Rattle.op_words.specs.Comparing.{difference_at, IsNotedLast, IsOtherAt, BeginsWithLoad, IsSealed}
 use Rattle.op_words.proofs.Trailing.{last_later}
 use Rattle.op_words.proofs.Adding.{adds_then, adds_look, along_one, calm_left, free_apart, last_one, none_one}
 use Rattle.op_words.proofs.Making.{last_else, found_disturbed, none_elsewhere, none_then, own_none, own_left}
@@ -78,7 +78,7 @@ module _ (b : Board) (p : Plan) (o : ℕ) (v : View) (h : Hand) (w : OpWord) (op
     );
   }
 
-  module _ {k : Hand} (xs : List Item) (walk : IsWalk b o h k xs) where
+  module _ {k : Hand} (xs : List Item) (walk : IsWalk (call_on b h k) o xs) where
     abbrev front : List Item
     front = loaded o w ∷ xs
 
@@ -120,7 +120,7 @@ module _ (b : Board) (p : Plan) (o : ℕ) (v : View) (h : Hand) (w : OpWord) (op
 
     module _ (m : Hand) where
       -- its word was loaded again, or found by the exchange
-      stopped_after : (z : OpWord) → Looked b o k m z → IsDisturbed o (front ++ loaded o z ∷ []) ⊎ ((verdict p (event_of p o) ≡ true) × IsStaleWord p cap o v (view_of m) (front ++ loaded o z ∷ []) z) → SettleDoes p cap o v (view_of m) (Not o z)
+      stopped_after : (z : OpWord) → Looked (call_on b k m) o z → IsDisturbed o (front ++ loaded o z ∷ []) ⊎ ((verdict p (event_of p o) ≡ true) × IsStaleWord p cap o v (view_of m) (front ++ loaded o z ∷ []) z) → SettleDoes p cap o v (view_of m) (Not o z)
       stopped_after z did cause = record {
         words = front ++ loaded o z ∷ [];
         goes = record {
@@ -143,11 +143,11 @@ module _ (b : Board) (p : Plan) (o : ℕ) (v : View) (h : Hand) (w : OpWord) (op
           none_all : NoneOwn (front ++ loaded o z ∷ [])
           none_all = none_then front (loaded o z ∷ []) none_front (none_one o z)
 
-      pub found_other : (z : OpWord) → z ≢ w → Looked b o k m z → SettleDoes p cap o v (view_of m) (Not o z)
+      pub found_other : (z : OpWord) → z ≢ w → Looked (call_on b k m) o z → SettleDoes p cap o v (view_of m) (Not o z)
       found_other z other did = stopped_after z did (inl (found_disturbed o front w z last_front other))
 
       -- a record differs
-      pub record_differs : p ≡ plan_of b → IsWord w → has_run w.state ≡ true → verdict p (event_of p o) ≡ true → (j kept value : ℕ) → IsOtherAt p o w xs (view_of k) j kept value → (z : OpWord) → Looked b o k m z → SettleDoes p cap o v (view_of m) (Not o z)
+      pub record_differs : p ≡ plan_of b → IsWord w → has_run w.state ≡ true → verdict p (event_of p o) ≡ true → (j kept value : ℕ) → IsOtherAt p o w xs (view_of k) (difference_at j kept value) → (z : OpWord) → Looked (call_on b k m) o z → SettleDoes p cap o v (view_of m) (Not o z)
       record_differs plan is_word ran commits j kept value at z did =
           elim (cases_eq (packed z) (packed w)) [
             | inr other ↦ found_other z (λ same. other (ap packed same)) did
@@ -161,13 +161,13 @@ module _ (b : Board) (p : Plan) (o : ℕ) (v : View) (h : Hand) (w : OpWord) (op
                     value = value;
                     stale =
                         stale_again b p o plan v k m front walk.hand free_front adds_front z did (ap (λ (x : OpWord). has_run x.state) (sym one) ∙ ran) j kept value
-                        (subst (λ (x : OpWord). IsOtherAt p o x xs (view_of k) j kept value) one at) (read_right (loaded o w ∷ []) xs (origin_at p o j) value at.right.read);
+                        (subst (λ (x : OpWord). IsOtherAt p o x xs (view_of k) (difference_at j kept value)) one at) (read_right (loaded o w ∷ []) xs (origin_at p o j) value at.right.read);
                   },
                 ))
           ]
 
       -- it was settled
-      settled_here : p ≡ plan_of b → (z : OpWord) → is_settled z.state ≡ true → z.by ≡ (view_of k).tag → z.attempt ≡ w.attempt → (x : ℕ) → Left b k m (settling o z (view_of k)) (left o z) → x ≡ z.value → z.value ≡ final (plan_of b) o
+      settled_here : p ≡ plan_of b → (z : OpWord) → is_settled z.state ≡ true → z.by ≡ (view_of k).tag → z.attempt ≡ w.attempt → (x : ℕ) → Left (call_on b k m) (settling o z (view_of k)) (left o z) → x ≡ z.value → z.value ≡ final (plan_of b) o
           → SettleDoes p cap o v (view_of m) (Done x)
       settled_here plan z stands by attempt x step value_is fold = record {
         words = front ++ left o z ∷ [];
@@ -195,7 +195,7 @@ module _ (b : Board) (p : Plan) (o : ℕ) (v : View) (h : Hand) (w : OpWord) (op
       }
 
       -- the exchange
-      pub sealed_as : p ≡ plan_of b → (z : OpWord) → is_settled z.state ≡ true → z.by ≡ (view_of k).tag → z.attempt ≡ w.attempt → (r : SettleAnswer) → IsSealed b o k m w z r → SettleDoes p cap o v (view_of m) r
+      pub sealed_as : p ≡ plan_of b → (z : OpWord) → is_settled z.state ≡ true → z.by ≡ (view_of k).tag → z.attempt ≡ w.attempt → (r : SettleAnswer) → IsSealed (call_on b k m) o w z r → SettleDoes p cap o v (view_of m) r
       sealed_as plan z stands by attempt (Done x) is = settled_here plan z stands by attempt x is.tells.0 is.tells.1 is.tells.2
       sealed_as plan z stands by attempt (Not at found) is =
           subst (λ n. SettleDoes p cap o v (view_of m) (Not n found)) (sym is.tells.0) (found_other found is.tells.1 is.tells.2)
@@ -212,7 +212,7 @@ closed_cases Spread is = absurd (false≢true (sym is))
 closed_cases Settled is = inr refl
 closed_cases SettledAborted is = inr refl
 
-module _ (b : Board) (p : Plan) (o : ℕ) (h g : Hand) (w : OpWord) (free : (view_of h).claim ≡ None) (did : Looked b o h g w) where
+module _ (b : Board) (p : Plan) (o : ℕ) (h g : Hand) (w : OpWord) (free : (view_of h).claim ≡ None) (did : Looked (call_on b h g) o w) where
   pub opened_first : BeginsWithLoad p o (view_of h) (view_of g) w
   opened_first = record {
     goes = record {
@@ -224,7 +224,7 @@ module _ (b : Board) (p : Plan) (o : ℕ) (h g : Hand) (w : OpWord) (free : (vie
   }
 
   -- then the decision was loaded
-  module _ (e : ℕ) (k : Hand) (committed : Bool) (learned : Learned b e g k (Some committed)) where
+  module _ (e : ℕ) (k : Hand) (committed : Bool) (learned : Learned (call_on b g k) e (Some committed)) where
     pub opened_then : BeginsWithLoad p o (view_of h) (view_of k) w
     opened_then =
         let walk = walk_learn b o did.hand learned in

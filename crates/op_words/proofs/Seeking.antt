@@ -16,7 +16,7 @@ use Rattle.op_words.specs.declared.trail.View.{View}
 use Rattle.op_words.specs.Trails.{loaded}
 use Rattle.op_words.specs.Views.{IsApart, Adds, looking}
 use Rattle.op_words.specs.Calls.{Elsewhere}
-use Rattle.op_words.specs.Hands.{view_of, IsHandOf}
+use Rattle.op_words.specs.Hands.{view_of, call_on, IsHandOf}
 use Rattle.op_words.specs.Stepping.{Looked, IsRow, SoughtAt, Sought, IsSoughtUpTo}
 use Rattle.op_words.proofs.Rows.{no_more, not_inside, one_inside}
 use Rattle.op_words.proofs.Adding.{adds_none, adds_then, adds_look}
@@ -39,10 +39,10 @@ elsewhere_then o xs ys first second t inside =
 -- ---- rows of loads
 
 module _ (b : Board) (o : ℕ) where
-  pub row_none : (h : Hand) → IsHandOf b h → IsRow b o h h []
+  pub row_none : (h : Hand) → IsHandOf b h → IsRow (call_on b h h) o []
   row_none h is = record { hand = is; adds = adds_none (view_of h) is.told.agree; view = looking-none (view_of h); elsewhere = λ t inside. absurd (not_inside t inside) }
 
-  pub row_then : {h g k : Hand} {xs ys : List Item} → IsRow b o h g xs → IsRow b o g k ys → IsRow b o h k (xs ++ ys)
+  pub row_then : {h g k : Hand} {xs ys : List Item} → IsRow (call_on b h g) o xs → IsRow (call_on b g k) o ys → IsRow (call_on b h k) o (xs ++ ys)
   row_then {h} {g} {k} {xs} {ys} first second = record {
     hand = second.hand;
     adds = adds_then first.adds second.adds;
@@ -51,7 +51,7 @@ module _ (b : Board) (o : ℕ) where
   }
 
   -- one load
-  pub row_look : {h g : Hand} {w : OpWord} (s : ℕ) → s ≢ o → IsApart (view_of h) s → Looked b s h g w → IsRow b o h g (loaded s w ∷ [])
+  pub row_look : {h g : Hand} {w : OpWord} (s : ℕ) → s ≢ o → IsApart (view_of h) s → Looked (call_on b h g) s w → IsRow (call_on b h g) o (loaded s w ∷ [])
   row_look {h} {g} {w} s other apart did = record {
     hand = did.hand;
     adds = subst (λ (u : View). Adds (view_of h) u (loaded s w ∷ [])) (sym did.view) (adds_look s _ (view_of h) w apart did.tells);
@@ -59,7 +59,7 @@ module _ (b : Board) (o : ℕ) where
     elsewhere = λ t inside. let is = one_inside (loaded s w) t inside in (sym (ap (λ (x : Item). x.own) is), λ same. other (ap (λ (x : Item). x.op) is ∙ same));
   }
 
-  pub row_claim : {h g : Hand} {xs : List Item} → IsRow b o h g xs → (view_of g).claim ≡ (view_of h).claim
+  pub row_claim : {h g : Hand} {xs : List Item} → IsRow (call_on b h g) o xs → (view_of g).claim ≡ (view_of h).claim
   row_claim row = ap (λ (v : View). v.claim) row.view
 
 -- a source is another operation, before it
@@ -70,10 +70,10 @@ source_other p o j s valid lt below is =
 -- ---- place by place
 
 module _ (b : Board) (p : Plan) (o : ℕ) where
-  pub seek_none : (h : Hand) → IsHandOf b h → IsSoughtUpTo b p o 0 h h
+  pub seek_none : (h : Hand) → IsHandOf b h → IsSoughtUpTo (call_on b h h) p o 0
   seek_none h is = record { words = []; row = row_none b o h is; values = λ k lt. absurd (omega (arith, lt)) }
 
-  pub seek_more : {h g k : Hand} (j : ℕ) → IsSoughtUpTo b p o j h g → SoughtAt b p o j g k None → IsSoughtUpTo b p o (j + 1) h k
+  pub seek_more : {h g k : Hand} (j : ℕ) → IsSoughtUpTo (call_on b h g) p o j → SoughtAt (call_on b g k) p o j None → IsSoughtUpTo (call_on b h k) p o (j + 1)
   seek_more {h} {g} {k} j far here = record {
     words = far.words ++ here.words;
     row = row_then b o far.row here.row;
@@ -87,7 +87,7 @@ module _ (b : Board) (p : Plan) (o : ℕ) where
         ];
   }
 
-  pub seek_stop : {h g k : Hand} {stop : Stop} (j : ℕ) → j < places p o → IsSoughtUpTo b p o j h g → SoughtAt b p o j g k (Some stop) → Sought b p o h k (Some stop)
+  pub seek_stop : {h g k : Hand} {stop : Stop} (j : ℕ) → j < places p o → IsSoughtUpTo (call_on b h g) p o j → SoughtAt (call_on b g k) p o j (Some stop) → Sought (call_on b h k) p o (Some stop)
   seek_stop {h} {g} {k} {stop} j lt far here = record {
     words = far.words ++ here.words;
     row = row_then b o far.row here.row;
@@ -95,5 +95,5 @@ module _ (b : Board) (p : Plan) (o : ℕ) where
         (record { place = j; in_places = lt; source_is = here.tells.source_is }, Contains-append_right far.words here.words (loaded stop.source stop.word) here.tells.inside, here.tells.idle);
   }
 
-  pub seek_all : {h g : Hand} → IsSoughtUpTo b p o (places p o) h g → Sought b p o h g None
+  pub seek_all : {h g : Hand} → IsSoughtUpTo (call_on b h g) p o (places p o) → Sought (call_on b h g) p o None
   seek_all far = record { words = far.words; row = far.row; tells = λ s source. far.values source.place source.in_places s source.source_is }

@@ -14,7 +14,7 @@ use Rattle.op_words.specs.declared.trail.View.{View}
 use Rattle.op_words.specs.Views.{Holds, fetching}
 use Rattle.op_words.specs.Plays.{Sat, IsTold}
 use Rattle.op_words.specs.Layout.{record_index}
-use Rattle.op_words.specs.Hands.{plan_of, view_of, view_in, held_of, fetched_of, HasHeldValues, IsHandOf}
+use Rattle.op_words.specs.Hands.{plan_of, view_of, view_in, held_of, fetched_of, call_on, HasHeldValues, IsHandOf}
 use Rattle.op_words.specs.Stepping.{IsPlaceKept}
 use Rattle.op_words.proofs.Journaling.{HasNoted}
 use Rattle.op_words.proofs.Handing.{kept, kept_step, still, held_parts}
@@ -45,7 +45,7 @@ module _ (b : Board) (h : Hand) (is : IsHandOf b h) (k : Holding) (some : h.held
   -- with a value more
   pub kept_hand : (g : Hand) (m : Holding) (x : ℕ) → g.seat.table_id ≡ h.seat.table_id → g.seat.me ≡ (Some (fetching (record { op = o; attempt = a; values = xs }) x (view_of h)), h.seat.me.1)
       → IsTold (fetching (record { op = o; attempt = a; values = xs }) x (view_of h)) → g.tag ≡ h.tag → g.made ≡ h.made → g.counts ≡ h.counts → HasNoted h.journal g.journal (Fetch k.op k.count h.tag x) → g.held ≡ Some m
-      → m.op ≡ k.op → m.attempt ≡ k.attempt → fetched_of m ≡ fetched_of k ++ x ∷ [] → HasHeldValues m → IsPlaceKept b o a xs x h g
+      → m.op ≡ k.op → m.attempt ≡ k.attempt → fetched_of m ≡ fetched_of k ++ x ∷ [] → HasHeldValues m → IsPlaceKept (call_on b h g) o a xs x
   kept_hand g m x table me told tag made counts noted held op attempt values fits =
       let u : View = fetching (record { op = o; attempt = a; values = xs }) x (view_of h) in
       let parts = held_parts h k o a xs (kept is) some holds in

@@ -13,7 +13,7 @@ use Rattle.op_words.specs.declared.trail.View.{View}
 use Rattle.op_words.specs.Trails.{loaded, last_word, IsSteadyAt, IsCalmAt}
 use Rattle.op_words.specs.Views.{Agrees, IsApart, IsRecordSeen, IsDecisionSeen, Adds, recalling, learning}
 use Rattle.op_words.specs.Calls.{Elsewhere}
-use Rattle.op_words.specs.Hands.{view_of, IsHandOf}
+use Rattle.op_words.specs.Hands.{view_of, call_on, IsHandOf}
 use Rattle.op_words.specs.Stepping.{Looked, Recalled, Learned, IsRow, IsWalk}
 use Rattle.op_words.proofs.Rows.{no_more, not_inside}
 use Rattle.op_words.proofs.Trailing.{last-none, last-append, last-one, last-skip, along_none}
@@ -53,10 +53,10 @@ learning_claim v i None = (refl, refl)
 learning_claim v i (Some committed) = (refl, refl)
 
 module _ (b : Board) (o : ℕ) where
-  pub walk_none : (h : Hand) → IsHandOf b h → IsWalk b o h h []
+  pub walk_none : (h : Hand) → IsHandOf b h → IsWalk (call_on b h h) o []
   walk_none h is = record { hand = is; adds = adds_none (view_of h) is.told.agree; elsewhere = λ t inside. absurd (not_inside t inside); claim = refl; events = refl }
 
-  pub walk_then : {h g k : Hand} {xs ys : List Item} → IsWalk b o h g xs → IsWalk b o g k ys → IsWalk b o h k (xs ++ ys)
+  pub walk_then : {h g k : Hand} {xs ys : List Item} → IsWalk (call_on b h g) o xs → IsWalk (call_on b g k) o ys → IsWalk (call_on b h k) o (xs ++ ys)
   walk_then {h} {g} {k} {xs} {ys} first second = record {
     hand = second.hand;
     adds = adds_then first.adds second.adds;
@@ -65,13 +65,13 @@ module _ (b : Board) (o : ℕ) where
     events = second.events ∙ first.events;
   }
 
-  pub walk_row : {h g : Hand} {xs : List Item} → IsRow b o h g xs → IsWalk b o h g xs
+  pub walk_row : {h g : Hand} {xs : List Item} → IsRow (call_on b h g) o xs → IsWalk (call_on b h g) o xs
   walk_row row = record { hand = row.hand; adds = row.adds; elsewhere = row.elsewhere; claim = row_claim b o row; events = ap (λ (v : View). v.events) row.view }
 
-  pub walk_look : {h g : Hand} {w : OpWord} (s : ℕ) → s ≢ o → IsApart (view_of h) s → Looked b s h g w → IsWalk b o h g (loaded s w ∷ [])
+  pub walk_look : {h g : Hand} {w : OpWord} (s : ℕ) → s ≢ o → IsApart (view_of h) s → Looked (call_on b h g) s w → IsWalk (call_on b h g) o (loaded s w ∷ [])
   walk_look s other apart did = walk_row (row_look b o s other apart did)
 
-  pub walk_recall : {h g : Hand} {q j x : ℕ} → IsHandOf b h → Recalled b q j h g x → IsWalk b o h g []
+  pub walk_recall : {h g : Hand} {q j x : ℕ} → IsHandOf b h → Recalled (call_on b h g) q j x → IsWalk (call_on b h g) o []
   walk_recall {h} {g} {q} {j} {x} is did = record {
     hand = did.hand;
     adds = subst (λ (u : View). Adds (view_of h) u []) (sym did.view) (adds_recalling (view_of h) q j x is.told.agree);
@@ -80,7 +80,7 @@ module _ (b : Board) (o : ℕ) where
     events = ap (λ (v : View). v.events) did.view;
   }
 
-  pub walk_learn : {h g : Hand} {i : ℕ} {d : Option Bool} → IsHandOf b h → Learned b i h g d → IsWalk b o h g []
+  pub walk_learn : {h g : Hand} {i : ℕ} {d : Option Bool} → IsHandOf b h → Learned (call_on b h g) i d → IsWalk (call_on b h g) o []
   walk_learn {h} {g} {i} {d} is did =
       let same = learning_claim (view_of h) i d in
       record {
@@ -92,7 +92,7 @@ module _ (b : Board) (o : ℕ) where
       }
 
   -- the last word of the operation that was noted stays
-  pub walk_last : {h g : Hand} {xs : List Item} (d w : OpWord) → IsWalk b o h g xs → last_word o d (view_of h).notes ≡ w → last_word o d (view_of g).notes ≡ w
+  pub walk_last : {h g : Hand} {xs : List Item} (d w : OpWord) → IsWalk (call_on b h g) o xs → last_word o d (view_of h).notes ≡ w → last_word o d (view_of g).notes ≡ w
   walk_last {h} {g} {xs} d w walk last =
       ap (last_word o d) walk.adds.notes ∙ last-append o d (view_of h).notes xs ∙ passed (last_word o d (view_of h).notes) xs walk.elsewhere ∙ last
     where
@@ -101,13 +101,13 @@ module _ (b : Board) (o : ℕ) where
       passed d (z ∷ zs) none = last-skip o d z zs (none z (0, omega arith, refl)).1 ∙ passed d zs (λ t inside. none t (suc inside.0, suc-le-suc inside.1, inside.2))
 
 -- the word that was loaded is the last one that was noted; a record that is loaded then stands under it
-pub look_last : (b : Board) (o : ℕ) (h g : Hand) (w d : OpWord) → Looked b o h g w → last_word o d (view_of g).notes ≡ w
+pub look_last : (b : Board) (o : ℕ) (h g : Hand) (w d : OpWord) → Looked (call_on b h g) o w → last_word o d (view_of g).notes ≡ w
 look_last b o h g w d did = ap (λ (v : View). last_word o d v.notes) did.view ∙ last-append o d (view_of h).notes (loaded o w ∷ []) ∙ last-one o (last_word o d (view_of h).notes) (loaded o w) refl
 
-pub recalled_seen : (b : Board) (o j : ℕ) (h g : Hand) (x : ℕ) (w : OpWord) → last_word o (blocked 1) (view_of h).notes ≡ w → Recalled b o j h g x → IsRecordSeen (view_of g) o j w x
+pub recalled_seen : (b : Board) (o j : ℕ) (h g : Hand) (x : ℕ) (w : OpWord) → last_word o (blocked 1) (view_of h).notes ≡ w → Recalled (call_on b h g) o j x → IsRecordSeen (view_of g) o j w x
 recalled_seen b o j h g x w last did =
     subst (λ (v : View). IsRecordSeen v o j w x) (sym did.view)
     (subst (λ (z : OpWord). IsRecordSeen (recalling o j x (view_of h)) o j z x) last (Contains-append_right (view_of h).records _ _ (0, omega arith, refl)))
 
-pub learned_seen : (b : Board) (i : ℕ) (h g : Hand) (committed : Bool) → Learned b i h g (Some committed) → IsDecisionSeen (view_of g) i committed
+pub learned_seen : (b : Board) (i : ℕ) (h g : Hand) (committed : Bool) → Learned (call_on b h g) i (Some committed) → IsDecisionSeen (view_of g) i committed
 learned_seen b i h g committed did = subst (λ (v : View). IsDecisionSeen v i committed) (sym did.view) (Contains-append_right (view_of h).decisions _ _ (0, omega arith, refl))

@@ -25,9 +25,9 @@ use Rattle.op_words.specs.Trails.{loaded, HasLast, IsDisturbed, IsSourceOf, None
 use Rattle.op_words.specs.Views.{IsDecisionSeen, IsSettledSeen, Adds}
 use Rattle.op_words.specs.Calls.{IsSettledRead, Elsewhere}
 use Rattle.op_words.specs.Judging.{decided_as, IsStaleWord, IsOwnUnready, IsJudgedGood, IsDoubtful, IsInDoubt, IsDecided, MayHaveDecided, DecideSteps, DecideTells, DecideDoes}
-use Rattle.op_words.specs.Hands.{plan_of, view_of, IsHandOf}
+use Rattle.op_words.specs.Hands.{cap_of, plan_of, view_of, call_on, IsHandOf}
 use Rattle.op_words.specs.Stepping.{Learned}
-use Rattle.op_words.specs.Comparing.{OfReads, IsJudgedAs, WeighTells, IsWeighed, HasDoubt, GroundsTell, HasFoundGrounds, MaySayOf, IsConcluded}
+use Rattle.op_words.specs.Comparing.{OfReads, IsJudgedAs, WeighTells, IsWeighed, FindsGood, FindsNoFailure, HasDoubt, GroundsTell, HasFoundGrounds, MaySayOf, IsConcluded}
 use Rattle.op_words.proofs.Rows.{not_inside}
 use Rattle.op_words.proofs.Trailing.{last_later, disturbed_later, disturbed_more}
 use Rattle.op_words.proofs.Adding.{adds_none, goes_then}
@@ -144,19 +144,19 @@ good_more p cap o xs {ys} adds elsewhere is =
 -- ---- one operation
 
 module _ (b : Board) (p : Plan) (cap o : ℕ) (h g : Hand) (w : OpWord) where
-  weighed_as : (v : Verdict) (r : Decided) (is : IsJudgedAs b p cap o h g w v) → WeighTells p cap o (view_of h) (view_of g) is.words r → IsWeighed b p cap o h g r
+  weighed_as : (v : Verdict) (r : Decided) (is : IsJudgedAs (call_on b h g) p cap o w v) → WeighTells p cap o (view_of h) (view_of g) is.words r → IsWeighed (call_on b h g) p cap o r
   weighed_as v r is tells = record { hand = is.hand; words = is.words; goes = is.goes; none = is.none; reads = is.reads; first = is.first; rest = is.rest; begins = is.begins; stays = is.stays; tells = tells }
 
-  pub weighed_good : (x : ℕ) → IsJudgedAs b p cap o h g w (Good x) → IsWeighed b p cap o h g Committed
+  pub weighed_good : (x : ℕ) → IsJudgedAs (call_on b h g) p cap o w (Good x) → IsWeighed (call_on b h g) p cap o Committed
   weighed_good x is = weighed_as (Good x) Committed is (x, is.tells)
 
-  pub weighed_bad : IsJudgedAs b p cap o h g w Bad → IsWeighed b p cap o h g Aborted
+  pub weighed_bad : IsJudgedAs (call_on b h g) p cap o w Bad → IsWeighed (call_on b h g) p cap o Aborted
   weighed_bad is = weighed_as Bad Aborted is (record { sources = λ j below. (_, is.tells.judged.sources j below); answer_is = is.tells.answer })
 
-  pub weighed_stale : (j kept value : ℕ) → IsJudgedAs b p cap o h g w (Stale j kept value) → IsWeighed b p cap o h g (Undecided o w)
+  pub weighed_stale : (j kept value : ℕ) → IsJudgedAs (call_on b h g) p cap o w (Stale j kept value) → IsWeighed (call_on b h g) p cap o (Undecided o w)
   weighed_stale j kept value is = weighed_as (Stale j kept value) (Undecided o w) is (inl (refl, inr (record { place = j; kept = kept; value = value; stale = is.stale j kept value refl })))
 
-  pub weighed_unready : (at : ℕ) (z : OpWord) → IsJudgedAs b p cap o h g w (Unready at z) → IsWeighed b p cap o h g (Undecided at z)
+  pub weighed_unready : (at : ℕ) (z : OpWord) → IsJudgedAs (call_on b h g) p cap o w (Unready at z) → IsWeighed (call_on b h g) p cap o (Undecided at z)
   weighed_unready at z is =
       weighed_as (Unready at z) (Undecided at z) is
       (elim is.tells [
@@ -180,19 +180,20 @@ apart_reads p i o n ys valid lt mine other apart none reads t inside = (none t i
         let two = here.1 in let three = home.1 in
         omega (arith, before, one, two, three)
 
-module _ (b : Board) (p : Plan) (cap i start : ℕ) (valid : IsPlan p) (lt : i < event_count p) (first_is : (event_at p i).first ≤ start) where
-  pub grounds_none : (h : Hand) → IsHandOf b h → (view_of h).claim ≡ None → HasFoundGrounds b p cap i start start h h Committed
-  grounds_none h is free = record {
+module _ (b : Board) (p : Plan) (i : ℕ) (valid : IsPlan p) (lt : i < event_count p) where
+  pub grounds_none : (start : ℕ) → start ≡ (event_at p i).first → (h : Hand) → IsHandOf b h → (view_of h).claim ≡ None
+      → HasFoundGrounds (call_on b h h) p i start Committed
+  grounds_none start first_is h is free = record {
     hand = is;
     words = [];
     goes = record { adds = adds_none (view_of h) is.told.agree; free = free };
     none = λ t inside. absurd (not_inside t inside);
     stays = refl;
-    tells = λ o low high. absurd (omega (arith, low, high));
+    tells = λ o inside high. absurd (let low = inside.from in omega (arith, low, high, first_is));
   }
 
-  module _ {h g k : Hand} (n : ℕ) (within : InEvent p i n) (far : Decided) (next : Decided) (all : HasFoundGrounds b p cap i start n h g far) (here : IsWeighed b p cap n g k next) where
-    grounds_with : (r : Decided) → GroundsTell p cap i start (n + 1) (view_of h) (view_of k) (all.words ++ here.words) r → HasFoundGrounds b p cap i start (n + 1) h k r
+  module _ {h g k : Hand} (n : ℕ) (within : InEvent p i n) (far : Decided) (next : Decided) (all : HasFoundGrounds (call_on b h g) p i n far) (here : IsWeighed (call_on b g k) p (cap_of b) n next) where
+    grounds_with : (r : Decided) → GroundsTell (call_on b h k) p i (n + 1) (all.words ++ here.words) r → HasFoundGrounds (call_on b h k) p i (n + 1) r
     grounds_with r tells = record { hand = here.hand; words = all.words ++ here.words; goes = goes_then all.goes here.goes; none = none_then all.words here.words all.none here.none; stays = here.stays ∙ all.stays; tells = tells }
 
     -- the operation is not loaded while another one of the event is judged
@@ -200,10 +201,10 @@ module _ (b : Board) (p : Plan) (cap i start : ℕ) (valid : IsPlan p) (lt : i <
     apart_from o inside less = apart_reads p i o n here.words valid lt inside within (λ same. omega (arith, same, less)) here.none here.reads
 
     -- the doubt about another operation of the event stays
-    doubt_stays : (o : ℕ) → InEvent p i o → o < n → (at : ℕ) (w : OpWord) → IsDoubtful p cap o (view_of h) (view_of g) all.words at w → IsDoubtful p cap o (view_of h) (view_of k) (all.words ++ here.words) at w
-    doubt_stays o inside less at w is = doubt_wider p cap o (wider_more o all.words here.goes.adds (apart_from o inside less)) at w is
+    doubt_stays : (o : ℕ) → InEvent p i o → o < n → (at : ℕ) (w : OpWord) → IsDoubtful p (cap_of b) o (view_of h) (view_of g) all.words at w → IsDoubtful p (cap_of b) o (view_of h) (view_of k) (all.words ++ here.words) at w
+    doubt_stays o inside less at w is = doubt_wider p (cap_of b) o (wider_more o all.words here.goes.adds (apart_from o inside less)) at w is
 
-    in_doubt_stays : (o : ℕ) → InEvent p i o → o < n → IsInDoubt p cap o (view_of h) (view_of g) all.words → IsInDoubt p cap o (view_of h) (view_of k) (all.words ++ here.words)
+    in_doubt_stays : (o : ℕ) → InEvent p i o → o < n → IsInDoubt p (cap_of b) o (view_of h) (view_of g) all.words → IsInDoubt p (cap_of b) o (view_of h) (view_of k) (all.words ++ here.words)
     in_doubt_stays o inside less is = record {
       front = is.front;
       first = is.first;
@@ -211,20 +212,16 @@ module _ (b : Board) (p : Plan) (cap i start : ℕ) (valid : IsPlan p) (lt : i <
       split = ap (λ zs. zs ++ here.words) is.split ∙ append_assoc is.front (loaded o is.first ∷ is.rest) here.words;
       at = is.at;
       word = is.word;
-      doubt = doubt_wider p cap o (wider_more o (loaded o is.first ∷ is.rest) here.goes.adds (apart_from o inside less)) is.at is.word is.doubt;
+      doubt = doubt_wider p (cap_of b) o (wider_more o (loaded o is.first ∷ is.rest) here.goes.adds (apart_from o inside less)) is.at is.word is.doubt;
     }
 
-    good_stays : (o : ℕ) → InEvent p i o → o < n → IsJudgedGood p cap o (view_of h) (view_of g) all.words → IsJudgedGood p cap o (view_of h) (view_of k) (all.words ++ here.words)
-    good_stays o inside less is = good_more p cap o all.words here.goes.adds (apart_from o inside less) is
-
-    -- the operations before the one that is judged are of the event
-    of_event : (o : ℕ) → start ≤ o → o < n → InEvent p i o
-    of_event o low less = record { from = omega (arith, low, first_is); below = let high = within.below in omega (arith, high, less) }
+    good_stays : (o : ℕ) → InEvent p i o → o < n → FindsGood (call_on b h g) p all.words o → FindsGood (call_on b h k) p (all.words ++ here.words) o
+    good_stays o inside less is = good_more p (cap_of b) o all.words here.goes.adds (apart_from o inside less) is
 
     -- the operation itself, where it is not bad
-    weighed_now : (c : Decided) → (c ≡ Aborted → ⊥) → WeighTells p cap n (view_of g) (view_of k) here.words c
-        → IsJudgedGood p cap n (view_of h) (view_of k) (all.words ++ here.words) ⊎ IsInDoubt p cap n (view_of h) (view_of k) (all.words ++ here.words)
-    weighed_now Committed fine now = inl (good_later p cap n all.words now)
+    weighed_now : (c : Decided) → (c ≡ Aborted → ⊥) → WeighTells p (cap_of b) n (view_of g) (view_of k) here.words c
+        → FindsNoFailure (call_on b h k) p (all.words ++ here.words) n
+    weighed_now Committed fine now = inl (good_later p (cap_of b) n all.words now)
     weighed_now (Undecided at w) fine now =
         inr (record {
           front = all.words;
@@ -233,72 +230,71 @@ module _ (b : Board) (p : Plan) (cap i start : ℕ) (valid : IsPlan p) (lt : i <
           split = ap (λ zs. all.words ++ zs) here.begins;
           at = at;
           word = w;
-          doubt = subst (λ zs. IsDoubtful p cap n (view_of h) (view_of k) zs at w) here.begins (doubt_wider p cap n (wider_before n here.words all.goes.adds) at w now);
+          doubt = subst (λ zs. IsDoubtful p (cap_of b) n (view_of h) (view_of k) zs at w) here.begins (doubt_wider p (cap_of b) n (wider_before n here.words all.goes.adds) at w now);
         })
     weighed_now Aborted fine now = absurd (fine refl)
 
-    more_doubt : (at : ℕ) (w : OpWord) (c : Decided) → (c ≡ Aborted → ⊥) → HasDoubt p cap i start n (view_of h) (view_of g) all.words at w → WeighTells p cap n (view_of g) (view_of k) here.words c
-        → HasDoubt p cap i start (n + 1) (view_of h) (view_of k) (all.words ++ here.words) at w
+    more_doubt : (at : ℕ) (w : OpWord) (c : Decided) → (c ≡ Aborted → ⊥) → HasDoubt (call_on b h g) p i n all.words (record { source = at; word = w }) → WeighTells p (cap_of b) n (view_of g) (view_of k) here.words c
+        → HasDoubt (call_on b h k) p i (n + 1) (all.words ++ here.words) (record { source = at; word = w })
     more_doubt at w c fine is now = record {
       culprit = is.culprit;
       inside = is.inside;
       below = let less = is.below in omega (arith, less);
       doubt = doubt_stays is.culprit is.inside is.below at w is.doubt;
-      before = λ o low less. let lower : o < n = let high = is.below in omega (arith, high, less) in good_stays o (of_event o low lower) lower (is.before o low less);
-      behind = λ o more less.
+      before = λ o inside less. let lower : o < n = let high = is.below in omega (arith, high, less) in good_stays o inside lower (is.before o inside less);
+      behind = λ o inside more less.
           elim (cases_lt o n) [
             | inl lower ↦
-                let inside : InEvent p i o = record { from = let low = is.inside.from in omega (arith, low, more); below = let high = within.below in omega (arith, high, lower) } in
-                elim (is.behind o more lower) [
+                elim (is.behind o inside more lower) [
                   | inl good ↦ inl (good_stays o inside lower good)
                   | inr doubt ↦ inr (in_doubt_stays o inside lower doubt)
                 ]
             | inr same ↦
                 let here_is : n ≡ o = omega (arith, same, less) in
-                subst (λ q. IsJudgedGood p cap q (view_of h) (view_of k) (all.words ++ here.words) ⊎ IsInDoubt p cap q (view_of h) (view_of k) (all.words ++ here.words)) here_is (weighed_now c fine now)
+                subst (FindsNoFailure (call_on b h k) p (all.words ++ here.words)) here_is (weighed_now c fine now)
           ];
     }
 
-    tells_more : (a c : Decided) → (c ≡ Aborted → ⊥) → GroundsTell p cap i start n (view_of h) (view_of g) all.words a → WeighTells p cap n (view_of g) (view_of k) here.words c → (r : Decided)
-        → (a ≡ Aborted → ⊥) → (a ≡ Committed → r ≡ c) → ((a ≡ Committed → ⊥) → r ≡ a) → GroundsTell p cap i start (n + 1) (view_of h) (view_of k) (all.words ++ here.words) r
+    tells_more : (a c : Decided) → (c ≡ Aborted → ⊥) → GroundsTell (call_on b h g) p i n all.words a → WeighTells p (cap_of b) n (view_of g) (view_of k) here.words c → (r : Decided)
+        → (a ≡ Aborted → ⊥) → (a ≡ Committed → r ≡ c) → ((a ≡ Committed → ⊥) → r ≡ a) → GroundsTell (call_on b h k) p i (n + 1) (all.words ++ here.words) r
     tells_more Committed Committed fine before now r not_bad first doubt =
-        subst (GroundsTell p cap i start (n + 1) (view_of h) (view_of k) (all.words ++ here.words)) (sym (first refl))
-        (λ o low high.
+        subst (GroundsTell (call_on b h k) p i (n + 1) (all.words ++ here.words)) (sym (first refl))
+        (λ o inside high.
         elim (cases_lt o n) [
-          | inl less ↦ good_stays o (of_event o low less) less (before o low less)
+          | inl less ↦ good_stays o inside less (before o inside less)
           | inr more ↦
               let same : n ≡ o = omega (arith, more, high) in
-              subst (λ q. IsJudgedGood p cap q (view_of h) (view_of k) (all.words ++ here.words)) same (good_later p cap n all.words now)
+              subst (FindsGood (call_on b h k) p (all.words ++ here.words)) same (good_later p (cap_of b) n all.words now)
         ])
     tells_more Committed (Undecided at w) fine before now r not_bad first doubt =
-        subst (GroundsTell p cap i start (n + 1) (view_of h) (view_of k) (all.words ++ here.words)) (sym (first refl))
+        subst (GroundsTell (call_on b h k) p i (n + 1) (all.words ++ here.words)) (sym (first refl))
         (record {
           culprit = n;
           inside = within;
           below = omega arith;
-          doubt = doubt_wider p cap n (wider_later n here.words all.goes.adds) at w now;
-          before = λ o low less. good_stays o (of_event o low less) less (before o low less);
-          behind = λ o more less. absurd (omega (arith, more, less));
+          doubt = doubt_wider p (cap_of b) n (wider_later n here.words all.goes.adds) at w now;
+          before = λ o inside less. good_stays o inside less (before o inside less);
+          behind = λ o inside more less. absurd (omega (arith, more, less));
         })
     tells_more Committed Aborted fine before now r not_bad first doubt = absurd (fine refl)
     tells_more Aborted c fine before now r not_bad first doubt = absurd (not_bad refl)
     tells_more (Undecided at w) c fine before now r not_bad first doubt =
-        subst (GroundsTell p cap i start (n + 1) (view_of h) (view_of k) (all.words ++ here.words)) (sym (doubt (λ same. apart same))) (more_doubt at w c fine before now)
+        subst (GroundsTell (call_on b h k) p i (n + 1) (all.words ++ here.words)) (sym (doubt (λ same. apart same))) (more_doubt at w c fine before now)
       where
         apart : Undecided at w ≡ Committed → ⊥
         apart same = cc
 
-    pub grounds_more : (far ≡ Aborted → ⊥) → (next ≡ Aborted → ⊥) → (r : Decided) → (far ≡ Committed → r ≡ next) → ((far ≡ Committed → ⊥) → r ≡ far) → HasFoundGrounds b p cap i start (n + 1) h k r
+    pub grounds_more : (far ≡ Aborted → ⊥) → (next ≡ Aborted → ⊥) → (r : Decided) → (far ≡ Committed → r ≡ next) → ((far ≡ Committed → ⊥) → r ≡ far) → HasFoundGrounds (call_on b h k) p i (n + 1) r
     grounds_more fine good r first doubt = grounds_with r (tells_more far next good all.tells here.tells r fine first doubt)
 
-    pub grounds_bad : next ≡ Aborted → (end : ℕ) → HasFoundGrounds b p cap i start end h k next
+    pub grounds_bad : next ≡ Aborted → (end : ℕ) → HasFoundGrounds (call_on b h k) p i end next
     grounds_bad bad end = record {
       hand = here.hand;
       words = all.words ++ here.words;
       goes = goes_then all.goes here.goes;
       none = none_then all.words here.words all.none here.none;
       stays = here.stays ∙ all.stays;
-      tells = subst (GroundsTell p cap i start end (view_of h) (view_of k) (all.words ++ here.words)) (sym bad) (n, within, subst (WeighTells p cap n (view_of g) (view_of k) here.words) bad here.tells);
+      tells = subst (GroundsTell (call_on b h k) p i end (all.words ++ here.words)) (sym bad) (n, within, subst (WeighTells p (cap_of b) n (view_of g) (view_of k) here.words) bad here.tells);
     }
 
 -- neither of the answers that go on is the one that stops
@@ -323,7 +319,7 @@ decide_steps i v u false is = is
 decide_later : (i : ℕ) (committed : Bool) (v n u : View) → n.events ≡ v.events → MayHaveDecided i committed n u → MayHaveDecided i committed v u
 decide_later i committed v n u stays is = elim is [ inl same ↦ inl (same ∙ stays) | inr more ↦ inr (more ∙ ap (λ (es : List CoreEvent). Decide i committed ∷ es) stays) ]
 
-module _ (b : Board) (p : Plan) (cap i : ℕ) (plan : p ≡ plan_of b) (h g : Hand) (learned : Learned b i h g None) (is : IsHandOf b h) where
+module _ (b : Board) (p : Plan) (i : ℕ) (plan : p ≡ plan_of b) (h g : Hand) (learned : Learned (call_on b h g) i None) (is : IsHandOf b h) where
   view_same : view_of g ≡ view_of h
   view_same = learned.view
 
@@ -332,9 +328,9 @@ module _ (b : Board) (p : Plan) (cap i : ℕ) (plan : p ≡ plan_of b) (h g : Ha
 
   module _ (k : Hand) where
     -- it is not decided, and an operation is in doubt
-    pub undecided : (at : ℕ) (w : OpWord) → HasFoundGrounds b p cap i (event_at p i).first ((event_at p i).first + (event_at p i).count) g k (Undecided at w)
-        → DecideDoes p cap i (view_of h) (view_of k) (Undecided at w)
-    undecided at w all = subst (λ (v : View). DecideDoes p cap i v (view_of k) (Undecided at w)) view_same (record {
+    pub undecided : (at : ℕ) (w : OpWord) → HasFoundGrounds (call_on b g k) p i ((event_at p i).first + (event_at p i).count) (Undecided at w)
+        → DecideDoes p (cap_of b) i (view_of h) (view_of k) (Undecided at w)
+    undecided at w all = subst (λ (v : View). DecideDoes p (cap_of b) i v (view_of k) (Undecided at w)) view_same (record {
       words = all.words;
       goes = all.goes;
       none = all.none;
@@ -345,16 +341,16 @@ module _ (b : Board) (p : Plan) (cap i : ℕ) (plan : p ≡ plan_of b) (h g : Ha
         undecided = λ committed seen. none_known committed (learned.tells.known committed (subst (λ (v : View). IsDecisionSeen v i committed) view_same seen));
         none_settled = λ o inside seen. learned.tells.none_settled refl o (subst (λ (q : Plan). InEvent q i o) plan inside) (subst (λ (v : View). IsSettledSeen v o) view_same seen);
         cause = all.tells.doubt;
-        before = λ o inside less. all.tells.before o inside.from less;
-        behind = λ o inside more. all.tells.behind o more inside.below;
+        before = all.tells.before;
+        behind = λ o inside more. all.tells.behind o inside more inside.below;
       };
     })
 
-  module _ (k : Hand) (start end : ℕ) where
+  module _ (k : Hand) (end : ℕ) where
     -- a decision was made, or found
     module _ (m : Hand) where
-      pub decided_now : (committed : Bool) (r : Decided) → HasFoundGrounds b p cap i start end g k r → IsConcluded b p i k m committed → DecideDoes p cap i (view_of h) (view_of m) (decided_as committed)
-      decided_now committed r all stands = subst (λ (v : View). DecideDoes p cap i v (view_of m) (decided_as committed)) view_same (record {
+      pub decided_now : (committed : Bool) (r : Decided) → HasFoundGrounds (call_on b g k) p i end r → IsConcluded (call_on b k m) p i committed → DecideDoes p (cap_of b) i (view_of h) (view_of m) (decided_as committed)
+      decided_now committed r all stands = subst (λ (v : View). DecideDoes p (cap_of b) i v (view_of m) (decided_as committed)) view_same (record {
         words = all.words ++ [];
         goes = goes_then all.goes stands.goes;
         none = none_then all.words [] all.none (λ t inside. absurd (not_inside t inside));
@@ -363,7 +359,7 @@ module _ (b : Board) (p : Plan) (cap i : ℕ) (plan : p ≡ plan_of b) (h g : Ha
       })
 
 -- the decision was there
-pub decided_before : (b : Board) (p : Plan) (cap i : ℕ) (h g : Hand) (committed : Bool) → p ≡ plan_of b → IsHandOf b h → (view_of h).claim ≡ None → Learned b i h g (Some committed)
+pub decided_before : (b : Board) (p : Plan) (cap i : ℕ) (h g : Hand) (committed : Bool) → p ≡ plan_of b → IsHandOf b h → (view_of h).claim ≡ None → Learned (call_on b h g) i (Some committed)
     → DecideDoes p cap i (view_of h) (view_of g) (decided_as committed)
 decided_before b p cap i h g committed plan is free did =
     let walk = walk_learn b 0 is did in
@@ -376,11 +372,11 @@ decided_before b p cap i h g committed plan is free did =
     }
 
 -- what the grounds say
-pub may_say : (b : Board) (p : Plan) (cap i : ℕ) (g k : Hand) (r : Decided) (committed : Bool) → r ≡ decided_as committed → HasFoundGrounds b p cap i (event_at p i).first ((event_at p i).first + (event_at p i).count) g k r → MaySayOf p (view_of k) i committed
-may_say b p cap i g k r true same all = λ o inside.
-    let good = (subst (GroundsTell p cap i (event_at p i).first ((event_at p i).first + (event_at p i).count) (view_of g) (view_of k) all.words) same all.tells) o inside.from inside.below in
+pub may_say : (b : Board) (p : Plan) (i : ℕ) (g k : Hand) (r : Decided) (committed : Bool) → r ≡ decided_as committed → HasFoundGrounds (call_on b g k) p i ((event_at p i).first + (event_at p i).count) r → MaySayOf p (view_of k) i committed
+may_say b p i g k r true same all = λ o inside.
+    let good = (subst (GroundsTell (call_on b g k) p i ((event_at p i).first + (event_at p i).count) all.words) same all.tells) o inside inside.below in
     (good.0, record { sources = λ j below. (_, good.1.judged.sources j below); answer_is = good.1.answer })
-may_say b p cap i g k r false same all = subst (GroundsTell p cap i (event_at p i).first ((event_at p i).first + (event_at p i).count) (view_of g) (view_of k) all.words) same all.tells
+may_say b p i g k r false same all = subst (GroundsTell (call_on b g k) p i ((event_at p i).first + (event_at p i).count) all.words) same all.tells
 
 pub within_event : (p : Plan) (i : ℕ) (e : PlanEvent) (o : ℕ) → e ≡ event_at p i → e.first ≤ o → o < e.first + e.count → InEvent p i o
 within_event p i e o same low high = subst (λ (x : PlanEvent). IsWithin x.first x.count o) same (record { from = low; below = high })

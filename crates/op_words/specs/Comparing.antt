@@ -1,6 +1,6 @@
 -- Inside the crate: records of an operation beside its settled sources, and what a hand has to have seen to decide and
 -- settle
-use Rattle.std.specs.Prelude.{◌≡◌, ◌≢◌, ℕ, ◌≤◌, ◌<◌, ◌⊎◌, Bool, true, false, List, [], ◌∷◌, Contains, None, Result, Ok, Err}
+use Rattle.std.specs.Prelude.{◌≡◌, ◌≢◌, ℕ, ◌<◌, ◌⊎◌, Bool, true, false, List, [], ◌∷◌, Contains, None, Result, Ok, Err}
 use Rattle.morph_base.specs.declared.plan.Plan.{Plan}
 use Rattle.morph_base.specs.declared.plan.Origin.TheVariants.{Op as Written}
 use Rattle.morph_base.specs.declared.word.OpState.TheVariants.{Executed}
@@ -18,15 +18,13 @@ use Rattle.op_words.specs.declared.answers.SettleAnswer.{SettleAnswer}
 use Rattle.op_words.specs.declared.answers.SettleAnswer.TheVariants.{Done as HasSettledIt, Not as Unsettled}
 use Rattle.op_words.specs.declared.answers.Verdict.{Verdict}
 use Rattle.op_words.specs.declared.answers.Verdict.TheVariants.{Stale, Unready}
-use Rattle.op_words.specs.declared.board.Board.{Board}
-use Rattle.op_words.specs.declared.board.Hand.{Hand}
 use Rattle.op_words.specs.declared.trail.Item.{Item}
 use Rattle.op_words.specs.declared.trail.View.{View}
 use Rattle.op_words.specs.Trails.{loaded, left, last_word, IsSourceOf, OfSources, NoneOwn}
 use Rattle.op_words.specs.Views.{IsDecisionSeen, IsRecordSeen, IsSourceSeen, AddsAndFrees, settling}
 use Rattle.op_words.specs.Calls.{IsSettledRead}
 use Rattle.op_words.specs.Judging.{MayHaveDecided, IsStaleAt, VerdictTells, IsAnswerSeen, IsGoodSeen, IsJudgedGood, IsDoubtful, IsInDoubt}
-use Rattle.op_words.specs.Hands.{plan_of, view_of, IsHandOf}
+use Rattle.op_words.specs.Hands.{cap_of, plan_of, view_of, HandCall, IsHandOf}
 use Rattle.op_words.specs.Stepping.{Looked, Left, IsWalk}
 
 -- All words in xs are of operation o or of sources of it
@@ -53,23 +51,33 @@ SettledTells p o j xs u (Ok x) = IsSourceRight p o j xs u x
 SettledTells p o j xs u (Err stop) = IsOpenAt p o j xs stop
 
 -- The source of operation o at place j was loaded, and this is the answer
-pub record IsLoadedAt (b : Board) (p : Plan) (o j : ℕ) (h g : Hand) (r : Result ℕ Stop) : Type 0 where
+pub record IsLoadedAt (c : HandCall) (p : Plan) (o j : ℕ) (r : Result ℕ Stop) : Type 0 where
   pub words : List Item
-  pub walk : IsWalk b o h g words
+  pub walk : IsWalk c o words
   pub sources : OfSources p o words
-  pub tells : SettledTells p o j words (view_of g) r
+  pub tells : SettledTells p o j words (view_of c.after) r
 
 -- Under word w of operation o, the record at place j is the fold's value of its source, which is settled
 pub record IsEqualAt (p : Plan) (o : ℕ) (w : OpWord) (u : View) (j : ℕ) : Type 0 where
   pub seen : IsSourceSeen u (origin_at p o j) (source p (final p) o j)
   pub recorded : IsRecordSeen u o j w (source p (final p) o j)
 
--- Under word w of operation o, the record at place j has the value `kept`, which is not that of its settled source
-pub record IsOtherAt (p : Plan) (o : ℕ) (w : OpWord) (xs : List Item) (u : View) (j kept value : ℕ) : Type 0 where
-  pub in_places : j < places p o
-  pub right : IsSourceRight p o j xs u value
-  pub recorded : IsRecordSeen u o j w kept
-  pub differs : kept ≢ value
+-- A place, the value that its record has, and that of its source
+pub record Difference : Type 0 where
+  pub place : ℕ
+  pub kept : ℕ
+  pub value : ℕ
+
+-- The difference at a place
+abbrev pub difference_at : (place kept value : ℕ) → Difference
+difference_at place kept value = record { place = place; kept = kept; value = value }
+
+-- Under word w of operation o, the record at a place has another value than its settled source
+pub record IsOtherAt (p : Plan) (o : ℕ) (w : OpWord) (xs : List Item) (u : View) (d : Difference) : Type 0 where
+  pub in_places : d.place < places p o
+  pub right : IsSourceRight p o d.place xs u d.value
+  pub recorded : IsRecordSeen u o d.place w d.kept
+  pub differs : d.kept ≢ d.value
 
 -- The word w of operation o is the one that was noted last
 abbrev pub IsNotedLast : ℕ → View → OpWord → Type 0
@@ -80,23 +88,23 @@ IsNotedLast o v w = last_word o (blocked 1) v.notes ≡ w
 abbrev pub PlaceIsCompared : Plan → ℕ → OpWord → ℕ → List Item → View → Compared → Type 0
 PlaceIsCompared p o w j xs u Equal = IsEqualAt p o w u j
 PlaceIsCompared p o w j xs u (Open stop) = IsOpenAt p o j xs stop
-PlaceIsCompared p o w j xs u (Differs k kept value) = IsOtherAt p o w xs u k kept value
+PlaceIsCompared p o w j xs u (Differs k kept value) = IsOtherAt p o w xs u (difference_at k kept value)
 
 -- The record of operation o at place j was compared with its source, and this is the answer
-pub record IsComparedAt (b : Board) (p : Plan) (o j : ℕ) (h g : Hand) (r : Compared) : Type 0 where
+pub record IsComparedAt (c : HandCall) (p : Plan) (o j : ℕ) (r : Compared) : Type 0 where
   pub words : List Item
-  pub walk : IsWalk b o h g words
+  pub walk : IsWalk c o words
   pub sources : OfSources p o words
-  pub tells : (w : OpWord) → IsNotedLast o (view_of h) w → PlaceIsCompared p o w j words (view_of g) r
+  pub tells : (w : OpWord) → IsNotedLast o (view_of c.before) w → PlaceIsCompared p o w j words (view_of c.after) r
 
 -- ---- all places
 
 -- The records of operation o at the places before j are equal to their sources
-pub record IsComparedUpTo (b : Board) (p : Plan) (o j : ℕ) (h g : Hand) : Type 0 where
+pub record IsComparedUpTo (c : HandCall) (p : Plan) (o j : ℕ) : Type 0 where
   pub words : List Item
-  pub walk : IsWalk b o h g words
+  pub walk : IsWalk c o words
   pub sources : OfSources p o words
-  pub equal : (w : OpWord) → IsNotedLast o (view_of h) w → (k : ℕ) → k < j → IsEqualAt p o w (view_of g) k
+  pub equal : (w : OpWord) → IsNotedLast o (view_of c.before) w → (k : ℕ) → k < j → IsEqualAt p o w (view_of c.after) k
 
 -- A source of operation o was loaded, and is not settled
 pub record IsStoppedAt (p : Plan) (o : ℕ) (xs : List Item) (stop : Stop) : Type 0 where
@@ -109,40 +117,40 @@ pub record IsStoppedAt (p : Plan) (o : ℕ) (xs : List Item) (stop : Stop) : Typ
 abbrev pub AllTells : Plan → ℕ → OpWord → List Item → View → Compared → Type 0
 AllTells p o w xs u Equal = (j : ℕ) → j < places p o → IsEqualAt p o w u j
 AllTells p o w xs u (Open stop) = IsStoppedAt p o xs stop
-AllTells p o w xs u (Differs j kept value) = IsOtherAt p o w xs u j kept value
+AllTells p o w xs u (Differs j kept value) = IsOtherAt p o w xs u (difference_at j kept value)
 
 -- The records of operation o were compared with their sources, and this is the answer
-pub record IsCompared (b : Board) (p : Plan) (o : ℕ) (h g : Hand) (r : Compared) : Type 0 where
+pub record IsCompared (c : HandCall) (p : Plan) (o : ℕ) (r : Compared) : Type 0 where
   pub words : List Item
-  pub walk : IsWalk b o h g words
+  pub walk : IsWalk c o words
   pub sources : OfSources p o words
-  pub tells : (w : OpWord) → IsNotedLast o (view_of h) w → AllTells p o w words (view_of g) r
+  pub tells : (w : OpWord) → IsNotedLast o (view_of c.before) w → AllTells p o w words (view_of c.after) r
 
 -- ---- the word again
 
 -- Operation o was loaded again, with word w. If this is the first word, the verdict stays; else o is not ready to be
 -- judged
-pub record IsConfirmed (b : Board) (o : ℕ) (h g : Hand) (first : OpWord) (verdict : Verdict) (w : OpWord) (r : Verdict) : Type 0 where
-  pub looked : Looked b o h g w
+pub record IsConfirmed (c : HandCall) (o : ℕ) (first : OpWord) (verdict : Verdict) (w : OpWord) (r : Verdict) : Type 0 where
+  pub looked : Looked c o w
   pub tells : ((w ≡ first) × (r ≡ verdict)) ⊎ ((w ≢ first) × (r ≡ Unready o w))
 
 -- ---- a verdict, with the word that it is about
 
 -- Operation o was judged with the answer r. The call loads o first, and then only o and its sources. A stale answer is
 -- about this word w
-pub record IsJudgedAs (b : Board) (p : Plan) (cap o : ℕ) (h g : Hand) (w : OpWord) (r : Verdict) : Type 0 where
-  pub hand : IsHandOf b g
+pub record IsJudgedAs (c : HandCall) (p : Plan) (cap o : ℕ) (w : OpWord) (r : Verdict) : Type 0 where
+  pub hand : IsHandOf c.board c.after
   pub words : List Item
-  pub goes : AddsAndFrees (view_of h) (view_of g) words
+  pub goes : AddsAndFrees (view_of c.before) (view_of c.after) words
   pub none : NoneOwn words
   pub reads : OfReads p o words
   pub first : OpWord
   pub rest : List Item
   pub begins : words ≡ loaded o first ∷ rest
-  pub stays : (view_of g).events ≡ (view_of h).events
-  pub tells : VerdictTells p cap o (view_of h) (view_of g) words r
+  pub stays : (view_of c.after).events ≡ (view_of c.before).events
+  pub tells : VerdictTells p cap o (view_of c.before) (view_of c.after) words r
   pub stale :
-      (j kept value : ℕ) → r ≡ Stale j kept value → IsStaleAt p cap o (view_of h) (view_of g) words w j kept value
+      (j kept value : ℕ) → r ≡ Stale j kept value → IsStaleAt p cap o (view_of c.before) (view_of c.after) words w j kept value
 
 -- ---- what the operations of an event say of it
 
@@ -154,42 +162,51 @@ WeighTells p cap o v u xs (Undecided at w) = IsDoubtful p cap o v u xs at w
 
 -- Operation o was judged, and the answer is what it says of its event. The call loads o first, and then only o and its
 -- sources
-pub record IsWeighed (b : Board) (p : Plan) (cap o : ℕ) (h g : Hand) (r : Decided) : Type 0 where
-  pub hand : IsHandOf b g
+pub record IsWeighed (c : HandCall) (p : Plan) (cap o : ℕ) (r : Decided) : Type 0 where
+  pub hand : IsHandOf c.board c.after
   pub words : List Item
-  pub goes : AddsAndFrees (view_of h) (view_of g) words
+  pub goes : AddsAndFrees (view_of c.before) (view_of c.after) words
   pub none : NoneOwn words
   pub reads : OfReads p o words
   pub first : OpWord
   pub rest : List Item
   pub begins : words ≡ loaded o first ∷ rest
-  pub stays : (view_of g).events ≡ (view_of h).events
-  pub tells : WeighTells p cap o (view_of h) (view_of g) words r
+  pub stays : (view_of c.after).events ≡ (view_of c.before).events
+  pub tells : WeighTells p cap o (view_of c.before) (view_of c.after) words r
 
--- Of the operations of event i from `start` to below `end` one is in doubt, those before it are good, and each behind
--- it is good or in doubt
-pub record HasDoubt (p : Plan) (cap i start end : ℕ) (v u : View) (xs : List Item) (at : ℕ) (w : OpWord) : Type 0 where
+-- The call judged operation o good, by the words xs
+abbrev pub FindsGood : HandCall → Plan → List Item → ℕ → Type 0
+FindsGood c p xs o = IsJudgedGood p (cap_of c.board) o (view_of c.before) (view_of c.after) xs
+
+-- The call found operation o good or in doubt, by the words xs
+abbrev pub FindsNoFailure : HandCall → Plan → List Item → ℕ → Type 0
+FindsNoFailure c p xs o =
+    FindsGood c p xs o ⊎ IsInDoubt p (cap_of c.board) o (view_of c.before) (view_of c.after) xs
+
+-- Of the operations of event i below `end` one is in doubt, those before it are good, and each behind it is good or in
+-- doubt. The word that stopped the call is one of the words xs
+pub record HasDoubt (c : HandCall) (p : Plan) (i end : ℕ) (xs : List Item) (stop : Stop) : Type 0 where
   pub culprit : ℕ
   pub inside : InEvent p i culprit
   pub below : culprit < end
-  pub doubt : IsDoubtful p cap culprit v u xs at w
-  pub before : (o : ℕ) → start ≤ o → o < culprit → IsJudgedGood p cap o v u xs
-  pub behind : (o : ℕ) → culprit < o → o < end → IsJudgedGood p cap o v u xs ⊎ IsInDoubt p cap o v u xs
+  pub doubt : IsDoubtful p (cap_of c.board) culprit (view_of c.before) (view_of c.after) xs stop.source stop.word
+  pub before : (o : ℕ) → InEvent p i o → o < culprit → FindsGood c p xs o
+  pub behind : (o : ℕ) → InEvent p i o → culprit < o → o < end → FindsNoFailure c p xs o
 
--- The answer says that all operations from `start` to below `end` are good, that one fails, or that one is in doubt
-abbrev pub GroundsTell : Plan → ℕ → ℕ → ℕ → ℕ → View → View → List Item → Decided → Type 0
-GroundsTell p cap i start end v u xs Committed = (o : ℕ) → start ≤ o → o < end → IsJudgedGood p cap o v u xs
-GroundsTell p cap i start end v u xs Aborted = (o : ℕ) × InEvent p i o × IsAnswerSeen p u o None
-GroundsTell p cap i start end v u xs (Undecided at w) = HasDoubt p cap i start end v u xs at w
+-- The answer says that all operations of event i below `end` are good, that one fails, or that one is in doubt
+abbrev pub GroundsTell : HandCall → Plan → (i end : ℕ) → List Item → Decided → Type 0
+GroundsTell c p i end xs Committed = (o : ℕ) → InEvent p i o → o < end → FindsGood c p xs o
+GroundsTell c p i end xs Aborted = (o : ℕ) × InEvent p i o × IsAnswerSeen p (view_of c.after) o None
+GroundsTell c p i end xs (Undecided at w) = HasDoubt c p i end xs (record { source = at; word = w })
 
--- The operations of event i from `start` to below `end` were judged, and the answer is what they say of it
-pub record HasFoundGrounds (b : Board) (p : Plan) (cap i start end : ℕ) (h g : Hand) (r : Decided) : Type 0 where
-  pub hand : IsHandOf b g
+-- The operations of event i below `end` were judged, and the answer is what they say of it
+pub record HasFoundGrounds (c : HandCall) (p : Plan) (i end : ℕ) (r : Decided) : Type 0 where
+  pub hand : IsHandOf c.board c.after
   pub words : List Item
-  pub goes : AddsAndFrees (view_of h) (view_of g) words
+  pub goes : AddsAndFrees (view_of c.before) (view_of c.after) words
   pub none : NoneOwn words
-  pub stays : (view_of g).events ≡ (view_of h).events
-  pub tells : GroundsTell p cap i start end (view_of h) (view_of g) words r
+  pub stays : (view_of c.after).events ≡ (view_of c.before).events
+  pub tells : GroundsTell c p i end words r
 
 -- ---- what a hand has to have seen
 
@@ -221,12 +238,12 @@ MaySettleIt p v o w z = IsToCommit p v o w z ⊎ IsToAbort p v o w z
 -- ---- the decision that stands
 
 -- The call loaded no operation, and the hand knows the decision on event i, which is the fold's
-pub record IsConcluded (b : Board) (p : Plan) (i : ℕ) (h g : Hand) (committed : Bool) : Type 0 where
-  pub hand : IsHandOf b g
-  pub goes : AddsAndFrees (view_of h) (view_of g) []
-  pub steps : MayHaveDecided i committed (view_of h) (view_of g)
+pub record IsConcluded (c : HandCall) (p : Plan) (i : ℕ) (committed : Bool) : Type 0 where
+  pub hand : IsHandOf c.board c.after
+  pub goes : AddsAndFrees (view_of c.before) (view_of c.after) []
+  pub steps : MayHaveDecided i committed (view_of c.before) (view_of c.after)
   pub right : verdict p i ≡ committed
-  pub known : IsDecisionSeen (view_of g) i committed
+  pub known : IsDecisionSeen (view_of c.after) i committed
 
 -- ---- settling
 
@@ -237,12 +254,12 @@ pub record BeginsWithLoad (p : Plan) (o : ℕ) (v u : View) (w : OpWord) : Type 
   pub stays : u.events ≡ v.events
 
 -- The exchange settled operation o with the fold's value, or found another word
-abbrev pub SealTells : Board → ℕ → Hand → Hand → OpWord → OpWord → SettleAnswer → Type 0
-SealTells b o h g w z (HasSettledIt x) =
-    Left b h g (settling o z (view_of h)) (left o z) × (x ≡ z.value) × (z.value ≡ final (plan_of b) o)
-SealTells b o h g w z (Unsettled at found) = (at ≡ o) × (found ≢ w) × Looked b o h g found
+abbrev pub SealTells : HandCall → ℕ → OpWord → OpWord → SettleAnswer → Type 0
+SealTells c o w z (HasSettledIt x) =
+    Left c (settling o z (view_of c.before)) (left o z) × (x ≡ z.value) × (z.value ≡ final (plan_of c.board) o)
+SealTells c o w z (Unsettled at found) = (at ≡ o) × (found ≢ w) × Looked c o found
 
 -- The exchange of word w of operation o for the settled word z was tried, and this is the answer
-pub record IsSealed (b : Board) (o : ℕ) (h g : Hand) (w z : OpWord) (r : SettleAnswer) : Type 0 where
-  pub hand : IsHandOf b g
-  pub tells : SealTells b o h g w z r
+pub record IsSealed (c : HandCall) (o : ℕ) (w z : OpWord) (r : SettleAnswer) : Type 0 where
+  pub hand : IsHandOf c.board c.after
+  pub tells : SealTells c o w z r

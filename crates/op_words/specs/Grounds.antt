@@ -10,13 +10,11 @@ use Rattle.morph_base.specs.Clean.{source}
 use Rattle.morph_base.specs.Words.{is_evaluated, is_idle, is_settled}
 use Rattle.interleaving_core.specs.Core.{places}
 use Rattle.op_words.specs.declared.answers.Stop.{Stop}
-use Rattle.op_words.specs.declared.board.Board.{Board}
-use Rattle.op_words.specs.declared.board.Hand.{Hand}
 use Rattle.op_words.specs.declared.trail.Item.{Item}
 use Rattle.op_words.specs.declared.trail.View.{View}
 use Rattle.op_words.specs.Trails.{loaded, IsSourceOf, OfSources}
 use Rattle.op_words.specs.Views.{IsRecordSeen, IsSettledSeen, IsSourceSeen, last_op}
-use Rattle.op_words.specs.Hands.{view_of}
+use Rattle.op_words.specs.Hands.{view_of, HandCall}
 use Rattle.op_words.specs.Stepping.{IsRow}
 use Rattle.op_words.specs.Kinds.{IsUsable}
 use Rattle.op_words.specs.Retrying.{IsSpreadFrom}
@@ -97,11 +95,11 @@ module _ (p : Plan) (o j : ℕ) (needed : Bool) (v : View) (xs : List Item) wher
   SourceTells (Err stop) = IsNoValueLoaded stop
 
 -- The source of operation o at place j was loaded, and this is the answer
-pub record SourceDoes (b : Board) (p : Plan) (o j : ℕ) (needed : Bool) (h g : Hand) (r : Result ℕ Stop) : Type 0 where
+pub record SourceDoes (c : HandCall) (p : Plan) (o j : ℕ) (needed : Bool) (r : Result ℕ Stop) : Type 0 where
   pub words : List Item
-  pub row : IsRow b o h g words
+  pub row : IsRow c o words
   pub sources : OfSources p o words
-  pub tells : SourceTells p o j needed (view_of h) words r
+  pub tells : SourceTells p o j needed (view_of c.before) words r
 
 -- ---- all sources of an operation, which have to be settled if `needed` says so
 
@@ -122,13 +120,13 @@ OpenTells p o needed xs None = needed ≡ true → (s : ℕ) → IsSourceOf p o 
 OpenTells p o needed xs (Some stop) = IsOpenFound p o needed xs stop
 
 -- The sources of operation o were loaded, and this is the answer
-pub record OpenDoes (b : Board) (p : Plan) (o : ℕ) (needed : Bool) (h g : Hand) (r : Option Stop) : Type 0 where
+pub record OpenDoes (c : HandCall) (p : Plan) (o : ℕ) (needed : Bool) (r : Option Stop) : Type 0 where
   pub words : List Item
-  pub row : IsRow b o h g words
+  pub row : IsRow c o words
   pub tells : OpenTells p o needed words r
 
 -- The sources of operation o at the places before j were loaded settled
-pub record IsSettledUpToPlace (b : Board) (p : Plan) (o j : ℕ) (h g : Hand) : Type 0 where
+pub record IsSettledUpToPlace (c : HandCall) (p : Plan) (o j : ℕ) : Type 0 where
   pub words : List Item
-  pub row : IsRow b o h g words
+  pub row : IsRow c o words
   pub settled : (k : ℕ) → k < j → (s : ℕ) → origin_at p o k ≡ Written s → IsLoadedSettled words s

@@ -71,6 +71,16 @@ view_in (Some v) = v
 abbrev pub view_of : Hand → View
 view_of h = view_in h.seat.me.0
 
+-- What a call on a board did: the board, and the hand before the call and after it
+pub record HandCall : Type 0 where
+  pub board : Board
+  pub before : Hand
+  pub after : Hand
+
+-- The call on this board that took the hand from one state to the other
+abbrev pub call_on : Board → Hand → Hand → HandCall
+call_on board before after = record { board = board; before = before; after = after }
+
 -- ---- what a hand keeps while it runs
 
 -- The values that were fetched for the operation that is held

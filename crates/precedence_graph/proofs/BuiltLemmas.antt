@@ -13,9 +13,9 @@ use Rattle.morph_base.specs.declared.plan.PlanEvent.{PlanEvent}
 use Rattle.morph_base.specs.declared.plan.Plan.{Plan}
 use Rattle.morph_base.specs.Operations.{no_key}
 use Rattle.morph_base.specs.Transactions.{Transaction}
-use Rattle.morph_base.specs.Numbering.{IsNumbering}
+use Rattle.morph_base.specs.Numbering.{numbers, IsNumbering}
 use Rattle.morph_base.specs.Sources.{IsSource}
-use Rattle.morph_base.specs.Plans.{no_op, no_plan_op, no_event, event_count, op_count, event_at, op_at, event_of, target, keys_of, key_at, origin_at, transaction_in, transactions, IsSourceIn, high_of}
+use Rattle.morph_base.specs.Plans.{no_op, no_plan_op, no_event, event_count, op_count, event_at, op_at, event_of, numbers_of, target, keys_of, key_at, origin_at, transaction_in, transactions, IsSourceIn, high_of}
 use Rattle.txn_splitter.specs.declared.txns.Txns.{Txns}
 use Rattle.txn_splitter.specs.Txns.{IsTxns, no_txn, transaction_among, txn_count, txn_op_count, txn_at, txn_op_at, txn_of, txn_target, txn_transactions}
 use Rattle.precedence_graph.specs.Planned.{padded, txn_event, ArePlanned, AreEventsPlanned}
@@ -42,15 +42,15 @@ padded-at f keys j lt =
 -- ---- the same numbering, over other functions
 
 numbering_at : (n m : ℕ) (ts first count event_of : ℕ → ℕ) (op : ℕ → Op) (n' m' : ℕ) (ts' first' count' event_of' : ℕ → ℕ) (op' : ℕ → Op)
-    → n ≡ n' → m ≡ m' → ts ≡ ts' → first ≡ first' → count ≡ count' → event_of ≡ event_of' → op ≡ op' → IsNumbering n m ts first count event_of op → IsNumbering n' m' ts' first' count' event_of' op'
+    → n ≡ n' → m ≡ m' → ts ≡ ts' → first ≡ first' → count ≡ count' → event_of ≡ event_of' → op ≡ op' → IsNumbering (numbers n ts first count) m event_of op → IsNumbering (numbers n' ts' first' count') m' event_of' op'
 numbering_at n m ts first count event_of op n' m' ts' first' count' event_of' op' a b c d e f g is =
-    subst (λ v. IsNumbering v m' ts' first' count' event_of' op') a
-    (subst (λ v. IsNumbering n v ts' first' count' event_of' op') b
-    (subst (λ v. IsNumbering n m v first' count' event_of' op') c
-    (subst (λ v. IsNumbering n m ts v count' event_of' op') d
-    (subst (λ v. IsNumbering n m ts first v event_of' op') e
-    (subst (λ v. IsNumbering n m ts first count v op') f
-    (subst (IsNumbering n m ts first count event_of) g is))))))
+    subst (λ v. IsNumbering (numbers v ts' first' count') m' event_of' op') a
+    (subst (λ v. IsNumbering (numbers n ts' first' count') v event_of' op') b
+    (subst (λ v. IsNumbering (numbers n v first' count') m event_of' op') c
+    (subst (λ v. IsNumbering (numbers n ts v count') m event_of' op') d
+    (subst (λ v. IsNumbering (numbers n ts first v) m event_of' op') e
+    (subst (λ v. IsNumbering (numbers n ts first count) m v op') f
+    (subst (IsNumbering (numbers n ts first count) m event_of) g is))))))
 
 module _ (x : Txns) (is : IsTxns x) (p : Plan) (done : ArePlanned x (txn_op_count x) p.ops.items) (events_done : AreEventsPlanned x p.ops.items (txn_count x) p.events.items) where
   -- ---- its columns are those of the transactions
@@ -88,7 +88,7 @@ module _ (x : Txns) (is : IsTxns x) (p : Plan) (done : ArePlanned x (txn_op_coun
   pub event_at_same : (i : ℕ) → txn_at x i ≡ txn_event (event_at p i)
   event_at_same i = ap (λ events. get_or events i no_txn) (sym event_column) ∙ get_or-map_all txn_event p.events.items i no_event
 
-  pub numbering_is : IsNumbering (event_count p) (op_count p) (λ i. (event_at p i).ts) (λ i. (event_at p i).first) (λ i. (event_at p i).count) (event_of p) (λ o. (op_at p o).op)
+  pub numbering_is : IsNumbering (numbers_of p) (op_count p) (event_of p) (λ o. (op_at p o).op)
   numbering_is =
       numbering_at (txn_count x) (txn_op_count x) (λ i. (txn_at x i).ts) (λ i. (txn_at x i).first) (λ i. (txn_at x i).count) (txn_of x) (txn_op_at x)
       (event_count p) (op_count p) (λ i. (event_at p i).ts) (λ i. (event_at p i).first) (λ i. (event_at p i).count) (event_of p) (λ o. (op_at p o).op)

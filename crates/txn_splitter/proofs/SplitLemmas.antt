@@ -9,7 +9,7 @@ use Rattle.std.proofs.lemmas.Map.Keys.{apart_from_distinct}
 use Rattle.morph_base.specs.declared.limits.TheConstants.{EVENT_OPS, EVENTS, LATEST}
 use Rattle.morph_base.specs.declared.operation.Op.{Op}
 use Rattle.morph_base.specs.Operations.{high_in, IsShaped, same_key, no_key}
-use Rattle.morph_base.specs.Numbering.{IsNumbering, IsWithin}
+use Rattle.morph_base.specs.Numbering.{numbers, IsNumbering, IsWithin}
 use Rattle.morph_base.specs.Transactions.{Transaction, IsTransaction}
 use Rattle.morph_base.specs.Plans.{no_op}
 use Rattle.morph_base.proofs.KeyLaws.{same_key-false}
@@ -20,7 +20,7 @@ use Rattle.txn_splitter.specs.Txns.{IsTxns, IsSplitOf, no_txn, transaction_among
 use Rattle.txn_splitter.proofs.TxnLemmas.{txn_end}
 
 -- an event of k operations after n events and m operations
-module _ (n m k : ℕ) (ts first count event_of ts' first' count' event_of' : ℕ → ℕ) (op op' : ℕ → Op) (is : IsNumbering n m ts first count event_of op)
+module _ (n m k : ℕ) (ts first count event_of ts' first' count' event_of' : ℕ → ℕ) (op op' : ℕ → Op) (is : IsNumbering (numbers n ts first count) m event_of op)
     (ts_stay : (i : ℕ) → i < n → ts' i ≡ ts i) (first_stays : (i : ℕ) → i < n → first' i ≡ first i) (count_stays : (i : ℕ) → i < n → count' i ≡ count i)
     (event_of_stays : (o : ℕ) → o < m → event_of' o ≡ event_of o) (op_stays : (o : ℕ) → o < m → op' o ≡ op o)
     (first_is : first' n ≡ m) (count_is : count' n ≡ k) (its : (o : ℕ) → m ≤ o → o < m + k → event_of' o ≡ n) where
@@ -119,7 +119,7 @@ module _ (n m k : ℕ) (ts first count event_of ts' first' count' event_of' : �
       ]
 
   pub numbering_more : n < EVENTS → (0 < ts' n) × (ts' n ≤ LATEST) → (0 < k) × (k ≤ EVENT_OPS) → ((i : ℕ) → i < n → ts i < ts' n)
-      → ((o t : ℕ) → m ≤ o → o < m + k → m ≤ t → t < m + k → (op' o).key ≡ (op' t).key → o ≡ t) → ((o : ℕ) → m ≤ o → o < m + k → IsShaped (op' o)) → IsNumbering (n + 1) (m + k) ts' first' count' event_of' op'
+      → ((o t : ℕ) → m ≤ o → o < m + k → m ≤ t → t < m + k → (op' o).key ≡ (op' t).key → o ≡ t) → ((o : ℕ) → m ≤ o → o < m + k → IsShaped (op' o)) → IsNumbering (numbers (n + 1) ts' first' count') (m + k) event_of' op'
   numbering_more few time some later apart shaped = record {
     few = omega arith;
     times = λ i lt. elim (cases_lt i n) [
@@ -204,7 +204,7 @@ module _ (es : List Transaction) (x x' : Txns) (t : Transaction) (so_far : IsSpl
       subst (λ (e : Transaction). e.ts < t.ts) at (before i (omega arith))
 
   numbering_is : length es < EVENTS → IsTransaction t → (d : Transaction) → ((i : ℕ) → i < length es → (get_or es i d).ts < t.ts)
-      → IsNumbering (txn_count x + 1) (txn_op_count x + length t.ops) (λ i. (txn_at x' i).ts) (λ i. (txn_at x' i).first) (λ i. (txn_at x' i).count) (txn_of x') (txn_op_at x')
+      → IsNumbering (numbers (txn_count x + 1) (λ i. (txn_at x' i).ts) (λ i. (txn_at x' i).first) (λ i. (txn_at x' i).count)) (txn_op_count x + length t.ops) (txn_of x') (txn_op_at x')
   numbering_is few valid d before =
       let n : ℕ = txn_count x in
       let m : ℕ = txn_op_count x in
@@ -223,8 +223,8 @@ module _ (es : List Transaction) (x x' : Txns) (t : Transaction) (so_far : IsSpl
       let whole : (ops : List Op) → ops ≡ t.ops → record { ts = t.ts; ops = ops } ≡ t = λ ops e. ap (λ ops. record { ts = t.ts; ops = ops }) e in
       record {
         txns = record {
-          numbering = subst (λ n. IsNumbering n (txn_op_count x') (λ i. (txn_at x' i).ts) (λ i. (txn_at x' i).first) (λ i. (txn_at x' i).count) (txn_of x') (txn_op_at x')) (sym (ap length events_are ∙ length_push x.events.items new_event))
-              (subst (λ m. IsNumbering (txn_count x + 1) m (λ i. (txn_at x' i).ts) (λ i. (txn_at x' i).first) (λ i. (txn_at x' i).count) (txn_of x') (txn_op_at x')) (sym (ap length ops_are ∙ length-append x.ops.items t.ops)) (numbering_is few valid d before));
+          numbering = subst (λ n. IsNumbering (numbers n (λ i. (txn_at x' i).ts) (λ i. (txn_at x' i).first) (λ i. (txn_at x' i).count)) (txn_op_count x') (txn_of x') (txn_op_at x')) (sym (ap length events_are ∙ length_push x.events.items new_event))
+              (subst (λ m. IsNumbering (numbers (txn_count x + 1) (λ i. (txn_at x' i).ts) (λ i. (txn_at x' i).first) (λ i. (txn_at x' i).count)) m (txn_of x') (txn_op_at x')) (sym (ap length ops_are ∙ length-append x.ops.items t.ops)) (numbering_is few valid d before));
           events_of = ap length numbers_are ∙ length-append x.event_of.items (replicate (length t.ops) (txn_count x)) ∙ omega (arith, so_far.txns.events_of, length-replicate (length t.ops) (txn_count x), ap length ops_are, length-append x.ops.items t.ops);
           alike = alike;
         };

@@ -5,7 +5,7 @@ use Rattle.morph_base.specs.declared.operation.Op.{Op}
 use Rattle.morph_base.specs.declared.event.Batch.{Batch}
 use Rattle.morph_base.specs.Transactions.{Transaction, transactions_of, by_time}
 use Rattle.morph_base.specs.Operations.{high_in}
-use Rattle.morph_base.specs.Numbering.{IsNumbering}
+use Rattle.morph_base.specs.Numbering.{numbers, EventNumbers, IsNumbering}
 use Rattle.morph_base.specs.Plans.{no_op}
 use Rattle.txn_splitter.specs.declared.txns.TxnEvent.{TxnEvent}
 use Rattle.txn_splitter.specs.declared.txns.Txns.{Txns}
@@ -47,10 +47,13 @@ module _ (x : Txns) where
   abbrev pub txn_transactions : List Transaction
   txn_transactions = map (transaction_among x.ops.items) x.events.items
 
+-- The numbers of the events
+abbrev pub txn_numbers : Txns → EventNumbers
+txn_numbers x = numbers (txn_count x) (λ i. (txn_at x i).ts) (λ i. (txn_at x i).first) (λ i. (txn_at x i).count)
+
 -- The events and operations are well numbered, with the number of its event for each operation
 pub record IsTxns (x : Txns) : Type 0 where
-  pub numbering : IsNumbering (txn_count x) (txn_op_count x) (λ i. (txn_at x i).ts) (λ i. (txn_at x i).first)
-      (λ i. (txn_at x i).count) (txn_of x) (txn_op_at x)
+  pub numbering : IsNumbering (txn_numbers x) (txn_op_count x) (txn_of x) (txn_op_at x)
   pub events_of : length x.event_of.items ≡ txn_op_count x
   -- All operations have one greatest value
   pub alike : All (λ op. op.high ≡ high_in x.ops.items) x.ops.items

@@ -9,8 +9,7 @@ ghost use Rattle.interleaving_core.specs.Core.{places};
 ghost use Rattle.op_words.specs.Views.{Holds, IsFresh, looked, parent, child, merged};
 ghost use Rattle.op_words.specs.Calls.{PeekDoes, MakeDoes, ClaimDoes, FetchDoes, FinishDoes, GiveBackDoes};
 ghost use Rattle.op_words.specs.Rule.{first_view};
-ghost use Rattle.op_words.specs.Hands.{MayBegin, MayCall};
-ghost use Rattle.op_words.specs.Hands.{plan_of, cap_of, counters_of, view_of, IsHandOf};
+ghost use Rattle.op_words.specs.Hands.{plan_of, cap_of, counters_of, view_of, IsHandOf, MayBegin, MayCall};
 
 use super::{Board, Hand};
 use crate::answers::{Claimed, Counts, Fetched, Outcome, Readied};

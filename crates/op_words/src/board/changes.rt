@@ -7,7 +7,7 @@ ghost use Rattle.interleaving_core.specs.Core.{blocked as blocked_at, spread as 
 ghost use Rattle.op_words.specs.Views.{last_op, last_place, spreading, rolling_back};
 ghost use Rattle.op_words.specs.Stepping.{Swapped};
 ghost use Rattle.op_words.specs.Grounds.{HasGroundsToSpread, HasGroundsToRoll};
-ghost use Rattle.op_words.specs.Hands.{plan_of, cap_of, view_of, IsHandOf};
+ghost use Rattle.op_words.specs.Hands.{plan_of, cap_of, view_of, call_on, IsHandOf};
 
 use super::{Board, Hand};
 use crate::answers::Counts;
@@ -36,7 +36,7 @@ impl Board {
             (view_of hand.old) word value }
         requires sibling { sibling ≡ last_op 0 (view_of hand.old).notes }
         ensures { let new = spread_at (word.attempt + 1) value in
-            Swapped self.now op hand.old hand.new word (spreading op new (view_of hand.old)) new result }
+            Swapped (call_on self.now hand.old hand.new) op word (spreading op new (view_of hand.old)) new result }
     {
         let (first, new) = (word.pack(), spread(word.attempt + 1, value).pack());
         let found = self
@@ -74,7 +74,7 @@ impl Board {
             (view_of hand.old) word
             (last_place 0 (view_of hand.old).records) }
         requires place { j ≡ last_place 0 (view_of hand.old).records }
-        ensures { Swapped self.now op hand.old hand.new word
+        ensures { Swapped (call_on self.now hand.old hand.new) op word
             (rolling_back op (word.attempt + 1) (view_of hand.old))
             (blocked_at (word.attempt + 1)) result }
     {

@@ -3,8 +3,7 @@ ghost use Rattle.std.specs.Prelude.{◌≡◌, ◌+◌, ◌<◌, None};
 ghost use Rattle.morph_base.specs.Plans.{event_count, event_at};
 ghost use Rattle.op_words.specs.Judging.{DecideDoes};
 ghost use Rattle.op_words.specs.Comparing.{IsWeighed, HasFoundGrounds, MaySayOf, IsConcluded};
-ghost use Rattle.op_words.specs.Hands.{MayBegin};
-ghost use Rattle.op_words.specs.Hands.{plan_of, cap_of, view_of, IsHandOf};
+ghost use Rattle.op_words.specs.Hands.{call_on, plan_of, cap_of, view_of, IsHandOf, MayBegin};
 
 use super::{Board, Hand};
 use crate::answers::{Decided, Verdict};
@@ -46,9 +45,8 @@ impl Board {
         requires plan { plan.now ≡ plan_of self.now }
         requires in_range { event < event_count plan.now }
         requires free { (view_of hand.old).claim ≡ None }
-        ensures { HasFoundGrounds self.now plan.now (cap_of self.now) event
-            (event_at plan.now event).first
-            ((event_at plan.now event).first + (event_at plan.now event).count) hand.old hand.new result }
+        ensures { HasFoundGrounds (call_on self.now hand.old hand.new) plan.now event
+            ((event_at plan.now event).first + (event_at plan.now event).count) result }
     {
         let entry = plan.events.get(event as usize);
         let (first, end) = (entry.first, entry.first + entry.count);
@@ -66,7 +64,7 @@ impl Board {
     /// What the verdict on one operation says of the event.
     fn weigh(&self, hand: &mut Hand, plan: &Plan, op: u32) -> Decided
         requires may { MayBegin self.now hand.old plan.now op }
-        ensures { IsWeighed self.now plan.now (cap_of self.now) op hand.old hand.new result }
+        ensures { IsWeighed (call_on self.now hand.old hand.new) plan.now (cap_of self.now) op result }
     {
         let (word, verdict) = self.judge(hand, plan, op);
         match verdict {
@@ -84,7 +82,7 @@ impl Board {
         requires in_range { event < event_count plan.now }
         requires grounds { MaySayOf plan.now (view_of hand.old) event committed }
         requires free { (view_of hand.old).claim ≡ None }
-        ensures { IsConcluded self.now plan.now event hand.old hand.new result }
+        ensures { IsConcluded (call_on self.now hand.old hand.new) plan.now event result }
     {
         let place = self.level - plan.events.len() + event as usize;
         let new = pack_decision(committed);

@@ -2,7 +2,7 @@
 ghost use Rattle.std.specs.Prelude.{◌<◌, None};
 ghost use Rattle.interleaving_core.specs.Core.{places};
 ghost use Rattle.op_words.specs.Grounds.{SourceDoes, OpenDoes};
-ghost use Rattle.op_words.specs.Hands.{MayBegin};
+ghost use Rattle.op_words.specs.Hands.{call_on, MayBegin};
 
 use super::{Board, Hand};
 use crate::answers::Stop;
@@ -23,7 +23,7 @@ impl Board {
     ) -> Result<u64, Stop>
         requires may { MayBegin self.now hand.old plan.now op }
         requires in_places { j < places plan.now op }
-        ensures { SourceDoes self.now plan.now op j needed hand.old hand.new result }
+        ensures { SourceDoes (call_on self.now hand.old hand.new) plan.now op j needed result }
     {
         match origin_of(plan, op, j) {
             Origin::Base(value) => Ok(value),
@@ -47,7 +47,7 @@ impl Board {
         needed: bool,
     ) -> Option<Stop>
         requires may { MayBegin self.now hand.old plan.now op }
-        ensures { OpenDoes self.now plan.now op needed hand.old hand.new result }
+        ensures { OpenDoes (call_on self.now hand.old hand.new) plan.now op needed result }
     {
         if !needed {
             return None;

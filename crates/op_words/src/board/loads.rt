@@ -3,8 +3,7 @@ ghost use Rattle.std.specs.Prelude.{◌≡◌, ◌<◌};
 ghost use Rattle.morph_base.specs.Plans.{event_count};
 ghost use Rattle.interleaving_core.specs.Core.{places};
 ghost use Rattle.op_words.specs.Stepping.{Recalled, Learned};
-ghost use Rattle.op_words.specs.Hands.{MayCall};
-ghost use Rattle.op_words.specs.Hands.{plan_of, IsHandOf};
+ghost use Rattle.op_words.specs.Hands.{call_on, plan_of, IsHandOf, MayCall};
 
 use super::{Board, Hand};
 use crate::rule::{LoadDecision, LoadRecord};
@@ -16,7 +15,7 @@ impl Board {
     pub(super) fn recall(&self, hand: &mut Hand, plan: &Plan, op: u32, j: u8) -> u64
         requires may { MayCall self.now hand.old plan.now op }
         requires in_places { j < places plan.now op }
-        ensures { Recalled self.now op j hand.old hand.new result }
+        ensures { Recalled (call_on self.now hand.old hand.new) op j result }
     {
         let place = plan.ops.len() + op as usize * READS + j as usize;
         let n = self.table.shared.load::<LoadRecord>(&mut hand.seat, place);
@@ -28,7 +27,7 @@ impl Board {
         requires hand { IsHandOf self.now hand.old }
         requires plan { plan.now ≡ plan_of self.now }
         requires in_range { event < event_count plan.now }
-        ensures { Learned self.now event hand.old hand.new result }
+        ensures { Learned (call_on self.now hand.old hand.new) event result }
     {
         let place = self.level - plan.events.len() + event as usize;
         let n = self

@@ -4,8 +4,7 @@ ghost use Rattle.morph_base.specs.declared.word.OpState.TheVariants.{Executed, S
 ghost use Rattle.morph_base.specs.Words.{is_evaluated};
 ghost use Rattle.interleaving_core.specs.Core.{places};
 ghost use Rattle.op_words.specs.Retrying.{IsSpreadFrom, SpreadDoes, RollDoes};
-ghost use Rattle.op_words.specs.Hands.{MayBegin};
-ghost use Rattle.op_words.specs.Hands.{cap_of, view_of, IsHandOf};
+ghost use Rattle.op_words.specs.Hands.{cap_of, view_of, IsHandOf, MayBegin};
 
 use super::{Board, Hand};
 use crate::answers::{Rolled, Spreaded};

@@ -7,8 +7,7 @@ ghost use Rattle.op_words.specs.Judging.{SettleDoes};
 ghost use Rattle.op_words.specs.Comparing.{IsNotedLast, BeginsWithLoad, IsSealed, MaySettleIt};
 ghost use Rattle.op_words.specs.Stepping.{Learned};
 ghost use Rattle.op_words.specs.Views.{IsDecisionSeen};
-ghost use Rattle.op_words.specs.Hands.{MayBegin};
-ghost use Rattle.op_words.specs.Hands.{plan_of, cap_of, view_of, IsHandOf};
+ghost use Rattle.op_words.specs.Hands.{call_on, plan_of, cap_of, view_of, IsHandOf, MayBegin};
 
 use super::{Board, Hand};
 use crate::answers::{Compared, SettleAnswer};
@@ -50,7 +49,7 @@ impl Board {
         requires plan { plan.now ≡ plan_of self.now }
         requires in_range { event < event_count plan.now }
         requires decided { (committed : Bool) × IsDecisionSeen (view_of hand.old) event committed }
-        ensures { Learned self.now event hand.old hand.new (Some result) }
+        ensures { Learned (call_on self.now hand.old hand.new) event (Some result) }
     {
         let Some(committed) = self.learn(hand, plan, event) else {
             unreachable!()
@@ -119,7 +118,7 @@ impl Board {
         requires word { IsWord word }
         requires new { IsWord new }
         requires grounds { MaySettleIt (plan_of self.now) (view_of hand.old) op word new }
-        ensures { IsSealed self.now op hand.old hand.new word new result }
+        ensures { IsSealed (call_on self.now hand.old hand.new) op word new result }
     {
         let (first, second) = (word.pack(), new.pack());
         let found = self

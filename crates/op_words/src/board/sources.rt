@@ -2,7 +2,7 @@
 ghost use Rattle.std.specs.Prelude.{◌<◌, None};
 ghost use Rattle.interleaving_core.specs.Core.{places};
 ghost use Rattle.op_words.specs.Stepping.{Sought, SoughtAt};
-ghost use Rattle.op_words.specs.Hands.{MayBegin};
+ghost use Rattle.op_words.specs.Hands.{call_on, MayBegin};
 
 use super::{Board, Hand};
 use crate::answers::Stop;
@@ -13,7 +13,7 @@ impl Board {
     /// Loads the sources of an operation, place by place, and returns the first one that has no value.
     pub(super) fn idle_source(&self, hand: &mut Hand, plan: &Plan, op: u32) -> Option<Stop>
         requires may { MayBegin self.now hand.old plan.now op }
-        ensures { Sought self.now plan.now op hand.old hand.new result }
+        ensures { Sought (call_on self.now hand.old hand.new) plan.now op result }
     {
         for j in 0..places_of(plan, op) {
             if let Some(stop) = self.idle_at(hand, plan, op, j) {
@@ -27,7 +27,7 @@ impl Board {
     fn idle_at(&self, hand: &mut Hand, plan: &Plan, op: u32, j: u8) -> Option<Stop>
         requires may { MayBegin self.now hand.old plan.now op }
         requires in_places { j < places plan.now op }
-        ensures { SoughtAt self.now plan.now op j hand.old hand.new result }
+        ensures { SoughtAt (call_on self.now hand.old hand.new) plan.now op j result }
     {
         self.source_value(hand, plan, op, j, false).err()
     }

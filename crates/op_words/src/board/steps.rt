@@ -10,7 +10,7 @@ ghost use Rattle.op_words.specs.Views.{Holds, IsLone, making, claiming, finishin
 ghost use Rattle.op_words.specs.Plays.{IsTold};
 ghost use Rattle.op_words.specs.Stepping.{IsPlaceKept, Looked, Left, Swapped};
 ghost use Rattle.op_words.specs.Kinds.{IsUsable};
-ghost use Rattle.op_words.specs.Hands.{plan_of, cap_of, view_of, IsHandOf};
+ghost use Rattle.op_words.specs.Hands.{plan_of, cap_of, view_of, call_on, IsHandOf};
 
 use super::{Board, Hand, Holding};
 use crate::answers::Counts;
@@ -27,7 +27,7 @@ impl Board {
     pub(super) fn look(&self, hand: &mut Hand, op: u32) -> OpWord
         requires hand { IsHandOf self.now hand.old }
         requires in_range { op < op_count (plan_of self.now) }
-        ensures { Looked self.now op hand.old hand.new result }
+        ensures { Looked (call_on self.now hand.old hand.new) op result }
     {
         let n = self
             .table
@@ -53,7 +53,7 @@ impl Board {
         requires hand { IsHandOf self.now hand.old }
         requires in_range { op < op_count (plan_of self.now) }
         requires word { IsWord (blocked_at attempt) }
-        ensures { Swapped self.now op hand.old hand.new (blocked_at attempt)
+        ensures { Swapped (call_on self.now hand.old hand.new) op (blocked_at attempt)
             (making op attempt (view_of hand.old)) (ready_at attempt) result }
     {
         let (first, new) = (OpWord::blocked(attempt).pack(), ready(attempt).pack());
@@ -78,7 +78,7 @@ impl Board {
         requires in_range { op < op_count (plan_of self.now) }
         requires word { IsWord (ready_at attempt) }
         requires free { (view_of hand.old).claim ≡ None }
-        ensures { Swapped self.now op hand.old hand.new (ready_at attempt)
+        ensures { Swapped (call_on self.now hand.old hand.new) op (ready_at attempt)
             (claiming op attempt (view_of hand.old))
             (claimed_at attempt (view_of hand.old).tag) result }
     {
@@ -109,7 +109,7 @@ impl Board {
         requires in_range { op < op_count (plan_of self.now) }
         requires held { (xs : List ℕ) × Holds (view_of hand.old) op attempt xs }
         requires word { IsWord (blocked_at attempt) }
-        ensures { Left self.now hand.old hand.new (giving_back op attempt (view_of hand.old))
+        ensures { Left (call_on self.now hand.old hand.new) (giving_back op attempt (view_of hand.old))
             (left op (blocked_at attempt)) }
     {
         let word = OpWord::blocked(attempt).pack();
@@ -131,7 +131,7 @@ impl Board {
             × IsUsable (view_of hand.old) (cap_of self.now) a
             (origin_at plan.now o (length xs)) value }
         ensures { (o a : ℕ) (xs : List ℕ) → Holds (view_of hand.old) o a xs
-            → IsPlaceKept self.now o a xs value hand.old hand.new }
+            → IsPlaceKept (call_on self.now hand.old hand.new) o a xs value }
     {
         let Some(holding) = &mut hand.held else {
             unreachable!()
@@ -161,7 +161,7 @@ impl Board {
             × (word ≡ finished (op_at (plan_of self.now) op).op a xs) }
         requires word { IsWord word }
         ensures { (a : ℕ) (xs : List ℕ) → Holds (view_of hand.old) op a xs
-            → Left self.now hand.old hand.new
+            → Left (call_on self.now hand.old hand.new)
             (finishing op word xs (view_of hand.old)) (left op word) }
     {
         let n = word.pack();

@@ -4,8 +4,7 @@ ghost use Rattle.morph_base.specs.Plans.{op_count};
 ghost use Rattle.interleaving_core.specs.Core.{places};
 ghost use Rattle.op_words.specs.Judging.{VerdictDoes};
 ghost use Rattle.op_words.specs.Comparing.{IsComparedAt, IsCompared, IsConfirmed, IsJudgedAs};
-ghost use Rattle.op_words.specs.Hands.{MayBegin};
-ghost use Rattle.op_words.specs.Hands.{plan_of, cap_of, view_of, IsHandOf};
+ghost use Rattle.op_words.specs.Hands.{call_on, plan_of, cap_of, view_of, IsHandOf, MayBegin};
 
 use super::{Board, Hand};
 use crate::answers::{Compared, Verdict};
@@ -32,7 +31,7 @@ impl Board {
     /// Returns the verdict on an operation, and the word of it that was loaded last.
     pub(super) fn judge(&self, hand: &mut Hand, plan: &Plan, op: u32) -> (OpWord, Verdict)
         requires may { MayBegin self.now hand.old plan.now op }
-        ensures { IsJudgedAs self.now plan.now (cap_of self.now) op hand.old hand.new
+        ensures { IsJudgedAs (call_on self.now hand.old hand.new) plan.now (cap_of self.now) op
             result.0 result.1 }
     {
         let first = self.look(hand, op);
@@ -70,7 +69,7 @@ impl Board {
     ) -> (OpWord, Verdict)
         requires hand { IsHandOf self.now hand.old }
         requires in_range { op < op_count (plan_of self.now) }
-        ensures { IsConfirmed self.now op hand.old hand.new first verdict result.0 result.1 }
+        ensures { IsConfirmed (call_on self.now hand.old hand.new) op first verdict result.0 result.1 }
     {
         let word = self.look(hand, op);
         if is_same(word, first) {
@@ -84,7 +83,7 @@ impl Board {
     /// the first record that differs.
     pub(super) fn compare(&self, hand: &mut Hand, plan: &Plan, op: u32) -> Compared
         requires may { MayBegin self.now hand.old plan.now op }
-        ensures { IsCompared self.now plan.now op hand.old hand.new result }
+        ensures { IsCompared (call_on self.now hand.old hand.new) plan.now op result }
     {
         for j in 0..places_of(plan, op) {
             let compared = self.compare_at(hand, plan, op, j);
@@ -99,7 +98,7 @@ impl Board {
     fn compare_at(&self, hand: &mut Hand, plan: &Plan, op: u32, j: u8) -> Compared
         requires may { MayBegin self.now hand.old plan.now op }
         requires in_places { j < places plan.now op }
-        ensures { IsComparedAt self.now plan.now op j hand.old hand.new result }
+        ensures { IsComparedAt (call_on self.now hand.old hand.new) plan.now op j result }
     {
         let settled = match self.source_value(hand, plan, op, j, true) {
             Ok(value) => value,

@@ -4,6 +4,7 @@ use Rattle.op_words.specs.declared.answers.Compared.{Compared}
 use Rattle.op_words.specs.Comparing.{IsComparedAt, IsComparedUpTo}
 use Rattle.op_words.proofs.Comparing.{compare_none, compare_more, compare_stop, compare_all}
 use Rattle.op_words.proofs.board.Board.compare.Goals as goal
+use Rattle.op_words.specs.Hands.{call_on}
 
 pub loop-j-init : goal.loop-j-init
 loop-j-init c = compare_none _ _ _ _ c.requires.may.0
@@ -20,9 +21,9 @@ returns-in_default c =
 pub loop-j-preserved : goal.loop-j-preserved
 loop-j-preserved c =
     compare_more _ _ _ c.loop-j.j c.loop-j.invariant
-    (subst (λ (r : Compared). IsComparedAt c.args.self.now c.args.plan.now c.args.op c.loop-j.j c.loop-j.hand c.compare_at-compared.new.hand r) c.in-Equal.is c.compare_at-compared.ensures)
+    (subst (λ (r : Compared). IsComparedAt (call_on c.args.self.now c.loop-j.hand c.compare_at-compared.new.hand) c.args.plan.now c.args.op c.loop-j.j r) c.in-Equal.is c.compare_at-compared.ensures)
 
 pub returns : goal.returns
 returns c =
     let e : c.loop-j.j ≡ places c.args.plan.now c.args.op = (let b = c.loop-j-test.false in let a = c.loop-j.auto.j-end in let p = c.places_of-j-end.ensures.places in omega (arith, a, b, p)) in
-    compare_all _ _ _ (subst (λ (j : ℕ). IsComparedUpTo c.args.self.now c.args.plan.now c.args.op j c.args.hand.now c.loop-j.hand) e c.loop-j.invariant)
+    compare_all _ _ _ (subst (λ (j : ℕ). IsComparedUpTo (call_on c.args.self.now c.args.hand.now c.loop-j.hand) c.args.plan.now c.args.op j) e c.loop-j.invariant)

@@ -9,7 +9,7 @@ use Rattle.op_words.specs.Layout.{packed_decision, level_index}
 use Rattle.op_words.specs.Plays.{Sat, decides}
 use Rattle.op_words.specs.Rule.{Lawful}
 use Rattle.op_words.specs.Comparing.{MaySayOf, IsConcluded}
-use Rattle.op_words.specs.Hands.{plan_of, cap_of, counters_of, view_of}
+use Rattle.op_words.specs.Hands.{plan_of, cap_of, counters_of, view_of, call_on}
 use Rattle.op_words.proofs.Recalling.{decision_place}
 use Rattle.op_words.proofs.Deciding.{allows_decide, conclude_told, concluded_as, stands_as}
 use Rattle.op_words.proofs.board.Board.conclude.Goals as goal
@@ -46,6 +46,6 @@ returns c =
     let level : b.level ≡ level_index p = b.leveled ∙ ap level_index (sym c.requires.plan) in
     let t = conclude_told b h c.requires.hand p c.requires.plan c.args.event _ c.compare_exchange-found.result c.pack_decision-new.result c.args.committed c.compare_exchange-found.new.seat.me c.requires.in_range
     (ap (λ (n : ℕ). n - c.len.result + c.args.event) level ∙ sym at) c.pack_decision-new.ensures c.compare_exchange-found.ensures.2 in
-    subst (IsConcluded b p c.args.event h g) (sym (c.unwrap_or.ensures ∙ stands_as b h g c.requires.hand c.compare_exchange-found.ensures.0 refl refl refl refl c.requires.free p c.args.event c.args.committed t.0 c.compare_exchange-found.result t.1 c.decision_of.result c.decision_of.ensures))
+    subst (IsConcluded (call_on b h g) p c.args.event) (sym (c.unwrap_or.ensures ∙ stands_as b h g c.requires.hand c.compare_exchange-found.ensures.0 refl refl refl refl c.requires.free p c.args.event c.args.committed t.0 c.compare_exchange-found.result t.1 c.decision_of.result c.decision_of.ensures))
     (concluded_as b h g c.requires.hand c.compare_exchange-found.ensures.0 refl refl refl refl c.requires.free p c.args.event c.args.committed t.0 c.compare_exchange-found.result
     (λ zero. absurd (other zero)) (λ still. refl) t.1)

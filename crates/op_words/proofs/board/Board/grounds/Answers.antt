@@ -1,16 +1,13 @@
-use Rattle.std.proofs.Common.{◌≡◌, ◌+◌, ◌≤◌, ℕ, arith, ap, sym, subst}
+use Rattle.std.proofs.Common.{◌≡◌, ◌+◌, ℕ, arith, ap, sym, ◌∙◌, subst}
 use Rattle.morph_base.specs.declared.plan.PlanEvent.{PlanEvent}
 use Rattle.morph_base.specs.Plans.{IsPlan, event_at, no_event}
 use Rattle.morph_base.proofs.NumberLaws.{op_count-small}
 use Rattle.morph_base.proofs.PlanLaws.{end_in_range}
 use Rattle.op_words.specs.declared.answers.Decided.TheVariants.{Committed, Aborted}
-use Rattle.op_words.specs.Hands.{cap_of}
+use Rattle.op_words.specs.Hands.{call_on}
 use Rattle.op_words.specs.Comparing.{HasFoundGrounds}
 use Rattle.op_words.proofs.Weighing.{grounds_none, grounds_more, grounds_bad, and_fine, within_event}
 use Rattle.op_words.proofs.board.Board.grounds.Goals as goal
-
-begins : (e f : PlanEvent) → e ≡ f → f.first ≤ e.first
-begins e f same = let first = ap (λ (x : PlanEvent). x.first) same in omega (arith, first)
 
 pub overflow_add-end : goal.overflow_add-end
 overflow_add-end c =
@@ -24,7 +21,7 @@ overflow_add-end c =
 pub loop-op-init : goal.loop-op-init
 loop-op-init c =
     let entry : c.get-entry.result.now ≡ event_at c.args.plan.now c.args.event = c.get-entry.ensures.at no_event in
-    (grounds_none c.args.self.now c.args.plan.now _ c.args.event _ (subst IsPlan (sym c.requires.plan) c.requires.hand.valid) c.requires.in_range (begins _ _ entry) c.args.hand.now c.requires.hand c.requires.free, λ same. apart same)
+    (grounds_none c.args.self.now c.args.plan.now c.args.event (subst IsPlan (sym c.requires.plan) c.requires.hand.valid) c.requires.in_range _ (ap (λ (e : PlanEvent). e.first) entry) c.args.hand.now c.requires.hand c.requires.free, λ same. apart same)
   where
     apart : Committed ≡ Aborted → ⊥
     apart same = cc
@@ -43,8 +40,7 @@ returns-in-Aborted c =
     let b = c.args.self.now in let p = c.args.plan.now in
     let valid = subst IsPlan (sym c.requires.plan) c.requires.hand.valid in
     let entry : c.get-entry.result.now ≡ event_at p c.args.event = c.get-entry.ensures.at no_event in
-    subst (λ (e : PlanEvent). HasFoundGrounds b p (cap_of b) c.args.event e.first (e.first + e.count) c.args.hand.now c.weigh-next.new.hand c.weigh-next.result) entry
-    (grounds_bad b p (cap_of b) c.args.event _ valid c.requires.in_range (begins _ _ entry) c.loop-op.op (within_event p c.args.event _ c.loop-op.op entry c.loop-op.auto.op c.loop-op-test.true) c.loop-op.grounds c.weigh-next.result c.loop-op.invariant.0 c.weigh-next.ensures c.in-Aborted.is _)
+    grounds_bad b p c.args.event valid c.requires.in_range c.loop-op.op (within_event p c.args.event _ c.loop-op.op entry c.loop-op.auto.op c.loop-op-test.true) c.loop-op.grounds c.weigh-next.result c.loop-op.invariant.0 c.weigh-next.ensures c.in-Aborted.is _
 
 pub loop-op-preserved : goal.loop-op-preserved
 loop-op-preserved c =
@@ -52,7 +48,7 @@ loop-op-preserved c =
     let valid = subst IsPlan (sym c.requires.plan) c.requires.hand.valid in
     let entry : c.get-entry.result.now ≡ event_at p c.args.event = c.get-entry.ensures.at no_event in
     let good : c.weigh-next.result ≡ Aborted → ⊥ = (λ same. c.in_default.not-Aborted same) in (
-      grounds_more b p (cap_of b) c.args.event _ valid c.requires.in_range (begins _ _ entry) c.loop-op.op (within_event p c.args.event _ c.loop-op.op entry c.loop-op.auto.op c.loop-op-test.true) c.loop-op.grounds c.weigh-next.result c.loop-op.invariant.0 c.weigh-next.ensures
+      grounds_more b p c.args.event valid c.requires.in_range c.loop-op.op (within_event p c.args.event _ c.loop-op.op entry c.loop-op.auto.op c.loop-op-test.true) c.loop-op.grounds c.weigh-next.result c.loop-op.invariant.0 c.weigh-next.ensures
           c.loop-op.invariant.1 good c.and-grounds.result c.and-grounds.ensures.first c.and-grounds.ensures.doubt,
       and_fine c.loop-op.grounds c.weigh-next.result c.and-grounds.result c.loop-op.invariant.1 good c.and-grounds.ensures.first c.and-grounds.ensures.doubt,
     )
@@ -63,5 +59,4 @@ returns c =
     let entry : c.get-entry.result.now ≡ event_at p c.args.event = c.get-entry.ensures.at no_event in
     let low = c.loop-op.auto.op-end in let high = c.loop-op-test.false in let below = c.loop-op.auto in
     let end : c.loop-op.op ≡ c.get-entry.result.now.first + c.get-entry.result.now.count = omega (arith, low, high, below) in
-    subst (λ (e : PlanEvent). HasFoundGrounds b p (cap_of b) c.args.event e.first (e.first + e.count) c.args.hand.now c.loop-op.hand c.loop-op.grounds) entry
-    (subst (λ (n : ℕ). HasFoundGrounds b p (cap_of b) c.args.event c.get-entry.result.now.first n c.args.hand.now c.loop-op.hand c.loop-op.grounds) end c.loop-op.invariant.0)
+    subst (λ (n : ℕ). HasFoundGrounds (call_on b c.args.hand.now c.loop-op.hand) p c.args.event n c.loop-op.grounds) (end ∙ ap (λ (e : PlanEvent). e.first + e.count) entry) c.loop-op.invariant.0

@@ -1,5 +1,6 @@
 use Rattle.op_words.specs.Grounds.{IsSettledUpToPlace}
 use Rattle.op_words.proofs.board.Board.open_source.Given as goal
+use Rattle.op_words.specs.Hands.{call_on}
 
 abbrev pub invariant-loop-k : goal.invariant-loop-k
-invariant-loop-k l = IsSettledUpToPlace l.self l.plan l.op l.k l.initial.hand l.hand
+invariant-loop-k l = IsSettledUpToPlace (call_on l.self l.initial.hand l.hand) l.plan l.op l.k

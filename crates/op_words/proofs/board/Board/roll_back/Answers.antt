@@ -6,7 +6,7 @@ use Rattle.morph_base.specs.declared.word.OpWord.{OpWord}
 use Rattle.morph_base.specs.declared.plan.Plan.{Plan}
 use Rattle.morph_base.specs.Plans.{IsPlan}
 use Rattle.op_words.specs.Grounds.{HasGroundsToRoll}
-use Rattle.op_words.specs.Hands.{cap_of, view_of}
+use Rattle.op_words.specs.Hands.{cap_of, view_of, call_on}
 use Rattle.op_words.specs.Stepping.{Looked}
 use Rattle.op_words.specs.Trails.{loaded}
 use Rattle.op_words.specs.Views.{IsRecordSeen, last_place}
@@ -45,7 +45,7 @@ returns-then-is_right-clause-does c =
     found_fresh b p o j h g w c.requires.may.3 c.requires.may.0 c.look-word.ensures may.0 _
     (walk_source b p o j h g k m w kept x c.is_at_cap.result c.requires.may.3 c.look-word.ensures d c.recall-kept.ensures) _ x c.requires.may.1 c.requires.in_places right.1
     (subst (λ (n : ℕ). IsRecordSeen (view_of m) o j w n) right.0 (record_rolled b p o j h g k m w kept x c.is_at_cap.result c.requires.may.3 c.look-word.ensures d c.recall-kept.ensures))
-    (subst (λ (z : OpWord). Looked b o m c.look-now.new.hand z) (c.is_same.ensures.0 c.if-not-is_same.false) c.look-now.ensures)
+    (subst (λ (z : OpWord). Looked (call_on b m c.look-now.new.hand) o z) (c.is_same.ensures.0 c.if-not-is_same.false) c.look-now.ensures)
     (source_read b p o j h g k m w kept x c.is_at_cap.result c.requires.may.3 c.look-word.ensures d c.recall-kept.ensures)
     (source_known b p o j h g k m w kept x c.is_at_cap.result c.requires.may.3 c.look-word.ensures d c.recall-kept.ensures)
 

@@ -2,7 +2,7 @@ use Rattle.std.proofs.Common.{◌≡◌, ◌∙◌, Bool, Some, sym, subst, ap, 
 use Rattle.morph_base.specs.declared.plan.PlanOp.{PlanOp}
 use Rattle.morph_base.specs.Plans.{event_of, no_plan_op}
 use Rattle.op_words.specs.declared.trail.View.{View}
-use Rattle.op_words.specs.Hands.{view_of}
+use Rattle.op_words.specs.Hands.{view_of, call_on}
 use Rattle.op_words.specs.Views.{IsDecisionSeen}
 use Rattle.op_words.specs.Stepping.{Learned}
 use Rattle.op_words.proofs.Sealing.{closed_cases, stopped_here, opened_first, opened_then, last_then, known_then, right_then}
@@ -28,12 +28,12 @@ settle_committed-requires-clause-loaded c = last_then c.args.self.now c.args.pla
 pub settle_committed-requires-clause-decided : goal.settle_committed-requires-clause-decided
 settle_committed-requires-clause-decided c =
     known_then c.args.self.now c.args.plan.now c.args.op _ _ _ c.requires.may.3 c.look-word.ensures _ _ _
-    (subst (λ (d : Bool). Learned c.args.self.now c.get.result.now.event c.look-word.new.hand c.decision.new.hand (Some d)) c.if-decision.true c.decision.ensures) (ap (λ (q : PlanOp). q.event) (c.get.ensures.at no_plan_op))
+    (subst (λ (d : Bool). Learned (call_on c.args.self.now c.look-word.new.hand c.decision.new.hand) c.get.result.now.event (Some d)) c.if-decision.true c.decision.ensures) (ap (λ (q : PlanOp). q.event) (c.get.ensures.at no_plan_op))
 
 pub settle_committed-requires-clause-commits : goal.settle_committed-requires-clause-commits
 settle_committed-requires-clause-commits c =
     right_then c.args.self.now c.args.plan.now c.args.op _ _ _ c.requires.may.3 c.look-word.ensures _ _ _
-    (subst (λ (d : Bool). Learned c.args.self.now c.get.result.now.event c.look-word.new.hand c.decision.new.hand (Some d)) c.if-decision.true c.decision.ensures) (ap (λ (q : PlanOp). q.event) (c.get.ensures.at no_plan_op)) c.requires.may.1
+    (subst (λ (d : Bool). Learned (call_on c.args.self.now c.look-word.new.hand c.decision.new.hand) c.get.result.now.event (Some d)) c.if-decision.true c.decision.ensures) (ap (λ (q : PlanOp). q.event) (c.get.ensures.at no_plan_op)) c.requires.may.1
 
 pub settle_aborted-requires-clause-loaded : goal.settle_aborted-requires-clause-loaded
 settle_aborted-requires-clause-loaded c = last_then c.args.self.now c.args.plan.now c.args.op _ _ _ c.requires.may.3 c.look-word.ensures _ _ _ c.decision.ensures
@@ -41,7 +41,7 @@ settle_aborted-requires-clause-loaded c = last_then c.args.self.now c.args.plan.
 pub settle_aborted-requires-clause-decided : goal.settle_aborted-requires-clause-decided
 settle_aborted-requires-clause-decided c =
     known_then c.args.self.now c.args.plan.now c.args.op _ _ _ c.requires.may.3 c.look-word.ensures _ _ _
-    (subst (λ (d : Bool). Learned c.args.self.now c.get.result.now.event c.look-word.new.hand c.decision.new.hand (Some d)) c.if-decision.false c.decision.ensures) (ap (λ (q : PlanOp). q.event) (c.get.ensures.at no_plan_op))
+    (subst (λ (d : Bool). Learned (call_on c.args.self.now c.look-word.new.hand c.decision.new.hand) c.get.result.now.event (Some d)) c.if-decision.false c.decision.ensures) (ap (λ (q : PlanOp). q.event) (c.get.ensures.at no_plan_op))
 
 pub returns-then-decision-clause-does : goal.returns-then-decision-clause-does
 returns-then-decision-clause-does c = c.settle_committed.ensures.does (view_of c.args.hand.now) (opened_then c.args.self.now c.args.plan.now c.args.op _ _ _ c.requires.may.3 c.look-word.ensures _ _ _ c.decision.ensures)

@@ -66,7 +66,7 @@ impl Board {
         ensures view { view_of hand.new ≡ looked op result (view_of hand.old) }
         ensures word { IsWord result }
         ensures fresh { IsFresh (view_of hand.old) op result }
-        ensures does { (view_of hand.old).claim ≡ None
+        ensures answer { (view_of hand.old).claim ≡ None
             → PeekDoes plan.now (cap_of self.now) op (view_of hand.old) (view_of hand.new) result }
     {
         self.look(hand, op)
@@ -119,7 +119,7 @@ impl Board {
     pub fn ready(&self, hand: &mut Hand, plan: &Plan, op: u32) -> Readied
         requires may { MayBegin self.now hand.old plan.now op }
         ensures hand { IsHandOf self.now hand.new }
-        ensures does { MakeDoes plan.now (cap_of self.now) op (view_of hand.old)
+        ensures answer { MakeDoes plan.now (cap_of self.now) op (view_of hand.old)
             (view_of hand.new) result }
     {
         let word = self.look(hand, op);
@@ -142,7 +142,7 @@ impl Board {
     pub fn claim(&self, hand: &mut Hand, plan: &Plan, op: u32) -> Claimed
         requires may { MayBegin self.now hand.old plan.now op }
         ensures hand { IsHandOf self.now hand.new }
-        ensures does { ClaimDoes plan.now (cap_of self.now) op (view_of hand.old)
+        ensures answer { ClaimDoes plan.now (cap_of self.now) op (view_of hand.old)
             (view_of hand.new) result }
     {
         let word = self.look(hand, op);
@@ -166,7 +166,7 @@ impl Board {
         requires held { (a : ℕ) × (xs : List ℕ) × Holds (view_of hand.old) op a xs
             × (length xs ≡ j) }
         ensures hand { IsHandOf self.now hand.new }
-        ensures does { FetchDoes plan.now (cap_of self.now) op (view_of hand.old)
+        ensures answer { FetchDoes plan.now (cap_of self.now) op (view_of hand.old)
             (view_of hand.new) j result }
     {
         match origin_of(plan, op, j) {
@@ -187,7 +187,7 @@ impl Board {
             × (length xs ≡ j) }
         requires source { origin_at plan.now op j ≡ Written source }
         ensures hand { IsHandOf self.now hand.new }
-        ensures does { FetchDoes plan.now (cap_of self.now) op (view_of hand.old)
+        ensures answer { FetchDoes plan.now (cap_of self.now) op (view_of hand.old)
             (view_of hand.new) j result }
     {
         let word = self.look(hand, source);
@@ -216,7 +216,7 @@ impl Board {
         requires held { (a : ℕ) × (xs : List ℕ) × Holds (view_of hand.old) op a xs
             × (length xs ≡ places plan.now op) }
         ensures hand { IsHandOf self.now hand.new }
-        ensures does { FinishDoes plan.now (cap_of self.now) op (view_of hand.old)
+        ensures answer { FinishDoes plan.now (cap_of self.now) op (view_of hand.old)
             (view_of hand.new) result }
     {
         let Some(holding) = &hand.held else {
@@ -234,7 +234,7 @@ impl Board {
         requires may { MayCall self.now hand.old plan.now op }
         requires held { (a : ℕ) × (xs : List ℕ) × Holds (view_of hand.old) op a xs }
         ensures hand { IsHandOf self.now hand.new }
-        ensures does { GiveBackDoes plan.now (cap_of self.now) op (view_of hand.old)
+        ensures view { GiveBackDoes plan.now (cap_of self.now) op (view_of hand.old)
             (view_of hand.new) }
     {
         let Some(holding) = hand.held else {

@@ -25,7 +25,7 @@ impl Board {
         requires in_range { event < event_count plan.now }
         requires free { (view_of hand.old).claim ≡ None }
         ensures hand { IsHandOf self.now hand.new }
-        ensures does { DecideDoes plan.now (cap_of self.now) event (view_of hand.old)
+        ensures answer { DecideDoes plan.now (cap_of self.now) event (view_of hand.old)
             (view_of hand.new) result }
     {
         if let Some(committed) = self.learn(hand, plan, event) {

@@ -20,7 +20,7 @@ impl Board {
         requires may { MayBegin self.now hand.old plan.now op }
         requires sibling { IsSpreadFrom plan.now op sibling (view_of hand.old) }
         ensures hand { IsHandOf self.now hand.new }
-        ensures does { SpreadDoes plan.now (cap_of self.now) op (view_of hand.old)
+        ensures answer { SpreadDoes plan.now (cap_of self.now) op (view_of hand.old)
             (view_of hand.new) sibling result }
     {
         let word = self.look(hand, op);
@@ -56,7 +56,7 @@ impl Board {
         requires may { MayBegin self.now hand.old plan.now op }
         requires in_places { j < places plan.now op }
         ensures hand { IsHandOf self.now hand.new }
-        ensures does { RollDoes plan.now (cap_of self.now) op (view_of hand.old)
+        ensures answer { RollDoes plan.now (cap_of self.now) op (view_of hand.old)
             (view_of hand.new) j result }
     {
         let word = self.look(hand, op);

@@ -29,7 +29,7 @@ impl Board {
         requires decided { (committed : Bool) × IsDecisionSeen (view_of hand.old)
             (event_of plan.now op) committed }
         ensures hand { IsHandOf self.now hand.new }
-        ensures does { SettleDoes plan.now (cap_of self.now) op (view_of hand.old)
+        ensures answer { SettleDoes plan.now (cap_of self.now) op (view_of hand.old)
             (view_of hand.new) result }
     {
         let word = self.look(hand, op);
@@ -65,7 +65,7 @@ impl Board {
         requires decided { IsDecisionSeen (view_of hand.old) (event_of plan.now op) true }
         requires commits { verdict plan.now (event_of plan.now op) ≡ true }
         ensures hand { IsHandOf self.now hand.new }
-        ensures does { (v : V) → BeginsWithLoad plan.now op v (view_of hand.old) word
+        ensures answer { (v : V) → BeginsWithLoad plan.now op v (view_of hand.old) word
             → SettleDoes plan.now (cap_of self.now) op v (view_of hand.new) result }
     {
         if !is_in(word, OpState::Executed) {
@@ -95,7 +95,7 @@ impl Board {
         requires state { is_open word.state ≡ true }
         requires decided { IsDecisionSeen (view_of hand.old) (event_of plan.now op) false }
         ensures hand { IsHandOf self.now hand.new }
-        ensures does { (v : V) → BeginsWithLoad plan.now op v (view_of hand.old) word
+        ensures answer { (v : V) → BeginsWithLoad plan.now op v (view_of hand.old) word
             → SettleDoes plan.now (cap_of self.now) op v (view_of hand.new) result }
     {
         match self.source_value(hand, plan, op, 0, true) {

@@ -21,7 +21,7 @@ impl Board {
     pub fn verdict(&self, hand: &mut Hand, plan: &Plan, op: u32) -> Verdict
         requires may { MayBegin self.now hand.old plan.now op }
         ensures hand { IsHandOf self.now hand.new }
-        ensures does { VerdictDoes plan.now (cap_of self.now) op (view_of hand.old)
+        ensures answer { VerdictDoes plan.now (cap_of self.now) op (view_of hand.old)
             (view_of hand.new) result }
     {
         let (_, verdict) = self.judge(hand, plan, op);

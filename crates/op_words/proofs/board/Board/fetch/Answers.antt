@@ -8,8 +8,8 @@ use Rattle.op_words.proofs.board.Board.fetch.Goals as goal
 pub returns-in-Base-clause-hand : goal.returns-in-Base-clause-hand
 returns-in-Base-clause-hand c = let q = c.requires.held in (c.keep.ensures c.args.op q.0 q.1 q.2).hand
 
-pub returns-in-Base-clause-does : goal.returns-in-Base-clause-does
-returns-in-Base-clause-does c =
+pub returns-in-Base-clause-answer : goal.returns-in-Base-clause-answer
+returns-in-Base-clause-answer c =
     let q = c.requires.held in
     fetched_base c.args.self.now c.args.plan.now _ c.args.op c.args.j c.args.hand.now c.keep.new.hand q.0 c.in-Base.value q.1 q.2 (sym c.origin_of.ensures ∙ c.in-Base.is)
     (λ a ys holds. c.keep.ensures c.args.op a ys holds)

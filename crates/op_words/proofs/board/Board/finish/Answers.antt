@@ -10,8 +10,8 @@ use Rattle.op_words.proofs.board.Board.finish.Goals as goal
 pub returns-clause-hand : goal.returns-clause-hand
 returns-clause-hand c = let q = c.requires.held in (c.end.ensures q.0 q.1 q.2).hand
 
-pub returns-clause-does : goal.returns-clause-does
-returns-clause-does c =
+pub returns-clause-answer : goal.returns-clause-answer
+returns-clause-answer c =
     let q = c.requires.held in let p = c.args.plan.now in let o = c.args.op in
     let parts = held_parts c.args.hand.now c.in-Some.holding o q.0 q.1 (kept c.requires.may.0) c.in-Some.is q.2 in
     let answer : c.answer-answer.result ≡ value_of (op_at p o).op q.1 =

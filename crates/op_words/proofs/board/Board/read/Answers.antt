@@ -8,8 +8,8 @@ use Rattle.op_words.proofs.Handing.{kept, held_parts}
 use Rattle.op_words.proofs.Fetching.{still_holds, source_usable, fetched_source, unfetched_source}
 use Rattle.op_words.proofs.board.Board.read.Goals as goal
 
-pub returns-then-not-is_usable-clause-does : goal.returns-then-not-is_usable-clause-does
-returns-then-not-is_usable-clause-does c =
+pub returns-then-not-is_usable-clause-answer : goal.returns-then-not-is_usable-clause-answer
+returns-then-not-is_usable-clause-answer c =
     let q = c.requires.held in let is = c.requires.source in let b = c.args.self.now in let p = c.args.plan.now in let o = c.args.op in
     let h = c.args.hand.now in let g = c.look-word.new.hand in
     let other = (source_other p o c.args.j c.args.source (subst IsPlan (sym c.requires.may.1) c.requires.may.0.valid) c.requires.may.2 c.requires.in_places is).1 in
@@ -43,8 +43,8 @@ returns-clause-hand c =
     (c.keep.ensures c.args.op q.0 q.1
     (ap (λ v. v.claim) c.look-word.ensures.view ∙ q.2)).hand
 
-pub returns-clause-does : goal.returns-clause-does
-returns-clause-does c =
+pub returns-clause-answer : goal.returns-clause-answer
+returns-clause-answer c =
     let q = c.requires.held in let is = c.requires.source in let b = c.args.self.now in let p = c.args.plan.now in let o = c.args.op in
     let h = c.args.hand.now in let g = c.look-word.new.hand in
     let other = (source_other p o c.args.j c.args.source (subst IsPlan (sym c.requires.may.1) c.requires.may.0.valid) c.requires.may.2 c.requires.in_places is).1 in

@@ -15,11 +15,11 @@ use Rattle.op_words.proofs.Walking.{walk_row}
 use Rattle.op_words.proofs.Rolling.{not_rolled, source_stops, found_unrolled, found_fresh, rolled_done, walk_source, record_rolled, source_read, source_known, walk_sources, place_is, spread_aside, grounds_roll}
 use Rattle.op_words.proofs.board.Board.roll_back.Goals as goal
 
-pub returns-then-not-may_roll-clause-does : goal.returns-then-not-may_roll-clause-does
-returns-then-not-may_roll-clause-does c = not_rolled _ _ _ _ _ _ _ c.requires.may.3 c.requires.may.0 c.look-word.ensures (c.may_roll.ensures.not c.if-not-may_roll.true)
+pub returns-then-not-may_roll-clause-answer : goal.returns-then-not-may_roll-clause-answer
+returns-then-not-may_roll-clause-answer c = not_rolled _ _ _ _ _ _ _ c.requires.may.3 c.requires.may.0 c.look-word.ensures (c.may_roll.ensures.not c.if-not-may_roll.true)
 
-pub returns-in-Err-clause-does : goal.returns-in-Err-clause-does
-returns-in-Err-clause-does c =
+pub returns-in-Err-clause-answer : goal.returns-in-Err-clause-answer
+returns-in-Err-clause-answer c =
     let may = c.may_roll.ensures.may c.if-not-may_roll.false in let b = c.args.self.now in let p = c.args.plan.now in let o = c.args.op in let j = c.args.j in
     let d = c.in-Err.ensures in
     source_stops b p o j c.args.hand.now c.look-word.new.hand c.look-word.result c.requires.may.3 c.requires.may.0 c.look-word.ensures may.0 d.words (walk_row b o d.row) c.in-Err.stop
@@ -27,8 +27,8 @@ returns-in-Err-clause-does c =
     (record { place = j; in_places = c.requires.in_places; source_is = d.tells.source_is }) d.tells.unready.inside d.tells.unready.settled
     (elim d.tells.unready.cause [ inl idle ↦ inl (d.tells.source_is, idle) | inr needed ↦ inr (inl (c.is_at_cap.ensures.0 needed)) ])
 
-pub returns-then-not-is_same-clause-does : goal.returns-then-not-is_same-clause-does
-returns-then-not-is_same-clause-does c =
+pub returns-then-not-is_same-clause-answer : goal.returns-then-not-is_same-clause-answer
+returns-then-not-is_same-clause-answer c =
     let may = c.may_roll.ensures.may c.if-not-may_roll.false in let b = c.args.self.now in let p = c.args.plan.now in let o = c.args.op in let j = c.args.j in
     let h = c.args.hand.now in let g = c.look-word.new.hand in let w = c.look-word.result in
     let d = c.in-Ok.ensures in
@@ -36,8 +36,8 @@ returns-then-not-is_same-clause-does c =
     (walk_source b p o j h g _ _ w _ _ _ c.requires.may.3 c.look-word.ensures d c.recall-kept.ensures) _
     (λ same. false≢true (sym c.if-not-is_same.true ∙ c.is_same.ensures.1 same)) c.look-now.ensures
 
-pub returns-then-is_right-clause-does : goal.returns-then-is_right-clause-does
-returns-then-is_right-clause-does c =
+pub returns-then-is_right-clause-answer : goal.returns-then-is_right-clause-answer
+returns-then-is_right-clause-answer c =
     let may = c.may_roll.ensures.may c.if-not-may_roll.false in let b = c.args.self.now in let p = c.args.plan.now in let o = c.args.op in let j = c.args.j in
     let h = c.args.hand.now in let g = c.look-word.new.hand in let k = c.source_value.new.hand in let m = c.recall-kept.new.hand in let w = c.look-word.result in
     let kept = c.recall-kept.result in let x = c.in-Ok.value in let d = c.in-Ok.ensures in
@@ -49,8 +49,8 @@ returns-then-is_right-clause-does c =
     (source_read b p o j h g k m w kept x c.is_at_cap.result c.requires.may.3 c.look-word.ensures d c.recall-kept.ensures)
     (source_known b p o j h g k m w kept x c.is_at_cap.result c.requires.may.3 c.look-word.ensures d c.recall-kept.ensures)
 
-pub returns-in-Some-clause-does : goal.returns-in-Some-clause-does
-returns-in-Some-clause-does c =
+pub returns-in-Some-clause-answer : goal.returns-in-Some-clause-answer
+returns-in-Some-clause-answer c =
     let may = c.may_roll.ensures.may c.if-not-may_roll.false in let b = c.args.self.now in let p = c.args.plan.now in let o = c.args.op in let j = c.args.j in
     let h = c.args.hand.now in let g = c.look-word.new.hand in let k = c.source_value.new.hand in let m = c.recall-kept.new.hand in let w = c.look-word.result in
     let kept = c.recall-kept.result in let x = c.in-Ok.value in let d = c.in-Ok.ensures in
@@ -82,8 +82,8 @@ leave_blocked-requires-clause-place c =
     let h = c.args.hand.now in let g = c.look-word.new.hand in let k = c.source_value.new.hand in let m = c.recall-kept.new.hand in let w = c.look-word.result in
     sym (place_is b p o j h g k m w c.recall-kept.result c.in-Ok.value c.is_at_cap.result c.requires.may.3 c.look-word.ensures c.in-Ok.ensures c.recall-kept.ensures c.needs_settled-needed.result c.open_source.ensures)
 
-pub returns-in-None-clause-does : goal.returns-in-None-clause-does
-returns-in-None-clause-does c =
+pub returns-in-None-clause-answer : goal.returns-in-None-clause-answer
+returns-in-None-clause-answer c =
     let may = c.may_roll.ensures.may c.if-not-may_roll.false in let b = c.args.self.now in let p = c.args.plan.now in let o = c.args.op in let j = c.args.j in
     let h = c.args.hand.now in let g = c.look-word.new.hand in let k = c.source_value.new.hand in let m = c.recall-kept.new.hand in let w = c.look-word.result in
     let kept = c.recall-kept.result in let x = c.in-Ok.value in let d = c.in-Ok.ensures in
@@ -91,8 +91,8 @@ returns-in-None-clause-does c =
     (walk_sources b p o j h g k m w kept x c.is_at_cap.result c.requires.may.3 c.look-word.ensures d c.recall-kept.ensures c.needs_settled-needed.result c.open_source.ensures) _ may.1
     (place_is b p o j h g k m w kept x c.is_at_cap.result c.requires.may.3 c.look-word.ensures d c.recall-kept.ensures c.needs_settled-needed.result c.open_source.ensures) c.in-None.ensures
 
-pub returns-in-Some-leave_blocked-clause-does : goal.returns-in-Some-leave_blocked-clause-does
-returns-in-Some-leave_blocked-clause-does c =
+pub returns-in-Some-leave_blocked-clause-answer : goal.returns-in-Some-leave_blocked-clause-answer
+returns-in-Some-leave_blocked-clause-answer c =
     let may = c.may_roll.ensures.may c.if-not-may_roll.false in let b = c.args.self.now in let p = c.args.plan.now in let o = c.args.op in let j = c.args.j in
     let h = c.args.hand.now in let g = c.look-word.new.hand in let k = c.source_value.new.hand in let m = c.recall-kept.new.hand in let w = c.look-word.result in
     let kept = c.recall-kept.result in let x = c.in-Ok.value in let d = c.in-Ok.ensures in

@@ -8,8 +8,8 @@ use Rattle.op_words.specs.Stepping.{Learned}
 use Rattle.op_words.proofs.Sealing.{closed_cases, stopped_here, opened_first, opened_then, last_then, known_then, right_then}
 use Rattle.op_words.proofs.board.Board.settle.Goals as goal
 
-pub returns-then-not-is_open-clause-does : goal.returns-then-not-is_open-clause-does
-returns-then-not-is_open-clause-does c =
+pub returns-then-not-is_open-clause-answer : goal.returns-then-not-is_open-clause-answer
+returns-then-not-is_open-clause-answer c =
     stopped_here c.args.self.now c.args.plan.now c.args.op (view_of c.args.hand.now) c.look-word.new.hand c.look-word.result
     (opened_first c.args.self.now c.args.plan.now c.args.op c.args.hand.now c.look-word.new.hand c.look-word.result c.requires.may.3 c.look-word.ensures)
     (inl (closed_cases c.look-word.result.state (sym c.is_open.ensures ∙ c.if-not-is_open.true)))
@@ -43,8 +43,8 @@ settle_aborted-requires-clause-decided c =
     known_then c.args.self.now c.args.plan.now c.args.op _ _ _ c.requires.may.3 c.look-word.ensures _ _ _
     (subst (λ (d : Bool). Learned (call_on c.args.self.now c.look-word.new.hand c.decision.new.hand) c.get.result.now.event (Some d)) c.if-decision.false c.decision.ensures) (ap (λ (q : PlanOp). q.event) (c.get.ensures.at no_plan_op))
 
-pub returns-then-decision-clause-does : goal.returns-then-decision-clause-does
-returns-then-decision-clause-does c = c.settle_committed.ensures.does (view_of c.args.hand.now) (opened_then c.args.self.now c.args.plan.now c.args.op _ _ _ c.requires.may.3 c.look-word.ensures _ _ _ c.decision.ensures)
+pub returns-then-decision-clause-answer : goal.returns-then-decision-clause-answer
+returns-then-decision-clause-answer c = c.settle_committed.ensures.answer (view_of c.args.hand.now) (opened_then c.args.self.now c.args.plan.now c.args.op _ _ _ c.requires.may.3 c.look-word.ensures _ _ _ c.decision.ensures)
 
-pub returns-else-decision-clause-does : goal.returns-else-decision-clause-does
-returns-else-decision-clause-does c = c.settle_aborted.ensures.does (view_of c.args.hand.now) (opened_then c.args.self.now c.args.plan.now c.args.op _ _ _ c.requires.may.3 c.look-word.ensures _ _ _ c.decision.ensures)
+pub returns-else-decision-clause-answer : goal.returns-else-decision-clause-answer
+returns-else-decision-clause-answer c = c.settle_aborted.ensures.answer (view_of c.args.hand.now) (opened_then c.args.self.now c.args.plan.now c.args.op _ _ _ c.requires.may.3 c.look-word.ensures _ _ _ c.decision.ensures)

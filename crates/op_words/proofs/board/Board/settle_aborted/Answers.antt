@@ -45,16 +45,16 @@ seal-requires-clause-grounds c =
     } in
     subst (λ (q : Plan). MaySettleIt q (view_of k) o c.args.word c.settled_aborted-new.result) c.requires.may.1 (inr aborts)
 
-pub returns-in-Err-clause-does : goal.returns-in-Err-clause-does
-returns-in-Err-clause-does c v opened =
+pub returns-in-Err-clause-answer : goal.returns-in-Err-clause-answer
+returns-in-Err-clause-answer c v opened =
     let b = c.args.self.now in let p = c.args.plan.now in let o = c.args.op in
     let at = loaded_as b p o 0 c.args.hand.now c.source_value.new.hand _ (subst (SourceDoes (call_on b c.args.hand.now c.source_value.new.hand) p o 0 true) c.in-Err.is c.source_value.ensures) in
     stopped_there b p o v c.args.hand.now c.args.word opened at.words at.walk (open_unsettled c.args.word.state c.requires.state) _ _
     (source_other _ _ _ _ (subst IsPlan (sym c.requires.may.1) c.requires.may.0.valid) c.requires.may.2 (zero-lt-suc _) at.tells.source_is).1
     (record { place = 0; in_places = zero-lt-suc _; source_is = at.tells.source_is }) at.tells.inside at.tells.settled (inr at.tells.source_is)
 
-pub returns-in-Ok-clause-does : goal.returns-in-Ok-clause-does
-returns-in-Ok-clause-does c v opened =
+pub returns-in-Ok-clause-answer : goal.returns-in-Ok-clause-answer
+returns-in-Ok-clause-answer c v opened =
     let b = c.args.self.now in let p = c.args.plan.now in let o = c.args.op in
     let at = loaded_as b p o 0 c.args.hand.now c.source_value.new.hand _ (subst (SourceDoes (call_on b c.args.hand.now c.source_value.new.hand) p o 0 true) c.in-Ok.is c.source_value.ensures) in
     let made = c.settled_aborted-new.ensures in

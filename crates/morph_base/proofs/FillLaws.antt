@@ -16,7 +16,7 @@ use Rattle.morph_base.specs.Numbering.{IsNumbering}
 use Rattle.morph_base.specs.Sources.{IsSource}
 use Rattle.morph_base.specs.Transactions.{Transaction}
 use Rattle.morph_base.specs.States.{State}
-use Rattle.morph_base.specs.Plans.{IsPlan, high_of, event_count, op_count, event_at, op_at, event_of, numbers_of, target, keys_of, key_at, origin_at, HasBases, IsSourceIn, PlanKeysIn, no_plan_op, transaction_in, transactions, filled_in, filled, filled_plan}
+use Rattle.morph_base.specs.Plans.{IsPlan, high_of, op_count, op_at, event_of, numbers_of, target, keys_of, key_at, origin_at, HasBases, IsSourceIn, PlanKeysIn, no_plan_op, transaction_in, transactions, filled_in, filled, filled_plan}
 use Rattle.morph_base.proofs.BaseLaws.{bases-opening}
 use Rattle.morph_base.proofs.OutcomeLaws.{keys_fit}
 

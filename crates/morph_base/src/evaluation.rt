@@ -7,9 +7,6 @@ use crate::limits::MAX;
 use crate::operation::{Func, Op};
 use crate::word::{OpState, OpWord};
 
-#[cfg(test)]
-mod tests;
-
 /// The new value of an operation's target, or `None` if the operation fails, as [`Func`] says for each function.
 ///
 /// `xs` has the value of the target and then those of the parameters, each at most [`MAX`], and the operation has a

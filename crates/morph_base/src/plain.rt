@@ -18,9 +18,6 @@ use crate::outcome::Outcome;
 use crate::values::Values;
 use std::alloc::Global;
 
-#[cfg(test)]
-mod tests;
-
 /// Folds a batch into the values, and returns the outcome of each event, by rising timestamp.
 ///
 /// The batch is valid, and its keys are in the layout of the values. If memory is refused, the values are those after

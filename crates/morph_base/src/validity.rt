@@ -10,9 +10,6 @@ use crate::key::{Key, Layout};
 use crate::limits::{EVENT_OPS, EVENTS, FIRST_MAX, LATEST, MAX, READS};
 use crate::operation::Op;
 
-#[cfg(test)]
-mod tests;
-
 impl Batch {
     /// Whether the batch is valid.
     ///

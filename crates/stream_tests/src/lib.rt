@@ -1,5 +1,5 @@
-//! Tests of the crates that a stream passes through as text: sources and sinks, the reader, the applications and the
-//! lines of a journal, over their public calls only.
+//! Tests of the vocabulary, and of the crates that a stream passes through as text: sources and sinks, the reader, the
+//! applications and the lines of a journal, over their public calls only.
 //!
 //! They are in one crate, so that none of the others is proved again with its tests, and so that all of them share what
 //! reads the batches of a source, and what says how an application takes a line.
@@ -8,6 +8,8 @@
 //!
 //! | File | What it has |
 //! |---|---|
+//! | `functions`, `valid_batches`, `folds` | `morph_base`: what functions answer; valid batches; folds of batches |
+//! | `lists`, `packed_words` | `morph_base`: lists; words as numbers |
 //! | `counter`, `readings` | an application for these tests; all batches that a source gives |
 //! | `app_lines` | how an application takes a line, and which lines it writes |
 //! | `copies`, `adapters` | `morph_io`: sources, sinks and buffers in memory; those over std |
@@ -27,6 +29,10 @@ mod copies;
 #[cfg(test)]
 mod counter;
 #[cfg(test)]
+mod folds;
+#[cfg(test)]
+mod functions;
+#[cfg(test)]
 mod grep;
 #[cfg(test)]
 mod journals;
@@ -35,6 +41,12 @@ mod ledger;
 #[cfg(test)]
 mod lines;
 #[cfg(test)]
+mod lists;
+#[cfg(test)]
+mod packed_words;
+#[cfg(test)]
 mod readings;
 #[cfg(test)]
 mod toll;
+#[cfg(test)]
+mod valid_batches;

@@ -1,4 +1,4 @@
-use Rattle.std.proofs.Common.{◌≡◌, ℕ, ◌-◌, ◌<◌, [], length, get_or, take, drop, refl, sym, ap, ◌∙◌, arith}
+use Rattle.std.proofs.Common.{◌≡◌, ◌-◌, ◌<◌, [], length, get_or, take, drop, refl, sym, ap, ◌∙◌, arith}
 use Rattle.morph_base.specs.Rows.{start_of, row_at}
 use Rattle.morph_base.proofs.RowLemmas.{count_rows, row_is}
 use Rattle.morph_base.proofs.rows.Rows.row.Goals as goal

@@ -1,5 +1,5 @@
-use super::*;
-use crate::{Func, List, OutOfMemory};
+//! Batches that are put together by hand: whether they are valid.
+use morph_base::{Batch, Event, FIRST_MAX, Func, Key, LATEST, Layout, List, MAX, Op, OutOfMemory};
 use std::alloc::Global;
 use std::test::Fail;
 

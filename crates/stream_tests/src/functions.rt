@@ -1,8 +1,7 @@
+//! The functions of operations, as a table of answers says.
 ghost use Rattle.std.specs.Prelude.{◌≤◌, ◌↔◌, All, IsTrue};
 
-use super::*;
-use crate::key::Key;
-use crate::limits::{FIRST_MAX, PARAMS};
+use morph_base::{FIRST_MAX, Func, Key, MAX, Op, PARAMS, eval};
 use std::process::Abort;
 
 /// Whether all are at most [`MAX`].

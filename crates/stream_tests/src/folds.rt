@@ -1,8 +1,9 @@
 //! The fold of batches as three applications make them, from all values 0: a ledger of accounts and assets, sums over
 //! cells, and tolls for the vehicles of a segment.
-use super::fold;
-use crate::limits::FIRST_MAX;
-use crate::{Batch, Event, Func, Key, Layout, List, Op, OutOfMemory, Outcome, Values};
+use morph_base::plain::fold;
+use morph_base::{
+    Batch, Event, FIRST_MAX, Func, Key, Layout, List, Op, OutOfMemory, Outcome, Values,
+};
 use std::alloc::Global;
 use std::process::Abort;
 use std::test::Fail;

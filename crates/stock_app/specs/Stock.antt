@@ -17,7 +17,8 @@ use Rattle.event_reader.specs.Steps.{Meaning}
 use Rattle.event_reader.specs.Versions.{greatest_of, op_in}
 use Rattle.stock_app.specs.declared.item.Item.{Item}
 
--- The printed names of the tables: the stock of each item, the bill of each customer, and that bill before the customer's last order
+-- The printed names of the tables: the stock of each item, the bill of each customer, and that bill before the
+-- customer's last order
 abbrev pub table_name : ℕ → List ℕ
 table_name table = if table == 0 then codes "item" else (if table == 1 then codes "bill" else codes "before")
 
@@ -41,8 +42,8 @@ restock_by version ns = Ok (record { ts = slice_index ns 0; ops = op_in version 
 abbrev pub payment_by : Version → List ℕ → Result Transaction Cause
 payment_by version ns = Ok (record { ts = slice_index ns 0; ops = op_in version Sub (bill (slice_index ns 1)) [] (slice_index ns 2) ∷ [] })
 
--- The bill before an order is at most what the limit leaves beside the cost, and is kept. If the order alone costs more than the limit, the
--- operation takes more than any value, so that it fails on each
+-- The bill before an order is at most what the limit leaves beside the cost, and is kept. If the order alone costs more
+-- than the limit, the operation takes more than any value, so that it fails on each
 abbrev pub limit_check : Version → (customer limit cost : ℕ) → Op
 limit_check version customer limit cost =
     if nat_lt limit cost then limited_to (greatest_of version) (greatest_of version) (op_of Sub (before customer) [] (greatest_of version))
@@ -80,8 +81,8 @@ order version ts customer limit items =
     let cost = sum_by cost_of items in
     record { ts = ts; ops = limit_check version customer limit cost ∷ op_in version Add (bill customer) [] cost ∷ map (taking version) items }
 
--- What the numbers behind an order's limit say: form if they are not three for each item, range if an item is not offered, same if
--- an item stands there twice, and else the order
+-- What the numbers behind an order's limit say: form if they are not three for each item, range if an item is not
+-- offered, same if an item stands there twice, and else the order
 abbrev pub ordered : Version → (size ts customer limit : ℕ) → List ℕ → Result Transaction Cause
 ordered version size ts customer limit ns =
     let items = items_of ns in

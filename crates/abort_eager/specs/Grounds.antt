@@ -4,6 +4,7 @@ use Rattle.morph_base.specs.Graphs.{IsValidPlan}
 use Rattle.morph_base.specs.Plans.{op_count}
 use Rattle.chain_units.specs.Places.{IsPartition}
 use Rattle.op_words.specs.Hands.{plan_of}
+use Rattle.op_eval.specs.Exploring.{RunRules, rules_on}
 use Rattle.abort_eager.specs.declared.ground.Ground.{Ground}
 
 -- The plan is the board's and valid, and the units are the plan's
@@ -12,3 +13,7 @@ pub record IsGround (g : Ground) : Type 0 where
   pub valid : IsValidPlan g.plan.now
   pub units : IsPartition g.units.now.units (op_count g.plan.now)
   pub number : g.units.now.ops ≡ op_count g.plan.now
+
+-- The rules that workers with this ground go by
+abbrev pub ground_rules : Ground → RunRules
+ground_rules g = rules_on g.board.now g.plan.now g.units.now.units g.abort

@@ -30,7 +30,7 @@ pub fn attempt<T: Turns>(
     requires in_range { op < op_count ground.now.plan.now }
     requires idle { IsFreeRunner ground.now.board.now runner.old }
     ensures idle { IsFreeRunner ground.now.board.now runner.new }
-    ensures does { Tries ground.now.plan.now (cap_of ground.now.board.now) op runner.old
+    ensures answer { Tries ground.now.plan.now (cap_of ground.now.board.now) op runner.old
         runner.new result }
 {
     let answer = evaluate(ground.board, runner, ground.plan, op);
@@ -96,13 +96,13 @@ pub struct AttemptWithCascade<'a, T, N> {
 }
 
 impl<T: Turns, N: Notes> Walking<Runner> for AttemptWithCascade<'_, T, N> {
-    ghost use Rattle.op_words.specs.Hands.{cap_of};
     ghost use Rattle.op_eval.specs.Running.{IsFreeRunner};
+    ghost use Rattle.abort_eager.specs.Grounds.{ground_rules};
     ghost use Rattle.abort_eager.specs.Sweeps.{AttemptsNoting};
 
     ghost can_walk = { λ g runner. IsFreeRunner g.board.now runner };
 
-    ghost visits = { λ g. AttemptsNoting g.plan.now (cap_of g.board.now) N.leaves g.abort };
+    ghost visits = { λ g. AttemptsNoting (ground_rules g) N.leaves };
 
     fn visit(&self, ground: &Ground<'_>, worker: &mut Runner, op: u32) -> Evaluation {
         let answer = attempt(ground, self.told, self.turn, worker, op);

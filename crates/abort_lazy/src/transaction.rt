@@ -47,7 +47,7 @@ pub fn settle_txn(board: &Board, runner: &mut Runner, plan: &Plan, event: u32) -
     requires in_range { event < event_count plan.now }
     requires free { (hand_view runner.old).claim ≡ None }
     ensures hand { IsHandOf board.now runner.new.hand }
-    ensures does { TxnDoes plan.now event (hand_view runner.old) (hand_view runner.new) result }
+    ensures answer { TxnDoes plan.now event (hand_view runner.old) (hand_view runner.new) result }
     ensures answered { IsAnswered (event_at plan.now event).count runner.old runner.new }
 {
     if let Some(answer) = prepare_all(board, runner, plan, event) {

@@ -29,7 +29,7 @@ fn try_event(board: &Board, runner: &mut Runner, plan: &Plan, event: u32)
     requires free { (hand_view runner.old).claim ≡ None }
     requires room { 0 < runner.old.kept.room }
     ensures hand { IsHandOf board.now runner.new.hand }
-    ensures does { HasTriedOne plan.now event runner.old runner.new }
+    ensures tried { HasTriedOne plan.now event runner.old runner.new }
 {
     match settle_txn(board, runner, plan, event) {
         TxnAnswer::Settled { .. } => {}
@@ -53,9 +53,7 @@ fn go_over(sweep: &Sweep<'_>, runner: &mut Runner)
     requires fits { FitsBoard sweep.now.board.now sweep.now.plan.now sweep.now.counter
         sweep.now.events.now }
     requires can { CanSweep sweep.now.board.now sweep.now.counter sweep.now.events.now runner.old }
-    ensures does { HasSwept sweep.now.board.now sweep.now.plan.now sweep.now.counter
-        sweep.now.events.now
-        runner.old runner.new }
+    ensures swept { HasSwept sweep.now runner.old runner.new }
 {
     for _turn in 0..sweep.events.len() {
         let number = runner.take(sweep.board, sweep.counter);
@@ -77,8 +75,7 @@ impl Job<Runner> for Sweep<'_> {
     ghost can_run = { λ job runner. FitsBoard job.board.now job.plan.now job.counter job.events.now
         × CanSweep job.board.now job.counter job.events.now runner };
 
-    ghost changes = { λ job before after. HasSwept job.board.now job.plan.now job.counter
-        job.events.now before after };
+    ghost changes = { λ job before after. HasSwept job before after };
 
     fn run(&self, worker: &mut Runner) {
         go_over(self, worker)
@@ -92,7 +89,7 @@ pub fn sweep_by<T: Threads + Sync>(rt: &T, runners: &mut [Runner], sweep: &Sweep
         sweep.now.events.now }
     requires can { All (CanSweep sweep.now.board.now sweep.now.counter
         sweep.now.events.now) runners.old }
-    ensures does { AreSwept sweep.now.board.now sweep.now.plan.now sweep.now.counter
+    ensures swept { AreSwept sweep.now.board.now sweep.now.plan.now sweep.now.counter
         sweep.now.events.now
         runners.old runners.new }
 {

@@ -22,7 +22,7 @@ pub(super) fn decide_now(
     requires in_range { event < event_count plan.now }
     requires free { (view_of hand.old).claim ≡ None }
     ensures hand { IsHandOf board.now hand.new }
-    ensures does { DecidedDoes plan.now event (view_of hand.old) (view_of hand.new) result }
+    ensures decided { DecidedDoes plan.now event (view_of hand.old) (view_of hand.new) result }
 {
     match board.decide(hand, plan, event) {
         Decided::Committed => Ok(true),
@@ -48,7 +48,7 @@ fn decide_again(board: &Board, hand: &mut Hand, plan: &Plan, event: u32) -> Resu
     requires free { (view_of hand.old).claim ≡ None }
     requires seen { (o : ℕ) × InEvent plan.now event o × IsSettledSeen (view_of hand.old) o }
     ensures hand { IsHandOf board.now hand.new }
-    ensures does { DecidedDoes plan.now event (view_of hand.old) (view_of hand.new) result }
+    ensures decided { DecidedDoes plan.now event (view_of hand.old) (view_of hand.new) result }
 {
     match board.decide(hand, plan, event) {
         Decided::Committed => Ok(true),

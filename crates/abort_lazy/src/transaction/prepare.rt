@@ -8,7 +8,7 @@ ghost use Rattle.op_words.specs.Hands.{MayBegin};
 ghost use Rattle.op_words.specs.Hands.{plan_of, cap_of, view_of, IsHandOf};
 ghost use Rattle.op_eval.specs.Running.{hand_view};
 ghost use Rattle.abort_lazy.specs.Transactions.{IsAnswered};
-ghost use Rattle.abort_lazy.specs.Progress.{IsIdleSoFar, IsOutdatedSoFar, IsMadeSoFar, IsFoundSoFar, ReadyDoes, AllReadyDoes};
+ghost use Rattle.abort_lazy.specs.Progress.{so_far, IsIdleSoFar, IsOutdatedSoFar, IsMadeSoFar, IsFoundSoFar, ReadyDoes, AllReadyDoes};
 
 use super::{TxnAnswer, end_of, first_of, stop};
 use morph_base::{OpState, OpWord, Plan};
@@ -27,7 +27,7 @@ pub(super) fn prepare_all(
     requires in_range { event < event_count plan.now }
     requires free { (hand_view runner.old).claim ≡ None }
     ensures hand { IsHandOf board.now runner.new.hand }
-    ensures does { AllReadyDoes plan.now event (hand_view runner.old)
+    ensures ready { AllReadyDoes plan.now event (hand_view runner.old)
         (hand_view runner.new) result }
     ensures answered { IsAnswered (event_at plan.now event).count runner.old runner.new }
 {
@@ -54,7 +54,7 @@ fn prepare(
     requires inside { InEvent plan.now event op }
     ensures hand { IsHandOf board.now runner.new.hand }
     ensures free { (hand_view runner.new).claim ≡ None }
-    ensures does { ReadyDoes plan.now event op (hand_view runner.old)
+    ensures ready { ReadyDoes plan.now event op (hand_view runner.old)
         (hand_view runner.new) result }
     ensures answered { IsAnswered 1 runner.old runner.new }
 {
@@ -85,8 +85,8 @@ fn mend(
     requires inside { InEvent plan.now event op }
     ensures hand { IsHandOf board.now runner.new.hand }
     ensures free { (hand_view runner.new).claim ≡ None }
-    ensures does { (start : View) (xs : List Item)
-        → IsFoundSoFar plan.now (cap_of board.now) op start (hand_view runner.old) xs word
+    ensures ready { (start : View) (xs : List Item)
+        → IsFoundSoFar plan.now (cap_of board.now) op (so_far start (hand_view runner.old) xs) word
         → ReadyDoes plan.now event op start (hand_view runner.new) result }
     ensures answered { IsAnswered 1 runner.old runner.new }
 {
@@ -116,8 +116,8 @@ fn redo(
     requires inside { InEvent plan.now event op }
     ensures hand { IsHandOf board.now runner.new.hand }
     ensures free { (hand_view runner.new).claim ≡ None }
-    ensures does { (start : View) (xs : List Item)
-        → IsOutdatedSoFar plan.now (cap_of board.now) op j start (hand_view runner.old) xs
+    ensures ready { (start : View) (xs : List Item)
+        → IsOutdatedSoFar plan.now (cap_of board.now) op j (so_far start (hand_view runner.old) xs)
         → ReadyDoes plan.now event op start (hand_view runner.new) result }
     ensures answered { IsAnswered 1 runner.old runner.new }
 {
@@ -143,7 +143,7 @@ fn run(board: &Board, runner: &mut Runner, plan: &Plan, event: u32, op: u32) -> 
     requires inside { InEvent plan.now event op }
     ensures hand { IsHandOf board.now runner.new.hand }
     ensures free { (hand_view runner.new).claim ≡ None }
-    ensures does { (start : View) (xs : List Item) → IsIdleSoFar op start (hand_view runner.old) xs
+    ensures ready { (start : View) (xs : List Item) → IsIdleSoFar op (so_far start (hand_view runner.old) xs)
         → ReadyDoes plan.now event op start (hand_view runner.new) result }
     ensures answered { IsAnswered 1 runner.old runner.new }
 {
@@ -162,8 +162,8 @@ fn judge(board: &Board, hand: &mut Hand, plan: &Plan, event: u32, op: u32) -> Op
     requires inside { InEvent plan.now event op }
     ensures hand { IsHandOf board.now hand.new }
     ensures free { (view_of hand.new).claim ≡ None }
-    ensures does { (start : View) (xs : List Item)
-        → IsMadeSoFar plan.now (cap_of board.now) op start (view_of hand.old) xs
+    ensures ready { (start : View) (xs : List Item)
+        → IsMadeSoFar plan.now (cap_of board.now) op (so_far start (view_of hand.old) xs)
         → ReadyDoes plan.now event op start (view_of hand.new) result }
 {
     match board.verdict(hand, plan, op) {

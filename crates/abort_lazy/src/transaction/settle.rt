@@ -22,7 +22,7 @@ pub(super) fn settle_rest(
     requires free { (view_of hand.old).claim ≡ None }
     requires decided { (committed : Bool) × IsDecisionSeen (view_of hand.old) event committed }
     ensures hand { IsHandOf board.now hand.new }
-    ensures does { RestDoes plan.now event (view_of hand.old) (view_of hand.new) result }
+    ensures settled { RestDoes plan.now event (view_of hand.old) (view_of hand.new) result }
 {
     let first = first_of(plan, event);
     let end = end_of(plan, event);
@@ -45,7 +45,7 @@ fn settle_one(board: &Board, hand: &mut Hand, plan: &Plan, event: u32, op: u32) 
     requires decided { (committed : Bool) × IsDecisionSeen (view_of hand.old) event committed }
     ensures hand { IsHandOf board.now hand.new }
     ensures free { (view_of hand.new).claim ≡ None }
-    ensures does { OneDoes plan.now event op (view_of hand.old) (view_of hand.new) result }
+    ensures settled { OneDoes plan.now event op (view_of hand.old) (view_of hand.new) result }
 {
     match board.settle(hand, plan, op) {
         SettleAnswer::Done(_) => None,

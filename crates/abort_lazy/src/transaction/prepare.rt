@@ -1,13 +1,13 @@
 //! Makes operations ready for the decision on their event.
 ghost use Rattle.std.specs.Prelude.{◌≡◌, ◌<◌, List, None};
-ghost use Rattle.morph_base.specs.Plans.{event_at, event_count, InEvent};
+ghost use Rattle.morph_base.specs.Plans.{event_at, InEvent};
 ghost use Rattle.interleaving_core.specs.Core.{places};
 ghost use Rattle.op_words.specs.declared.trail.Item.{Item};
 ghost use Rattle.op_words.specs.declared.trail.View.{View};
 ghost use Rattle.op_words.specs.Hands.{MayBegin};
-ghost use Rattle.op_words.specs.Hands.{plan_of, cap_of, view_of, IsHandOf};
+ghost use Rattle.op_words.specs.Hands.{cap_of, view_of, IsHandOf};
 ghost use Rattle.op_eval.specs.Running.{hand_view};
-ghost use Rattle.abort_lazy.specs.Transactions.{IsAnswered};
+ghost use Rattle.abort_lazy.specs.Transactions.{MaySettle, IsAnswered};
 ghost use Rattle.abort_lazy.specs.Progress.{so_far, IsIdleSoFar, IsOutdatedSoFar, IsMadeSoFar, IsFoundSoFar, ReadyDoes, AllReadyDoes};
 
 use super::{TxnAnswer, end_of, first_of, stop};
@@ -22,10 +22,7 @@ pub(super) fn prepare_all(
     plan: &Plan,
     event: u32,
 ) -> Option<TxnAnswer>
-    requires hand { IsHandOf board.now runner.old.hand }
-    requires plan { plan.now ≡ plan_of board.now }
-    requires in_range { event < event_count plan.now }
-    requires free { (hand_view runner.old).claim ≡ None }
+    requires may { MaySettle board.now runner.old.hand plan.now event }
     ensures hand { IsHandOf board.now runner.new.hand }
     ensures ready { AllReadyDoes plan.now event (hand_view runner.old)
         (hand_view runner.new) result }

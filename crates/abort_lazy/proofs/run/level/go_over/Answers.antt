@@ -15,10 +15,11 @@ take-number-requires-clause-few c = let keeps = c.loop-turn.invariant in let t =
 pub returns-then-number-sweep : goal.returns-then-number-sweep
 returns-then-number-sweep c = record { swept = past_end _ _ _ _ _ _ c.loop-turn.invariant c.take-number.ensures.number c.take-number.ensures.hand c.if-number-sweep.true }
 
-pub try_event-requires-clause-free : goal.try_event-requires-clause-free
-try_event-requires-clause-free c =
+pub try_event-requires-clause-may : goal.try_event-requires-clause-may
+try_event-requires-clause-may c =
     let keeps = c.loop-turn.invariant in
-    taken_free _ _ _ _ c.take-number.ensures.number (calls_free _ keeps.swept.calls _ _ keeps.swept.made c.requires.can.free)
+    let free = taken_free _ _ _ _ c.take-number.ensures.number (calls_free _ keeps.swept.calls _ _ keeps.swept.made c.requires.can.free) in
+    (c.take-number.ensures.hand, c.requires.fits.plan, c.requires.fits.inside _ 0 c.if-number-sweep.false, free)
 
 pub try_event-requires-clause-room : goal.try_event-requires-clause-room
 try_event-requires-clause-room c =

@@ -5,12 +5,12 @@ use Rattle.abort_lazy.proofs.Ending.{in_range, ready_none, ready_up, ready_stops
 use Rattle.abort_lazy.proofs.transaction.prepare.prepare_all.Goals as goal
 
 pub loop-op-init : goal.loop-op-init
-loop-op-init c = (c.requires.hand, ready_none _ _ _ _ c.requires.free c.requires.hand.told.agree, answered_none _ _ _ refl refl)
+loop-op-init c = (c.requires.may.0, ready_none _ _ _ _ c.requires.may.3 c.requires.may.0.told.agree, answered_none _ _ _ refl refl)
 
 pub prepare-requires-clause-may : goal.prepare-requires-clause-may
 prepare-requires-clause-may c =
     let inside : InEvent c.args.plan.now c.args.event c.loop-op.op = record { from = omega (arith, c.first_of-first.ensures, c.loop-op.auto.op); below = omega (arith, c.end_of-end.ensures) } in
-    (c.loop-op.invariant.0, c.requires.plan, in_range _ _ _ (subst IsPlan (sym c.requires.plan) c.requires.hand.valid) c.requires.in_range inside, c.loop-op.invariant.1.goes.free)
+    (c.loop-op.invariant.0, c.requires.may.1, in_range _ _ _ (subst IsPlan (sym c.requires.may.1) c.requires.may.0.valid) c.requires.may.2 inside, c.loop-op.invariant.1.goes.free)
 
 pub prepare-requires-clause-inside : goal.prepare-requires-clause-inside
 prepare-requires-clause-inside c =

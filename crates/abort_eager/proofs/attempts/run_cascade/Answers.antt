@@ -11,14 +11,16 @@ use Rattle.abort_eager.proofs.attempts.run_cascade.Goals as goal
 pub loop-touched-init : goal.loop-touched-init
 loop-touched-init g c =
     let start = c.start-cascade.ensures in (
-      c.requires.idle,
+      c.requires.may.2,
       start.cascade,
       λ failed. subst (λ o. HasShownFailure (hand_view c.args.runner.now) o) (sym start.op) (c.requires.cause (sym start.failed ∙ failed)),
       λ u all. subst (λ gs. SweepsAll c.args.ground.now.plan.now (cap_of c.args.ground.now.board.now) g.N.Notes.leaves gs c.args.runner.now u) start.targets all,
     )
 
-pub note-requires-clause-in_range : goal.note-requires-clause-in_range
-note-requires-clause-in_range g c = next_in_range _ _ c.loop-touched.cascade c.next.new.self _ _ c.in-Some.touched c.in-Some.ensures.answer
+pub note-requires : goal.note-requires
+note-requires g c =
+    let within = next_in_range _ _ c.loop-touched.cascade c.next.new.self _ _ c.in-Some.touched c.in-Some.ensures.answer in
+    record { may = (c.requires.may.0, within, record { hand = c.next.ensures.hand; free = c.next.ensures.free }) }
 
 pub loop-touched-preserved : goal.loop-touched-preserved
 loop-touched-preserved g c = (

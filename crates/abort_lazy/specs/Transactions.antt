@@ -21,8 +21,8 @@ use Rattle.abort_lazy.specs.declared.transaction.TxnAnswer.TheVariants.{Settled 
 
 -- A call may use hand h for event i of plan p: the hand is one of the board's and holds nothing, and the plan is the
 -- board's and has the event
-abbrev pub MaySettle : Board → (h : Hand) → (p : Plan) → (i : ℕ) → Type 0
-MaySettle b h p i = IsHandOf b h × (p ≡ plan_of b) × (i < event_count p) × ((view_of h).claim ≡ None)
+abbrev pub MaySettleEvent : Board → (h : Hand) → (p : Plan) → (i : ℕ) → Type 0
+MaySettleEvent b h p i = IsHandOf b h × (p ≡ plan_of b) × (i < event_count p) × ((view_of h).claim ≡ None)
 
 -- The hand saw each source of operation o settled
 pub record AreSourcesSeen (p : Plan) (v : View) (o : ℕ) : Type 0 where

@@ -3,7 +3,7 @@ ghost use Rattle.std.specs.Prelude.{◌≡◌, ◌+◌, ◌<◌};
 ghost use Rattle.morph_base.specs.Plans.{IsPlan, event_at, event_count};
 ghost use Rattle.op_words.specs.Hands.{IsHandOf};
 ghost use Rattle.op_eval.specs.Running.{hand_view};
-ghost use Rattle.abort_lazy.specs.Transactions.{MaySettle, StopsAt, TxnDoes, IsAnswered};
+ghost use Rattle.abort_lazy.specs.Transactions.{MaySettleEvent, StopsAt, TxnDoes, IsAnswered};
 
 use morph_base::{OpState, OpWord, Plan};
 use op_eval::Runner;
@@ -42,7 +42,7 @@ pub enum TxnAnswer {
 /// seen all sources settled, the answer is `Settled`. The runner holds nothing before and after. Its `answers` count
 /// what `evaluate` answered on the way. The call takes no memory and waits for nobody.
 pub fn settle_txn(board: &Board, runner: &mut Runner, plan: &Plan, event: u32) -> TxnAnswer
-    requires may { MaySettle board.now runner.old.hand plan.now event }
+    requires may { MaySettleEvent board.now runner.old.hand plan.now event }
     ensures hand { IsHandOf board.now runner.new.hand }
     ensures answer { TxnDoes plan.now event (hand_view runner.old) (hand_view runner.new) result }
     ensures answered { IsAnswered (event_at plan.now event).count runner.old runner.new }

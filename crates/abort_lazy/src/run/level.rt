@@ -1,7 +1,7 @@
 //! Tries the events of one level, each by the runner that takes its number.
 ghost use Rattle.std.specs.Prelude.{◌<◌, All, length};
 ghost use Rattle.op_words.specs.Hands.{IsHandOf};
-ghost use Rattle.abort_lazy.specs.Transactions.{MaySettle};
+ghost use Rattle.abort_lazy.specs.Transactions.{MaySettleEvent};
 ghost use Rattle.abort_lazy.specs.Sweeps.{HasTriedOne, FitsBoard, CanSweep, HasSwept, AreSwept};
 
 use crate::transaction::{TxnAnswer, settle_txn};
@@ -22,7 +22,7 @@ pub struct Sweep<'a> {
 
 /// Tries to settle an event, and keeps why it was not settled.
 fn try_event(board: &Board, runner: &mut Runner, plan: &Plan, event: u32)
-    requires may { MaySettle board.now runner.old.hand plan.now event }
+    requires may { MaySettleEvent board.now runner.old.hand plan.now event }
     requires room { 0 < runner.old.kept.room }
     ensures hand { IsHandOf board.now runner.new.hand }
     ensures tried { HasTriedOne plan.now event runner.old runner.new }

@@ -3,7 +3,7 @@ ghost use Rattle.std.specs.Prelude.{ℕ};
 ghost use Rattle.morph_base.specs.Plans.{InEvent};
 ghost use Rattle.op_words.specs.Views.{IsSettledSeen};
 ghost use Rattle.op_words.specs.Hands.{view_of, IsHandOf};
-ghost use Rattle.abort_lazy.specs.Transactions.{MaySettle};
+ghost use Rattle.abort_lazy.specs.Transactions.{MaySettleEvent};
 ghost use Rattle.abort_lazy.specs.Progress.{DecidedDoes};
 
 use super::{TxnAnswer, first_of, stop};
@@ -18,7 +18,7 @@ pub(super) fn decide_now(
     plan: &Plan,
     event: u32,
 ) -> Result<bool, TxnAnswer>
-    requires may { MaySettle board.now hand.old plan.now event }
+    requires may { MaySettleEvent board.now hand.old plan.now event }
     ensures hand { IsHandOf board.now hand.new }
     ensures decided { DecidedDoes plan.now event (view_of hand.old) (view_of hand.new) result }
 {
@@ -40,7 +40,7 @@ pub(super) fn decide_now(
 
 /// Decides an event after an operation of it was seen settled, so that there is a decision.
 fn decide_again(board: &Board, hand: &mut Hand, plan: &Plan, event: u32) -> Result<bool, TxnAnswer>
-    requires may { MaySettle board.now hand.old plan.now event }
+    requires may { MaySettleEvent board.now hand.old plan.now event }
     requires seen { (o : ℕ) × InEvent plan.now event o × IsSettledSeen (view_of hand.old) o }
     ensures hand { IsHandOf board.now hand.new }
     ensures decided { DecidedDoes plan.now event (view_of hand.old) (view_of hand.new) result }

@@ -7,7 +7,7 @@ ghost use Rattle.op_words.specs.declared.trail.View.{View};
 ghost use Rattle.op_words.specs.Hands.{MayBegin};
 ghost use Rattle.op_words.specs.Hands.{cap_of, view_of, IsHandOf};
 ghost use Rattle.op_eval.specs.Running.{hand_view};
-ghost use Rattle.abort_lazy.specs.Transactions.{MaySettle, IsAnswered};
+ghost use Rattle.abort_lazy.specs.Transactions.{MaySettleEvent, IsAnswered};
 ghost use Rattle.abort_lazy.specs.Progress.{so_far, IsIdleSoFar, IsOutdatedSoFar, IsMadeSoFar, IsFoundSoFar, ReadyDoes, AllReadyDoes};
 
 use super::{TxnAnswer, end_of, first_of, stop};
@@ -22,7 +22,7 @@ pub(super) fn prepare_all(
     plan: &Plan,
     event: u32,
 ) -> Option<TxnAnswer>
-    requires may { MaySettle board.now runner.old.hand plan.now event }
+    requires may { MaySettleEvent board.now runner.old.hand plan.now event }
     ensures hand { IsHandOf board.now runner.new.hand }
     ensures ready { AllReadyDoes plan.now event (hand_view runner.old)
         (hand_view runner.new) result }

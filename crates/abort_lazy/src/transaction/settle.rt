@@ -3,7 +3,7 @@ ghost use Rattle.std.specs.Prelude.{◌≡◌, Bool, None};
 ghost use Rattle.morph_base.specs.Plans.{InEvent};
 ghost use Rattle.op_words.specs.Views.{IsDecisionSeen};
 ghost use Rattle.op_words.specs.Hands.{view_of, IsHandOf};
-ghost use Rattle.abort_lazy.specs.Transactions.{MaySettle};
+ghost use Rattle.abort_lazy.specs.Transactions.{MaySettleEvent};
 ghost use Rattle.abort_lazy.specs.Progress.{OneDoes, RestDoes};
 
 use super::{TxnAnswer, end_of, first_of, stop};
@@ -17,7 +17,7 @@ pub(super) fn settle_rest(
     plan: &Plan,
     event: u32,
 ) -> Option<TxnAnswer>
-    requires may { MaySettle board.now hand.old plan.now event }
+    requires may { MaySettleEvent board.now hand.old plan.now event }
     requires decided { (committed : Bool) × IsDecisionSeen (view_of hand.old) event committed }
     ensures hand { IsHandOf board.now hand.new }
     ensures settled { RestDoes plan.now event (view_of hand.old) (view_of hand.new) result }
@@ -35,7 +35,7 @@ pub(super) fn settle_rest(
 
 /// Settles an operation of an event whose decision the hand knows, or finds it settled.
 fn settle_one(board: &Board, hand: &mut Hand, plan: &Plan, event: u32, op: u32) -> Option<TxnAnswer>
-    requires may { MaySettle board.now hand.old plan.now event }
+    requires may { MaySettleEvent board.now hand.old plan.now event }
     requires inside { InEvent plan.now event op }
     requires decided { (committed : Bool) × IsDecisionSeen (view_of hand.old) event committed }
     ensures hand { IsHandOf board.now hand.new }

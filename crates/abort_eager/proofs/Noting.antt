@@ -1,7 +1,6 @@
 -- Cascades that are run to their end, with notes of what was touched.
 use Rattle.std.proofs.Common.{◌≡◌, ℕ, Bool, Option, Some, None, List, [], ◌∷◌, refl, sym, ap, ◌∙◌, subst}
 use Rattle.morph_base.specs.declared.plan.Plan.{Plan}
-use Rattle.morph_base.specs.declared.strategy.Abort.{Abort}
 use Rattle.op_words.specs.declared.board.Hand.{Hand}
 use Rattle.op_words.specs.Hands.{view_of}
 use Rattle.op_eval.specs.declared.answers.Evaluation.{Evaluation}
@@ -10,6 +9,7 @@ use Rattle.op_eval.specs.Running.{hand_view}
 use Rattle.abort_eager.specs.declared.answers.Target.{Target}
 use Rattle.abort_eager.specs.declared.answers.Touched.{Touched}
 use Rattle.abort_eager.specs.declared.cascade.Cascade.{Cascade}
+use Rattle.op_eval.specs.Exploring.{RunRules}
 use Rattle.abort_eager.specs.Sweeps.{cascade_for, IsLike, SweepsFor, Attempts, SweepsAll, SweepsAllFor, AttemptsNoting}
 use Rattle.abort_eager.specs.Targets.{targets, targets_left}
 use Rattle.abort_eager.specs.Touching.{Touching, NextDoes}
@@ -35,9 +35,10 @@ module _ (p : Plan) (cap : ℕ) (leaves : Runner → Runner → Type 0) where
         rest.2 ∙ all.4.kept ∙ all.3.kept,
       )
 
-  pub attempts_of : (abort : Abort) (o : ℕ) (a b : Runner) (r : Evaluation) → AttemptsNoting p cap leaves abort o a b r → Attempts p cap abort o a b r
-  attempts_of abort o a b r attempts = (attempts.0, attempts.1, swept (cascade_for abort r) attempts.2)
-    where
-      swept : (f : Option Bool) → SweepsAllFor p cap leaves o f attempts.0 b → SweepsFor p cap o f attempts.0 b
-      swept None same = same
-      swept (Some failed) all = let is = all_touched (targets p o failed) attempts.0 b all in record { touching = is.0; answers = is.1; kept = is.2 }
+pub attempts_of : (rules : RunRules) (leaves : Runner → Runner → Type 0) (o : ℕ) (a b : Runner) (r : Evaluation) → AttemptsNoting rules leaves o a b r → Attempts rules o a b r
+attempts_of rules leaves o a b r attempts = (attempts.0, attempts.1, swept (cascade_for rules.abort r) attempts.2)
+  where
+    swept : (f : Option Bool) → SweepsAllFor rules.plan rules.cap leaves o f attempts.0 b → SweepsFor rules.plan rules.cap o f attempts.0 b
+    swept None same = same
+    swept (Some failed) all =
+        let is = all_touched rules.plan rules.cap leaves (targets rules.plan o failed) attempts.0 b all in record { touching = is.0; answers = is.1; kept = is.2 }

@@ -18,6 +18,7 @@ use Rattle.op_eval.specs.Evaluations.{EvaluationDoes, Tries}
 use Rattle.op_eval.specs.Running.{hand_view}
 use Rattle.op_eval.proofs.Following.{open_append}
 use Rattle.op_eval.proofs.Showing.{failure_shown}
+use Rattle.op_eval.specs.Exploring.{RunRules}
 use Rattle.abort_eager.specs.Targets.{targets}
 use Rattle.abort_eager.proofs.Touching.{touched_all}
 use Rattle.abort_eager.specs.Sweeps.{cascade_for, SweepsFor, Attempts}
@@ -53,11 +54,11 @@ pub record IsAttempted (p : Plan) (cap o : ℕ) (a b : Runner) : Type 0 where
   pub open_own : OwnOpen words
   pub reached : IsReached p o words
 
-pub attempted : (p : Plan) (cap : ℕ) (abort : Abort) (o : ℕ) (a b : Runner) → (r : Evaluation) × Attempts p cap abort o a b r → IsAttempted p cap o a b
-attempted p cap abort o a b call =
+pub attempted : (rules : RunRules) (o : ℕ) (a b : Runner) → (r : Evaluation) × Attempts rules o a b r → IsAttempted rules.plan rules.cap o a b
+attempted rules o a b call =
     let does = call.1.1.does in
     let rest : IsAtRest (hand_view call.1.0) = record { free = does.goes.free; agree = does.goes.adds.agree } in
-    let over = swept_over p cap o (cascade_for abort call.0) call.1.0 b rest call.1.2 in
+    let over = swept_over rules.plan rules.cap o (cascade_for rules.abort call.0) call.1.0 b rest call.1.2 in
     record {
       answer = call.0;
       middle = call.1.0;
@@ -70,8 +71,10 @@ attempted p cap abort o a b call =
     }
 
 -- under lazy nothing is behind it
-pub lazy_tries : (p : Plan) (cap o : ℕ) (a b : Runner) → (r : Evaluation) × Attempts p cap Lazy o a b r → (r : Evaluation) × Tries p cap o a b r
-lazy_tries p cap o a b call = (call.0, subst (λ m. Tries p cap o a m call.0) (sym call.1.2) call.1.1)
+pub lazy_tries : (rules : RunRules) → rules.abort ≡ Lazy → (o : ℕ) (a b : Runner) → (r : Evaluation) × Attempts rules o a b r → (r : Evaluation) × Tries rules.plan rules.cap o a b r
+lazy_tries rules lazy o a b call =
+    let same : b ≡ call.1.0 = subst (λ abort. SweepsFor rules.plan rules.cap o (cascade_for abort call.0) call.1.0 b) lazy call.1.2 in
+    (call.0, subst (λ m. Tries rules.plan rules.cap o a m call.0) (sym same) call.1.1)
 
 -- where the cascade is that of a failure, the failure was shown
 pub cause_shown : (p : Plan) (cap o : ℕ) (abort : Abort) (v u : View) (r : Evaluation) → EvaluationDoes p cap o v u r → cascade_for abort r ≡ Some true → HasShownFailure u o

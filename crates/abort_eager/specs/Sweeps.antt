@@ -11,6 +11,7 @@ use Rattle.op_eval.specs.Evaluations.{Tries}
 use Rattle.op_eval.specs.Running.{hand_view}
 use Rattle.abort_eager.specs.declared.answers.Target.{Target}
 use Rattle.abort_eager.specs.declared.answers.Touched.{Touched}
+use Rattle.op_eval.specs.Exploring.{RunRules}
 use Rattle.abort_eager.specs.Targets.{targets}
 use Rattle.abort_eager.specs.Touching.{Touches, Touching}
 
@@ -48,15 +49,6 @@ module _ (p : Plan) (cap : ℕ) where
   SweepsFor o None a b = b ≡ a
   SweepsFor o (Some failed) a b = IsSwept o failed a b
 
-  module _ (abort : Abort) (o : ℕ) where
-    -- The cascade that follows answer r was run if there is one, and else nothing changed
-    abbrev pub Sweeps : Evaluation → Runner → Runner → Type 0
-    Sweeps r a b = SweepsFor o (cascade_for abort r) a b
-
-    -- Operation o was tried with answer r, and then the cascade that follows was run
-    abbrev pub Attempts : Runner → Runner → Evaluation → Type 0
-    Attempts a b r = (m : Runner) × Tries p cap o a m r × Sweeps r m b
-
   module _ (leaves : Runner → Runner → Type 0) where
     -- All targets of the list were touched, one after another. After each a note left the runner like it was
     abbrev pub SweepsAll : List Target → Runner → Runner → Type 0
@@ -69,6 +61,15 @@ module _ (p : Plan) (cap : ℕ) where
     SweepsAllFor o None a b = b ≡ a
     SweepsAllFor o (Some failed) a b = SweepsAll (targets p o failed) a b
 
-    -- Operation o was tried with answer r, and then all targets of the cascade that follows were touched and noted
-    abbrev pub AttemptsNoting : Abort → (o : ℕ) → Runner → Runner → Evaluation → Type 0
-    AttemptsNoting abort o a b r = (m : Runner) × Tries p cap o a m r × SweepsAllFor o (cascade_for abort r) m b
+module _ (rules : RunRules) where
+  -- Operation o was tried with answer r, and then the cascade that follows was run, if there is one
+  abbrev pub Attempts : (o : ℕ) → Runner → Runner → Evaluation → Type 0
+  Attempts o a b r =
+      (m : Runner) × Tries rules.plan rules.cap o a m r
+      × SweepsFor rules.plan rules.cap o (cascade_for rules.abort r) m b
+
+  -- Operation o was tried with answer r, and then all targets of the cascade that follows were touched and noted
+  abbrev pub AttemptsNoting : (leaves : Runner → Runner → Type 0) → (o : ℕ) → Runner → Runner → Evaluation → Type 0
+  AttemptsNoting leaves o a b r =
+      (m : Runner) × Tries rules.plan rules.cap o a m r
+      × SweepsAllFor rules.plan rules.cap leaves o (cascade_for rules.abort r) m b

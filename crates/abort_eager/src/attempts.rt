@@ -1,12 +1,11 @@
 //! Attempts at operations, and the cascades that follow them.
-ghost use Rattle.std.specs.Prelude.{◌≡◌, ◌<◌, true, Some};
-ghost use Rattle.morph_base.specs.Plans.{op_count};
+ghost use Rattle.std.specs.Prelude.{◌≡◌, true, Some};
 ghost use Rattle.op_words.specs.Hands.{cap_of};
 ghost use Rattle.op_words.specs.Views.{HasShownFailure};
 ghost use Rattle.op_eval.specs.declared.runner.Runner.{Runner as R};
 ghost use Rattle.op_eval.specs.Evaluations.{Tries};
 ghost use Rattle.op_eval.specs.Running.{hand_view, IsFreeRunner};
-ghost use Rattle.abort_eager.specs.Grounds.{IsGround};
+ghost use Rattle.abort_eager.specs.Grounds.{MayTry};
 ghost use Rattle.abort_eager.specs.Sweeps.{cascade_for, IsLike, SweepsAll, SweepsAllFor};
 ghost use Rattle.abort_eager.specs.Targets.{targets};
 
@@ -26,11 +25,9 @@ pub fn attempt<T: Turns>(
     runner: &mut Runner,
     op: u32,
 ) -> Evaluation
-    requires ground { IsGround ground.now }
-    requires in_range { op < op_count ground.now.plan.now }
-    requires idle { IsFreeRunner ground.now.board.now runner.old }
+    requires may { MayTry ground.now runner.old op }
     ensures idle { IsFreeRunner ground.now.board.now runner.new }
-    ensures does { Tries ground.now.plan.now (cap_of ground.now.board.now) op runner.old
+    ensures answer { Tries ground.now.plan.now (cap_of ground.now.board.now) op runner.old
         runner.new result }
 {
     let answer = evaluate(ground.board, runner, ground.plan, op);
@@ -45,9 +42,7 @@ pub trait Notes {
 
     /// Notes a target that was touched, before the next one is.
     fn note(&self, ground: &Ground<'_>, runner: &mut Runner, touched: Touched)
-        requires ground { IsGround ground.now }
-        requires in_range { touched.op < op_count ground.now.plan.now }
-        requires idle { IsFreeRunner ground.now.board.now runner.old }
+        requires may { MayTry ground.now runner.old touched.op }
         ensures idle { IsFreeRunner ground.now.board.now runner.new }
         ensures like { IsLike runner.old runner.new }
         ensures leaves { leaves runner.old runner.new };
@@ -55,9 +50,7 @@ pub trait Notes {
 
 /// Runs the cascade of an operation to its end.
 fn run_cascade<N: Notes>(ground: &Ground<'_>, notes: &N, runner: &mut Runner, op: u32, failed: bool)
-    requires ground { IsGround ground.now }
-    requires in_range { op < op_count ground.now.plan.now }
-    requires idle { IsFreeRunner ground.now.board.now runner.old }
+    requires may { MayTry ground.now runner.old op }
     requires cause { failed ≡ true → HasShownFailure (hand_view runner.old) op }
     ensures idle { IsFreeRunner ground.now.board.now runner.new }
     ensures sweeps { SweepsAll ground.now.plan.now (cap_of ground.now.board.now) N.leaves
@@ -71,9 +64,7 @@ fn run_cascade<N: Notes>(ground: &Ground<'_>, notes: &N, runner: &mut Runner, op
 
 /// Runs the cascade that follows an evaluation, if there is one.
 fn sweep<N: Notes>(ground: &Ground<'_>, notes: &N, runner: &mut Runner, op: u32, answer: Evaluation)
-    requires ground { IsGround ground.now }
-    requires in_range { op < op_count ground.now.plan.now }
-    requires idle { IsFreeRunner ground.now.board.now runner.old }
+    requires may { MayTry ground.now runner.old op }
     requires cause { cascade_for ground.now.abort answer ≡ Some true
         → HasShownFailure (hand_view runner.old) op }
     ensures idle { IsFreeRunner ground.now.board.now runner.new }
@@ -96,13 +87,13 @@ pub struct AttemptWithCascade<'a, T, N> {
 }
 
 impl<T: Turns, N: Notes> Walking<Runner> for AttemptWithCascade<'_, T, N> {
-    ghost use Rattle.op_words.specs.Hands.{cap_of};
     ghost use Rattle.op_eval.specs.Running.{IsFreeRunner};
+    ghost use Rattle.abort_eager.specs.Grounds.{ground_rules};
     ghost use Rattle.abort_eager.specs.Sweeps.{AttemptsNoting};
 
     ghost can_walk = { λ g runner. IsFreeRunner g.board.now runner };
 
-    ghost visits = { λ g. AttemptsNoting g.plan.now (cap_of g.board.now) N.leaves g.abort };
+    ghost visits = { λ g. AttemptsNoting (ground_rules g) N.leaves };
 
     fn visit(&self, ground: &Ground<'_>, worker: &mut Runner, op: u32) -> Evaluation {
         let answer = attempt(ground, self.told, self.turn, worker, op);

@@ -65,7 +65,7 @@ fn touch(board: &Board, hand: &mut Hand, plan: &Plan, op: u32, target: Target) -
     requires free { (view_of hand.old).claim ≡ None }
     requires target { CanTouch plan.now op (view_of hand.old) target }
     ensures hand { IsHandOf board.now hand.new }
-    ensures does { Touches plan.now (cap_of board.now) target (view_of hand.old)
+    ensures touches { Touches plan.now (cap_of board.now) target (view_of hand.old)
         (view_of hand.new) result }
     ensures steps { (view_of hand.new).events
         ≡ touch_steps target op result.touch ++ (view_of hand.old).events }
@@ -115,7 +115,7 @@ impl Cascade {
         requires plan { IsValidPlan plan.now }
         requires cascade { IsCascade plan.now self.old }
         ensures goes { GoesOn plan.now self.old self.new }
-        ensures does { Pops plan.now self.old self.new result }
+        ensures pops { Pops plan.now self.old self.new result }
     {
         let op = sibling_from(self.op, self.sibling, self.end);
         if op < self.end {
@@ -129,7 +129,7 @@ impl Cascade {
     fn pop_place(&mut self, plan: &Plan) -> Option<Target>
         requires plan { IsValidPlan plan.now }
         requires cascade { IsCascade plan.now self.old }
-        ensures does { PlacePops plan.now self.old self.new result }
+        ensures pops { PlacePops plan.now self.old self.new result }
     {
         match place_from(plan, self.first, self.end, self.reader, self.place) {
             Some(place) => {
@@ -149,7 +149,7 @@ impl Cascade {
         requires cascade { IsCascade plan.now self.old }
         requires none { IsFirstPlace plan.now self.old.first self.old.end self.old.reader
             self.old.place None }
-        ensures does { PlacePops plan.now self.old self.new result }
+        ensures pops { PlacePops plan.now self.old self.new result }
     {
         let Some(reader) = reader_from(plan, self.first, self.end, self.reader + 1) else {
             return None;
@@ -175,7 +175,7 @@ impl Cascade {
         requires cause { HasCause self.old (view_of hand.old) }
         ensures hand { IsHandOf board.now hand.new }
         ensures goes { GoesOn plan.now self.old self.new }
-        ensures does { NextDoes plan.now (cap_of board.now) self.old self.new
+        ensures answer { NextDoes plan.now (cap_of board.now) self.old self.new
             (view_of hand.old) (view_of hand.new) result }
         ensures still { result ≡ None → hand.new ≡ hand.old }
         ensures free { (view_of hand.new).claim ≡ None }

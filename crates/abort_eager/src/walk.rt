@@ -23,7 +23,7 @@ pub trait Walking<W> {
         requires in_range { op < op_count ground.now.plan.now }
         requires can { can_walk ground.now worker.old }
         ensures can { can_walk ground.now worker.new }
-        ensures does { visits ground.now op worker.old worker.new result };
+        ensures visits { visits ground.now op worker.old worker.new result };
 }
 
 /// Walks the unit of an operation from it on, until an answer is not `Evaluated`.

@@ -29,7 +29,7 @@ use Rattle.op_eval.proofs.Following.{found_other, none_own, none_open, far_then}
 use Rattle.abort_lazy.specs.declared.transaction.TxnAnswer.{TxnAnswer}
 use Rattle.abort_lazy.specs.declared.transaction.TxnAnswer.TheVariants.{NotYet}
 use Rattle.abort_lazy.specs.Transactions.{StopsAt}
-use Rattle.abort_lazy.specs.Progress.{ReadyTells, ReadyDoes, IsIdleSoFar, IsOutdatedSoFar, IsMadeSoFar, IsFoundSoFar}
+use Rattle.abort_lazy.specs.Progress.{so_far, ReadyTells, ReadyDoes, IsIdleSoFar, IsOutdatedSoFar, IsMadeSoFar, IsFoundSoFar}
 use Rattle.abort_lazy.proofs.Carrying.{settled_read_seen, found_seen, already_other, already_last, already_seen, unrolled_other, fresh_other}
 use Rattle.abort_lazy.proofs.Stopping.{source_open_later, stop_source, stop_busy, stop_shaken, stale_again}
 
@@ -111,17 +111,17 @@ module _ (p : Plan) (i o : ℕ) (inside : InEvent p i o) {start v u : View} {ys 
 
 module _ (p : Plan) (cap i o : ℕ) (inside : InEvent p i o) (first : ComeFirst p o) {start v u : View} {xs : List Item} where
   -- the verdict after an evaluation
-  pub judged_good : {x : ℕ} → VerdictDoes p cap o v u (Good x) → IsMadeSoFar p cap o start v xs → ReadyDoes p i o start u None
+  pub judged_good : {x : ℕ} → VerdictDoes p cap o v u (Good x) → IsMadeSoFar p cap o (so_far start v xs) → ReadyDoes p i o start u None
   judged_good does made = ready_good p i o inside made.far does.goes (none_own does.words does.none) (none_open does.words does.none) does.tells
 
-  pub judged_bad : VerdictDoes p cap o v u Bad → IsMadeSoFar p cap o start v xs → ReadyDoes p i o start u None
+  pub judged_bad : VerdictDoes p cap o v u Bad → IsMadeSoFar p cap o (so_far start v xs) → ReadyDoes p i o start u None
   judged_bad does made = ready_bad p i o inside made.far does.goes (none_own does.words does.none) (none_open does.words does.none) does.tells
 
-  pub judged_source : {at : ℕ} {w : OpWord} → at ≢ o → VerdictDoes p cap o v u (Unready at w) → IsMadeSoFar p cap o start v xs → ReadyDoes p i o start u (Some (NotYet at w))
+  pub judged_source : {at : ℕ} {w : OpWord} → at ≢ o → VerdictDoes p cap o v u (Unready at w) → IsMadeSoFar p cap o (so_far start v xs) → ReadyDoes p i o start u (Some (NotYet at w))
   judged_source {at} {w} other does made =
       elim does.tells [ inl own ↦ absurd (other own.0) | inr source ↦ ready_source p i o inside made.far does.goes (none_own does.words does.none) (none_open does.words does.none) source.1 ]
 
-  pub judged_own : {at : ℕ} {w : OpWord} {r : Option TxnAnswer} → at ≡ o → VerdictDoes p cap o v u (Unready at w) → IsMadeSoFar p cap o start v xs → StopsAt o w r → ReadyDoes p i o start u r
+  pub judged_own : {at : ℕ} {w : OpWord} {r : Option TxnAnswer} → at ≡ o → VerdictDoes p cap o v u (Unready at w) → IsMadeSoFar p cap o (so_far start v xs) → StopsAt o w r → ReadyDoes p i o start u r
   judged_own {at} {w} {r} same does made stops =
       elim does.tells [
         | inr source ↦ absurd (source.0 same)
@@ -136,10 +136,10 @@ module _ (p : Plan) (cap i o : ℕ) (inside : InEvent p i o) (first : ComeFirst 
             stops
       ]
     where
-      known : (made : IsMadeSoFar p cap o start v xs) → HasLast o xs made.evaluated.word
+      known : (made : IsMadeSoFar p cap o (so_far start v xs)) → HasLast o xs made.evaluated.word
       known made = subst (λ zs. HasLast o zs made.evaluated.word) (sym made.parts) (last_later made.front made.evaluated.last)
 
-  pub judged_stale : {j kept value : ℕ} {w : OpWord} {m : View} {r : Option TxnAnswer} → VerdictDoes p cap o v m (Stale j kept value) → PeekDoes p cap o m u w → IsMadeSoFar p cap o start v xs → StopsAt o w r
+  pub judged_stale : {j kept value : ℕ} {w : OpWord} {m : View} {r : Option TxnAnswer} → VerdictDoes p cap o v m (Stale j kept value) → PeekDoes p cap o m u w → IsMadeSoFar p cap o (so_far start v xs) → StopsAt o w r
       → ReadyDoes p i o start u r
   judged_stale {j} {kept} {value} {w} {m} {r} does peek made stops =
       let shaken : IsShaken p o (made.back ++ does.words) = stale_again first (back_own made) does.none made.evaluated does.tells.stale in
@@ -147,14 +147,14 @@ module _ (p : Plan) (cap i o : ℕ) (inside : InEvent p i o) (first : ComeFirst 
       let later : IsShaken p o (xs ++ does.words) = subst (IsShaken p o) (sym whole) (shaken_later made.front shaken) in
       ready_stop p i o inside (far_then made.far does.goes (none_own does.words does.none) (none_open does.words does.none)) peek.goes (none_own peek.words peek.none) (none_open peek.words peek.none) peek.last peek.seen (inr (shaken_more peek.words later)) stops
     where
-      back_own : (made : IsMadeSoFar p cap o start v xs) → OwnOn o made.back
+      back_own : (made : IsMadeSoFar p cap o (so_far start v xs)) → OwnOn o made.back
       back_own made t inside is = made.far.own t (subst (λ zs. Contains zs t) (sym made.parts) (Contains-append_right made.front made.back t inside)) is
 
       shaken_later : (zs : List Item) {qs : List Item} → IsShaken p o qs → IsShaken p o (zs ++ qs)
       shaken_later zs is = elim is [ inl own ↦ inl (disturbed_later zs own) | inr source ↦ inr (source.0, source.1, disturbed_later zs source.2) ]
 
   -- an evaluation of an operation that was found idle
-  pub made_so_far : {attempt : ℕ} {r : Outcome} → EvaluationDoes p cap o v u (Evaluated attempt r) → IsIdleSoFar o start v xs → (ys : List Item) × IsMadeSoFar p cap o start u ys
+  pub made_so_far : {attempt : ℕ} {r : Outcome} → EvaluationDoes p cap o v u (Evaluated attempt r) → IsIdleSoFar o (so_far start v xs) → (ys : List Item) × IsMadeSoFar p cap o (so_far start u ys)
   made_so_far {attempt} {r} does idle = (
     xs ++ does.words,
     record {
@@ -171,27 +171,27 @@ module _ (p : Plan) (cap i o : ℕ) (inside : InEvent p i o) (first : ComeFirst 
     },
   )
 
-  pub run_blocked : {source : ℕ} {w : OpWord} → EvaluationDoes p cap o v u (BlockedOn source w) → IsIdleSoFar o start v xs → ReadyDoes p i o start u (Some (NotYet source w))
+  pub run_blocked : {source : ℕ} {w : OpWord} → EvaluationDoes p cap o v u (BlockedOn source w) → IsIdleSoFar o (so_far start v xs) → ReadyDoes p i o start u (Some (NotYet source w))
   run_blocked does idle = ready_source p i o inside idle.far does.goes does.own does.open_own does.tells.source
 
-  pub run_busy : {w : OpWord} {r : Option TxnAnswer} → EvaluationDoes p cap o v u (BusyAt w) → IsIdleSoFar o start v xs → StopsAt o w r → ReadyDoes p i o start u r
+  pub run_busy : {w : OpWord} {r : Option TxnAnswer} → EvaluationDoes p cap o v u (BusyAt w) → IsIdleSoFar o (so_far start v xs) → StopsAt o w r → ReadyDoes p i o start u r
   run_busy does idle stops =
       ready_stop p i o inside idle.far does.goes does.own does.open_own does.tells.last does.tells.seen
       (elim does.tells.cause [ inl claimed ↦ inl claimed | inr there ↦ inr (inl (disturbed_later xs there)) ]) stops
 
-  pub run_already : {w : OpWord} {r : Option TxnAnswer} → EvaluationDoes p cap o v u (Already w) → IsIdleSoFar o start v xs → StopsAt o w r → ReadyDoes p i o start u r
+  pub run_already : {w : OpWord} {r : Option TxnAnswer} → EvaluationDoes p cap o v u (Already w) → IsIdleSoFar o (so_far start v xs) → StopsAt o w r → ReadyDoes p i o start u r
   run_already {w} does idle stops =
       ready_stop p i o inside idle.far does.goes does.own does.open_own (already_last p cap o does.tells) (already_seen p cap o does.tells) (inr (inl (already_other p cap o xs idle.last idle.idle does.tells))) stops
 
   -- a rollback of an operation that was found stale or spread
-  pub idle_so_far : {j : ℕ} → RollDoes p cap o v u j HasRolled → IsOutdatedSoFar p cap o j start v xs → (ys : List Item) × IsIdleSoFar o start u ys
+  pub idle_so_far : {j : ℕ} → RollDoes p cap o v u j HasRolled → IsOutdatedSoFar p cap o j (so_far start v xs) → (ys : List Item) × IsIdleSoFar o (so_far start u ys)
   idle_so_far {j} does old = (xs ++ does.words, record { far = far_then old.far does.goes does.own does.open_own; word = blocked (does.tells.first.attempt + 1); last = last_later xs does.tells.last; idle = refl })
 
-  pub redo_source : {j at : ℕ} {w : OpWord} → at ≢ o → RollDoes p cap o v u j (Unrolled at w) → IsOutdatedSoFar p cap o j start v xs → ReadyDoes p i o start u (Some (NotYet at w))
+  pub redo_source : {j at : ℕ} {w : OpWord} → at ≢ o → RollDoes p cap o v u j (Unrolled at w) → IsOutdatedSoFar p cap o j (so_far start v xs) → ReadyDoes p i o start u (Some (NotYet at w))
   redo_source {j} {at} {w} other does old =
       elim does.tells [ inl own ↦ absurd (other own.0) | inr source ↦ ready_source p i o inside old.far does.goes does.own does.open_own source.1.source_open ]
 
-  pub redo_own : {j at : ℕ} {w : OpWord} {r : Option TxnAnswer} → at ≡ o → RollDoes p cap o v u j (Unrolled at w) → IsOutdatedSoFar p cap o j start v xs → StopsAt o w r → ReadyDoes p i o start u r
+  pub redo_own : {j at : ℕ} {w : OpWord} {r : Option TxnAnswer} → at ≡ o → RollDoes p cap o v u j (Unrolled at w) → IsOutdatedSoFar p cap o j (so_far start v xs) → StopsAt o w r → ReadyDoes p i o start u r
   redo_own {j} {at} {w} {r} same does old stops =
       elim does.tells [
         | inr source ↦ absurd (source.0 same)
@@ -200,7 +200,7 @@ module _ (p : Plan) (cap i o : ℕ) (inside : InEvent p i o) (first : ComeFirst 
             (inr (inl (unrolled_other p cap o xs old.last old.evaluated old.below own.1))) stops
       ]
 
-  pub redo_fresh : {j x : ℕ} {w : OpWord} {m : View} {r : Option TxnAnswer} → RollDoes p cap o v m j (Fresh x) → PeekDoes p cap o m u w → IsOutdatedSoFar p cap o j start v xs → StopsAt o w r
+  pub redo_fresh : {j x : ℕ} {w : OpWord} {m : View} {r : Option TxnAnswer} → RollDoes p cap o v m j (Fresh x) → PeekDoes p cap o m u w → IsOutdatedSoFar p cap o j (so_far start v xs) → StopsAt o w r
       → ReadyDoes p i o start u r
   redo_fresh {j} {x} {w} {m} {r} does peek old stops =
       ready_stop p i o inside (far_then old.far does.goes does.own does.open_own) peek.goes (none_own peek.words peek.none) (none_open peek.words peek.none) peek.last peek.seen
@@ -208,19 +208,19 @@ module _ (p : Plan) (cap i o : ℕ) (inside : InEvent p i o) (first : ComeFirst 
 
 module _ (p : Plan) (cap i o : ℕ) (inside : InEvent p i o) {start v : View} {xs : List Item} where
   -- what was found not run, at its last word
-  pub found_idle : {w : OpWord} → IsFoundSoFar p cap o start v xs w → is_idle w.state ≡ true → IsIdleSoFar o start v xs
+  pub found_idle : {w : OpWord} → IsFoundSoFar p cap o (so_far start v xs) w → is_idle w.state ≡ true → IsIdleSoFar o (so_far start v xs)
   found_idle {w} found idle = record { far = found.far; word = w; last = found.last; idle = idle }
 
-  pub found_spread : {w : OpWord} → IsFoundSoFar p cap o start v xs w → w.state ≡ Spread → IsOutdatedSoFar p cap o 0 start v xs
+  pub found_spread : {w : OpWord} → IsFoundSoFar p cap o (so_far start v xs) w → w.state ≡ Spread → IsOutdatedSoFar p cap o 0 (so_far start v xs)
   found_spread {w} found spread = record { far = found.far; word = w; last = found.last; evaluated = ap is_evaluated spread; below = found.spread spread; cause = inl spread }
 
-  found_run : {w : OpWord} {s : OpState} → w.state ≡ s → has_run s ≡ true → IsFoundSoFar p cap o start v xs w → IsDisturbed o xs
+  found_run : {w : OpWord} {s : OpState} → w.state ≡ s → has_run s ≡ true → IsFoundSoFar p cap o (so_far start v xs) w → IsDisturbed o xs
   found_run is ran found = elim found.cause [ inr there ↦ there | inl unrun ↦ absurd (false≢true (sym unrun ∙ ap has_run is ∙ ran)) ]
 
-  found_settled : {w : OpWord} {r : Option TxnAnswer} → is_settled w.state ≡ true → IsFoundSoFar p cap o start v xs w → StopsAt o w r → ReadyDoes p i o start v r
+  found_settled : {w : OpWord} {r : Option TxnAnswer} → is_settled w.state ≡ true → IsFoundSoFar p cap o (so_far start v xs) w → StopsAt o w r → ReadyDoes p i o start v r
   found_settled {w} {r} settled found stops = record { words = xs; far = found.far; tells = subst (ReadyTells p i o start v xs) (sym (stops.settled settled)) (inl (found_seen found.far.goes (loaded o w) found.seen refl settled)) }
 
-  pub found_stop : {w : OpWord} {r : Option TxnAnswer} (s : OpState) → w.state ≡ s → can_stop s ≡ true → IsFoundSoFar p cap o start v xs w → StopsAt o w r → ReadyDoes p i o start v r
+  pub found_stop : {w : OpWord} {r : Option TxnAnswer} (s : OpState) → w.state ≡ s → can_stop s ≡ true → IsFoundSoFar p cap o (so_far start v xs) w → StopsAt o w r → ReadyDoes p i o start v r
   found_stop {w} {r} Blocked is can found stops = absurd (false≢true can)
   found_stop {w} {r} Ready is can found stops = absurd (false≢true can)
   found_stop {w} {r} Claimed is can found stops = ready_here p i o inside found.far found.last found.seen (inl is) stops
@@ -249,7 +249,7 @@ module _ (p : Plan) (cap i o : ℕ) (inside : InEvent p i o) {v u : View} where
     tells = inr (inl (record { word = does.tells.word; last = does.tells.last; judged = does.tells.judged; fails = λ failed. does.tells.answer }));
   }
 
-  pub first_stale : {j kept value : ℕ} → VerdictDoes p cap o v u (Stale j kept value) → (xs : List Item) × IsOutdatedSoFar p cap o j v u xs
+  pub first_stale : {j kept value : ℕ} → VerdictDoes p cap o v u (Stale j kept value) → (xs : List Item) × IsOutdatedSoFar p cap o j (so_far v u xs)
   first_stale {j} {kept} {value} does =
       let stale = does.tells.stale in (
         does.words,
@@ -263,7 +263,7 @@ module _ (p : Plan) (cap i o : ℕ) (inside : InEvent p i o) {v u : View} where
         },
       )
 
-  pub first_own : {at : ℕ} {w : OpWord} → at ≡ o → VerdictDoes p cap o v u (Unready at w) → (xs : List Item) × IsFoundSoFar p cap o v u xs w
+  pub first_own : {at : ℕ} {w : OpWord} → at ≡ o → VerdictDoes p cap o v u (Unready at w) → (xs : List Item) × IsFoundSoFar p cap o (so_far v u xs) w
   first_own {at} {w} same does =
       elim does.tells [
         | inr source ↦ absurd (source.0 same)

@@ -6,7 +6,6 @@ use Rattle.std.proofs.lemmas.List.Elements.{Contains-append_right}
 use Rattle.std.proofs.lemmas.List.Sums.{sum_by-append, sum_by-cons}
 use Rattle.morph_base.specs.declared.plan.Plan.{Plan}
 use Rattle.morph_base.specs.Plans.{event_count}
-use Rattle.op_words.specs.declared.board.Board.{Board}
 use Rattle.op_words.specs.declared.trail.View.{View}
 use Rattle.op_words.specs.Counting.{place, times, taking}
 use Rattle.op_words.specs.Hands.{IsHandOf}
@@ -18,6 +17,7 @@ use Rattle.op_eval.specs.Running.{hand_view}
 use Rattle.op_eval.proofs.Elements.{contains_first, contains_later, contains_cases, contains_none}
 use Rattle.op_eval.specs.Turns.{TakingCall, Took, Tried, TakesNumber}
 use Rattle.op_eval.proofs.Turns.{times_one}
+use Rattle.abort_lazy.specs.declared.run.level.Sweep.{Sweep}
 use Rattle.abort_lazy.specs.Sweeps.{HasTriedOne, Swept, HasSwept, IsSweeping, tried_by, taken_by, weight_at}
 use Rattle.abort_lazy.proofs.Trying.{calls_lone}
 
@@ -64,67 +64,67 @@ swept_none p c events a unused = record {
   whole = λ lone n below. absurd (omega (arith, below, unused));
 }
 
-pub sweeping_none : (b : Board) (p : Plan) (c : ℕ) (events : List ℕ) (a : Runner) → IsHandOf b a.hand → Unused c a → IsSweeping b p c events 0 a a
-sweeping_none b p c events a hand unused = record { hand = hand; swept = swept_none p c events a unused; turns = unused; last = inl refl; room = omega arith }
+pub sweeping_none : (s : Sweep) (a : Runner) → IsHandOf s.board.now a.hand → Unused s.counter a → IsSweeping s 0 a a
+sweeping_none s a hand unused = record { hand = hand; swept = swept_none s.plan.now s.counter s.events.now a unused; turns = unused; last = inl refl; room = omega arith }
 
-module _ (b : Board) (p : Plan) (c : ℕ) (events : List ℕ) (a : Runner) (turn n : ℕ) (m r : Runner) (sweeping : IsSweeping b p c events turn a m) (taken : TakesNumber c n m r) where
+module _ (s : Sweep) (a : Runner) (turn n : ℕ) (m r : Runner) (sweeping : IsSweeping s turn a m) (taken : TakesNumber s.counter n m r) where
   above : turn ≤ n
   above =
       elim sweeping.last [
         | inl none ↦ omega arith
-        | inr last ↦ let rises = taken.takes.rises (place c last.0) last.1 refl in let high = last.2 in omega arith
+        | inr last ↦ let rises = taken.takes.rises (place s.counter last.0) last.1 refl in let high = last.2 in omega arith
       ]
 
-  turned : times c (hand_view r).places ≡ turn + 1
-  turned = ap (λ (v : View). times c v.places) taken.view ∙ times_taking c n (hand_view m) ∙ ap (λ k. k + 1) sweeping.turns
+  turned : times s.counter (hand_view r).places ≡ turn + 1
+  turned = ap (λ (v : View). times s.counter v.places) taken.view ∙ times_taking s.counter n (hand_view m) ∙ ap (λ k. k + 1) sweeping.turns
 
-  got : Contains (hand_view r).places (place c n)
-  got = subst (λ (v : View). Contains v.places (place c n)) (sym taken.view) (Contains-append_right (hand_view m).places (place c n ∷ []) (place c n) (contains_first (place c n) []))
+  got : Contains (hand_view r).places (place s.counter n)
+  got = subst (λ (v : View). Contains v.places (place s.counter n)) (sym taken.view) (Contains-append_right (hand_view m).places (place s.counter n ∷ []) (place s.counter n) (contains_first (place s.counter n) []))
 
-  number_of : (k q : ℕ) → Took k q ≡ Took c n → (k ≡ c) × (q ≡ n)
+  number_of : (k q : ℕ) → Took k q ≡ Took s.counter n → (k ≡ s.counter) × (q ≡ n)
   number_of k q e = (cc, cc)
 
-  tried_apart : (i : ℕ) → Tried i ≡ Took c n → ⊥
+  tried_apart : (i : ℕ) → Tried i ≡ Took s.counter n → ⊥
   tried_apart i e = cc
 
-  only_now : (k q : ℕ) → Contains (Took c n ∷ sweeping.swept.calls) (Took k q) → k ≡ c
-  only_now k q found = elim (contains_cases (Took c n) sweeping.swept.calls (Took k q) found) [ inl same ↦ (number_of k q same).0 | inr later ↦ sweeping.swept.only k q later ]
+  only_now : (k q : ℕ) → Contains (Took s.counter n ∷ sweeping.swept.calls) (Took k q) → k ≡ s.counter
+  only_now k q found = elim (contains_cases (Took s.counter n) sweeping.swept.calls (Took k q) found) [ inl same ↦ (number_of k q same).0 | inr later ↦ sweeping.swept.only k q later ]
 
   -- a lone root took the numbers from 0 on
   in_turn : IsLone (hand_view a) → n ≡ turn
-  in_turn lone = taken.takes.lone (calls_lone p sweeping.swept.calls a m sweeping.swept.made lone) ∙ sweeping.turns
+  in_turn lone = taken.takes.lone (calls_lone s.plan.now sweeping.swept.calls a m sweeping.swept.made lone) ∙ sweeping.turns
 
-  whole_now : IsLone (hand_view a) → (q : ℕ) → q < turn + 1 → Contains (Took c n ∷ sweeping.swept.calls) (Took c q)
+  whole_now : IsLone (hand_view a) → (q : ℕ) → q < turn + 1 → Contains (Took s.counter n ∷ sweeping.swept.calls) (Took s.counter q)
   whole_now lone q below =
       elim (cases_eq q turn) [
-        | inl same ↦ subst (λ k. Contains (Took c n ∷ sweeping.swept.calls) (Took c k)) (in_turn lone ∙ sym same) (contains_first (Took c n) sweeping.swept.calls)
+        | inl same ↦ subst (λ k. Contains (Took s.counter n ∷ sweeping.swept.calls) (Took s.counter k)) (in_turn lone ∙ sym same) (contains_first (Took s.counter n) sweeping.swept.calls)
         | inr other ↦
-            let before : q < times c (hand_view m).places = (let t = sweeping.turns in omega (arith, t, below, other)) in
-            contains_later (Took c n) sweeping.swept.calls (Took c q) (sweeping.swept.whole lone q before)
+            let before : q < times s.counter (hand_view m).places = (let t = sweeping.turns in omega (arith, t, below, other)) in
+            contains_later (Took s.counter n) sweeping.swept.calls (Took s.counter q) (sweeping.swept.whole lone q before)
       ]
 
   kept_room : r.kept.room ≡ m.kept.room
   kept_room = ap (λ l. l.room) taken.kept
 
-  pub past_end : IsHandOf b r.hand → length events ≤ n → HasSwept b p c events a r
+  pub past_end : IsHandOf s.board.now r.hand → length s.events.now ≤ n → HasSwept s a r
   past_end hand past = record {
     hand = hand;
     swept = record {
-      calls = Took c n ∷ sweeping.swept.calls;
+      calls = Took s.counter n ∷ sweeping.swept.calls;
       made = (m, sweeping.swept.made, taken);
       only = only_now;
       tried = λ q found lt.
-          elim (contains_cases (Took c n) sweeping.swept.calls (Took c q) found) [
-            | inl same ↦ let e = (number_of c q same).1 in absurd (omega arith)
-            | inr later ↦ contains_later (Took c n) sweeping.swept.calls (Tried (slice_index_or events q 0)) (sweeping.swept.tried q later lt)
+          elim (contains_cases (Took s.counter n) sweeping.swept.calls (Took s.counter q) found) [
+            | inl same ↦ let e = (number_of s.counter q same).1 in absurd (omega arith)
+            | inr later ↦ contains_later (Took s.counter n) sweeping.swept.calls (Tried (slice_index_or s.events.now q 0)) (sweeping.swept.tried q later lt)
           ];
       inside = λ i found.
-          elim (contains_cases (Took c n) sweeping.swept.calls (Tried i) found) [
+          elim (contains_cases (Took s.counter n) sweeping.swept.calls (Tried i) found) [
             | inl same ↦ absurd (tried_apart i same)
-            | inr later ↦ let is = sweeping.swept.inside i later in (is.0, is.1, is.2, contains_later (Took c n) sweeping.swept.calls (Took c is.0) is.3)
+            | inr later ↦ let is = sweeping.swept.inside i later in (is.0, is.1, is.2, contains_later (Took s.counter n) sweeping.swept.calls (Took s.counter is.0) is.3)
           ];
-      turns = λ weight. turns_past c events weight n sweeping.swept.calls past (sweeping.swept.turns weight);
-      room = let s = sweeping.swept.room in let t = kept_room in omega (arith, s, t);
+      turns = λ weight. turns_past s.counter s.events.now weight n sweeping.swept.calls past (sweeping.swept.turns weight);
+      room = let room = sweeping.swept.room in let t = kept_room in omega (arith, room, t);
       whole = λ lone q below. whole_now lone q (subst (λ k. q < k) turned below);
     };
     through = record {
@@ -133,44 +133,44 @@ module _ (b : Board) (p : Plan) (c : ℕ) (events : List ℕ) (a : Runner) (turn
     };
   }
 
-  pub swept_on : (e : Runner) → IsHandOf b e.hand → n < length events → slice_index_or events n 0 < event_count p → HasTriedOne p (slice_index_or events n 0) r e → IsSweeping b p c events (turn + 1) a e
+  pub swept_on : (e : Runner) → IsHandOf s.board.now e.hand → n < length s.events.now → slice_index_or s.events.now n 0 < event_count s.plan.now → HasTriedOne s.plan.now (slice_index_or s.events.now n 0) r e → IsSweeping s (turn + 1) a e
   swept_on e hand lt in_range tries =
-      let i : ℕ = slice_index_or events n 0 in
+      let i : ℕ = slice_index_or s.events.now n 0 in
       let cs : List TakingCall = sweeping.swept.calls in
       let does = tries.does in
       let same_places : (hand_view e).places ≡ (hand_view r).places = does.goes.adds.places in
       record {
         hand = hand;
         swept = record {
-          calls = Tried i ∷ (Took c n ∷ cs);
+          calls = Tried i ∷ (Took s.counter n ∷ cs);
           made = (r, (m, sweeping.swept.made, taken), (in_range, tries));
-          only = λ k q found. elim (contains_cases (Tried i) (Took c n ∷ cs) (Took k q) found) [ inl same ↦ absurd (took_apart k q i same) | inr later ↦ only_now k q later ];
+          only = λ k q found. elim (contains_cases (Tried i) (Took s.counter n ∷ cs) (Took k q) found) [ inl same ↦ absurd (took_apart k q i same) | inr later ↦ only_now k q later ];
           tried = λ q found less.
-              elim (contains_cases (Tried i) (Took c n ∷ cs) (Took c q) found) [
-                | inl same ↦ absurd (took_apart c q i same)
+              elim (contains_cases (Tried i) (Took s.counter n ∷ cs) (Took s.counter q) found) [
+                | inl same ↦ absurd (took_apart s.counter q i same)
                 | inr there ↦
-                    elim (contains_cases (Took c n) cs (Took c q) there) [
-                      | inl same ↦ subst (λ k. Contains (Tried i ∷ (Took c n ∷ cs)) (Tried (slice_index_or events k 0))) (sym (number_of c q same).1) (contains_first (Tried i) (Took c n ∷ cs))
+                    elim (contains_cases (Took s.counter n) cs (Took s.counter q) there) [
+                      | inl same ↦ subst (λ k. Contains (Tried i ∷ (Took s.counter n ∷ cs)) (Tried (slice_index_or s.events.now k 0))) (sym (number_of s.counter q same).1) (contains_first (Tried i) (Took s.counter n ∷ cs))
                       | inr later ↦
-                          contains_later (Tried i) (Took c n ∷ cs) (Tried (slice_index_or events q 0)) (contains_later (Took c n) cs (Tried (slice_index_or events q 0)) (sweeping.swept.tried q later less))
+                          contains_later (Tried i) (Took s.counter n ∷ cs) (Tried (slice_index_or s.events.now q 0)) (contains_later (Took s.counter n) cs (Tried (slice_index_or s.events.now q 0)) (sweeping.swept.tried q later less))
                     ]
               ];
           inside = λ k found.
-              elim (contains_cases (Tried i) (Took c n ∷ cs) (Tried k) found) [
-                | inl same ↦ (n, lt, sym (tried_is k i same), contains_later (Tried i) (Took c n ∷ cs) (Took c n) (contains_first (Took c n) cs))
+              elim (contains_cases (Tried i) (Took s.counter n ∷ cs) (Tried k) found) [
+                | inl same ↦ (n, lt, sym (tried_is k i same), contains_later (Tried i) (Took s.counter n ∷ cs) (Took s.counter n) (contains_first (Took s.counter n) cs))
                 | inr there ↦
-                    elim (contains_cases (Took c n) cs (Tried k) there) [
+                    elim (contains_cases (Took s.counter n) cs (Tried k) there) [
                       | inl same ↦ absurd (tried_apart k same)
-                      | inr later ↦ let is = sweeping.swept.inside k later in (is.0, is.1, is.2, contains_later (Tried i) (Took c n ∷ cs) (Took c is.0) (contains_later (Took c n) cs (Took c is.0) is.3))
+                      | inr later ↦ let is = sweeping.swept.inside k later in (is.0, is.1, is.2, contains_later (Tried i) (Took s.counter n ∷ cs) (Took s.counter is.0) (contains_later (Took s.counter n) cs (Took s.counter is.0) is.3))
                     ]
               ];
-          turns = λ weight. turns_on c events weight n cs lt (sweeping.swept.turns weight);
-          room = let q = tries.room in let s = sweeping.room in let le = above in let t = kept_room in omega (arith, q, s, le, t, lt);
-          whole = λ lone q below. contains_later (Tried i) (Took c n ∷ cs) (Took c q) (whole_now lone q (subst (λ k. q < k) (ap (times c) same_places ∙ turned) below));
+          turns = λ weight. turns_on s.counter s.events.now weight n cs lt (sweeping.swept.turns weight);
+          room = let q = tries.room in let room = sweeping.room in let le = above in let t = kept_room in omega (arith, q, room, le, t, lt);
+          whole = λ lone q below. contains_later (Tried i) (Took s.counter n ∷ cs) (Took s.counter q) (whole_now lone q (subst (λ k. q < k) (ap (times s.counter) same_places ∙ turned) below));
         };
-        turns = ap (times c) same_places ∙ turned;
-        last = inr (n, subst (λ xs. Contains xs (place c n)) (sym same_places) got, (let le = above in omega (arith, le)));
-        room = let q = tries.room in let s = sweeping.room in let t = kept_room in omega (arith, q, s, t);
+        turns = ap (times s.counter) same_places ∙ turned;
+        last = inr (n, subst (λ xs. Contains xs (place s.counter n)) (sym same_places) got, (let le = above in omega (arith, le)));
+        room = let q = tries.room in let room = sweeping.room in let t = kept_room in omega (arith, q, room, t);
       }
     where
       took_apart : (k q i : ℕ) → Took k q ≡ Tried i → ⊥
@@ -180,8 +180,8 @@ module _ (b : Board) (p : Plan) (c : ℕ) (events : List ℕ) (a : Runner) (turn
       tried_is k i e = cc
 
 -- all turns were made
-pub all_turns : (b : Board) (p : Plan) (c : ℕ) (events : List ℕ) (turn : ℕ) (a r : Runner) → length events ≤ turn → IsSweeping b p c events turn a r → HasSwept b p c events a r
-all_turns b p c events turn a r past sweeping = record {
+pub all_turns : (s : Sweep) (turn : ℕ) (a r : Runner) → length s.events.now ≤ turn → IsSweeping s turn a r → HasSwept s a r
+all_turns s turn a r past sweeping = record {
   hand = sweeping.hand;
   swept = sweeping.swept;
   through = record {

@@ -18,45 +18,55 @@ use Rattle.abort_lazy.specs.Transactions.{AreSourcesSeen, AnswersWithCause, is_a
 
 -- ---- one operation, so far
 
+-- A call so far: the view at its start, the view now, and the words that it added in between
+pub record CallSoFar : Type 0 where
+  pub start : View
+  pub now : View
+  pub words : List Item
+
+-- The call that began with view v, has view u now, and added the words xs
+abbrev pub so_far : (v u : View) → List Item → CallSoFar
+so_far v u xs = record { start = v; now = u; words = xs }
+
 -- The last word of operation o in the call so far has no value yet
-pub record IsIdleSoFar (o : ℕ) (start v : View) (xs : List Item) : Type 0 where
-  pub far : SoFar o start v xs
+pub record IsIdleSoFar (o : ℕ) (c : CallSoFar) : Type 0 where
+  pub far : SoFar o c.start c.now c.words
   pub word : OpWord
-  pub last : HasLast o xs word
+  pub last : HasLast o c.words word
   pub idle : is_idle word.state ≡ true
 
 -- The last word of operation o in the call so far has a value, below the last attempt. It is spread, or its record at
 -- place j differs from the settled source
-pub record IsOutdatedSoFar (p : Plan) (cap o j : ℕ) (start v : View) (xs : List Item) : Type 0 where
-  pub far : SoFar o start v xs
+pub record IsOutdatedSoFar (p : Plan) (cap o j : ℕ) (c : CallSoFar) : Type 0 where
+  pub far : SoFar o c.start c.now c.words
   pub word : OpWord
-  pub last : HasLast o xs word
+  pub last : HasLast o c.words word
   pub evaluated : is_evaluated word.state ≡ true
   pub below : word.attempt ≤ cap
   pub cause : (word.state ≡ Spread)
-      ⊎ ((kept : ℕ) × (value : ℕ) × IsRecordSeen v o j word kept
-      × IsSourceSeen v (origin_at p o j) value × (kept ≢ value))
+      ⊎ ((kept : ℕ) × (value : ℕ) × IsRecordSeen c.now o j word kept
+      × IsSourceSeen c.now (origin_at p o j) value × (kept ≢ value))
 
 -- The back part of the call so far evaluated operation o
-pub record IsMadeSoFar (p : Plan) (cap o : ℕ) (start v : View) (xs : List Item) : Type 0 where
-  pub far : SoFar o start v xs
+pub record IsMadeSoFar (p : Plan) (cap o : ℕ) (c : CallSoFar) : Type 0 where
+  pub far : SoFar o c.start c.now c.words
   pub before : View
   pub front : List Item
   pub back : List Item
-  pub parts : xs ≡ front ++ back
-  pub goes : AddsAndFrees before v back
+  pub parts : c.words ≡ front ++ back
+  pub goes : AddsAndFrees before c.now back
   pub first : OpWord
   pub attempt : ℕ
   pub value : Outcome
-  pub evaluated : IsEvaluated p cap o before v back first attempt value
+  pub evaluated : IsEvaluated p cap o before c.now back first attempt value
 
 -- The word w of operation o, the last one in the call so far, was loaded. It is neither executed nor failed, or o was
 -- disturbed
-pub record IsFoundSoFar (p : Plan) (cap o : ℕ) (start v : View) (xs : List Item) (w : OpWord) : Type 0 where
-  pub far : SoFar o start v xs
-  pub last : HasLast o xs w
-  pub seen : Contains xs (loaded o w)
-  pub cause : (has_run w.state ≡ false) ⊎ IsDisturbed o xs
+pub record IsFoundSoFar (p : Plan) (cap o : ℕ) (c : CallSoFar) (w : OpWord) : Type 0 where
+  pub far : SoFar o c.start c.now c.words
+  pub last : HasLast o c.words w
+  pub seen : Contains c.words (loaded o w)
+  pub cause : (has_run w.state ≡ false) ⊎ IsDisturbed o c.words
   pub spread : w.state ≡ Spread → w.attempt ≤ cap
 
 -- ---- ready for the decision

@@ -13,6 +13,7 @@ use Rattle.op_eval.specs.Exploring.{Unused}
 use Rattle.op_eval.specs.Running.{hand_view}
 use Rattle.op_eval.specs.Turns.{CallsInOrder, IsEnough, TakingCall, Took, Tried, MakesTakingCall}
 use Rattle.worker_gate.specs.Sharing.{shared_from}
+use Rattle.abort_lazy.specs.declared.run.level.Sweep.{Sweep}
 use Rattle.abort_lazy.specs.declared.transaction.TxnAnswer.{TxnAnswer}
 use Rattle.abort_lazy.specs.declared.transaction.TxnAnswer.TheVariants.{Settled as AllSettled, NotYet, Busy}
 use Rattle.abort_lazy.specs.Transactions.{TxnDoes, counted_all}
@@ -91,10 +92,10 @@ pub record IsThrough (c : ℕ) (events : List ℕ) (a b : Runner) : Type 0 where
   pub alone : IsLone (hand_view a) → length events ≤ times c (hand_view b).places
 
 -- The runner took numbers and tried events until it saw the counter run out
-pub record HasSwept (b : Board) (p : Plan) (c : ℕ) (events : List ℕ) (before after : Runner) : Type 0 where
-  pub hand : IsHandOf b after.hand
-  pub swept : Swept p c events before after
-  pub through : IsThrough c events before after
+pub record HasSwept (s : Sweep) (before after : Runner) : Type 0 where
+  pub hand : IsHandOf s.board.now after.hand
+  pub swept : Swept s.plan.now s.counter s.events.now before after
+  pub through : IsThrough s.counter s.events.now before after
 
 -- Each runner took numbers and tried events, and one of them saw the counter run out. If the level is shared, each of
 -- them did; else only the first took part
@@ -111,9 +112,9 @@ pub record AreSwept (b : Board) (p : Plan) (c : ℕ) (events : List ℕ) (before
       → IsThrough c events (slice_index_or before k d) (slice_index_or after k d)
 
 -- The runner has taken this many numbers so far
-pub record IsSweeping (b : Board) (p : Plan) (c : ℕ) (events : List ℕ) (turn : ℕ) (before now : Runner) : Type 0 where
-  pub hand : IsHandOf b now.hand
-  pub swept : Swept p c events before now
-  pub turns : times c (hand_view now).places ≡ turn
-  pub last : (turn ≡ 0) ⊎ ((n : ℕ) × Contains (hand_view now).places (place c n) × (turn ≤ n + 1))
+pub record IsSweeping (s : Sweep) (turn : ℕ) (before now : Runner) : Type 0 where
+  pub hand : IsHandOf s.board.now now.hand
+  pub swept : Swept s.plan.now s.counter s.events.now before now
+  pub turns : times s.counter (hand_view now).places ≡ turn
+  pub last : (turn ≡ 0) ⊎ ((n : ℕ) × Contains (hand_view now).places (place s.counter n) × (turn ≤ n + 1))
   pub room : before.kept.room ≤ now.kept.room + turn

@@ -1,12 +1,15 @@
 -- What settling one transaction says: the cause of each answer, by the words loaded and left in the call
-use Rattle.std.specs.Prelude.{◌≡◌, ◌↔◌, ◌≢◌, ℕ, ◌≤◌, ◌⊎◌, Bool, true, false, List, [], ◌∷◌, length, Contains, Option, Some, None}
+use Rattle.std.specs.Prelude.{◌≡◌, ◌↔◌, ◌≢◌, ℕ, ◌<◌, ◌≤◌, ◌⊎◌, Bool, true, false, List, [], ◌∷◌, length, Contains, Option, Some, None}
 use Rattle.morph_base.specs.declared.plan.Plan.{Plan}
 use Rattle.morph_base.specs.declared.word.OpState.TheVariants.{Claimed}
 use Rattle.morph_base.specs.declared.word.OpWord.{OpWord}
-use Rattle.morph_base.specs.Plans.{InEvent, verdict}
+use Rattle.morph_base.specs.Plans.{event_count, InEvent, verdict}
 use Rattle.morph_base.specs.Words.{is_settled}
+use Rattle.op_words.specs.declared.board.Board.{Board}
+use Rattle.op_words.specs.declared.board.Hand.{Hand}
 use Rattle.op_words.specs.declared.trail.Item.{Item}
 use Rattle.op_words.specs.declared.trail.View.{View}
+use Rattle.op_words.specs.Hands.{plan_of, view_of, IsHandOf}
 use Rattle.op_words.specs.Trails.{loaded, HasLast, IsSourceOf, IsShaken, OwnIn}
 use Rattle.op_words.specs.Views.{IsJudged, IsLone, IsSettledSeen, AddsAndFrees}
 use Rattle.op_eval.specs.declared.answers.Answers.{Answers}
@@ -15,6 +18,11 @@ use Rattle.op_eval.specs.declared.runner.Runner.{Runner}
 use Rattle.op_eval.specs.Running.{counted}
 use Rattle.abort_lazy.specs.declared.transaction.TxnAnswer.{TxnAnswer}
 use Rattle.abort_lazy.specs.declared.transaction.TxnAnswer.TheVariants.{Settled as AllSettled, NotYet, Busy}
+
+-- A call may use hand h for event i of plan p: the hand is one of the board's and holds nothing, and the plan is the
+-- board's and has the event
+abbrev pub MaySettleEvent : Board → (h : Hand) → (p : Plan) → (i : ℕ) → Type 0
+MaySettleEvent b h p i = IsHandOf b h × (p ≡ plan_of b) × (i < event_count p) × ((view_of h).claim ≡ None)
 
 -- The hand saw each source of operation o settled
 pub record AreSourcesSeen (p : Plan) (v : View) (o : ℕ) : Type 0 where

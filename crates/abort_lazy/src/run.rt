@@ -39,7 +39,7 @@ fn settle_levels<T: Threads + Sync>(
     requires counters { from + length plan.now.event_levels.items ≤ counters_of board.now }
     requires few { counters_of board.now < 2 ^ 32 }
     requires ready { AreSettling board.now plan.now from 0 runners.old runners.old }
-    ensures does { AreSettling board.now plan.now from (length plan.now.event_levels.items)
+    ensures settled { AreSettling board.now plan.now from (length plan.now.event_levels.items)
         runners.old runners.new }
 {
     for level in 0..plan.event_levels.len() {

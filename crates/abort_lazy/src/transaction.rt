@@ -1,9 +1,9 @@
 //! Settles transactions on the shared board, one at a time, by any runner.
-ghost use Rattle.std.specs.Prelude.{◌≡◌, ◌+◌, ◌<◌, None};
+ghost use Rattle.std.specs.Prelude.{◌≡◌, ◌+◌, ◌<◌};
 ghost use Rattle.morph_base.specs.Plans.{IsPlan, event_at, event_count};
-ghost use Rattle.op_words.specs.Hands.{plan_of, IsHandOf};
+ghost use Rattle.op_words.specs.Hands.{IsHandOf};
 ghost use Rattle.op_eval.specs.Running.{hand_view};
-ghost use Rattle.abort_lazy.specs.Transactions.{StopsAt, TxnDoes, IsAnswered};
+ghost use Rattle.abort_lazy.specs.Transactions.{MaySettleEvent, StopsAt, TxnDoes, IsAnswered};
 
 use morph_base::{OpState, OpWord, Plan};
 use op_eval::Runner;
@@ -42,12 +42,9 @@ pub enum TxnAnswer {
 /// seen all sources settled, the answer is `Settled`. The runner holds nothing before and after. Its `answers` count
 /// what `evaluate` answered on the way. The call takes no memory and waits for nobody.
 pub fn settle_txn(board: &Board, runner: &mut Runner, plan: &Plan, event: u32) -> TxnAnswer
-    requires hand { IsHandOf board.now runner.old.hand }
-    requires plan { plan.now ≡ plan_of board.now }
-    requires in_range { event < event_count plan.now }
-    requires free { (hand_view runner.old).claim ≡ None }
+    requires may { MaySettleEvent board.now runner.old.hand plan.now event }
     ensures hand { IsHandOf board.now runner.new.hand }
-    ensures does { TxnDoes plan.now event (hand_view runner.old) (hand_view runner.new) result }
+    ensures answer { TxnDoes plan.now event (hand_view runner.old) (hand_view runner.new) result }
     ensures answered { IsAnswered (event_at plan.now event).count runner.old runner.new }
 {
     if let Some(answer) = prepare_all(board, runner, plan, event) {

@@ -2,8 +2,6 @@
 use Rattle.std.proofs.Common.{◌≡◌, ℕ, ◌+◌, ◌<◌, ◌≤◌, List, [], ◌∷◌, length, refl, arith}
 use Rattle.std.specs.Prelude.{Contains, sum_by}
 use Rattle.std.proofs.lemmas.List.Sums.{sum_by-cons, sum_by-append, sum_by-le-sum_by}
-use Rattle.morph_base.specs.declared.plan.Plan.{Plan}
-use Rattle.morph_base.specs.declared.strategy.Abort.{Abort}
 use Rattle.morph_base.specs.declared.strategy.Abort.TheVariants.{Lazy}
 use Rattle.morph_base.specs.Plans.{op_count}
 use Rattle.op_words.specs.Hands.{up_to}
@@ -12,6 +10,7 @@ use Rattle.op_eval.specs.declared.explored.RunEnd.TheVariants.{Drained}
 use Rattle.op_eval.specs.declared.runner.Runner.{Runner}
 use Rattle.op_eval.specs.Alone.{IsNewRoot}
 use Rattle.op_eval.specs.Gathering.{runners_of}
+use Rattle.op_eval.specs.Exploring.{RunRules}
 use Rattle.steal_explorer.specs.declared.deques.Deques.{Deques}
 use Rattle.steal_explorer.specs.declared.exploration.Handed.{Handed}
 use Rattle.steal_explorer.specs.declared.member.Member.{Member}
@@ -47,27 +46,27 @@ stolen_least x h =
     (λ m. let both = sum_by-append h (own m).popped (own m).stolen in omega arith) in
     omega arith
 
-module _ (p : Plan) (cap : ℕ) (abort : Abort) (d : Deques) (rs : List Runner) (x : Handed) (turns : HasTurns p cap abort d rs x) where
-  handed_balance : AreReady p d → ((h : ℕ → ℕ) → sum_by h (pushed_of x) ≡ sum_by h (taken_of x) + sum_by h (unserved_of x)) → x.handed ≡ up_to (length (pushed_of x)) → x.stolen ≡ up_to (length (stolen_of x)) → AreBalanced p (items_of x) x.handed x.stolen
+module _ (rules : RunRules) (d : Deques) (rs : List Runner) (x : Handed) (turns : HasTurns rules d rs x) where
+  handed_balance : AreReady rules.plan d → ((h : ℕ → ℕ) → sum_by h (pushed_of x) ≡ sum_by h (taken_of x) + sum_by h (unserved_of x)) → x.handed ≡ up_to (length (pushed_of x)) → x.stolen ≡ up_to (length (stolen_of x)) → AreBalanced rules.plan (items_of x) x.handed x.stolen
   handed_balance ready balance handed stolen = record {
     balance = balance;
-    dealt = λ h. let first = ready.dealt h in let least = pushed_least _ _ _ _ _ _ turns h in omega arith;
+    dealt = λ h. let first = ready.dealt h in let least = pushed_least _ _ _ _ turns h in omega arith;
     by_steals = stolen_least x;
     handed_is = handed;
     stolen_is = stolen;
   }
 
   pub have_handed : (e : Explored)
-      → AreReady p d
+      → AreReady rules.plan d
       → ((h : ℕ → ℕ) → sum_by h (pushed_of x) ≡ sum_by h (taken_of x) + sum_by h (unserved_of x))
       → x.handed ≡ up_to (length (pushed_of x))
       → x.stolen ≡ up_to (length (stolen_of x))
-      → ((o : ℕ) → Contains (taken_of x) o → o < op_count p)
-      → AreReached p (taken_of x) (runners_of e.runners)
+      → ((o : ℕ) → Contains (taken_of x) o → o < op_count rules.plan)
+      → AreReached rules.plan (taken_of x) (runners_of e.runners)
       → (e.end ≡ Drained → unserved_of x ≡ [])
       → (length rs ≡ 1 → stolen_of x ≡ [])
-      → (abort ≡ Lazy → IsNewRoot rs → IsHandedAlone p e.end x (runners_of e.runners))
-      → HaveHanded p abort rs e x.handed x.stolen
+      → (rules.abort ≡ Lazy → IsNewRoot rs → IsHandedAlone rules.plan e.end x (runners_of e.runners))
+      → HaveHanded rules.plan rules.abort rs e x.handed x.stolen
   have_handed e ready balance handed stolen inside reached drained unstolen alone = record {
     items = items_of x;
     balanced = handed_balance ready balance handed stolen;

@@ -1,13 +1,12 @@
 -- What exploring by strata passed over.
 use Rattle.std.proofs.Common.{◌≡◌, ◌≢◌, ◌⊎◌, ℕ, ◌<◌, List, length, refl, inl, inr}
 use Rattle.std.specs.Prelude.{Contains}
-use Rattle.morph_base.specs.declared.plan.Plan.{Plan}
-use Rattle.morph_base.specs.declared.strategy.Abort.{Abort}
 use Rattle.op_eval.specs.declared.explored.Explored.{Explored}
 use Rattle.op_eval.specs.declared.explored.RunEnd.{RunEnd}
 use Rattle.op_eval.specs.declared.explored.RunEnd.TheVariants.{Whole, Drained, Spent}
 use Rattle.op_eval.specs.declared.runner.Runner.{Runner}
 use Rattle.op_eval.specs.Gathering.{runners_of}
+use Rattle.op_eval.specs.Exploring.{RunRules}
 use Rattle.strata_explorer.specs.Levels.{HasPassed, counters_for}
 use Rattle.morph_engine.specs.Exploring.{ArePassed, HavePassed}
 
@@ -22,15 +21,15 @@ whole_cases Spent = inr apart
     apart : Spent ≡ Whole → ⊥
     apart e = cc
 
-module _ (p : Plan) (cap : ℕ) (abort : Abort) (units : List (List ℕ)) (start : List Runner) (e : Explored) (passed : HasPassed p cap abort units start (runners_of e.runners) e.end e.next_counter) where
-  all_passed : ((l : ℕ) → l < length p.op_levels.items → Contains passed.levels l) ⊎ (length passed.levels ≡ counters_for p)
+module _ (rules : RunRules) (start : List Runner) (e : Explored) (passed : HasPassed rules start (runners_of e.runners) e.end e.next_counter) where
+  all_passed : ((l : ℕ) → l < length rules.plan.op_levels.items → Contains passed.levels l) ⊎ (length passed.levels ≡ counters_for rules.plan)
   all_passed =
       elim (whole_cases e.end) [
         | inl whole ↦ inl (passed.whole whole)
         | inr other ↦ inr (passed.spent other).1
       ]
 
-  are_passed : ArePassed p abort passed.levels
+  are_passed : ArePassed rules.plan rules.abort passed.levels
   are_passed = record {
     few = passed.few;
     inside = passed.inside;
@@ -39,7 +38,7 @@ module _ (p : Plan) (cap : ℕ) (abort : Abort) (units : List (List ℕ)) (start
   }
 
   -- and nothing was handed out
-  pub have_passed : HavePassed p abort e 0 0
+  pub have_passed : HavePassed rules.plan rules.abort e 0 0
   have_passed = record {
     levels = passed.levels;
     passed = are_passed;

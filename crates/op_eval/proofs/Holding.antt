@@ -28,7 +28,7 @@ use Rattle.op_words.specs.Views.{Agrees, Adds, AddsAndFrees, Holds, looked, look
 use Rattle.op_words.specs.Calls.{Elsewhere, IsReadValue, IsUsed, IsPlaceTaken, PeekDoes, MakeDoes, ClaimDoes, FetchDoes, FinishDoes, GiveBackDoes}
 use Rattle.op_words.proofs.Trailing.{cases_word, last_item, last_later, one_last, disturbed_later, disturbed_more}
 use Rattle.op_eval.specs.declared.answers.Evaluation.TheVariants.{Evaluated, Blocked as BlockedOn, Busy as BusyAt, Already}
-use Rattle.op_eval.specs.Evaluations.{fetches, IsReadiedOrNot, IsClaimedWith, EvaluationDoes, IsEvaluatingSoFar, SoFar, IsFetchedUpTo, IsStopped}
+use Rattle.op_eval.specs.Evaluations.{fetches, IsReadiedOrNot, IsClaimedWith, EvaluationDoes, IsEvaluatingSoFar, SoFar, fetching, IsFetchedUpTo, IsStopped}
 use Rattle.op_words.proofs.Adding.{adds_then, adds_none}
 use Rattle.op_eval.proofs.Stepping.{fetches-nil, fetches-snoc, count_quiet, readied_quiet, claimed_quiet}
 use Rattle.op_eval.proofs.Following.{claimed_other, one_is_last, one_none, found_other, own_append, none_own, open_append, none_open, far_then}
@@ -41,13 +41,13 @@ pub read_later : (xs ys : List Item) (q : Origin) (x : ℕ) → IsReadValue ys q
 read_later xs ys (Base b) x read = read
 read_later xs ys (Written s) x read = (read.0, Contains-append_right xs ys (loaded s read.0) read.1, read.2)
 
-pub fetched_none : (p : Plan) (o a : ℕ) (v : View) → Agrees v → Holds v o a [] → IsFetchedUpTo p o a 0 v v
+pub fetched_none : (p : Plan) (o a : ℕ) (v : View) → Agrees v → Holds v o a [] → IsFetchedUpTo p 0 (fetching o a v v)
 fetched_none p o a v agrees holds = record { words = []; adds = adds_none v agrees; elsewhere = λ t found. absurd (not-suc-le-zero found.1); values = []; holds = holds; count = refl; read = λ k lt. absurd (not-suc-le-zero lt); valued = λ k s lt. absurd (not-suc-le-zero lt); steps = sym (fetches-nil o v.tag 0 v.events) }
 
 both_elsewhere : (o : ℕ) (xs ys : List Item) → Elsewhere o xs → Elsewhere o ys → Elsewhere o (xs ++ ys)
 both_elsewhere o xs ys first second t inside = elim (Contains-append_cases xs ys t inside) [ inl found ↦ first t found | inr found ↦ second t found ]
 
-pub fetched_more : (p : Plan) (cap o a j : ℕ) {v m u : View} {x : ℕ} → IsFetchedUpTo p o a j v m → FetchDoes p cap o m u j (Value x) → IsFetchedUpTo p o a (j + 1) v u
+pub fetched_more : (p : Plan) (cap o a j : ℕ) {v m u : View} {x : ℕ} → IsFetchedUpTo p j (fetching o a v m) → FetchDoes p cap o m u j (Value x) → IsFetchedUpTo p (j + 1) (fetching o a v u)
 fetched_more p cap o a j {v} {m} {u} {x} up does =
     let tells = does.tells a up.values up.holds in
     let count : length up.values ≡ j = up.count in
@@ -88,10 +88,10 @@ fetched_more p cap o a j {v} {m} {u} {x} up does =
     last_value : (vs : List ℕ) (n : ℕ) → length vs ≡ n → get_or (vs ++ x ∷ []) n 0 ≡ x
     last_value vs n is = subst (λ m. get_or (vs ++ x ∷ []) m 0 ≡ x) is (get_or-append_seam vs x [] 0)
 
-pub fetched_all : (p : Plan) (o a j n : ℕ) {v u : View} → n ≤ j → j ≤ n → n ≡ places p o → IsFetchedUpTo p o a j v u → IsFetchedUpTo p o a (places p o) v u
-fetched_all p o a j n {v} {u} least most is up = subst (λ k. IsFetchedUpTo p o a k v u) (let same : j ≡ n = omega arith in same ∙ is) up
+pub fetched_all : (p : Plan) (o a j n : ℕ) {v u : View} → n ≤ j → j ≤ n → n ≡ places p o → IsFetchedUpTo p j (fetching o a v u) → IsFetchedUpTo p (places p o) (fetching o a v u)
+fetched_all p o a j n {v} {u} least most is up = subst (λ k. IsFetchedUpTo p k (fetching o a v u)) (let same : j ≡ n = omega arith in same ∙ is) up
 
-pub fetched_stops : (p : Plan) (cap o a j at : ℕ) (w : OpWord) {v m u : View} → IsFetchedUpTo p o a j v m → FetchDoes p cap o m u j (Unready at w) → IsStopped p cap o a v u at w
+pub fetched_stops : (p : Plan) (cap o a j at : ℕ) (w : OpWord) {v m u : View} → IsFetchedUpTo p j (fetching o a v m) → FetchDoes p cap o m u j (Unready at w) → IsStopped p cap (fetching o a v u) (record { source = at; word = w })
 fetched_stops p cap o a j at w up does =
     let tells = does.tells a up.values up.holds in
     record {
@@ -372,7 +372,7 @@ module _ (p : Plan) (cap o : ℕ) {start v : View} {xs : List Item} {w : OpWord}
         open_append xs (claim.words ++ (ys ++ zs)) far.far.open_own
         (open_append claim.words (ys ++ zs) held_open (open_append ys zs (λ t found is. absurd (false≢true (sym (none t found).0 ∙ is))) own))
 
-    pub finished : {n u : View} {x : Outcome} → IsFetchedUpTo p o a (places p o) m n → FinishDoes p cap o n u x → EvaluationDoes p cap o start u (Evaluated a x)
+    pub finished : {n u : View} {x : Outcome} → IsFetchedUpTo p (places p o) (fetching o a m n) → FinishDoes p cap o n u x → EvaluationDoes p cap o start u (Evaluated a x)
     finished {n} {u} {x} fetched does =
         let tells = does.tells a fetched.values fetched.holds in
         let ys : List Item = fetched.words in
@@ -428,7 +428,7 @@ module _ (p : Plan) (cap o : ℕ) {start v : View} {xs : List Item} {w : OpWord}
           reached = reached_own (left o tells.word) there refl (λ same. false≢true (ap (λ (x : OpWord). has_run x.state) (sym same) ∙ tells.ran));
         }
 
-    pub stopped : {n u : View} {at : ℕ} {z : OpWord} → IsStopped p cap o a m n at z → GiveBackDoes p cap o n u → EvaluationDoes p cap o start u (BlockedOn at z)
+    pub stopped : {n u : View} {at : ℕ} {z : OpWord} → IsStopped p cap (fetching o a m n) (record { source = at; word = z }) → GiveBackDoes p cap o n u → EvaluationDoes p cap o start u (BlockedOn at z)
     stopped {n} {u} {at} {z} stop does =
         let tells = does.tells a stop.values stop.holds in
         let ys : List Item = stop.words in

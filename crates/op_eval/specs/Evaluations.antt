@@ -151,32 +151,43 @@ pub record IsEvaluatingSoFar (o : ℕ) (start v : View) (xs : List Item) (w : Op
   pub readied : IsReadiedOrNot o start.events v.events
   pub unready : w.state ≡ Blocked → v.events ≡ start.events
 
--- The values of the places before j were fetched, each as it was loaded since the claim
-pub record IsFetchedUpTo (p : Plan) (o a j : ℕ) (v u : View) : Type 0 where
-  pub words : List Item
-  pub adds : Adds v u words
-  pub elsewhere : Elsewhere o words
-  pub values : List ℕ
-  pub holds : Holds u o a values
-  pub count : length values ≡ j
-  pub read : (k : ℕ) → k < j → IsReadValue words (origin_at p o k) (slice_index values k)
-  pub valued : (k s : ℕ) → k < j → origin_at p o k ≡ Written s → IsValued words s
-  pub steps : u.events ≡ fetches o v.tag 0 values v.events
+-- The fetches for an operation that is held at an attempt, with the views before and after them
+pub record Fetching : Type 0 where
+  pub op : ℕ
+  pub attempt : ℕ
+  pub before : View
+  pub after : View
 
--- The source `at` stopped the call: its word w has no value, or is not settled at the last attempt
-pub record IsStopped (p : Plan) (cap o a : ℕ) (v u : View) (at : ℕ) (w : OpWord) : Type 0 where
+-- The fetches for operation o at attempt a, from view v to view u
+abbrev pub fetching : (o a : ℕ) (v u : View) → Fetching
+fetching o a v u = record { op = o; attempt = a; before = v; after = u }
+
+-- The values of the places before j were fetched, each as it was loaded since the claim
+pub record IsFetchedUpTo (p : Plan) (j : ℕ) (f : Fetching) : Type 0 where
   pub words : List Item
-  pub adds : Adds v u words
-  pub elsewhere : Elsewhere o words
+  pub adds : Adds f.before f.after words
+  pub elsewhere : Elsewhere f.op words
   pub values : List ℕ
-  pub holds : Holds u o a values
-  pub source : IsSourceOf p o at
-  pub inside : Contains words (loaded at w)
-  pub settled : is_settled w.state ≡ false
-  pub cause : (is_idle w.state ≡ true) ⊎ (a ≡ cap + 1)
-  pub steps : u.events ≡ fetches o v.tag 0 values v.events
+  pub holds : Holds f.after f.op f.attempt values
+  pub count : length values ≡ j
+  pub read : (k : ℕ) → k < j → IsReadValue words (origin_at p f.op k) (slice_index values k)
+  pub valued : (k s : ℕ) → k < j → origin_at p f.op k ≡ Written s → IsValued words s
+  pub steps : f.after.events ≡ fetches f.op f.before.tag 0 values f.before.events
+
+-- A source stopped the call: its word has no value, or is not settled at the last attempt
+pub record IsStopped (p : Plan) (cap : ℕ) (f : Fetching) (at : Stopped) : Type 0 where
+  pub words : List Item
+  pub adds : Adds f.before f.after words
+  pub elsewhere : Elsewhere f.op words
+  pub values : List ℕ
+  pub holds : Holds f.after f.op f.attempt values
+  pub source : IsSourceOf p f.op at.source
+  pub inside : Contains words (loaded at.source at.word)
+  pub settled : is_settled at.word.state ≡ false
+  pub cause : (is_idle at.word.state ≡ true) ⊎ (f.attempt ≡ cap + 1)
+  pub steps : f.after.events ≡ fetches f.op f.before.tag 0 values f.before.events
 
 -- All places were fetched, or the answer is the source that stopped it
-abbrev pub FetchAllTells : Plan → ℕ → ℕ → ℕ → View → View → Option Stopped → Type 0
-FetchAllTells p cap o a v u None = IsFetchedUpTo p o a (places p o) v u
-FetchAllTells p cap o a v u (Some s) = IsStopped p cap o a v u s.source s.word
+abbrev pub FetchAllTells : Plan → (cap : ℕ) → Fetching → Option Stopped → Type 0
+FetchAllTells p cap f None = IsFetchedUpTo p (places p f.op) f
+FetchAllTells p cap f (Some at) = IsStopped p cap f at

@@ -1,13 +1,14 @@
 -- Runners while a batch is explored, and what is handed on to settling
-use Rattle.std.specs.Prelude.{◌≡◌, ℕ, ◌+◌, ◌≤◌, Bool, not, [], All, count_by}
+use Rattle.std.specs.Prelude.{◌≡◌, ℕ, ◌+◌, ◌≤◌, Bool, not, List, [], All, count_by}
 use Rattle.morph_base.specs.declared.plan.Plan.{Plan}
+use Rattle.morph_base.specs.declared.strategy.Abort.{Abort}
 use Rattle.morph_base.specs.Plans.{event_count}
 use Rattle.interleaving_core.specs.Counts.{evaluated}
 use Rattle.op_words.specs.declared.board.Board.{Board}
 use Rattle.op_words.specs.declared.trail.Item.{Item}
 use Rattle.op_words.specs.declared.trail.View.{View}
 use Rattle.op_words.specs.Counting.{times}
-use Rattle.op_words.specs.Hands.{plan_of}
+use Rattle.op_words.specs.Hands.{plan_of, cap_of}
 use Rattle.op_eval.specs.declared.answers.Answers.{Answers}
 use Rattle.op_eval.specs.declared.explored.Explored.{Explored}
 use Rattle.op_eval.specs.declared.explored.RunEnd.{RunEnd}
@@ -15,6 +16,17 @@ use Rattle.op_eval.specs.declared.runner.Runner.{Runner}
 use Rattle.op_eval.specs.declared.runners.Runners.{Runners}
 use Rattle.op_eval.specs.Running.{hand_view}
 use Rattle.op_eval.specs.Gathering.{runners_of, HasPlaces, AreAtRest}
+
+-- What a run goes by: a plan and its units, how many attempts may read guesses, and when aborts are dealt with
+pub record RunRules : Type 0 where
+  pub plan : Plan
+  pub units : List (List ℕ)
+  pub cap : ℕ
+  pub abort : Abort
+
+-- The rules of a run on this board
+abbrev pub rules_on : Board → Plan → (units : List (List ℕ)) → Abort → RunRules
+rules_on b p units abort = record { plan = p; units = units; cap = cap_of b; abort = abort }
 
 -- How many answers were no evaluation
 abbrev pub stopped : Answers → ℕ

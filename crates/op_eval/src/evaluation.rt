@@ -7,7 +7,7 @@ ghost use Rattle.op_words.specs.declared.trail.View.{View};
 ghost use Rattle.op_words.specs.Hands.{MayBegin, MayCall};
 ghost use Rattle.op_words.specs.Hands.{cap_of, view_of, IsHandOf};
 ghost use Rattle.op_words.specs.Views.{Holds};
-ghost use Rattle.op_eval.specs.Evaluations.{EvaluationDoes, FetchAllTells, IsEvaluatingSoFar, Tries};
+ghost use Rattle.op_eval.specs.Evaluations.{fetching, EvaluationDoes, FetchAllTells, IsEvaluatingSoFar, Tries};
 
 use crate::answers::Evaluation;
 use crate::runner::Runner;
@@ -26,9 +26,9 @@ fn fetch_all(board: &Board, hand: &mut Hand, plan: &Plan, op: u32) -> Option<Sto
     requires may { MayCall board.now hand.old plan.now op }
     requires held { (a : ℕ) × Holds (view_of hand.old) op a [] }
     ensures hand { IsHandOf board.now hand.new }
-    ensures does { (a : ℕ) → Holds (view_of hand.old) op a []
-        → FetchAllTells plan.now (cap_of board.now) op a (view_of hand.old)
-        (view_of hand.new) result }
+    ensures answer { (a : ℕ) → Holds (view_of hand.old) op a []
+        → FetchAllTells plan.now (cap_of board.now)
+        (fetching op a (view_of hand.old) (view_of hand.new)) result }
 {
     for j in 0..places_of(plan, op) {
         match board.fetch(hand, plan, op, j) {
@@ -44,7 +44,7 @@ fn fetch_all(board: &Board, hand: &mut Hand, plan: &Plan, op: u32) -> Option<Sto
 fn hold(board: &Board, hand: &mut Hand, plan: &Plan, op: u32) -> Evaluation
     requires may { MayBegin board.now hand.old plan.now op }
     ensures hand { IsHandOf board.now hand.new }
-    ensures does { (start : View) (xs : List Item) (w : Word)
+    ensures answer { (start : View) (xs : List Item) (w : Word)
         → IsEvaluatingSoFar op start (view_of hand.old) xs w
         → w.state ≡ Ready
         → EvaluationDoes plan.now (cap_of board.now) op start (view_of hand.new) result }
@@ -68,7 +68,7 @@ fn hold(board: &Board, hand: &mut Hand, plan: &Plan, op: u32) -> Evaluation
 fn make(board: &Board, hand: &mut Hand, plan: &Plan, op: u32) -> Evaluation
     requires may { MayBegin board.now hand.old plan.now op }
     ensures hand { IsHandOf board.now hand.new }
-    ensures does { (start : View) (xs : List Item) (w : Word)
+    ensures answer { (start : View) (xs : List Item) (w : Word)
         → IsEvaluatingSoFar op start (view_of hand.old) xs w
         → w.state ≡ Blocked
         → EvaluationDoes plan.now (cap_of board.now) op start (view_of hand.new) result }
@@ -89,7 +89,7 @@ fn make(board: &Board, hand: &mut Hand, plan: &Plan, op: u32) -> Evaluation
 fn evaluate_by(board: &Board, hand: &mut Hand, plan: &Plan, op: u32) -> Evaluation
     requires may { MayBegin board.now hand.old plan.now op }
     ensures hand { IsHandOf board.now hand.new }
-    ensures does { EvaluationDoes plan.now (cap_of board.now) op (view_of hand.old)
+    ensures answer { EvaluationDoes plan.now (cap_of board.now) op (view_of hand.old)
         (view_of hand.new) result }
 {
     let word = board.peek(hand, plan, op);
@@ -118,7 +118,7 @@ fn evaluate_by(board: &Board, hand: &mut Hand, plan: &Plan, op: u32) -> Evaluati
 pub fn evaluate(board: &Board, runner: &mut Runner, plan: &Plan, op: u32) -> Evaluation
     requires may { MayBegin board.now runner.old.hand plan.now op }
     ensures hand { IsHandOf board.now runner.new.hand }
-    ensures does { Tries plan.now (cap_of board.now) op runner.old runner.new result }
+    ensures answer { Tries plan.now (cap_of board.now) op runner.old runner.new result }
 {
     let answer = evaluate_by(board, &mut runner.hand, plan, op);
     runner.answers.count(answer);

@@ -29,7 +29,7 @@ impl Runner {
         requires in_range { counter < counters_of board.now }
         requires few { times counter (hand_view self.old).places < most_taken }
         ensures hand { IsHandOf board.now self.new.hand }
-        ensures does { TakesNumber counter result self.old self.new }
+        ensures number { TakesNumber counter result self.old self.new }
     {
         board.take(&mut self.hand, counter)
     }

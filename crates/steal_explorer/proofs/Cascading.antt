@@ -13,6 +13,7 @@ use Rattle.op_words.specs.Views.{AddsAndFrees as Adding, HasShownFailure}
 use Rattle.op_eval.specs.declared.answers.Evaluation.{Evaluation}
 use Rattle.op_eval.specs.declared.runner.Runner.{Runner}
 use Rattle.op_eval.specs.Running.{hand_view}
+use Rattle.op_eval.specs.Exploring.{RunRules}
 use Rattle.abort_eager.specs.declared.answers.Touch.TheVariants.{RolledBack}
 use Rattle.abort_eager.specs.declared.answers.Touched.{Touched}
 use Rattle.abort_eager.specs.declared.cascade.Cascade.{Cascade}
@@ -31,12 +32,8 @@ pub eager_behind : (abort : Abort) (r : Evaluation) (failed : Bool) → cascade_
 eager_behind Eager r failed some = refl
 eager_behind Lazy r failed some = absurd (none-some failed some)
 
-pub none_under_lazy : (p : Plan) (cap : ℕ) (abort : Abort) (o : ℕ) (r : Evaluation) (a b : Member) → abort ≡ Lazy → TouchesFor p cap abort o (cascade_for abort r) a b → b ≡ a
-none_under_lazy p cap Lazy o r a b lazy touches = touches
-none_under_lazy p cap Eager o r a b lazy touches = absurd (apart lazy)
-  where
-    apart : Eager ≡ Lazy → ⊥
-    apart e = cc
+pub none_under_lazy : (rules : RunRules) (o : ℕ) (r : Evaluation) (a b : Member) → rules.abort ≡ Lazy → TouchesFor rules o (cascade_for rules.abort r) a b → b ≡ a
+none_under_lazy rules o r a b lazy touches = subst (λ abort. TouchesFor rules o (cascade_for abort r) a b) lazy touches
 
 -- ---- the failure stays shown
 
@@ -47,8 +44,8 @@ calls_shown : (p : Plan) (cap o : ℕ) (cs : List ServeCall) (a b : Runner) → 
 calls_shown p cap o [] a b calls shown = subst (λ r. HasShownFailure (hand_view r) o) (sym calls) shown
 calls_shown p cap o (c ∷ cs) a b calls shown = shown_more o (call_adds p cap c calls.0 b calls.2).goes (calls_shown p cap o cs a calls.0 calls.1 shown)
 
-pub cause_kept : (p : Plan) (cap : ℕ) (abort : Abort) (c : Cascade) (a b : Member) → ServesOn p cap abort a b → HasCause c (hand_view a.runner) → HasCause c (hand_view b.runner)
-cause_kept p cap abort c a b goes cause = λ failed. calls_shown p cap c.op goes.calls a.runner b.runner goes.made (cause failed)
+pub cause_kept : (rules : RunRules) (c : Cascade) (a b : Member) → ServesOn rules a b → HasCause c (hand_view a.runner) → HasCause c (hand_view b.runner)
+cause_kept rules c a b goes cause = λ failed. calls_shown rules.plan rules.cap c.op goes.calls a.runner b.runner goes.made (cause failed)
 
 -- ---- cascades that ask what they rolled back
 
@@ -60,17 +57,17 @@ eager_lazy abort eager lazy = cc
 pub left_as : (m : Member) (h : Hand) → h ≡ m.runner.hand → record m { runner = record m.runner { hand = h } } ≡ m
 left_as m h still = ap (λ g. record m { runner = record m.runner { hand = g } }) still
 
-module _ (p : Plan) (cap : ℕ) (abort : Abort) (c d : Cascade) where
-  module _ (m : Member) (h : Hand) (t : Touched) (next : NextDoes p cap c d (hand_view m.runner) (view_of h) (Some t)) where
+module _ (rules : RunRules) (c d : Cascade) where
+  module _ (m : Member) (h : Hand) (t : Touched) (next : NextDoes rules.plan rules.cap c d (hand_view m.runner) (view_of h) (Some t)) where
     abbrev after : Member
     after = record m { runner = record m.runner { hand = h } }
 
-    pub goes_touched : abort ≡ Eager → ServesOn p cap abort m after
+    pub goes_touched : rules.abort ≡ Eager → ServesOn rules m after
     goes_touched eager =
-        goes_calls p cap abort m after.runner (Swept next.target ∷ []) (m.runner, refl, (t, record { touches = next.touches; answers = refl; kept = refl }))
-        (λ lazy. absurd (eager_lazy abort eager lazy))
+        goes_calls rules m after.runner (Swept next.target ∷ []) (m.runner, refl, (t, record { touches = next.touches; answers = refl; kept = refl }))
+        (λ lazy. absurd (eager_lazy rules.abort eager lazy))
 
-    pub touches_next : (b : Member) → (t.touch ≡ RolledBack → AsksAndPuts p cap abort t.op after b) → (t.touch ≢ RolledBack → b ≡ after) → TouchesNext p cap abort true c d m b
+    pub touches_next : (b : Member) → (t.touch ≡ RolledBack → AsksAndPuts rules t.op after b) → (t.touch ≢ RolledBack → b ≡ after) → TouchesNext rules true c d m b
     touches_next b asked other = (
       next.target,
       next.left,
@@ -79,14 +76,14 @@ module _ (p : Plan) (cap : ℕ) (abort : Abort) (c d : Cascade) where
 
   module _ (a b : Member) where
     -- the targets that were left, with this one before them
-    pub touches_more : (r : Bool) → TouchesNext p cap abort r c d a b → r ≡ true → (u : Member) → TouchesAll p cap abort (targets_left p d) b u → TouchesAll p cap abort (targets_left p c) a u
-    touches_more true next some u rest = subst (λ gs. TouchesAll p cap abort gs a u) (sym next.1) (b, next.2, rest)
+    pub touches_more : (r : Bool) → TouchesNext rules r c d a b → r ≡ true → (u : Member) → TouchesAll rules (targets_left rules.plan d) b u → TouchesAll rules (targets_left rules.plan c) a u
+    touches_more true next some u rest = subst (λ gs. TouchesAll rules gs a u) (sym next.1) (b, next.2, rest)
     touches_more false next some u rest = absurd (false≢true some)
 
-    pub touches_fewer : (r : Bool) → TouchesNext p cap abort r c d a b → r ≡ true → length (targets_left p d) < length (targets_left p c)
-    touches_fewer true next some = let e : length (targets_left p c) ≡ suc (length (targets_left p d)) = ap length next.1 in omega arith
+    pub touches_fewer : (r : Bool) → TouchesNext rules r c d a b → r ≡ true → length (targets_left rules.plan d) < length (targets_left rules.plan c)
+    touches_fewer true next some = let e : length (targets_left rules.plan c) ≡ suc (length (targets_left rules.plan d)) = ap length next.1 in omega arith
     touches_fewer false next some = absurd (false≢true some)
 
-    pub touches_end : (r : Bool) → TouchesNext p cap abort r c d a b → r ≡ false → TouchesAll p cap abort (targets_left p c) a b
-    touches_end false next none = subst (λ gs. TouchesAll p cap abort gs a b) (sym next.0) next.1
+    pub touches_end : (r : Bool) → TouchesNext rules r c d a b → r ≡ false → TouchesAll rules (targets_left rules.plan c) a b
+    touches_end false next none = subst (λ gs. TouchesAll rules gs a b) (sym next.0) next.1
     touches_end true next none = absurd (false≢true (sym none))

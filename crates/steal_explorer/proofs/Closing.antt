@@ -7,7 +7,6 @@ use Rattle.std.proofs.lemmas.List.Elements.{All-append}
 use Rattle.std.proofs.lemmas.List.Concat.{flat_map-cons}
 use Rattle.std.proofs.lemmas.List.Sums.{sum_by-cons, sum_by-append, sum_by_more, get_or-le-sum_by}
 use Rattle.morph_base.specs.declared.plan.Plan.{Plan}
-use Rattle.morph_base.specs.declared.strategy.Abort.{Abort}
 use Rattle.morph_base.specs.Graphs.{IsValidPlan}
 use Rattle.morph_base.specs.Plans.{op_count}
 use Rattle.op_words.specs.declared.board.Board.{Board}
@@ -19,7 +18,7 @@ use Rattle.op_eval.specs.declared.explored.RunEnd.{RunEnd}
 use Rattle.op_eval.specs.declared.explored.RunEnd.TheVariants.{Drained}
 use Rattle.op_eval.specs.declared.runner.Runner.{Runner}
 use Rattle.op_eval.specs.declared.runners.Runners.{Runners}
-use Rattle.op_eval.specs.Exploring.{total, IsExploring, Unused, MayExplore}
+use Rattle.op_eval.specs.Exploring.{total, IsExploring, Unused, MayExplore, RunRules}
 use Rattle.op_eval.specs.Gathering.{runners_of, HasPlaces, AreAtRest}
 use Rattle.op_eval.specs.Alone.{Ran, IsNewRoot}
 use Rattle.op_eval.specs.Running.{hand_view, IsFreeRunner}
@@ -174,7 +173,7 @@ weighs x xs found =
     let is : is_one x (get_or xs found.0 x) ≡ 1 = ap (is_one x) found.2 ∙ ap (λ t. cond t 1 0) (eq-eqb x x refl) in
     omega arith
 
-module _ (p : Plan) (cap : ℕ) (abort : Abort) (ts : List Thief) (ms ns : List Member) (law : HasHandedOut p cap abort ts ms ns) where
+module _ (rules : RunRules) (ts : List Thief) (ms ns : List Member) (law : HasHandedOut rules ts ms ns) where
   in_ms : (k : ℕ) → k < length ns → k < length ms
   in_ms k lt = subst (λ n. k < n) law.len lt
 
@@ -199,16 +198,16 @@ module _ (p : Plan) (cap : ℕ) (abort : Abort) (ts : List Thief) (ms ns : List 
   unstolen_is single = none_of stolen_from ns (λ k m lt. law.unstolen single k m (in_ms k lt))
 
   -- what was taken had been pushed, and so it is one of the plan's operations
-  pub inside_is : (x : ℕ) → Contains (flat_map taken_from ns) x → x < op_count p
+  pub inside_is : (x : ℕ) → Contains (flat_map taken_from ns) x → x < op_count rules.plan
   inside_is x found =
       let a : 0 < sum_by (is_one x) (flat_map taken_from ns) = weighs x (flat_map taken_from ns) found in
       let b = balance_is (is_one x) in
-      below_all (flat_map pushed_by ns) (all_below (op_count p) ns (λ k m lt. law.below k m (in_ms k lt))) x (listed x (flat_map pushed_by ns) (omega arith))
+      below_all (flat_map pushed_by ns) (all_below (op_count rules.plan) ns (λ k m lt. law.below k m (in_ms k lt))) x (listed x (flat_map pushed_by ns) (omega arith))
     where
-      below_all : (xs : List ℕ) → All (λ y. y < op_count p) xs → (x : ℕ) → Contains xs x → x < op_count p
-      below_all xs all x there = subst (λ y. y < op_count p) there.2 (all there.0 x there.1)
+      below_all : (xs : List ℕ) → All (λ y. y < op_count rules.plan) xs → (x : ℕ) → Contains xs x → x < op_count rules.plan
+      below_all xs all x there = subst (λ y. y < op_count rules.plan) there.2 (all there.0 x there.1)
 
-  pub reached_is : AreReached p (flat_map taken_from ns) (map runner_of ns)
+  pub reached_is : AreReached rules.plan (flat_map taken_from ns) (map runner_of ns)
   reached_is x found =
       let lt = inside_is x found in
       let a = sum_flat (is_one x) taken_from ns in
@@ -218,7 +217,7 @@ module _ (p : Plan) (cap : ℕ) (abort : Abort) (ts : List Thief) (ms ns : List 
       let inside : at.0 < length ns = subst (λ n. at.0 < n) (sym law.len) at.1 in (
         at.0,
         subst (λ n. at.0 < n) (sym (length-map ns runner_of)) inside,
-        λ d. subst (λ (r : Runner). IsReached p x (hand_view r).trail) (get_or_map_any at.0 d inside) (at.2 (first_of ns inside)),
+        λ d. subst (λ (r : Runner). IsReached rules.plan x (hand_view r).trail) (get_or_map_any at.0 d inside) (at.2 (first_of ns inside)),
       )
     where
       get_or_map_any : (k : ℕ) (d : Runner) → (inside : k < length ns) → (slice_index_or ns k (first_of ns inside)).runner ≡ slice_index_or (map runner_of ns) k d
@@ -229,9 +228,9 @@ module _ (p : Plan) (cap : ℕ) (abort : Abort) (ts : List Thief) (ms ns : List 
   answered_is =
       elim law.answered [
         | inl more ↦ inl (
-            let a : sum_by (in_plan p) (flat_map taken_from ns) ≡ length (flat_map taken_from ns) = all_in (flat_map taken_from ns) inside_is in
-            let b = sum_flat (in_plan p) taken_from ns in
-            let c : sum_by (λ m. sum_by (in_plan p) (taken_from m)) ns ≡ sum_by (taken_in (in_plan p)) ns = ap (λ f. sum_by f ns) (λ i m. sum_by-append (in_plan p) (own m).popped (own m).stolen i) in
+            let a : sum_by (in_plan rules.plan) (flat_map taken_from ns) ≡ length (flat_map taken_from ns) = all_in (flat_map taken_from ns) inside_is in
+            let b = sum_flat (in_plan rules.plan) taken_from ns in
+            let c : sum_by (λ m. sum_by (in_plan rules.plan) (taken_from m)) ns ≡ sum_by (taken_in (in_plan rules.plan)) ns = ap (λ f. sum_by f ns) (λ i m. sum_by-append (in_plan rules.plan) (own m).popped (own m).stolen i) in
             let d : sum_by (λ r. total r.answers) (map runner_of ns) ≡ sum_by (λ m. total m.runner.answers) ns = sum_mapped ns in
             omega arith)
         | inr full ↦ inr (
@@ -241,12 +240,12 @@ module _ (p : Plan) (cap : ℕ) (abort : Abort) (ts : List Thief) (ms ns : List 
         )
       ]
     where
-      all_in : (xs : List ℕ) → ((x : ℕ) → Contains xs x → x < op_count p) → sum_by (in_plan p) xs ≡ length xs
+      all_in : (xs : List ℕ) → ((x : ℕ) → Contains xs x → x < op_count rules.plan) → sum_by (in_plan rules.plan) xs ≡ length xs
       all_in [] inside = refl
       all_in (x ∷ xs) inside =
-          let e : sum_by (in_plan p) (x ∷ xs) ≡ in_plan p x + sum_by (in_plan p) xs = sum_by-cons (in_plan p) x xs in
-          let f : in_plan p x ≡ 1 = is_op p x (inside x (contains_first x xs)) in
-          let g : sum_by (in_plan p) xs ≡ length xs = all_in xs (λ y there. inside y (contains_later x xs y there)) in
+          let e : sum_by (in_plan rules.plan) (x ∷ xs) ≡ in_plan rules.plan x + sum_by (in_plan rules.plan) xs = sum_by-cons (in_plan rules.plan) x xs in
+          let f : in_plan rules.plan x ≡ 1 = is_op rules.plan x (inside x (contains_first x xs)) in
+          let g : sum_by (in_plan rules.plan) xs ≡ length xs = all_in xs (λ y there. inside y (contains_later x xs y there)) in
           omega arith
 
       sum_mapped : (ns : List Member) → sum_by (λ (r : Runner). total r.answers) (map runner_of ns) ≡ sum_by (λ (m : Member). total m.runner.answers) ns
@@ -267,24 +266,24 @@ module _ (p : Plan) (cap : ℕ) (abort : Abort) (ts : List Thief) (ms ns : List 
   -- ---- the runners
 
   module _ (rs : List Runner) (rs_is : map runner_of ms ≡ rs) where
-    runner_calls : (k : ℕ) (d : Runner) → k < length rs → (cs : List ServeCall) × MakesServeCalls p cap cs (slice_index_or rs k d) (slice_index_or (map runner_of ns) k d)
+    runner_calls : (k : ℕ) (d : Runner) → k < length rs → (cs : List ServeCall) × MakesServeCalls rules.plan rules.cap cs (slice_index_or rs k d) (slice_index_or (map runner_of ns) k d)
     runner_calls k d lt =
         let in_k : k < length ms = subst (λ n. k < n) (sym (ap length rs_is) ∙ length-map ms runner_of) lt in
         let m : Member = first_of ms in_k in
         let calls = law.calls k m in_k in (
           calls.0,
-          subst (λ r. MakesServeCalls p cap calls.0 r (slice_index_or (map runner_of ns) k d)) (sym (get_or-map runner_of ms k m d in_k) ∙ ap (λ l. get_or l k d) rs_is)
-              (subst (MakesServeCalls p cap calls.0 (slice_index_or ms k m).runner) (sym (get_or-map runner_of ns k m d (subst (λ n. k < n) (sym law.len) in_k))) calls.1),
+          subst (λ r. MakesServeCalls rules.plan rules.cap calls.0 r (slice_index_or (map runner_of ns) k d)) (sym (get_or-map runner_of ms k m d in_k) ∙ ap (λ l. get_or l k d) rs_is)
+              (subst (MakesServeCalls rules.plan rules.cap calls.0 (slice_index_or ms k m).runner) (sym (get_or-map runner_of ns k m d (subst (λ n. k < n) (sym law.len) in_k))) calls.1),
         )
 
     same_many : length (map runner_of ns) ≡ length rs
     same_many = length-map ns runner_of ∙ law.len ∙ sym (length-map ms runner_of) ∙ ap length rs_is
 
     pub further_is : HaveGoneOn rs (map runner_of ns)
-    further_is = record { len = same_many; each = λ k d lt. let calls = runner_calls k d lt in calls_further p cap calls.0 (slice_index_or rs k d) (slice_index_or (map runner_of ns) k d) calls.1 }
+    further_is = record { len = same_many; each = λ k d lt. let calls = runner_calls k d lt in calls_further rules.plan rules.cap calls.0 (slice_index_or rs k d) (slice_index_or (map runner_of ns) k d) calls.1 }
 
     -- what is handed on to settling
-    pub explored_is : (b : Board) (old new : Runners) → p ≡ plan_of b → runners_of old ≡ rs → MayExplore b 0 old → HasPlaces new → runners_of new ≡ map runner_of ns → All (λ m. IsFreeRunner b m.runner) ns → MayExplore b 0 new
+    pub explored_is : (b : Board) (old new : Runners) → rules.plan ≡ plan_of b → runners_of old ≡ rs → MayExplore b 0 old → HasPlaces new → runners_of new ≡ map runner_of ns → All (λ m. IsFreeRunner b m.runner) ns → MayExplore b 0 new
     explored_is b old new plan old_is explored places new_is idle = record {
       places = places;
       rest = subst (AreAtRest b) (sym new_is) (record {
@@ -299,12 +298,12 @@ module _ (p : Plan) (cap : ℕ) (abort : Abort) (ts : List Thief) (ms ns : List 
           let inside = subst (λ n. k < n) same_many lt in
           let calls = runner_calls k d inside in
           subst (λ q. IsExploring q (slice_index_or (map runner_of ns) k d)) plan
-          (calls_running p cap calls.0 (slice_index_or rs k d) (slice_index_or (map runner_of ns) k d)
+          (calls_running rules.plan rules.cap calls.0 (slice_index_or rs k d) (slice_index_or (map runner_of ns) k d)
           (subst (λ q. IsExploring q (slice_index_or rs k d)) (sym plan) (subst (All (IsExploring (plan_of b))) old_is explored.exploring k d inside)) calls.1));
       unused = λ c high. subst (All (Unused c)) (sym new_is) (λ k d lt.
           let inside = subst (λ n. k < n) same_many lt in
           let calls = runner_calls k d inside in
-          ap (times c) (calls_places p cap calls.0 (slice_index_or rs k d) (slice_index_or (map runner_of ns) k d) calls.1)
+          ap (times c) (calls_places rules.plan rules.cap calls.0 (slice_index_or rs k d) (slice_index_or (map runner_of ns) k d) calls.1)
           ∙ subst (All (Unused c)) old_is (explored.unused c high) k d inside);
     }
       where

@@ -147,8 +147,8 @@ module _ (p : Plan) (cap : ℕ) (a m : Member) (is : IsClearing p cap a m) (o : 
       quiet = λ none. absurd (let some : length (is.items ++ x ∷ []) ≡ 0 = ap length none in let long : length (is.items ++ x ∷ []) ≡ length is.items + 1 = length-append is.items (x ∷ []) in omega arith);
     }
 
-  pub clearing_more : (abort : Abort) (r : Runner) → WalkedKnown p cap abort x m.runner r → IsClearing p cap a (record m { runner = r; owner = o })
-  clearing_more abort r walked =
+  pub clearing_more : (units : List (List ℕ)) (abort : Abort) (r : Runner) → WalkedKnown (record { plan = p; units = units; cap = cap; abort = abort }) x m.runner r → IsClearing p cap a (record m { runner = r; owner = o })
+  clearing_more units abort r walked =
       elim (cases_le (op_count p) x) [
         | inl past ↦ clearing_calls r [] (walked.1 past) (λ lt. absurd (omega arith)) (let none = no_op p x past in omega arith)
         | inr lt ↦

@@ -5,7 +5,6 @@ use Rattle.std.proofs.lemmas.List.Elements.{All-append, Contains-append_right}
 use Rattle.crossbeam_deque.specs.Handles.{view, stealer_deque, worker_view, SameWorker}
 use Rattle.morph_base.specs.Contents.{Contents}
 use Rattle.op_words.specs.Hands.{up_to}
-use Rattle.morph_base.specs.declared.plan.Plan.{Plan}
 use Rattle.morph_base.specs.declared.strategy.Abort.{Abort}
 use Rattle.op_words.specs.declared.answers.Outcome.{Outcome}
 use Rattle.op_words.proofs.Rows.{no_more}
@@ -18,6 +17,7 @@ use Rattle.op_eval.proofs.Elements.{contains_first, contains_later}
 use Rattle.op_eval.proofs.Turns.{in_turn_append}
 use Rattle.steal_explorer.specs.declared.deque_rule.Log.{Log}
 use Rattle.steal_explorer.specs.declared.member.Member.{Member}
+use Rattle.op_eval.specs.Exploring.{RunRules}
 use Rattle.abort_eager.specs.Sweeps.{cascade_for}
 use Rattle.steal_explorer.specs.Calls.{ServeCall, Asked, Tried, is_swept, NoneSwept, AsksWhetherReady, MakesServeCalls, MakesServeCall, WalkedUnit}
 use Rattle.steal_explorer.specs.Handing.{log, one, parts_of, put}
@@ -45,21 +45,21 @@ lazy_both abort ds cs second first lazy = All-append (λ c. is_swept c ≡ false
 put_none : (v w : Log) → w ≡ v → w ≡ put v []
 put_none v w same = same ∙ ap (λ l. log v.parts l v.popped v.stolen v.left) (no_more v.pushed)
 
-module _ (p : Plan) (cap : ℕ) (abort : Abort) where
-  pub goes_none : (a : Member) → ServesOn p cap abort a a
-  goes_none a = record { number = refl; tickets = refl; stolen = refl; end = refl; deque = refl; calls = []; made = refl; lazy = lazy_none abort; pushed = []; puts = put_none (own a) (own a) refl }
+module _ (rules : RunRules) where
+  pub goes_none : (a : Member) → ServesOn rules a a
+  goes_none a = record { number = refl; tickets = refl; stolen = refl; end = refl; deque = refl; calls = []; made = refl; lazy = lazy_none rules.abort; pushed = []; puts = put_none (own a) (own a) refl }
 
   -- calls of its runner
-  pub goes_calls : (a : Member) (r : Runner) (cs : List ServeCall) → MakesServeCalls p cap cs a.runner r → NoneSwept abort cs → ServesOn p cap abort a (record a { runner = r })
+  pub goes_calls : (a : Member) (r : Runner) (cs : List ServeCall) → MakesServeCalls rules.plan rules.cap cs a.runner r → NoneSwept rules.abort cs → ServesOn rules a (record a { runner = r })
   goes_calls a r cs made lazy = record { number = refl; tickets = refl; stolen = refl; end = refl; deque = refl; calls = cs; made = made; lazy = lazy; pushed = []; puts = put_none (own a) (own a) refl }
 
-  pub goes_pushed : (a : Member) (o : Owner) (h op : ℕ) → SameWorker a.owner o → worker_view o ≡ put (own a) (op ∷ []) → ServesOn p cap abort a (record a { owner = o; handed = h })
-  goes_pushed a o h op same puts = record { number = refl; tickets = refl; stolen = refl; end = refl; deque = same.0; calls = []; made = refl; lazy = lazy_none abort; pushed = op ∷ []; puts = puts }
+  pub goes_pushed : (a : Member) (o : Owner) (h op : ℕ) → SameWorker a.owner o → worker_view o ≡ put (own a) (op ∷ []) → ServesOn rules a (record a { owner = o; handed = h })
+  goes_pushed a o h op same puts = record { number = refl; tickets = refl; stolen = refl; end = refl; deque = same.0; calls = []; made = refl; lazy = lazy_none rules.abort; pushed = op ∷ []; puts = puts }
 
-  pub goes_refused : (a : Member) (o : Owner) (r : Runner) (op : ℕ) → SameWorker a.owner o → worker_view o ≡ own a → WalkedUnit p cap abort op a.runner r → ServesOn p cap abort a (record a { runner = r; owner = o })
+  pub goes_refused : (a : Member) (o : Owner) (r : Runner) (op : ℕ) → SameWorker a.owner o → worker_view o ≡ own a → WalkedUnit rules op a.runner r → ServesOn rules a (record a { runner = r; owner = o })
   goes_refused a o r op same still walked = record { number = refl; tickets = refl; stolen = refl; end = refl; deque = same.0; calls = walked.calls; made = walked.made; lazy = walked.lazy; pushed = []; puts = put_none (own a) (worker_view o) still }
 
-  pub goes_then : (a m b : Member) → ServesOn p cap abort a m → ServesOn p cap abort m b → ServesOn p cap abort a b
+  pub goes_then : (a m b : Member) → ServesOn rules a m → ServesOn rules m b → ServesOn rules a b
   goes_then a m b first second = record {
     number = second.number ∙ first.number;
     tickets = second.tickets ∙ first.tickets;
@@ -67,8 +67,8 @@ module _ (p : Plan) (cap : ℕ) (abort : Abort) where
     end = second.end ∙ first.end;
     deque = second.deque ∙ first.deque;
     calls = second.calls ++ first.calls;
-    made = in_turn_append (MakesServeCall p cap) second.calls first.calls a.runner m.runner b.runner first.made second.made;
-    lazy = lazy_both abort second.calls first.calls second.lazy first.lazy;
+    made = in_turn_append (MakesServeCall rules.plan rules.cap) second.calls first.calls a.runner m.runner b.runner first.made second.made;
+    lazy = lazy_both rules.abort second.calls first.calls second.lazy first.lazy;
     pushed = first.pushed ++ second.pushed;
     puts =
         second.puts
@@ -76,25 +76,25 @@ module _ (p : Plan) (cap : ℕ) (abort : Abort) where
         ∙ ap (λ l. log (own a).parts l (own a).popped (own a).stolen (own a).left) (append_assoc (own a).pushed first.pushed second.pushed);
   }
 
-  pub goes_tried : (o : ℕ) (a : Member) (r : Runner) (x : Evaluation) → Tries p cap o a.runner r x → ServesOn p cap abort a (record a { runner = r })
-  goes_tried o a r x tries = goes_calls a r (Tried o ∷ []) (a.runner, refl, (x, tries)) (lazy_one abort (Tried o) refl)
+  pub goes_tried : (o : ℕ) (a : Member) (r : Runner) (x : Evaluation) → Tries rules.plan rules.cap o a.runner r x → ServesOn rules a (record a { runner = r })
+  goes_tried o a r x tries = goes_calls a r (Tried o ∷ []) (a.runner, refl, (x, tries)) (lazy_one rules.abort (Tried o) refl)
 
   -- what reads from an operation was asked, since that was evaluated; or it was not, and nothing was
-  pub asked_where : (o attempt : ℕ) (x : Outcome) (answer : Evaluation) (a b : Member) → answer ≡ Evaluated attempt x → AsksAll p cap abort (readers p o) a b → AsksReaders p cap abort o answer a b
-  asked_where o attempt x answer a b is asks = subst (λ e. AsksReaders p cap abort o e a b) (sym is) asks
+  pub asked_where : (o attempt : ℕ) (x : Outcome) (answer : Evaluation) (a b : Member) → answer ≡ Evaluated attempt x → AsksAll rules (readers rules.plan o) a b → AsksReaders rules o answer a b
+  asked_where o attempt x answer a b is asks = subst (λ e. AsksReaders rules o e a b) (sym is) asks
 
-  pub none_asked : (o : ℕ) (answer : Evaluation) (a : Member) → ((attempt : ℕ) (x : Outcome) → answer ≡ Evaluated attempt x → ⊥) → AsksReaders p cap abort o answer a a
+  pub none_asked : (o : ℕ) (answer : Evaluation) (a : Member) → ((attempt : ℕ) (x : Outcome) → answer ≡ Evaluated attempt x → ⊥) → AsksReaders rules o answer a a
   none_asked o (Evaluated attempt x) a other = absurd (other attempt x refl)
   none_asked o (Blocked source word) a other = refl
   none_asked o (Busy word) a other = refl
   none_asked o (Already word) a other = refl
 
   -- it tried an operation, ran the cascade behind that to its end, and went on
-  module _ (o : ℕ) (a : Member) (r : Runner) (x : Evaluation) (tries : Tries p cap o a.runner r x) (m b : Member) (touches : TouchesFor p cap abort o (cascade_for abort x) (record a { runner = r }) m) (swept : ServesOn p cap abort (record a { runner = r }) m) (goes : ServesOn p cap abort m b) (asks : AsksReaders p cap abort o x m b) where
-    pub visited : Visits p cap abort o a b
+  module _ (o : ℕ) (a : Member) (r : Runner) (x : Evaluation) (tries : Tries rules.plan rules.cap o a.runner r x) (m b : Member) (touches : TouchesFor rules o (cascade_for rules.abort x) (record a { runner = r }) m) (swept : ServesOn rules (record a { runner = r }) m) (goes : ServesOn rules m b) (asks : AsksReaders rules o x m b) where
+    pub visited : Visits rules o a b
     visited = record { evaluated = r; answer = x; tries = tries; swept = m; touches = touches; asks = asks; goes = goes }
 
-    pub serves_first : Serves p cap abort o a b
+    pub serves_first : Serves rules o a b
     unfolding goes_then goes_tried goes_calls
     serves_first = record {
       goes = goes_then a m b (goes_then a (record a { runner = r }) m (goes_tried o a r x tries) swept) goes;
@@ -104,7 +104,7 @@ module _ (p : Plan) (cap : ℕ) (abort : Abort) where
       first = contains_first o [];
     }
 
-  pub serves_then : (o q : ℕ) (a m b : Member) → Serves p cap abort o a m → ServesOn p cap abort m b → Visits p cap abort q m b → Serves p cap abort o a b
+  pub serves_then : (o q : ℕ) (a m b : Member) → Serves rules o a m → ServesOn rules m b → Visits rules q m b → Serves rules o a b
   unfolding goes_then
   serves_then o q a m b first second visits = record {
     goes = goes_then a m b first.goes second;
@@ -114,11 +114,11 @@ module _ (p : Plan) (cap : ℕ) (abort : Abort) where
     first = contains_later q first.ops o first.first;
   }
 
-  pub asked_one : (o : ℕ) (a : Member) (r : Runner) (x : Readied) → AsksWhetherReady p cap o a.runner r x → ServesOn p cap abort a (record a { runner = r })
-  asked_one o a r x asks = goes_calls a r (Asked o ∷ []) (a.runner, refl, (x, asks)) (lazy_one abort (Asked o) refl)
+  pub asked_one : (o : ℕ) (a : Member) (r : Runner) (x : Readied) → AsksWhetherReady rules.plan rules.cap o a.runner r x → ServesOn rules a (record a { runner = r })
+  asked_one o a r x asks = goes_calls a r (Asked o ∷ []) (a.runner, refl, (x, asks)) (lazy_one rules.abort (Asked o) refl)
 
   -- its tickets and the parts of its deque stay
-  pub tickets_kept : (ts : List Thief) (a b : Member) → HasTickets ts a → ServesOn p cap abort a b → HasTickets ts b
+  pub tickets_kept : (ts : List Thief) (a b : Member) → HasTickets ts a → ServesOn rules a b → HasTickets ts b
   tickets_kept ts a b is goes = record {
     inside = subst (λ k. k < length ts) (sym goes.number) is.inside;
     few = is.few;

@@ -5,7 +5,6 @@ use Rattle.std.proofs.lemmas.Bool.{cases_eq, cases_lt}
 use Rattle.std.proofs.lemmas.List.Sums.{sum_by_push}
 use Rattle.crossbeam_deque.specs.Handles.{worker_capacity, worker_index}
 use Rattle.morph_base.specs.declared.plan.Plan.{Plan}
-use Rattle.morph_base.specs.declared.strategy.Abort.{Abort}
 use Rattle.morph_base.specs.declared.strategy.Abort.TheVariants.{Lazy}
 use Rattle.morph_base.specs.Graphs.{IsValidPlan}
 use Rattle.morph_base.specs.Plans.{op_count}
@@ -29,6 +28,7 @@ use Rattle.steal_explorer.specs.Turns.{After, row_then, most_turns}
 use Rattle.steal_explorer.proofs.Counting.{same_is, other_is, many_ones, few_items}
 use Rattle.steal_explorer.proofs.Holds.{evens}
 use Rattle.steal_explorer.proofs.Queueing.{seldom, goes_ran}
+use Rattle.op_eval.specs.Exploring.{RunRules}
 
 -- with one deque its owner has all parts
 whole_own : (ts : List Thief) (a : Member) → length ts ≡ 1 → HasTickets ts a → (own a).parts ≡ whole
@@ -58,9 +58,9 @@ keeps_still m b same = record {
   ran = λ o ran. subst (λ (n : Member). HasRunOp o n) (sym same) ran;
 }
 
-served_keeps : (p : Plan) → IsValidPlan p → (cap : ℕ) (abort : Abort) → abort ≡ Lazy → (x : ℕ) (m b : Member) → IsLone (hand_view m.runner) → After p cap abort (Item x) m b → AfterKeeps m b
-served_keeps p valid cap abort lazy x m b lone after =
-    elim (cases_lt x (op_count p)) [
+served_keeps : (rules : RunRules) → IsValidPlan rules.plan → rules.abort ≡ Lazy → (x : ℕ) (m b : Member) → IsLone (hand_view m.runner) → After rules (Item x) m b → AfterKeeps m b
+served_keeps rules valid lazy x m b lone after =
+    elim (cases_lt x (op_count rules.plan)) [
       | inr past ↦ keeps_still m b (after.1 past)
       | inl lt ↦
           let goes = (after.0 lt).goes in
@@ -70,17 +70,17 @@ served_keeps p valid cap abort lazy x m b lone after =
                 let e : length (own b).pushed ≡ length ((own m).pushed ++ goes.pushed) = ap (λ (v : Log). length v.pushed) goes.puts in
                 let f : length ((own m).pushed ++ goes.pushed) ≡ length (own m).pushed + length goes.pushed = length-append (own m).pushed goes.pushed in
                 omega arith;
-            ran = goes_ran p valid cap m abort lazy b goes lone;
+            ran = goes_ran rules valid lazy m b goes lone;
           }
     ]
 
-module _ (p : Plan) (valid : IsValidPlan p) (cap : ℕ) (ts : List Thief) (a m : Member) (single : length ts ≡ 1) (tickets : HasTickets ts a) (is : IsTurningAlone p a) where
+module _ (rules : RunRules) (valid : IsValidPlan rules.plan) (ts : List Thief) (a m : Member) (single : length ts ≡ 1) (tickets : HasTickets ts a) (is : IsTurningAlone rules.plan a) where
   -- an item was there, and is served
-  pub took_item : (abort : Abort) → abort ≡ Lazy → (x : ℕ) (b : Member) → FindsAlone (Item x) a m → Finds ts (Item x) a m → (IsHandingAlone p [] m → ServesAlone p x m b) → After p cap abort (Item x) m b → TurnsAlone p (Item x) a b
-  took_item abort lazy x b alone finds serve after =
-      let at_m : IsHandingAlone p [] m = handing_as p a m is.handing finds.runner finds.pushed alone.slots alone.index in
+  pub took_item : rules.abort ≡ Lazy → (x : ℕ) (b : Member) → FindsAlone (Item x) a m → Finds ts (Item x) a m → (IsHandingAlone rules.plan [] m → ServesAlone rules.plan x m b) → After rules (Item x) m b → TurnsAlone rules.plan (Item x) a b
+  took_item lazy x b alone finds serve after =
+      let at_m : IsHandingAlone rules.plan [] m = handing_as rules.plan a m is.handing finds.runner finds.pushed alone.slots alone.index in
       let serves = serve at_m in
-      let keeps = served_keeps p valid cap abort lazy x m b at_m.lone after in
+      let keeps = served_keeps rules valid lazy x m b at_m.lone after in
       let popped : (own b).popped ≡ (own a).popped ++ x ∷ [] = keeps.popped ∙ ap (λ (v : Log). v.popped) alone.found.0 in
       let longer : length (own b).popped ≡ length (own a).popped + 1 = ap length popped ∙ length-append (own a).popped (x ∷ []) in
       let there : gone one (own a) + 1 ≤ came one (own a) = alone.found.1 (whole_own ts a single tickets) one in
@@ -115,13 +115,13 @@ module _ (p : Plan) (valid : IsValidPlan p) (cap : ℕ) (ts : List Thief) (a m :
       }
 
   -- nothing was there
-  pub took_nothing : FindsAlone Nothing a m → Finds ts Nothing a m → TurnsAlone p Nothing a m
+  pub took_nothing : FindsAlone Nothing a m → Finds ts Nothing a m → TurnsAlone rules.plan Nothing a m
   took_nothing alone finds =
       let still : own m ≡ own a = alone.found.0 in
       let popped : (own m).popped ≡ (own a).popped = ap (λ (v : Log). v.popped) still in
       record {
         turning = record {
-          handing = handing_as p a m is.handing finds.runner finds.pushed alone.slots alone.index;
+          handing = handing_as rules.plan a m is.handing finds.runner finds.pushed alone.slots alone.index;
           ran = λ o lt some. subst (λ (r : Runner). Ran (hand_view r).trail o) (sym finds.runner) (is.ran o lt (subst (λ l. 0 < sum_by (is_one o) l) popped some));
           few = let e : length (own m).popped ≡ length (own a).popped = ap length popped in let f : length (own m).pushed ≡ length (own a).pushed = ap length finds.pushed in let g = is.few in omega arith;
         };

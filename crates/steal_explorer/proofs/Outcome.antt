@@ -5,7 +5,6 @@ use Rattle.std.proofs.lemmas.Bool.{cases_eq, cases_lt}
 use Rattle.std.proofs.lemmas.List.{get_or-map}
 use Rattle.std.proofs.lemmas.List.Sums.{sum_by-cons, sum_by-append, get_or-le-sum_by}
 use Rattle.morph_base.specs.declared.plan.Plan.{Plan}
-use Rattle.morph_base.specs.declared.strategy.Abort.{Abort}
 use Rattle.morph_base.specs.Plans.{op_count}
 use Rattle.op_words.proofs.Sizes.{sum_ones}
 use Rattle.op_words.specs.Hands.{cap_of, up_to}
@@ -13,7 +12,7 @@ use Rattle.op_words.specs.Trails.{IsReached}
 use Rattle.op_eval.specs.declared.explored.RunEnd.{RunEnd}
 use Rattle.op_eval.specs.declared.explored.RunEnd.TheVariants.{Whole, Drained, Spent}
 use Rattle.op_eval.specs.declared.runner.Runner.{Runner}
-use Rattle.op_eval.specs.Exploring.{total}
+use Rattle.op_eval.specs.Exploring.{total, RunRules}
 use Rattle.op_eval.specs.Running.{hand_view, IsFreeRunner}
 use Rattle.op_eval.proofs.Elements.{contains_first, contains_later}
 use Rattle.op_eval.proofs.Turns.{in_turn_append}
@@ -21,6 +20,7 @@ use Rattle.crossbeam_deque.specs.Handles.{view, stealer_deque}
 use Rattle.steal_explorer.specs.declared.find.Found.{Found}
 use Rattle.steal_explorer.specs.declared.find.Found.TheVariants.{Item, Nothing, Retry}
 use Rattle.steal_explorer.specs.declared.deque_rule.Log.{Log}
+use Rattle.abort_eager.specs.Grounds.{ground_rules}
 use Rattle.abort_eager.specs.declared.ground.Ground.{Ground}
 use Rattle.steal_explorer.specs.declared.member.Member.{Member}
 use Rattle.steal_explorer.specs.Calls.{ServeCall, is_tried, MakesServeCalls, MakesServeCall}
@@ -152,42 +152,42 @@ found_in x (Item y ∷ fs) more =
 
 -- ---- turns
 
-turns_number : (p : Plan) (cap : ℕ) (abort : Abort) (ts : List Thief) (a : Member) (fs : List Found) (b : Member) → Turns p cap abort ts a fs b → b.number ≡ a.number
-turns_number p cap abort ts a [] b made = ap (λ (m : Member). m.number) made
-turns_number p cap abort ts a (f ∷ fs) b made = after_number f made.2.found b made.2.after ∙ made.2.finds.number ∙ turns_number p cap abort ts a fs made.0 made.1
+turns_number : (rules : RunRules) (ts : List Thief) (a : Member) (fs : List Found) (b : Member) → Turns rules ts a fs b → b.number ≡ a.number
+turns_number rules ts a [] b made = ap (λ (m : Member). m.number) made
+turns_number rules ts a (f ∷ fs) b made = after_number f made.2.found b made.2.after ∙ made.2.finds.number ∙ turns_number rules ts a fs made.0 made.1
   where
-    after_number : (f : Found) (a b : Member) → After p cap abort f a b → b.number ≡ a.number
-    after_number (Item x) a b after = elim (cases_lt x (op_count p)) [ inl lt ↦ (after.0 lt).goes.number | inr past ↦ ap (λ (m : Member). m.number) (after.1 past) ]
+    after_number : (f : Found) (a b : Member) → After rules f a b → b.number ≡ a.number
+    after_number (Item x) a b after = elim (cases_lt x (op_count rules.plan)) [ inl lt ↦ (after.0 lt).goes.number | inr past ↦ ap (λ (m : Member). m.number) (after.1 past) ]
     after_number Nothing a b after = ap (λ (m : Member). m.number) after
     after_number Retry a b after = ap (λ (m : Member). m.number) after
 
-module _ (p : Plan) (cap : ℕ) (abort : Abort) (ts : List Thief) (a b : Member) (run : HasTakenTurns p cap abort ts a b) where
+module _ (rules : RunRules) (ts : List Thief) (a b : Member) (run : HasTakenTurns rules ts a b) where
   pub run_number : b.number ≡ a.number
-  run_number = ap (λ (m : Member). m.number) run.noted ∙ turns_number p cap abort ts a run.ran.turns run.stopped run.ran.made
+  run_number = ap (λ (m : Member). m.number) run.noted ∙ turns_number rules ts a run.ran.turns run.stopped run.ran.made
 
-  run_calls : (cs : List ServeCall) × MakesServeCalls p cap cs a.runner b.runner
-  run_calls = let tell = turns_tell p cap abort ts a run.ran.turns run.stopped run.ran.made in (tell.calls, subst (MakesServeCalls p cap tell.calls a.runner) (ap (λ (m : Member). m.runner) (sym run.noted)) tell.made)
+  run_calls : (cs : List ServeCall) × MakesServeCalls rules.plan rules.cap cs a.runner b.runner
+  run_calls = let tell = turns_tell rules ts a run.ran.turns run.stopped run.ran.made in (tell.calls, subst (MakesServeCalls rules.plan rules.cap tell.calls a.runner) (ap (λ (m : Member). m.runner) (sym run.noted)) tell.made)
 
   -- each operation that it took was tried in a call of its own
-  run_tries : ((h : ℕ → ℕ) → taken_by h a ≡ 0) → taken_by (in_plan p) b ≤ count_by is_tried run_calls.0
+  run_tries : ((h : ℕ → ℕ) → taken_by h a ≡ 0) → taken_by (in_plan rules.plan) b ≤ count_by is_tried run_calls.0
   unfolding run_calls
   run_tries fresh =
-      let tell = turns_tell p cap abort ts a run.ran.turns run.stopped run.ran.made in
-      let e : taken_by (in_plan p) b ≡ taken_by (in_plan p) run.stopped = ap (taken_by (in_plan p)) run.noted in
-      let f : taken_by (in_plan p) run.stopped ≡ taken_by (in_plan p) a + sum_by (weight_of (in_plan p)) run.ran.turns = turns_taken p cap abort ts a run.ran.turns run.stopped run.ran.made (in_plan p) in
-      let g = fresh (in_plan p) in
+      let tell = turns_tell rules ts a run.ran.turns run.stopped run.ran.made in
+      let e : taken_by (in_plan rules.plan) b ≡ taken_by (in_plan rules.plan) run.stopped = ap (taken_by (in_plan rules.plan)) run.noted in
+      let f : taken_by (in_plan rules.plan) run.stopped ≡ taken_by (in_plan rules.plan) a + sum_by (weight_of (in_plan rules.plan)) run.ran.turns = turns_taken rules ts a run.ran.turns run.stopped run.ran.made (in_plan rules.plan) in
+      let g = fresh (in_plan rules.plan) in
       let h = tell.many in
       omega arith
 
   -- what it took it reached
-  run_reached : (x : ℕ) → x < op_count p → ((h : ℕ → ℕ) → taken_by h a ≡ 0) → 0 < taken_by (is_one x) b → IsReached p x (hand_view b.runner).trail
+  run_reached : (x : ℕ) → x < op_count rules.plan → ((h : ℕ → ℕ) → taken_by h a ≡ 0) → 0 < taken_by (is_one x) b → IsReached rules.plan x (hand_view b.runner).trail
   run_reached x lt fresh more =
-      let tell = turns_tell p cap abort ts a run.ran.turns run.stopped run.ran.made in
+      let tell = turns_tell rules ts a run.ran.turns run.stopped run.ran.made in
       let e : taken_by (is_one x) b ≡ taken_by (is_one x) run.stopped = ap (taken_by (is_one x)) run.noted in
-      let f : taken_by (is_one x) run.stopped ≡ taken_by (is_one x) a + sum_by (weight_of (is_one x)) run.ran.turns = turns_taken p cap abort ts a run.ran.turns run.stopped run.ran.made (is_one x) in
+      let f : taken_by (is_one x) run.stopped ≡ taken_by (is_one x) a + sum_by (weight_of (is_one x)) run.ran.turns = turns_taken rules ts a run.ran.turns run.stopped run.ran.made (is_one x) in
       let g = fresh (is_one x) in
-      subst (λ (r : Runner). IsReached p x (hand_view r).trail) (ap (λ (m : Member). m.runner) (sym run.noted))
-      (calls_reach p cap x tell.calls a.runner run.stopped.runner tell.made (tell.tried x (found_in x run.ran.turns (omega arith)) lt))
+      subst (λ (r : Runner). IsReached rules.plan x (hand_view r).trail) (ap (λ (m : Member). m.runner) (sym run.noted))
+      (calls_reach rules.plan rules.cap x tell.calls a.runner run.stopped.runner tell.made (tell.tried x (found_in x run.ran.turns (omega arith)) lt))
 
 -- ---- all have returned
 
@@ -314,14 +314,14 @@ no_tickets h [] none = refl
 no_tickets h (x ∷ xs) none = absurd (omega arith)
 
 module _ (g : Ground) (ts : List Thief) (ms ws gs : List Member) (begins : (k : ℕ) (m : Member) → k < length ms → IsBeginning g ts k (slice_index_or ms k m)) (len : length ms ≡ length ts) (len_ws : length ws ≡ length ms)
-    (work : (k : ℕ) (m : Member) → k < length ms → IsWorkerOf g ts (slice_index_or ws k m) × HasTakenTurns g.plan.now (cap_of g.board.now) g.abort ts (slice_index_or ms k m) (slice_index_or ws k m)) where
+    (work : (k : ℕ) (m : Member) → k < length ms → IsWorkerOf g ts (slice_index_or ws k m) × HasTakenTurns (ground_rules g) ts (slice_index_or ms k m) (slice_index_or ws k m)) where
   -- before they give back their tickets
   pub all_hold : length ts ≤ whole → AreHolding ts (length ws) ws
   all_hold few =
       holding_all g ts ws (len_ws ∙ len) few (λ k m lt. (work k m (subst (λ n. k < n) len_ws lt)).0)
       (λ k m lt.
       let less : k < length ms = subst (λ n. k < n) len_ws lt in
-      run_number g.plan.now (cap_of g.board.now) g.abort ts (slice_index_or ms k m) (slice_index_or ws k m) (work k m less).1 ∙ (begins k m less).number)
+      run_number (ground_rules g) ts (slice_index_or ms k m) (slice_index_or ws k m) (work k m less).1 ∙ (begins k m less).number)
 
   module _ (held : AreHolding ts 0 gs) (totals : AreTotals ws gs) where
     len_gs : length gs ≡ length ms
@@ -410,7 +410,7 @@ module _ (g : Ground) (ts : List Thief) (ms ws gs : List Member) (begins : (k : 
                   less,
                   λ m.
                       still_reached x at.0 m less
-                      (run_reached p cap g.abort ts (slice_index_or ms at.0 m) (slice_index_or ws at.0 m) (work at.0 m less).1 x lt (begins at.0 m less).fresh (at.2 m)),
+                      (run_reached (ground_rules g) ts (slice_index_or ms at.0 m) (slice_index_or ws at.0 m) (work at.0 m less).1 x lt (begins at.0 m less).fresh (at.2 m)),
                 )
             | inr none ↦
                 let at = above (taken_in (is_one x)) gs ns emptied.len (omega arith) in
@@ -450,12 +450,12 @@ module _ (g : Ground) (ts : List Thief) (ms ws gs : List Member) (begins : (k : 
           × (taken_by (in_plan p) (slice_index_or ws k m) + taken_in (in_plan p) (slice_index_or ns k m) ≤ taken_in (in_plan p) (slice_index_or gs k m) + count_by is_tried cs)
       calls_of k m lt =
           let run = (work k m lt).1 in
-          let first = run_calls p cap g.abort ts (slice_index_or ms k m) (slice_index_or ws k m) run in
+          let first = run_calls (ground_rules g) ts (slice_index_or ms k m) (slice_index_or ws k m) run in
           let second = (tells k m lt).calls in (
             second.0 ++ first.0,
             in_turn_append (MakesServeCall p cap) second.0 first.0 (slice_index_or ms k m).runner (slice_index_or ws k m).runner (slice_index_or ns k m).runner first.1
                 (subst (λ r. MakesServeCalls p cap second.0 r (slice_index_or ns k m).runner) (ap (λ (q : KeptByWorker). q.runner) (kept_at k m lt)) second.1),
-            (let a = run_tries p cap g.abort ts (slice_index_or ms k m) (slice_index_or ws k m) run (begins k m lt).fresh in
+            (let a = run_tries (ground_rules g) ts (slice_index_or ms k m) (slice_index_or ws k m) run (begins k m lt).fresh in
                 let b = (tells k m lt).tries in
                 let c = count_both second.0 first.0 in
                 omega arith),
@@ -478,7 +478,7 @@ module _ (g : Ground) (ts : List Thief) (ms ws gs : List Member) (begins : (k : 
                 | inl more ↦ (let few = calls.2 in inl (omega arith))
               ]
 
-      pub handed_out : HasHandedOut p cap g.abort ts ms ns
+      pub handed_out : HasHandedOut (ground_rules g) ts ms ns
       handed_out = record {
         len = emptied.len ∙ len_gs;
         returned = ws;

@@ -5,7 +5,6 @@ use Rattle.std.proofs.lemmas.List.Elements.{All-contains}
 use Rattle.std.proofs.lemmas.List.Sums.{sum_by_push}
 use Rattle.crossbeam_deque.specs.Handles.{worker_capacity, worker_index}
 use Rattle.morph_base.specs.declared.plan.Plan.{Plan}
-use Rattle.morph_base.specs.declared.strategy.Abort.{Abort}
 use Rattle.morph_base.specs.declared.strategy.Abort.TheVariants.{Lazy}
 use Rattle.morph_base.specs.Graphs.{IsValidPlan}
 use Rattle.morph_base.specs.Plans.{op_count}
@@ -33,6 +32,7 @@ use Rattle.steal_explorer.proofs.Counting.{fewer_items}
 use Rattle.steal_explorer.proofs.Depending.{reader_source, reads_or}
 use Rattle.steal_explorer.proofs.Outcome.{listed}
 use Rattle.steal_explorer.proofs.Standing.{made_alone, unmade_alone, evaluated_alone, first_attempt, unmade_stands, was_waiting, made_stands, evaluated_stands, stopped_stands, calls_ran}
+use Rattle.op_eval.specs.Exploring.{RunRules}
 
 pub seldom : (p : Plan) (pending : List ℕ) (t : List Item) (pushed : List ℕ) (o : ℕ) → Stands p pending t pushed o → sum_by (is_one o) pushed ≤ 1
 seldom p pending t pushed o stands =
@@ -107,16 +107,16 @@ module _ (p : Plan) (valid : IsValidPlan p) (cap : ℕ) (a : Member) where
           ran = stops.1;
         }
 
-  -- what ran stays so, under lazy abort
-  module _ (abort : Abort) (lazy : abort ≡ Lazy) where
-    pub goes_ran : (b : Member) → ServesOn p cap abort a b → IsLone (hand_view a.runner) → (o : ℕ) → HasRunOp o a → HasRunOp o b
-    goes_ran b goes lone o ran = calls_ran p valid.plan cap goes.calls a.runner b.runner goes.made (goes.lazy lazy) lone o ran
+-- what ran stays so, under lazy abort
+module _ (rules : RunRules) (valid : IsValidPlan rules.plan) (lazy : rules.abort ≡ Lazy) where
+  pub goes_ran : (a b : Member) → ServesOn rules a b → IsLone (hand_view a.runner) → (o : ℕ) → HasRunOp o a → HasRunOp o b
+  goes_ran a b goes lone o ran = calls_ran rules.plan valid.plan rules.cap goes.calls a.runner b.runner goes.made (goes.lazy lazy) lone o ran
 
-    pub serves_more : (o : ℕ) (m b : Member) → ServesAlone p o a m → ServesOn p cap abort m b → IsHandingAlone p [] b → ServesAlone p o a b
-    serves_more o m b serves goes handing = record {
-      handing = handing;
-      ran = λ there. calls_ran p valid.plan cap goes.calls m.runner b.runner goes.made (goes.lazy lazy) serves.handing.lone o (serves.ran there);
-    }
+  pub serves_more : (o : ℕ) (a m b : Member) → ServesAlone rules.plan o a m → ServesOn rules m b → IsHandingAlone rules.plan [] b → ServesAlone rules.plan o a b
+  serves_more o a m b serves goes handing = record {
+    handing = handing;
+    ran = λ there. calls_ran rules.plan valid.plan rules.cap goes.calls m.runner b.runner goes.made (goes.lazy lazy) serves.handing.lone o (serves.ran there);
+  }
 
 -- ---- asking all that read from an operation
 

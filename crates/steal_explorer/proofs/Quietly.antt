@@ -9,6 +9,7 @@ use Rattle.op_eval.specs.declared.answers.Evaluation.{Evaluation}
 use Rattle.op_eval.specs.declared.runner.Runner.{Runner}
 use Rattle.op_eval.proofs.Elements.{contains_first, contains_later}
 use Rattle.op_eval.proofs.Turns.{in_turn_append}
+use Rattle.op_eval.specs.Exploring.{RunRules}
 use Rattle.abort_eager.specs.declared.answers.Target.{Target}
 use Rattle.abort_eager.specs.Sweeps.{cascade_for, SweepsOne, SweepsAll, SweepsAllFor, AttemptsNoting}
 use Rattle.abort_eager.specs.Targets.{targets}
@@ -59,48 +60,48 @@ module _ (p : Plan) (cap : ℕ) where
   cascade_made o None a b same = same
   cascade_made o (Some failed) a b all = touches_made (targets p o failed) a b all
 
-  module _ (abort : Abort) (o : ℕ) (r : Evaluation) where
-    -- the calls of an attempt and of the cascade that follows, the last one first
-    abbrev tried_calls : List ServeCall
-    tried_calls = cascade_calls p o (cascade_for abort r) ++ Tried o ∷ []
+module _ (rules : RunRules) (o : ℕ) (r : Evaluation) where
+  -- the calls of an attempt and of the cascade that follows, the last one first
+  abbrev tried_calls : List ServeCall
+  tried_calls = cascade_calls rules.plan o (cascade_for rules.abort r) ++ Tried o ∷ []
 
-    tried_made : (a b : Runner) → AttemptsNoting p cap unnoted abort o a b r → MakesServeCalls p cap tried_calls a b
-    tried_made a b attempts =
-        in_turn_append (MakesServeCall p cap) (cascade_calls p o (cascade_for abort r)) (Tried o ∷ []) a attempts.0 b (a, refl, (r, attempts.1)) (cascade_made o (cascade_for abort r) attempts.0 b attempts.2)
+  tried_made : (a b : Runner) → AttemptsNoting rules unnoted o a b r → MakesServeCalls rules.plan rules.cap tried_calls a b
+  tried_made a b attempts =
+      in_turn_append (MakesServeCall rules.plan rules.cap) (cascade_calls rules.plan o (cascade_for rules.abort r)) (Tried o ∷ []) a attempts.0 b (a, refl, (r, attempts.1)) (cascade_made rules.plan rules.cap o (cascade_for rules.abort r) attempts.0 b attempts.2)
 
-    tried_unasked : All (λ c. is_asked c ≡ false) tried_calls
-    tried_unasked = All-append (λ c. is_asked c ≡ false) (cascade_calls p o (cascade_for abort r)) (Tried o ∷ []) (cascade_unasked p o (cascade_for abort r)) (all_one (λ c. is_asked c ≡ false) (Tried o) refl)
+  tried_unasked : All (λ c. is_asked c ≡ false) tried_calls
+  tried_unasked = All-append (λ c. is_asked c ≡ false) (cascade_calls rules.plan o (cascade_for rules.abort r)) (Tried o ∷ []) (cascade_unasked rules.plan o (cascade_for rules.abort r)) (all_one (λ c. is_asked c ≡ false) (Tried o) refl)
 
-    tried_lazy : NoneSwept abort tried_calls
-    tried_lazy = lazy_both abort (cascade_calls p o (cascade_for abort r)) (Tried o ∷ []) (cascade_lazy p o abort r) (lazy_one abort (Tried o) refl)
+  tried_lazy : NoneSwept rules.abort tried_calls
+  tried_lazy = lazy_both rules.abort (cascade_calls rules.plan o (cascade_for rules.abort r)) (Tried o ∷ []) (cascade_lazy rules.plan o rules.abort r) (lazy_one rules.abort (Tried o) refl)
 
 -- ---- walking
 
-module _ (p : Plan) (cap : ℕ) (abort : Abort) where
-  walked_first : (o : ℕ) {a b : Runner} {r : Evaluation} → AttemptsNoting p cap unnoted abort o a b r → WalkedUnit p cap abort o a b
+module _ (rules : RunRules) where
+  walked_first : (o : ℕ) {a b : Runner} {r : Evaluation} → AttemptsNoting rules unnoted o a b r → WalkedUnit rules o a b
   walked_first o {a} {b} {r} tries = record {
     ops = o ∷ [];
-    attempts = (a, refl, (r, attempts_of p cap unnoted abort o a b r tries));
+    attempts = (a, refl, (r, attempts_of rules unnoted o a b r tries));
     first = contains_first o [];
-    calls = tried_calls p cap abort o r;
-    made = tried_made p cap abort o r a b tries;
-    tried = Contains-append_right (cascade_calls p o (cascade_for abort r)) (Tried o ∷ []) (Tried o) (contains_first (Tried o) []);
-    only = tried_unasked p cap abort o r;
-    lazy = tried_lazy p cap abort o r;
+    calls = tried_calls rules o r;
+    made = tried_made rules o r a b tries;
+    tried = Contains-append_right (cascade_calls rules.plan o (cascade_for rules.abort r)) (Tried o ∷ []) (Tried o) (contains_first (Tried o) []);
+    only = tried_unasked rules o r;
+    lazy = tried_lazy rules o r;
   }
 
-  walked_more : (o q : ℕ) {a m b : Runner} {r : Evaluation} → WalkedUnit p cap abort o a m → AttemptsNoting p cap unnoted abort q m b r → WalkedUnit p cap abort o a b
+  walked_more : (o q : ℕ) {a m b : Runner} {r : Evaluation} → WalkedUnit rules o a m → AttemptsNoting rules unnoted q m b r → WalkedUnit rules o a b
   walked_more o q {a} {m} {b} {r} walked tries = record {
     ops = q ∷ walked.ops;
-    attempts = (m, walked.attempts, (r, attempts_of p cap unnoted abort q m b r tries));
+    attempts = (m, walked.attempts, (r, attempts_of rules unnoted q m b r tries));
     first = contains_later q walked.ops o walked.first;
-    calls = tried_calls p cap abort q r ++ walked.calls;
-    made = in_turn_append (MakesServeCall p cap) (tried_calls p cap abort q r) walked.calls a m b walked.made (tried_made p cap abort q r m b tries);
-    tried = Contains-append_right (tried_calls p cap abort q r) walked.calls (Tried o) walked.tried;
-    only = All-append (λ c. is_asked c ≡ false) (tried_calls p cap abort q r) walked.calls (tried_unasked p cap abort q r) walked.only;
-    lazy = lazy_both abort (tried_calls p cap abort q r) walked.calls (tried_lazy p cap abort q r) walked.lazy;
+    calls = tried_calls rules q r ++ walked.calls;
+    made = in_turn_append (MakesServeCall rules.plan rules.cap) (tried_calls rules q r) walked.calls a m b walked.made (tried_made rules q r m b tries);
+    tried = Contains-append_right (tried_calls rules q r) walked.calls (Tried o) walked.tried;
+    only = All-append (λ c. is_asked c ≡ false) (tried_calls rules q r) walked.calls (tried_unasked rules q r) walked.only;
+    lazy = lazy_both rules.abort (tried_calls rules q r) walked.calls (tried_lazy rules q r) walked.lazy;
   }
 
-  pub walked_unit : (units : List (List ℕ)) (o : ℕ) (a b : Runner) → WalksUnit (AttemptsNoting p cap unnoted abort) units o a b → WalkedUnit p cap abort o a b
+  pub walked_unit : (units : List (List ℕ)) (o : ℕ) (a b : Runner) → WalksUnit (AttemptsNoting rules unnoted) units o a b → WalkedUnit rules o a b
   walked_unit units o a b =
-      by_walk (AttemptsNoting p cap unnoted abort) units o a b (λ m. WalkedUnit p cap abort o a m) (λ m r tries. walked_first o tries) (λ q m n r walked tries. walked_more o q walked tries)
+      by_walk (AttemptsNoting rules unnoted) units o a b (λ m. WalkedUnit rules o a m) (λ m r tries. walked_first o tries) (λ q m n r walked tries. walked_more o q walked tries)

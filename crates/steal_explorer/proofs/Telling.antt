@@ -5,7 +5,6 @@ use Rattle.std.proofs.lemmas.Bool.{cases_lt}
 use Rattle.std.proofs.lemmas.List.Elements.{Contains-append_left, Contains-append_right}
 use Rattle.std.proofs.lemmas.List.Sums.{sum_by-cons, sum_by-append}
 use Rattle.morph_base.specs.declared.plan.Plan.{Plan}
-use Rattle.morph_base.specs.declared.strategy.Abort.{Abort}
 use Rattle.morph_base.specs.Contents.{Contents}
 use Rattle.morph_base.specs.Plans.{op_count}
 use Rattle.op_words.specs.Trails.{IsReached}
@@ -13,7 +12,7 @@ use Rattle.op_words.proofs.Trailing.{reached_more, reached_later}
 use Rattle.op_eval.specs.declared.answers.Evaluation.{Evaluation}
 use Rattle.op_eval.specs.declared.runner.Runner.{Runner}
 use Rattle.op_eval.specs.Evaluations.{Tries}
-use Rattle.op_eval.specs.Exploring.{total}
+use Rattle.op_eval.specs.Exploring.{total, RunRules}
 use Rattle.op_eval.specs.Running.{hand_view}
 use Rattle.op_eval.proofs.Totals.{tries_total, full_stays}
 use Rattle.op_eval.proofs.Elements.{contains_cases}
@@ -50,28 +49,28 @@ calls_reach p cap o (c ∷ cs) a b calls found =
 
 -- ---- serving takes nothing
 
-goes_taken : (p : Plan) (cap : ℕ) (abort : Abort) (a b : Member) → ServesOn p cap abort a b → (h : ℕ → ℕ) → taken_by h b ≡ taken_by h a
-goes_taken p cap abort a b goes h =
+goes_taken : (rules : RunRules) (a b : Member) → ServesOn rules a b → (h : ℕ → ℕ) → taken_by h b ≡ taken_by h a
+goes_taken rules a b goes h =
     let e : sum_by h (own b).popped ≡ sum_by h (own a).popped = ap (λ (v : Log). sum_by h v.popped) goes.puts in
     let f : stolen_by h (tickets_of b) ≡ stolen_by h (tickets_of a) = ap (λ (l : Contents Ticket). stolen_by h l.items) goes.tickets in
     omega arith
 
-pub after_taken : (p : Plan) (cap : ℕ) (abort : Abort) (f : Found) (a b : Member) → After p cap abort f a b → (h : ℕ → ℕ) → taken_by h b ≡ taken_by h a
-after_taken p cap abort (Item x) a b after h =
-    elim (cases_lt x (op_count p)) [
-      | inl lt ↦ goes_taken p cap abort a b (after.0 lt).goes h
+pub after_taken : (rules : RunRules) (f : Found) (a b : Member) → After rules f a b → (h : ℕ → ℕ) → taken_by h b ≡ taken_by h a
+after_taken rules (Item x) a b after h =
+    elim (cases_lt x (op_count rules.plan)) [
+      | inl lt ↦ goes_taken rules a b (after.0 lt).goes h
       | inr past ↦ ap (taken_by h) (after.1 past)
     ]
-after_taken p cap abort Nothing a b after h = ap (taken_by h) after
-after_taken p cap abort Retry a b after h = ap (taken_by h) after
+after_taken rules Nothing a b after h = ap (taken_by h) after
+after_taken rules Retry a b after h = ap (taken_by h) after
 
 -- all that was found was taken
-pub turns_taken : (p : Plan) (cap : ℕ) (abort : Abort) (ts : List Thief) (a : Member) (fs : List Found) (b : Member) → Turns p cap abort ts a fs b → (h : ℕ → ℕ) → taken_by h b ≡ taken_by h a + sum_by (weight_of h) fs
-turns_taken p cap abort ts a [] b made h = let e : taken_by h b ≡ taken_by h a = ap (taken_by h) made in omega arith
-turns_taken p cap abort ts a (f ∷ fs) b made h =
-    let rest = turns_taken p cap abort ts a fs made.0 made.1 h in
+pub turns_taken : (rules : RunRules) (ts : List Thief) (a : Member) (fs : List Found) (b : Member) → Turns rules ts a fs b → (h : ℕ → ℕ) → taken_by h b ≡ taken_by h a + sum_by (weight_of h) fs
+turns_taken rules ts a [] b made h = let e : taken_by h b ≡ taken_by h a = ap (taken_by h) made in omega arith
+turns_taken rules ts a (f ∷ fs) b made h =
+    let rest = turns_taken rules ts a fs made.0 made.1 h in
     let found = made.2.finds.takes h in
-    let after : taken_by h b ≡ taken_by h made.2.found = after_taken p cap abort f made.2.found b made.2.after h in
+    let after : taken_by h b ≡ taken_by h made.2.found = after_taken rules f made.2.found b made.2.after h in
     let first : sum_by (weight_of h) (f ∷ fs) ≡ weight_of h f + sum_by (weight_of h) fs = sum_by-cons (weight_of h) f fs in
     omega arith
 
@@ -127,30 +126,30 @@ module _ (p : Plan) where
       is_lt : (x y : ℕ) → x < y → nat_lt x y ≡ true
       is_lt x y lt = grind arith
 
-module _ (p : Plan) (cap : ℕ) (abort : Abort) where
+module _ (rules : RunRules) where
   pub record AfterTells (f : Found) (a b : Member) : Type 0 where
     pub calls : List ServeCall
-    pub made : MakesServeCalls p cap calls a.runner b.runner
-    pub tried : (x : ℕ) → f ≡ Item x → x < op_count p → Contains calls (Tried x)
-    pub many : weight_of (in_plan p) f ≤ count_by is_tried calls
+    pub made : MakesServeCalls rules.plan rules.cap calls a.runner b.runner
+    pub tried : (x : ℕ) → f ≡ Item x → x < op_count rules.plan → Contains calls (Tried x)
+    pub many : weight_of (in_plan rules.plan) f ≤ count_by is_tried calls
 
-  pub after_tells : (f : Found) (a b : Member) → After p cap abort f a b → AfterTells f a b
+  pub after_tells : (f : Found) (a b : Member) → After rules f a b → AfterTells f a b
   after_tells (Item y) a b after =
-      elim (cases_lt y (op_count p)) [
+      elim (cases_lt y (op_count rules.plan)) [
         | inl lt ↦
             let serves = after.0 lt in
             record {
               calls = serves.goes.calls;
               made = serves.goes.made;
               tried = λ x same _. subst (λ k. Contains serves.goes.calls (Tried k)) (item_is y x same) serves.tried;
-              many = let some : 1 ≤ count_by is_tried serves.goes.calls = one_tried serves.goes.calls y serves.tried in let most = few p y in omega arith;
+              many = let some : 1 ≤ count_by is_tried serves.goes.calls = one_tried serves.goes.calls y serves.tried in let most = few rules.plan y in omega arith;
             }
         | inr past ↦
             record {
               calls = [];
               made = ap (λ (m : Member). m.runner) (after.1 past);
               tried = λ x same lt. absurd (let e = item_is y x same in omega arith);
-              many = let none : in_plan p y ≡ 0 = no_op p y past in omega arith;
+              many = let none : in_plan rules.plan y ≡ 0 = no_op rules.plan y past in omega arith;
             }
       ]
     where
@@ -175,7 +174,7 @@ module _ (p : Plan) (cap : ℕ) (abort : Abort) where
       apart : (x : ℕ) → Retry ≡ Item x → ⊥
       apart x e = cc
 
-  pub turns_tell : (ts : List Thief) (a : Member) (fs : List Found) (b : Member) → Turns p cap abort ts a fs b → TurnsTell p cap fs a b
+  pub turns_tell : (ts : List Thief) (a : Member) (fs : List Found) (b : Member) → Turns rules ts a fs b → TurnsTell rules.plan rules.cap fs a b
   turns_tell ts a [] b made = record {
     calls = [];
     made = ap (λ (m : Member). m.runner) made;
@@ -187,7 +186,7 @@ module _ (p : Plan) (cap : ℕ) (abort : Abort) where
       let last = after_tells f made.2.found b made.2.after in
       record {
         calls = last.calls ++ rest.calls;
-        made = in_turn_append (MakesServeCall p cap) last.calls rest.calls a.runner made.0.runner b.runner rest.made (subst (λ r. MakesServeCalls p cap last.calls r b.runner) made.2.finds.runner last.made);
+        made = in_turn_append (MakesServeCall rules.plan rules.cap) last.calls rest.calls a.runner made.0.runner b.runner rest.made (subst (λ r. MakesServeCalls rules.plan rules.cap last.calls r b.runner) made.2.finds.runner last.made);
         tried = λ x found lt.
             elim (contains_cases f fs (Item x) found) [
               | inl same ↦ Contains-append_left last.calls rest.calls (Tried x) (last.tried x (sym same) lt)
@@ -195,7 +194,7 @@ module _ (p : Plan) (cap : ℕ) (abort : Abort) where
             ];
         many =
             let both = count_both last.calls rest.calls in
-            let first : sum_by (weight_of (in_plan p)) (f ∷ fs) ≡ weight_of (in_plan p) f + sum_by (weight_of (in_plan p)) fs = sum_by-cons (weight_of (in_plan p)) f fs in
+            let first : sum_by (weight_of (in_plan rules.plan)) (f ∷ fs) ≡ weight_of (in_plan rules.plan) f + sum_by (weight_of (in_plan rules.plan)) fs = sum_by-cons (weight_of (in_plan rules.plan)) f fs in
             let a = last.many in
             let b = rest.many in
             omega arith;

@@ -13,6 +13,7 @@ use Rattle.op_eval.specs.Running.{hand_view}
 use Rattle.op_eval.specs.Turns.{CallsInOrder}
 use Rattle.abort_eager.specs.declared.answers.Target.{Target}
 use Rattle.abort_eager.specs.declared.answers.Touched.{Touched}
+use Rattle.op_eval.specs.Exploring.{RunRules}
 use Rattle.abort_eager.specs.Sweeps.{SweepsOne, Attempts}
 
 -- The runner asked whether an operation can be made ready, tried to evaluate it, or touched a target of a cascade
@@ -61,17 +62,17 @@ abbrev pub MakesServeCalls : Plan → (cap : ℕ) → List ServeCall → Runner 
 MakesServeCalls p cap = CallsInOrder (MakesServeCall p cap)
 
 -- These operations were tried in turn, the last one first, and after each the cascade that follows was run
-abbrev pub Attempting : Plan → (cap : ℕ) → Abort → List ℕ → Runner → Runner → Type 0
-Attempting p cap abort = CallsInOrder (λ o a b. (r : Evaluation) × Attempts p cap abort o a b r)
+abbrev pub Attempting : RunRules → List ℕ → Runner → Runner → Type 0
+Attempting rules = CallsInOrder (λ o a b. (r : Evaluation) × Attempts rules o a b r)
 
 -- A unit was walked from operation o on: operations were tried, o among them, the cascades that follow were run, and no
 -- operation was asked
-pub record WalkedUnit (p : Plan) (cap : ℕ) (abort : Abort) (o : ℕ) (a b : Runner) : Type 0 where
+pub record WalkedUnit (rules : RunRules) (o : ℕ) (a b : Runner) : Type 0 where
   pub ops : List ℕ
-  pub attempts : Attempting p cap abort ops a b
+  pub attempts : Attempting rules ops a b
   pub first : Contains ops o
   pub calls : List ServeCall
-  pub made : MakesServeCalls p cap calls a b
+  pub made : MakesServeCalls rules.plan rules.cap calls a b
   pub tried : Contains calls (Tried o)
   pub only : All (λ c. is_asked c ≡ false) calls
-  pub lazy : NoneSwept abort calls
+  pub lazy : NoneSwept rules.abort calls

@@ -2,12 +2,12 @@
 use Rattle.std.specs.Prelude.{◌≡◌, ℕ, ◌<◌, ◌≤◌, cond, nat_lt, List, [], Contains, count_by, sum_by, length, slice_index_or}
 use Rattle.crossbeam_deque.specs.Handles.{worker_flavor}
 use Rattle.morph_base.specs.declared.plan.Plan.{Plan}
-use Rattle.morph_base.specs.declared.strategy.Abort.{Abort}
 use Rattle.morph_base.specs.Plans.{op_count}
 use Rattle.op_words.specs.declared.board.Board.{Board}
 use Rattle.op_eval.specs.declared.explored.RunEnd.{RunEnd}
 use Rattle.op_eval.specs.declared.explored.RunEnd.TheVariants.{Whole, Drained, Spent}
 use Rattle.op_eval.specs.declared.runner.Runner.{Runner}
+use Rattle.op_eval.specs.Exploring.{RunRules}
 use Rattle.steal_explorer.specs.declared.member.Member.{Member}
 use Rattle.steal_explorer.specs.Calls.{ServeCall, Tried, is_tried, MakesServeCalls, WalkedUnit}
 use Rattle.steal_explorer.specs.Handing.{whole, got, spare, came, gone}
@@ -27,8 +27,8 @@ pub record IsLeftWithNobody (a b : Member) : Type 0 where
   pub even : IsEven b
 
 -- The unit of o was walked if o is an operation of the plan. Else nothing was done
-abbrev pub WalkedKnown : Plan → (cap : ℕ) → Abort → (o : ℕ) → Runner → Runner → Type 0
-WalkedKnown p cap abort o a b = (o < op_count p → WalkedUnit p cap abort o a b) × (op_count p ≤ o → b ≡ a)
+abbrev pub WalkedKnown : RunRules → (o : ℕ) → Runner → Runner → Type 0
+WalkedKnown rules o a b = (o < op_count rules.plan → WalkedUnit rules o a b) × (op_count rules.plan ≤ o → b ≡ a)
 
 -- The number 1 if the item is one of the plan's operations, else 0
 abbrev pub in_plan : Plan → ℕ → ℕ

@@ -1,10 +1,9 @@
 -- What was handed out, as contracts see it
 use Rattle.std.specs.Prelude.{◌≡◌, ◌⊎◌, ℕ, ◌+◌, ◌<◌, ◌≤◌, ◌^◌, List, ◌++◌, Contains, length, map, flat_map, sum_by, slice_index_or}
 use Rattle.morph_base.specs.declared.plan.Plan.{Plan}
-use Rattle.morph_base.specs.declared.strategy.Abort.{Abort}
 use Rattle.op_words.specs.Trails.{IsReached}
 use Rattle.op_eval.specs.declared.runner.Runner.{Runner}
-use Rattle.op_eval.specs.Exploring.{total}
+use Rattle.op_eval.specs.Exploring.{total, RunRules}
 use Rattle.op_eval.specs.Running.{hand_view}
 use Rattle.steal_explorer.specs.declared.deques.Deques.{Deques}
 use Rattle.steal_explorer.specs.declared.exploration.Handed.{Handed}
@@ -63,8 +62,8 @@ AreAnswered xs rs =
     ⊎ ((k : ℕ) × (k < length rs) × ((d : Runner) → 2 ^ 64 ≤ total (slice_index_or rs k d).answers + 1))
 
 -- The runners began beside the deques, and took the turns that led to what was handed out
-pub record HasTurns (p : Plan) (cap : ℕ) (abort : Abort) (d : Deques) (rs : List Runner) (handed : Handed) : Type 0 where
+pub record HasTurns (rules : RunRules) (d : Deques) (rs : List Runner) (handed : Handed) : Type 0 where
   pub begun : List Member
   pub runners : map runner_of begun ≡ rs
   pub seats : map seat_of begun ≡ d.seats.items
-  pub handed_out : HasHandedOut p cap abort d.thieves.items begun (workers_of handed)
+  pub handed_out : HasHandedOut rules d.thieves.items begun (workers_of handed)

@@ -11,6 +11,7 @@ use Rattle.op_eval.specs.Running.{IsFreeRunner}
 use Rattle.steal_explorer.specs.declared.deque_rule.Fair.{Fair}
 use Rattle.steal_explorer.specs.declared.deque_rule.Log.{Log}
 use Rattle.abort_eager.specs.declared.ground.Ground.{Ground}
+use Rattle.abort_eager.specs.Grounds.{IsGround}
 use Rattle.steal_explorer.specs.declared.member.Member.{Member}
 use Rattle.steal_explorer.specs.Handing.{whole, log, one}
 
@@ -48,6 +49,14 @@ pub record HasDeque (p : Plan) (m : Member) : Type 0 where
   pub part : 0 < (own m).parts
   pub below : All (λ x. x < op_count p) (own m).pushed
   pub handed : m.handed ≡ up_to (length (own m).pushed)
+
+-- The worker can serve: its runner holds nothing, and its deque is in order
+abbrev pub CanServe : Ground → Member → Type 0
+CanServe g m = IsFreeRunner g.board.now m.runner × HasDeque g.plan.now m
+
+-- The worker may serve operation o of the ground's plan
+abbrev pub MayServe : Ground → Member → (o : ℕ) → Type 0
+MayServe g m o = IsGround g × (o < op_count g.plan.now) × CanServe g m
 
 -- The ticket has one part of this deque, which is first in first out, and stole from it and did nothing else
 pub record SitsAt (t : Thief) (x : Ticket) : Type 0 where

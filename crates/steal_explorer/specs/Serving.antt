@@ -4,7 +4,6 @@ use Rattle.crossbeam_deque.specs.Handles.{worker_deque}
 use Rattle.morph_base.specs.Graphs.{below, reads_from}
 use Rattle.morph_base.specs.Plans.{op_count}
 use Rattle.morph_base.specs.declared.plan.Plan.{Plan}
-use Rattle.morph_base.specs.declared.strategy.Abort.{Abort}
 use Rattle.op_words.specs.declared.answers.Readied.{Readied}
 use Rattle.op_words.specs.declared.answers.Readied.TheVariants.{Made}
 use Rattle.op_eval.specs.declared.answers.Evaluation.{Evaluation}
@@ -15,6 +14,7 @@ use Rattle.abort_eager.specs.declared.answers.Target.{Target}
 use Rattle.abort_eager.specs.declared.answers.Touch.TheVariants.{RolledBack}
 use Rattle.abort_eager.specs.declared.answers.Touched.{Touched}
 use Rattle.abort_eager.specs.declared.cascade.Cascade.{Cascade}
+use Rattle.op_eval.specs.Exploring.{RunRules}
 use Rattle.abort_eager.specs.Sweeps.{cascade_for, SweepsOne}
 use Rattle.abort_eager.specs.Targets.{targets, targets_left}
 use Rattle.steal_explorer.specs.declared.member.Member.{Member}
@@ -28,29 +28,29 @@ readers p o = filter (reads_from p o) (below (op_count p))
 
 -- The worker's runner made calls, none of a cascade under lazy abort, and it pushed on its own deque. Nothing else
 -- changed
-pub record ServesOn (p : Plan) (cap : ℕ) (abort : Abort) (a b : Member) : Type 0 where
+pub record ServesOn (rules : RunRules) (a b : Member) : Type 0 where
   pub number : b.number ≡ a.number
   pub tickets : b.tickets ≡ a.tickets
   pub stolen : b.stolen ≡ a.stolen
   pub end : b.end ≡ a.end
   pub deque : worker_deque b.owner ≡ worker_deque a.owner
   pub calls : List ServeCall
-  pub made : MakesServeCalls p cap calls a.runner b.runner
-  pub lazy : NoneSwept abort calls
+  pub made : MakesServeCalls rules.plan rules.cap calls a.runner b.runner
+  pub lazy : NoneSwept rules.abort calls
   pub pushed : List ℕ
   pub puts : own b ≡ put (own a) pushed
 
-module _ (p : Plan) (cap : ℕ) (abort : Abort) where
+module _ (rules : RunRules) where
   -- Operation o was pushed, or its unit was walked at once
   abbrev pub PutsOrWalks : (o : ℕ) → Member → Member → Type 0
   PutsOrWalks o a b =
-      ((own b ≡ put (own a) (o ∷ [])) × (b.runner ≡ a.runner)) ⊎ WalkedUnit p cap abort o a.runner b.runner
+      ((own b ≡ put (own a) (o ∷ [])) × (b.runner ≡ a.runner)) ⊎ WalkedUnit rules o a.runner b.runner
 
   -- Operation o was asked. If that made it ready, it was pushed, or its unit was walked at once
   pub record AsksAndPuts (o : ℕ) (a b : Member) : Type 0 where
     pub asked : Runner
     pub answer : Readied
-    pub asks : AsksWhetherReady p cap o a.runner asked answer
+    pub asks : AsksWhetherReady rules.plan rules.cap o a.runner asked answer
     pub made : answer ≡ Made → PutsOrWalks o (record a { runner = asked }) b
     pub other : answer ≢ Made → b ≡ record a { runner = asked }
 
@@ -59,14 +59,15 @@ module _ (p : Plan) (cap : ℕ) (abort : Abort) where
   pub record TouchesOne (g : Target) (a b : Member) : Type 0 where
     pub touched : Runner
     pub answer : Touched
-    pub sweeps : SweepsOne p cap g a.runner touched answer
+    pub sweeps : SweepsOne rules.plan rules.cap g a.runner touched answer
     pub asked : answer.touch ≡ RolledBack → AsksAndPuts answer.op (record a { runner = touched }) b
     pub other : answer.touch ≢ RolledBack → b ≡ record a { runner = touched }
 
   -- The first target that the cascade had left was touched; or none was left, and nothing was done
   abbrev pub TouchesNext : Bool → (before after : Cascade) → Member → Member → Type 0
-  TouchesNext true c d a b = (g : Target) × (targets_left p c ≡ g ∷ targets_left p d) × TouchesOne g a b
-  TouchesNext false c d a b = (targets_left p c ≡ []) × (b ≡ a)
+  TouchesNext true c d a b =
+      (g : Target) × (targets_left rules.plan c ≡ g ∷ targets_left rules.plan d) × TouchesOne g a b
+  TouchesNext false c d a b = (targets_left rules.plan c ≡ []) × (b ≡ a)
 
   -- All targets of the list were touched, one after another
   abbrev pub TouchesAll : List Target → Member → Member → Type 0
@@ -76,7 +77,7 @@ module _ (p : Plan) (cap : ℕ) (abort : Abort) where
   -- All targets of the cascade that follows were touched, if there is one
   abbrev pub TouchesFor : (o : ℕ) → Option Bool → Member → Member → Type 0
   TouchesFor o None a b = b ≡ a
-  TouchesFor o (Some failed) a b = TouchesAll (targets p o failed) a b
+  TouchesFor o (Some failed) a b = TouchesAll (targets rules.plan o failed) a b
 
   -- These operations were asked, one after another. Each that became ready was pushed, or its unit was walked
   abbrev pub AsksAll : List ℕ → Member → Member → Type 0
@@ -85,7 +86,7 @@ module _ (p : Plan) (cap : ℕ) (abort : Abort) where
 
   -- All that read from operation o were asked, if o was evaluated. Else nothing was done
   abbrev pub AsksReaders : (o : ℕ) → Evaluation → Member → Member → Type 0
-  AsksReaders o (Evaluated attempt ok) a b = AsksAll (readers p o) a b
+  AsksReaders o (Evaluated attempt ok) a b = AsksAll (readers rules.plan o) a b
   AsksReaders o (Blocked source word) a b = b ≡ a
   AsksReaders o (Busy word) a b = b ≡ a
   AsksReaders o (Already word) a b = b ≡ a
@@ -94,11 +95,11 @@ module _ (p : Plan) (cap : ℕ) (abort : Abort) where
   pub record Visits (o : ℕ) (a b : Member) : Type 0 where
     pub evaluated : Runner
     pub answer : Evaluation
-    pub tries : Tries p cap o a.runner evaluated answer
+    pub tries : Tries rules.plan rules.cap o a.runner evaluated answer
     pub swept : Member
-    pub touches : TouchesFor o (cascade_for abort answer) (record a { runner = evaluated }) swept
+    pub touches : TouchesFor o (cascade_for rules.abort answer) (record a { runner = evaluated }) swept
     pub asks : AsksReaders o answer swept b
-    pub goes : ServesOn p cap abort swept b
+    pub goes : ServesOn rules swept b
 
   -- These operations were visited, the last one first
   abbrev pub VisitsAll : List ℕ → Member → Member → Type 0
@@ -107,7 +108,7 @@ module _ (p : Plan) (cap : ℕ) (abort : Abort) where
 
   -- The worker served operation o: it tried to evaluate o, and visited each operation that it tried
   pub record Serves (o : ℕ) (a b : Member) : Type 0 where
-    pub goes : ServesOn p cap abort a b
+    pub goes : ServesOn rules a b
     pub tried : Contains goes.calls (Tried o)
     pub ops : List ℕ
     pub visits : VisitsAll ops a b

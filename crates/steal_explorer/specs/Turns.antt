@@ -1,10 +1,10 @@
 -- The turns of a worker, and why they end
 use Rattle.std.specs.Prelude.{◌≡◌, ℕ, ◌+◌, ◌*◌, ◌<◌, ◌≤◌, List, [], ◌∷◌, length}
 use Rattle.morph_base.specs.declared.plan.Plan.{Plan}
-use Rattle.morph_base.specs.declared.strategy.Abort.{Abort}
 use Rattle.morph_base.specs.Plans.{op_count}
 use Rattle.op_eval.specs.declared.explored.RunEnd.{RunEnd}
 use Rattle.op_eval.specs.declared.explored.RunEnd.TheVariants.{Whole, Drained, Spent}
+use Rattle.op_eval.specs.Exploring.{RunRules}
 use Rattle.steal_explorer.specs.declared.find.Found.{Found}
 use Rattle.steal_explorer.specs.declared.find.Found.TheVariants.{Item, Nothing, Retry}
 use Rattle.steal_explorer.specs.declared.member.Member.{Member}
@@ -13,21 +13,21 @@ use Rattle.steal_explorer.specs.Members.{Thief}
 use Rattle.steal_explorer.specs.Serving.{Serves}
 
 -- The item that was found is served, if it is one of the plan's operations
-abbrev pub After : Plan → (cap : ℕ) → Abort → Found → Member → Member → Type 0
-After p cap abort (Item x) a b = (x < op_count p → Serves p cap abort x a b) × (op_count p ≤ x → b ≡ a)
-After p cap abort Nothing a b = b ≡ a
-After p cap abort Retry a b = b ≡ a
+abbrev pub After : RunRules → Found → Member → Member → Type 0
+After rules (Item x) a b = (x < op_count rules.plan → Serves rules x a b) × (op_count rules.plan ≤ x → b ≡ a)
+After rules Nothing a b = b ≡ a
+After rules Retry a b = b ≡ a
 
 -- The worker took one turn, in which it found f
-pub record Turn (p : Plan) (cap : ℕ) (abort : Abort) (ts : List Thief) (f : Found) (a b : Member) : Type 0 where
+pub record Turn (rules : RunRules) (ts : List Thief) (f : Found) (a b : Member) : Type 0 where
   pub found : Member
   pub finds : Finds ts f a found
-  pub after : After p cap abort f found b
+  pub after : After rules f found b
 
 -- The worker took these turns, the last one first
-abbrev pub Turns : Plan → (cap : ℕ) → Abort → List Thief → Member → List Found → Member → Type 0
-Turns p cap abort ts a [] b = b ≡ a
-Turns p cap abort ts a (f ∷ fs) b = (c : Member) × Turns p cap abort ts a fs c × Turn p cap abort ts f c b
+abbrev pub Turns : RunRules → List Thief → Member → List Found → Member → Type 0
+Turns rules ts a [] b = b ≡ a
+Turns rules ts a (f ∷ fs) b = (c : Member) × Turns rules ts a fs c × Turn rules ts f c b
 
 -- How many turns in a row found all deques empty, after one more turn
 abbrev pub row_then : ℕ → Found → ℕ
@@ -57,14 +57,14 @@ EndsTurns p Drained fs = (row_of fs ≡ 64) × (length fs ≤ most_turns p)
 EndsTurns p Spent fs = (row_of fs < 64) × (length fs ≡ most_turns p)
 
 -- The worker took all its turns, and ended for this cause
-pub record RanTurns (p : Plan) (cap : ℕ) (abort : Abort) (ts : List Thief) (a : Member) (end : RunEnd) (b : Member) : Type 0 where
+pub record RanTurns (rules : RunRules) (ts : List Thief) (a : Member) (end : RunEnd) (b : Member) : Type 0 where
   pub turns : List Found
-  pub made : Turns p cap abort ts a turns b
+  pub made : Turns rules ts a turns b
   pub went_on : WentOn turns
-  pub ends : EndsTurns p end turns
+  pub ends : EndsTurns rules.plan end turns
 
 -- The worker took all its turns, and then noted why it ended
-pub record HasTakenTurns (p : Plan) (cap : ℕ) (abort : Abort) (ts : List Thief) (a b : Member) : Type 0 where
+pub record HasTakenTurns (rules : RunRules) (ts : List Thief) (a b : Member) : Type 0 where
   pub stopped : Member
-  pub ran : RanTurns p cap abort ts a b.end stopped
+  pub ran : RanTurns rules ts a b.end stopped
   pub noted : b ≡ record stopped { end = b.end }

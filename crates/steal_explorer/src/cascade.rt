@@ -1,16 +1,14 @@
 //! Cascades that follow evaluations, under eager abort.
-ghost use Rattle.std.specs.Prelude.{◌≡◌, ◌≢◌, ◌<◌, true, Some};
+ghost use Rattle.std.specs.Prelude.{◌≡◌, ◌≢◌, true, Some};
 ghost use Rattle.morph_base.specs.declared.strategy.Abort.TheVariants.{Eager};
-ghost use Rattle.morph_base.specs.Plans.{op_count};
-ghost use Rattle.op_words.specs.Hands.{cap_of};
 ghost use Rattle.op_words.specs.Views.{HasShownFailure};
-ghost use Rattle.op_eval.specs.Running.{hand_view, IsFreeRunner};
+ghost use Rattle.op_eval.specs.Running.{hand_view};
 ghost use Rattle.abort_eager.specs.declared.answers.Touch.TheVariants.{RolledBack};
 ghost use Rattle.abort_eager.specs.Sweeps.{cascade_for};
 ghost use Rattle.abort_eager.specs.Targets.{targets, IsCascade};
 ghost use Rattle.abort_eager.specs.Touching.{HasCause};
-ghost use Rattle.abort_eager.specs.Grounds.{IsGround};
-ghost use Rattle.steal_explorer.specs.Members.{HasDeque};
+ghost use Rattle.abort_eager.specs.Grounds.{IsGround, ground_rules};
+ghost use Rattle.steal_explorer.specs.Members.{CanServe, MayServe};
 ghost use Rattle.steal_explorer.specs.Serving.{ServesOn, AsksAndPuts, TouchesNext, TouchesAll, TouchesFor};
 
 use crate::member::Member;
@@ -28,16 +26,12 @@ fn ask_rolled<T: Turns>(
     member: &mut Member,
     touched: Touched,
 )
-    requires ground { IsGround ground.now }
-    requires in_range { touched.op < op_count ground.now.plan.now }
-    requires idle { IsFreeRunner ground.now.board.now member.old.runner }
-    requires deque { HasDeque ground.now.plan.now member.old }
-    ensures idle { IsFreeRunner ground.now.board.now member.new.runner }
-    ensures deque { HasDeque ground.now.plan.now member.new }
-    ensures goes { ServesOn ground.now.plan.now (cap_of ground.now.board.now) ground.now.abort
+    requires may { MayServe ground.now member.old touched.op }
+    ensures can { CanServe ground.now member.new }
+    ensures goes { ServesOn (ground_rules ground.now)
         member.old member.new }
     ensures asked { touched.touch ≡ RolledBack
-        → AsksAndPuts ground.now.plan.now (cap_of ground.now.board.now) ground.now.abort touched.op
+        → AsksAndPuts (ground_rules ground.now) touched.op
         member.old member.new }
     ensures other { touched.touch ≢ RolledBack → member.new ≡ member.old }
 {
@@ -57,18 +51,15 @@ fn touch_next<T: Turns>(
 ) -> bool
     requires ground { IsGround ground.now }
     requires eager { ground.now.abort ≡ Eager }
-    requires idle { IsFreeRunner ground.now.board.now member.old.runner }
-    requires deque { HasDeque ground.now.plan.now member.old }
+    requires can { CanServe ground.now member.old }
     requires cascade { IsCascade ground.now.plan.now cascade.old }
     requires cause { HasCause cascade.old (hand_view member.old.runner) }
-    ensures idle { IsFreeRunner ground.now.board.now member.new.runner }
-    ensures deque { HasDeque ground.now.plan.now member.new }
+    ensures can { CanServe ground.now member.new }
     ensures cascade { IsCascade ground.now.plan.now cascade.new }
     ensures cause { HasCause cascade.new (hand_view member.new.runner) }
-    ensures goes { ServesOn ground.now.plan.now (cap_of ground.now.board.now) ground.now.abort
+    ensures goes { ServesOn (ground_rules ground.now)
         member.old member.new }
-    ensures does { TouchesNext ground.now.plan.now (cap_of ground.now.board.now)
-        ground.now.abort result
+    ensures touches { TouchesNext (ground_rules ground.now) result
         cascade.old cascade.new member.old member.new }
 {
     match cascade.next(ground.board, &mut member.runner.hand, ground.plan) {
@@ -89,17 +80,13 @@ fn run_cascade<T: Turns>(
     op: u32,
     failed: bool,
 )
-    requires ground { IsGround ground.now }
+    requires may { MayServe ground.now member.old op }
     requires eager { ground.now.abort ≡ Eager }
-    requires in_range { op < op_count ground.now.plan.now }
-    requires idle { IsFreeRunner ground.now.board.now member.old.runner }
-    requires deque { HasDeque ground.now.plan.now member.old }
     requires cause { failed ≡ true → HasShownFailure (hand_view member.old.runner) op }
-    ensures idle { IsFreeRunner ground.now.board.now member.new.runner }
-    ensures deque { HasDeque ground.now.plan.now member.new }
-    ensures goes { ServesOn ground.now.plan.now (cap_of ground.now.board.now) ground.now.abort
+    ensures can { CanServe ground.now member.new }
+    ensures goes { ServesOn (ground_rules ground.now)
         member.old member.new }
-    ensures touches { TouchesAll ground.now.plan.now (cap_of ground.now.board.now) ground.now.abort
+    ensures touches { TouchesAll (ground_rules ground.now)
         (targets ground.now.plan.now op failed) member.old member.new }
 {
     let mut cascade = Cascade::start(ground.plan, op, failed);
@@ -116,18 +103,13 @@ pub(crate) fn sweep<T: Turns>(
     op: u32,
     answer: Evaluation,
 )
-    requires ground { IsGround ground.now }
-    requires in_range { op < op_count ground.now.plan.now }
-    requires idle { IsFreeRunner ground.now.board.now member.old.runner }
-    requires deque { HasDeque ground.now.plan.now member.old }
+    requires may { MayServe ground.now member.old op }
     requires cause { cascade_for ground.now.abort answer ≡ Some true
         → HasShownFailure (hand_view member.old.runner) op }
-    ensures idle { IsFreeRunner ground.now.board.now member.new.runner }
-    ensures deque { HasDeque ground.now.plan.now member.new }
-    ensures goes { ServesOn ground.now.plan.now (cap_of ground.now.board.now) ground.now.abort
+    ensures can { CanServe ground.now member.new }
+    ensures goes { ServesOn (ground_rules ground.now)
         member.old member.new }
-    ensures touches { TouchesFor ground.now.plan.now (cap_of ground.now.board.now)
-        ground.now.abort op
+    ensures touches { TouchesFor (ground_rules ground.now) op
         (cascade_for ground.now.abort answer) member.old member.new }
 {
     if let Some(failed) = cascade_behind(ground.abort, answer) {

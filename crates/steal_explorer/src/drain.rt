@@ -4,7 +4,7 @@ ghost use Rattle.crossbeam_deque.specs.Handles.{worker_flavor};
 ghost use Rattle.op_words.specs.Hands.{cap_of};
 ghost use Rattle.steal_explorer.specs.Draining.{WalkedKnown, IsLeftWithNobody, IsCleared, HasAll, IsEmptied, AreEmptied};
 ghost use Rattle.steal_explorer.specs.Handing.{whole};
-ghost use Rattle.abort_eager.specs.Grounds.{IsGround};
+ghost use Rattle.abort_eager.specs.Grounds.{IsGround, ground_rules};
 ghost use Rattle.steal_explorer.specs.Members.{own};
 ghost use Rattle.op_eval.specs.Running.{IsFreeRunner};
 
@@ -29,7 +29,7 @@ fn walk_known(ground: &Ground<'_>, runner: &mut Runner, op: u32)
     requires ground { IsGround ground.now }
     requires idle { IsFreeRunner ground.now.board.now runner.old }
     ensures idle { IsFreeRunner ground.now.board.now runner.new }
-    ensures does { WalkedKnown ground.now.plan.now (cap_of ground.now.board.now) ground.now.abort op
+    ensures walked { WalkedKnown (ground_rules ground.now) op
         runner.old runner.new }
 {
     if (op as usize) < ground.plan.ops.len() {

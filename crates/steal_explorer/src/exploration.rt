@@ -7,7 +7,7 @@ ghost use Rattle.op_words.specs.Hands.{plan_of, cap_of, up_to};
 ghost use Rattle.op_eval.specs.declared.explored.RunEnd.TheVariants.{Drained, Spent};
 ghost use Rattle.op_eval.specs.Alone.{IsNewRoot};
 ghost use Rattle.op_eval.specs.Further.{HaveGoneOn};
-ghost use Rattle.op_eval.specs.Exploring.{MayExplore, IsExploredBoard, parts_of};
+ghost use Rattle.op_eval.specs.Exploring.{MayExplore, IsExploredBoard, parts_of, rules_on};
 ghost use Rattle.op_eval.specs.Gathering.{runners_of, spare};
 ghost use Rattle.steal_explorer.specs.Alone.{IsHandedAlone};
 ghost use Rattle.steal_explorer.specs.Handed.{workers_of, pushed_by, AreReached, AreAnswered, HasTurns};
@@ -154,7 +154,8 @@ pub fn explore<R: Threads + Sync, G: Gate>(
     ensures hands { HaveGoneOn (runners_of runners) (runners_of (parts_of result.0).1) }
     ensures spare { spare (parts_of result.0).1 ≡ spare runners }
     ensures next_counter { (parts_of result.0).3 ≡ 0 }
-    ensures turns { HasTurns plan.now (cap_of board) abort deques (runners_of runners) result.1 }
+    ensures turns { HasTurns (rules_on board plan.now units.now.units abort) deques
+        (runners_of runners) result.1 }
     ensures end { (parts_of result.0).2 ≢ Drained → (parts_of result.0).2 ≡ Spent }
     ensures ended { ((parts_of result.0).2 ≡ Drained)
         ↔ All (λ m. m.end ≡ Drained) (workers_of result.1) }

@@ -68,7 +68,7 @@ impl Found {
 fn steal_at(thief: &Thief, ticket: &mut Ticket) -> Found
     requires sits { SitsAt thief.now ticket.old }
     ensures sits { SitsAt thief.now ticket.new }
-    ensures does { DoesSteal result ticket.old ticket.new }
+    ensures answer { DoesSteal result ticket.old ticket.new }
 {
     match thief.steal_as::<Steals>(ticket) {
         Steal::Success(op) => Found::Item(op),
@@ -83,7 +83,7 @@ fn steal_range(thieves: &[Thief], tickets: &mut List<Ticket>, from: usize, to: u
     requires len { length tickets.old.items ≡ length thieves.now }
     requires seated { AreSeated thieves.now from to tickets.old.items }
     ensures seated { AreSeated thieves.now from to tickets.new.items }
-    ensures does { StealsAmong from to result tickets.old.items tickets.new.items }
+    ensures answer { StealsAmong from to result tickets.old.items tickets.new.items }
     ensures none { to ≤ from → result ≡ Nothing }
 {
     let mut retried = false;
@@ -109,7 +109,7 @@ fn steal(thieves: &[Thief], tickets: &mut List<Ticket>, number: usize) -> Found
     requires above { AreSeated thieves.now (number + 1) (length thieves.now) tickets.old.items }
     ensures under { AreSeated thieves.now 0 number tickets.new.items }
     ensures above { AreSeated thieves.now (number + 1) (length thieves.now) tickets.new.items }
-    ensures does { StealsRound number (length thieves.now) result tickets.old.items
+    ensures answer { StealsRound number (length thieves.now) result tickets.old.items
         tickets.new.items }
 {
     let above = steal_range(thieves, tickets, number + 1, thieves.len());

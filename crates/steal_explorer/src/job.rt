@@ -6,7 +6,7 @@ ghost use Rattle.steal_explorer.specs.declared.member.Member.{Member as M};
 ghost use Rattle.steal_explorer.specs.Alone.{BeginsAlone, EndsAlone, LeavesAlone};
 ghost use Rattle.steal_explorer.specs.Handing.{whole};
 ghost use Rattle.steal_explorer.specs.HandingOut.{IsBeginning, HasHandedOut};
-ghost use Rattle.abort_eager.specs.Grounds.{IsGround};
+ghost use Rattle.abort_eager.specs.Grounds.{IsGround, ground_rules};
 ghost use Rattle.steal_explorer.specs.Members.{IsWorkerOf};
 ghost use Rattle.op_eval.specs.Running.{IsFreeRunner};
 ghost use Rattle.steal_explorer.specs.Turns.{HasTakenTurns};
@@ -34,7 +34,7 @@ impl<G: Gate> Job<Member> for Working<'_, G> {
     ghost use Rattle.steal_explorer.specs.Alone.{BeginsAlone, EndsAlone};
     ghost use Rattle.morph_base.specs.declared.strategy.Abort.TheVariants.{Lazy};
     ghost use Rattle.op_words.specs.Hands.{cap_of};
-    ghost use Rattle.abort_eager.specs.Grounds.{IsGround};
+    ghost use Rattle.abort_eager.specs.Grounds.{IsGround, ground_rules};
     ghost use Rattle.steal_explorer.specs.Members.{IsWorkerOf};
     ghost use Rattle.steal_explorer.specs.Turns.{HasTakenTurns};
 
@@ -42,7 +42,7 @@ impl<G: Gate> Job<Member> for Working<'_, G> {
         × IsWorkerOf job.ground job.thieves.now member };
 
     ghost changes = { λ job before after. IsWorkerOf job.ground job.thieves.now after
-        × HasTakenTurns job.ground.plan.now (cap_of job.ground.board.now) job.ground.abort
+        × HasTakenTurns (ground_rules job.ground)
         job.thieves.now before after
         × (job.ground.abort ≡ Lazy → 1 ≤ cap_of job.ground.board.now → length job.thieves.now ≡ 1
         → BeginsAlone job.ground.plan.now before → EndsAlone job.ground.plan.now after.end after) };
@@ -85,7 +85,7 @@ fn work_all<R: Threads + Sync, G: Gate>(
     requires workers { All (IsWorkerOf ground.now thieves.now) members.old }
     ensures work { (k : ℕ) (d : M) → k < length members.old
         → IsWorkerOf ground.now thieves.now (slice_index_or members.new k d)
-        × HasTakenTurns ground.now.plan.now (cap_of ground.now.board.now) ground.now.abort thieves.now
+        × HasTakenTurns (ground_rules ground.now) thieves.now
         (slice_index_or members.old k d) (slice_index_or members.new k d) }
     ensures alone { (k : ℕ) (d : M) → k < length members.old → ground.now.abort ≡ Lazy
         → 1 ≤ cap_of ground.now.board.now → length thieves.now ≡ 1
@@ -116,8 +116,7 @@ pub(crate) fn hand_out<R: Threads + Sync, G: Gate>(
     requires begins { (k : ℕ) (d : M) → k < length members.old
         → IsBeginning ground.now thieves.now k (slice_index_or members.old k d) }
     ensures idle { All (λ m. IsFreeRunner ground.now.board.now m.runner) members.new }
-    ensures handed_out { HasHandedOut ground.now.plan.now (cap_of ground.now.board.now)
-        ground.now.abort thieves.now
+    ensures handed_out { HasHandedOut (ground_rules ground.now) thieves.now
         members.old members.new }
     ensures alone { (d : M) → ground.now.abort ≡ Lazy → 1 ≤ cap_of ground.now.board.now
         → length thieves.now ≡ 1

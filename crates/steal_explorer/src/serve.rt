@@ -2,14 +2,12 @@
 ghost use Rattle.std.specs.Prelude.{◌≡◌, ℕ, ◌<◌, ◌≤◌, List, [], ◌∷◌};
 ghost use Rattle.crossbeam_deque.specs.Handles.{worker_capacity, worker_index};
 ghost use Rattle.morph_base.specs.declared.strategy.Abort.TheVariants.{Lazy};
-ghost use Rattle.morph_base.specs.Plans.{op_count};
 ghost use Rattle.op_words.specs.Hands.{cap_of};
 ghost use Rattle.op_words.specs.Trails.{IsSourceOf};
 ghost use Rattle.steal_explorer.specs.Alone.{IsHandingAlone, Pushes, ServesAlone};
 ghost use Rattle.steal_explorer.specs.Serving.{readers};
-ghost use Rattle.abort_eager.specs.Grounds.{IsGround};
-ghost use Rattle.steal_explorer.specs.Members.{HasDeque};
-ghost use Rattle.op_eval.specs.Running.{IsFreeRunner};
+ghost use Rattle.abort_eager.specs.Grounds.{IsGround, ground_rules};
+ghost use Rattle.steal_explorer.specs.Members.{CanServe, MayServe};
 ghost use Rattle.steal_explorer.specs.declared.find.Found.TheVariants.{Item};
 ghost use Rattle.steal_explorer.specs.Serving.{ServesOn, PutsOrWalks, AsksAndPuts, AsksAll, Serves};
 ghost use Rattle.steal_explorer.specs.Turns.{After};
@@ -25,15 +23,11 @@ use worker_gate::Turns;
 
 /// Pushes an operation on the worker's own deque. If that is refused, walks the operation's unit at once.
 pub(crate) fn push<T: Turns>(ground: &Ground<'_>, told: &T, turn: u64, member: &mut Member, op: u32)
-    requires ground { IsGround ground.now }
-    requires in_range { op < op_count ground.now.plan.now }
-    requires idle { IsFreeRunner ground.now.board.now member.old.runner }
-    requires deque { HasDeque ground.now.plan.now member.old }
-    ensures idle { IsFreeRunner ground.now.board.now member.new.runner }
-    ensures deque { HasDeque ground.now.plan.now member.new }
-    ensures goes { ServesOn ground.now.plan.now (cap_of ground.now.board.now) ground.now.abort
+    requires may { MayServe ground.now member.old op }
+    ensures can { CanServe ground.now member.new }
+    ensures goes { ServesOn (ground_rules ground.now)
         member.old member.new }
-    ensures kept { PutsOrWalks ground.now.plan.now (cap_of ground.now.board.now) ground.now.abort op
+    ensures kept { PutsOrWalks (ground_rules ground.now) op
         member.old member.new }
     ensures room { worker_index member.old.owner < worker_capacity member.old.owner
         → Pushes op member.old member.new }
@@ -52,15 +46,11 @@ pub(crate) fn ask_one<T: Turns>(
     member: &mut Member,
     op: u32,
 )
-    requires ground { IsGround ground.now }
-    requires in_range { op < op_count ground.now.plan.now }
-    requires idle { IsFreeRunner ground.now.board.now member.old.runner }
-    requires deque { HasDeque ground.now.plan.now member.old }
-    ensures idle { IsFreeRunner ground.now.board.now member.new.runner }
-    ensures deque { HasDeque ground.now.plan.now member.new }
-    ensures goes { ServesOn ground.now.plan.now (cap_of ground.now.board.now) ground.now.abort
+    requires may { MayServe ground.now member.old op }
+    ensures can { CanServe ground.now member.new }
+    ensures goes { ServesOn (ground_rules ground.now)
         member.old member.new }
-    ensures does { AsksAndPuts ground.now.plan.now (cap_of ground.now.board.now) ground.now.abort op
+    ensures asks { AsksAndPuts (ground_rules ground.now) op
         member.old member.new }
     ensures alone { (rest : List ℕ) (s : ℕ) → IsSourceOf ground.now.plan.now op s
         → IsHandingAlone ground.now.plan.now (op ∷ rest) member.old
@@ -74,15 +64,11 @@ pub(crate) fn ask_one<T: Turns>(
 
 /// Asks each dependent of an operation.
 fn ask_all<T: Turns>(ground: &Ground<'_>, told: &T, turn: u64, member: &mut Member, op: u32)
-    requires ground { IsGround ground.now }
-    requires in_range { op < op_count ground.now.plan.now }
-    requires idle { IsFreeRunner ground.now.board.now member.old.runner }
-    requires deque { HasDeque ground.now.plan.now member.old }
-    ensures idle { IsFreeRunner ground.now.board.now member.new.runner }
-    ensures deque { HasDeque ground.now.plan.now member.new }
-    ensures goes { ServesOn ground.now.plan.now (cap_of ground.now.board.now) ground.now.abort
+    requires may { MayServe ground.now member.old op }
+    ensures can { CanServe ground.now member.new }
+    ensures goes { ServesOn (ground_rules ground.now)
         member.old member.new }
-    ensures asks { AsksAll ground.now.plan.now (cap_of ground.now.board.now) ground.now.abort
+    ensures asks { AsksAll (ground_rules ground.now)
         (readers ground.now.plan.now op) member.old member.new }
     ensures alone { IsHandingAlone ground.now.plan.now (readers ground.now.plan.now op) member.old
         → IsHandingAlone ground.now.plan.now [] member.new }
@@ -104,17 +90,16 @@ impl<T: Turns> Walking<Member> for Serving<'_, T> {
     ghost use Rattle.std.specs.Prelude.{◌≡◌, ◌≤◌, []};
     ghost use Rattle.morph_base.specs.declared.strategy.Abort.TheVariants.{Lazy};
     ghost use Rattle.op_words.specs.Hands.{cap_of};
-    ghost use Rattle.op_eval.specs.Running.{IsFreeRunner};
+    ghost use Rattle.abort_eager.specs.Grounds.{ground_rules};
     ghost use Rattle.steal_explorer.specs.Alone.{IsHandingAlone, ServesAlone};
-    ghost use Rattle.steal_explorer.specs.Members.{HasDeque};
+    ghost use Rattle.steal_explorer.specs.Members.{CanServe};
     ghost use Rattle.steal_explorer.specs.Serving.{Visits, Serves};
 
-    ghost can_walk = { λ g member. IsFreeRunner g.board.now member.runner
-        × HasDeque g.plan.now member };
+    ghost can_walk = { λ g member. CanServe g member };
 
-    ghost visits = { λ g op before after answer. Serves g.plan.now (cap_of g.board.now) g.abort op
+    ghost visits = { λ g op before after answer. Serves (ground_rules g) op
         before after
-        × Visits g.plan.now (cap_of g.board.now) g.abort op before after
+        × Visits (ground_rules g) op before after
         × (g.abort ≡ Lazy → 1 ≤ cap_of g.board.now → IsHandingAlone g.plan.now [] before
         → ServesAlone g.plan.now op before after) };
 
@@ -136,13 +121,9 @@ impl<T: Turns> Walking<Member> for Serving<'_, T> {
 /// Walks the unit of an item from it on, until an answer is not `Evaluated`, and asks the dependents of what it
 /// evaluated.
 fn serve<T: Turns>(ground: &Ground<'_>, told: &T, turn: u64, member: &mut Member, op: u32)
-    requires ground { IsGround ground.now }
-    requires in_range { op < op_count ground.now.plan.now }
-    requires idle { IsFreeRunner ground.now.board.now member.old.runner }
-    requires deque { HasDeque ground.now.plan.now member.old }
-    ensures idle { IsFreeRunner ground.now.board.now member.new.runner }
-    ensures deque { HasDeque ground.now.plan.now member.new }
-    ensures serves { Serves ground.now.plan.now (cap_of ground.now.board.now) ground.now.abort op
+    requires may { MayServe ground.now member.old op }
+    ensures can { CanServe ground.now member.new }
+    ensures serves { Serves (ground_rules ground.now) op
         member.old member.new }
     ensures alone { ground.now.abort ≡ Lazy → 1 ≤ cap_of ground.now.board.now
         → IsHandingAlone ground.now.plan.now [] member.old
@@ -160,12 +141,9 @@ pub(crate) fn serve_known<T: Turns>(
     op: u32,
 )
     requires ground { IsGround ground.now }
-    requires idle { IsFreeRunner ground.now.board.now member.old.runner }
-    requires deque { HasDeque ground.now.plan.now member.old }
-    ensures idle { IsFreeRunner ground.now.board.now member.new.runner }
-    ensures deque { HasDeque ground.now.plan.now member.new }
-    ensures after { After ground.now.plan.now (cap_of ground.now.board.now)
-        ground.now.abort (Item op)
+    requires can { CanServe ground.now member.old }
+    ensures can { CanServe ground.now member.new }
+    ensures after { After (ground_rules ground.now) (Item op)
         member.old member.new }
     ensures alone { ground.now.abort ≡ Lazy → 1 ≤ cap_of ground.now.board.now
         → IsHandingAlone ground.now.plan.now [] member.old

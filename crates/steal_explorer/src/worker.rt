@@ -3,9 +3,8 @@ ghost use Rattle.std.specs.Prelude.{◌≡◌, ◌+◌, ◌*◌, ◌<◌, ◌≤
 ghost use Rattle.morph_base.specs.declared.strategy.Abort.TheVariants.{Lazy};
 ghost use Rattle.op_words.specs.Hands.{cap_of};
 ghost use Rattle.steal_explorer.specs.Alone.{IsTurningAlone, TurnsAlone, BeginsAlone, EndsAlone};
-ghost use Rattle.abort_eager.specs.Grounds.{IsGround};
-ghost use Rattle.steal_explorer.specs.Members.{HasDeque, HasTickets};
-ghost use Rattle.op_eval.specs.Running.{IsFreeRunner};
+ghost use Rattle.abort_eager.specs.Grounds.{IsGround, ground_rules};
+ghost use Rattle.steal_explorer.specs.Members.{CanServe, HasTickets};
 ghost use Rattle.steal_explorer.specs.Turns.{Turn, RanTurns, row_then};
 ghost use Rattle.steal_explorer.specs.declared.worker.TheConstants.{EMPTY_TURNS};
 
@@ -37,13 +36,11 @@ fn take_turn<T: Turns>(
     member: &mut Member,
 ) -> Found
     requires ground { IsGround ground.now }
-    requires idle { IsFreeRunner ground.now.board.now member.old.runner }
-    requires deque { HasDeque ground.now.plan.now member.old }
+    requires can { CanServe ground.now member.old }
     requires tickets { HasTickets thieves.now member.old }
-    ensures idle { IsFreeRunner ground.now.board.now member.new.runner }
-    ensures deque { HasDeque ground.now.plan.now member.new }
+    ensures can { CanServe ground.now member.new }
     ensures tickets { HasTickets thieves.now member.new }
-    ensures does { Turn ground.now.plan.now (cap_of ground.now.board.now) ground.now.abort
+    ensures took { Turn (ground_rules ground.now)
         thieves.now result
         member.old member.new }
     ensures alone { ground.now.abort ≡ Lazy → 1 ≤ cap_of ground.now.board.now
@@ -82,13 +79,11 @@ pub(crate) fn work<T: Turns>(
     member: &mut Member,
 ) -> RunEnd
     requires ground { IsGround ground.now }
-    requires idle { IsFreeRunner ground.now.board.now member.old.runner }
-    requires deque { HasDeque ground.now.plan.now member.old }
+    requires can { CanServe ground.now member.old }
     requires tickets { HasTickets thieves.now member.old }
-    ensures idle { IsFreeRunner ground.now.board.now member.new.runner }
-    ensures deque { HasDeque ground.now.plan.now member.new }
+    ensures can { CanServe ground.now member.new }
     ensures tickets { HasTickets thieves.now member.new }
-    ensures ran { RanTurns ground.now.plan.now (cap_of ground.now.board.now) ground.now.abort thieves.now
+    ensures ran { RanTurns (ground_rules ground.now) thieves.now
         member.old result member.new }
     ensures alone { ground.now.abort ≡ Lazy → 1 ≤ cap_of ground.now.board.now
         → length thieves.now ≡ 1

@@ -2,7 +2,6 @@
 use Rattle.std.proofs.Common.{◌≡◌, ◌≢◌, ◌⊎◌, ℕ, zero, suc, ◌+◌, ◌<◌, ◌≤◌, List, [], ◌∷◌, length, refl, sym, ap, ◌∙◌, subst, inl, inr, arith}
 use Rattle.std.specs.Prelude.{Contains, All}
 use Rattle.std.proofs.lemmas.Bool.{cases_eq}
-use Rattle.morph_base.specs.declared.plan.Plan.{Plan}
 use Rattle.morph_base.specs.declared.strategy.Abort.{Abort}
 use Rattle.morph_base.specs.declared.strategy.Abort.TheVariants.{Lazy, Eager}
 use Rattle.morph_base.specs.Plans.{IsPlan}
@@ -16,36 +15,37 @@ use Rattle.strata_explorer.specs.Passes.{IsPassed}
 use Rattle.strata_explorer.proofs.Climbing.{level_new, level_old, all_strata_more}
 use Rattle.strata_explorer.proofs.Further.{passed_further}
 use Rattle.strata_explorer.proofs.Lone.{alone_more}
+use Rattle.op_eval.specs.Exploring.{RunRules}
 
 lazy_apart : (abort : Abort) → abort ≡ Lazy → abort ≡ Eager → ⊥
 lazy_apart abort lazy eager = cc
 
-module _ (p : Plan) (cap : ℕ) (abort : Abort) (units : List (List ℕ)) where
+module _ (rules : RunRules) where
   abbrev depth : ℕ
-  depth = length p.op_levels.items
+  depth = length rules.plan.op_levels.items
 
   -- passes were made over levels, the last first, as many as counters are used, and this level comes next
   pub record IsClimbing (level counters : ℕ) (start now : List Runner) : Type 0 where
     pub levels : List ℕ
     pub before : List Runner
-    pub passes : Passes p cap abort units levels start before now
+    pub passes : Passes rules levels start before now
     pub further : HaveGoneOn start now
-    pub strata : AreStrata p levels now
+    pub strata : AreStrata rules.plan levels now
     pub counted : counters ≡ length levels
     pub inside : All (λ l. l < depth) levels
-    pub next : FollowsPass p cap abort level levels before now
-    pub lazy : abort ≡ Lazy → (level ≡ length levels) × ((k : ℕ) → k < length levels → level_of levels k ≡ k)
-    pub alone : abort ≡ Lazy → 1 ≤ cap → IsAlone p level start now
+    pub next : FollowsPass rules level levels before now
+    pub lazy : rules.abort ≡ Lazy → (level ≡ length levels) × ((k : ℕ) → k < length levels → level_of levels k ≡ k)
+    pub alone : rules.abort ≡ Lazy → 1 ≤ rules.cap → IsAlone rules.plan level start now
 
-  no_passes : (rs : List Runner) → Passes p cap abort units [] rs rs rs
+  no_passes : (rs : List Runner) → Passes rules [] rs rs rs
   unfolding Passes
   no_passes rs = refl
 
-  one_pass_more : (l : ℕ) (ls : List ℕ) (start earlier before now : List Runner) → Passes p cap abort units ls start earlier before → FollowsPass p cap abort l ls earlier before → IsPassed p cap abort units (length ls) (ops_of p l) before now → Passes p cap abort units (l ∷ ls) start before now
+  one_pass_more : (l : ℕ) (ls : List ℕ) (start earlier before now : List Runner) → Passes rules ls start earlier before → FollowsPass rules l ls earlier before → IsPassed rules (length ls) (ops_of rules.plan l) before now → Passes rules (l ∷ ls) start before now
   unfolding Passes
   one_pass_more l ls start earlier before now passes follows passed = (earlier, passes, follows, passed)
 
-  pub climbing_none : (rs : List Runner) → AreStrata p [] rs → IsClimbing 0 0 rs rs
+  pub climbing_none : (rs : List Runner) → AreStrata rules.plan [] rs → IsClimbing 0 0 rs rs
   climbing_none rs strata = record {
     levels = [];
     before = rs;
@@ -66,9 +66,9 @@ module _ (p : Plan) (cap : ℕ) (abort : Abort) (units : List (List ℕ)) where
   all_first l ls here rest (suc k) d lt = rest k d (omega arith)
 
   -- under lazy the next level is the one above
-  lazy_next : (next level : ℕ) (rs qs : List Runner) → abort ≡ Lazy → FollowsPass p cap abort next (level ∷ []) rs qs → next ≡ level + 1
+  lazy_next : (next level : ℕ) (rs qs : List Runner) → rules.abort ≡ Lazy → FollowsPass rules next (level ∷ []) rs qs → next ≡ level + 1
   lazy_next next level rs qs lazy (inl above) = above
-  lazy_next next level rs qs lazy (inr back) = absurd (lazy_apart abort lazy back.0)
+  lazy_next next level rs qs lazy (inr back) = absurd (lazy_apart rules.abort lazy back.0)
 
   in_turn : (level : ℕ) (ls : List ℕ) → level ≡ length ls → ((k : ℕ) → k < length ls → level_of ls k ≡ k) → (k : ℕ) → k < suc (length ls) → level_of (level ∷ ls) k ≡ k
   in_turn level ls same each k lt =
@@ -80,17 +80,17 @@ module _ (p : Plan) (cap : ℕ) (abort : Abort) (units : List (List ℕ)) where
       below : k < suc (length ls) → k ≢ length ls → k < length ls
       below lt other = omega arith
 
-  pub climbing_more : IsPlan p → AreLevels p → (level counter next : ℕ) (start rs qs : List Runner) → IsClimbing level counter start rs → level < depth → IsPassed p cap abort units counter (ops_of p level) rs qs → FollowsPass p cap abort next (level ∷ []) rs qs
+  pub climbing_more : IsPlan rules.plan → AreLevels rules.plan → (level counter next : ℕ) (start rs qs : List Runner) → IsClimbing level counter start rs → level < depth → IsPassed rules counter (ops_of rules.plan level) rs qs → FollowsPass rules next (level ∷ []) rs qs
       → IsClimbing next (counter + 1) start qs
   climbing_more valid levels level counter next start rs qs old low pass follows =
       let ls = old.levels in
-      let passed : IsPassed p cap abort units (length ls) (ops_of p level) rs qs = subst (λ c. IsPassed p cap abort units c (ops_of p level) rs qs) old.counted pass in
+      let passed : IsPassed rules (length ls) (ops_of rules.plan level) rs qs = subst (λ c. IsPassed rules c (ops_of rules.plan level) rs qs) old.counted pass in
       record {
         levels = level ∷ ls;
         before = rs;
         passes = one_pass_more level ls start old.before rs qs old.passes old.next passed;
-        further = passed_further p cap abort units (length ls) (ops_of p level) start rs qs old.further passed;
-        strata = all_strata_more p cap abort level ls units rs qs old.strata passed;
+        further = passed_further rules (length ls) (ops_of rules.plan level) start rs qs old.further passed;
+        strata = all_strata_more rules level ls rs qs old.strata passed;
         counted = let many = old.counted in omega arith;
         inside = all_first level ls low old.inside;
         next = follows;
@@ -99,20 +99,20 @@ module _ (p : Plan) (cap : ℕ) (abort : Abort) (units : List (List ℕ)) where
             let is : level ≡ length ls = (old.lazy lazy).0 in
             (omega arith, in_turn level ls is (old.lazy lazy).1);
         alone = λ lazy some.
-            subst (λ l. IsAlone p l start qs) (sym (lazy_next next level rs qs lazy follows))
-            (alone_more p valid cap some units levels level ls start rs qs old.further.len old.strata (subst (λ a. IsPassed p cap a units (length ls) (ops_of p level) rs qs) lazy passed) (old.alone lazy some));
+            subst (λ l. IsAlone rules.plan l start qs) (sym (lazy_next next level rs qs lazy follows))
+            (alone_more rules lazy valid some levels level ls start rs qs old.further.len old.strata passed (old.alone lazy some));
       }
 
   -- ---- the end
 
   -- what comes next is at most the number of levels
-  low_next : (level : ℕ) (ls : List ℕ) (before now : List Runner) → All (λ l. l < depth) ls → FollowsPass p cap abort level ls before now → level ≤ depth
+  low_next : (level : ℕ) (ls : List ℕ) (before now : List Runner) → All (λ l. l < depth) ls → FollowsPass rules level ls before now → level ≤ depth
   low_next level [] before now inside follows = omega arith
   low_next level (l ∷ ls) before now inside (inl above) = let low : l < depth = inside 0 l (omega arith) in omega arith
   low_next level (l ∷ ls) before now inside (inr back) = let low : l < depth = inside 0 l (omega arith) in let most : level ≤ l + 1 = back.1 in omega arith
 
   -- each level below the one that comes next was passed
-  all_below : (level : ℕ) (ls : List ℕ) (start before now : List Runner) → Passes p cap abort units ls start before now → FollowsPass p cap abort level ls before now → (l : ℕ) → l < level → Contains ls l
+  all_below : (level : ℕ) (ls : List ℕ) (start before now : List Runner) → Passes rules ls start before now → FollowsPass rules level ls before now → (l : ℕ) → l < level → Contains ls l
   unfolding Passes
   all_below level [] start before now passes follows l lt = absurd (omega arith)
   all_below level (k ∷ ks) start before now passes follows l lt =
@@ -121,18 +121,18 @@ module _ (p : Plan) (cap : ℕ) (abort : Abort) (units : List (List ℕ)) where
         | inr other ↦ contains_later k ks l (all_below k ks start passes.0 before passes.1 passes.2 l (lower follows other))
       ]
     where
-      lower : FollowsPass p cap abort level (k ∷ ks) before now → l ≢ k → l < k
+      lower : FollowsPass rules level (k ∷ ks) before now → l ≢ k → l < k
       lower (inl above) other = omega arith
       lower (inr back) other = let most : level ≤ k + 1 = back.1 in omega arith
 
-  module _ (level counters : ℕ) (start now : List Runner) (climbing : IsClimbing level counters start now) (few : counters ≤ counters_for p) where
+  module _ (level counters : ℕ) (start now : List Runner) (climbing : IsClimbing level counters start now) (few : counters ≤ counters_for rules.plan) where
     low : level ≤ depth
     low = low_next level climbing.levels climbing.before now climbing.inside climbing.next
 
-    few_passes : length climbing.levels ≤ counters_for p
-    few_passes = subst (λ n. n ≤ counters_for p) climbing.counted few
+    few_passes : length climbing.levels ≤ counters_for rules.plan
+    few_passes = subst (λ n. n ≤ counters_for rules.plan) climbing.counted few
 
-    pub ends_whole : depth ≤ level → HasPassed p cap abort units start now Whole counters
+    pub ends_whole : depth ≤ level → HasPassed rules start now Whole counters
     ends_whole past = record {
       levels = climbing.levels;
       before = climbing.before;
@@ -150,14 +150,14 @@ module _ (p : Plan) (cap : ℕ) (abort : Abort) (units : List (List ℕ)) where
         all : level ≡ depth
         all = let most = low in omega arith
 
-        follows : FollowsPass p cap abort depth climbing.levels climbing.before now
-        follows = subst (λ l. FollowsPass p cap abort l climbing.levels climbing.before now) all climbing.next
+        follows : FollowsPass rules depth climbing.levels climbing.before now
+        follows = subst (λ l. FollowsPass rules l climbing.levels climbing.before now) all climbing.next
 
     -- under lazy there are counters for all passes
-    lazy_ends : abort ≡ Lazy → counters_for p ≤ counters → depth ≤ level
+    lazy_ends : rules.abort ≡ Lazy → counters_for rules.plan ≤ counters → depth ≤ level
     lazy_ends lazy used = let is : level ≡ length climbing.levels = (climbing.lazy lazy).0 in let many = climbing.counted in omega arith
 
-    pub ends_spent : level < depth → counters_for p ≤ counters → HasPassed p cap abort units start now Spent counters
+    pub ends_spent : level < depth → counters_for rules.plan ≤ counters → HasPassed rules start now Spent counters
     ends_spent less used = record {
       levels = climbing.levels;
       before = climbing.before;
@@ -175,13 +175,13 @@ module _ (p : Plan) (cap : ℕ) (abort : Abort) (units : List (List ℕ)) where
         apart : Spent ≡ Whole → ⊥
         apart e = cc
 
-        used_all : length climbing.levels ≡ counters_for p
+        used_all : length climbing.levels ≡ counters_for rules.plan
         used_all = let many = climbing.counted in let most = few in omega arith
 
-    pub ends_alone : (depth ≤ level) ⊎ (counters_for p ≤ counters) → abort ≡ Lazy → 1 ≤ cap → IsAlone p depth start now
-    ends_alone end lazy some = subst (λ l. IsAlone p l start now) all (climbing.alone lazy some)
+    pub ends_alone : (depth ≤ level) ⊎ (counters_for rules.plan ≤ counters) → rules.abort ≡ Lazy → 1 ≤ rules.cap → IsAlone rules.plan depth start now
+    ends_alone end lazy some = subst (λ l. IsAlone rules.plan l start now) all (climbing.alone lazy some)
       where
-        past : (depth ≤ level) ⊎ (counters_for p ≤ counters) → depth ≤ level
+        past : (depth ≤ level) ⊎ (counters_for rules.plan ≤ counters) → depth ≤ level
         past (inl there) = there
         past (inr used) = lazy_ends lazy used
 

@@ -2,14 +2,12 @@
 use Rattle.std.proofs.lemmas.Bool.{cases_lt}
 use Rattle.std.proofs.Common.{◌≡◌, ℕ, zero, suc, ◌+◌, ◌<◌, ◌≤◌, drop, true, false, Bool, Option, Some, None, List, [], ◌∷◌, length, refl, sym, ap, ◌∙◌, subst, inl, inr, arith}
 use Rattle.std.specs.Prelude.{Contains, slice_index_or}
-use Rattle.morph_base.specs.declared.plan.Plan.{Plan}
-use Rattle.morph_base.specs.declared.strategy.Abort.{Abort}
 use Rattle.op_words.specs.declared.trail.View.{View}
 use Rattle.op_words.specs.Counting.{taking, IsNumberTaken, place, times}
 use Rattle.op_eval.specs.declared.answers.Evaluation.{Evaluation}
 use Rattle.op_eval.specs.declared.runner.Runner.{Runner}
 use Rattle.op_eval.specs.Evaluations.{EvaluationDoes, Tries}
-use Rattle.op_eval.specs.Exploring.{Unused}
+use Rattle.op_eval.specs.Exploring.{Unused, RunRules}
 use Rattle.op_eval.specs.Running.{hand_view, counted}
 use Rattle.abort_eager.specs.Sweeps.{cascade_for, IsLike, SweepsFor, Attempts}
 use Rattle.abort_eager.specs.Targets.{targets}
@@ -24,38 +22,38 @@ use Rattle.strata_explorer.proofs.Turning.{times_some}
 use Rattle.abort_eager.proofs.UnitWalks.{drop_at}
 use Rattle.strata_explorer.proofs.Running.{calls_places}
 
-module _ (p : Plan) (cap : ℕ) (abort : Abort) where
+module _ (rules : RunRules) where
   -- ---- one call
 
-  tries_from : (o : ℕ) (a from b : Runner) (r : Evaluation) → IsLike a from → Tries p cap o from b r → Tries p cap o a b r
+  tries_from : (o : ℕ) (a from b : Runner) (r : Evaluation) → IsLike a from → Tries rules.plan rules.cap o from b r → Tries rules.plan rules.cap o a b r
   tries_from o a from b r like tries = record {
     in_range = tries.in_range;
-    does = subst (λ v. EvaluationDoes p cap o v (hand_view b) r) like.view tries.does;
+    does = subst (λ v. EvaluationDoes rules.plan rules.cap o v (hand_view b) r) like.view tries.does;
     counts = tries.counts ∙ ap (counted r) like.answers;
     kept = tries.kept ∙ like.kept;
   }
 
-  tries_to : (o : ℕ) (a b to : Runner) (r : Evaluation) → Tries p cap o a b r → IsLike b to → Tries p cap o a to r
+  tries_to : (o : ℕ) (a b to : Runner) (r : Evaluation) → Tries rules.plan rules.cap o a b r → IsLike b to → Tries rules.plan rules.cap o a to r
   tries_to o a b to r tries like = record {
     in_range = tries.in_range;
-    does = subst (λ v. EvaluationDoes p cap o (hand_view a) v r) (sym like.view) tries.does;
+    does = subst (λ v. EvaluationDoes rules.plan rules.cap o (hand_view a) v r) (sym like.view) tries.does;
     counts = like.answers ∙ tries.counts;
     kept = like.kept ∙ tries.kept;
   }
 
-  sweeps_to : (o : ℕ) (a b to : Runner) (r : Evaluation) (f : Option Bool) → (m : Runner) × Tries p cap o a m r × SweepsFor p cap o f m b → IsLike b to → (m : Runner) × Tries p cap o a m r × SweepsFor p cap o f m to
+  sweeps_to : (o : ℕ) (a b to : Runner) (r : Evaluation) (f : Option Bool) → (m : Runner) × Tries rules.plan rules.cap o a m r × SweepsFor rules.plan rules.cap o f m b → IsLike b to → (m : Runner) × Tries rules.plan rules.cap o a m r × SweepsFor rules.plan rules.cap o f m to
   sweeps_to o a b to r None made like = (to, tries_to o a made.0 to r made.1 (subst (λ m. IsLike m to) made.2 like), refl)
   sweeps_to o a b to r (Some failed) made like = (
     made.0,
     made.1,
     record {
-      touching = subst (Touching p cap (targets p o failed) (hand_view made.0)) (sym like.view) made.2.touching;
+      touching = subst (Touching rules.plan rules.cap (targets rules.plan o failed) (hand_view made.0)) (sym like.view) made.2.touching;
       answers = like.answers ∙ made.2.answers;
       kept = like.kept ∙ made.2.kept;
     },
   )
 
-  calling_from : (c : TakingCall) (a from b : Runner) → IsLike a from → MakesPassCall p cap abort c from b → MakesPassCall p cap abort c a b
+  calling_from : (c : TakingCall) (a from b : Runner) → IsLike a from → MakesPassCall rules c from b → MakesPassCall rules c a b
   calling_from (Took c n) a from b like took = record {
     view = took.view ∙ ap (taking c n) like.view;
     takes = subst (IsNumberTaken c n) like.view took.takes;
@@ -64,41 +62,41 @@ module _ (p : Plan) (cap : ℕ) (abort : Abort) where
   }
   calling_from (Tried o) a from b like tried = (tried.0, (tried.1.0, tries_from o a from tried.1.0 tried.0 like tried.1.1, tried.1.2))
 
-  calling_to : (c : TakingCall) (a b to : Runner) → MakesPassCall p cap abort c a b → IsLike b to → MakesPassCall p cap abort c a to
+  calling_to : (c : TakingCall) (a b to : Runner) → MakesPassCall rules c a b → IsLike b to → MakesPassCall rules c a to
   calling_to (Took c n) a b to took like = record {
     view = like.view ∙ took.view;
     takes = took.takes;
     answers = like.answers ∙ took.answers;
     kept = like.kept ∙ took.kept;
   }
-  calling_to (Tried o) a b to tried like = (tried.0, sweeps_to o a b to tried.0 (cascade_for abort tried.0) tried.1 like)
+  calling_to (Tried o) a b to tried like = (tried.0, sweeps_to o a b to tried.0 (cascade_for rules.abort tried.0) tried.1 like)
 
   -- ---- calls in turn: with none of them it would be the same runner
 
-  calls_from : (cs : List TakingCall) (a from b : Runner) → 0 < length cs → IsLike a from → MakesPassCalls p cap abort cs from b → MakesPassCalls p cap abort cs a b
+  calls_from : (cs : List TakingCall) (a from b : Runner) → 0 < length cs → IsLike a from → MakesPassCalls rules cs from b → MakesPassCalls rules cs a b
   calls_from [] a from b some like calls = absurd (omega arith)
-  calls_from (c ∷ []) a from b some like calls = (a, refl, calling_from c a from b like (subst (λ m. MakesPassCall p cap abort c m b) calls.1 calls.2))
+  calls_from (c ∷ []) a from b some like calls = (a, refl, calling_from c a from b like (subst (λ m. MakesPassCall rules c m b) calls.1 calls.2))
   calls_from (c ∷ d ∷ ds) a from b some like calls = (calls.0, calls_from (d ∷ ds) a from calls.0 (omega arith) like calls.1, calls.2)
 
-  calls_to : (cs : List TakingCall) (a b to : Runner) → 0 < length cs → MakesPassCalls p cap abort cs a b → IsLike b to → MakesPassCalls p cap abort cs a to
+  calls_to : (cs : List TakingCall) (a b to : Runner) → 0 < length cs → MakesPassCalls rules cs a b → IsLike b to → MakesPassCalls rules cs a to
   calls_to [] a b to some calls like = absurd (omega arith)
   calls_to (c ∷ cs) a b to some calls like = (calls.0, calls.1, calling_to c calls.0 b to calls.2 like)
 
   -- ---- a pass
 
   -- a runner that saw the end of a counter that it had not used has taken a number
-  some_calls : (c : ℕ) (ops : List ℕ) (a b : Runner) → 0 < length ops → Unused c a → IsEnough c (length ops) b → (worked : Worked p cap abort c ops a b) → 0 < length worked.calls
+  some_calls : (c : ℕ) (ops : List ℕ) (a b : Runner) → 0 < length ops → Unused c a → IsEnough c (length ops) b → (worked : Worked rules c ops a b) → 0 < length worked.calls
   some_calls c ops a b some unused enough worked =
       elim enough [
         | inl none ↦ absurd (omega arith)
         | inr last ↦
-            elim (calls_places p cap abort worked.calls a b worked.made c last.0 last.1) [
+            elim (calls_places rules worked.calls a b worked.made c last.0 last.1) [
               | inl before ↦ (let one = times_some c last.0 (hand_view a).places before in absurd (omega arith))
               | inr took ↦ let lt : took.0 < length worked.calls = took.1 in omega arith
             ]
       ]
 
-  worked_between : (c : ℕ) (ops : List ℕ) (a from b to : Runner) → IsLike a from → IsLike b to → (worked : Worked p cap abort c ops from b) → 0 < length worked.calls → Worked p cap abort c ops a to
+  worked_between : (c : ℕ) (ops : List ℕ) (a from b to : Runner) → IsLike a from → IsLike b to → (worked : Worked rules c ops from b) → 0 < length worked.calls → Worked rules c ops a to
   worked_between c ops a from b to first last worked some = record {
     calls = worked.calls;
     made = calls_to worked.calls a b to some (calls_from worked.calls a from b some first worked.made) last;
@@ -114,54 +112,54 @@ module _ (p : Plan) (cap : ℕ) (abort : Abort) where
   -- ---- walks
 
   -- behind an attempt, operations of a list
-  ends_to : (os : List ℕ) (o : ℕ) (r : Evaluation) (a m b to : Runner) → Attempts p cap abort o a m r → (t : Bool) → VisitsInTurn (Attempts p cap abort) t os m b → IsLike b to → (n : Runner) × Attempts p cap abort o a n r × VisitsInTurn (Attempts p cap abort) t os n to
-  ends_to [] o r a m b to tries t rest like = (to, sweeps_to o a m to r (cascade_for abort r) tries (subst (λ x. IsLike x to) rest like), none t)
+  ends_to : (os : List ℕ) (o : ℕ) (r : Evaluation) (a m b to : Runner) → Attempts rules o a m r → (t : Bool) → VisitsInTurn (Attempts rules) t os m b → IsLike b to → (n : Runner) × Attempts rules o a n r × VisitsInTurn (Attempts rules) t os n to
+  ends_to [] o r a m b to tries t rest like = (to, sweeps_to o a m to r (cascade_for rules.abort r) tries (subst (λ x. IsLike x to) rest like), none t)
     where
-      none : (t : Bool) → VisitsInTurn (Attempts p cap abort) t [] to to
+      none : (t : Bool) → VisitsInTurn (Attempts rules) t [] to to
       none true = refl
       none false = refl
-  ends_to (q ∷ qs) o r a m b to tries false rest like = (to, sweeps_to o a m to r (cascade_for abort r) tries (subst (λ x. IsLike x to) rest like), refl)
+  ends_to (q ∷ qs) o r a m b to tries false rest like = (to, sweeps_to o a m to r (cascade_for rules.abort r) tries (subst (λ x. IsLike x to) rest like), refl)
   ends_to (q ∷ qs) o r a m b to tries true rest like =
       let next = ends_to qs q rest.1 m rest.0 b to rest.2 (has_evaluated rest.1) rest.3 like in
       (m, tries, (next.0, rest.1, next.1, next.2))
 
-  unit_to : (units : List (List ℕ)) (o : ℕ) (a b to : Runner) → WalksUnit (Attempts p cap abort) units o a b → IsLike b to → WalksUnit (Attempts p cap abort) units o a to
-  unit_to units o a b to walks like = record {
+  unit_to : (o : ℕ) (a b to : Runner) → WalksUnit (Attempts rules) rules.units o a b → IsLike b to → WalksUnit (Attempts rules) rules.units o a to
+  unit_to o a b to walks like = record {
     unit = walks.unit;
     at = walks.at;
     stands = walks.stands;
-    visited = subst (λ os. VisitsInTurn (Attempts p cap abort) true os a to) (sym whole) (next.0, made.1, next.1, next.2);
+    visited = subst (λ os. VisitsInTurn (Attempts rules) true os a to) (sym whole) (next.0, made.1, next.1, next.2);
   }
     where
       ops : List ℕ
-      ops = slice_index_or units walks.unit []
+      ops = slice_index_or rules.units walks.unit []
 
       whole : drop walks.at ops ≡ o ∷ drop (walks.at + 1) ops
       whole = drop_at ops walks.at o walks.stands
 
-      made : VisitsInTurn (Attempts p cap abort) true (o ∷ drop (walks.at + 1) ops) a b
-      made = subst (λ os. VisitsInTurn (Attempts p cap abort) true os a b) whole walks.visited
+      made : VisitsInTurn (Attempts rules) true (o ∷ drop (walks.at + 1) ops) a b
+      made = subst (λ os. VisitsInTurn (Attempts rules) true os a b) whole walks.visited
 
-      next : (n : Runner) × Attempts p cap abort o a n made.1 × VisitsInTurn (Attempts p cap abort) (has_evaluated made.1) (drop (walks.at + 1) ops) n to
+      next : (n : Runner) × Attempts rules o a n made.1 × VisitsInTurn (Attempts rules) (has_evaluated made.1) (drop (walks.at + 1) ops) n to
       next = ends_to (drop (walks.at + 1) ops) o made.1 a made.0 b to made.2 (has_evaluated made.1) made.3 like
 
-  module _ (units : List (List ℕ)) (c : ℕ) (ops : List ℕ) where
-    places_from : (ns : List ℕ) (a from b : Runner) → 0 < length ns → IsLike a from → WalksPlaces p cap abort units c ops ns from b → WalksPlaces p cap abort units c ops ns a b
+  module _ (c : ℕ) (ops : List ℕ) where
+    places_from : (ns : List ℕ) (a from b : Runner) → 0 < length ns → IsLike a from → WalksPlaces rules c ops ns from b → WalksPlaces rules c ops ns a b
     places_from [] a from b some like walks = absurd (omega arith)
     places_from (n ∷ []) a from b some like walks =
         (a, walks.1, refl, calling_from (Took c n) a from walks.1 like (subst (λ m. TakesNumber c n m walks.1) walks.2 walks.3), walks.4, walks.5)
     places_from (n ∷ m ∷ ns) a from b some like walks = (walks.0, walks.1, places_from (m ∷ ns) a from walks.0 (omega arith) like walks.2, walks.3, walks.4, walks.5)
 
-    places_to : (ns : List ℕ) (a b to : Runner) → 0 < length ns → WalksPlaces p cap abort units c ops ns a b → IsLike b to → WalksPlaces p cap abort units c ops ns a to
+    places_to : (ns : List ℕ) (a b to : Runner) → 0 < length ns → WalksPlaces rules c ops ns a b → IsLike b to → WalksPlaces rules c ops ns a to
     places_to [] a b to some walks like = absurd (omega arith)
     places_to (n ∷ ns) a b to some walks like =
         elim (cases_lt n (length ops)) [
-          | inl lt ↦ (walks.0, walks.1, walks.2, walks.3, (λ _. unit_to units (slice_index_or ops n 0) walks.1 b to (walks.4 lt) like), (λ past. absurd (omega arith)))
+          | inl lt ↦ (walks.0, walks.1, walks.2, walks.3, (λ _. unit_to (slice_index_or ops n 0) walks.1 b to (walks.4 lt) like), (λ past. absurd (omega arith)))
           | inr past ↦ (walks.0, to, walks.2, calling_to (Took c n) walks.0 walks.1 to walks.3 (subst (λ x. IsLike x to) (walks.5 past) like), (λ lt. absurd (omega arith)), (λ _. refl))
         ]
 
     -- a runner that saw the end of a counter that it had not used has taken a number
-    some_numbers : (ns : List ℕ) (a b : Runner) → 0 < length ops → Unused c a → IsEnough c (length ops) b → WalksPlaces p cap abort units c ops ns a b → 0 < length ns
+    some_numbers : (ns : List ℕ) (a b : Runner) → 0 < length ops → Unused c a → IsEnough c (length ops) b → WalksPlaces rules c ops ns a b → 0 < length ns
     some_numbers (n ∷ ns) a b some unused enough walks = omega arith
     some_numbers [] a b some unused enough walks =
         elim enough [
@@ -172,12 +170,12 @@ module _ (p : Plan) (cap : ℕ) (abort : Abort) where
               absurd (omega (arith, unused)))
         ]
 
-    all_between : (a from b to : Runner) → IsLike a from → IsLike b to → (all : WalksAll p cap abort units c ops from b) → 0 < length all.numbers → WalksAll p cap abort units c ops a to
+    all_between : (a from b to : Runner) → IsLike a from → IsLike b to → (all : WalksAll rules c ops from b) → 0 < length all.numbers → WalksAll rules c ops a to
     all_between a from b to first last all some = record { numbers = all.numbers; walks = places_to all.numbers a b to some (places_from all.numbers a from b some first all.walks) last }
 
-  pub passed_between : (units : List (List ℕ)) (c : ℕ) (ops : List ℕ) (before rs qs after : List Runner) → AreLike before rs → AreLike qs after → 0 < length ops → 0 < length before → ((d : Runner) → Unused c (slice_index_or before 0 d))
-      → IsPassed p cap abort units c ops rs qs → ((d : Runner) → IsEnough c (length ops) (slice_index_or qs 0 d)) → IsPassed p cap abort units c ops before after
-  passed_between units c ops before rs qs after first last full some unused passed saw = record {
+  pub passed_between : (c : ℕ) (ops : List ℕ) (before rs qs after : List Runner) → AreLike before rs → AreLike qs after → 0 < length ops → 0 < length before → ((d : Runner) → Unused c (slice_index_or before 0 d))
+      → IsPassed rules c ops rs qs → ((d : Runner) → IsEnough c (length ops) (slice_index_or qs 0 d)) → IsPassed rules c ops before after
+  passed_between c ops before rs qs after first last full some unused passed saw = record {
     len = last.len ∙ passed.len ∙ first.len;
     each = each;
     walks = walks;
@@ -199,20 +197,20 @@ module _ (p : Plan) (cap : ℕ) (abort : Abort) where
       shared many zero d lt = enough_like c ops (slice_index_or qs 0 d) (slice_index_or after 0 d) (last.first d) (saw d)
       shared many (suc k) d lt = subst (λ b. IsEnough c (length ops) b) (sym (last.others (suc k) d (omega arith))) (passed.shared many (suc k) d (less lt))
 
-      each : (k : ℕ) (d : Runner) → k < length before → Worked p cap abort c ops (slice_index_or before k d) (slice_index_or after k d)
+      each : (k : ℕ) (d : Runner) → k < length before → Worked rules c ops (slice_index_or before k d) (slice_index_or after k d)
       each zero d lt =
           let worked = passed.each 0 d (less lt) in
           worked_between c ops (slice_index_or before 0 d) (slice_index_or rs 0 d) (slice_index_or qs 0 d) (slice_index_or after 0 d) (first.first d) (last.first d) worked
           (some_calls c ops (slice_index_or rs 0 d) (slice_index_or qs 0 d) full (unused_now d) (saw d) worked)
       each (suc k) d lt =
-          subst (λ b. Worked p cap abort c ops (slice_index_or before (suc k) d) b) (sym (last.others (suc k) d (omega arith)))
-          (subst (λ a. Worked p cap abort c ops a (slice_index_or qs (suc k) d)) (first.others (suc k) d (omega arith)) (passed.each (suc k) d (less lt)))
+          subst (λ b. Worked rules c ops (slice_index_or before (suc k) d) b) (sym (last.others (suc k) d (omega arith)))
+          (subst (λ a. Worked rules c ops a (slice_index_or qs (suc k) d)) (first.others (suc k) d (omega arith)) (passed.each (suc k) d (less lt)))
 
-      walks : (k : ℕ) (d : Runner) → k < length before → WalksAll p cap abort units c ops (slice_index_or before k d) (slice_index_or after k d)
+      walks : (k : ℕ) (d : Runner) → k < length before → WalksAll rules c ops (slice_index_or before k d) (slice_index_or after k d)
       walks zero d lt =
           let all = passed.walks 0 d (less lt) in
-          all_between units c ops (slice_index_or before 0 d) (slice_index_or rs 0 d) (slice_index_or qs 0 d) (slice_index_or after 0 d) (first.first d) (last.first d) all
-          (some_numbers units c ops all.numbers (slice_index_or rs 0 d) (slice_index_or qs 0 d) full (unused_now d) (saw d) all.walks)
+          all_between c ops (slice_index_or before 0 d) (slice_index_or rs 0 d) (slice_index_or qs 0 d) (slice_index_or after 0 d) (first.first d) (last.first d) all
+          (some_numbers c ops all.numbers (slice_index_or rs 0 d) (slice_index_or qs 0 d) full (unused_now d) (saw d) all.walks)
       walks (suc k) d lt =
-          subst (λ b. WalksAll p cap abort units c ops (slice_index_or before (suc k) d) b) (sym (last.others (suc k) d (omega arith)))
-          (subst (λ a. WalksAll p cap abort units c ops a (slice_index_or qs (suc k) d)) (first.others (suc k) d (omega arith)) (passed.walks (suc k) d (less lt)))
+          subst (λ b. WalksAll rules c ops (slice_index_or before (suc k) d) b) (sym (last.others (suc k) d (omega arith)))
+          (subst (λ a. WalksAll rules c ops a (slice_index_or qs (suc k) d)) (first.others (suc k) d (omega arith)) (passed.walks (suc k) d (less lt)))

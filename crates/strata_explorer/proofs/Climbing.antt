@@ -4,7 +4,6 @@ use Rattle.std.specs.Prelude.{Contains, All, count_by, slice_index_or, nat_lt}
 use Rattle.std.proofs.lemmas.Bool.{cases_eq, cases_lt, eq-eqb, ne_eqb}
 use Rattle.std.proofs.lemmas.List.Sums.{sum_by-append}
 use Rattle.morph_base.specs.declared.plan.Plan.{Plan}
-use Rattle.morph_base.specs.declared.strategy.Abort.{Abort}
 use Rattle.morph_base.specs.Contents.{Contents}
 use Rattle.std.proofs.lemmas.List.{get_or-map}
 use Rattle.op_words.specs.declared.trail.Place.{Place}
@@ -12,7 +11,7 @@ use Rattle.op_words.specs.declared.trail.View.{View}
 use Rattle.op_words.specs.Trails.{IsReached}
 use Rattle.op_eval.specs.declared.runner.Runner.{Runner}
 use Rattle.op_words.specs.Counting.{place}
-use Rattle.op_eval.specs.Exploring.{total}
+use Rattle.op_eval.specs.Exploring.{total, RunRules}
 use Rattle.op_eval.specs.Running.{hand_view}
 use Rattle.op_eval.proofs.Totals.{tries_total, full_stays}
 use Rattle.op_eval.proofs.Elements.{contains_first, contains_later}
@@ -26,49 +25,49 @@ use Rattle.strata_explorer.proofs.Turning.{count_first, times_some}
 use Rattle.strata_explorer.proofs.Further.{calls_keep, calls_reach}
 use Rattle.strata_explorer.proofs.Running.{calls_places, calls_hold, calls_times, calls_running}
 
-pub calls_total : (p : Plan) (cap : ℕ) (abort : Abort) (cs : List TakingCall) (a b : Runner) → MakesPassCalls p cap abort cs a b → (total a.answers + count_by is_tried cs ≤ total b.answers) ⊎ (2 ^ 64 ≤ total b.answers + 1)
-calls_total p cap abort [] a b calls = inl (let e : total b.answers ≡ total a.answers = ap (λ r. total r.answers) calls in omega arith)
-calls_total p cap abort (Took c n ∷ cs) a b calls =
+pub calls_total : (rules : RunRules) (cs : List TakingCall) (a b : Runner) → MakesPassCalls rules cs a b → (total a.answers + count_by is_tried cs ≤ total b.answers) ⊎ (2 ^ 64 ≤ total b.answers + 1)
+calls_total rules [] a b calls = inl (let e : total b.answers ≡ total a.answers = ap (λ r. total r.answers) calls in omega arith)
+calls_total rules (Took c n ∷ cs) a b calls =
     let e : total b.answers ≡ total calls.0.answers = ap total calls.2.answers in
     let f : count_by is_tried (Took c n ∷ cs) ≡ 0 + count_by is_tried cs = count_first is_tried (Took c n) cs in
-    elim (calls_total p cap abort cs a calls.0 calls.1) [ inl few ↦ inl (omega arith) | inr full ↦ inr (omega arith) ]
-calls_total p cap abort (Tried o ∷ cs) a b calls =
+    elim (calls_total rules cs a calls.0 calls.1) [ inl few ↦ inl (omega arith) | inr full ↦ inr (omega arith) ]
+calls_total rules (Tried o ∷ cs) a b calls =
     let f : count_by is_tried (Tried o ∷ cs) ≡ 1 + count_by is_tried cs = count_first is_tried (Tried o) cs in
-    let does = attempted p cap abort o calls.0 b calls.2 in
+    let does = attempted rules o calls.0 b calls.2 in
     let same : total b.answers ≡ total does.middle.answers = ap total does.over.answers in
-    let step = tries_total p cap o calls.0 does.middle does.answer does.tries in
-    elim (calls_total p cap abort cs a calls.0 calls.1) [
+    let step = tries_total rules.plan rules.cap o calls.0 does.middle does.answer does.tries in
+    elim (calls_total rules cs a calls.0 calls.1) [
       | inl few ↦ elim step [ inl one ↦ inl (omega arith) | inr full ↦ inr (omega arith) ]
       | inr full ↦ inr (let stays = full_stays (total calls.0.answers) (total does.middle.answers) step full in omega arith)
     ]
 
 -- and full stays full
-pub calls_full : (p : Plan) (cap : ℕ) (abort : Abort) (cs : List TakingCall) (a b : Runner) → MakesPassCalls p cap abort cs a b → 2 ^ 64 ≤ total a.answers + 1 → 2 ^ 64 ≤ total b.answers + 1
-calls_full p cap abort cs a b calls full = elim (calls_total p cap abort cs a b calls) [ inl few ↦ omega arith | inr there ↦ there ]
+pub calls_full : (rules : RunRules) (cs : List TakingCall) (a b : Runner) → MakesPassCalls rules cs a b → 2 ^ 64 ≤ total a.answers + 1 → 2 ^ 64 ≤ total b.answers + 1
+calls_full rules cs a b calls full = elim (calls_total rules cs a b calls) [ inl few ↦ omega arith | inr there ↦ there ]
 
 -- ---- places of one counter alone
 
-pub calls_named : (p : Plan) (cap : ℕ) (abort : Abort) (ls : List ℕ) (l : ℕ) (cs : List TakingCall) (a b : Runner) → ((k n : ℕ) → Contains cs (Took k n) → k ≡ l) → MakesPassCalls p cap abort cs a b
-    → named p ls (hand_view b).places ≡ named p ls (hand_view a).places + count_by (names (length (ops_of p (level_of ls l)))) cs
-calls_named p cap abort ls l [] a b only calls = ap (λ r. named p ls (hand_view r).places) calls ∙ sum_none (named p ls (hand_view a).places)
+pub calls_named : (rules : RunRules) (ls : List ℕ) (l : ℕ) (cs : List TakingCall) (a b : Runner) → ((k n : ℕ) → Contains cs (Took k n) → k ≡ l) → MakesPassCalls rules cs a b
+    → named rules.plan ls (hand_view b).places ≡ named rules.plan ls (hand_view a).places + count_by (names (length (ops_of rules.plan (level_of ls l)))) cs
+calls_named rules ls l [] a b only calls = ap (λ r. named rules.plan ls (hand_view r).places) calls ∙ sum_none (named rules.plan ls (hand_view a).places)
   where
     sum_none : (m : ℕ) → m ≡ m + 0
     sum_none m = omega arith
-calls_named p cap abort ls l (Took k n ∷ cs) a b only calls =
-    let many : ℕ = length (ops_of p (level_of ls l)) in
+calls_named rules ls l (Took k n ∷ cs) a b only calls =
+    let many : ℕ = length (ops_of rules.plan (level_of ls l)) in
     let same : k ≡ l = only k n (contains_first (Took k n) cs) in
-    let before : named p ls (hand_view calls.0).places ≡ named p ls (hand_view a).places + count_by (names many) cs = calls_named p cap abort ls l cs a calls.0 (only_later l (Took k n) cs only) calls.1 in
-    let now : named p ls (hand_view b).places ≡ named p ls (hand_view calls.0).places + (0 + cond (nat_lt n many) 1 0) =
-    ap (λ (v : View). named p ls v.places) calls.2.view
-    ∙ sum_by-append (λ (x : Place). cond (nat_lt x.number (length (ops_of p (level_of ls x.counter)))) 1 0) (hand_view calls.0).places (place k n ∷ [])
-    ∙ ap (λ j. named p ls (hand_view calls.0).places + (0 + cond (nat_lt n (length (ops_of p (level_of ls j)))) 1 0)) same in
+    let before : named rules.plan ls (hand_view calls.0).places ≡ named rules.plan ls (hand_view a).places + count_by (names many) cs = calls_named rules ls l cs a calls.0 (only_later l (Took k n) cs only) calls.1 in
+    let now : named rules.plan ls (hand_view b).places ≡ named rules.plan ls (hand_view calls.0).places + (0 + cond (nat_lt n many) 1 0) =
+    ap (λ (v : View). named rules.plan ls v.places) calls.2.view
+    ∙ sum_by-append (λ (x : Place). cond (nat_lt x.number (length (ops_of rules.plan (level_of ls x.counter)))) 1 0) (hand_view calls.0).places (place k n ∷ [])
+    ∙ ap (λ j. named rules.plan ls (hand_view calls.0).places + (0 + cond (nat_lt n (length (ops_of rules.plan (level_of ls j)))) 1 0)) same in
     let more : count_by (names many) (Took k n ∷ cs) ≡ (0 + cond (nat_lt n many) 1 0) + count_by (names many) cs = count_first (names many) (Took k n) cs in
     omega arith
-calls_named p cap abort ls l (Tried q ∷ cs) a b only calls =
-    let many : ℕ = length (ops_of p (level_of ls l)) in
-    let does = attempted p cap abort q calls.0 b calls.2 in
-    let before : named p ls (hand_view calls.0).places ≡ named p ls (hand_view a).places + count_by (names many) cs = calls_named p cap abort ls l cs a calls.0 (only_later l (Tried q) cs only) calls.1 in
-    let now : named p ls (hand_view b).places ≡ named p ls (hand_view calls.0).places = ap (named p ls) does.goes.adds.places in
+calls_named rules ls l (Tried q ∷ cs) a b only calls =
+    let many : ℕ = length (ops_of rules.plan (level_of ls l)) in
+    let does = attempted rules q calls.0 b calls.2 in
+    let before : named rules.plan ls (hand_view calls.0).places ≡ named rules.plan ls (hand_view a).places + count_by (names many) cs = calls_named rules ls l cs a calls.0 (only_later l (Tried q) cs only) calls.1 in
+    let now : named rules.plan ls (hand_view b).places ≡ named rules.plan ls (hand_view calls.0).places = ap (named rules.plan ls) does.goes.adds.places in
     let more : count_by (names many) (Tried q ∷ cs) ≡ 0 + count_by (names many) cs = count_first (names many) (Tried q) cs in
     omega arith
 
@@ -96,69 +95,69 @@ named_old p l ls (x ∷ xs) earlier =
 
 -- ---- a pass
 
-module _ (p : Plan) (cap : ℕ) (abort : Abort) (l : ℕ) (ls : List ℕ) where
+module _ (rules : RunRules) (l : ℕ) (ls : List ℕ) where
   -- a place that was there before is one of an earlier pass
-  earlier_place : (a : Runner) → IsStrata p ls a → (k n : ℕ) → Contains (hand_view a).places (place k n) → k < length ls
+  earlier_place : (a : Runner) → IsStrata rules.plan ls a → (k n : ℕ) → Contains (hand_view a).places (place k n) → k < length ls
   earlier_place a strata k n found =
       elim (cases_lt k (length ls)) [
         | inl lt ↦ lt
         | inr past ↦ (let some = times_some k n (hand_view a).places found in let none = strata.unused k past in absurd (omega arith))
       ]
 
-  pub strata_more : (a b : Runner) → IsStrata p ls a → Worked p cap abort (length ls) (ops_of p l) a b → IsStrata p (l ∷ ls) b
+  pub strata_more : (a b : Runner) → IsStrata rules.plan ls a → Worked rules (length ls) (ops_of rules.plan l) a b → IsStrata rules.plan (l ∷ ls) b
   strata_more a b strata worked = record {
-    exploring = calls_running p cap abort worked.calls a b strata.exploring worked.made;
+    exploring = calls_running rules worked.calls a b strata.exploring worked.made;
     walked = λ k n found lt.
-        elim (calls_places p cap abort worked.calls a b worked.made k n found) [
+        elim (calls_places rules worked.calls a b worked.made k n found) [
           | inl before ↦
               let same : level_of (l ∷ ls) k ≡ level_of ls k = level_old l ls k (earlier_place a strata k n before) in
-              subst (λ j. IsReached p (op_of p j n) (hand_view b).trail) (sym same)
-              (calls_keep p cap abort (op_of p (level_of ls k) n) worked.calls a b worked.made (strata.walked k n before (subst (λ j. n < length (ops_of p j)) same lt)))
+              subst (λ j. IsReached rules.plan (op_of rules.plan j n) (hand_view b).trail) (sym same)
+              (calls_keep rules (op_of rules.plan (level_of ls k) n) worked.calls a b worked.made (strata.walked k n before (subst (λ j. n < length (ops_of rules.plan j)) same lt)))
           | inr now ↦
               let which : k ≡ length ls = worked.only k n now in
               let same : level_of (l ∷ ls) k ≡ l = ap (level_of (l ∷ ls)) which ∙ level_new l ls in
-              subst (λ j. IsReached p (op_of p j n) (hand_view b).trail) (sym same)
-              (calls_reach p cap abort (op_of p l n) worked.calls a b worked.made
-              (worked.tried n (subst (λ j. Contains worked.calls (Took j n)) which now) (subst (λ j. n < length (ops_of p j)) same lt)))
+              subst (λ j. IsReached rules.plan (op_of rules.plan j n) (hand_view b).trail) (sym same)
+              (calls_reach rules (op_of rules.plan l n) worked.calls a b worked.made
+              (worked.tried n (subst (λ j. Contains worked.calls (Took j n)) which now) (subst (λ j. n < length (ops_of rules.plan j)) same lt)))
         ];
-    unused = λ c above. calls_times p cap abort c (length ls) (λ same. past c above same) worked.calls a b worked.only worked.made ∙ strata.unused c (omega arith);
+    unused = λ c above. calls_times rules c (length ls) (λ same. past c above same) worked.calls a b worked.only worked.made ∙ strata.unused c (omega arith);
     counted =
-        let e : named p (l ∷ ls) (hand_view b).places ≡ named p (l ∷ ls) (hand_view a).places + count_by (names (length (ops_of p (level_of (l ∷ ls) (length ls))))) worked.calls = calls_named p cap abort (l ∷ ls) (length ls) worked.calls a b worked.only worked.made in
-        let here : count_by (names (length (ops_of p (level_of (l ∷ ls) (length ls))))) worked.calls ≡ count_by (names (length (ops_of p l))) worked.calls = ap (λ j. count_by (names (length (ops_of p j))) worked.calls) (level_new l ls) in
-        let before : named p (l ∷ ls) (hand_view a).places ≡ named p ls (hand_view a).places = named_old p l ls (hand_view a).places (earlier_place a strata) in
+        let e : named rules.plan (l ∷ ls) (hand_view b).places ≡ named rules.plan (l ∷ ls) (hand_view a).places + count_by (names (length (ops_of rules.plan (level_of (l ∷ ls) (length ls))))) worked.calls = calls_named rules (l ∷ ls) (length ls) worked.calls a b worked.only worked.made in
+        let here : count_by (names (length (ops_of rules.plan (level_of (l ∷ ls) (length ls))))) worked.calls ≡ count_by (names (length (ops_of rules.plan l))) worked.calls = ap (λ j. count_by (names (length (ops_of rules.plan j))) worked.calls) (level_new l ls) in
+        let before : named rules.plan (l ∷ ls) (hand_view a).places ≡ named rules.plan ls (hand_view a).places = named_old rules.plan l ls (hand_view a).places (earlier_place a strata) in
         let few = worked.counted in
         elim strata.counted [
-          | inr full ↦ inr (calls_full p cap abort worked.calls a b worked.made full)
-          | inl old ↦ elim (calls_total p cap abort worked.calls a b worked.made) [ inr full ↦ inr full | inl more ↦ inl (omega arith) ]
+          | inr full ↦ inr (calls_full rules worked.calls a b worked.made full)
+          | inl old ↦ elim (calls_total rules worked.calls a b worked.made) [ inr full ↦ inr full | inl more ↦ inl (omega arith) ]
         ];
   }
     where
       past : (c : ℕ) → suc (length ls) ≤ c → c ≡ length ls → ⊥
       past c above same = absurd (omega arith)
 
-  enough_stays : (c : ℕ) (ops : List ℕ) (cs : List TakingCall) (a b : Runner) → MakesPassCalls p cap abort cs a b → IsEnough c (length ops) a → IsEnough c (length ops) b
-  enough_stays c ops cs a b calls enough = elim enough [ inl none ↦ inl none | inr is ↦ inr (is.0, calls_hold p cap abort cs a b calls (place c is.0) is.1, is.2) ]
+  enough_stays : (c : ℕ) (ops : List ℕ) (cs : List TakingCall) (a b : Runner) → MakesPassCalls rules cs a b → IsEnough c (length ops) a → IsEnough c (length ops) b
+  enough_stays c ops cs a b calls enough = elim enough [ inl none ↦ inl none | inr is ↦ inr (is.0, calls_hold rules cs a b calls (place c is.0) is.1, is.2) ]
 
-  pub all_strata_more : (units : List (List ℕ)) (rs qs : List Runner) → AreStrata p ls rs → IsPassed p cap abort units (length ls) (ops_of p l) rs qs → AreStrata p (l ∷ ls) qs
-  all_strata_more units rs qs strata passed = record {
+  pub all_strata_more : (rs qs : List Runner) → AreStrata rules.plan ls rs → IsPassed rules (length ls) (ops_of rules.plan l) rs qs → AreStrata rules.plan (l ∷ ls) qs
+  all_strata_more rs qs strata passed = record {
     each = λ k d lt. let less : k < length rs = subst (λ n. k < n) passed.len lt in strata_more (slice_index_or rs k d) (slice_index_or qs k d) (strata.each k d less) (passed.each k d less);
     enough = λ c lt.
         elim (cases_eq c (length ls)) [
           | inl same ↦
               let level : level_of (l ∷ ls) c ≡ l = ap (level_of (l ∷ ls)) same ∙ level_new l ls in
-              let saw : (d : Runner) → IsEnough c (length (ops_of p l)) (slice_index_or qs passed.enough.0 d) = λ d. subst (λ j. IsEnough j (length (ops_of p l)) (slice_index_or qs passed.enough.0 d)) (sym same) (passed.enough.2 d) in (
+              let saw : (d : Runner) → IsEnough c (length (ops_of rules.plan l)) (slice_index_or qs passed.enough.0 d) = λ d. subst (λ j. IsEnough j (length (ops_of rules.plan l)) (slice_index_or qs passed.enough.0 d)) (sym same) (passed.enough.2 d) in (
                 passed.enough.0,
                 subst (λ n. passed.enough.0 < n) (sym passed.len) passed.enough.1,
-                λ d. subst (λ j. IsEnough c (length (ops_of p j)) (slice_index_or qs passed.enough.0 d)) (sym level) (saw d),
+                λ d. subst (λ j. IsEnough c (length (ops_of rules.plan j)) (slice_index_or qs passed.enough.0 d)) (sym level) (saw d),
               )
           | inr other ↦
               let less : c < length ls = below c lt other in
               let level : level_of (l ∷ ls) c ≡ level_of ls c = level_old l ls c less in
               let before = strata.enough c less in
-              let stays : (d : Runner) → IsEnough c (length (ops_of p (level_of ls c))) (slice_index_or qs before.0 d) = λ d. let worked = passed.each before.0 d before.1 in enough_stays c (ops_of p (level_of ls c)) worked.calls (slice_index_or rs before.0 d) (slice_index_or qs before.0 d) worked.made (before.2 d) in (
+              let stays : (d : Runner) → IsEnough c (length (ops_of rules.plan (level_of ls c))) (slice_index_or qs before.0 d) = λ d. let worked = passed.each before.0 d before.1 in enough_stays c (ops_of rules.plan (level_of ls c)) worked.calls (slice_index_or rs before.0 d) (slice_index_or qs before.0 d) worked.made (before.2 d) in (
                 before.0,
                 subst (λ n. before.0 < n) (sym passed.len) before.1,
-                λ d. subst (λ j. IsEnough c (length (ops_of p j)) (slice_index_or qs before.0 d)) (sym level) (stays d),
+                λ d. subst (λ j. IsEnough c (length (ops_of rules.plan j)) (slice_index_or qs before.0 d)) (sym level) (stays d),
               )
         ];
   }
@@ -186,8 +185,8 @@ level_is p l lt level at ops same = same ∙ ap (λ (x : Contents ℕ). x.items)
 
 -- ---- who took no part, and the first runner alone
 
-pub worked_none : (p : Plan) (cap : ℕ) (abort : Abort) (c : ℕ) (ops : List ℕ) (a : Runner) → Worked p cap abort c ops a a
-worked_none p cap abort c ops a = record {
+pub worked_none : (rules : RunRules) (c : ℕ) (ops : List ℕ) (a : Runner) → Worked rules c ops a a
+worked_none rules c ops a = record {
   calls = [];
   made = refl;
   only = λ k n found. absurd (omega (arith, found.1));

@@ -2,8 +2,6 @@
 use Rattle.std.proofs.Common.{◌≡◌, ℕ, zero, suc, ◌+◌, ◌<◌, ◌≤◌, Bool, true, false, List, [], ◌∷◌, length, get_or, refl, ap, inl, inr, arith}
 use Rattle.std.specs.Prelude.{sum_by}
 use Rattle.std.proofs.lemmas.List.Sums.{sum_by-cons}
-use Rattle.morph_base.specs.declared.plan.Plan.{Plan}
-use Rattle.morph_base.specs.declared.strategy.Abort.{Abort}
 use Rattle.morph_base.specs.declared.strategy.Abort.TheVariants.{Eager}
 use Rattle.interleaving_core.specs.Counts.{rolled}
 use Rattle.op_words.specs.Hands.{up_to}
@@ -12,6 +10,7 @@ use Rattle.op_eval.specs.declared.runner.Runner.{Runner}
 use Rattle.op_eval.specs.Running.{hand_view}
 use Rattle.strata_explorer.specs.Levels.{rolled_by, FollowsPass}
 use Rattle.strata_explorer.specs.Passes.{AreLike}
+use Rattle.op_eval.specs.Exploring.{RunRules}
 
 abbrev pub many_rolled : Runner → ℕ
 many_rolled r = rolled (hand_view r).events
@@ -36,10 +35,10 @@ like_rolled before after like = sum_same before after like.len each
     each (suc k) d lt = ap many_rolled (like.others (suc k) d (omega arith))
 
 -- the level that comes next is the one above, or operations were rolled back in the pass over this one
-pub follows_from : (p : Plan) (cap : ℕ) (abort : Abort) (level next : ℕ) (before rs qs after : List Runner) → AreLike before rs → AreLike qs after → (risen : Bool) (counted : ℕ) → counted ≡ up_to (rolled_by rs) → (risen ≡ true → abort ≡ Eager)
-    → (risen ≡ true → counted < up_to (rolled_by qs)) → next ≤ level + 1 → (risen ≡ false → next ≡ level + 1) → FollowsPass p cap abort next (level ∷ []) before after
-follows_from p cap abort level next before rs qs after first last false counted is eager more most above = inl (above refl)
-follows_from p cap abort level next before rs qs after first last true counted is eager more most above =
+pub follows_from : (rules : RunRules) (level next : ℕ) (before rs qs after : List Runner) → AreLike before rs → AreLike qs after → (risen : Bool) (counted : ℕ) → counted ≡ up_to (rolled_by rs) → (risen ≡ true → rules.abort ≡ Eager)
+    → (risen ≡ true → counted < up_to (rolled_by qs)) → next ≤ level + 1 → (risen ≡ false → next ≡ level + 1) → FollowsPass rules next (level ∷ []) before after
+follows_from rules level next before rs qs after first last false counted is eager more most above = inl (above refl)
+follows_from rules level next before rs qs after first last true counted is eager more most above =
     let a : rolled_by rs ≡ rolled_by before = like_rolled before rs first in
     let b : rolled_by after ≡ rolled_by qs = like_rolled qs after last in
     let c : counted < up_to (rolled_by qs) = more refl in

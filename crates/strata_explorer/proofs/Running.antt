@@ -2,7 +2,6 @@
 use Rattle.std.proofs.Common.{◌≡◌, ◌≢◌, ◌⊎◌, ℕ, ◌≤◌, List, [], ◌∷◌, sym, ap, ◌∙◌, subst}
 use Rattle.std.specs.Prelude.{Contains}
 use Rattle.morph_base.specs.declared.plan.Plan.{Plan}
-use Rattle.morph_base.specs.declared.strategy.Abort.{Abort}
 use Rattle.morph_base.specs.Plans.{event_count}
 use Rattle.op_words.specs.declared.trail.Place.{Place}
 use Rattle.op_words.specs.declared.trail.View.{View}
@@ -14,7 +13,7 @@ use Rattle.op_words.specs.Counting.{place, times}
 use Rattle.op_eval.specs.Running.{hand_view}
 use Rattle.op_eval.specs.Turns.{TakesNumber, TakingCall, Took, Tried}
 use Rattle.strata_explorer.specs.Calls.{MakesPassCalls}
-use Rattle.op_eval.specs.Exploring.{stopped, loads, IsExploring}
+use Rattle.op_eval.specs.Exploring.{stopped, loads, IsExploring, RunRules}
 use Rattle.op_eval.proofs.Answering.{tries_running}
 use Rattle.op_eval.proofs.Turns.{places_taken, places_hold, times_still}
 use Rattle.abort_eager.proofs.Exploring.{swept_running}
@@ -23,17 +22,17 @@ use Rattle.abort_eager.specs.Sweeps.{Attempts}
 
 -- ---- places
 
-calls_still : (p : Plan) (cap : ℕ) (abort : Abort) (o : ℕ) (a b : Runner) → (r : Evaluation) × Attempts p cap abort o a b r → (hand_view b).places ≡ (hand_view a).places
-calls_still p cap abort o a b tried = (attempted p cap abort o a b tried).goes.adds.places
+calls_still : (rules : RunRules) (o : ℕ) (a b : Runner) → (r : Evaluation) × Attempts rules o a b r → (hand_view b).places ≡ (hand_view a).places
+calls_still rules o a b tried = (attempted rules o a b tried).goes.adds.places
 
-pub calls_places : (p : Plan) (cap : ℕ) (abort : Abort) (cs : List TakingCall) (a b : Runner) → MakesPassCalls p cap abort cs a b → (c n : ℕ) → Contains (hand_view b).places (place c n) → Contains (hand_view a).places (place c n) ⊎ Contains cs (Took c n)
-calls_places p cap abort = places_taken _ (calls_still p cap abort)
+pub calls_places : (rules : RunRules) (cs : List TakingCall) (a b : Runner) → MakesPassCalls rules cs a b → (c n : ℕ) → Contains (hand_view b).places (place c n) → Contains (hand_view a).places (place c n) ⊎ Contains cs (Took c n)
+calls_places rules = places_taken _ (calls_still rules)
 
-pub calls_hold : (p : Plan) (cap : ℕ) (abort : Abort) (cs : List TakingCall) (a b : Runner) → MakesPassCalls p cap abort cs a b → (x : Place) → Contains (hand_view a).places x → Contains (hand_view b).places x
-calls_hold p cap abort = places_hold _ (calls_still p cap abort)
+pub calls_hold : (rules : RunRules) (cs : List TakingCall) (a b : Runner) → MakesPassCalls rules cs a b → (x : Place) → Contains (hand_view a).places x → Contains (hand_view b).places x
+calls_hold rules = places_hold _ (calls_still rules)
 
-pub calls_times : (p : Plan) (cap : ℕ) (abort : Abort) (c l : ℕ) → c ≢ l → (cs : List TakingCall) (a b : Runner) → ((k n : ℕ) → Contains cs (Took k n) → k ≡ l) → MakesPassCalls p cap abort cs a b → times c (hand_view b).places ≡ times c (hand_view a).places
-calls_times p cap abort = times_still _ (calls_still p cap abort)
+pub calls_times : (rules : RunRules) (c l : ℕ) → c ≢ l → (cs : List TakingCall) (a b : Runner) → ((k n : ℕ) → Contains cs (Took k n) → k ≡ l) → MakesPassCalls rules cs a b → times c (hand_view b).places ≡ times c (hand_view a).places
+calls_times rules = times_still _ (calls_still rules)
 
 -- ---- answers
 
@@ -45,9 +44,9 @@ takes_running p c n a b running t = record {
   room = subst (λ l. event_count p ≤ l.room) (sym t.kept) running.room;
 }
 
-pub calls_running : (p : Plan) (cap : ℕ) (abort : Abort) (cs : List TakingCall) (a b : Runner) → IsExploring p a → MakesPassCalls p cap abort cs a b → IsExploring p b
-calls_running p cap abort [] a b running calls = subst (IsExploring p) (sym calls) running
-calls_running p cap abort (Took c n ∷ cs) a b running calls = takes_running p c n calls.0 b (calls_running p cap abort cs a calls.0 running calls.1) calls.2
-calls_running p cap abort (Tried o ∷ cs) a b running calls =
-    let does = attempted p cap abort o calls.0 b calls.2 in
-    swept_running p does.middle b (tries_running p cap o calls.0 does.middle (calls_running p cap abort cs a calls.0 running calls.1) does.answer does.tries) does.over
+pub calls_running : (rules : RunRules) (cs : List TakingCall) (a b : Runner) → IsExploring rules.plan a → MakesPassCalls rules cs a b → IsExploring rules.plan b
+calls_running rules [] a b running calls = subst (IsExploring rules.plan) (sym calls) running
+calls_running rules (Took c n ∷ cs) a b running calls = takes_running rules.plan c n calls.0 b (calls_running rules cs a calls.0 running calls.1) calls.2
+calls_running rules (Tried o ∷ cs) a b running calls =
+    let does = attempted rules o calls.0 b calls.2 in
+    swept_running rules.plan does.middle b (tries_running rules.plan rules.cap o calls.0 does.middle (calls_running rules cs a calls.0 running calls.1) does.answer does.tries) does.over

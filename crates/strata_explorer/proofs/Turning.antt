@@ -4,14 +4,12 @@ use Rattle.std.specs.Prelude.{Contains, All, count_by, slice_index_or, nat_lt}
 use Rattle.std.proofs.lemmas.Bool.{false≢true, eq-eqb}
 use Rattle.std.proofs.lemmas.List.Elements.{Contains-append_left, Contains-append_right, Contains-append_cases}
 use Rattle.std.proofs.lemmas.List.Sums.{sum_by-append}
-use Rattle.morph_base.specs.declared.plan.Plan.{Plan}
-use Rattle.morph_base.specs.declared.strategy.Abort.{Abort}
 use Rattle.op_words.specs.declared.trail.Place.{Place}
 use Rattle.op_words.specs.declared.trail.View.{View}
 use Rattle.op_eval.specs.declared.answers.Evaluation.{Evaluation}
 use Rattle.op_eval.specs.declared.runner.Runner.{Runner}
 use Rattle.op_words.specs.Counting.{times, place}
-use Rattle.op_eval.specs.Exploring.{Unused}
+use Rattle.op_eval.specs.Exploring.{Unused, RunRules}
 use Rattle.op_eval.specs.Running.{hand_view}
 use Rattle.op_eval.proofs.Elements.{contains_first, contains_later, contains_cases}
 use Rattle.op_eval.proofs.Turns.{in_turn_append, times_one}
@@ -27,14 +25,14 @@ use Rattle.abort_eager.proofs.UnitWalks.{by_walk}
 -- ---- walks
 
 -- the runner tried operations, o among them, and did nothing else
-pub record WalkedWithCalls (p : Plan) (cap : ℕ) (abort : Abort) (o : ℕ) (a b : Runner) : Type 0 where
+pub record WalkedWithCalls (rules : RunRules) (o : ℕ) (a b : Runner) : Type 0 where
   pub calls : List TakingCall
-  pub made : MakesPassCalls p cap abort calls a b
+  pub made : MakesPassCalls rules calls a b
   pub tried : Contains calls (Tried o)
   pub only : All (λ c. is_tried c ≡ true) calls
 
-walked_first : (p : Plan) (cap : ℕ) (abort : Abort) (o : ℕ) {a b : Runner} {r : Evaluation} → Attempts p cap abort o a b r → WalkedWithCalls p cap abort o a b
-walked_first p cap abort o {a} {b} {r} tries = record {
+walked_first : (rules : RunRules) (o : ℕ) {a b : Runner} {r : Evaluation} → Attempts rules o a b r → WalkedWithCalls rules o a b
+walked_first rules o {a} {b} {r} tries = record {
   calls = Tried o ∷ [];
   made = (a, refl, (r, tries));
   tried = contains_first (Tried o) [];
@@ -45,8 +43,8 @@ walked_first p cap abort o {a} {b} {r} tries = record {
     one zero d lt = refl
     one (suc k) d lt = absurd (omega arith)
 
-walked_more : (p : Plan) (cap : ℕ) (abort : Abort) (o q : ℕ) {a m b : Runner} {r : Evaluation} → WalkedWithCalls p cap abort o a m → Attempts p cap abort q m b r → WalkedWithCalls p cap abort o a b
-walked_more p cap abort o q {a} {m} {b} {r} walked tries = record {
+walked_more : (rules : RunRules) (o q : ℕ) {a m b : Runner} {r : Evaluation} → WalkedWithCalls rules o a m → Attempts rules q m b r → WalkedWithCalls rules o a b
+walked_more rules o q {a} {m} {b} {r} walked tries = record {
   calls = Tried q ∷ walked.calls;
   made = (m, walked.made, (r, tries));
   tried = contains_later (Tried q) walked.calls (Tried o) walked.tried;
@@ -60,9 +58,9 @@ walked_more p cap abort o q {a} {m} {b} {r} walked tries = record {
         less : (k : ℕ) → suc k < suc (length walked.calls) → k < length walked.calls
         less k lt = omega arith
 
-pub walked_calls : (p : Plan) (cap : ℕ) (abort : Abort) (units : List (List ℕ)) (o : ℕ) (a b : Runner) → WalksUnit (Attempts p cap abort) units o a b → WalkedWithCalls p cap abort o a b
-walked_calls p cap abort units o a b =
-    by_walk (Attempts p cap abort) units o a b (λ m. WalkedWithCalls p cap abort o a m) (λ m r tries. walked_first p cap abort o tries) (λ q m n r walked tries. walked_more p cap abort o q walked tries)
+pub walked_calls : (rules : RunRules) (o : ℕ) (a b : Runner) → WalksUnit (Attempts rules) rules.units o a b → WalkedWithCalls rules o a b
+walked_calls rules o a b =
+    by_walk (Attempts rules) rules.units o a b (λ m. WalkedWithCalls rules o a m) (λ m r tries. walked_first rules o tries) (λ q m n r walked tries. walked_more rules o q walked tries)
 
 -- ---- only evaluations
 
@@ -76,12 +74,12 @@ no_take cs all c n found = false≢true (ap is_tried (sym found.2) ∙ all found
 all_later : (x : TakingCall) (xs : List TakingCall) → All (λ c. is_tried c ≡ true) (x ∷ xs) → All (λ c. is_tried c ≡ true) xs
 all_later x xs all k d lt = all (suc k) d (suc-le-suc lt)
 
-pub tried_places : (p : Plan) (cap : ℕ) (abort : Abort) (cs : List TakingCall) (a b : Runner) → MakesPassCalls p cap abort cs a b → All (λ c. is_tried c ≡ true) cs → (hand_view b).places ≡ (hand_view a).places
-tried_places p cap abort [] a b calls all = ap (λ r. (hand_view r).places) calls
-tried_places p cap abort (Took c n ∷ cs) a b calls all = absurd (no_take (Took c n ∷ cs) all c n (contains_first (Took c n) cs))
-tried_places p cap abort (Tried o ∷ cs) a b calls all =
-    let does = attempted p cap abort o calls.0 b calls.2 in
-    does.goes.adds.places ∙ tried_places p cap abort cs a calls.0 calls.1 (all_later (Tried o) cs all)
+pub tried_places : (rules : RunRules) (cs : List TakingCall) (a b : Runner) → MakesPassCalls rules cs a b → All (λ c. is_tried c ≡ true) cs → (hand_view b).places ≡ (hand_view a).places
+tried_places rules [] a b calls all = ap (λ r. (hand_view r).places) calls
+tried_places rules (Took c n ∷ cs) a b calls all = absurd (no_take (Took c n ∷ cs) all c n (contains_first (Took c n) cs))
+tried_places rules (Tried o ∷ cs) a b calls all =
+    let does = attempted rules o calls.0 b calls.2 in
+    does.goes.adds.places ∙ tried_places rules cs a calls.0 calls.1 (all_later (Tried o) cs all)
 
 tried_names : (len : ℕ) (cs : List TakingCall) → All (λ c. is_tried c ≡ true) cs → count_by (names len) cs ≡ 0
 tried_names len [] all = refl
@@ -115,8 +113,8 @@ times_some c n (x ∷ xs) found =
 
 -- ---- turns
 
-module _ (p : Plan) (cap : ℕ) (abort : Abort) (c : ℕ) (ops : List ℕ) (a : Runner) where
-  pub working_none : Unused c a → IsWorking p cap abort c ops 0 a a
+module _ (rules : RunRules) (c : ℕ) (ops : List ℕ) (a : Runner) where
+  pub working_none : Unused c a → IsWorking rules c ops 0 a a
   working_none unused = record {
     worked = record {
       calls = [];
@@ -129,7 +127,7 @@ module _ (p : Plan) (cap : ℕ) (abort : Abort) (c : ℕ) (ops : List ℕ) (a : 
     last = inl refl;
   }
 
-  module _ (turn n : ℕ) (m b : Runner) (working : IsWorking p cap abort c ops turn a m) (takes : TakesNumber c n m b) where
+  module _ (turn n : ℕ) (m b : Runner) (working : IsWorking rules c ops turn a m) (takes : TakesNumber c n m b) where
     pub above : turn ≤ n
     above =
         elim working.last [
@@ -151,7 +149,7 @@ module _ (p : Plan) (cap : ℕ) (abort : Abort) (c : ℕ) (ops : List ℕ) (a : 
     number_of k q e = (cc, cc)
 
     -- the place names no operation
-    pub ended : length ops ≤ n → Worked p cap abort c ops a b × IsEnough c (length ops) b
+    pub ended : length ops ≤ n → Worked rules c ops a b × IsEnough c (length ops) b
     ended past = (
       record {
         calls = Took c n ∷ working.worked.calls;
@@ -180,11 +178,11 @@ module _ (p : Plan) (cap : ℕ) (abort : Abort) (c : ℕ) (ops : List ℕ) (a : 
         not_lt x y le = grind arith
 
     -- the unit of its operation was walked
-    pub went_on : (e : Runner) → n < length ops → WalkedWithCalls p cap abort (slice_index_or ops n 0) b e → IsWorking p cap abort c ops (turn + 1) a e
+    pub went_on : (e : Runner) → n < length ops → WalkedWithCalls rules (slice_index_or ops n 0) b e → IsWorking rules c ops (turn + 1) a e
     went_on e lt walked = record {
       worked = record {
         calls = walked.calls ++ (Took c n ∷ working.worked.calls);
-        made = in_turn_append (MakesPassCall p cap abort) walked.calls (Took c n ∷ working.worked.calls) a b e (m, working.worked.made, takes) walked.made;
+        made = in_turn_append (MakesPassCall rules) walked.calls (Took c n ∷ working.worked.calls) a b e (m, working.worked.made, takes) walked.made;
         only = λ k q found.
             elim (Contains-append_cases walked.calls (Took c n ∷ working.worked.calls) (Took k q) found) [
               | inl none ↦ absurd (no_take walked.calls walked.only k q none)
@@ -219,8 +217,8 @@ module _ (p : Plan) (cap : ℕ) (abort : Abort) (c : ℕ) (ops : List ℕ) (a : 
             let zero_tried : count_by is_tried (Took c n ∷ working.worked.calls) ≡ 0 + count_by is_tried working.worked.calls = count_first is_tried (Took c n) working.worked.calls in
             omega arith;
       };
-      turns = ap (times c) (tried_places p cap abort walked.calls b e walked.made walked.only) ∙ turned;
-      last = inr (n, subst (λ xs. Contains xs (place c n)) (sym (tried_places p cap abort walked.calls b e walked.made walked.only)) got, suc-le-suc' above);
+      turns = ap (times c) (tried_places rules walked.calls b e walked.made walked.only) ∙ turned;
+      last = inr (n, subst (λ xs. Contains xs (place c n)) (sym (tried_places rules walked.calls b e walked.made walked.only)) got, suc-le-suc' above);
     }
       where
         suc-le-suc' : turn ≤ n → turn + 1 ≤ n + 1
@@ -231,18 +229,18 @@ module _ (p : Plan) (cap : ℕ) (abort : Abort) (c : ℕ) (ops : List ℕ) (a : 
         cond_most false k = omega arith
 
   -- all turns were made
-  pub all_turns : (b : Runner) → IsWorking p cap abort c ops (length ops) a b → IsEnough c (length ops) b
+  pub all_turns : (b : Runner) → IsWorking rules c ops (length ops) a b → IsEnough c (length ops) b
   all_turns b working = working.last
 
 -- ---- walks behind numbers
 
-module _ (p : Plan) (cap : ℕ) (abort : Abort) (units : List (List ℕ)) (c : ℕ) (ops : List ℕ) where
-  pub all_none : (a : Runner) → WalksAll p cap abort units c ops a a
+module _ (rules : RunRules) (c : ℕ) (ops : List ℕ) where
+  pub all_none : (a : Runner) → WalksAll rules c ops a a
   all_none a = record { numbers = []; walks = refl }
 
   -- the number names no operation
-  pub all_ended : (n : ℕ) (a m b : Runner) → WalksAll p cap abort units c ops a m → TakesNumber c n m b → length ops ≤ n → WalksAll p cap abort units c ops a b
+  pub all_ended : (n : ℕ) (a m b : Runner) → WalksAll rules c ops a m → TakesNumber c n m b → length ops ≤ n → WalksAll rules c ops a b
   all_ended n a m b all takes past = record { numbers = n ∷ all.numbers; walks = (m, b, all.walks, takes, (λ lt. absurd (omega arith)), (λ _. refl)) }
 
-  pub all_more : (n : ℕ) (a m t b : Runner) → WalksAll p cap abort units c ops a m → TakesNumber c n m t → n < length ops → WalksUnit (Attempts p cap abort) units (slice_index_or ops n 0) t b → WalksAll p cap abort units c ops a b
+  pub all_more : (n : ℕ) (a m t b : Runner) → WalksAll rules c ops a m → TakesNumber c n m t → n < length ops → WalksUnit (Attempts rules) rules.units (slice_index_or ops n 0) t b → WalksAll rules c ops a b
   all_more n a m t b all takes lt walks = record { numbers = n ∷ all.numbers; walks = (m, t, all.walks, takes, (λ _. walks), (λ past. absurd (omega arith))) }

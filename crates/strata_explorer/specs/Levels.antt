@@ -1,7 +1,6 @@
 -- What passes over the levels, one after the other, make of runners
 use Rattle.std.specs.Prelude.{◌≡◌, ◌≢◌, ℕ, ◌+◌, ◌*◌, ◌≤◌, ◌<◌, ◌==◌, ◌^◌, ◌⊎◌, if◌then◌else◌, List, [], ◌∷◌, All, Contains, map, count_by, sum_by, nat_lt, length, slice_index_or}
 use Rattle.morph_base.specs.declared.plan.Plan.{Plan}
-use Rattle.morph_base.specs.declared.strategy.Abort.{Abort}
 use Rattle.morph_base.specs.declared.strategy.Abort.TheVariants.{Lazy, Eager}
 use Rattle.morph_base.specs.Plans.{op_count}
 use Rattle.interleaving_core.specs.Counts.{rolled}
@@ -13,7 +12,7 @@ use Rattle.op_eval.specs.declared.explored.RunEnd.{RunEnd}
 use Rattle.op_eval.specs.declared.explored.RunEnd.TheVariants.{Whole, Spent}
 use Rattle.op_eval.specs.declared.runner.Runner.{Runner}
 use Rattle.op_eval.specs.Alone.{Ran, NotBegun}
-use Rattle.op_eval.specs.Exploring.{IsExploring, Unused, total}
+use Rattle.op_eval.specs.Exploring.{IsExploring, Unused, total, RunRules}
 use Rattle.op_eval.specs.Running.{hand_view}
 use Rattle.op_eval.specs.Turns.{IsEnough}
 use Rattle.strata_explorer.specs.Passes.{FitsPass, IsPassed}
@@ -69,41 +68,41 @@ pub record AreStrata (p : Plan) (ls : List ℕ) (rs : List Runner) : Type 0 wher
       → (k : ℕ) × (k < length rs)
       × ((d : Runner) → IsEnough c (length (ops_of p (level_of ls c))) (slice_index_or rs k d))
 
-module _ (p : Plan) (cap : ℕ) (abort : Abort) where
+module _ (rules : RunRules) where
   -- A pass over level l may come after passes over these levels, the last one first. The first pass is over the lowest
   -- level, and each other one over the level above the one before. Under eager abort it may also be over that level or
   -- a lower one, if an operation was rolled back in the pass before
   abbrev pub FollowsPass : (l : ℕ) → List ℕ → (before now : List Runner) → Type 0
   FollowsPass l [] before now = l ≡ 0
-  FollowsPass l (k ∷ ks) before now = (l ≡ k + 1) ⊎ ((abort ≡ Eager) × (l ≤ k + 1) × (rolled_by before < rolled_by now))
+  FollowsPass l (k ∷ ks) before now =
+      (l ≡ k + 1) ⊎ ((rules.abort ≡ Eager) × (l ≤ k + 1) × (rolled_by before < rolled_by now))
 
-  module _ (units : List (List ℕ)) where
-    -- Passes over these levels were made, the last one first. The last one found the runners as `before`
-    unfoldable pub Passes : List ℕ → (start before now : List Runner) → Type 0
-    Passes [] start before now = now ≡ start
-    Passes (l ∷ ls) start before now =
-        (earlier : List Runner) × Passes ls start earlier before × FollowsPass l ls earlier before
-        × IsPassed p cap abort units (length ls) (ops_of p l) before now
+  -- Passes over these levels were made, the last one first. The last one found the runners as `before`
+  unfoldable pub Passes : List ℕ → (start before now : List Runner) → Type 0
+  Passes [] start before now = now ≡ start
+  Passes (l ∷ ls) start before now =
+      (earlier : List Runner) × Passes ls start earlier before × FollowsPass l ls earlier before
+      × IsPassed rules (length ls) (ops_of rules.plan l) before now
 
-    -- Passes were made over levels, as many as there are counters used. If the end is Whole, no level comes next, and
-    -- each level was passed. If it is Spent, as many passes were made as there are counters for them, and a level comes
-    -- next. Under lazy abort each level was passed once, from the lowest on
-    pub record HasPassed (start now : List Runner) (end : RunEnd) (counters : ℕ) : Type 0 where
-      pub levels : List ℕ
-      pub before : List Runner
-      pub passes : Passes levels start before now
-      pub strata : AreStrata p levels now
-      pub counted : counters ≡ length levels
-      pub few : length levels ≤ counters_for p
-      pub inside : All (λ l. l < length p.op_levels.items) levels
-      pub last : end ≡ Whole → FollowsPass (length p.op_levels.items) levels before now
-      pub whole : end ≡ Whole → (l : ℕ) → l < length p.op_levels.items → Contains levels l
-      pub spent : end ≢ Whole
-          → (end ≡ Spent) × (length levels ≡ counters_for p) × (l : ℕ) × (l < length p.op_levels.items)
-          × FollowsPass l levels before now
-      pub lazy : abort ≡ Lazy
-          → (end ≡ Whole) × (length levels ≡ length p.op_levels.items)
-          × ((k : ℕ) → k < length levels → level_of levels k ≡ k)
+  -- Passes were made over levels, as many as there are counters used. If the end is Whole, no level comes next, and
+  -- each level was passed. If it is Spent, as many passes were made as there are counters for them, and a level comes
+  -- next. Under lazy abort each level was passed once, from the lowest on
+  pub record HasPassed (start now : List Runner) (end : RunEnd) (counters : ℕ) : Type 0 where
+    pub levels : List ℕ
+    pub before : List Runner
+    pub passes : Passes levels start before now
+    pub strata : AreStrata rules.plan levels now
+    pub counted : counters ≡ length levels
+    pub few : length levels ≤ counters_for rules.plan
+    pub inside : All (λ l. l < length rules.plan.op_levels.items) levels
+    pub last : end ≡ Whole → FollowsPass (length rules.plan.op_levels.items) levels before now
+    pub whole : end ≡ Whole → (l : ℕ) → l < length rules.plan.op_levels.items → Contains levels l
+    pub spent : end ≢ Whole
+        → (end ≡ Spent) × (length levels ≡ counters_for rules.plan) × (l : ℕ)
+        × (l < length rules.plan.op_levels.items) × FollowsPass l levels before now
+    pub lazy : rules.abort ≡ Lazy
+        → (end ≡ Whole) × (length levels ≡ length rules.plan.op_levels.items)
+        × ((k : ℕ) → k < length levels → level_of levels k ≡ k)
 
 -- The lone root has made the passes over the levels below this one: their operations have run at attempt 1, and each
 -- other operation has run so or was not begun

@@ -8,11 +8,11 @@ ghost use Rattle.op_words.specs.declared.board.Board.{Board as B};
 ghost use Rattle.op_words.specs.Hands.{plan_of, cap_of, counters_of, up_to, IsHandOf};
 ghost use Rattle.op_eval.specs.Alone.{IsNewRoot, HasRunAll};
 ghost use Rattle.op_eval.specs.Further.{HaveGoneOn};
-ghost use Rattle.op_eval.specs.Exploring.{MayExplore, IsExploredBoard, Unused, parts_of};
+ghost use Rattle.op_eval.specs.Exploring.{MayExplore, IsExploredBoard, Unused, parts_of, rules_on};
 ghost use Rattle.op_eval.specs.Gathering.{runners_of};
 ghost use Rattle.op_eval.specs.Running.{hand_view, IsFreeRunner};
 ghost use Rattle.strata_explorer.specs.Levels.{ops_of, rolled_by, AreStrata, FollowsPass, HasPassed, IsAlone, counters_for};
-ghost use Rattle.strata_explorer.specs.Passes.{AreLike, IsPassed};
+ghost use Rattle.strata_explorer.specs.Passes.{course_rules, AreLike, IsPassed};
 
 use crate::course::Course;
 use crate::pass::{Pass, pass_by};
@@ -120,11 +120,10 @@ fn pass_once<R: Threads + Sync, G: Gate>(
     ensures plan { plan_of board.new ≡ plan_of board.old }
     ensures cap { cap_of board.new ≡ cap_of board.old }
     ensures counters { counters_of board.new ≡ counters_of board.old }
-    ensures passed { IsPassed course.now.plan.now (cap_of board.old) course.now.abort
-        course.now.units.now.units counter (ops_of course.now.plan.now level)
+    ensures passed { IsPassed (course_rules board.old course.now) counter
+        (ops_of course.now.plan.now level) runners.old runners.new }
+    ensures next { FollowsPass (course_rules board.old course.now) result (level ∷ [])
         runners.old runners.new }
-    ensures next { FollowsPass course.now.plan.now (cap_of board.old) course.now.abort result
-        (level ∷ []) runners.old runners.new }
 {
     empty_level(board, runners, course.abort);
     let rolled = count_rolled(runners);
@@ -165,8 +164,8 @@ fn pass_all<R: Threads + Sync, G: Gate>(
     ensures cap { cap_of board.new ≡ cap_of board.old }
     ensures counters { counters_of board.new ≡ counters_of board.old }
     ensures hands { HaveGoneOn runners.old runners.new }
-    ensures passed { HasPassed course.now.plan.now (cap_of board.old) course.now.abort
-        course.now.units.now.units runners.old runners.new result.0 result.1 }
+    ensures passed { HasPassed (course_rules board.old course.now) runners.old runners.new
+        result.0 result.1 }
     ensures alone { course.now.abort ≡ Lazy → 1 ≤ cap_of board.old
         → IsAlone course.now.plan.now (length course.now.plan.now.op_levels.items)
         runners.old runners.new }
@@ -219,7 +218,7 @@ pub fn explore<R: Threads + Sync, G: Gate>(
     ensures cap { cap_of (parts_of result).0 ≡ cap_of board }
     ensures counters { counters_of (parts_of result).0 ≡ counters_of board }
     ensures hands { HaveGoneOn (runners_of runners) (runners_of (parts_of result).1) }
-    ensures passed { HasPassed plan.now (cap_of board) abort units.now.units (runners_of runners)
+    ensures passed { HasPassed (rules_on board plan.now units.now.units abort) (runners_of runners)
         (runners_of (parts_of result).1) (parts_of result).2 (parts_of result).3 }
     ensures alone { abort ≡ Lazy → 1 ≤ cap_of board
         → IsAlone plan.now (length plan.now.op_levels.items) (runners_of runners)

@@ -3,7 +3,8 @@
 //! [`explore`] makes passes over the levels of a plan, from the lowest on. The places of a pass are the operations of
 //! its level, in the plan's order. Workers take them from the pass's own counter, so each goes to one of them. At a
 //! place a worker walks the unit of that operation, from it on: it evaluates one operation after the other, until an
-//! answer is not `Evaluated`. A level with [few](worker_gate::run_few_or_all) operations is left to the first worker alone.
+//! answer is not `Evaluated`. A level with [few](worker_gate::run_few_or_all) operations is left to the first worker
+//! alone.
 //!
 //! Under lazy abort nothing is rolled back on the way: failures are left to settling, and each level is passed once.
 //! Under eager abort a worker runs the cascade of an operation after each evaluation that failed, or that was a second

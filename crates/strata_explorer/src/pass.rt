@@ -1,7 +1,7 @@
 //! A pass over one level, by all workers or by the first alone.
 ghost use Rattle.std.specs.Prelude.{◌<◌, All, length, slice_index_or};
-ghost use Rattle.abort_eager.specs.Grounds.{IsGround};
-ghost use Rattle.op_words.specs.Hands.{cap_of, counters_of};
+ghost use Rattle.abort_eager.specs.Grounds.{IsGround, ground_rules};
+ghost use Rattle.op_words.specs.Hands.{counters_of};
 ghost use Rattle.op_eval.specs.declared.runner.Runner.{Runner as Worker};
 ghost use Rattle.op_eval.specs.Exploring.{Unused};
 ghost use Rattle.op_eval.specs.Turns.{IsEnough};
@@ -25,8 +25,8 @@ pub(crate) struct Pass<'a, G> {
 
 impl<G: Gate> Job<Runner> for Pass<'_, G> {
     ghost use Rattle.std.specs.Prelude.{◌<◌, length};
-    ghost use Rattle.abort_eager.specs.Grounds.{IsGround};
-    ghost use Rattle.op_words.specs.Hands.{cap_of, counters_of};
+    ghost use Rattle.abort_eager.specs.Grounds.{IsGround, ground_rules};
+    ghost use Rattle.op_words.specs.Hands.{counters_of};
     ghost use Rattle.op_eval.specs.Exploring.{Unused};
     ghost use Rattle.op_eval.specs.Turns.{IsEnough};
     ghost use Rattle.strata_explorer.specs.Passes.{FitsPass, Worked};
@@ -39,11 +39,9 @@ impl<G: Gate> Job<Runner> for Pass<'_, G> {
         × IsFreeRunner pass.ground.board.now runner × Unused pass.counter runner };
 
     ghost changes = { λ pass before after. IsFreeRunner pass.ground.board.now after
-        × Worked pass.ground.plan.now (cap_of pass.ground.board.now) pass.ground.abort pass.counter
-        pass.ops.now before after
+        × Worked (ground_rules pass.ground) pass.counter pass.ops.now before after
         × IsEnough pass.counter (length pass.ops.now) after
-        × WalksAll pass.ground.plan.now (cap_of pass.ground.board.now) pass.ground.abort
-        pass.ground.units.now.units pass.counter pass.ops.now before after };
+        × WalksAll (ground_rules pass.ground) pass.counter pass.ops.now before after };
 
     fn run(&self, worker: &mut Runner) {
         let told = Told {
@@ -67,9 +65,8 @@ pub(crate) fn pass_by<R: Threads + Sync, G: Gate>(
     requires seated { All (IsFreeRunner pass.now.ground.board.now) runners.old }
     requires unused { All (Unused pass.now.counter) runners.old }
     ensures seated { All (IsFreeRunner pass.now.ground.board.now) runners.new }
-    ensures does { IsPassed pass.now.ground.plan.now (cap_of pass.now.ground.board.now)
-        pass.now.ground.abort pass.now.ground.units.now.units pass.now.counter
-        pass.now.ops.now runners.old runners.new }
+    ensures passed { IsPassed (ground_rules pass.now.ground) pass.now.counter pass.now.ops.now
+        runners.old runners.new }
     ensures first { (d : Worker)
         → IsEnough pass.now.counter (length pass.now.ops.now) (slice_index_or runners.new 0 d) }
 {

@@ -1,7 +1,7 @@
 //! What one worker does in a pass.
 ghost use Rattle.std.specs.Prelude.{◌<◌, length};
-ghost use Rattle.abort_eager.specs.Grounds.{IsGround};
-ghost use Rattle.op_words.specs.Hands.{cap_of, counters_of};
+ghost use Rattle.abort_eager.specs.Grounds.{IsGround, ground_rules};
+ghost use Rattle.op_words.specs.Hands.{counters_of};
 ghost use Rattle.op_eval.specs.Exploring.{Unused};
 ghost use Rattle.op_eval.specs.Turns.{IsEnough};
 ghost use Rattle.strata_explorer.specs.Passes.{FitsPass, Worked};
@@ -27,11 +27,9 @@ pub(crate) fn work<T: Turns>(
     requires seated { IsFreeRunner ground.now.board.now runner.old }
     requires unused { Unused counter runner.old }
     ensures seated { IsFreeRunner ground.now.board.now runner.new }
-    ensures does { Worked ground.now.plan.now (cap_of ground.now.board.now) ground.now.abort counter
-        ops.now runner.old runner.new }
+    ensures calls { Worked (ground_rules ground.now) counter ops.now runner.old runner.new }
     ensures enough { IsEnough counter (length ops.now) runner.new }
-    ensures walks { WalksAll ground.now.plan.now (cap_of ground.now.board.now) ground.now.abort
-        ground.now.units.now.units counter ops.now runner.old runner.new }
+    ensures walks { WalksAll (ground_rules ground.now) counter ops.now runner.old runner.new }
 {
     for turn in 0..ops.len() {
         let number = runner.take(ground.board, counter);

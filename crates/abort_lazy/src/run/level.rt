@@ -1,8 +1,7 @@
 //! Tries the events of one level, each by the runner that takes its number.
-ghost use Rattle.std.specs.Prelude.{◌≡◌, ◌<◌, None, All, length};
-ghost use Rattle.morph_base.specs.Plans.{event_count};
-ghost use Rattle.op_words.specs.Hands.{plan_of, IsHandOf};
-ghost use Rattle.op_eval.specs.Running.{hand_view};
+ghost use Rattle.std.specs.Prelude.{◌<◌, All, length};
+ghost use Rattle.op_words.specs.Hands.{IsHandOf};
+ghost use Rattle.abort_lazy.specs.Transactions.{MaySettleEvent};
 ghost use Rattle.abort_lazy.specs.Sweeps.{HasTriedOne, FitsBoard, CanSweep, HasSwept, AreSwept};
 
 use crate::transaction::{TxnAnswer, settle_txn};
@@ -23,13 +22,10 @@ pub struct Sweep<'a> {
 
 /// Tries to settle an event, and keeps why it was not settled.
 fn try_event(board: &Board, runner: &mut Runner, plan: &Plan, event: u32)
-    requires hand { IsHandOf board.now runner.old.hand }
-    requires plan { plan.now ≡ plan_of board.now }
-    requires in_range { event < event_count plan.now }
-    requires free { (hand_view runner.old).claim ≡ None }
+    requires may { MaySettleEvent board.now runner.old.hand plan.now event }
     requires room { 0 < runner.old.kept.room }
     ensures hand { IsHandOf board.now runner.new.hand }
-    ensures does { HasTriedOne plan.now event runner.old runner.new }
+    ensures tried { HasTriedOne plan.now event runner.old runner.new }
 {
     match settle_txn(board, runner, plan, event) {
         TxnAnswer::Settled { .. } => {}
@@ -53,9 +49,7 @@ fn go_over(sweep: &Sweep<'_>, runner: &mut Runner)
     requires fits { FitsBoard sweep.now.board.now sweep.now.plan.now sweep.now.counter
         sweep.now.events.now }
     requires can { CanSweep sweep.now.board.now sweep.now.counter sweep.now.events.now runner.old }
-    ensures does { HasSwept sweep.now.board.now sweep.now.plan.now sweep.now.counter
-        sweep.now.events.now
-        runner.old runner.new }
+    ensures swept { HasSwept sweep.now runner.old runner.new }
 {
     for _turn in 0..sweep.events.len() {
         let number = runner.take(sweep.board, sweep.counter);
@@ -77,8 +71,7 @@ impl Job<Runner> for Sweep<'_> {
     ghost can_run = { λ job runner. FitsBoard job.board.now job.plan.now job.counter job.events.now
         × CanSweep job.board.now job.counter job.events.now runner };
 
-    ghost changes = { λ job before after. HasSwept job.board.now job.plan.now job.counter
-        job.events.now before after };
+    ghost changes = { λ job before after. HasSwept job before after };
 
     fn run(&self, worker: &mut Runner) {
         go_over(self, worker)
@@ -92,7 +85,7 @@ pub fn sweep_by<T: Threads + Sync>(rt: &T, runners: &mut [Runner], sweep: &Sweep
         sweep.now.events.now }
     requires can { All (CanSweep sweep.now.board.now sweep.now.counter
         sweep.now.events.now) runners.old }
-    ensures does { AreSwept sweep.now.board.now sweep.now.plan.now sweep.now.counter
+    ensures swept { AreSwept sweep.now.board.now sweep.now.plan.now sweep.now.counter
         sweep.now.events.now
         runners.old runners.new }
 {

@@ -1,8 +1,9 @@
 //! Decides an event once its operations are ready.
-ghost use Rattle.std.specs.Prelude.{◌≡◌, ℕ, ◌<◌, None};
-ghost use Rattle.morph_base.specs.Plans.{event_count, InEvent};
+ghost use Rattle.std.specs.Prelude.{ℕ};
+ghost use Rattle.morph_base.specs.Plans.{InEvent};
 ghost use Rattle.op_words.specs.Views.{IsSettledSeen};
-ghost use Rattle.op_words.specs.Hands.{plan_of, view_of, IsHandOf};
+ghost use Rattle.op_words.specs.Hands.{view_of, IsHandOf};
+ghost use Rattle.abort_lazy.specs.Transactions.{MaySettleEvent};
 ghost use Rattle.abort_lazy.specs.Progress.{DecidedDoes};
 
 use super::{TxnAnswer, first_of, stop};
@@ -17,12 +18,9 @@ pub(super) fn decide_now(
     plan: &Plan,
     event: u32,
 ) -> Result<bool, TxnAnswer>
-    requires hand { IsHandOf board.now hand.old }
-    requires plan { plan.now ≡ plan_of board.now }
-    requires in_range { event < event_count plan.now }
-    requires free { (view_of hand.old).claim ≡ None }
+    requires may { MaySettleEvent board.now hand.old plan.now event }
     ensures hand { IsHandOf board.now hand.new }
-    ensures does { DecidedDoes plan.now event (view_of hand.old) (view_of hand.new) result }
+    ensures decided { DecidedDoes plan.now event (view_of hand.old) (view_of hand.new) result }
 {
     match board.decide(hand, plan, event) {
         Decided::Committed => Ok(true),
@@ -42,13 +40,10 @@ pub(super) fn decide_now(
 
 /// Decides an event after an operation of it was seen settled, so that there is a decision.
 fn decide_again(board: &Board, hand: &mut Hand, plan: &Plan, event: u32) -> Result<bool, TxnAnswer>
-    requires hand { IsHandOf board.now hand.old }
-    requires plan { plan.now ≡ plan_of board.now }
-    requires in_range { event < event_count plan.now }
-    requires free { (view_of hand.old).claim ≡ None }
+    requires may { MaySettleEvent board.now hand.old plan.now event }
     requires seen { (o : ℕ) × InEvent plan.now event o × IsSettledSeen (view_of hand.old) o }
     ensures hand { IsHandOf board.now hand.new }
-    ensures does { DecidedDoes plan.now event (view_of hand.old) (view_of hand.new) result }
+    ensures decided { DecidedDoes plan.now event (view_of hand.old) (view_of hand.new) result }
 {
     match board.decide(hand, plan, event) {
         Decided::Committed => Ok(true),

@@ -1,14 +1,14 @@
 //! Makes operations ready for the decision on their event.
 ghost use Rattle.std.specs.Prelude.{◌≡◌, ◌<◌, List, None};
-ghost use Rattle.morph_base.specs.Plans.{event_at, event_count, InEvent};
+ghost use Rattle.morph_base.specs.Plans.{event_at, InEvent};
 ghost use Rattle.interleaving_core.specs.Core.{places};
 ghost use Rattle.op_words.specs.declared.trail.Item.{Item};
 ghost use Rattle.op_words.specs.declared.trail.View.{View};
 ghost use Rattle.op_words.specs.Hands.{MayBegin};
-ghost use Rattle.op_words.specs.Hands.{plan_of, cap_of, view_of, IsHandOf};
+ghost use Rattle.op_words.specs.Hands.{cap_of, view_of, IsHandOf};
 ghost use Rattle.op_eval.specs.Running.{hand_view};
-ghost use Rattle.abort_lazy.specs.Transactions.{IsAnswered};
-ghost use Rattle.abort_lazy.specs.Progress.{IsIdleSoFar, IsOutdatedSoFar, IsMadeSoFar, IsFoundSoFar, ReadyDoes, AllReadyDoes};
+ghost use Rattle.abort_lazy.specs.Transactions.{MaySettleEvent, IsAnswered};
+ghost use Rattle.abort_lazy.specs.Progress.{so_far, IsIdleSoFar, IsOutdatedSoFar, IsMadeSoFar, IsFoundSoFar, ReadyDoes, AllReadyDoes};
 
 use super::{TxnAnswer, end_of, first_of, stop};
 use morph_base::{OpState, OpWord, Plan};
@@ -22,12 +22,9 @@ pub(super) fn prepare_all(
     plan: &Plan,
     event: u32,
 ) -> Option<TxnAnswer>
-    requires hand { IsHandOf board.now runner.old.hand }
-    requires plan { plan.now ≡ plan_of board.now }
-    requires in_range { event < event_count plan.now }
-    requires free { (hand_view runner.old).claim ≡ None }
+    requires may { MaySettleEvent board.now runner.old.hand plan.now event }
     ensures hand { IsHandOf board.now runner.new.hand }
-    ensures does { AllReadyDoes plan.now event (hand_view runner.old)
+    ensures ready { AllReadyDoes plan.now event (hand_view runner.old)
         (hand_view runner.new) result }
     ensures answered { IsAnswered (event_at plan.now event).count runner.old runner.new }
 {
@@ -54,7 +51,7 @@ fn prepare(
     requires inside { InEvent plan.now event op }
     ensures hand { IsHandOf board.now runner.new.hand }
     ensures free { (hand_view runner.new).claim ≡ None }
-    ensures does { ReadyDoes plan.now event op (hand_view runner.old)
+    ensures ready { ReadyDoes plan.now event op (hand_view runner.old)
         (hand_view runner.new) result }
     ensures answered { IsAnswered 1 runner.old runner.new }
 {
@@ -85,8 +82,8 @@ fn mend(
     requires inside { InEvent plan.now event op }
     ensures hand { IsHandOf board.now runner.new.hand }
     ensures free { (hand_view runner.new).claim ≡ None }
-    ensures does { (start : View) (xs : List Item)
-        → IsFoundSoFar plan.now (cap_of board.now) op start (hand_view runner.old) xs word
+    ensures ready { (start : View) (xs : List Item)
+        → IsFoundSoFar plan.now (cap_of board.now) op (so_far start (hand_view runner.old) xs) word
         → ReadyDoes plan.now event op start (hand_view runner.new) result }
     ensures answered { IsAnswered 1 runner.old runner.new }
 {
@@ -116,8 +113,8 @@ fn redo(
     requires inside { InEvent plan.now event op }
     ensures hand { IsHandOf board.now runner.new.hand }
     ensures free { (hand_view runner.new).claim ≡ None }
-    ensures does { (start : View) (xs : List Item)
-        → IsOutdatedSoFar plan.now (cap_of board.now) op j start (hand_view runner.old) xs
+    ensures ready { (start : View) (xs : List Item)
+        → IsOutdatedSoFar plan.now (cap_of board.now) op j (so_far start (hand_view runner.old) xs)
         → ReadyDoes plan.now event op start (hand_view runner.new) result }
     ensures answered { IsAnswered 1 runner.old runner.new }
 {
@@ -143,7 +140,7 @@ fn run(board: &Board, runner: &mut Runner, plan: &Plan, event: u32, op: u32) -> 
     requires inside { InEvent plan.now event op }
     ensures hand { IsHandOf board.now runner.new.hand }
     ensures free { (hand_view runner.new).claim ≡ None }
-    ensures does { (start : View) (xs : List Item) → IsIdleSoFar op start (hand_view runner.old) xs
+    ensures ready { (start : View) (xs : List Item) → IsIdleSoFar op (so_far start (hand_view runner.old) xs)
         → ReadyDoes plan.now event op start (hand_view runner.new) result }
     ensures answered { IsAnswered 1 runner.old runner.new }
 {
@@ -162,8 +159,8 @@ fn judge(board: &Board, hand: &mut Hand, plan: &Plan, event: u32, op: u32) -> Op
     requires inside { InEvent plan.now event op }
     ensures hand { IsHandOf board.now hand.new }
     ensures free { (view_of hand.new).claim ≡ None }
-    ensures does { (start : View) (xs : List Item)
-        → IsMadeSoFar plan.now (cap_of board.now) op start (view_of hand.old) xs
+    ensures ready { (start : View) (xs : List Item)
+        → IsMadeSoFar plan.now (cap_of board.now) op (so_far start (view_of hand.old) xs)
         → ReadyDoes plan.now event op start (view_of hand.new) result }
 {
     match board.verdict(hand, plan, op) {

@@ -1,8 +1,9 @@
 //! Settles the operations of a decided event.
-ghost use Rattle.std.specs.Prelude.{◌≡◌, ◌<◌, Bool, None};
-ghost use Rattle.morph_base.specs.Plans.{event_count, InEvent};
+ghost use Rattle.std.specs.Prelude.{◌≡◌, Bool, None};
+ghost use Rattle.morph_base.specs.Plans.{InEvent};
 ghost use Rattle.op_words.specs.Views.{IsDecisionSeen};
-ghost use Rattle.op_words.specs.Hands.{plan_of, view_of, IsHandOf};
+ghost use Rattle.op_words.specs.Hands.{view_of, IsHandOf};
+ghost use Rattle.abort_lazy.specs.Transactions.{MaySettleEvent};
 ghost use Rattle.abort_lazy.specs.Progress.{OneDoes, RestDoes};
 
 use super::{TxnAnswer, end_of, first_of, stop};
@@ -16,13 +17,10 @@ pub(super) fn settle_rest(
     plan: &Plan,
     event: u32,
 ) -> Option<TxnAnswer>
-    requires hand { IsHandOf board.now hand.old }
-    requires plan { plan.now ≡ plan_of board.now }
-    requires in_range { event < event_count plan.now }
-    requires free { (view_of hand.old).claim ≡ None }
+    requires may { MaySettleEvent board.now hand.old plan.now event }
     requires decided { (committed : Bool) × IsDecisionSeen (view_of hand.old) event committed }
     ensures hand { IsHandOf board.now hand.new }
-    ensures does { RestDoes plan.now event (view_of hand.old) (view_of hand.new) result }
+    ensures settled { RestDoes plan.now event (view_of hand.old) (view_of hand.new) result }
 {
     let first = first_of(plan, event);
     let end = end_of(plan, event);
@@ -37,15 +35,12 @@ pub(super) fn settle_rest(
 
 /// Settles an operation of an event whose decision the hand knows, or finds it settled.
 fn settle_one(board: &Board, hand: &mut Hand, plan: &Plan, event: u32, op: u32) -> Option<TxnAnswer>
-    requires hand { IsHandOf board.now hand.old }
-    requires plan { plan.now ≡ plan_of board.now }
-    requires in_event { event < event_count plan.now }
+    requires may { MaySettleEvent board.now hand.old plan.now event }
     requires inside { InEvent plan.now event op }
-    requires free { (view_of hand.old).claim ≡ None }
     requires decided { (committed : Bool) × IsDecisionSeen (view_of hand.old) event committed }
     ensures hand { IsHandOf board.now hand.new }
     ensures free { (view_of hand.new).claim ≡ None }
-    ensures does { OneDoes plan.now event op (view_of hand.old) (view_of hand.new) result }
+    ensures settled { OneDoes plan.now event op (view_of hand.old) (view_of hand.new) result }
 {
     match board.settle(hand, plan, op) {
         SettleAnswer::Done(_) => None,

@@ -17,20 +17,20 @@ settle_levels-requires-clause-few g c κs within = subst (λ r. counters_of r.0 
 
 pub returns-clause-run : goal.returns-clause-run
 returns-clause-run g c =
-    let both = given_back c.parts-board.result.0 c.args.plan.now c.parts-board.result.3 (length c.args.plan.now.event_levels.items) c.parts-board.result.1 c.as_mut_slice.result.now c.settle_levels.new.runners c.as_mut_slice.ensures.items c.settle_levels.ensures.does c.parts-board.ensures.explored in
+    let both = given_back c.parts-board.result.0 c.args.plan.now c.parts-board.result.3 (length c.args.plan.now.event_levels.items) c.parts-board.result.1 c.as_mut_slice.result.now c.settle_levels.new.runners c.as_mut_slice.ensures.items c.settle_levels.ensures.settled c.parts-board.ensures.explored in
     record { places = both.0; rest = both.1 }
 
 pub returns-clause-all : goal.returns-clause-all
 returns-clause-all g c = λ all.
-    all_back c.parts-board.result.0 c.args.plan.now c.parts-board.result.3 (length c.args.plan.now.event_levels.items) c.parts-board.result.1 c.as_mut_slice.result.now c.settle_levels.new.runners c.as_mut_slice.ensures.items c.settle_levels.ensures.does c.parts-board.ensures.explored
+    all_back c.parts-board.result.0 c.args.plan.now c.parts-board.result.3 (length c.args.plan.now.event_levels.items) c.parts-board.result.1 c.as_mut_slice.result.now c.settle_levels.new.runners c.as_mut_slice.ensures.items c.settle_levels.ensures.settled c.parts-board.ensures.explored
     (subst (λ r. AreAllHands (runners_of r.1)) (sym c.parts-board.ensures.parts) all)
 
 pub returns-clause-settled : goal.returns-clause-settled
 returns-clause-settled g c =
     subst (λ r. AreSettling r.0 c.args.plan.now r.3 (length c.args.plan.now.event_levels.items) (runners_of r.1) (runners_of (with_runners c.parts-board.result.1 c.settle_levels.new.runners))) c.parts-board.ensures.parts
-    (settled_back c.parts-board.result.0 c.args.plan.now c.parts-board.result.3 (length c.args.plan.now.event_levels.items) c.parts-board.result.1 c.as_mut_slice.result.now c.settle_levels.new.runners c.as_mut_slice.ensures.items c.settle_levels.ensures.does)
+    (settled_back c.parts-board.result.0 c.args.plan.now c.parts-board.result.3 (length c.args.plan.now.event_levels.items) c.parts-board.result.1 c.as_mut_slice.result.now c.settle_levels.new.runners c.as_mut_slice.ensures.items c.settle_levels.ensures.settled)
 
 pub returns-clause-alone : goal.returns-clause-alone
 returns-clause-alone g c =
     subst (λ r. IsSettledByRoot c.args.plan.now (runners_of r.1) (runners_of (with_runners c.parts-board.result.1 c.settle_levels.new.runners))) c.parts-board.ensures.parts
-    (alone_back c.parts-board.result.0 c.args.plan.now c.parts-board.result.3 c.parts-board.result.1 c.as_mut_slice.result.now c.settle_levels.new.runners c.as_mut_slice.ensures.items c.requires.valid c.parts-board.ensures.explored c.settle_levels.ensures.does)
+    (alone_back c.parts-board.result.0 c.args.plan.now c.parts-board.result.3 c.parts-board.result.1 c.as_mut_slice.result.now c.settle_levels.new.runners c.as_mut_slice.ensures.items c.requires.valid c.parts-board.ensures.explored c.settle_levels.ensures.settled)

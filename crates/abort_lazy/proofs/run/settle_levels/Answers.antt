@@ -22,7 +22,7 @@ loop-level-preserved g c =
     let same = events_are c.args.plan.now c.loop-level.level lt _ c.get.ensures.at _ c.as_slice.ensures in
     settling_more c.args.plan.now c.requires.valid.plan c.requires.valid.graph c.args.from c.loop-level.level lt c.args.board.now c.args.runners.now c.loop-level.runners c.sweep_by.new.runners
     (start_noted c.args.board.now c.args.plan.now c.args.from c.args.runners.now c.requires.ready) (omega (arith, lt, c.requires.counters)) c.loop-level.invariant
-    (subst (λ zs. AreSwept c.args.board.now c.args.plan.now (c.args.from + c.loop-level.level) zs c.loop-level.runners c.sweep_by.new.runners) same c.sweep_by.ensures.does)
+    (subst (λ zs. AreSwept c.args.board.now c.args.plan.now (c.args.from + c.loop-level.level) zs c.loop-level.runners c.sweep_by.new.runners) same c.sweep_by.ensures.swept)
 
 pub overflow_cast-sweep : goal.overflow_cast-sweep
 overflow_cast-sweep g c = record { fits = omega (arith, c.loop-level-test.true, c.len-level-end.ensures, c.requires.counters, c.requires.few) }

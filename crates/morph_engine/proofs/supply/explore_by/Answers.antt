@@ -1,6 +1,6 @@
 use Rattle.std.proofs.Common.{sym, subst}
-use Rattle.op_words.specs.Hands.{cap_of}
 use Rattle.op_eval.specs.Gathering.{runners_of}
+use Rattle.op_eval.specs.Exploring.{rules_on}
 use Rattle.morph_engine.specs.Exploring.{explore_of, HasExploredBy}
 use Rattle.morph_engine.proofs.Passing.{have_passed}
 use Rattle.morph_engine.proofs.supply.explore_by.Goals as goal
@@ -9,4 +9,4 @@ pub returns-in-Counters-clause-way : goal.returns-in-Counters-clause-way
 returns-in-Counters-clause-way g c =
     let e = c.explore-explored.result in
     subst (λ supply. HasExploredBy (explore_of supply) c.args.plan.now c.args.abort (runners_of c.args.runners) e 0 0) (sym c.in-Counters.is)
-    (have_passed c.args.plan.now (cap_of c.args.board) c.args.abort c.args.units.now.units (runners_of c.args.runners) e c.explore-explored.ensures.passed)
+    (have_passed (rules_on c.args.board c.args.plan.now c.args.units.now.units c.args.abort) (runners_of c.args.runners) e c.explore-explored.ensures.passed)

@@ -3,8 +3,7 @@ use Rattle.steal_explorer.proofs.Going.{goes_none}
 use Rattle.steal_explorer.proofs.cascade.ask_rolled.Goals as goal
 
 pub returns-in-RolledBack : goal.returns-in-RolledBack
-returns-in-RolledBack g c =
-    let is = c.ask_one.ensures in record { idle = is.idle; deque = is.deque; goes = is.goes; asked = λ _. is.does; other = λ other. absurd (other c.in-RolledBack.is) }
+returns-in-RolledBack g c = let is = c.ask_one.ensures in record { can = is.can; goes = is.goes; asked = λ _. is.asks; other = λ other. absurd (other c.in-RolledBack.is) }
 
 pub returns-in_default : goal.returns-in_default
-returns-in_default g c = record { idle = c.requires.idle; deque = c.requires.deque; goes = goes_none _ _ _ _; asked = λ rolled. absurd (c.in_default.not-RolledBack rolled); other = λ _. refl }
+returns-in_default g c = record { can = c.requires.may.2; goes = goes_none _ _; asked = λ rolled. absurd (c.in_default.not-RolledBack rolled); other = λ _. refl }

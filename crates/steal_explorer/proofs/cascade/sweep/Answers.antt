@@ -2,4 +2,4 @@ use Rattle.steal_explorer.proofs.Going.{goes_none}
 use Rattle.steal_explorer.proofs.cascade.sweep.Goals as goal
 
 pub returns-in_default-clause-goes : goal.returns-in_default-clause-goes
-returns-in_default-clause-goes g c = goes_none _ _ _ _
+returns-in_default-clause-goes g c = goes_none _ _

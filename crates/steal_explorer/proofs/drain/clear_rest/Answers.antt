@@ -12,7 +12,7 @@ pop_as-requires-clause-fifo c = λ _. pops _ _ (let all = c.loop-op.invariant.1.
 pub loop-op-preserved : goal.loop-op-preserved
 loop-op-preserved c = (
   c.walk_known.ensures.idle,
-  clearing_more _ _ c.args.member.now c.loop-op.member c.loop-op.invariant.1 c.pop_as.new.self c.in-Some.op c.pop_as.ensures.same.0 c.in-Some.ensures.rule.0 c.in-Some.ensures.rule.1 c.args.ground.now.abort c.walk_known.new.runner c.walk_known.ensures.does,
+  clearing_more _ _ c.args.member.now c.loop-op.member c.loop-op.invariant.1 c.pop_as.new.self c.in-Some.op c.pop_as.ensures.same.0 c.in-Some.ensures.rule.0 c.in-Some.ensures.rule.1 c.args.ground.now.units.now.units c.args.ground.now.abort c.walk_known.new.runner c.walk_known.ensures.walked,
 )
 
 pub loop-op-smaller : goal.loop-op-smaller

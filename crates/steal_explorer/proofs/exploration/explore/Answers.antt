@@ -14,10 +14,11 @@ use Rattle.steal_explorer.specs.Handed.{workers_of, pushed_by, stolen_from, take
 use Rattle.steal_explorer.specs.Seating.{runner_of, seat_of}
 use Rattle.steal_explorer.specs.HandingOut.{HasHandedOut}
 use Rattle.morph_base.specs.Plans.{op_count}
-use Rattle.op_words.specs.Hands.{cap_of, up_to}
+use Rattle.op_words.specs.Hands.{up_to}
 use Rattle.std.proofs.lemmas.List.Concat.{length-flat_map}
 use Rattle.steal_explorer.proofs.Closing.{begins_alone, handed_alone, unstolen_is, begin_lent, balance_is, drained_is, reached_is, answered_is, further_is, inside_is, explored_is}
 use Rattle.steal_explorer.proofs.exploration.explore.Goals as goal
+use Rattle.op_eval.specs.Exploring.{rules_on}
 
 pub hand_out-requires-clause-begins : goal.hand_out-requires-clause-begins
 hand_out-requires-clause-begins g c κs within =
@@ -28,7 +29,7 @@ pub new-requires : goal.new-requires
 new-requires g c =
     let law = c.hand_out.ensures.handed_out in
     let back = come_back c.seat_all.new.members.items c.hand_out.new.members (law.len ∙ ap (λ (l : List Member). length l) c.as_mut_slice.ensures.items) in
-    explored_is _ _ _ _ _ _ law (runners_of c.args.runners) (ap (map runner_of) c.as_mut_slice.ensures.items ∙ c.seat_all.ensures.seated.runners) c.args.board c.args.runners c.unseat_all.new.runners c.requires.plan refl
+    explored_is _ _ _ _ law (runners_of c.args.runners) (ap (map runner_of) c.as_mut_slice.ensures.items ∙ c.seat_all.ensures.seated.runners) c.args.board c.args.runners c.unseat_all.new.runners c.requires.plan refl
     c.requires.ready (c.unseat_all.ensures.places (c.seat_all.ensures.places c.requires.ready.places)) (c.unseat_all.ensures.runners ∙ ap (map runner_of) back) c.hand_out.ensures.idle
 
 pub returns-clause-hands : goal.returns-clause-hands
@@ -36,7 +37,7 @@ returns-clause-hands g c =
     let law = c.hand_out.ensures.handed_out in
     let back = come_back c.seat_all.new.members.items c.hand_out.new.members (law.len ∙ ap (λ (l : List Member). length l) c.as_mut_slice.ensures.items) in
     subst (HaveGoneOn (runners_of c.args.runners)) (sym (ap (λ (t : Board × Runners × RunEnd × ℕ). runners_of t.1) c.new.ensures.parts ∙ c.unseat_all.ensures.runners ∙ ap (map runner_of) back))
-    (further_is _ _ _ _ _ _ law (runners_of c.args.runners) (ap (map runner_of) c.as_mut_slice.ensures.items ∙ c.seat_all.ensures.seated.runners))
+    (further_is _ _ _ _ law (runners_of c.args.runners) (ap (map runner_of) c.as_mut_slice.ensures.items ∙ c.seat_all.ensures.seated.runners))
 
 pub returns-clause-spare : goal.returns-clause-spare
 returns-clause-spare g c =
@@ -54,7 +55,7 @@ returns-clause-balance g c =
     let back = come_back c.seat_all.new.members.items c.hand_out.new.members (law.len ∙ ap (λ (l : List Member). length l) c.as_mut_slice.ensures.items) in
     λ h.
     subst (λ (l : List Member). sum_by h (flat_map pushed_by l) ≡ sum_by h (flat_map taken_from l) + sum_by h (flat_map left_in l)) (sym (c.of-handed.ensures.workers ∙ back))
-    (balance_is _ _ _ _ _ _ law h)
+    (balance_is _ _ _ _ law h)
 
 pub returns-clause-drained : goal.returns-clause-drained
 returns-clause-drained g c =
@@ -62,7 +63,7 @@ returns-clause-drained g c =
     let back = come_back c.seat_all.new.members.items c.hand_out.new.members (law.len ∙ ap (λ (l : List Member). length l) c.as_mut_slice.ensures.items) in
     λ end.
     ap (λ (l : List Member). flat_map left_in l) (c.of-handed.ensures.workers ∙ back)
-    ∙ drained_is _ _ _ _ _ _ law
+    ∙ drained_is _ _ _ _ law
     (subst (All (λ m. m.end ≡ Drained)) (c.as_slice-2.ensures ∙ back)
     (c.end_of-end.ensures.drained (sym (ap (λ (t : Board × Runners × RunEnd × ℕ). t.2) c.new.ensures.parts) ∙ end)))
 
@@ -72,20 +73,20 @@ returns-clause-reached g c =
     let back = come_back c.seat_all.new.members.items c.hand_out.new.members (law.len ∙ ap (λ (l : List Member). length l) c.as_mut_slice.ensures.items) in
     let p = c.args.plan.now in
     subst (AreReached p (flat_map taken_from (workers_of c.of-handed.result))) (sym (ap (λ (t : Board × Runners × RunEnd × ℕ). runners_of t.1) c.new.ensures.parts ∙ c.unseat_all.ensures.runners ∙ ap (map runner_of) back))
-    (subst (λ (l : List Member). AreReached p (flat_map taken_from l) (map runner_of c.hand_out.new.members)) (sym (c.of-handed.ensures.workers ∙ back)) (reached_is _ _ _ _ _ _ law))
+    (subst (λ (l : List Member). AreReached p (flat_map taken_from l) (map runner_of c.hand_out.new.members)) (sym (c.of-handed.ensures.workers ∙ back)) (reached_is _ _ _ _ law))
 
 pub returns-clause-answers : goal.returns-clause-answers
 returns-clause-answers g c =
     let law = c.hand_out.ensures.handed_out in
     let back = come_back c.seat_all.new.members.items c.hand_out.new.members (law.len ∙ ap (λ (l : List Member). length l) c.as_mut_slice.ensures.items) in
     subst (AreAnswered (flat_map taken_from (workers_of c.of-handed.result))) (sym (ap (λ (t : Board × Runners × RunEnd × ℕ). runners_of t.1) c.new.ensures.parts ∙ c.unseat_all.ensures.runners ∙ ap (map runner_of) back))
-    (subst (λ (l : List Member). AreAnswered (flat_map taken_from l) (map runner_of c.hand_out.new.members)) (sym (c.of-handed.ensures.workers ∙ back)) (answered_is _ _ _ _ _ _ law))
+    (subst (λ (l : List Member). AreAnswered (flat_map taken_from l) (map runner_of c.hand_out.new.members)) (sym (c.of-handed.ensures.workers ∙ back)) (answered_is _ _ _ _ law))
 
 pub returns-clause-inside : goal.returns-clause-inside
 returns-clause-inside g c =
     let law = c.hand_out.ensures.handed_out in
     let back = come_back c.seat_all.new.members.items c.hand_out.new.members (law.len ∙ ap (λ (l : List Member). length l) c.as_mut_slice.ensures.items) in
-    λ x. subst (λ (l : List Member). Contains (flat_map taken_from l) x → x < op_count c.args.plan.now) (sym (c.of-handed.ensures.workers ∙ back)) (inside_is _ _ _ _ _ _ law x)
+    λ x. subst (λ (l : List Member). Contains (flat_map taken_from l) x → x < op_count c.args.plan.now) (sym (c.of-handed.ensures.workers ∙ back)) (inside_is _ _ _ _ law x)
 
 pub returns-clause-turns : goal.returns-clause-turns
 returns-clause-turns g c =
@@ -96,8 +97,8 @@ returns-clause-turns g c =
       runners = ap (map runner_of) c.as_mut_slice.ensures.items ∙ c.seat_all.ensures.seated.runners;
       seats = ap (map seat_of) c.as_mut_slice.ensures.items ∙ c.seat_all.ensures.seated.seats;
       handed_out =
-          subst (λ ts. HasHandedOut c.args.plan.now (cap_of c.args.board) c.args.abort ts c.as_mut_slice.result.now (workers_of c.of-handed.result)) c.as_slice.ensures
-          (subst (HasHandedOut c.args.plan.now (cap_of c.args.board) c.args.abort c.as_slice.result.now c.as_mut_slice.result.now) (sym (c.of-handed.ensures.workers ∙ back)) law);
+          subst (λ ts. HasHandedOut (rules_on c.args.board c.args.plan.now c.args.units.now.units c.args.abort) ts c.as_mut_slice.result.now (workers_of c.of-handed.result)) c.as_slice.ensures
+          (subst (HasHandedOut (rules_on c.args.board c.args.plan.now c.args.units.now.units c.args.abort) c.as_slice.result.now c.as_mut_slice.result.now) (sym (c.of-handed.ensures.workers ∙ back)) law);
     }
 
 pub returns-clause-end : goal.returns-clause-end
@@ -155,4 +156,4 @@ returns-clause-unstolen g c = λ one.
     let back = come_back c.seat_all.new.members.items c.hand_out.new.members (law.len ∙ ap (λ (l : List Member). length l) c.as_mut_slice.ensures.items) in
     let single : length c.as_slice.result.now ≡ 1 = ap length c.as_slice.ensures ∙ sym c.requires.deques.len ∙ sym c.requires.workers ∙ one in
     ap (λ (l : List Member). flat_map stolen_from l) (c.of-handed.ensures.workers ∙ back)
-    ∙ unstolen_is _ _ _ _ _ _ law single
+    ∙ unstolen_is _ _ _ _ law single

@@ -20,12 +20,12 @@ returns-in-None-clause-deque c =
 
 pub returns-in-None-clause-tickets : goal.returns-in-None-clause-tickets
 returns-in-None-clause-tickets c =
-    stole_tickets c.args.member.now c.pop_as.new.self c.steal-found.new.tickets c.count-member.result c.steal-found.result c.pop_as.ensures.same.0 c.in-None.ensures.rule.0 _ c.requires.tickets c.steal-found.ensures.does
+    stole_tickets c.args.member.now c.pop_as.new.self c.steal-found.new.tickets c.count-member.result c.steal-found.result c.pop_as.ensures.same.0 c.in-None.ensures.rule.0 _ c.requires.tickets c.steal-found.ensures.answer
     c.steal-found.ensures.under c.steal-found.ensures.above c.count-member.ensures
 
 pub returns-in-None-clause-finds : goal.returns-in-None-clause-finds
 returns-in-None-clause-finds c =
-    stole_finds c.args.member.now c.pop_as.new.self c.steal-found.new.tickets c.count-member.result c.steal-found.result c.pop_as.ensures.same.0 c.in-None.ensures.rule.0 _ c.requires.tickets c.steal-found.ensures.does c.in-None.ensures.rule.1
+    stole_finds c.args.member.now c.pop_as.new.self c.steal-found.new.tickets c.count-member.result c.steal-found.result c.pop_as.ensures.same.0 c.in-None.ensures.rule.0 _ c.requires.tickets c.steal-found.ensures.answer c.in-None.ensures.rule.1
 
 pub returns-in-Some-clause-alone : goal.returns-in-Some-clause-alone
 returns-in-Some-clause-alone c = λ single. record { slots = c.pop_as.ensures.same.0.3; index = c.pop_as.ensures.same.1; found = c.in-Some.ensures.rule }
@@ -33,4 +33,4 @@ returns-in-Some-clause-alone c = λ single. record { slots = c.pop_as.ensures.sa
 pub returns-in-None-clause-alone : goal.returns-in-None-clause-alone
 returns-in-None-clause-alone c = λ single.
     stole_alone c.args.member.now c.pop_as.new.self c.steal-found.new.tickets c.count-member.result c.steal-found.result c.pop_as.ensures.same.0 c.in-None.ensures.rule.0 c.pop_as.ensures.same.1 c.in-None.ensures.rule.1
-    (c.steal-found.ensures.does.alone single)
+    (c.steal-found.ensures.answer.alone single)

@@ -1,9 +1,8 @@
 use Rattle.std.proofs.Common.{ℕ, sym, subst, length, ◌<◌}
-use Rattle.op_words.specs.Hands.{cap_of}
 use Rattle.op_words.specs.declared.board.Board.{Board}
 use Rattle.op_eval.specs.declared.explored.RunEnd.{RunEnd}
 use Rattle.op_eval.specs.declared.runners.Runners.{Runners}
-use Rattle.op_eval.specs.Exploring.{parts_of}
+use Rattle.op_eval.specs.Exploring.{parts_of, rules_on}
 use Rattle.op_eval.specs.Gathering.{runners_of}
 use Rattle.op_eval.specs.Further.{HaveGoneOn}
 use Rattle.strata_explorer.specs.Levels.{HasPassed, IsAlone}
@@ -30,10 +29,10 @@ returns-clause-hands g c =
 pub returns-clause-passed : goal.returns-clause-passed
 returns-clause-passed g c =
     let back = handed_back _ _ c.args.runners _ _ _ _ c.new.ensures.parts c.as_mut_slice.ensures.items c.pass_all-end.ensures.hands.len in
-    let p = c.args.plan.now in
-    subst (λ (t : Board × Runners × RunEnd × ℕ). HasPassed p (cap_of c.args.board) c.args.abort c.args.units.now.units (runners_of c.args.runners) (runners_of (parts_of c.new.result).1) t.2 t.3) (sym c.new.ensures.parts)
-    (subst (λ rs. HasPassed p (cap_of c.args.board) c.args.abort c.args.units.now.units rs (runners_of (parts_of c.new.result).1) c.pass_all-end.result.0 c.pass_all-end.result.1) c.as_mut_slice.ensures.items
-    (subst (λ rs. HasPassed p (cap_of c.args.board) c.args.abort c.args.units.now.units c.as_mut_slice.result.now rs c.pass_all-end.result.0 c.pass_all-end.result.1) (sym back) c.pass_all-end.ensures.passed))
+    let rules = rules_on c.args.board c.args.plan.now c.args.units.now.units c.args.abort in
+    subst (λ (t : Board × Runners × RunEnd × ℕ). HasPassed rules (runners_of c.args.runners) (runners_of (parts_of c.new.result).1) t.2 t.3) (sym c.new.ensures.parts)
+    (subst (λ rs. HasPassed rules rs (runners_of (parts_of c.new.result).1) c.pass_all-end.result.0 c.pass_all-end.result.1) c.as_mut_slice.ensures.items
+    (subst (λ rs. HasPassed rules c.as_mut_slice.result.now rs c.pass_all-end.result.0 c.pass_all-end.result.1) (sym back) c.pass_all-end.ensures.passed))
 
 pub returns-clause-alone : goal.returns-clause-alone
 returns-clause-alone g c =

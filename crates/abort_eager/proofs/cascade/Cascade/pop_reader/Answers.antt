@@ -9,10 +9,10 @@ pub reader_from-requires-clause-end : goal.reader_from-requires-clause-end
 reader_from-requires-clause-end c = cascade_end _ c.args.self.now c.requires.plan.plan c.requires.cascade
 
 pub returns-in_default : goal.returns-in_default
-returns-in_default c = record { does = popped_none _ _ c.requires.plan c.requires.cascade c.requires.none c.in_default.ensures }
+returns-in_default c = record { pops = popped_none _ _ c.requires.plan c.requires.cascade c.requires.none c.in_default.ensures }
 
 pub unreachable-requires : goal.unreachable-requires
 unreachable-requires c = popped_never c.args.plan.now c.args.self.now c.requires.plan c.requires.cascade _ c.in-Some.ensures c.in_default-place_from.ensures
 
 pub returns : goal.returns
-returns c = record { does = popped_next _ _ c.requires.plan c.requires.cascade _ c.in-Some.ensures _ c.requires.none c.in-Some-place_from.ensures }
+returns c = record { pops = popped_next _ _ c.requires.plan c.requires.cascade _ c.in-Some.ensures _ c.requires.none c.in-Some-place_from.ensures }

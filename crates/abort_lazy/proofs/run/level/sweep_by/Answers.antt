@@ -10,7 +10,7 @@ returns g c =
     let ran = c.run_few_or_all.ensures in
     let sweep = c.args.sweep.now in
     record {
-      does = record {
+      swept = record {
         len = c.run_few_or_all.auto.workers;
         hands = λ k d lt.
             let there = subst (λ n. k < n) c.run_few_or_all.auto.workers lt in

@@ -5,41 +5,41 @@ use Rattle.abort_lazy.proofs.Readying.{found_idle, found_spread, found_stop}
 use Rattle.abort_lazy.proofs.Answering.{answered_none}
 use Rattle.abort_lazy.proofs.transaction.prepare.mend.Goals as goal
 
-pub returns-in-Spread-clause-does : goal.returns-in-Spread-clause-does
-returns-in-Spread-clause-does c = λ start xs found. c.redo.ensures.does start xs (found_spread _ _ _ _ c.requires.inside found c.in-Spread.is)
+pub returns-in-Spread-clause-ready : goal.returns-in-Spread-clause-ready
+returns-in-Spread-clause-ready c = λ start xs found. c.redo.ensures.ready start xs (found_spread _ _ _ _ c.requires.inside found c.in-Spread.is)
 
-pub returns-in-Blocked-clause-does : goal.returns-in-Blocked-clause-does
-returns-in-Blocked-clause-does c = λ start xs found. c.run.ensures.does start xs (found_idle _ _ _ _ c.requires.inside found (ap is_idle c.in-Blocked.is))
+pub returns-in-Blocked-clause-ready : goal.returns-in-Blocked-clause-ready
+returns-in-Blocked-clause-ready c = λ start xs found. c.run.ensures.ready start xs (found_idle _ _ _ _ c.requires.inside found (ap is_idle c.in-Blocked.is))
 
-pub returns-in-Ready-clause-does : goal.returns-in-Ready-clause-does
-returns-in-Ready-clause-does c = λ start xs found. c.run-in-Ready.ensures.does start xs (found_idle _ _ _ _ c.requires.inside found (ap is_idle c.in-Ready.is))
+pub returns-in-Ready-clause-ready : goal.returns-in-Ready-clause-ready
+returns-in-Ready-clause-ready c = λ start xs found. c.run-in-Ready.ensures.ready start xs (found_idle _ _ _ _ c.requires.inside found (ap is_idle c.in-Ready.is))
 
-pub returns-in-Claimed-clause-does : goal.returns-in-Claimed-clause-does
-returns-in-Claimed-clause-does c = λ start xs found. found_stop _ _ _ _ c.requires.inside Claimed c.in-Claimed.is refl found c.stop.ensures
+pub returns-in-Claimed-clause-ready : goal.returns-in-Claimed-clause-ready
+returns-in-Claimed-clause-ready c = λ start xs found. found_stop _ _ _ _ c.requires.inside Claimed c.in-Claimed.is refl found c.stop.ensures
 
 pub returns-in-Claimed-clause-answered : goal.returns-in-Claimed-clause-answered
 returns-in-Claimed-clause-answered c = answered_none _ _ _ refl refl
 
-pub returns-in-Executed-clause-does : goal.returns-in-Executed-clause-does
-returns-in-Executed-clause-does c = λ start xs found. found_stop _ _ _ _ c.requires.inside Executed c.in-Executed.is refl found c.stop-in-Executed.ensures
+pub returns-in-Executed-clause-ready : goal.returns-in-Executed-clause-ready
+returns-in-Executed-clause-ready c = λ start xs found. found_stop _ _ _ _ c.requires.inside Executed c.in-Executed.is refl found c.stop-in-Executed.ensures
 
 pub returns-in-Executed-clause-answered : goal.returns-in-Executed-clause-answered
 returns-in-Executed-clause-answered c = answered_none _ _ _ refl refl
 
-pub returns-in-Failed-clause-does : goal.returns-in-Failed-clause-does
-returns-in-Failed-clause-does c = λ start xs found. found_stop _ _ _ _ c.requires.inside Failed c.in-Failed.is refl found c.stop-in-Failed.ensures
+pub returns-in-Failed-clause-ready : goal.returns-in-Failed-clause-ready
+returns-in-Failed-clause-ready c = λ start xs found. found_stop _ _ _ _ c.requires.inside Failed c.in-Failed.is refl found c.stop-in-Failed.ensures
 
 pub returns-in-Failed-clause-answered : goal.returns-in-Failed-clause-answered
 returns-in-Failed-clause-answered c = answered_none _ _ _ refl refl
 
-pub returns-in-Settled-clause-does : goal.returns-in-Settled-clause-does
-returns-in-Settled-clause-does c = λ start xs found. found_stop _ _ _ _ c.requires.inside Settled c.in-Settled.is refl found c.stop-in-Settled.ensures
+pub returns-in-Settled-clause-ready : goal.returns-in-Settled-clause-ready
+returns-in-Settled-clause-ready c = λ start xs found. found_stop _ _ _ _ c.requires.inside Settled c.in-Settled.is refl found c.stop-in-Settled.ensures
 
 pub returns-in-Settled-clause-answered : goal.returns-in-Settled-clause-answered
 returns-in-Settled-clause-answered c = answered_none _ _ _ refl refl
 
-pub returns-in-SettledAborted-clause-does : goal.returns-in-SettledAborted-clause-does
-returns-in-SettledAborted-clause-does c = λ start xs found. found_stop _ _ _ _ c.requires.inside SettledAborted c.in-SettledAborted.is refl found c.stop-in-SettledAborted.ensures
+pub returns-in-SettledAborted-clause-ready : goal.returns-in-SettledAborted-clause-ready
+returns-in-SettledAborted-clause-ready c = λ start xs found. found_stop _ _ _ _ c.requires.inside SettledAborted c.in-SettledAborted.is refl found c.stop-in-SettledAborted.ensures
 
 pub returns-in-SettledAborted-clause-answered : goal.returns-in-SettledAborted-clause-answered
 returns-in-SettledAborted-clause-answered c = answered_none _ _ _ refl refl

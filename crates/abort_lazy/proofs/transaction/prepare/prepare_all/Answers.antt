@@ -5,21 +5,21 @@ use Rattle.abort_lazy.proofs.Ending.{in_range, ready_none, ready_up, ready_stops
 use Rattle.abort_lazy.proofs.transaction.prepare.prepare_all.Goals as goal
 
 pub loop-op-init : goal.loop-op-init
-loop-op-init c = (c.requires.hand, ready_none _ _ _ _ c.requires.free c.requires.hand.told.agree, answered_none _ _ _ refl refl)
+loop-op-init c = (c.requires.may.0, ready_none _ _ _ _ c.requires.may.3 c.requires.may.0.told.agree, answered_none _ _ _ refl refl)
 
 pub prepare-requires-clause-may : goal.prepare-requires-clause-may
 prepare-requires-clause-may c =
     let inside : InEvent c.args.plan.now c.args.event c.loop-op.op = record { from = omega (arith, c.first_of-first.ensures, c.loop-op.auto.op); below = omega (arith, c.end_of-end.ensures) } in
-    (c.loop-op.invariant.0, c.requires.plan, in_range _ _ _ (subst IsPlan (sym c.requires.plan) c.requires.hand.valid) c.requires.in_range inside, c.loop-op.invariant.1.goes.free)
+    (c.loop-op.invariant.0, c.requires.may.1, in_range _ _ _ (subst IsPlan (sym c.requires.may.1) c.requires.may.0.valid) c.requires.may.2 inside, c.loop-op.invariant.1.goes.free)
 
 pub prepare-requires-clause-inside : goal.prepare-requires-clause-inside
 prepare-requires-clause-inside c =
     let inside : InEvent c.args.plan.now c.args.event c.loop-op.op = record { from = omega (arith, c.first_of-first.ensures, c.loop-op.auto.op); below = omega (arith, c.end_of-end.ensures) } in inside
 
-pub returns-in-Some-clause-does : goal.returns-in-Some-clause-does
-returns-in-Some-clause-does c =
+pub returns-in-Some-clause-ready : goal.returns-in-Some-clause-ready
+returns-in-Some-clause-ready c =
     let inside : InEvent c.args.plan.now c.args.event c.loop-op.op = record { from = omega (arith, c.first_of-first.ensures, c.loop-op.auto.op); below = omega (arith, c.end_of-end.ensures) } in
-    ready_stops _ _ _ _ inside c.loop-op.invariant.1 c.in-Some.ensures.does
+    ready_stops _ _ _ _ inside c.loop-op.invariant.1 c.in-Some.ensures.ready
 
 pub returns-in-Some-clause-answered : goal.returns-in-Some-clause-answered
 returns-in-Some-clause-answered c =
@@ -29,12 +29,12 @@ pub loop-op-preserved : goal.loop-op-preserved
 loop-op-preserved c =
     let inside : InEvent c.args.plan.now c.args.event c.loop-op.op = record { from = omega (arith, c.first_of-first.ensures, c.loop-op.auto.op); below = omega (arith, c.end_of-end.ensures) } in (
       c.in-None.ensures.hand,
-      ready_up _ _ _ _ inside c.loop-op.invariant.1 c.in-None.ensures.does,
+      ready_up _ _ _ _ inside c.loop-op.invariant.1 c.in-None.ensures.ready,
       answered_most _ _ _ (omega (arith, c.loop-op.auto.op)) (answered_then _ _ _ c.loop-op.invariant.2 c.in-None.ensures.answered),
     )
 
-pub returns-clause-does : goal.returns-clause-does
-returns-clause-does c =
+pub returns-clause-ready : goal.returns-clause-ready
+returns-clause-ready c =
     let high = c.loop-op-test.false in let most = c.loop-op.auto.op-end (omega (arith, c.first_of-first.ensures, c.end_of-end.ensures)) in
     ready_end _ _ _ _ c.first_of-first.ensures (omega (arith, high, most, c.end_of-end.ensures)) c.loop-op.invariant.1
 

@@ -8,22 +8,22 @@ use Rattle.abort_lazy.proofs.transaction.settle.settle_one.Goals as goal
 
 pub settle-requires-clause-may : goal.settle-requires-clause-may
 settle-requires-clause-may c =
-    (c.requires.hand, c.requires.plan, in_range _ _ _ (subst IsPlan (sym c.requires.plan) c.requires.hand.valid) c.requires.in_event c.requires.inside, c.requires.free)
+    (c.requires.may.0, c.requires.may.1, in_range _ _ _ (subst IsPlan (sym c.requires.may.1) c.requires.may.0.valid) c.requires.may.2 c.requires.inside, c.requires.may.3)
 
 pub settle-requires-clause-decided : goal.settle-requires-clause-decided
 settle-requires-clause-decided c =
-    subst (λ i. (b : Bool) × IsDecisionSeen (view_of c.args.hand.now) i b) (sym (of_event _ _ _ (subst IsPlan (sym c.requires.plan) c.requires.hand.valid) c.requires.in_event c.requires.inside)) c.requires.decided
+    subst (λ i. (b : Bool) × IsDecisionSeen (view_of c.args.hand.now) i b) (sym (of_event _ _ _ (subst IsPlan (sym c.requires.may.1) c.requires.may.0.valid) c.requires.may.2 c.requires.inside)) c.requires.decided
 
-pub returns-in-Done-clause-does : goal.returns-in-Done-clause-does
-returns-in-Done-clause-does c =
-    let valid = (subst IsPlan (sym c.requires.plan) c.requires.hand.valid) in one_done _ _ _ _ valid (in_range _ _ _ valid c.requires.in_event c.requires.inside) c.requires.inside c.in-Done.ensures.does
+pub returns-in-Done-clause-settled : goal.returns-in-Done-clause-settled
+returns-in-Done-clause-settled c =
+    let valid = (subst IsPlan (sym c.requires.may.1) c.requires.may.0.valid) in one_done _ _ _ _ valid (in_range _ _ _ valid c.requires.may.2 c.requires.inside) c.requires.inside c.in-Done.ensures.does
 
-pub returns-then-at-op-clause-does : goal.returns-then-at-op-clause-does
-returns-then-at-op-clause-does c =
-    let valid = (subst IsPlan (sym c.requires.plan) c.requires.hand.valid) in
-    one_own _ _ _ _ valid (in_range _ _ _ valid c.requires.in_event c.requires.inside) c.requires.inside c.if-at-op.true c.in-Not.ensures.does c.stop.ensures
+pub returns-then-at-op-clause-settled : goal.returns-then-at-op-clause-settled
+returns-then-at-op-clause-settled c =
+    let valid = (subst IsPlan (sym c.requires.may.1) c.requires.may.0.valid) in
+    one_own _ _ _ _ valid (in_range _ _ _ valid c.requires.may.2 c.requires.inside) c.requires.inside c.if-at-op.true c.in-Not.ensures.does c.stop.ensures
 
-pub returns-else-at-op-clause-does : goal.returns-else-at-op-clause-does
-returns-else-at-op-clause-does c =
-    let valid = (subst IsPlan (sym c.requires.plan) c.requires.hand.valid) in
-    one_source _ _ _ _ valid (in_range _ _ _ valid c.requires.in_event c.requires.inside) c.requires.inside c.if-at-op.false c.in-Not.ensures.does
+pub returns-else-at-op-clause-settled : goal.returns-else-at-op-clause-settled
+returns-else-at-op-clause-settled c =
+    let valid = (subst IsPlan (sym c.requires.may.1) c.requires.may.0.valid) in
+    one_source _ _ _ _ valid (in_range _ _ _ valid c.requires.may.2 c.requires.inside) c.requires.inside c.if-at-op.false c.in-Not.ensures.does

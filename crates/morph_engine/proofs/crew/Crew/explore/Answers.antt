@@ -1,6 +1,6 @@
 use Rattle.std.proofs.Common.{◌<◌, length, sym, subst}
-use Rattle.op_words.specs.Hands.{cap_of}
 use Rattle.op_eval.specs.Gathering.{runners_of}
+use Rattle.op_eval.specs.Exploring.{rules_on}
 use Rattle.morph_engine.proofs.HandingOut.{have_handed}
 use Rattle.morph_engine.proofs.Waiting.{some_work, front_explored, behind_waits, waits_by, further_all, new_front, ran_all, handed_all}
 use Rattle.morph_engine.proofs.crew.Crew.explore.Goals as goal
@@ -32,5 +32,5 @@ returns-clause-handed g c =
     let e = c.explore-explored.result.0 in
     let handed = c.explore-explored.result.1 in
     handed_all p c.args.abort (runners_of c.args.runners) (runners_of c.set_aside.new.runners) _ e c.with_waiting-explored.result handed.handed handed.stolen c.set_aside.ensures.all some c.with_waiting-explored.ensures.runners
-    (have_handed p (cap_of c.args.board) c.args.abort c.args.self.deques (runners_of c.set_aside.new.runners) handed told.turns e c.requires.crew.ready told.balance told.handed told.stolen told.inside told.reached told.drained told.unstolen
+    (have_handed (rules_on c.args.board p c.args.units.now.units c.args.abort) c.args.self.deques (runners_of c.set_aside.new.runners) handed told.turns e c.requires.crew.ready told.balance told.handed told.stolen told.inside told.reached told.drained told.unstolen
     (λ lazy. told.alone lazy c.requires.cap))

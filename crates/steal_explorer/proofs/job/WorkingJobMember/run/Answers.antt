@@ -7,8 +7,8 @@ pub returns : goal.returns
 returns g c =
     let is = c.work-worker.ensures in (
       record {
-        idle = is.idle;
-        deque = ended_deque c.work-worker.new.member c.work-worker.result _ is.deque;
+        idle = is.can.0;
+        deque = ended_deque c.work-worker.new.member c.work-worker.result _ is.can.1;
         tickets = ended_tickets c.work-worker.new.member c.work-worker.result _ is.tickets;
       },
       record { stopped = c.work-worker.new.member; ran = is.ran; noted = refl },

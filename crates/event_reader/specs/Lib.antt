@@ -8,6 +8,7 @@ pub mod LineEvents
 pub mod FirstRefused
 pub mod Reader
 pub mod Asking
+pub mod BatchAnswers
 pub mod Decisions
 pub mod Reading
 pub mod Buffers

@@ -79,7 +79,7 @@ fn read_behind<S: Source>(
     ensures never_falls { S.faults source.old ≤ S.faults source.new }
     ensures steady { OnOk result (S.faults source.new ≡ S.faults source.old) }
     ensures cause { OnErr result (HasRisen (S.faults source.old) (S.faults source.new)) }
-    ensures does { S.reads source.old most result source.new }
+    ensures answer { S.reads source.old most result source.new }
 {
     source.read(&mut buffer[end..end + most])
 }

@@ -73,10 +73,16 @@ pub(crate) fn read_first<A: EventApp, S: Source>(
     ensures plans { IfOk result (λ first. PlansAhead A.event_of
         (layout_by A.table_count planner.old.reader)
         (greatest_of planner.new.reader.past.version)
-        (record { at = stand planner.old.reader (S.left source.old); sent = [];
-        number = planner.old.sent }) None
-        (record { at = stand planner.new.reader (S.left source.new); sent = one_or_none first;
-        number = planner.new.sent })) }
+        (record {
+          at = stand planner.old.reader (S.left source.old);
+          sent = [];
+          number = planner.old.sent;
+        }) None
+        (record {
+          at = stand planner.new.reader (S.left source.new);
+          sent = one_or_none first;
+          number = planner.new.sent;
+        })) }
     ensures stops { IfErr result (λ tail. StopsWithTail A.event_of tail
         (stand planner.old.reader (S.left source.old))
         (stand planner.new.reader (S.left source.new))) }

@@ -1,5 +1,5 @@
 -- What one call of a reader of batches says
-use Rattle.std.specs.Prelude.{◌≡◌, ℕ, ◌+◌, ◌≤◌, false, IsTrue, List, Option, Result, Err, IfOk, IsErrOf}
+use Rattle.std.specs.Prelude.{◌≡◌, ℕ, ◌+◌, ◌≤◌, false, IsTrue, List, Option, Result, IfOk, IsErrOf}
 use Rattle.morph_base.specs.declared.key.Layout.{Layout}
 use Rattle.morph_io.specs.Told.{IsAtEnd, HasRisen}
 use Rattle.morph_io.specs.declared.source.ReadFailed.{ReadFailed}
@@ -8,7 +8,7 @@ use Rattle.event_reader.specs.declared.fault.ReaderFault.{ReaderFault}
 use Rattle.event_reader.specs.declared.fault.ReaderFault.TheVariants.{ReadFault, TooLong}
 use Rattle.event_reader.specs.declared.past.Past.{Past}
 use Rattle.event_reader.specs.Steps.{Meaning}
-use Rattle.event_reader.specs.Reader.{LinesView, ReaderView, accepted_at, reading_of, event_count, AnswersNext, IsValidNext, KnowsVersion, ShowsBatch, TakesBytes}
+use Rattle.event_reader.specs.Reader.{LinesView, accepted_at, reading_of, event_count, AnswersNext, IsValidNext, KnowsVersion, ShowsBatch, TakesBytes}
 use Rattle.event_reader.specs.Asking.{AsksForBatch}
 
 -- What a source says of itself: the bytes that it has left, its count of faults, and its reads
@@ -33,19 +33,23 @@ abbrev pub read_state : {S : Type 0} → Past → LinesView → S → ReadState 
 read_state past lines source = record { past = past; lines = lines; source = source }
 
 -- What the answer of one call for a batch says of the bytes of the source, and by which reads it came, from how far the
--- reader had read before to how far it has read after
+-- reader had read before to how far it has read after, with what lines mean to it then
 pub record IsBatchAnswer {S : Type 0} (source : SourceMembers S) (meaning : Meaning) (before : ReadState S)
-    (answer : Result Next ReaderFault) (after : ReadState S) : Type 0 where
-  pub answers : AnswersNext (accepted_at meaning before.past before.lines (source.left before.source)) answer (accepted_at meaning after.past after.lines (source.left after.source))
-  pub shows : TakesBytes (source.left before.source) (source.left after.source) (ShowsBatch meaning before.past before.lines answer after.past after.lines)
-  pub asks : AsksForBatch source.left source.reads meaning before.past before.lines before.source answer after.lines after.source
+    (answer : Result Next ReaderFault) (meaning' : Meaning) (after : ReadState S) : Type 0 where
+  pub answers : AnswersNext (accepted_at meaning before.past before.lines (source.left before.source)) answer
+      (accepted_at meaning' after.past after.lines (source.left after.source))
+  pub shows : TakesBytes (source.left before.source) (source.left after.source)
+      (ShowsBatch meaning before.past before.lines answer after.past after.lines)
+  pub asks : AsksForBatch source.left source.reads meaning before.past before.lines before.source answer after.lines
+      after.source
 
 -- What one call for a batch gives: a batch is valid, and has at most as many events as lines were given for it; and the
 -- version is that of the input
 pub record GivesBatch {S : Type 0} (source : SourceMembers S) (layout : Layout) (before : ReadState S)
     (answer : Result Next ReaderFault) (after : ReadState S) : Type 0 where
   pub valid : IfOk answer (IsValidNext after.past.version layout)
-  pub version : KnowsVersion before.lines.number (reading_of before.lines (source.left before.source)) after.lines.number after.past.version
+  pub version : KnowsVersion before.lines.number (reading_of before.lines (source.left before.source)) after.lines.number
+      after.past.version
   pub counted : IfOk answer (λ next. before.lines.number + event_count next ≤ after.lines.number)
 
 -- How the reader of lines and its source come out of one call for a batch. The source's count of faults rises exactly

@@ -38,7 +38,7 @@ fn read_batch<A: EventApp, S: Source>(
     requires live { IsTrue lines.old.live }
     requires opens { lines.old.number ≡ 0 → past.old.version ≡ One }
     ensures answer { IsBatchAnswer (members S.left S.faults S.reads) (A.event_of app.now size)
-        (read_state past.old lines.old source.old) result
+        (read_state past.old lines.old source.old) result (A.event_of app.now size)
         (read_state past.new lines.new source.new) }
     ensures batch { GivesBatch (members S.left S.faults S.reads)
         (record { tables = A.table_count app.now; size = size })
@@ -179,6 +179,7 @@ impl<A: EventApp> BatchReader<A> {
         ensures answer { IsBatchAnswer (members S.left S.faults S.reads)
             (A.event_of self.old.app self.old.size)
             (read_state self.old.past self.old.lines source.old) result
+            (A.event_of self.new.app self.new.size)
             (read_state self.new.past self.new.lines source.new) }
         ensures batch { GivesBatch (members S.left S.faults S.reads)
             (record { tables = A.table_count self.old.app; size = self.old.size })

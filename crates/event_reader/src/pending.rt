@@ -96,8 +96,10 @@ impl Pending {
             (record { tables = A.table_count app.now; size = size }) (batch_of self.old) }
         ensures { IfOk result
             (TakesLine (rules_of (A.event_of app.now size) past.version)
-            (record { version = past.version;
-            layout = record { tables = A.table_count app.now; size = size } })
+            (record {
+              version = past.version;
+              layout = record { tables = A.table_count app.now; size = size };
+            })
             past.closed self.old line.now self.new) }
     {
         if is_ignored_line(line) {

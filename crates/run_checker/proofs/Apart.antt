@@ -38,7 +38,7 @@ module _ (p : Plan) (cap : ℕ) (journal : List CoreEvent) (values : List ℕ) w
   like_apart : (d : Difference) → IsUnlikeAt p cap journal values d → IsBorneOut p cap journal values → ⊥
   like_apart d a b =
       unlike_at p a.state values d.op d.journal d.run a.first
-      (subst (λ (c : Core). value_in c o ≡ slice_index values o) (leads_once p cap journal start b.state a.state b.leads a.leads) (b.same d.op a.first.inside))
+      (subst (λ (c : Core). value_in c d.op ≡ slice_index values d.op) (leads_once p cap journal start b.state a.state b.leads a.leads) (b.same d.op a.first.inside))
 
   unsettled_same : (o u : ℕ) → IsUnsettledAt p cap journal o → IsUnsettledAt p cap journal u → o ≡ u
   unsettled_same o u a b =

@@ -47,10 +47,15 @@ pub const SWITCHES: [(&[u8], bool); 2] = [(b"on", true), (b"off", false)];
 
 /// The words of the units, of the ways to explore and of the ways to deal with failures, in settings and in notes.
 pub const OP: &[u8] = b"op";
+
 pub const CHAIN: &[u8] = b"chain";
+
 pub const STRATA: &[u8] = b"strata";
+
 pub const STEAL: &[u8] = b"steal";
+
 pub const LAZY: &[u8] = b"lazy";
+
 pub const EAGER: &[u8] = b"eager";
 
 /// The units by their names.

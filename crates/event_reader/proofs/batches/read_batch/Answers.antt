@@ -37,9 +37,9 @@ returns-in_err-next_line-clause-answer g c =
     let unended = c.next_line.ensures.unended c.in_err-next_line.ensures.asked in
     rw (p.1, p.2) record {
       answers = answers_fault_next _ _ _ _ _ (batch_of c.lines.pending) c.lines.lines (g.S.Source.left c.lines.source) c.next_line.new.self (g.S.Source.left c.next_line.new.source)
-    c.in_err-next_line.field-0.0 _ _ _ c.lines.invariant.reads.has_read c.in_err-next_line.ensures.answers;
+          c.in_err-next_line.field-0.0 _ _ _ c.lines.invariant.reads.has_read c.in_err-next_line.ensures.answers;
       shows = shows_fault_next _ _ _ _ _ (batch_of c.lines.pending) c.lines.lines (g.S.Source.left c.lines.source) c.next_line.new.self (g.S.Source.left c.next_line.new.source)
-    c.in_err-next_line.field-0.0 _ c.lines.invariant.reads.has_read unended c.in_err-next_line.ensures.shows;
+          c.in_err-next_line.field-0.0 _ c.lines.invariant.reads.has_read unended c.in_err-next_line.ensures.shows;
       asks = asked_all _ _ _ _ _ _ _ _ _ _ c.lines.invariant.reads _ _ _ c.in_err-next_line.ensures.asks _ tt;
     }
 
@@ -69,7 +69,7 @@ returns-in-End-2-clause-answer g c =
     record {
       answers = answers_last _ _ _ _ _ (batch_of c.lines.pending) c.lines.lines (g.S.Source.left c.lines.source) _ c.next_line.new.self (g.S.Source.left c.next_line.new.source) c.lines.invariant.reads.has_read ended.0 ended.1;
       shows = reads_some _ _ _ _ _ _ _ _ _ _ _ c.lines.invariant.reads.has_read c.next_line.ensures.shows
-    (λ got unended more. absurd (true≢false (sym done.1 ∙ unended)));
+          (λ got unended more. absurd (true≢false (sym done.1 ∙ unended)));
       asks = asked_all _ _ _ _ _ _ _ _ _ _ c.lines.invariant.reads _ _ _ c.in_ok-next_line.ensures.asks _ c.in_ok-next_line.ensures.asks.ends.0;
     }
 
@@ -92,13 +92,13 @@ returns-in-Closes-clause-answer g c =
     let takes = rw c.in-Line.is at c.in_ok-next_line.ensures.shows in
     record {
       answers = rw closes.same
-    (answers_batch _ _ _ _ _ (batch_of c.lines.pending) c.lines.lines (g.S.Source.left c.lines.source) c.next_line.new.self (g.S.Source.left c.next_line.new.source)
-    (record { version = c.lines.past.version; closed = c.lines.pending.latest }) c.lines.invariant.reads.has_read told.0 counts
-    (closes_behind (g.A.EventApp.event_of c.args.app.now c.args.size) c.lines.past.version c.lines.lines.number c.args.past.now.closed (batch_of c.lines.pending) c.next_line.new.self.line c.lines.invariant.opens plain c.lines.pending.latest closes.leads));
+          (answers_batch _ _ _ _ _ (batch_of c.lines.pending) c.lines.lines (g.S.Source.left c.lines.source) c.next_line.new.self (g.S.Source.left c.next_line.new.source)
+          (record { version = c.lines.past.version; closed = c.lines.pending.latest }) c.lines.invariant.reads.has_read told.0 counts
+          (closes_behind (g.A.EventApp.event_of c.args.app.now c.args.size) c.lines.past.version c.lines.lines.number c.args.past.now.closed (batch_of c.lines.pending) c.next_line.new.self.line c.lines.invariant.opens plain c.lines.pending.latest closes.leads));
       shows = rw closes.same
-    (shows_batch _ _ _ _ _ (batch_of c.lines.pending) c.lines.lines (g.S.Source.left c.lines.source) c.next_line.new.self (g.S.Source.left c.next_line.new.source)
-    (record { version = c.lines.past.version; closed = c.lines.pending.latest }) c.lines.invariant.reads.has_read told.0 takes c.next_line.ensures.unended counts
-    (closes_behind (g.A.EventApp.event_of c.args.app.now c.args.size) c.lines.past.version c.lines.lines.number c.args.past.now.closed (batch_of c.lines.pending) c.next_line.new.self.line c.lines.invariant.opens plain c.lines.pending.latest closes.leads));
+          (shows_batch _ _ _ _ _ (batch_of c.lines.pending) c.lines.lines (g.S.Source.left c.lines.source) c.next_line.new.self (g.S.Source.left c.next_line.new.source)
+          (record { version = c.lines.past.version; closed = c.lines.pending.latest }) c.lines.invariant.reads.has_read told.0 takes c.next_line.ensures.unended counts
+          (closes_behind (g.A.EventApp.event_of c.args.app.now c.args.size) c.lines.past.version c.lines.lines.number c.args.past.now.closed (batch_of c.lines.pending) c.next_line.new.self.line c.lines.invariant.opens plain c.lines.pending.latest closes.leads));
       asks = asked_all _ _ _ _ _ _ _ _ _ _ c.lines.invariant.reads _ _ _ c.in_ok-next_line.ensures.asks _ c.in_ok-next_line.ensures.asks.ends.0;
     }
 
@@ -171,7 +171,7 @@ returns-in-Refuses-clause-answer g c =
     let refused = rw (c.in-Refuses.is, c.line.ensures, c.lines.invariant.closed) at c.in_ok-take_line.ensures in
     record {
       answers = rw c.number-in-Refuses.ensures (answers_refused _ _ _ _ _ (batch_of c.lines.pending) c.lines.lines (g.S.Source.left c.lines.source) c.next_line.new.self (g.S.Source.left c.next_line.new.source) c.in-Refuses.cause c.lines.invariant.reads.has_read told.0 counts
-    (refuses_behind (g.A.EventApp.event_of c.args.app.now c.args.size) c.lines.past.version c.lines.lines.number c.args.past.now.closed (batch_of c.lines.pending) c.next_line.new.self.line c.lines.invariant.opens plain c.in-Refuses.cause refused));
+          (refuses_behind (g.A.EventApp.event_of c.args.app.now c.args.size) c.lines.past.version c.lines.lines.number c.args.past.now.closed (batch_of c.lines.pending) c.next_line.new.self.line c.lines.invariant.opens plain c.in-Refuses.cause refused));
       shows = reads_some _ _ _ _ _ _ _ _ _ _ _ c.lines.invariant.reads.has_read c.next_line.ensures.shows (λ got. tt);
       asks = asked_all _ _ _ _ _ _ _ _ _ _ c.lines.invariant.reads _ _ _ c.in_ok-next_line.ensures.asks _ c.in_ok-next_line.ensures.asks.ends.0;
     }

@@ -13,9 +13,9 @@ use Rattle.batch_pipe.specs.declared.tail.Tail.{Tail}
 use Rattle.rtrb.specs.declared.producer.Producer.{Producer}
 use Rattle.rtrb.specs.declared.consumer.Consumer.{Consumer}
 use Rattle.rtrb.specs.Ring.{SameProducer, SameConsumer}
-use Rattle.batch_pipe.specs.Reading.{Stand}
-use Rattle.batch_pipe.specs.Planning.{Bench, IsReadyPlan, AreNumbered, Plans, PlansAhead, StopsWithTail, layout_by, plans_of}
-use Rattle.batch_pipe.proofs.Givings.{plans_nothing, plans_both, plans_stop}
+use Rattle.batch_pipe.specs.GivenBatches.{Stand}
+use Rattle.batch_pipe.specs.PlannedBatches.{Bench, IsReadyPlan, AreNumbered, Plans, PlansAhead, StopsWithTail, layout_by, plans_of}
+use Rattle.batch_pipe.proofs.GivenBatches.{plans_nothing, plans_both, plans_stop}
 
 pub numbered-append : (n : ℕ) (xs ys : List Sent) → AreNumbered n xs → AreNumbered (n + length xs) ys → AreNumbered n (xs ++ ys)
 unfolding AreNumbered

@@ -19,12 +19,12 @@ use Rattle.batch_pipe.specs.declared.items.Sent.{Sent}
 use Rattle.batch_pipe.specs.declared.items.Ran.{Ran}
 use Rattle.batch_pipe.specs.declared.tail.Tail.{Tail}
 use Rattle.batch_pipe.specs.declared.tail.Tail.TheVariants.{RunMemory}
-use Rattle.batch_pipe.specs.Reading.{Stand, stand}
-use Rattle.batch_pipe.specs.Planning.{AreNumbered, Plans, PlansAhead, StopsWithTail, MayStop, plans_of}
-use Rattle.batch_pipe.specs.Running.{Manner, AreRun, RunsWaiting, Desk, somes, one_or_none, state_after, last_after, came_of}
+use Rattle.batch_pipe.specs.GivenBatches.{Stand, stand}
+use Rattle.batch_pipe.specs.PlannedBatches.{AreNumbered, Plans, PlansAhead, StopsWithTail, MayStop, plans_of}
+use Rattle.batch_pipe.specs.PlanRuns.{Manner, AreRun, RunsWaiting, Desk, somes, one_or_none, state_after, last_after, came_of}
 use Rattle.batch_pipe.specs.Courses.{reads_left, steps_left}
-use Rattle.batch_pipe.specs.Waiting.{PipeView, IsRound, IsGoing, number_before, or_else}
-use Rattle.batch_pipe.proofs.Givings.{plans_nothing, plans_both, plans_stop}
+use Rattle.batch_pipe.specs.PipeRounds.{PipeView, IsRound, IsGoing, number_before, or_else}
+use Rattle.batch_pipe.proofs.GivenBatches.{plans_nothing, plans_both, plans_stop}
 use Rattle.batch_pipe.proofs.Ahead.{numbered-append}
 use Rattle.batch_pipe.proofs.Desks.{empty_is}
 

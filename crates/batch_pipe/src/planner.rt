@@ -4,10 +4,10 @@ ghost use Rattle.event_reader.specs.Limits.{input_bytes};
 ghost use Rattle.event_reader.specs.Versions.{greatest_of};
 ghost use Rattle.event_reader.specs.declared.fault.ReaderFault.TheVariants.{ReadFault};
 ghost use Rattle.rtrb.specs.Ring.{SameProducer};
-ghost use Rattle.batch_pipe.specs.Reading.{stand};
+ghost use Rattle.batch_pipe.specs.GivenBatches.{stand};
 ghost use Rattle.event_reader.specs.Reader.{SameReader};
-ghost use Rattle.batch_pipe.specs.Planning.{IsReadyPlan, Plans, StopsWithTail, PlansAhead, HasPlanned, HasFilled, CanPlan, IsIdlePlanner, layout_by};
-ghost use Rattle.batch_pipe.specs.Running.{one_or_none};
+ghost use Rattle.batch_pipe.specs.PlannedBatches.{IsReadyPlan, Plans, StopsWithTail, PlansAhead, HasPlanned, HasFilled, CanPlan, IsIdlePlanner, layout_by};
+ghost use Rattle.batch_pipe.specs.PlanRuns.{one_or_none};
 
 use crate::items::Sent;
 use crate::tail::Tail;

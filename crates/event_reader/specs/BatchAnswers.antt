@@ -9,7 +9,7 @@ use Rattle.event_reader.specs.declared.fault.ReaderFault.TheVariants.{ReadFault,
 use Rattle.event_reader.specs.declared.past.Past.{Past}
 use Rattle.event_reader.specs.Steps.{Meaning}
 use Rattle.event_reader.specs.Reader.{LinesView, accepted_at, reading_of, event_count, AnswersNext, IsValidNext, KnowsVersion, ShowsBatch, TakesBytes}
-use Rattle.event_reader.specs.Asking.{AsksForBatch}
+use Rattle.event_reader.specs.SourceReads.{AsksForBatch}
 
 -- What a source says of itself: the bytes that it has left, its count of faults, and its reads
 pub record SourceMembers (S : Type 0) : Type 1 where

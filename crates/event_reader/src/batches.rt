@@ -109,7 +109,7 @@ impl<A> Model for BatchReader<A> {
 
     ghost Value = { ReaderView A };
 
-    ghost use Rattle.event_reader.specs.Reading.{IsReader};
+    ghost use Rattle.event_reader.specs.ReaderInvariant.{IsReader};
 
     ghost view = { λ reader. record {
       app = reader.app;

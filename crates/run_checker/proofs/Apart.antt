@@ -9,7 +9,7 @@ use Rattle.run_checker.specs.declared.checked.Checked.{Checked}
 use Rattle.run_checker.specs.declared.checked.Checked.TheVariants.{Yes, Broken, Unsettled, Differs}
 use Rattle.run_checker.specs.Replay.{AllSettled}
 use Rattle.run_checker.specs.Answers.{Difference, IsFirstUnsettled, IsFirstUnlike, IsUnsettledAt, IsUnlikeAt, IsBorneOut, Answers}
-use Rattle.run_checker.proofs.Leading.{leads_once, broken_once, broken_apart}
+use Rattle.run_checker.proofs.JournalFronts.{leads_once, broken_once, broken_apart}
 
 -- the least of its kind is one
 first_once : (p : Plan) (c : Core) (o u : ℕ) → IsFirstUnsettled p c o → IsFirstUnsettled p c u → o ≡ u

@@ -3,7 +3,7 @@ ghost use Rattle.morph_base.specs.declared.limits.TheConstants.{WORKERS};
 ghost use Rattle.morph_io.specs.declared.line_buf.TheConstants.{LINE_BYTES};
 ghost use Rattle.run_text.specs.Calls.{WritesText};
 ghost use Rattle.morph_io.specs.Told.{behind, HasRisen};
-ghost use Rattle.morph_io.specs.Writing.{AppendsPart};
+ghost use Rattle.morph_io.specs.SinkWrites.{AppendsPart};
 ghost use Rattle.run_text.specs.Notes.{noted, strategy_words, batch_note};
 ghost use Rattle.run_text.specs.Values.{unit_word, explore_word, abort_word};
 ghost use Rattle.run_text.specs.Notes.{tally_note, settled_note, closing_notes, audit_note};

@@ -2,10 +2,10 @@ use Rattle.std.proofs.Common.{List, Some, refl, ap, sym, subst, ◌∙◌, ◌+�
 use Rattle.std.proofs.lemmas.List.{length-append}
 use Rattle.morph_base.specs.declared.key.Layout.{Layout}
 use Rattle.event_reader.specs.Versions.{greatest_of}
-use Rattle.event_reader.proofs.Opening.{keeps_same, same_both}
+use Rattle.event_reader.proofs.InputVersion.{keeps_same, same_both}
 use Rattle.rtrb.specs.Ring.{sent}
 use Rattle.batch_pipe.specs.declared.items.Sent.{Sent}
-use Rattle.batch_pipe.specs.Planning.{IsReadyPlan, bench, layout_by}
+use Rattle.batch_pipe.specs.PlannedBatches.{IsReadyPlan, bench, layout_by}
 use Rattle.batch_pipe.proofs.Ahead.{ahead_nothing, ahead_more, ahead_stop, same_producer, same_layout}
 use Rattle.batch_pipe.proofs.planner.plan_ahead.Goals as goal
 

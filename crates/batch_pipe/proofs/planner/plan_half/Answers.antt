@@ -1,5 +1,5 @@
 use Rattle.event_reader.specs.Versions.{greatest_of}
-use Rattle.batch_pipe.specs.Planning.{bench, layout_by}
+use Rattle.batch_pipe.specs.PlannedBatches.{bench, layout_by}
 use Rattle.batch_pipe.proofs.Ahead.{ahead_nothing}
 use Rattle.batch_pipe.proofs.planner.plan_half.Goals as goal
 

@@ -1,8 +1,8 @@
 use Rattle.std.proofs.Common.{◌+◌, [], refl, arith}
 use Rattle.event_reader.specs.Versions.{greatest_of}
 use Rattle.batch_pipe.specs.declared.items.Sent.{Sent}
-use Rattle.batch_pipe.specs.Planning.{layout_by}
-use Rattle.batch_pipe.specs.Reading.{stand}
+use Rattle.batch_pipe.specs.PlannedBatches.{layout_by}
+use Rattle.batch_pipe.specs.GivenBatches.{stand}
 use Rattle.batch_pipe.proofs.Ahead.{ahead_nothing, ahead_more}
 use Rattle.batch_pipe.proofs.planner.read_first.Goals as goal
 

@@ -3,9 +3,9 @@ use Rattle.std.proofs.lemmas.List.{length-map}
 use Rattle.event_reader.specs.Versions.{greatest_of}
 use Rattle.morph_base.specs.Transactions.{transaction_of, transactions_of}
 use Rattle.morph_base.proofs.BoundLaws.{high_of-alike}
-use Rattle.batch_pipe.specs.Planning.{layout_by}
-use Rattle.batch_pipe.specs.Reading.{stand}
-use Rattle.batch_pipe.proofs.Givings.{gives_one}
+use Rattle.batch_pipe.specs.PlannedBatches.{layout_by}
+use Rattle.batch_pipe.specs.GivenBatches.{stand}
+use Rattle.batch_pipe.proofs.GivenBatches.{gives_one}
 use Rattle.batch_pipe.proofs.planner.read_plan.Goals as goal
 
 pub returns-in-Ok-clause-plan : goal.returns-in-Ok-clause-plan

@@ -6,9 +6,9 @@ use Rattle.morph_io.specs.Told.{IsAtEnd}
 use Rattle.event_reader.specs.Pending.{batch_of}
 use Rattle.event_reader.specs.declared.version.Version.TheVariants.{Two}
 use Rattle.event_reader.specs.Versions.{is_version_line}
-use Rattle.event_reader.proofs.BatchAskings.{asked_from, asked_next, asked_all}
-use Rattle.event_reader.proofs.Batching.{nothing_sound, answers_too_long, answers_ended, answers_last, answers_fault_next, shows_fault_next, reads_some, stays_ended, ends_later, answers_batch, shows_batch, answers_refused, plain_by, no_items, behind_version, goes_behind, closes_behind, refuses_behind}
-use Rattle.event_reader.proofs.Opening.{known_after}
+use Rattle.event_reader.proofs.BatchReads.{asked_from, asked_next, asked_all}
+use Rattle.event_reader.proofs.BatchAnswers.{nothing_sound, answers_too_long, answers_ended, answers_last, answers_fault_next, shows_fault_next, reads_some, stays_ended, ends_later, answers_batch, shows_batch, answers_refused, plain_by, no_items, behind_version, goes_behind, closes_behind, refuses_behind}
+use Rattle.event_reader.proofs.InputVersion.{known_after}
 use Rattle.event_reader.proofs.batches.read_batch.Goals as goal
 
 pub lines-init : goal.lines-init

@@ -3,7 +3,7 @@ use Rattle.std.proofs.Common.{◌∙◌, sym, arith, refl}
 use Rattle.std.proofs.lemmas.List.{take_rest}
 use Rattle.std.proofs.lemmas.Result.{err_from_is_err_and}
 use Rattle.morph_io.specs.Told.{behind_nil}
-use Rattle.morph_io.specs.Writing.{no_write}
+use Rattle.morph_io.specs.SinkWrites.{no_write}
 use Rattle.morph_io.proofs.Pieces.{behind_piece, part_at, writes_piece, writes_cut}
 use Rattle.morph_io.proofs.output.write_all.Goals as goal
 

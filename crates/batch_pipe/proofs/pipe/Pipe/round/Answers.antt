@@ -8,9 +8,9 @@ use Rattle.morph_base.specs.Flat.{contents}
 use Rattle.event_reader.specs.Reader.{ReaderView}
 use Rattle.rtrb.specs.Ring.{sent, received, known_items, known_free, producer_capacity}
 use Rattle.batch_pipe.specs.declared.items.Sent.{Sent}
-use Rattle.batch_pipe.specs.Planning.{IsReadyPlan, PlansAhead, bench, CanPlan, layout_by}
-use Rattle.batch_pipe.specs.Running.{Manner, manner, somes, one_or_none}
-use Rattle.batch_pipe.specs.Waiting.{PipeView, IsGoing, IsRound}
+use Rattle.batch_pipe.specs.PlannedBatches.{IsReadyPlan, PlansAhead, bench, CanPlan, layout_by}
+use Rattle.batch_pipe.specs.PlanRuns.{Manner, manner, somes, one_or_none}
+use Rattle.batch_pipe.specs.PipeRounds.{PipeView, IsGoing, IsRound}
 use Rattle.batch_pipe.specs.Inside.{view_of}
 use Rattle.batch_pipe.proofs.Ahead.{same_layout, ready_as, waits_ready, halves_keep}
 use Rattle.batch_pipe.proofs.Bounds.{state_after-within}

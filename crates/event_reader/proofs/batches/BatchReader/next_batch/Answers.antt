@@ -1,7 +1,7 @@
 use Rattle.std.proofs.Common.{sym, refl, ◌∙◌, []}
 use Rattle.morph_io.specs.Told.{ahead_nil}
-use Rattle.event_reader.specs.Asking.{not_yet}
-use Rattle.event_reader.proofs.Batching.{ended_told}
+use Rattle.event_reader.specs.SourceReads.{not_yet}
+use Rattle.event_reader.proofs.BatchAnswers.{ended_told}
 use Rattle.event_reader.proofs.batches.BatchReader.next_batch.Goals as goal
 
 pub returns-then-not-live-clause-answer : goal.returns-then-not-live-clause-answer

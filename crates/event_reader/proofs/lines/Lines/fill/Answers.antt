@@ -4,7 +4,7 @@ use Rattle.std.proofs.lemmas.List.{with_items_is}
 use Rattle.std.proofs.lemmas.List.Edits.{length-between}
 use Rattle.morph_io.specs.Told.{ahead, ahead_nil}
 use Rattle.event_reader.proofs.BufferParts.{range_filled, range_kept, length-range, twice_written, first_item, within_limit}
-use Rattle.event_reader.proofs.Askings.{once, not_beyond, last_where_none}
+use Rattle.event_reader.proofs.LineReads.{once, not_beyond, last_where_none}
 use Rattle.event_reader.proofs.lines.Lines.fill.Goals as goal
 
 pub returns-then-left-eq0-clause-fills : goal.returns-then-left-eq0-clause-fills

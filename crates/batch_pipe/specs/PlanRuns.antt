@@ -17,7 +17,7 @@ use Rattle.batch_pipe.specs.declared.items.Sent.{Sent}
 use Rattle.batch_pipe.specs.declared.items.Ran.{Ran}
 use Rattle.batch_pipe.specs.declared.items.Picker.{Picker}
 use Rattle.batch_pipe.specs.declared.runner.Runner.{Runner}
-use Rattle.batch_pipe.specs.Planning.{IsReadyPlan}
+use Rattle.batch_pipe.specs.PlannedBatches.{IsReadyPlan}
 
 -- How plans are run: how the strategy of each is picked, and by how many workers
 pub record Manner : Type 0 where

@@ -17,7 +17,7 @@ use Rattle.batch_pipe.specs.declared.items.Sent.{Sent}
 use Rattle.batch_pipe.specs.declared.planner.Planner.{Planner}
 use Rattle.batch_pipe.specs.declared.tail.Tail.{Tail}
 use Rattle.batch_pipe.specs.declared.tail.Tail.TheVariants.{End, Refused, Fault, RunMemory}
-use Rattle.batch_pipe.specs.Reading.{Stand, stand, GivesBatches}
+use Rattle.batch_pipe.specs.GivenBatches.{Stand, stand, GivesBatches}
 
 -- The answer of a reader that a tail stands for. For `RunMemory` it is `OutOfMemory`, which says nothing
 abbrev pub answer_of : Tail → Result Next ReaderFault

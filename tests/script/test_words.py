@@ -43,8 +43,10 @@ class Table(unittest.TestCase):
             self.assertEqual(SETTINGS[name].values, (int(least), int(greatest)), name)
 
     def test_words(self):
+        said = dict(re.findall(r'^(\w+_word \w+) = (codes "\w+")', self.values, re.M))
         for name, defined in WORDS.items():
             body = re.search(rf"^{defined} value =((?:.*\n)+?)\n", self.values, re.M).group(1)
+            body = re.sub(r"\w+_word \w+", lambda word: said[word.group()], body)
             self.assertEqual(sorted(re.findall(r'codes "(\w+)"', body)), sorted(SETTINGS[name].values), name)
 
     def test_every_setting_is_compared(self):

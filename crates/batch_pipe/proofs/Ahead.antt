@@ -13,9 +13,9 @@ use Rattle.batch_pipe.specs.declared.tail.Tail.{Tail}
 use Rattle.rtrb.specs.declared.producer.Producer.{Producer}
 use Rattle.rtrb.specs.declared.consumer.Consumer.{Consumer}
 use Rattle.rtrb.specs.Ring.{SameProducer, SameConsumer}
-use Rattle.batch_pipe.specs.Reading.{Stand}
-use Rattle.batch_pipe.specs.Planning.{IsReadyPlan, AreNumbered, Plans, PlansAhead, StopsWithTail, layout_by, plans_of}
-use Rattle.batch_pipe.proofs.Givings.{plans_nothing, plans_both, plans_stop}
+use Rattle.batch_pipe.specs.GivenBatches.{Stand}
+use Rattle.batch_pipe.specs.PlannedBatches.{Bench, IsReadyPlan, AreNumbered, Plans, PlansAhead, StopsWithTail, layout_by, plans_of}
+use Rattle.batch_pipe.proofs.GivenBatches.{plans_nothing, plans_both, plans_stop}
 
 pub numbered-append : (n : ℕ) (xs ys : List Sent) → AreNumbered n xs → AreNumbered (n + length xs) ys → AreNumbered n (xs ++ ys)
 unfolding AreNumbered
@@ -33,13 +33,13 @@ unfolding AreNumbered
 numbered-none n = tt
 
 module _ {App : Type 0} (event_of : App → ℕ → Meaning) (layout : Layout) (high : ℕ) where
-  abbrev pub ahead_nothing : (a : Stand App) (before : List Sent) (n : ℕ) → PlansAhead event_of layout high a before n None a before n
-  ahead_nothing a before n = record {
+  abbrev pub ahead_nothing : (a : Bench App) → PlansAhead event_of layout high a None a
+  ahead_nothing a = record {
     more = [];
-    sent_is = sym (append-nil before);
-    plans = plans_nothing event_of a;
+    sent_is = sym (append-nil a.sent);
+    plans = plans_nothing event_of a.at;
     ready = λ k d lt. absurd (omega arith);
-    numbered = numbered-none n;
+    numbered = numbered-none a.number;
     number_is = omega arith;
   }
 
@@ -48,27 +48,27 @@ module _ {App : Type 0} (event_of : App → ℕ → Meaning) (layout : Layout) (
   ready_as high' [] is ready = All-nil (λ (x : Sent). IsReadyPlan layout high' x.plan)
   ready_as high' (x ∷ xs) is ready = subst (λ n. All (λ (y : Sent). IsReadyPlan layout n y.plan) (x ∷ xs)) (sym (is (zero-lt-suc (length xs)))) ready
 
-  pub ahead_more : {a b c : Stand App} {before middle after : List Sent} {n m k : ℕ} (high' : ℕ) (x : Sent) (p : PlansAhead event_of layout high a before n None b middle m) →
-      Plans event_of b (x.plan ∷ []) None c → (0 < length p.more → high' ≡ high) → IsReadyPlan layout high' x.plan → after ≡ middle ++ x ∷ [] → x.number ≡ m + 1 → k ≡ m + 1 →
-      PlansAhead event_of layout high' a before n None c after k
-  ahead_more {a} {b} {c} {before} {middle} {after} {n} {m} {k} high' x p q same ready is number next = record {
+  pub ahead_more : {a b c : Bench App} (high' : ℕ) (x : Sent) (p : PlansAhead event_of layout high a None b) →
+      Plans event_of b.at (x.plan ∷ []) None c.at → (0 < length p.more → high' ≡ high) → IsReadyPlan layout high' x.plan → c.sent ≡ b.sent ++ x ∷ [] → x.number ≡ b.number + 1 → c.number ≡ b.number + 1 →
+      PlansAhead event_of layout high' a None c
+  ahead_more {a} {b} {c} high' x p q same ready is number next = record {
     more = p.more ++ x ∷ [];
-    sent_is = is ∙ ap (λ l. l ++ x ∷ []) p.sent_is ∙ append_assoc before p.more (x ∷ []);
-    plans = subst (λ (l : List Plan). Plans event_of a l None c) (sym (map-append (λ (y : Sent). y.plan) p.more (x ∷ []))) (plans_both event_of (plans_of p.more) (x.plan ∷ []) p.plans q);
+    sent_is = is ∙ ap (λ l. l ++ x ∷ []) p.sent_is ∙ append_assoc a.sent p.more (x ∷ []);
+    plans = subst (λ (l : List Plan). Plans event_of a.at l None c.at) (sym (map-append (λ (y : Sent). y.plan) p.more (x ∷ []))) (plans_both event_of (plans_of p.more) (x.plan ∷ []) p.plans q);
     ready = All-push (λ (y : Sent). IsReadyPlan layout high' y.plan) p.more x (ready_as high' p.more same p.ready) ready;
-    numbered = numbered-append n p.more (x ∷ []) p.numbered (numbered-one (n + length p.more) x (number ∙ ap (λ i. i + 1) p.number_is));
+    numbered = numbered-append a.number p.more (x ∷ []) p.numbered (numbered-one (a.number + length p.more) x (number ∙ ap (λ i. i + 1) p.number_is));
     number_is = let l = length-append p.more (x ∷ []) in let i = p.number_is in omega (arith, l, i, next);
   }
 
-  pub ahead_stop : {a b c : Stand App} {before after : List Sent} {n m : ℕ} (high' : ℕ) (tail : Tail) (p : PlansAhead event_of layout high a before n None b after m) → StopsWithTail event_of tail b c →
-      (0 < length p.more → high' ≡ high) → PlansAhead event_of layout high' a before n (Some tail) c after m
-  ahead_stop {a} {b} {c} high' tail p stops same = record {
+  pub ahead_stop : {a b c : Bench App} (high' : ℕ) (tail : Tail) (p : PlansAhead event_of layout high a None b) → StopsWithTail event_of tail b.at c.at →
+      (0 < length p.more → high' ≡ high) → c.sent ≡ b.sent → c.number ≡ b.number → PlansAhead event_of layout high' a (Some tail) c
+  ahead_stop {a} {b} {c} high' tail p stops same is number = record {
     more = p.more;
-    sent_is = p.sent_is;
+    sent_is = is ∙ p.sent_is;
     plans = plans_stop event_of (plans_of p.more) tail p.plans stops;
     ready = ready_as high' p.more same p.ready;
     numbered = p.numbered;
-    number_is = p.number_is;
+    number_is = number ∙ p.number_is;
   }
 
 -- the same end of a ring

@@ -8,8 +8,8 @@ use Rattle.morph_base.specs.Plans.{PlanKeysIn, high_of, transactions}
 use Rattle.morph_base.specs.States.{State, IsUpTo, after_all}
 use Rattle.morph_base.proofs.BoundLaws.{after_all-within, transactions_within}
 use Rattle.batch_pipe.specs.declared.items.Sent.{Sent}
-use Rattle.batch_pipe.specs.Planning.{IsReadyPlan}
-use Rattle.batch_pipe.specs.Running.{IsRunnable, state_after}
+use Rattle.batch_pipe.specs.PlannedBatches.{IsReadyPlan}
+use Rattle.batch_pipe.specs.PlanRuns.{IsRunnable, state_after}
 
 module _ (layout : Layout) (high : ℕ) where
   abbrev pub AllReady : List Sent → Type 0

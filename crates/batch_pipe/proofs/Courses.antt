@@ -20,14 +20,14 @@ use Rattle.batch_pipe.specs.declared.items.Sent.{Sent}
 use Rattle.batch_pipe.specs.declared.items.Ran.{Ran}
 use Rattle.batch_pipe.specs.declared.tail.Tail.{Tail}
 use Rattle.batch_pipe.specs.declared.tail.Tail.TheVariants.{End, Refused, Fault, RunMemory}
-use Rattle.batch_pipe.specs.Reading.{Stand, stand, with_batches}
-use Rattle.batch_pipe.specs.Planning.{Plans, StopsWithTail, MayStop, ArePlansOf, AreNumbered, answer_of, plans_of}
-use Rattle.batch_pipe.specs.Running.{Manner, AreRun, state_after, last_after}
+use Rattle.batch_pipe.specs.GivenBatches.{Stand, stand, with_batches}
+use Rattle.batch_pipe.specs.PlannedBatches.{Plans, StopsWithTail, MayStop, ArePlansOf, AreNumbered, answer_of, plans_of}
+use Rattle.batch_pipe.specs.PlanRuns.{Manner, AreRun, state_after, last_after}
 use Rattle.decision_model.specs.Choices.{no_last}
-use Rattle.batch_pipe.specs.Waiting.{PipeView, IsRound, IsGoing, new_pipe, number_before, or_else}
+use Rattle.batch_pipe.specs.PipeRounds.{PipeView, IsRound, IsGoing, new_pipe, number_before, or_else}
 use Rattle.batch_pipe.specs.Courses.{IsCourse, ending_of}
 use Rattle.batch_pipe.proofs.Ahead.{numbered-append}
-use Rattle.batch_pipe.proofs.Givings.{plans_nothing, plans_both}
+use Rattle.batch_pipe.proofs.GivenBatches.{plans_nothing, plans_both}
 use Rattle.batch_pipe.proofs.Desks.{state_after-append, last_after-append, AreRun-append, empty_is}
 use Rattle.batch_pipe.proofs.Rounds.{by_both, zero_or, numbered-back, takes_going}
 

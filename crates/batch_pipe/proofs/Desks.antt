@@ -8,7 +8,7 @@ use Rattle.morph_base.specs.Plans.{transactions}
 use Rattle.decision_model.specs.declared.counts.Last.{Last}
 use Rattle.batch_pipe.specs.declared.items.Sent.{Sent}
 use Rattle.batch_pipe.specs.declared.items.Ran.{Ran}
-use Rattle.batch_pipe.specs.Running.{Manner, AreRun, IsSentRun, state_after, last_after, came_of, somes, Desk, Runs}
+use Rattle.batch_pipe.specs.PlanRuns.{Manner, AreRun, IsSentRun, state_after, last_after, came_of, somes, Desk, Runs}
 
 pub state_after-append : (s : State) (xs ys : List Sent) → state_after s (xs ++ ys) ≡ state_after (state_after s xs) ys
 unfolding state_after

@@ -1,4 +1,4 @@
-pub mod Givings
+pub mod GivenBatches
 pub mod Desks
 pub mod Ahead
 pub mod Rounds

@@ -19,12 +19,12 @@ use Rattle.batch_pipe.specs.declared.items.Sent.{Sent}
 use Rattle.batch_pipe.specs.declared.items.Ran.{Ran}
 use Rattle.batch_pipe.specs.declared.tail.Tail.{Tail}
 use Rattle.batch_pipe.specs.declared.tail.Tail.TheVariants.{RunMemory}
-use Rattle.batch_pipe.specs.Reading.{Stand, stand}
-use Rattle.batch_pipe.specs.Planning.{AreNumbered, Plans, PlansAhead, StopsWithTail, MayStop, plans_of}
-use Rattle.batch_pipe.specs.Running.{Manner, AreRun, RunsWaiting, Desk, somes, one_or_none, state_after, last_after, came_of}
+use Rattle.batch_pipe.specs.GivenBatches.{Stand, stand}
+use Rattle.batch_pipe.specs.PlannedBatches.{AreNumbered, Plans, PlansAhead, StopsWithTail, MayStop, plans_of}
+use Rattle.batch_pipe.specs.PlanRuns.{Manner, AreRun, RunsWaiting, Desk, somes, one_or_none, state_after, last_after, came_of}
 use Rattle.batch_pipe.specs.Courses.{reads_left, steps_left}
-use Rattle.batch_pipe.specs.Waiting.{PipeView, IsRound, IsGoing, number_before, or_else}
-use Rattle.batch_pipe.proofs.Givings.{plans_nothing, plans_both, plans_stop}
+use Rattle.batch_pipe.specs.PipeRounds.{PipeView, IsRound, IsGoing, number_before, or_else}
+use Rattle.batch_pipe.proofs.GivenBatches.{plans_nothing, plans_both, plans_stop}
 use Rattle.batch_pipe.proofs.Ahead.{numbered-append}
 use Rattle.batch_pipe.proofs.Desks.{empty_is}
 
@@ -76,9 +76,9 @@ module _ {App : Type 0} (event_of : App → ℕ → Meaning) (layout : Layout) (
 
   pub round_is : {high high' : ℕ} {a b : PipeView App} {left left1 left2 : Option (List ℕ)} {r1 : ReaderView App} {n1 next : ℕ} {stop : Option Tail} {all : Bool}
       {sent0 sent1 received0 received1 known1 : List Sent} {places0 places1 : List (Option Ran)} (free : ℕ) (first : Option Sent) →
-      PlansAhead event_of layout high (stand a.reader left) [] a.sent None (stand r1 left1) (one_or_none first) n1 →
-      PlansAhead event_of layout high' (stand r1 left1) sent0 n1 stop (stand b.reader left2) sent1 b.sent →
-      RunsWaiting m (desk_at a places0 0) (one_or_none first) a.waiting all (desk_at b places1 next) received0 received1 known1 →
+      PlansAhead event_of layout high (record { at = stand a.reader left; sent = []; number = a.sent }) None (record { at = stand r1 left1; sent = one_or_none first; number = n1 }) →
+      PlansAhead event_of layout high' (record { at = stand r1 left1; sent = sent0; number = n1 }) stop (record { at = stand b.reader left2; sent = sent1; number = b.sent }) →
+      RunsWaiting m (record { desk = desk_at a places0 0; received = received0; known = a.waiting }) (one_or_none first) all (record { desk = desk_at b places1 next; received = received1; known = known1 }) →
       somes places0 ≡ [] → b.rans ≡ somes places1 → received0 ++ a.waiting ≡ sent0 → received1 ++ b.waiting ≡ sent1 →
       AreNumbered (number_before a) a.waiting → length a.waiting ≤ a.sent → a.ahead ≤ free + length a.waiting → length (one_or_none first) ≡ 1 - length a.waiting →
       (IsSome a.tail → (stop ≡ None) × (sent1 ≡ sent0) × (b.reader ≡ a.reader) × (left2 ≡ left)) → IfSome stop (λ tail. tail ≢ RunMemory) → (a.tail ≡ None → IfNone stop (length sent0 + free ≤ length sent1)) → (IsSome a.tail → 0 < length a.waiting) →

@@ -9,11 +9,11 @@ use Rattle.batch_pipe.specs.declared.items.Sent.{Sent}
 use Rattle.batch_pipe.specs.declared.items.Ran.{Ran}
 use Rattle.batch_pipe.specs.declared.tail.Tail.{Tail}
 use Rattle.batch_pipe.specs.declared.tail.Tail.TheVariants.{End, Refused, Fault, RunMemory}
-use Rattle.batch_pipe.specs.Reading.{stand}
-use Rattle.batch_pipe.specs.Planning.{Plans, AreNumbered, plans_of}
-use Rattle.batch_pipe.specs.Running.{Manner, AreRun, state_after, last_after}
+use Rattle.batch_pipe.specs.GivenBatches.{stand}
+use Rattle.batch_pipe.specs.PlannedBatches.{Plans, AreNumbered, plans_of}
+use Rattle.batch_pipe.specs.PlanRuns.{Manner, AreRun, state_after, last_after}
 use Rattle.decision_model.specs.Choices.{no_last}
-use Rattle.batch_pipe.specs.Waiting.{PipeView, IsGoing}
+use Rattle.batch_pipe.specs.PipeRounds.{PipeView, IsGoing}
 
 -- This many rounds of a new pipe, with this reader and engine, led to the pipe b. The plans that were sent, numbered
 -- from 1, are those of the first batches that the reader gave, in order and each once. Those that were run are the

@@ -6,9 +6,9 @@ use Rattle.event_reader.specs.Versions.{greatest_of}
 use Rattle.rtrb.specs.Ring.{sent, received, known_items, known_free, producer_capacity, IsPair}
 use Rattle.batch_pipe.specs.declared.items.Sent.{Sent}
 use Rattle.batch_pipe.specs.declared.pipe.Pipe.TheInside.{Inside}
-use Rattle.batch_pipe.specs.Planning.{IsReadyPlan, AreNumbered, CanPlan, layout_by}
-use Rattle.batch_pipe.specs.Running.{somes}
-use Rattle.batch_pipe.specs.Waiting.{PipeView}
+use Rattle.batch_pipe.specs.PlannedBatches.{IsReadyPlan, AreNumbered, CanPlan, layout_by}
+use Rattle.batch_pipe.specs.PlanRuns.{somes}
+use Rattle.batch_pipe.specs.PipeRounds.{PipeView}
 
 module _ {A : Type 0} where
   -- The plans that wait in the pipe

@@ -5,8 +5,8 @@ ghost use Rattle.morph_io.specs.Told.{HasRisen};
 ghost use Rattle.event_reader.specs.declared.fault.ReaderFault.TheVariants.{ReadFault};
 ghost use Rattle.rtrb.specs.Ring.{SameProducer};
 ghost use Rattle.event_reader.specs.Reader.{SameReader};
-ghost use Rattle.batch_pipe.specs.Planning.{HasPlanned, HasFilled, CanPlan, IsIdlePlanner};
-ghost use Rattle.batch_pipe.specs.Running.{CanRun, HasRunWaiting, manner, one_or_none};
+ghost use Rattle.batch_pipe.specs.PlannedBatches.{HasPlanned, HasFilled, CanPlan, IsIdlePlanner};
+ghost use Rattle.batch_pipe.specs.PlanRuns.{CanRun, HasRunWaiting, manner, one_or_none};
 
 use crate::items::Sent;
 use crate::planner::{Planner, plan_half};

@@ -1,6 +1,6 @@
 ghost use Rattle.std.specs.Prelude.{◌≡◌};
 ghost use Rattle.morph_base.specs.Graphs.{IsValidPlan};
-ghost use Rattle.batch_pipe.specs.Running.{picked};
+ghost use Rattle.batch_pipe.specs.PlanRuns.{picked};
 
 use decision_model::{Last, choose, profile};
 use morph_base::{Plan, Strategy};

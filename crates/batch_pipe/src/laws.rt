@@ -11,9 +11,9 @@ ghost use Rattle.batch_pipe.specs.declared.items.Ran.{Ran};
 ghost use Rattle.batch_pipe.specs.declared.tail.Tail.{Tail};
 ghost use Rattle.batch_pipe.specs.declared.tail.Tail.TheVariants.{Fault, RunMemory};
 ghost use Rattle.batch_pipe.specs.Courses.{IsCourse, ending_of, steps_left};
-ghost use Rattle.batch_pipe.specs.Planning.{ArePlansOf, plans_of};
-ghost use Rattle.batch_pipe.specs.Running.{Manner};
-ghost use Rattle.batch_pipe.specs.Waiting.{PipeView, IsGoing, IsRound, new_pipe};
+ghost use Rattle.batch_pipe.specs.PlannedBatches.{ArePlansOf, plans_of};
+ghost use Rattle.batch_pipe.specs.PlanRuns.{Manner};
+ghost use Rattle.batch_pipe.specs.PipeRounds.{PipeView, IsGoing, IsRound, new_pipe};
 
 use event_reader::EventApp;
 

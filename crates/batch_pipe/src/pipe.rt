@@ -8,9 +8,9 @@ ghost use Rattle.event_reader.specs.Versions.{greatest_of};
 ghost use Rattle.event_reader.specs.declared.fault.ReaderFault.TheVariants.{ReadFault};
 ghost use Rattle.rtrb.specs.Ring.{sent, received, known_items, known_free, producer_capacity, IsPair, SameProducer, SameConsumer};
 ghost use Rattle.batch_pipe.specs.declared.items.Ran.{Ran};
-ghost use Rattle.batch_pipe.specs.Planning.{layout_by};
-ghost use Rattle.batch_pipe.specs.Running.{manner, somes};
-ghost use Rattle.batch_pipe.specs.Waiting.{IsGoing, IsRound, new_pipe};
+ghost use Rattle.batch_pipe.specs.PlannedBatches.{layout_by};
+ghost use Rattle.batch_pipe.specs.PlanRuns.{manner, somes};
+ghost use Rattle.batch_pipe.specs.PipeRounds.{IsGoing, IsRound, new_pipe};
 
 use crate::halves::run_halves;
 use crate::items::{Picker, Ran, Sent};
@@ -41,7 +41,7 @@ pub struct Pipe<A: EventApp> {
 }
 
 impl<A: EventApp> Model for Pipe<A> {
-    ghost use Rattle.batch_pipe.specs.Waiting.{PipeView};
+    ghost use Rattle.batch_pipe.specs.PipeRounds.{PipeView};
 
     ghost Value = { PipeView A };
 

@@ -4,10 +4,10 @@ ghost use Rattle.event_reader.specs.Limits.{input_bytes};
 ghost use Rattle.event_reader.specs.Versions.{greatest_of};
 ghost use Rattle.event_reader.specs.declared.fault.ReaderFault.TheVariants.{ReadFault};
 ghost use Rattle.rtrb.specs.Ring.{SameProducer};
-ghost use Rattle.batch_pipe.specs.Reading.{stand};
+ghost use Rattle.batch_pipe.specs.GivenBatches.{stand};
 ghost use Rattle.event_reader.specs.Reader.{SameReader};
-ghost use Rattle.batch_pipe.specs.Planning.{IsReadyPlan, Plans, StopsWithTail, PlansAhead, HasPlanned, HasFilled, CanPlan, IsIdlePlanner, layout_by};
-ghost use Rattle.batch_pipe.specs.Running.{one_or_none};
+ghost use Rattle.batch_pipe.specs.PlannedBatches.{IsReadyPlan, Plans, StopsWithTail, PlansAhead, HasPlanned, HasFilled, CanPlan, IsIdlePlanner, layout_by};
+ghost use Rattle.batch_pipe.specs.PlanRuns.{one_or_none};
 
 use crate::items::Sent;
 use crate::tail::Tail;
@@ -73,8 +73,16 @@ pub(crate) fn read_first<A: EventApp, S: Source>(
     ensures plans { IfOk result (λ first. PlansAhead A.event_of
         (layout_by A.table_count planner.old.reader)
         (greatest_of planner.new.reader.past.version)
-        (stand planner.old.reader (S.left source.old)) [] planner.old.sent
-        None (stand planner.new.reader (S.left source.new)) (one_or_none first) planner.new.sent) }
+        (record {
+          at = stand planner.old.reader (S.left source.old);
+          sent = [];
+          number = planner.old.sent;
+        }) None
+        (record {
+          at = stand planner.new.reader (S.left source.new);
+          sent = one_or_none first;
+          number = planner.new.sent;
+        })) }
     ensures stops { IfErr result (λ tail. StopsWithTail A.event_of tail
         (stand planner.old.reader (S.left source.old))
         (stand planner.new.reader (S.left source.new))) }

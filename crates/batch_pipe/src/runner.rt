@@ -4,8 +4,8 @@ ghost use Rattle.morph_base.specs.Flat.{contents};
 ghost use Rattle.morph_base.specs.States.{after_all};
 ghost use Rattle.morph_base.specs.Plans.{IsPlan, IsSettledOf, transactions};
 ghost use Rattle.morph_engine.specs.Fates.{settled_fates};
-ghost use Rattle.batch_pipe.specs.Running.{IsSentRun, Runs, HasRunWaiting, HasPlace, IsRunnable};
-ghost use Rattle.batch_pipe.specs.Running.{CanRun, IsPlanRefused, came_of, desk, manner, one_or_none};
+ghost use Rattle.batch_pipe.specs.PlanRuns.{IsSentRun, Runs, HasRunWaiting, HasPlace, IsRunnable};
+ghost use Rattle.batch_pipe.specs.PlanRuns.{CanRun, IsPlanRefused, came_of, desk, manner, one_or_none};
 ghost use Rattle.decision_model.specs.Choices.{last_of};
 
 use crate::items::{Picker, Ran, Sent};

@@ -1,5 +1,5 @@
 ghost use Rattle.std.specs.Prelude.{◌≡◌, Some, false, IsTrue};
-ghost use Rattle.batch_pipe.specs.Waiting.{or_else};
+ghost use Rattle.batch_pipe.specs.PipeRounds.{or_else};
 
 use event_reader::{Cause, ReaderFault};
 

@@ -8,11 +8,11 @@ use Rattle.event_reader.specs.Versions.{has_version_line, lines_read, version_of
 use Rattle.event_reader.specs.Accepted.{Accepted, Ended, RefusedAt, CutOff, accepted, accepted_first, accepted_lines}
 use Rattle.event_reader.specs.LineEvents.{batches_said, closed_said, events_said}
 use Rattle.event_reader.specs.FirstRefused.{HasCauses, IsFirstRefused, IsFirstRefusedIn}
-use Rattle.event_reader.proofs.Closings.{refused_are_said, cut_are_said}
-use Rattle.event_reader.proofs.Sayings.{batches_are_said, joined_are_said}
-use Rattle.event_reader.proofs.Rising.{Rises, rises}
-use Rattle.event_reader.proofs.Refusing.{refused_is_first, first_is_refused}
-use Rattle.event_reader.proofs.Numbering.{one_later, ends_later, refused_before}
+use Rattle.event_reader.proofs.ClosedBatches.{refused_are_said, cut_are_said}
+use Rattle.event_reader.proofs.LineEvents.{batches_are_said, joined_are_said}
+use Rattle.event_reader.proofs.RisingTimes.{Rises, rises}
+use Rattle.event_reader.proofs.FirstRefused.{refused_is_first, first_is_refused}
+use Rattle.event_reader.proofs.LineNumbers.{one_later, ends_later, refused_before}
 
 -- the lines in front of a number are read as the input's are, where that one stands behind the version line
 front_read : (lines : List (List ℕ)) (k : ℕ) → has_version_line lines ≡ true → lines_read (take (suc k) lines) ≡ take k (drop 1 lines)

@@ -17,7 +17,7 @@ use Rattle.event_reader.specs.VersionLaws.{long_plain}
 use Rattle.event_reader.specs.Steps.{Rules, Meaning, rules_of, Step, Ignored, Closes, Adds, Refuses, latest_with, step_of}
 use Rattle.event_reader.specs.Accepted.{Accepted, Ending, Ended, RefusedAt, CutOff, with_batch, led_by, accepted_lines, accepted_first, accepted, accepted_within, closed_batches}
 use Rattle.event_reader.specs.Reader.{new_reader, accepted_by}
-use Rattle.event_reader.proofs.Cutting.{some_piece, first_if, length-without_cr}
+use Rattle.event_reader.proofs.Pieces.{some_piece, first_if, length-without_cr}
 
 -- pieces of which the last goes on, and others follow it
 data GoesOn : List (List ℕ) → List (List ℕ) → Type 0 where

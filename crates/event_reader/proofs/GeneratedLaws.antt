@@ -14,8 +14,8 @@ use Rattle.event_reader.specs.Lines.{is_line_feed, lines_of, without_cr, last_if
 use Rattle.event_reader.specs.declared.version.Version.TheVariants.{One}
 use Rattle.event_reader.specs.Versions.{has_version_line}
 use Rattle.event_reader.specs.Steps.{Rules, Meaning, rules_of, Adds, latest_with, has_time, joining}
-use Rattle.event_reader.proofs.Cutting.{line_at}
-use Rattle.event_reader.proofs.Stepping.{leads_joined, leads_closed}
+use Rattle.event_reader.proofs.Pieces.{line_at}
+use Rattle.event_reader.proofs.LineSteps.{leads_joined, leads_closed}
 
 -- a line without control characters ends in no CR, and has no LF
 no_cr : (line : List ℕ) → All (λ b. 32 ≤ b) line → (slice_index line (length line - 1) == 13) ≡ false

@@ -6,7 +6,7 @@ use Rattle.std.proofs.lemmas.List.{map-set, take_more_set, length-map}
 use Rattle.std.proofs.lemmas.List.Folds.{list_all-append}
 use Rattle.event_reader.specs.Limits.{line_words}
 use Rattle.event_reader.specs.Words.{parts_of, is_space, is_word, words_of}
-use Rattle.event_reader.proofs.Cutting.{some_piece}
+use Rattle.event_reader.proofs.Pieces.{some_piece}
 
 -- one more item is put into its place
 pub placed : {A B : Type 0} (f : A → B) (items : List A) (i : ℕ) (item : A) → i < length items

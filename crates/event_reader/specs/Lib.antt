@@ -7,11 +7,12 @@ pub mod Accepted
 pub mod LineEvents
 pub mod FirstRefused
 pub mod Reader
-pub mod Asking
+pub mod SourceReads
+pub mod BatchAnswers
 pub mod Decisions
-pub mod Reading
+pub mod ReaderInvariant
 pub mod Buffers
-pub mod Filling
+pub mod Refills
 pub mod Times
 pub mod RisingTimes
 pub mod Pending
@@ -21,7 +22,7 @@ pub mod Generated
 pub mod Ranges
 pub mod Forms
 pub mod GeneratedText
-pub mod Generating
+pub mod GeneratorInvariant
 pub mod Versions
 pub mod VersionLaws
 pub mod Keys

@@ -30,6 +30,11 @@ pub record IsSoundBatch (version : Version) (layout : Layout) (batch : List Tran
   pub keys : All (HasKeysIn layout) batch
   pub limits : All (HasHigh (greatest_of version)) batch
 
+-- What lines are of: the version of the input, and the layout of its keys
+pub record InputForm : Type 0 where
+  pub version : Version
+  pub layout : Layout
+
 -- The unfinished batch has one more event
 pub record HasMore (most closed : ℕ) (old : Pending) (e : Transaction) (new : Pending) : Type 0 where
   pub joins : joining most closed (batch_of old) e ≡ Adds e
@@ -42,12 +47,12 @@ Joins most closed old e new None = HasMore most closed old e new
 Joins most closed old e new (Some cause) = joining most closed (batch_of old) e ≡ Refuses cause
 
 -- After the line the batch goes on, with at most one more event
-pub record GoesOnAfter (rules : Rules) (version : Version) (layout : Layout) (closed : ℕ) (old : Pending)
-    (line : List ℕ) (new : Pending) : Type 0 where
+pub record GoesOnAfter (rules : Rules) (form : InputForm) (closed : ℕ) (old : Pending) (line : List ℕ)
+    (new : Pending) : Type 0 where
   pub leads : (n : ℕ) (r : Reading)
       → accepted_from rules n closed (batch_of old) (with_line line r) ≡ accepted_from rules (n + 1) closed (batch_of new) r
   pub notes : Notes closed new
-  pub sound : IsSoundBatch version layout (batch_of new)
+  pub sound : IsSoundBatch form.version form.layout (batch_of new)
   pub more : length (batch_of new) ≤ length (batch_of old) + 1
 
 -- The line closes the batch, which has an event
@@ -58,9 +63,9 @@ pub record ClosedBy (rules : Rules) (closed : ℕ) (old : Pending) (line : List 
   pub some : 0 < length old.events.items
 
 -- What a line does to the unfinished batch, whatever lines follow it
-abbrev pub TakesLine : Rules → Version → Layout → (closed : ℕ) → (old : Pending) → (line : List ℕ) → (new : Pending)
+abbrev pub TakesLine : Rules → InputForm → (closed : ℕ) → (old : Pending) → (line : List ℕ) → (new : Pending)
     → LineEffect → Type 0
-TakesLine rules version layout closed old line new GoesOn = GoesOnAfter rules version layout closed old line new
-TakesLine rules version layout closed old line new ClosesBatch = ClosedBy rules closed old line new
-TakesLine rules version layout closed old line new (RefusesLine cause) =
+TakesLine rules form closed old line new GoesOn = GoesOnAfter rules form closed old line new
+TakesLine rules form closed old line new ClosesBatch = ClosedBy rules closed old line new
+TakesLine rules form closed old line new (RefusesLine cause) =
     (n : ℕ) (r : Reading) → accepted_from rules n closed (batch_of old) (with_line line r) ≡ record { batches = []; ending = RefusedAt (n + 1) cause }

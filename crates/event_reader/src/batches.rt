@@ -1,9 +1,7 @@
-ghost use Rattle.std.specs.Prelude.{◌≡◌, ◌↔◌, ℕ, ◌+◌, ◌<◌, ◌≤◌, true, [], IsTrue, IfOk, IsErrOf, false};
-ghost use Rattle.morph_io.specs.Told.{IsAtEnd, HasRisen};
+ghost use Rattle.std.specs.Prelude.{◌≡◌, ◌↔◌, ◌+◌, ◌<◌, ◌≤◌, true, [], IsTrue, IfOk, false};
 ghost use Rattle.event_reader.specs.declared.version.Version.TheVariants.{One};
-ghost use Rattle.event_reader.specs.Reader.{accepted_at, reading_of, AnswersNext, KnowsVersion, ShowsBatch};
-ghost use Rattle.event_reader.specs.Reader.{TakesBytes, IsValidNext, event_count, goes_on};
-ghost use Rattle.event_reader.specs.Asking.{AsksForBatch};
+ghost use Rattle.event_reader.specs.Reader.{goes_on};
+ghost use Rattle.event_reader.specs.BatchAnswers.{IsBatchAnswer, GivesBatch, HasReadOn, members, read_state};
 ghost use Rattle.event_reader.specs.Versions.{is_version_line};
 
 use crate::answers::{LineNext, Next};
@@ -39,36 +37,22 @@ fn read_batch<A: EventApp, S: Source>(
 ) -> Result<Next, ReaderFault>
     requires live { IsTrue lines.old.live }
     requires opens { lines.old.number ≡ 0 → past.old.version ≡ One }
-    ensures answers { let meaning = A.event_of app.now size in
-        AnswersNext (accepted_at meaning past.old lines.old (S.left source.old)) result
-        (accepted_at meaning past.new lines.new (S.left source.new)) }
-    ensures shows { TakesBytes (S.left source.old) (S.left source.new)
-        (ShowsBatch (A.event_of app.now size) past.old lines.old result past.new lines.new) }
-    ensures valid { IfOk result (IsValidNext past.new.version
-        (record { tables = A.table_count app.now; size = size })) }
-    ensures version { KnowsVersion lines.old.number (reading_of lines.old (S.left source.old))
-        lines.new.number past.new.version }
+    ensures answer { IsBatchAnswer (members S.left S.faults S.reads) (A.event_of app.now size)
+        (read_state past.old lines.old source.old) result (A.event_of app.now size)
+        (read_state past.new lines.new source.new) }
+    ensures batch { GivesBatch (members S.left S.faults S.reads)
+        (record { tables = A.table_count app.now; size = size })
+        (read_state past.old lines.old source.old) result
+        (read_state past.new lines.new source.new) }
+    ensures read { HasReadOn (members S.left S.faults S.reads)
+        (read_state past.old lines.old source.old) result
+        (read_state past.new lines.new source.new) }
     ensures stays { 0 < lines.old.number → past.new.version ≡ past.old.version }
     ensures opens { lines.new.number ≡ 0 → past.new.version ≡ One }
-    ensures counted { IfOk result (λ next. lines.old.number + event_count next ≤ lines.new.number) }
-    ensures bound { lines.new.number ≤ lines.new.limit + 1 }
     ensures limit { lines.new.limit ≡ lines.old.limit }
     ensures numbered { lines.old.number ≤ lines.new.number }
-    ensures at_end { lines.old.ended ≡ false → IsTrue lines.new.ended
-        → IsAtEnd (S.left source.new) }
-    ensures idle { IsTrue lines.old.ended → source.new ≡ source.old }
-    ensures unended { lines.new.ended ≡ false → lines.old.ended ≡ false }
     ensures done { IsTrue (goes_on result) → lines.new.live ≡ false
         → (lines.new.kept ≡ []) × IsTrue lines.new.ended }
-    ensures full { IsErrOf result ReaderFault.TooLong → lines.new.taken ≡ lines.new.limit }
-    ensures asked { IsErrOf result ReaderFault.ReadFault → lines.old.ended ≡ false }
-    ensures never_falls { S.faults source.old ≤ S.faults source.new }
-    ensures steady { (IsErrOf result ReaderFault.ReadFault → ⊥)
-        → S.faults source.new ≡ S.faults source.old }
-    ensures cause { IsErrOf result ReaderFault.ReadFault
-        → HasRisen (S.faults source.old) (S.faults source.new) }
-    ensures asks { AsksForBatch S.left S.reads (A.event_of app.now size)
-        past.old lines.old source.old result lines.new source.new }
 {
     let mut pending = Pending::new(alloc, past.closed);
     'lines: loop {
@@ -125,7 +109,7 @@ impl<A> Model for BatchReader<A> {
 
     ghost Value = { ReaderView A };
 
-    ghost use Rattle.event_reader.specs.Reading.{IsReader};
+    ghost use Rattle.event_reader.specs.ReaderInvariant.{IsReader};
 
     ghost view = { λ reader. record {
       app = reader.app;
@@ -140,8 +124,7 @@ impl<A> Model for BatchReader<A> {
 
 impl<A: EventApp> BatchReader<A> {
     ghost use Rattle.event_reader.specs.Limits.{input_bytes};
-    ghost use Rattle.event_reader.specs.Asking.{AsksForNext};
-    ghost use Rattle.event_reader.specs.Reader.{ReaderView, SameReader, new_reader, accepted_by, ShowsNext};
+    ghost use Rattle.event_reader.specs.Reader.{ReaderView, SameReader, new_reader};
 
     /// A reader for an application whose tables have `size` ids each, of an input of at most `limit` bytes.
     pub fn new(alloc: Global, app: A, size: u32, limit: u64) -> Result<Self, OutOfMemory>
@@ -193,34 +176,20 @@ impl<A: EventApp> BatchReader<A> {
         source: &mut S,
     ) -> Result<Next, ReaderFault>
         requires live { IsTrue self.old.live }
-        ensures answers { AnswersNext (accepted_by A.event_of self.old (S.left source.old)) result
-            (accepted_by A.event_of self.new (S.left source.new)) }
-        ensures shows { TakesBytes (S.left source.old) (S.left source.new)
-            (ShowsNext A.event_of self.old result self.new) }
-        ensures valid { IfOk result (IsValidNext self.new.past.version
-            (record { tables = A.table_count self.old.app; size = self.old.size })) }
-        ensures version { KnowsVersion self.old.lines.number
-            (reading_of self.old.lines (S.left source.old)) self.new.lines.number
-            self.new.past.version }
-        ensures counted { IfOk result
-            (λ next. self.old.lines.number + event_count next ≤ self.new.lines.number) }
-        ensures bound { self.new.lines.number ≤ self.new.lines.limit + 1 }
+        ensures answer { IsBatchAnswer (members S.left S.faults S.reads)
+            (A.event_of self.old.app self.old.size)
+            (read_state self.old.past self.old.lines source.old) result
+            (A.event_of self.new.app self.new.size)
+            (read_state self.new.past self.new.lines source.new) }
+        ensures batch { GivesBatch (members S.left S.faults S.reads)
+            (record { tables = A.table_count self.old.app; size = self.old.size })
+            (read_state self.old.past self.old.lines source.old) result
+            (read_state self.new.past self.new.lines source.new) }
+        ensures read { HasReadOn (members S.left S.faults S.reads)
+            (read_state self.old.past self.old.lines source.old) result
+            (read_state self.new.past self.new.lines source.new) }
         ensures same { SameReader self.old self.new }
-        ensures at_end { self.old.lines.ended ≡ false → IsTrue self.new.lines.ended
-            → IsAtEnd (S.left source.new) }
-        ensures idle { IsTrue self.old.lines.ended → source.new ≡ source.old }
-        ensures unended { self.new.lines.ended ≡ false → self.old.lines.ended ≡ false }
         ensures goes_on { self.new.live ≡ goes_on result }
-        ensures full { IsErrOf result ReaderFault.TooLong → self.new.lines.taken
-            ≡ self.new.lines.limit }
-        ensures asked { IsErrOf result ReaderFault.ReadFault → self.old.lines.ended ≡ false }
-        ensures never_falls { S.faults source.old ≤ S.faults source.new }
-        ensures steady { (IsErrOf result ReaderFault.ReadFault → ⊥)
-            → S.faults source.new ≡ S.faults source.old }
-        ensures cause { IsErrOf result ReaderFault.ReadFault
-            → HasRisen (S.faults source.old) (S.faults source.new) }
-        ensures asks { AsksForNext S.left S.reads A.event_of self.old source.old result self.new
-            source.new }
     {
         self.live = false;
         if !self.lines.live() {

@@ -32,7 +32,7 @@ impl<A> Model for GenSource<A> {
 
     ghost Value = { GenView A };
 
-    ghost use Rattle.event_reader.specs.Generating.{IsGenerator};
+    ghost use Rattle.event_reader.specs.GeneratorInvariant.{IsGenerator};
 
     ghost view = { λ source. record {
       app = source.app;

@@ -79,7 +79,7 @@ fn read_behind<S: Source>(
     ensures never_falls { S.faults source.old ≤ S.faults source.new }
     ensures steady { OnOk result (S.faults source.new ≡ S.faults source.old) }
     ensures cause { OnErr result (HasRisen (S.faults source.old) (S.faults source.new)) }
-    ensures does { S.reads source.old most result source.new }
+    ensures answer { S.reads source.old most result source.new }
 {
     source.read(&mut buffer[end..end + most])
 }
@@ -107,8 +107,8 @@ impl Lines {
     ghost use Rattle.morph_io.specs.Told.{ahead, IsAtEnd, HasRisen};
     ghost use Rattle.event_reader.specs.Limits.{longest_line, deciding_bytes, input_bytes};
     ghost use Rattle.event_reader.specs.Reader.{LinesView, new_lines, reading_of, AnswersLine, ShowsLine, TakesBytes, is_line, lines_given};
-    ghost use Rattle.event_reader.specs.Filling.{Fills, FillsBy};
-    ghost use Rattle.event_reader.specs.Asking.{AsksForLine};
+    ghost use Rattle.event_reader.specs.Refills.{Fills, FillsBy};
+    ghost use Rattle.event_reader.specs.SourceReads.{AsksForLine};
 
     /// A reader of an input of at most `limit` bytes, which has taken none yet.
     pub fn new(alloc: Global, limit: u64) -> Result<Self, OutOfMemory>

@@ -95,9 +95,12 @@ impl Pending {
         requires sound { IsSoundBatch past.version
             (record { tables = A.table_count app.now; size = size }) (batch_of self.old) }
         ensures { IfOk result
-            (TakesLine (rules_of (A.event_of app.now size) past.version) past.version
-            (record { tables = A.table_count app.now; size = size }) past.closed self.old line.now
-            self.new) }
+            (TakesLine (rules_of (A.event_of app.now size) past.version)
+            (record {
+              version = past.version;
+              layout = record { tables = A.table_count app.now; size = size };
+            })
+            past.closed self.old line.now self.new) }
     {
         if is_ignored_line(line) {
             return Ok(LineEffect::GoesOn);

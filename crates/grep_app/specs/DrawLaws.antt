@@ -17,7 +17,7 @@ use Rattle.event_reader.specs.Numbers.{are_in}
 use Rattle.event_reader.specs.PlainLines.{plain_line}
 use Rattle.event_reader.specs.Keys.{are_distinct}
 use Rattle.event_reader.specs.Ranges.{times, ids, amounts}
-use Rattle.event_reader.proofs.Drawing.{draw_below}
+use Rattle.event_reader.proofs.DrawBound.{draw_below}
 use Rattle.event_reader.proofs.NumberLists.{in_range}
 use Rattle.event_reader.proofs.Forms.{Fits, is_form, kind_line}
 use Rattle.grep_app.specs.Grep.{cell, most_cells, setting, gather, gathering, settings, sums, grep_kinds, grep_event}

@@ -14,7 +14,7 @@ use Rattle.event_reader.specs.Generated.{Drawn, IsEventLine}
 use Rattle.event_reader.specs.Numbers.{are_in}
 use Rattle.event_reader.specs.PlainLines.{plain_line}
 use Rattle.event_reader.specs.Ranges.{times, ids, amounts}
-use Rattle.event_reader.proofs.Drawing.{draw_below}
+use Rattle.event_reader.proofs.DrawBound.{draw_below}
 use Rattle.event_reader.proofs.NumberLists.{in_range}
 use Rattle.event_reader.proofs.Forms.{Fits, is_form, kind_line}
 use Rattle.ledger_app.specs.Ledger.{deposit, transfer, moving, deposits, transfers, ledger_kinds, ledger_event}

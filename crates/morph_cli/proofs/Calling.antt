@@ -3,7 +3,7 @@ use Rattle.std.proofs.Common.{◌≡◌, ℕ, true, List, Option, Result, refl, 
 use Rattle.morph_io.specs.declared.source.ReadFailed.{ReadFailed}
 use Rattle.event_reader.specs.declared.answers.Next.{Next}
 use Rattle.event_reader.specs.declared.fault.ReaderFault.{ReaderFault}
-use Rattle.event_reader.specs.Asking.{AsksForBatch, AsksForNext}
+use Rattle.event_reader.specs.SourceReads.{AsksForBatch, AsksForNext}
 use Rattle.event_reader.specs.Reader.{ReaderView, ShowsBatch, ShowsNext, TakesBytes, goes_on, new_lines, no_past}
 use Rattle.event_reader.specs.Steps.{Meaning}
 use Rattle.morph_cli.specs.Calls.{AsksForBatches, no_call, one_call, IsReadBy}

@@ -2,7 +2,7 @@
 use Rattle.std.proofs.Common.{◌≡◌, ◌⊎◌, ℕ, ◌<◌, inl, inr, List, [], ◌++◌, Option, Some, Result, Ok, Err, refl, ap, sym, subst, ◌∙◌, arith, append-nil, append_assoc}
 use Rattle.std.specs.Prelude.{IsErrOf}
 use Rattle.morph_io.specs.Told.{behind}
-use Rattle.morph_io.proofs.Putting.{prefix_more}
+use Rattle.morph_io.proofs.BufferPuts.{prefix_more}
 use Rattle.event_reader.specs.Steps.{Meaning}
 use Rattle.event_reader.specs.Accepted.{Accepted, Ending, Ended, RefusedAt, CutOff, accepted, accepted_within}
 use Rattle.event_reader.proofs.Fronts.{within_is_first, within_ended, within_refused, within_cut}

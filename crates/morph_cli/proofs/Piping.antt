@@ -29,12 +29,12 @@ use Rattle.morph_io.specs.Told.{HasRisen}
 use Rattle.std.proofs.lemmas.Bool.{cases_lt}
 use Rattle.morph_cli.specs.Faults.{fault_of}
 use Rattle.event_reader.specs.Lines.{front as front_lines}
-use Rattle.batch_pipe.specs.Reading.{Stand, stand, GivesBatches, with_batches}
-use Rattle.batch_pipe.specs.Planning.{StopsWithTail, MayStop, ArePlansOf, plans_of}
-use Rattle.batch_pipe.specs.Running.{Manner, IsSentRun, AreRun, picked, state_after, came_of, last_after as pipe_last}
-use Rattle.batch_pipe.specs.Waiting.{PipeView, IsGoing, IsRound, new_pipe, or_else}
+use Rattle.batch_pipe.specs.GivenBatches.{Stand, stand, GivesBatches, with_batches}
+use Rattle.batch_pipe.specs.PlannedBatches.{StopsWithTail, MayStop, ArePlansOf, plans_of}
+use Rattle.batch_pipe.specs.PlanRuns.{Manner, IsSentRun, AreRun, picked, state_after, came_of, last_after as pipe_last}
+use Rattle.batch_pipe.specs.PipeRounds.{PipeView, IsGoing, IsRound, new_pipe, or_else}
 use Rattle.batch_pipe.proofs.Desks.{empty_is, all_middle}
-use Rattle.batch_pipe.proofs.Givings.{gives_nothing, gives_both}
+use Rattle.batch_pipe.proofs.GivenBatches.{gives_nothing, gives_both}
 use Rattle.batch_pipe.proofs.Rounds.{zero_or}
 use Rattle.run_text.specs.declared.tally.Tally.{Tally}
 use Rattle.run_text.specs.Counts.{CountsBatch, HasRoom, no_tally}

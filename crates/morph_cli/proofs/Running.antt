@@ -9,7 +9,7 @@ use Rattle.morph_base.specs.Outcomes.{Fate, fate, fates}
 use Rattle.morph_base.proofs.StateLaws.{after_all-append, after_all-nil}
 use Rattle.morph_base.proofs.PlainLaws.{fates-nil}
 use Rattle.morph_io.specs.Told.{behind, behind_nil, behind_behind, AppendsPrefix}
-use Rattle.morph_io.proofs.Putting.{prefix_more}
+use Rattle.morph_io.proofs.BufferPuts.{prefix_more}
 use Rattle.event_reader.specs.Accepted.{Accepted, Ending, Ended, RefusedAt, CutOff, with_batch}
 use Rattle.run_text.specs.declared.tally.Tally.{Tally}
 use Rattle.run_text.specs.declared.report.Report.{Report}

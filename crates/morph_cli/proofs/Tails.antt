@@ -8,8 +8,8 @@ use Rattle.event_reader.specs.declared.fault.ReaderFault.TheVariants.{ReadFault,
 use Rattle.event_reader.specs.Accepted.{Accepted, Ended, RefusedAt, CutOff}
 use Rattle.batch_pipe.specs.declared.tail.Tail.{Tail}
 use Rattle.batch_pipe.specs.declared.tail.Tail.TheVariants.{End, Refused as RefusedLine, Fault as Unread, RunMemory}
-use Rattle.batch_pipe.specs.Running.{Manner}
-use Rattle.batch_pipe.specs.Waiting.{PipeView, IsGoing}
+use Rattle.batch_pipe.specs.PlanRuns.{Manner}
+use Rattle.batch_pipe.specs.PipeRounds.{PipeView, IsGoing}
 use Rattle.run_text.specs.declared.tally.Tally.{Tally}
 use Rattle.run_text.specs.Notes.{noted, closing_notes}
 use Rattle.run_text.specs.Text.{told_values, counts_line, refused_text}

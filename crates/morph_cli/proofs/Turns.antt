@@ -2,7 +2,7 @@
 use Rattle.std.proofs.Common.{◌≡◌, inl, inr, ℕ, List, Option, Result, Ok, Err, refl, ap, subst, ◌∙◌}
 use Rattle.std.specs.Prelude.{IsErr, OnOk, OnErr}
 use Rattle.morph_io.specs.Told.{behind, AppendsPrefix, HasRisen}
-use Rattle.morph_io.specs.Writing.{AppendsPart, part_is_prefix}
+use Rattle.morph_io.specs.SinkWrites.{AppendsPart, part_is_prefix}
 use Rattle.morph_cli.specs.Outputs.{Outputs, outputs_of, with_both, IsCutIn, WritesBoth}
 use Rattle.morph_cli.specs.Status.{EndsWith}
 use Rattle.morph_cli.proofs.Noting.{prefix_all}

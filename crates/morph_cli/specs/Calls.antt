@@ -4,7 +4,7 @@ use Rattle.morph_io.specs.declared.source.ReadFailed.{ReadFailed}
 use Rattle.event_reader.specs.declared.answers.Next.{Next}
 use Rattle.event_reader.specs.declared.fault.ReaderFault.{ReaderFault}
 use Rattle.event_reader.specs.declared.past.Past.{Past}
-use Rattle.event_reader.specs.Asking.{AsksForBatch}
+use Rattle.event_reader.specs.SourceReads.{AsksForBatch}
 use Rattle.event_reader.specs.Reader.{LinesView, ShowsBatch, TakesBytes, goes_on, new_lines, no_past}
 use Rattle.event_reader.specs.Steps.{Meaning}
 use Rattle.morph_cli.specs.Headline.{input_limit}

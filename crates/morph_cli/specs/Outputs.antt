@@ -7,7 +7,7 @@ use Rattle.morph_engine.specs.Accounts.{Account}
 use Rattle.morph_base.specs.Outcomes.{fates}
 use Rattle.morph_base.specs.States.{State, opening_state, after_all}
 use Rattle.morph_io.specs.Told.{behind}
-use Rattle.morph_io.specs.Writing.{AppendsPart}
+use Rattle.morph_io.specs.SinkWrites.{AppendsPart}
 use Rattle.event_reader.specs.Accepted.{Accepted, Ending, CutOff}
 use Rattle.run_text.specs.declared.choices.Settings.{Settings}
 use Rattle.run_text.specs.declared.report.Report.{Report}

@@ -5,7 +5,7 @@ use Rattle.morph_cli.specs.declared.fault.Fault.TheVariants.{Read, Write, OutOfM
 use Rattle.morph_cli.specs.declared.run.Finish.{Finish}
 use Rattle.morph_cli.specs.declared.run.Finish.TheVariants.{Complete, Refused}
 use Rattle.morph_io.specs.Told.{behind, HasRisen}
-use Rattle.morph_io.specs.Writing.{AppendsPart}
+use Rattle.morph_io.specs.SinkWrites.{AppendsPart}
 use Rattle.run_text.specs.Text.{line}
 
 -- The status of a run, by its answer

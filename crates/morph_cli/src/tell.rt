@@ -6,7 +6,7 @@ ghost use Rattle.decision_model.specs.Choices.{last_of};
 ghost use Rattle.morph_engine.specs.Accounts.{account_of};
 ghost use Rattle.morph_engine.specs.Fates.{settled_fates};
 ghost use Rattle.morph_io.specs.Told.{behind, HasRisen};
-ghost use Rattle.morph_io.specs.Writing.{AppendsPart};
+ghost use Rattle.morph_io.specs.SinkWrites.{AppendsPart};
 ghost use Rattle.run_text.specs.declared.choices.TheConstants.{GREATEST_SIZE};
 ghost use Rattle.run_text.specs.Checks.{is_checked};
 ghost use Rattle.run_text.specs.Counts.{CountsBatch, HasRoom};

@@ -1,3 +1,3 @@
 pub mod Pieces
-pub mod Putting
-pub mod Repeating
+pub mod BufferPuts
+pub mod RepeatedLine

@@ -2,7 +2,7 @@
 use Rattle.std.proofs.Common.{◌≡◌, ℕ, ◌+◌, ◌<◌, ◌≤◌, false, List, ◌++◌, Option, Result, Ok, Err, length, take, drop, ap, subst, sym, ◌∙◌, arith}
 use Rattle.std.proofs.lemmas.List.{take-append-drop, take-take, drop-take, drop-drop, length-drop}
 use Rattle.morph_io.specs.declared.sink.WriteFailed.{WriteFailed}
-use Rattle.morph_io.specs.Writing.{AppendsPart, Writes, one_more, last_one, WritesAll}
+use Rattle.morph_io.specs.SinkWrites.{AppendsPart, Writes, one_more, last_one, WritesAll}
 use Rattle.morph_io.specs.Told.{behind, behind_behind}
 
 -- the first bytes, and the next ones

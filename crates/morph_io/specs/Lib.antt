@@ -1,4 +1,4 @@
 pub mod InMemory
 pub mod Limits
 pub mod Told
-pub mod Writing
+pub mod SinkWrites

@@ -1,7 +1,7 @@
 ghost use Rattle.std.specs.Prelude.{◌≡◌, ◌<◌, ◌≤◌, [], ◌++◌, length, vec_capacity, IsOk, OnOk, OnErr, IfOk};
 ghost use Rattle.morph_io.specs.Told.{behind, HasRisen, Puts, kept_of};
 ghost use Rattle.morph_io.specs.Limits.{out_bytes};
-ghost use Rattle.morph_io.specs.Writing.{AppendsPart, WritesAll, WritesFull};
+ghost use Rattle.morph_io.specs.SinkWrites.{AppendsPart, WritesAll, WritesFull};
 
 use crate::copy::append;
 use crate::line_buf::LineBuf;

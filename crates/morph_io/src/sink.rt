@@ -48,5 +48,5 @@ pub trait Sink {
         ensures never_falls { faults self.old ≤ faults self.new }
         ensures steady { OnOk result (faults self.new ≡ faults self.old) }
         ensures cause { OnErr result (HasRisen (faults self.old) (faults self.new)) }
-        ensures does { writes self.old piece.now result self.new };
+        ensures answer { writes self.old piece.now result self.new };
 }

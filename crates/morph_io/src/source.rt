@@ -48,5 +48,5 @@ pub trait Source {
         ensures never_falls { faults self.old ≤ faults self.new }
         ensures steady { OnOk result (faults self.new ≡ faults self.old) }
         ensures cause { OnErr result (HasRisen (faults self.old) (faults self.new)) }
-        ensures does { reads self.old (length buf.new) result self.new };
+        ensures answer { reads self.old (length buf.new) result self.new };
 }

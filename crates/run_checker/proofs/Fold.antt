@@ -10,7 +10,7 @@ use Rattle.interleaving_core.specs.Orders.{Leads}
 use Rattle.interleaving_core.proofs.Machine.{run_sound, is_fold}
 use Rattle.interleaving_core.proofs.Ordering.{leads_run}
 use Rattle.run_checker.specs.Replay.{AllSettled}
-use Rattle.run_checker.specs.Answers.{AreFold, IsBorneOut, IsUnsettledAt, IsUnlikeAt, SettlesFold, SettlesWholeFold}
+use Rattle.run_checker.specs.Answers.{Difference, AreFold, IsBorneOut, IsUnsettledAt, IsUnlikeAt, SettlesFold, SettlesWholeFold}
 
 module _ (p : Plan) (cap : ℕ) where
   run_of : (journal : List CoreEvent) (c : Core) → Leads p cap start journal c → Run p cap (reverse journal) c
@@ -43,9 +43,9 @@ module _ (p : Plan) (cap : ℕ) where
     values = λ o inside settled. settled_fold journal says.state o valid small says.leads inside settled;
   }
 
-  pub differs_fold : (journal : List CoreEvent) (values : List ℕ) (op own run : ℕ) → IsPlan p → cap < most_attempts → IsUnlikeAt p cap journal values op own run
+  pub differs_fold : (journal : List CoreEvent) (values : List ℕ) (d : Difference) → IsPlan p → cap < most_attempts → IsUnlikeAt p cap journal values d
       → SettlesWholeFold p cap journal
-  differs_fold journal values op own run valid small says = whole_fold journal says.state valid small says.leads says.settled
+  differs_fold journal values d valid small says = whole_fold journal says.state valid small says.leads says.settled
 
   pub fold_yes : (journal : List CoreEvent) (c : Core) (values : List ℕ) → IsPlan p → cap < most_attempts → Leads p cap start journal c → AllSettled p c
       → AreFold p values → IsBorneOut p cap journal values

@@ -1,9 +1,9 @@
-pub mod Leading
+pub mod JournalFronts
 pub mod Fold
 pub mod Apart
 pub mod Numbers
-pub mod Joining
+pub mod JoinedWords
 pub mod LineLaws
 pub mod TextLaws
-pub mod WritingLaws
+pub mod WrittenLines
 pub mod Taken

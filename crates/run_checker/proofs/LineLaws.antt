@@ -9,9 +9,9 @@ use Rattle.interleaving_core.specs.declared.event.CoreEvent.{CoreEvent}
 use Rattle.interleaving_core.specs.declared.event.CoreEvent.TheVariants.{Ready, Claim, Fetch, Finish, GiveBack, Spread, RollBack, Decide, Settle}
 use Rattle.event_reader.specs.Words.{words_of}
 use Rattle.run_checker.specs.Lines.{greatest_id, greatest_small, greatest_value, HasLine, decision_letter, words_written, line_of}
-use Rattle.run_checker.specs.Reading.{number_up_to, decision_said, both, op_said, pair_said, fetch_said, decide_said, LineKind, kinds, said_by, words_say, said_if, event_said}
+use Rattle.run_checker.specs.LineEvents.{number_up_to, decision_said, both, op_said, pair_said, fetch_said, decide_said, LineKind, kinds, said_by, words_say, said_if, event_said}
 use Rattle.run_checker.proofs.Numbers.{number_written, number_read}
-use Rattle.run_checker.proofs.Joining.{IsPart, one_byte, number_part, words_joined, joined_words}
+use Rattle.run_checker.proofs.JoinedWords.{IsPart, one_byte, number_part, words_joined, joined_words}
 
 -- ---- what is written is read
 

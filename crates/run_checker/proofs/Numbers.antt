@@ -11,7 +11,7 @@ use Rattle.std.proofs.lemmas.List.Sums.{list_all-from_AllPass}
 use Rattle.std.proofs.lemmas.Str.{digit_value_digit}
 use Rattle.std.proofs.lemmas.Str.Parse.{digit_at, numerals_by_value, tells_digits}
 use Rattle.event_reader.specs.Numbers.{is_number, value_of}
-use Rattle.run_checker.specs.Reading.{number_up_to}
+use Rattle.run_checker.specs.LineEvents.{number_up_to}
 
 -- ---- what is written
 

@@ -18,7 +18,7 @@ use Rattle.interleaving_core.specs.Orders.{Leads}
 use Rattle.interleaving_core.proofs.Machine.{start_sound, step_keeps}
 use Rattle.interleaving_core.proofs.Sources.{version_small, version_from_settled}
 use Rattle.run_checker.specs.Lines.{greatest_id, greatest_small, greatest_value, HasLine, text_of}
-use Rattle.run_checker.specs.Reading.{Says}
+use Rattle.run_checker.specs.LineEvents.{Says}
 use Rattle.run_checker.proofs.TextLaws.{text_read}
 
 module _ (p : Plan) (cap : ℕ) (valid : IsPlan p) (small : cap < most_attempts) where

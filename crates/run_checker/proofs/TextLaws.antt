@@ -10,11 +10,11 @@ use Rattle.std.proofs.lemmas.Option.{none-some, same_Some}
 use Rattle.interleaving_core.specs.declared.event.CoreEvent.{CoreEvent}
 use Rattle.memchr.specs.Find.{NoneBefore, Passes}
 use Rattle.event_reader.specs.Lines.{is_line_feed}
-use Rattle.event_reader.proofs.Cutting.{none_pass_before, split_at_place}
+use Rattle.event_reader.proofs.Pieces.{none_pass_before, split_at_place}
 use Rattle.run_checker.specs.Lines.{HasLine, words_written, line_of, text_of}
-use Rattle.run_checker.specs.Reading.{event_said, ended, Says, BeginsWith, BeginsWithNone, IsFirstWrong}
+use Rattle.run_checker.specs.LineEvents.{event_said, ended, Says, BeginsWith, BeginsWithNone, IsFirstWrong}
 use Rattle.run_checker.proofs.LineLaws.{parts_written, read_written, written_read}
-use Rattle.run_checker.proofs.Joining.{joined_bytes}
+use Rattle.run_checker.proofs.JoinedWords.{joined_bytes}
 
 -- ---- one line
 

@@ -34,14 +34,19 @@ pub record IsUnsettledAt (p : Plan) (cap : ℕ) (journal : List CoreEvent) (op :
   pub leads : Leads p cap start journal state
   pub first : IsFirstUnsettled p state op
 
--- The machine takes the whole journal, which settles all operations, and op is the least one whose settled value
--- differs from the run's
-pub record IsUnlikeAt (p : Plan) (cap : ℕ) (journal : List CoreEvent) (values : List ℕ)
-    (op journal_value run_value : ℕ) : Type 0 where
+-- An operation, and its values by the journal and by the run
+pub record Difference : Type 0 where
+  pub op : ℕ
+  pub journal : ℕ
+  pub run : ℕ
+
+-- The machine takes the whole journal, which settles all operations, and the least one whose settled value differs from
+-- the run's is that of d
+pub record IsUnlikeAt (p : Plan) (cap : ℕ) (journal : List CoreEvent) (values : List ℕ) (d : Difference) : Type 0 where
   pub state : Core
   pub leads : Leads p cap start journal state
   pub settled : AllSettled p state
-  pub first : IsFirstUnlike p state values op journal_value run_value
+  pub first : IsFirstUnlike p state values d.op d.journal d.run
 
 -- The machine takes the whole journal, which settles all operations with the run's values
 pub record IsBorneOut (p : Plan) (cap : ℕ) (journal : List CoreEvent) (values : List ℕ) : Type 0 where
@@ -54,8 +59,8 @@ pub record IsBorneOut (p : Plan) (cap : ℕ) (journal : List CoreEvent) (values 
 abbrev pub Answers : Plan → (cap : ℕ) → (journal : List CoreEvent) → (values : List ℕ) → Checked → Type 0
 Answers p cap journal values (Broken at) = IsBrokenAt p cap journal at
 Answers p cap journal values (Unsettled op) = IsUnsettledAt p cap journal op
-Answers p cap journal values (Differs op journal_value run_value) =
-    IsUnlikeAt p cap journal values op journal_value run_value
+Answers p cap journal values (Differs op by_journal by_run) =
+    IsUnlikeAt p cap journal values (record { op = op; journal = by_journal; run = by_run })
 Answers p cap journal values Yes = IsBorneOut p cap journal values
 
 -- The machine takes the whole journal, and each operation that it settles has the fold's value

@@ -1,4 +1,4 @@
 pub mod Replay
 pub mod Answers
 pub mod Lines
-pub mod Reading
+pub mod LineEvents

@@ -12,7 +12,7 @@ ghost use Rattle.interleaving_core.specs.Orders.{Leads};
 ghost use Rattle.run_checker.specs.Replay.{AllSettled};
 ghost use Rattle.run_checker.specs.Answers.{AreFold, SettlesFold, SettlesWholeFold, Answers};
 ghost use Rattle.run_checker.specs.Lines.{HasLine, line_of, text_of};
-ghost use Rattle.run_checker.specs.Reading.{event_said, Says, IsFirstWrong};
+ghost use Rattle.run_checker.specs.LineEvents.{event_said, Says, IsFirstWrong};
 ghost use Rattle.run_checker.specs.declared.checked.Checked.{Checked};
 ghost use Rattle.run_checker.specs.declared.checked.Checked.TheVariants.{Yes, Unsettled, Differs};
 

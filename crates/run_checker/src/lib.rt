@@ -6,7 +6,7 @@
 //! most one answer is right, and if the machine takes a journal, what it settles is the fold's.
 //!
 //! A journal is kept as text: [`write_event`] puts an event's line into a buffer, and [`read_journal`] reads a text of
-//! such lines, or names the first that is none. What lines say stands in `specs/Reading`, what is written in
+//! such lines, or names the first that is none. What lines say stands in `specs/LineEvents`, what is written in
 //! `specs/Lines`, and [`laws`] say that each is the reverse of the other.
 //!
 //! ```text

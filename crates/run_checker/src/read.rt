@@ -1,5 +1,5 @@
 ghost use Rattle.std.specs.Prelude.{◌≡◌, IfSome, IfNone, drop};
-ghost use Rattle.run_checker.specs.Reading.{kinds, said_by, event_said, BeginsWithNone, BeginsWith, Tells};
+ghost use Rattle.run_checker.specs.LineEvents.{kinds, said_by, event_said, BeginsWithNone, BeginsWith, Tells};
 
 use crate::fault::JournalFault;
 use crate::words::{decided, fetched, op, op_and_small, two_ops};

@@ -2,7 +2,7 @@
 mod meeting;
 
 ghost use Rattle.std.specs.Prelude.{◌≡◌, [], ◌≤◌, None, IfOk, OnOk};
-ghost use Rattle.batch_pipe.specs.Waiting.{IsGoing};
+ghost use Rattle.batch_pipe.specs.PipeRounds.{IsGoing};
 
 use batch_pipe::{Picker, Pipe, Ran, Tail};
 use event_reader::{BatchReader, EventApp, INPUT_BYTES};

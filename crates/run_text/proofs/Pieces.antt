@@ -8,8 +8,8 @@ use Rattle.std.proofs.lemmas.Bool.{true≢false}
 use Rattle.std.proofs.lemmas.Result.{on_ok_weaker, on_err_weaker}
 use Rattle.std.proofs.Common.{append-nil, append_assoc}
 use Rattle.morph_io.specs.Told.{behind, HasRisen}
-use Rattle.morph_io.specs.Writing.{AppendsPart}
-use Rattle.morph_io.proofs.Putting.{puts_nothing, puts_next, puts_cut, part_more}
+use Rattle.morph_io.specs.SinkWrites.{AppendsPart}
+use Rattle.morph_io.proofs.BufferPuts.{puts_nothing, puts_next, puts_cut, part_more}
 use Rattle.morph_io.specs.declared.sink.WriteFailed.{WriteFailed}
 use Rattle.run_text.specs.Calls.{PutsText, WritesText}
 use Rattle.version_table.proofs.Summing.{inside_range}

@@ -1,7 +1,7 @@
 -- Writes that follow others, and writes that are left out.
 use Rattle.std.proofs.Common.{◌≡◌, ℕ, Bool, false, List, ◌++◌, Option, ap, sym, ◌∙◌, append_assoc}
 use Rattle.morph_io.specs.Told.{behind, behind_nil, behind_behind}
-use Rattle.morph_io.specs.Writing.{AppendsPart}
+use Rattle.morph_io.specs.SinkWrites.{AppendsPart}
 use Rattle.run_text.specs.Notes.{noted}
 
 -- where they are off nothing is written

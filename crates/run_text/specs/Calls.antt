@@ -1,7 +1,7 @@
 -- What a call that has a text to write does to a sink, by its answer
 use Rattle.std.specs.Prelude.{◌≡◌, ℕ, ◌≤◌, List, ◌++◌, Option, Result, OnOk, OnErr}
 use Rattle.morph_io.specs.Told.{behind, HasRisen, Puts}
-use Rattle.morph_io.specs.Writing.{AppendsPart}
+use Rattle.morph_io.specs.SinkWrites.{AppendsPart}
 use Rattle.morph_io.specs.declared.sink.WriteFailed.{WriteFailed}
 
 -- The call puts a text into a buffer in front of a sink. If it succeeds, the whole text was put, and there was no fault.

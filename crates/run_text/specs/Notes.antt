@@ -5,12 +5,6 @@ use Rattle.std.specs.List.{flat_map}
 use Rattle.morph_base.specs.declared.plan.Plan.{Plan}
 use Rattle.morph_base.specs.Plans.{event_count, op_count}
 use Rattle.morph_base.specs.declared.strategy.Strategy.{Strategy}
-use Rattle.morph_base.specs.declared.strategy.Unit.{Unit as UnitKind}
-use Rattle.morph_base.specs.declared.strategy.Unit.TheVariants.{Op, Chain}
-use Rattle.morph_base.specs.declared.strategy.Explore.{Explore}
-use Rattle.morph_base.specs.declared.strategy.Explore.TheVariants.{Strata, Steal}
-use Rattle.morph_base.specs.declared.strategy.Abort.{Abort}
-use Rattle.morph_base.specs.declared.strategy.Abort.TheVariants.{Lazy, Eager}
 use Rattle.interleaving_core.specs.declared.event.CoreEvent.{CoreEvent}
 use Rattle.run_checker.specs.Lines.{text_of}
 use Rattle.run_text.specs.declared.choices.Check.{Check}
@@ -20,25 +14,11 @@ use Rattle.run_text.specs.Checks.{is_checked}
 use Rattle.morph_engine.specs.Runs.{journal_room}
 use Rattle.morph_engine.specs.Accounts.{Account}
 use Rattle.run_text.specs.Text.{line, after_space}
+use Rattle.run_text.specs.Values.{unit_word, explore_word, abort_word}
 
 -- The number of levels of operations of a plan
 abbrev pub level_count : Plan → ℕ
 level_count p = length p.op_levels.items
-
--- The word of what was scheduled as a whole
-abbrev pub unit_word : UnitKind → List ℕ
-unit_word Op = codes "op"
-unit_word Chain = codes "chain"
-
--- The word of how the graph was explored
-abbrev pub explore_word : Explore → List ℕ
-explore_word Strata = codes "strata"
-explore_word Steal = codes "steal"
-
--- The word of when failures were dealt with
-abbrev pub abort_word : Abort → List ℕ
-abort_word Lazy = codes "lazy"
-abort_word Eager = codes "eager"
 
 -- The three words of a strategy, each after a space
 abbrev pub strategy_words : Strategy → List ℕ

@@ -30,17 +30,32 @@ app_in value = meaning_in ((codes "ledger", Ledger) ∷ (codes "grep", Grep) ∷
 abbrev pub switch_in : List ℕ → Option Bool
 switch_in value = meaning_in ((codes "on", true) ∷ (codes "off", false) ∷ []) value
 
+-- The word of what is scheduled as a whole
+abbrev pub unit_word : Unit → List ℕ
+unit_word Op = codes "op"
+unit_word Chain = codes "chain"
+
+-- The word of how a batch is explored
+abbrev pub explore_word : Explore → List ℕ
+explore_word Strata = codes "strata"
+explore_word Steal = codes "steal"
+
+-- The word of how failures are dealt with
+abbrev pub abort_word : Abort → List ℕ
+abort_word Lazy = codes "lazy"
+abort_word Eager = codes "eager"
+
 -- The unit that a value names
 abbrev pub unit_in : List ℕ → Option Unit
-unit_in value = meaning_in ((codes "op", Op) ∷ (codes "chain", Chain) ∷ []) value
+unit_in value = meaning_in ((unit_word Op, Op) ∷ (unit_word Chain, Chain) ∷ []) value
 
 -- The way to explore that a value names
 abbrev pub explore_in : List ℕ → Option Explore
-explore_in value = meaning_in ((codes "strata", Strata) ∷ (codes "steal", Steal) ∷ []) value
+explore_in value = meaning_in ((explore_word Strata, Strata) ∷ (explore_word Steal, Steal) ∷ []) value
 
 -- The way to deal with failures that a value names
 abbrev pub abort_in : List ℕ → Option Abort
-abort_in value = meaning_in ((codes "lazy", Lazy) ∷ (codes "eager", Eager) ∷ []) value
+abort_in value = meaning_in ((abort_word Lazy, Lazy) ∷ (abort_word Eager, Eager) ∷ []) value
 
 -- Whether a value says that the program chooses the strategy
 abbrev pub auto_in : List ℕ → Option Bool

@@ -3,7 +3,7 @@ ghost use Rattle.std.specs.Prelude.{◌≡◌, ◌+◌, ◌*◌, ◌<◌, ◌≤
 ghost use Rattle.morph_base.specs.Plans.{IsPlan};
 ghost use Rattle.run_text.specs.Calls.{PutsText, WritesText};
 ghost use Rattle.morph_io.specs.Told.{behind, HasRisen};
-ghost use Rattle.morph_io.specs.Writing.{AppendsPart};
+ghost use Rattle.morph_io.specs.SinkWrites.{AppendsPart};
 ghost use Rattle.run_checker.specs.Lines.{text_of};
 ghost use Rattle.run_text.specs.Checks.{is_checked};
 ghost use Rattle.run_text.specs.Notes.{check_note, check_notes, check_word, is_cut, step_notes};

@@ -3,12 +3,14 @@ ghost use Rattle.morph_base.specs.declared.limits.TheConstants.{WORKERS};
 ghost use Rattle.morph_io.specs.declared.line_buf.TheConstants.{LINE_BYTES};
 ghost use Rattle.run_text.specs.Calls.{WritesText};
 ghost use Rattle.morph_io.specs.Told.{behind, HasRisen};
-ghost use Rattle.morph_io.specs.Writing.{AppendsPart};
-ghost use Rattle.run_text.specs.Notes.{noted, unit_word, explore_word, abort_word, strategy_words, batch_note};
+ghost use Rattle.morph_io.specs.SinkWrites.{AppendsPart};
+ghost use Rattle.run_text.specs.Notes.{noted, strategy_words, batch_note};
+ghost use Rattle.run_text.specs.Values.{unit_word, explore_word, abort_word};
 ghost use Rattle.run_text.specs.Notes.{tally_note, settled_note, closing_notes, audit_note};
 
 use crate::tally::Tally;
 use crate::text::put_numbers;
+use crate::values::{CHAIN, EAGER, LAZY, OP, STEAL, STRATA};
 use morph_base::{Abort, Explore, Plan, Strategy, Unit};
 use morph_io::{LineBuf, Sink, WriteFailed, write_all};
 
@@ -93,8 +95,8 @@ fn unit_name(unit: Unit) -> &'static [u8]
     ensures short { length result.now ≤ 6 }
 {
     match unit {
-        Unit::Op => b"op",
-        Unit::Chain => b"chain",
+        Unit::Op => OP,
+        Unit::Chain => CHAIN,
     }
 }
 
@@ -104,8 +106,8 @@ fn explore_name(explore: Explore) -> &'static [u8]
     ensures short { length result.now ≤ 6 }
 {
     match explore {
-        Explore::Strata => b"strata",
-        Explore::Steal => b"steal",
+        Explore::Strata => STRATA,
+        Explore::Steal => STEAL,
     }
 }
 
@@ -115,8 +117,8 @@ fn abort_name(abort: Abort) -> &'static [u8]
     ensures short { length result.now ≤ 6 }
 {
     match abort {
-        Abort::Lazy => b"lazy",
-        Abort::Eager => b"eager",
+        Abort::Lazy => LAZY,
+        Abort::Eager => EAGER,
     }
 }
 

@@ -45,17 +45,27 @@ const APPS: [(&[u8], App); 3] = [
 
 pub const SWITCHES: [(&[u8], bool); 2] = [(b"on", true), (b"off", false)];
 
+/// The words of the units, of the ways to explore and of the ways to deal with failures, in settings and in notes.
+pub const OP: &[u8] = b"op";
+
+pub const CHAIN: &[u8] = b"chain";
+
+pub const STRATA: &[u8] = b"strata";
+
+pub const STEAL: &[u8] = b"steal";
+
+pub const LAZY: &[u8] = b"lazy";
+
+pub const EAGER: &[u8] = b"eager";
+
 /// The units by their names.
-pub const UNITS: [(&[u8], Unit); 2] = [(b"op", Unit::Op), (b"chain", Unit::Chain)];
+pub const UNITS: [(&[u8], Unit); 2] = [(OP, Unit::Op), (CHAIN, Unit::Chain)];
 
 /// The ways to explore by their names.
-pub const EXPLORES: [(&[u8], Explore); 2] = [
-    (b"strata", Explore::Strata),
-    (b"steal", Explore::Steal),
-];
+pub const EXPLORES: [(&[u8], Explore); 2] = [(STRATA, Explore::Strata), (STEAL, Explore::Steal)];
 
 /// The ways to deal with failures by their names.
-pub const ABORTS: [(&[u8], Abort); 2] = [(b"lazy", Abort::Lazy), (b"eager", Abort::Eager)];
+pub const ABORTS: [(&[u8], Abort); 2] = [(LAZY, Abort::Lazy), (EAGER, Abort::Eager)];
 
 /// Whether the program chooses the strategies.
 pub const PLANS: [(&[u8], bool); 2] = [(b"auto", true), (b"fixed", false)];

@@ -1,8 +1,8 @@
 -- What a copy from a source to a sink has moved.
 use Rattle.std.proofs.Common.{◌≡◌, ℕ, List, [], ◌++◌, Option, Some, None, IfSome, refl, ap, sym, ◌∙◌, append_assoc, append-nil, take}
 use Rattle.morph_io.specs.Told.{ahead, behind, IsAtEnd, AppendsPrefix, ahead_nil, ahead_ahead, behind_nil, behind_behind}
-use Rattle.morph_io.specs.Writing.{AppendsPart}
-use Rattle.morph_io.proofs.Putting.{prefix_more}
+use Rattle.morph_io.specs.SinkWrites.{AppendsPart}
+use Rattle.morph_io.proofs.BufferPuts.{prefix_more}
 
 -- the bytes that were taken from what was left are those that were written
 pub record HasCopied (left0 left written0 written : Option (List ℕ)) : Type 0 where

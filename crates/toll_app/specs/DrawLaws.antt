@@ -8,7 +8,7 @@ use Rattle.event_reader.specs.Generated.{IsEventLine}
 use Rattle.event_reader.specs.Numbers.{are_in}
 use Rattle.event_reader.specs.PlainLines.{plain_line}
 use Rattle.event_reader.specs.Ranges.{times, ids}
-use Rattle.event_reader.proofs.Drawing.{draw_below}
+use Rattle.event_reader.proofs.DrawBound.{draw_below}
 use Rattle.event_reader.proofs.NumberLists.{in_range}
 use Rattle.event_reader.proofs.Forms.{Fits, is_form, kind_line}
 use Rattle.toll_app.specs.Toll.{segments, miles, report, reports, toll_kinds, toll_event}

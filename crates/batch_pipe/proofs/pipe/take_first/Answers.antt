@@ -1,7 +1,7 @@
 use Rattle.std.proofs.Common.{None, suc, ◌+◌, ◌∷◌, ◌≡◌, length, take, refl, ap, sym, ◌∙◌, arith}
 use Rattle.std.specs.Prelude.{slice_index_or, slice_set}
 use Rattle.std.proofs.lemmas.List.{length-set}
-use Rattle.batch_pipe.specs.Running.{somes}
+use Rattle.batch_pipe.specs.PlanRuns.{somes}
 use Rattle.batch_pipe.proofs.Desks.{somes_blank, front_blank, first_some}
 use Rattle.batch_pipe.proofs.pipe.take_first.Goals as goal
 

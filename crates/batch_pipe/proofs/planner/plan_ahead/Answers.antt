@@ -2,11 +2,10 @@ use Rattle.std.proofs.Common.{List, Some, refl, ap, sym, subst, ◌∙◌, ◌+�
 use Rattle.std.proofs.lemmas.List.{length-append}
 use Rattle.morph_base.specs.declared.key.Layout.{Layout}
 use Rattle.event_reader.specs.Versions.{greatest_of}
-use Rattle.event_reader.proofs.Opening.{keeps_same, same_both}
+use Rattle.event_reader.proofs.InputVersion.{keeps_same, same_both}
 use Rattle.rtrb.specs.Ring.{sent}
 use Rattle.batch_pipe.specs.declared.items.Sent.{Sent}
-use Rattle.batch_pipe.specs.Reading.{stand}
-use Rattle.batch_pipe.specs.Planning.{IsReadyPlan, PlansAhead, layout_by}
+use Rattle.batch_pipe.specs.PlannedBatches.{IsReadyPlan, bench, layout_by}
 use Rattle.batch_pipe.proofs.Ahead.{ahead_nothing, ahead_more, ahead_stop, same_producer, same_layout}
 use Rattle.batch_pipe.proofs.planner.plan_ahead.Goals as goal
 
@@ -14,7 +13,7 @@ pub planning-init : goal.planning-init
 planning-init g c =
     let p = c.args.planner.now in
     record {
-      plans = ahead_nothing g.A.EventApp.event_of (layout_by g.A.EventApp.table_count p.reader) (greatest_of p.reader.past.version) (stand p.reader (g.S.Source.left c.args.source.now)) (sent p.ring) p.sent;
+      plans = ahead_nothing g.A.EventApp.event_of (layout_by g.A.EventApp.table_count p.reader) (greatest_of p.reader.past.version) (bench p (g.S.Source.left c.args.source.now));
       ring = ((refl, refl, refl, refl), refl);
       enough = omega arith;
       able = c.requires.able;
@@ -54,7 +53,5 @@ returns-in-Err-clause-plans g c =
     let layout : Layout = layout_by g.A.EventApp.table_count p.reader in
     let looked = c.is_full.ensures.looked in
     let i = c.planning.invariant in
-    subst (λ (l : List Sent). PlansAhead g.A.EventApp.event_of layout (greatest_of c.read_plan.new.reader.past.version) (stand p.reader (g.S.Source.left c.args.source.now)) (sent p.ring) p.sent
-    (Some c.in-Err.tail) (stand c.read_plan.new.reader (g.S.Source.left c.read_plan.new.source)) l c.planning.planner.sent) (sym looked.1)
-    (ahead_stop g.A.EventApp.event_of layout _ (greatest_of c.read_plan.new.reader.past.version) c.in-Err.tail i.plans c.in-Err.ensures.tail
-    (λ some. ap greatest_of (c.in-Err.ensures.same.3.stays (omega (arith, some, i.plans.number_is, i.able.counted)))))
+    ahead_stop g.A.EventApp.event_of layout _ (greatest_of c.read_plan.new.reader.past.version) c.in-Err.tail i.plans c.in-Err.ensures.tail
+    (λ some. ap greatest_of (c.in-Err.ensures.same.3.stays (omega (arith, some, i.plans.number_is, i.able.counted)))) looked.1 refl

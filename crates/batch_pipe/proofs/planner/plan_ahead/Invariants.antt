@@ -2,7 +2,7 @@ use Rattle.std.proofs.Common.{◌+◌, ◌-◌, ◌≤◌, None, length}
 use Rattle.event_reader.specs.Limits.{input_bytes}
 use Rattle.rtrb.specs.Ring.{sent, known_free, SameProducer}
 use Rattle.event_reader.specs.Reader.{SameReader}
-use Rattle.batch_pipe.specs.Planning.{HasPlanned, CanPlan}
+use Rattle.batch_pipe.specs.PlannedBatches.{HasPlanned, CanPlan}
 use Rattle.batch_pipe.proofs.planner.plan_ahead.Given as goal
 
 abbrev pub invariant-planning : goal.invariant-planning

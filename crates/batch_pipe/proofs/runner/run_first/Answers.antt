@@ -1,6 +1,6 @@
 use Rattle.std.proofs.Common.{Option, sym, subst}
 use Rattle.batch_pipe.specs.declared.items.Sent.{Sent}
-use Rattle.batch_pipe.specs.Running.{Runs, Desk, desk, manner, one_or_none}
+use Rattle.batch_pipe.specs.PlanRuns.{Runs, Desk, desk, manner, one_or_none}
 use Rattle.batch_pipe.proofs.Desks.{runs_nothing}
 use Rattle.batch_pipe.proofs.runner.run_first.Goals as goal
 

@@ -1,5 +1,5 @@
 use Rattle.std.proofs.Common.{refl}
-use Rattle.batch_pipe.specs.Running.{desk, manner}
+use Rattle.batch_pipe.specs.PlanRuns.{desk, manner}
 use Rattle.batch_pipe.proofs.Desks.{runs_one}
 use Rattle.batch_pipe.proofs.runner.run_into.Goals as goal
 

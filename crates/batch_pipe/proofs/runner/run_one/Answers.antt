@@ -10,7 +10,7 @@ use Rattle.morph_base.proofs.PlanLaws.{state_at-past}
 use Rattle.morph_engine.specs.Accounts.{IsAccount, account_of}
 use Rattle.morph_engine.specs.Ends.{IsEnd}
 use Rattle.morph_engine.specs.Fates.{settled_fates}
-use Rattle.batch_pipe.specs.Running.{picked}
+use Rattle.batch_pipe.specs.PlanRuns.{picked}
 use Rattle.batch_pipe.proofs.runner.run_one.Goals as goal
 
 pub returns-clause-run : goal.returns-clause-run

@@ -7,8 +7,8 @@ use Rattle.morph_base.specs.Flat.{contents}
 use Rattle.morph_base.specs.States.{IsUpTo}
 use Rattle.rtrb.specs.Ring.{known_items, received}
 use Rattle.batch_pipe.specs.declared.items.Sent.{Sent}
-use Rattle.batch_pipe.specs.Planning.{IsReadyPlan}
-use Rattle.batch_pipe.specs.Running.{IsRunnable, Runs, Desk, Manner, desk, manner, one_or_none}
+use Rattle.batch_pipe.specs.PlannedBatches.{IsReadyPlan}
+use Rattle.batch_pipe.specs.PlanRuns.{IsRunnable, Runs, Desk, Manner, desk, manner, one_or_none}
 use Rattle.batch_pipe.proofs.Desks.{runs_stay, runs_as, runs_both, all_middle, empty_is}
 use Rattle.batch_pipe.proofs.Ahead.{same_consumer, same_ring}
 use Rattle.batch_pipe.proofs.Bounds.{runnable, state_after-within}

@@ -1,7 +1,7 @@
 use Rattle.std.proofs.Common.{◌≡◌, ◌++◌, List, length}
 use Rattle.rtrb.specs.Ring.{known_items, received, SameConsumer}
 use Rattle.batch_pipe.specs.declared.items.Sent.{Sent}
-use Rattle.batch_pipe.specs.Running.{Runs, desk, manner, one_or_none}
+use Rattle.batch_pipe.specs.PlanRuns.{Runs, desk, manner, one_or_none}
 use Rattle.batch_pipe.proofs.runner.run_waiting.Given as goal
 
 abbrev pub invariant-loop : goal.invariant-loop

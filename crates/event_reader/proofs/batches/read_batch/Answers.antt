@@ -6,9 +6,9 @@ use Rattle.morph_io.specs.Told.{IsAtEnd}
 use Rattle.event_reader.specs.Pending.{batch_of}
 use Rattle.event_reader.specs.declared.version.Version.TheVariants.{Two}
 use Rattle.event_reader.specs.Versions.{is_version_line}
-use Rattle.event_reader.proofs.BatchAskings.{asked_from, asked_next, asked_all}
-use Rattle.event_reader.proofs.Batching.{nothing_sound, answers_too_long, answers_ended, answers_last, answers_fault_next, shows_fault_next, reads_some, stays_ended, ends_later, answers_batch, shows_batch, answers_refused, plain_by, no_items, behind_version, goes_behind, closes_behind, refuses_behind}
-use Rattle.event_reader.proofs.Opening.{known_after}
+use Rattle.event_reader.proofs.BatchReads.{asked_from, asked_next, asked_all}
+use Rattle.event_reader.proofs.BatchAnswers.{nothing_sound, answers_too_long, answers_ended, answers_last, answers_fault_next, shows_fault_next, reads_some, stays_ended, ends_later, answers_batch, shows_batch, answers_refused, plain_by, no_items, behind_version, goes_behind, closes_behind, refuses_behind}
+use Rattle.event_reader.proofs.InputVersion.{known_after}
 use Rattle.event_reader.proofs.batches.read_batch.Goals as goal
 
 pub lines-init : goal.lines-init
@@ -31,78 +31,76 @@ lines-init g c = record {
   steady = refl;
 }
 
-pub returns-in_err-next_line-clause-answers : goal.returns-in_err-next_line-clause-answers
-returns-in_err-next_line-clause-answers g c =
-    let p = err_from_is_err_and c.from_residual.result c.from_residual.ensures.1 in
-    rw (p.1, p.2)
-    (answers_fault_next _ _ _ _ _ (batch_of c.lines.pending) c.lines.lines (g.S.Source.left c.lines.source) c.next_line.new.self (g.S.Source.left c.next_line.new.source)
-    c.in_err-next_line.field-0.0 _ _ _ c.lines.invariant.reads.has_read c.in_err-next_line.ensures.answers)
-
-pub returns-in_err-next_line-clause-shows : goal.returns-in_err-next_line-clause-shows
-returns-in_err-next_line-clause-shows g c =
+pub returns-in_err-next_line-clause-answer : goal.returns-in_err-next_line-clause-answer
+returns-in_err-next_line-clause-answer g c =
     let p = err_from_is_err_and c.from_residual.result c.from_residual.ensures.1 in
     let unended = c.next_line.ensures.unended c.in_err-next_line.ensures.asked in
-    rw (p.1, p.2)
-    (shows_fault_next _ _ _ _ _ (batch_of c.lines.pending) c.lines.lines (g.S.Source.left c.lines.source) c.next_line.new.self (g.S.Source.left c.next_line.new.source)
-    c.in_err-next_line.field-0.0 _ c.lines.invariant.reads.has_read unended c.in_err-next_line.ensures.shows)
+    rw (p.1, p.2) record {
+      answers = answers_fault_next _ _ _ _ _ (batch_of c.lines.pending) c.lines.lines (g.S.Source.left c.lines.source) c.next_line.new.self (g.S.Source.left c.next_line.new.source)
+          c.in_err-next_line.field-0.0 _ _ _ c.lines.invariant.reads.has_read c.in_err-next_line.ensures.answers;
+      shows = shows_fault_next _ _ _ _ _ (batch_of c.lines.pending) c.lines.lines (g.S.Source.left c.lines.source) c.next_line.new.self (g.S.Source.left c.next_line.new.source)
+          c.in_err-next_line.field-0.0 _ c.lines.invariant.reads.has_read unended c.in_err-next_line.ensures.shows;
+      asks = asked_all _ _ _ _ _ _ _ _ _ _ c.lines.invariant.reads _ _ _ c.in_err-next_line.ensures.asks _ tt;
+    }
 
-pub returns-in-Long-clause-answers : goal.returns-in-Long-clause-answers
-returns-in-Long-clause-answers g c =
+pub returns-in-Long-clause-answer : goal.returns-in-Long-clause-answer
+returns-in-Long-clause-answer g c =
     let long = rw c.in-Long.is at c.in_ok-next_line.ensures.answers in
     let counts = rw c.in-Long.is at c.in_ok-next_line.ensures.counts in
-    rw (c.number.ensures, counts) (answers_too_long _ _ _ _ _ (batch_of c.lines.pending) c.lines.lines (g.S.Source.left c.lines.source) c.lines.invariant.reads.has_read long)
+    record {
+      answers = rw (c.number.ensures, counts) (answers_too_long _ _ _ _ _ (batch_of c.lines.pending) c.lines.lines (g.S.Source.left c.lines.source) c.lines.invariant.reads.has_read long);
+      shows = reads_some _ _ _ _ _ _ _ _ _ _ _ c.lines.invariant.reads.has_read c.next_line.ensures.shows (λ got. tt);
+      asks = asked_all _ _ _ _ _ _ _ _ _ _ c.lines.invariant.reads _ _ _ c.in_ok-next_line.ensures.asks _ c.in_ok-next_line.ensures.asks.ends.0;
+    }
 
-pub returns-in-Long-clause-shows : goal.returns-in-Long-clause-shows
-returns-in-Long-clause-shows g c = reads_some _ _ _ _ _ _ _ _ _ _ _ c.lines.invariant.reads.has_read c.next_line.ensures.shows (λ got. tt)
-
-pub returns-in-End-clause-answers : goal.returns-in-End-clause-answers
-returns-in-End-clause-answers g c =
+pub returns-in-End-clause-answer : goal.returns-in-End-clause-answer
+returns-in-End-clause-answer g c =
     let ended = rw c.in-End.is at c.in_ok-next_line.ensures.answers in
-    answers_ended _ _ _ _ _ (batch_of c.lines.pending) c.lines.lines (g.S.Source.left c.lines.source) c.lines.invariant.reads.has_read (ap (map transaction_of) (c.if-is_empty.ensures.0 refl)) ended.1
+    record {
+      answers = answers_ended _ _ _ _ _ (batch_of c.lines.pending) c.lines.lines (g.S.Source.left c.lines.source) c.lines.invariant.reads.has_read (ap (map transaction_of) (c.if-is_empty.ensures.0 refl)) ended.1;
+      shows = reads_some _ _ _ _ _ _ _ _ _ _ _ c.lines.invariant.reads.has_read c.next_line.ensures.shows (λ got. tt);
+      asks = asked_all _ _ _ _ _ _ _ _ _ _ c.lines.invariant.reads _ _ _ c.in_ok-next_line.ensures.asks _ c.in_ok-next_line.ensures.asks.ends.0;
+    }
 
-pub returns-in-End-clause-shows : goal.returns-in-End-clause-shows
-returns-in-End-clause-shows g c = reads_some _ _ _ _ _ _ _ _ _ _ _ c.lines.invariant.reads.has_read c.next_line.ensures.shows (λ got. tt)
-
-pub returns-in-End-2-clause-answers : goal.returns-in-End-2-clause-answers
-returns-in-End-2-clause-answers g c =
+pub returns-in-End-2-clause-answer : goal.returns-in-End-2-clause-answer
+returns-in-End-2-clause-answer g c =
     let ended = rw c.in-End-2.is at c.in_ok-next_line.ensures.answers in
-    answers_last _ _ _ _ _ (batch_of c.lines.pending) c.lines.lines (g.S.Source.left c.lines.source) _ c.next_line.new.self (g.S.Source.left c.next_line.new.source) c.lines.invariant.reads.has_read ended.0 ended.1
-
-pub returns-in-End-2-clause-shows : goal.returns-in-End-2-clause-shows
-returns-in-End-2-clause-shows g c =
     let done = c.in_ok-next_line.ensures.done (ap Ok c.in-End-2.is) in
-    reads_some _ _ _ _ _ _ _ _ _ _ _ c.lines.invariant.reads.has_read c.next_line.ensures.shows
-    (λ got unended more. absurd (true≢false (sym done.1 ∙ unended)))
+    record {
+      answers = answers_last _ _ _ _ _ (batch_of c.lines.pending) c.lines.lines (g.S.Source.left c.lines.source) _ c.next_line.new.self (g.S.Source.left c.next_line.new.source) c.lines.invariant.reads.has_read ended.0 ended.1;
+      shows = reads_some _ _ _ _ _ _ _ _ _ _ _ c.lines.invariant.reads.has_read c.next_line.ensures.shows
+          (λ got unended more. absurd (true≢false (sym done.1 ∙ unended)));
+      asks = asked_all _ _ _ _ _ _ _ _ _ _ c.lines.invariant.reads _ _ _ c.in_ok-next_line.ensures.asks _ c.in_ok-next_line.ensures.asks.ends.0;
+    }
 
-pub returns-in_err-take_line-clause-shows : goal.returns-in_err-take_line-clause-shows
-returns-in_err-take_line-clause-shows g c =
+pub returns-in_err-take_line-clause-answer : goal.returns-in_err-take_line-clause-answer
+returns-in_err-take_line-clause-answer g c =
     let p = err_from_is_err_and c.from_residual-in_err-take_line.result c.from_residual-in_err-take_line.ensures.1 in
-    rw (p.1, p.2) (reads_some _ _ _ _ _ _ _ _ _ _ _ c.lines.invariant.reads.has_read c.next_line.ensures.shows (λ got. tt))
+    rw (p.1, p.2) record {
+      answers = tt;
+      shows = reads_some _ _ _ _ _ _ _ _ _ _ _ c.lines.invariant.reads.has_read c.next_line.ensures.shows (λ got. tt);
+      asks = asked_all _ _ _ _ _ _ _ _ _ _ c.lines.invariant.reads _ _ _ c.in_ok-next_line.ensures.asks _ tt;
+    }
 
-pub returns-in-Closes-clause-answers : goal.returns-in-Closes-clause-answers
-returns-in-Closes-clause-answers g c =
+pub returns-in-Closes-clause-answer : goal.returns-in-Closes-clause-answer
+returns-in-Closes-clause-answer g c =
     let told = rw c.in-Line.is at c.in_ok-next_line.ensures.answers in
     let counts = rw c.in-Line.is at c.in_ok-next_line.ensures.counts in
     let plain = λ (first : c.lines.lines.number ≡ 0).
     plain_by (is_version_line c.next_line.new.self.line) c.next_line.new.self.number c.if-says_version.ensures.1 (omega (arith, first, counts)) in
     let closes = rw (c.in-Closes.is, c.line.ensures, c.lines.invariant.closed) at c.in_ok-take_line.ensures in
-    rw closes.same
-    (answers_batch _ _ _ _ _ (batch_of c.lines.pending) c.lines.lines (g.S.Source.left c.lines.source) c.next_line.new.self (g.S.Source.left c.next_line.new.source)
-    (record { version = c.lines.past.version; closed = c.lines.pending.latest }) c.lines.invariant.reads.has_read told.0 counts
-    (closes_behind (g.A.EventApp.event_of c.args.app.now c.args.size) c.lines.past.version c.lines.lines.number c.args.past.now.closed (batch_of c.lines.pending) c.next_line.new.self.line c.lines.invariant.opens plain c.lines.pending.latest closes.leads))
-
-pub returns-in-Closes-clause-shows : goal.returns-in-Closes-clause-shows
-returns-in-Closes-clause-shows g c =
-    let told = rw c.in-Line.is at c.in_ok-next_line.ensures.answers in
-    let counts = rw c.in-Line.is at c.in_ok-next_line.ensures.counts in
-    let plain = λ (first : c.lines.lines.number ≡ 0).
-    plain_by (is_version_line c.next_line.new.self.line) c.next_line.new.self.number c.if-says_version.ensures.1 (omega (arith, first, counts)) in
     let takes = rw c.in-Line.is at c.in_ok-next_line.ensures.shows in
-    let closes = rw (c.in-Closes.is, c.line.ensures, c.lines.invariant.closed) at c.in_ok-take_line.ensures in
-    rw closes.same
-    (shows_batch _ _ _ _ _ (batch_of c.lines.pending) c.lines.lines (g.S.Source.left c.lines.source) c.next_line.new.self (g.S.Source.left c.next_line.new.source)
-    (record { version = c.lines.past.version; closed = c.lines.pending.latest }) c.lines.invariant.reads.has_read told.0 takes c.next_line.ensures.unended counts
-    (closes_behind (g.A.EventApp.event_of c.args.app.now c.args.size) c.lines.past.version c.lines.lines.number c.args.past.now.closed (batch_of c.lines.pending) c.next_line.new.self.line c.lines.invariant.opens plain c.lines.pending.latest closes.leads))
+    record {
+      answers = rw closes.same
+          (answers_batch _ _ _ _ _ (batch_of c.lines.pending) c.lines.lines (g.S.Source.left c.lines.source) c.next_line.new.self (g.S.Source.left c.next_line.new.source)
+          (record { version = c.lines.past.version; closed = c.lines.pending.latest }) c.lines.invariant.reads.has_read told.0 counts
+          (closes_behind (g.A.EventApp.event_of c.args.app.now c.args.size) c.lines.past.version c.lines.lines.number c.args.past.now.closed (batch_of c.lines.pending) c.next_line.new.self.line c.lines.invariant.opens plain c.lines.pending.latest closes.leads));
+      shows = rw closes.same
+          (shows_batch _ _ _ _ _ (batch_of c.lines.pending) c.lines.lines (g.S.Source.left c.lines.source) c.next_line.new.self (g.S.Source.left c.next_line.new.source)
+          (record { version = c.lines.past.version; closed = c.lines.pending.latest }) c.lines.invariant.reads.has_read told.0 takes c.next_line.ensures.unended counts
+          (closes_behind (g.A.EventApp.event_of c.args.app.now c.args.size) c.lines.past.version c.lines.lines.number c.args.past.now.closed (batch_of c.lines.pending) c.next_line.new.self.line c.lines.invariant.opens plain c.lines.pending.latest closes.leads));
+      asks = asked_all _ _ _ _ _ _ _ _ _ _ c.lines.invariant.reads _ _ _ c.in_ok-next_line.ensures.asks _ c.in_ok-next_line.ensures.asks.ends.0;
+    }
 
 pub lines-preserved : goal.lines-preserved
 lines-preserved g c =
@@ -164,45 +162,16 @@ lines-preserved-then-says_version g c =
       steady = c.in_ok-next_line.ensures.steady (λ failed. absurd (cc)) ∙ c.lines.invariant.steady;
     }
 
-pub returns-in-Refuses-clause-answers : goal.returns-in-Refuses-clause-answers
-returns-in-Refuses-clause-answers g c =
+pub returns-in-Refuses-clause-answer : goal.returns-in-Refuses-clause-answer
+returns-in-Refuses-clause-answer g c =
     let told = rw c.in-Line.is at c.in_ok-next_line.ensures.answers in
     let counts = rw c.in-Line.is at c.in_ok-next_line.ensures.counts in
     let plain = λ (first : c.lines.lines.number ≡ 0).
     plain_by (is_version_line c.next_line.new.self.line) c.next_line.new.self.number c.if-says_version.ensures.1 (omega (arith, first, counts)) in
     let refused = rw (c.in-Refuses.is, c.line.ensures, c.lines.invariant.closed) at c.in_ok-take_line.ensures in
-    rw c.number-in-Refuses.ensures (answers_refused _ _ _ _ _ (batch_of c.lines.pending) c.lines.lines (g.S.Source.left c.lines.source) c.next_line.new.self (g.S.Source.left c.next_line.new.source) c.in-Refuses.cause c.lines.invariant.reads.has_read told.0 counts
-    (refuses_behind (g.A.EventApp.event_of c.args.app.now c.args.size) c.lines.past.version c.lines.lines.number c.args.past.now.closed (batch_of c.lines.pending) c.next_line.new.self.line c.lines.invariant.opens plain c.in-Refuses.cause refused))
-
-pub returns-in-Refuses-clause-shows : goal.returns-in-Refuses-clause-shows
-returns-in-Refuses-clause-shows g c = reads_some _ _ _ _ _ _ _ _ _ _ _ c.lines.invariant.reads.has_read c.next_line.ensures.shows (λ got. tt)
-
-pub returns-in_err-next_line-clause-asks : goal.returns-in_err-next_line-clause-asks
-returns-in_err-next_line-clause-asks g c =
-    let p = err_from_is_err_and c.from_residual.result c.from_residual.ensures.1 in
-    rw (p.1, p.2) (asked_all _ _ _ _ _ _ _ _ _ _ c.lines.invariant.reads _ _ _ c.in_err-next_line.ensures.asks _ tt)
-
-pub returns-in-Long-clause-asks : goal.returns-in-Long-clause-asks
-returns-in-Long-clause-asks g c =
-    asked_all _ _ _ _ _ _ _ _ _ _ c.lines.invariant.reads _ _ _ c.in_ok-next_line.ensures.asks _ c.in_ok-next_line.ensures.asks.ends.0
-
-pub returns-in-End-clause-asks : goal.returns-in-End-clause-asks
-returns-in-End-clause-asks g c =
-    asked_all _ _ _ _ _ _ _ _ _ _ c.lines.invariant.reads _ _ _ c.in_ok-next_line.ensures.asks _ c.in_ok-next_line.ensures.asks.ends.0
-
-pub returns-in-End-2-clause-asks : goal.returns-in-End-2-clause-asks
-returns-in-End-2-clause-asks g c =
-    asked_all _ _ _ _ _ _ _ _ _ _ c.lines.invariant.reads _ _ _ c.in_ok-next_line.ensures.asks _ c.in_ok-next_line.ensures.asks.ends.0
-
-pub returns-in-Closes-clause-asks : goal.returns-in-Closes-clause-asks
-returns-in-Closes-clause-asks g c =
-    asked_all _ _ _ _ _ _ _ _ _ _ c.lines.invariant.reads _ _ _ c.in_ok-next_line.ensures.asks _ c.in_ok-next_line.ensures.asks.ends.0
-
-pub returns-in-Refuses-clause-asks : goal.returns-in-Refuses-clause-asks
-returns-in-Refuses-clause-asks g c =
-    asked_all _ _ _ _ _ _ _ _ _ _ c.lines.invariant.reads _ _ _ c.in_ok-next_line.ensures.asks _ c.in_ok-next_line.ensures.asks.ends.0
-
-pub returns-in_err-take_line-clause-asks : goal.returns-in_err-take_line-clause-asks
-returns-in_err-take_line-clause-asks g c =
-    let p = err_from_is_err_and c.from_residual-in_err-take_line.result c.from_residual-in_err-take_line.ensures.1 in
-    rw (p.1, p.2) (asked_all _ _ _ _ _ _ _ _ _ _ c.lines.invariant.reads _ _ _ c.in_ok-next_line.ensures.asks _ tt)
+    record {
+      answers = rw c.number-in-Refuses.ensures (answers_refused _ _ _ _ _ (batch_of c.lines.pending) c.lines.lines (g.S.Source.left c.lines.source) c.next_line.new.self (g.S.Source.left c.next_line.new.source) c.in-Refuses.cause c.lines.invariant.reads.has_read told.0 counts
+          (refuses_behind (g.A.EventApp.event_of c.args.app.now c.args.size) c.lines.past.version c.lines.lines.number c.args.past.now.closed (batch_of c.lines.pending) c.next_line.new.self.line c.lines.invariant.opens plain c.in-Refuses.cause refused));
+      shows = reads_some _ _ _ _ _ _ _ _ _ _ _ c.lines.invariant.reads.has_read c.next_line.ensures.shows (λ got. tt);
+      asks = asked_all _ _ _ _ _ _ _ _ _ _ c.lines.invariant.reads _ _ _ c.in_ok-next_line.ensures.asks _ c.in_ok-next_line.ensures.asks.ends.0;
+    }

@@ -4,7 +4,7 @@ use Rattle.morph_io.specs.Told.{IsAtEnd}
 use Rattle.event_reader.specs.declared.version.Version.TheVariants.{One}
 use Rattle.event_reader.specs.Pending.{batch_of, Notes, IsSoundBatch}
 use Rattle.event_reader.specs.Reader.{KnowsVersion, reading_of}
-use Rattle.event_reader.proofs.BatchAskings.{AskedTo}
+use Rattle.event_reader.proofs.BatchReads.{AskedTo}
 use Rattle.event_reader.proofs.batches.read_batch.Given as goal
 
 abbrev pub invariant-lines : goal.invariant-lines

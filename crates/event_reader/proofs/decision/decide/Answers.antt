@@ -1,8 +1,8 @@
 use Rattle.std.proofs.Common.{arith}
 use Rattle.std.proofs.lemmas.Bool.Decides.{nat_tests}
 use Rattle.event_reader.specs.Lines.{is_line_feed}
-use Rattle.event_reader.proofs.Cutting.{none_pass}
-use Rattle.event_reader.proofs.Deciding.{decides_at, decides_overlong, decides_none, decides_last}
+use Rattle.event_reader.proofs.Pieces.{none_pass}
+use Rattle.event_reader.proofs.Decisions.{decides_at, decides_overlong, decides_none, decides_last}
 use Rattle.event_reader.proofs.decision.decide.Goals as goal
 
 pub returns-in-Some : goal.returns-in-Some

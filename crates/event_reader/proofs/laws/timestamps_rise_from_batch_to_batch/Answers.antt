@@ -1,7 +1,7 @@
 use Rattle.std.proofs.Common.{[]}
 use Rattle.event_reader.specs.Accepted.{accepted_first}
 use Rattle.event_reader.proofs.FirstLines.{first_rises}
-use Rattle.event_reader.proofs.Rising.{before_later, times_differ}
+use Rattle.event_reader.proofs.RisingTimes.{before_later, times_differ}
 use Rattle.event_reader.proofs.laws.timestamps_rise_from_batch_to_batch.Goals as goal
 
 pub returns-clause-later : goal.returns-clause-later

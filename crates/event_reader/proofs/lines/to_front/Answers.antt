@@ -1,5 +1,5 @@
 use Rattle.std.proofs.Common.{arith}
-use Rattle.event_reader.proofs.Moving.{moved_more, kept_more}
+use Rattle.event_reader.proofs.MovedBytes.{moved_more, kept_more}
 use Rattle.event_reader.proofs.lines.to_front.Goals as goal
 
 pub loop-i-preserved : goal.loop-i-preserved

@@ -1,7 +1,7 @@
 use Rattle.std.proofs.Common.{ap, ◌∙◌, sym, ◌∷◌, take, ◌+◌}
 use Rattle.std.proofs.lemmas.List.{take_rest}
 use Rattle.event_reader.specs.Words.{is_space, parts_of}
-use Rattle.event_reader.proofs.Cutting.{first_split, no_split}
+use Rattle.event_reader.proofs.Pieces.{first_split, no_split}
 use Rattle.event_reader.proofs.words.first_part.Goals as goal
 
 pub returns-in-Some : goal.returns-in-Some

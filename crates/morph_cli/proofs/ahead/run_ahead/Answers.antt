@@ -3,8 +3,8 @@ use Rattle.event_reader.specs.declared.limits.TheConstants.{INPUT_BYTES}
 use Rattle.morph_base.specs.declared.key.Layout.{Layout}
 use Rattle.morph_base.specs.Flat.{Kept, contents}
 use Rattle.morph_engine.specs.Accounts.{account_of}
-use Rattle.batch_pipe.specs.Running.{manner}
-use Rattle.batch_pipe.specs.Waiting.{PipeView, IsGoing}
+use Rattle.batch_pipe.specs.PlanRuns.{manner}
+use Rattle.batch_pipe.specs.PipeRounds.{PipeView, IsGoing}
 use Rattle.morph_cli.specs.declared.fault.Fault.TheVariants.{Write}
 use Rattle.run_text.specs.declared.choices.Settings.{Settings}
 use Rattle.run_text.specs.declared.tally.Tally.{Tally}

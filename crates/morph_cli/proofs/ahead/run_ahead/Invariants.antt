@@ -4,7 +4,7 @@ use Rattle.event_reader.specs.declared.fault.ReaderFault.TheVariants.{ReadFault}
 use Rattle.morph_io.specs.Told.{HasRisen}
 use Rattle.batch_pipe.specs.declared.tail.Tail.TheVariants.{Fault}
 use Rattle.batch_pipe.specs.Courses.{steps_left}
-use Rattle.batch_pipe.specs.Running.{manner}
+use Rattle.batch_pipe.specs.PlanRuns.{manner}
 use Rattle.morph_cli.specs.Outputs.{outputs_of}
 use Rattle.morph_cli.proofs.Between.{course_of}
 use Rattle.morph_cli.proofs.Piping.{Piped}

@@ -47,16 +47,16 @@ returns-in_err-batch-clause-does g c =
     record {
       ends = ends_fault (g.S.Source.left c.next_batch.new.source) c.next_batch.new.self c.in_err-batch.field-0.0
           (error_is c.from_residual.result (fault_of c.in_err-batch.field-0.0) c.from_residual.ensures.1)
-          c.batches.invariant.run c.in_err-batch.ensures.answers c.in_err-batch.ensures.shows c.in_err-batch.ensures.asked;
+          c.batches.invariant.run c.in_err-batch.ensures.answer.answers c.in_err-batch.ensures.answer.shows c.in_err-batch.ensures.read.asked;
       told = told_fault c.in_err-batch.field-0.0
           (error_is c.from_residual.result (fault_of c.in_err-batch.field-0.0) c.from_residual.ensures.1) c.batches.invariant.run;
       faults = faults_since c.args.job.now.settings c.batches.invariant.steady (faults_reader c.args.job.now.settings c.in_err-batch.field-0.0 (error_is c.from_residual.result (fault_of c.in_err-batch.field-0.0) c.from_residual.ensures.1)
-          c.in_err-batch.ensures.never_falls c.in_err-batch.ensures.steady c.in_err-batch.ensures.cause);
+          c.in_err-batch.ensures.read.never_falls c.in_err-batch.ensures.read.steady c.in_err-batch.ensures.read.cause);
     }
 
 pub take_batch-requires-clause-small : goal.take_batch-requires-clause-small
 take_batch-requires-clause-small g c κs outlives =
-    let valid = rw c.in-Batch.is at c.in_ok-batch.ensures.valid in
+    let valid = rw c.in-Batch.is at c.in_ok-batch.ensures.batch.valid in
     batch_small (greatest_of c.next_batch.new.self.past.version) c.in-Batch.batch (contents c.batches.progress.engine) valid.0 valid.1 valid.3 (λ key. le_trans (c.batches.invariant.small key) c.in_ok-batch.ensures.same.3.rises)
 
 pub take_batch-requires-clause-room : goal.take_batch-requires-clause-room
@@ -67,8 +67,8 @@ take_batch-requires-clause-few g c κs outlives = few_batches c.batches.invarian
 
 pub returns-in_err-take_batch-in-Batch-clause-does : goal.returns-in_err-take_batch-in-Batch-clause-does
 returns-in_err-take_batch-in-Batch-clause-does g c =
-    let valid = rw c.in-Batch.is at c.in_ok-batch.ensures.valid in
-    let answers = rw c.in-Batch.is at c.in_ok-batch.ensures.answers in
+    let valid = rw c.in-Batch.is at c.in_ok-batch.ensures.batch.valid in
+    let answers = rw c.in-Batch.is at c.in_ok-batch.ensures.answer.answers in
     record {
       ends = ends_taken (g.S.Source.left c.next_batch.new.source) c.next_batch.new.self _ _ c.batches.invariant.run refl refl c.batches.invariant.shown c.batches.invariant.watch answers valid.0
           _ _ _ _ _ c.in_err-take_batch-in-Batch.field-0.0 (error_is c.from_residual-in_err-take_batch-in-Batch.result c.in_err-take_batch-in-Batch.field-0.0 c.from_residual-in_err-take_batch-in-Batch.ensures.1)
@@ -76,21 +76,21 @@ returns-in_err-take_batch-in-Batch-clause-does g c =
       told = told_taken (g.S.Source.left c.next_batch.new.source) c.next_batch.new.self _ _ c.batches.invariant.run refl refl c.batches.invariant.shown c.batches.invariant.watch answers valid.0
           _ _ _ _ _ c.in_err-take_batch-in-Batch.field-0.0 (error_is c.from_residual-in_err-take_batch-in-Batch.result c.in_err-take_batch-in-Batch.field-0.0 c.from_residual-in_err-take_batch-in-Batch.ensures.1)
           c.in_err-take_batch-in-Batch.ensures.takes;
-      faults = faults_since c.args.job.now.settings (counts_still (c.in_ok-batch.ensures.steady (λ is. absurd (cc))) refl refl c.batches.invariant.steady) (faults_batch c.args.job.now.settings c.in_err-take_batch-in-Batch.field-0.0 (error_is c.from_residual-in_err-take_batch-in-Batch.result c.in_err-take_batch-in-Batch.field-0.0 c.from_residual-in_err-take_batch-in-Batch.ensures.1)
+      faults = faults_since c.args.job.now.settings (counts_still (c.in_ok-batch.ensures.read.steady (λ is. absurd (cc))) refl refl c.batches.invariant.steady) (faults_batch c.args.job.now.settings c.in_err-take_batch-in-Batch.field-0.0 (error_is c.from_residual-in_err-take_batch-in-Batch.result c.in_err-take_batch-in-Batch.field-0.0 c.from_residual-in_err-take_batch-in-Batch.ensures.1)
           (λ is. never_read _ _ _ _ _ _ _ _ _ _ _ _ c.in_err-take_batch-in-Batch.field-0.0 (error_is c.from_residual-in_err-take_batch-in-Batch.result c.in_err-take_batch-in-Batch.field-0.0 c.from_residual-in_err-take_batch-in-Batch.ensures.1) is c.in_err-take_batch-in-Batch.ensures.takes) c.in_err-take_batch-in-Batch.ensures.sink_faults c.in_err-take_batch-in-Batch.ensures.notes_faults c.in_err-take_batch-in-Batch.ensures.steady c.in_err-take_batch-in-Batch.ensures.cause);
     }
 
 pub batches-preserved : goal.batches-preserved
 batches-preserved g c =
-    let valid = rw c.in-Batch.is at c.in_ok-batch.ensures.valid in
-    let answers = rw c.in-Batch.is at c.in_ok-batch.ensures.answers in
-    let shows = rw c.in-Batch.is at c.in_ok-batch.ensures.shows in
-    let counted = rw c.in-Batch.is at c.in_ok-batch.ensures.counted in
+    let valid = rw c.in-Batch.is at c.in_ok-batch.ensures.batch.valid in
+    let answers = rw c.in-Batch.is at c.in_ok-batch.ensures.answer.answers in
+    let shows = rw c.in-Batch.is at c.in_ok-batch.ensures.answer.shows in
+    let counted = rw c.in-Batch.is at c.in_ok-batch.ensures.batch.counted in
     let live = rw c.in-Batch.is at c.in_ok-batch.ensures.goes_on in
-    let asks = rw c.in-Batch.is at c.in_ok-batch.ensures.asks in
+    let asks = rw c.in-Batch.is at c.in_ok-batch.ensures.answer.asks in
     record {
       run = between_same c.in_ok-take_batch-in-Batch.ensures.reader
-          (between_taken (g.S.Source.left c.next_batch.new.source) c.next_batch.new.self _ _ c.batches.invariant.run refl refl c.batches.invariant.shown c.batches.invariant.watch answers valid.0 _ _ _ _ _ _ _ c.in_ok-take_batch-in-Batch.ensures.takes shows counted c.in_ok-batch.ensures.bound (c.in_ok-batch.ensures.same.0, c.in_ok-batch.ensures.same.1, c.in_ok-batch.ensures.same.2) c.in_ok-batch.ensures.unended live
+          (between_taken (g.S.Source.left c.next_batch.new.source) c.next_batch.new.self _ _ c.batches.invariant.run refl refl c.batches.invariant.shown c.batches.invariant.watch answers valid.0 _ _ _ _ _ _ _ c.in_ok-take_batch-in-Batch.ensures.takes shows counted c.in_ok-batch.ensures.read.bound (c.in_ok-batch.ensures.same.0, c.in_ok-batch.ensures.same.1, c.in_ok-batch.ensures.same.2) c.in_ok-batch.ensures.read.unended live
           c.in_ok-take_batch-in-Batch.ensures.layout c.in_ok-take_batch-in-Batch.ensures.empty);
       shown = shown_taken (g.S.Source.left c.next_batch.new.source) c.next_batch.new.self _ _ c.batches.invariant.run refl refl c.batches.invariant.shown c.batches.invariant.watch answers valid.0 _ _ _ _ _ _ c.in_ok-take_batch-in-Batch.ensures.takes c.in_ok-take_batch-in-Batch.ensures.layout;
       watch = watch_taken (g.S.Source.left c.next_batch.new.source) c.next_batch.new.self _ _ c.batches.invariant.run refl refl c.batches.invariant.shown c.batches.invariant.watch answers valid.0 _ _ _ _ _ _ c.in_ok-take_batch-in-Batch.ensures.takes;
@@ -99,7 +99,7 @@ batches-preserved g c =
           (λ key. le_trans (c.batches.invariant.small key) c.in_ok-batch.ensures.same.3.rises));
       called = called_more g.S.Source.left g.S.Source.reads g.A.EventApp.event_of c.args.job.now.app c.args.job.now.settings.size c.args.source.now c.batches.progress.reader c.next_batch.new.self _ c.batches.source c.next_batch.new.source _ refl c.in_ok-take_batch-in-Batch.ensures.reader c.in_ok-batch.ensures.same.0 c.in_ok-batch.ensures.same.1
           c.batches.invariant.called asks shows;
-      steady = counts_still (c.in_ok-batch.ensures.steady (λ is. absurd (cc))) (c.in_ok-take_batch-in-Batch.ensures.steady (λ is. absurd (cc))).0 (c.in_ok-take_batch-in-Batch.ensures.steady (λ is. absurd (cc))).1 c.batches.invariant.steady;
+      steady = counts_still (c.in_ok-batch.ensures.read.steady (λ is. absurd (cc))) (c.in_ok-take_batch-in-Batch.ensures.steady (λ is. absurd (cc))).0 (c.in_ok-take_batch-in-Batch.ensures.steady (λ is. absurd (cc))).1 c.batches.invariant.steady;
     }
 
 -- ---- the end
@@ -112,7 +112,7 @@ tell_refused-requires-clause-all g c = c.batches.invariant.run.goes.tallied.coun
 
 pub returns-in-End-clause-does : goal.returns-in-End-clause-does
 returns-in-End-clause-does g c =
-    let answers = rw c.in-End.is at c.in_ok-batch.ensures.answers in
+    let answers = rw c.in-End.is at c.in_ok-batch.ensures.answer.answers in
     record {
       ends = ends_complete (g.S.Source.left c.next_batch.new.source) (outputs_of (g.K.Sink.written c.tell_closing.new.sink) (g.N.Sink.written c.tell_closing.new.notes))
           (closing_of c.args.job.now.settings (g.A.EventApp.name_of c.args.job.now.app) c.state-values.result.now c.batches.tally)
@@ -122,12 +122,12 @@ returns-in-End-clause-does g c =
           (closing_of c.args.job.now.settings (g.A.EventApp.name_of c.args.job.now.app) c.state-values.result.now c.batches.tally)
           (inl refl) (λ is. absurd (cc)) c.batches.invariant.run.goes answers
           (closing_last c.args.job.now.settings (g.A.EventApp.name_of c.args.job.now.app) c.state-values.result.now c.batches.progress.engine c.batches.tally _ c.state-values.ensures c.batches.invariant.run.layout) c.in_ok-tell_closing-in-End.ensures.told;
-      faults = faults_none c.args.job.now.settings (counts_still (c.in_ok-batch.ensures.steady (λ is. absurd (cc))) c.in_ok-tell_closing-in-End.ensures.steady.0 c.in_ok-tell_closing-in-End.ensures.steady.1 c.batches.invariant.steady) (λ is. absurd (cc)) (λ is. absurd (cc));
+      faults = faults_none c.args.job.now.settings (counts_still (c.in_ok-batch.ensures.read.steady (λ is. absurd (cc))) c.in_ok-tell_closing-in-End.ensures.steady.0 c.in_ok-tell_closing-in-End.ensures.steady.1 c.batches.invariant.steady) (λ is. absurd (cc)) (λ is. absurd (cc));
     }
 
 pub returns-in_err-tell_closing-in-End-clause-does : goal.returns-in_err-tell_closing-in-End-clause-does
 returns-in_err-tell_closing-in-End-clause-does g c =
-    let answers = rw c.in-End.is at c.in_ok-batch.ensures.answers in
+    let answers = rw c.in-End.is at c.in_ok-batch.ensures.answer.answers in
     record {
       ends = ends_cut (g.S.Source.left c.next_batch.new.source) (outputs_of (g.K.Sink.written c.tell_closing.new.sink) (g.N.Sink.written c.tell_closing.new.notes)) Ended
           (closing_of c.args.job.now.settings (g.A.EventApp.name_of c.args.job.now.app) c.state-values.result.now c.batches.tally)
@@ -140,13 +140,13 @@ returns-in_err-tell_closing-in-End-clause-does g c =
           (closing_of c.args.job.now.settings (g.A.EventApp.name_of c.args.job.now.app) c.state-values.result.now c.batches.tally)
           (error_is c.from_residual-in_err-tell_closing-in-End.result Write c.from_residual-in_err-tell_closing-in-End.ensures.1) (λ is. absurd (cc)) c.batches.invariant.run.goes answers
           (closing_last c.args.job.now.settings (g.A.EventApp.name_of c.args.job.now.app) c.state-values.result.now c.batches.progress.engine c.batches.tally _ c.state-values.ensures c.batches.invariant.run.layout) c.in_err-tell_closing-in-End.ensures.told;
-      faults = faults_since c.args.job.now.settings (counts_still (c.in_ok-batch.ensures.steady (λ is. absurd (cc))) refl refl c.batches.invariant.steady) (faults_write c.args.job.now.settings (noted_so c.args.job.now.settings) (error_is c.from_residual-in_err-tell_closing-in-End.result Write c.from_residual-in_err-tell_closing-in-End.ensures.1)
+      faults = faults_since c.args.job.now.settings (counts_still (c.in_ok-batch.ensures.read.steady (λ is. absurd (cc))) refl refl c.batches.invariant.steady) (faults_write c.args.job.now.settings (noted_so c.args.job.now.settings) (error_is c.from_residual-in_err-tell_closing-in-End.result Write c.from_residual-in_err-tell_closing-in-End.ensures.1)
           c.in_err-tell_closing-in-End.ensures.sink_faults c.in_err-tell_closing-in-End.ensures.notes_faults c.in_err-tell_closing-in-End.ensures.cause);
     }
 
 pub returns-in-Refused-clause-does : goal.returns-in-Refused-clause-does
 returns-in-Refused-clause-does g c =
-    let answers = rw c.in-Refused.is at c.in_ok-batch.ensures.answers in
+    let answers = rw c.in-Refused.is at c.in_ok-batch.ensures.answer.answers in
     record {
       ends = ends_refused (g.S.Source.left c.next_batch.new.source) (outputs_of (g.K.Sink.written c.tell_refused.new.sink) (g.N.Sink.written c.tell_refused.new.notes)) c.in-Refused.line c.in-Refused.cause
           (refused_text c.in-Refused.line c.in-Refused.cause)
@@ -156,12 +156,12 @@ returns-in-Refused-clause-does g c =
           (refused_text c.in-Refused.line c.in-Refused.cause)
           (inr refl) (λ is. absurd (cc)) c.batches.invariant.run.goes answers
           refl c.in_ok-tell_refused-in-Refused.ensures.told;
-      faults = faults_none c.args.job.now.settings (counts_still (c.in_ok-batch.ensures.steady (λ is. absurd (cc))) c.in_ok-tell_refused-in-Refused.ensures.steady.0 c.in_ok-tell_refused-in-Refused.ensures.steady.1 c.batches.invariant.steady) (λ is. absurd (cc)) (λ is. absurd (cc));
+      faults = faults_none c.args.job.now.settings (counts_still (c.in_ok-batch.ensures.read.steady (λ is. absurd (cc))) c.in_ok-tell_refused-in-Refused.ensures.steady.0 c.in_ok-tell_refused-in-Refused.ensures.steady.1 c.batches.invariant.steady) (λ is. absurd (cc)) (λ is. absurd (cc));
     }
 
 pub returns-in_err-tell_refused-in-Refused-clause-does : goal.returns-in_err-tell_refused-in-Refused-clause-does
 returns-in_err-tell_refused-in-Refused-clause-does g c =
-    let answers = rw c.in-Refused.is at c.in_ok-batch.ensures.answers in
+    let answers = rw c.in-Refused.is at c.in_ok-batch.ensures.answer.answers in
     record {
       ends = ends_cut (g.S.Source.left c.next_batch.new.source) (outputs_of (g.K.Sink.written c.tell_refused.new.sink) (g.N.Sink.written c.tell_refused.new.notes)) (RefusedAt c.in-Refused.line c.in-Refused.cause)
           (refused_text c.in-Refused.line c.in-Refused.cause)
@@ -174,36 +174,36 @@ returns-in_err-tell_refused-in-Refused-clause-does g c =
           (refused_text c.in-Refused.line c.in-Refused.cause)
           (error_is c.from_residual-in_err-tell_refused-in-Refused.result Write c.from_residual-in_err-tell_refused-in-Refused.ensures.1) (λ is. absurd (cc)) c.batches.invariant.run.goes answers
           refl c.in_err-tell_refused-in-Refused.ensures.told;
-      faults = faults_since c.args.job.now.settings (counts_still (c.in_ok-batch.ensures.steady (λ is. absurd (cc))) refl refl c.batches.invariant.steady) (faults_write c.args.job.now.settings (noted_so c.args.job.now.settings) (error_is c.from_residual-in_err-tell_refused-in-Refused.result Write c.from_residual-in_err-tell_refused-in-Refused.ensures.1)
+      faults = faults_since c.args.job.now.settings (counts_still (c.in_ok-batch.ensures.read.steady (λ is. absurd (cc))) refl refl c.batches.invariant.steady) (faults_write c.args.job.now.settings (noted_so c.args.job.now.settings) (error_is c.from_residual-in_err-tell_refused-in-Refused.result Write c.from_residual-in_err-tell_refused-in-Refused.ensures.1)
           c.in_err-tell_refused-in-Refused.ensures.sink_faults c.in_err-tell_refused-in-Refused.ensures.notes_faults c.in_err-tell_refused-in-Refused.ensures.cause);
     }
 
 pub returns-in_err-take_batch-in-Batch-clause-asks : goal.returns-in_err-take_batch-in-Batch-clause-asks
 returns-in_err-take_batch-in-Batch-clause-asks g c =
     read_by g.S.Source.left g.S.Source.reads g.A.EventApp.event_of c.args.job.now.app c.args.job.now.settings.size c.args.source.now c.batches.progress.reader c.next_batch.new.self c.batches.source c.next_batch.new.source _
-    c.batches.invariant.called c.in_ok-batch.ensures.asks c.in_ok-batch.ensures.shows
+    c.batches.invariant.called c.in_ok-batch.ensures.answer.asks c.in_ok-batch.ensures.answer.shows
 
 pub returns-in-End-clause-asks : goal.returns-in-End-clause-asks
 returns-in-End-clause-asks g c =
     read_by g.S.Source.left g.S.Source.reads g.A.EventApp.event_of c.args.job.now.app c.args.job.now.settings.size c.args.source.now c.batches.progress.reader c.next_batch.new.self c.batches.source c.next_batch.new.source _
-    c.batches.invariant.called c.in_ok-batch.ensures.asks c.in_ok-batch.ensures.shows
+    c.batches.invariant.called c.in_ok-batch.ensures.answer.asks c.in_ok-batch.ensures.answer.shows
 
 pub returns-in_err-tell_closing-in-End-clause-asks : goal.returns-in_err-tell_closing-in-End-clause-asks
 returns-in_err-tell_closing-in-End-clause-asks g c =
     read_by g.S.Source.left g.S.Source.reads g.A.EventApp.event_of c.args.job.now.app c.args.job.now.settings.size c.args.source.now c.batches.progress.reader c.next_batch.new.self c.batches.source c.next_batch.new.source _
-    c.batches.invariant.called c.in_ok-batch.ensures.asks c.in_ok-batch.ensures.shows
+    c.batches.invariant.called c.in_ok-batch.ensures.answer.asks c.in_ok-batch.ensures.answer.shows
 
 pub returns-in-Refused-clause-asks : goal.returns-in-Refused-clause-asks
 returns-in-Refused-clause-asks g c =
     read_by g.S.Source.left g.S.Source.reads g.A.EventApp.event_of c.args.job.now.app c.args.job.now.settings.size c.args.source.now c.batches.progress.reader c.next_batch.new.self c.batches.source c.next_batch.new.source _
-    c.batches.invariant.called c.in_ok-batch.ensures.asks c.in_ok-batch.ensures.shows
+    c.batches.invariant.called c.in_ok-batch.ensures.answer.asks c.in_ok-batch.ensures.answer.shows
 
 pub returns-in_err-tell_refused-in-Refused-clause-asks : goal.returns-in_err-tell_refused-in-Refused-clause-asks
 returns-in_err-tell_refused-in-Refused-clause-asks g c =
     read_by g.S.Source.left g.S.Source.reads g.A.EventApp.event_of c.args.job.now.app c.args.job.now.settings.size c.args.source.now c.batches.progress.reader c.next_batch.new.self c.batches.source c.next_batch.new.source _
-    c.batches.invariant.called c.in_ok-batch.ensures.asks c.in_ok-batch.ensures.shows
+    c.batches.invariant.called c.in_ok-batch.ensures.answer.asks c.in_ok-batch.ensures.answer.shows
 
 pub returns-in_err-batch-clause-asks : goal.returns-in_err-batch-clause-asks
 returns-in_err-batch-clause-asks g c =
     read_by g.S.Source.left g.S.Source.reads g.A.EventApp.event_of c.args.job.now.app c.args.job.now.settings.size c.args.source.now c.batches.progress.reader c.next_batch.new.self c.batches.source c.next_batch.new.source _
-    c.batches.invariant.called c.in_err-batch.ensures.asks c.in_err-batch.ensures.shows
+    c.batches.invariant.called c.in_err-batch.ensures.answer.asks c.in_err-batch.ensures.answer.shows

@@ -1,7 +1,7 @@
 use Rattle.std.proofs.Common.{◌≡◌, List, ℕ, ap, refl, subst, ◌∙◌}
 use Rattle.morph_io.specs.Told.{behind, behind_behind}
-use Rattle.morph_io.specs.Writing.{AppendsPart}
-use Rattle.morph_io.proofs.Putting.{part_more}
+use Rattle.morph_io.specs.SinkWrites.{AppendsPart}
+use Rattle.morph_io.proofs.BufferPuts.{part_more}
 use Rattle.op_words.specs.Closing.{journal_of}
 use Rattle.run_text.specs.Notes.{noted, batch_note, check_notes}
 use Rattle.run_text.proofs.Pieces.{on_err}

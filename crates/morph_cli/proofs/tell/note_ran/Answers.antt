@@ -1,6 +1,6 @@
 use Rattle.std.proofs.Common.{List, ℕ, ap, refl, ◌∙◌}
 use Rattle.morph_io.specs.Told.{behind, behind_behind}
-use Rattle.morph_io.proofs.Putting.{part_more}
+use Rattle.morph_io.proofs.BufferPuts.{part_more}
 use Rattle.morph_engine.specs.Accounts.{account_of}
 use Rattle.run_text.proofs.Pieces.{on_err}
 use Rattle.run_text.proofs.Writes.{part_after}

@@ -1,6 +1,6 @@
 use Rattle.std.proofs.Common.{◌++◌, ap, subst, ◌∙◌}
 use Rattle.morph_io.specs.Told.{behind}
-use Rattle.morph_io.specs.Writing.{AppendsPart}
+use Rattle.morph_io.specs.SinkWrites.{AppendsPart}
 use Rattle.morph_engine.specs.Fates.{settled_fates}
 use Rattle.run_text.specs.Reports.{report_of}
 use Rattle.morph_engine.specs.Accounts.{account_of}

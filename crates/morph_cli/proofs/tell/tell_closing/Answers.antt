@@ -1,6 +1,6 @@
 use Rattle.std.proofs.Common.{◌++◌, ap, subst, ◌∙◌}
 use Rattle.morph_io.specs.Told.{behind}
-use Rattle.morph_io.specs.Writing.{AppendsPart}
+use Rattle.morph_io.specs.SinkWrites.{AppendsPart}
 use Rattle.morph_base.specs.Flat.{contents}
 use Rattle.run_text.specs.Reports.{report_of}
 use Rattle.run_text.specs.Notes.{noted, closing_notes}

@@ -3,7 +3,7 @@ use Rattle.std.proofs.Common.{◌∙◌, sym, arith, refl}
 use Rattle.std.proofs.lemmas.List.{take_rest}
 use Rattle.std.proofs.lemmas.Result.{err_from_is_err_and}
 use Rattle.morph_io.specs.Told.{behind_nil}
-use Rattle.morph_io.specs.Writing.{no_write}
+use Rattle.morph_io.specs.SinkWrites.{no_write}
 use Rattle.morph_io.proofs.Pieces.{behind_piece, part_at, writes_piece, writes_cut}
 use Rattle.morph_io.proofs.output.write_all.Goals as goal
 
@@ -16,7 +16,7 @@ pieces-preserved g c =
       omega (arith, c.in_ok-at.ensures.bound),
       behind_piece _ _ _ _ _ _ c.pieces.invariant.1 (rw take_rest at c.in_ok-at.ensures.bytes),
       c.in_ok-at.ensures.steady ∙ c.pieces.invariant.2,
-      writes_piece _ _ _ _ _ _ _ c.pieces-test.true c.pieces.invariant.3 (rw take_rest at c.in_ok-at.ensures.does),
+      writes_piece _ _ _ _ _ _ _ c.pieces-test.true c.pieces.invariant.3 (rw take_rest at c.in_ok-at.ensures.answer),
       λ none. absurd (omega arith),
     )
 
@@ -28,4 +28,4 @@ returns-in_err-at-clause-prefix g c =
 pub returns-in_err-at-clause-writes : goal.returns-in_err-at-clause-writes
 returns-in_err-at-clause-writes g c =
     let p = err_from_is_err_and c.from_residual.result c.from_residual.ensures.1 in
-    rw p.1 (writes_cut _ _ _ _ c.pieces.at _ _ c.pieces-test.true c.pieces.invariant.3 _ (rw take_rest at c.in_err-at.ensures.does))
+    rw p.1 (writes_cut _ _ _ _ c.pieces.at _ _ c.pieces-test.true c.pieces.invariant.3 _ (rw take_rest at c.in_err-at.ensures.answer))

@@ -1,6 +1,6 @@
 use Rattle.std.proofs.Common.{◌≡◌, ◌-◌, ◌≤◌, false, length, take, drop}
 use Rattle.morph_io.specs.Told.{behind}
-use Rattle.morph_io.specs.Writing.{Writes}
+use Rattle.morph_io.specs.SinkWrites.{Writes}
 use Rattle.morph_io.proofs.output.write_all.Given as goal
 
 abbrev pub invariant-pieces : goal.invariant-pieces

@@ -1,5 +1,5 @@
 use Rattle.std.proofs.Common.{◌≡◌, arith}
-use Rattle.morph_io.proofs.Repeating.{left_from_empty, left_from_next, left_from_last}
+use Rattle.morph_io.proofs.RepeatedLine.{left_from_empty, left_from_next, left_from_last}
 use Rattle.morph_io.proofs.repeat_source.next_place.Goals as goal
 use Rattle.morph_io.proofs.repeat_source.next_place.Goals.{else-at-line-via-then-at-line+else-times-gt0, else-at-line-via-else-at-line}
 

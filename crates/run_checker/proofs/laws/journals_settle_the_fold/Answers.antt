@@ -6,6 +6,6 @@ returns c = record {
   taken = settled_fold;
   yes = yes_fold;
   unsettled = λ p cap journal values op. unsettled_fold p cap journal op;
-  differs = differs_fold;
+  differs = λ p cap journal values op own run. differs_fold p cap journal values (record { op = op; journal = own; run = run });
   fold = fold_yes;
 }

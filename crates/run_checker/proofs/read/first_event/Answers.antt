@@ -1,8 +1,8 @@
 use Rattle.std.proofs.Common.{sym, ◌∙◌, subst}
 use Rattle.std.specs.Prelude.{IfNone}
 use Rattle.event_reader.specs.Lines.{is_line_feed}
-use Rattle.event_reader.proofs.Cutting.{none_pass}
-use Rattle.run_checker.specs.Reading.{BeginsWithNone}
+use Rattle.event_reader.proofs.Pieces.{none_pass}
+use Rattle.run_checker.specs.LineEvents.{BeginsWithNone}
 use Rattle.run_checker.proofs.TextLaws.{none_begins_at, unended_begins}
 use Rattle.run_checker.proofs.read.first_event.Goals as goal
 

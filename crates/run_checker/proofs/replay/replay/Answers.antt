@@ -5,7 +5,7 @@ use Rattle.interleaving_core.specs.Core.{start}
 use Rattle.interleaving_core.specs.Stored.{core_of, cap_of}
 use Rattle.interleaving_core.specs.Steps.{May}
 use Rattle.interleaving_core.specs.Orders.{Leads}
-use Rattle.run_checker.proofs.Leading.{leads_none, taken_more, refused_at}
+use Rattle.run_checker.proofs.JournalFronts.{leads_none, taken_more, refused_at}
 use Rattle.run_checker.proofs.replay.replay.Goals as goal
 
 pub loop-n-init : goal.loop-n-init

@@ -1,7 +1,7 @@
 use Rattle.std.proofs.Common.{◌≡◌, ℕ, List, [], ◌∷◌, length, drop, sym, ◌∙◌, ap, arith, refl, Some, None}
 use Rattle.std.specs.Prelude.{slice_index_or}
 use Rattle.run_checker.specs.Lines.{greatest_id, greatest_small, greatest_value}
-use Rattle.run_checker.specs.Reading.{number_up_to, both, fetch_said}
+use Rattle.run_checker.specs.LineEvents.{number_up_to, both, fetch_said}
 use Rattle.run_checker.proofs.words.fetched.Goals as goal
 
 -- four words behind the letter

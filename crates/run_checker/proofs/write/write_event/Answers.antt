@@ -1,6 +1,6 @@
 use Rattle.std.proofs.Common.{length-append, length, sym, ◌∙◌, ap, arith}
 use Rattle.run_checker.specs.Lines.{line_of}
-use Rattle.run_checker.proofs.WritingLaws.{one_written, two_written, four_written, decide_written, one_short, two_short, four_short}
+use Rattle.run_checker.proofs.WrittenLines.{one_written, two_written, four_written, decide_written, one_short, two_short, four_short}
 use Rattle.run_checker.proofs.write.write_event.Goals as goal
 
 pub returns-in-Ready-clause-line : goal.returns-in-Ready-clause-line

@@ -6,7 +6,7 @@ use Rattle.std.proofs.lemmas.List.Elements.{All-weaker}
 use Rattle.event_reader.specs.Keys.{are_distinct}
 use Rattle.stock_app.specs.Stock.{IsPriced, is_offered, items_of, order, stock_of}
 use Rattle.stock_app.specs.StockLaws.{IsOrdered, are_ordered}
-use Rattle.stock_app.proofs.Ordering.{is_order}
+use Rattle.stock_app.proofs.Orders.{is_order}
 use Rattle.stock_app.proofs.stock.order_of.Goals as goal
 
 pub order_ops-requires-clause-priced : goal.order_ops-requires-clause-priced

@@ -5,10 +5,10 @@ use Rattle.event_reader.specs.Versions.{greatest_of}
 use Rattle.rtrb.specs.Ring.{known_items}
 use Rattle.batch_pipe.specs.declared.items.Sent.{Sent}
 use Rattle.batch_pipe.specs.declared.items.Ran.{Ran}
-use Rattle.batch_pipe.specs.Planning.{IsReadyPlan, AreNumbered}
-use Rattle.batch_pipe.specs.Running.{somes}
+use Rattle.batch_pipe.specs.PlannedBatches.{IsReadyPlan, AreNumbered}
+use Rattle.batch_pipe.specs.PlanRuns.{somes}
 use Rattle.decision_model.specs.Choices.{no_last}
-use Rattle.batch_pipe.specs.Waiting.{PipeView}
+use Rattle.batch_pipe.specs.PipeRounds.{PipeView}
 use Rattle.batch_pipe.proofs.Desks.{somes_none}
 use Rattle.batch_pipe.proofs.pipe.Pipe.new.Goals as goal
 

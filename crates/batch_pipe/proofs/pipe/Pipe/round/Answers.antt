@@ -8,10 +8,9 @@ use Rattle.morph_base.specs.Flat.{contents}
 use Rattle.event_reader.specs.Reader.{ReaderView}
 use Rattle.rtrb.specs.Ring.{sent, received, known_items, known_free, producer_capacity}
 use Rattle.batch_pipe.specs.declared.items.Sent.{Sent}
-use Rattle.batch_pipe.specs.Reading.{stand}
-use Rattle.batch_pipe.specs.Planning.{IsReadyPlan, PlansAhead, CanPlan, layout_by}
-use Rattle.batch_pipe.specs.Running.{Manner, manner, somes, one_or_none}
-use Rattle.batch_pipe.specs.Waiting.{PipeView, IsGoing, IsRound}
+use Rattle.batch_pipe.specs.PlannedBatches.{IsReadyPlan, PlansAhead, bench, CanPlan, layout_by}
+use Rattle.batch_pipe.specs.PlanRuns.{Manner, manner, somes, one_or_none}
+use Rattle.batch_pipe.specs.PipeRounds.{PipeView, IsGoing, IsRound}
 use Rattle.batch_pipe.specs.Inside.{view_of}
 use Rattle.batch_pipe.proofs.Ahead.{same_layout, ready_as, waits_ready, halves_keep}
 use Rattle.batch_pipe.proofs.Bounds.{state_after-within}
@@ -117,8 +116,8 @@ returns-clause-round g c =
     let r = h.runs.runs in
     let q = c.read_first.new.planner in
     let layout_is : layout_by g.A.EventApp.table_count q.reader ≡ layout = same_layout g.A.EventApp.table_count p.planner.reader q.reader f.same in
-    let plans = subst (λ (l : Layout). PlansAhead g.A.EventApp.event_of l (greatest_of n.planner.reader.past.version) (stand q.reader (g.S.Source.left c.read_first.new.source)) (sent q.ring) q.sent
-    c.run_halves-stop.result.0 (stand n.planner.reader (g.S.Source.left n.source)) (sent n.planner.ring) n.planner.sent) layout_is h.plans in
+    let plans = subst (λ (l : Layout). PlansAhead g.A.EventApp.event_of l (greatest_of n.planner.reader.past.version) (bench q (g.S.Source.left c.read_first.new.source))
+    c.run_halves-stop.result.0 (bench n.planner (g.S.Source.left n.source))) layout_is h.plans in
     let tails = c.is_none-planning.ensures in
     let first : Option Sent = c.in-Ok.first in
     let one = one_first a first c.asks_first-asked.result c.is_none-planning.result c.cached_slots.result going c.cached_slots.ensures tails c.asks_first-asked.ensures

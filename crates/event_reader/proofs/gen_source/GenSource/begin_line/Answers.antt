@@ -1,5 +1,5 @@
 use Rattle.std.proofs.Common.{◌≡◌, arith}
-use Rattle.event_reader.proofs.GivingText.{all_given, not_at_end}
+use Rattle.event_reader.proofs.GeneratedLines.{all_given, not_at_end}
 use Rattle.event_reader.proofs.gen_source.GenSource.begin_line.Goals as goal
 use Rattle.event_reader.proofs.gen_source.GenSource.begin_line.Goals.{else-self-len-via-then-self-len+else-self-gt0, else-self-len-via-else-self-len}
 

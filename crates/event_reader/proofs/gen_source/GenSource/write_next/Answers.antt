@@ -1,4 +1,4 @@
-use Rattle.event_reader.proofs.GivingText.{line_begun}
+use Rattle.event_reader.proofs.GeneratedLines.{line_begun}
 use Rattle.event_reader.proofs.gen_source.GenSource.write_next.Goals as goal
 
 pub returns-clause-same : goal.returns-clause-same

@@ -1,6 +1,6 @@
 use Rattle.std.proofs.Common.{◌++◌, drop, sym, ◌∙◌, ap, arith}
 use Rattle.std.proofs.lemmas.List.{take_rest}
-use Rattle.event_reader.proofs.GivingText.{part_given}
+use Rattle.event_reader.proofs.GeneratedLines.{part_given}
 use Rattle.event_reader.proofs.gen_source.GenSourceSource.read.Goals as goal
 
 pub returns-clause-bytes : goal.returns-clause-bytes

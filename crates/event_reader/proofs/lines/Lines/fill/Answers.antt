@@ -4,7 +4,7 @@ use Rattle.std.proofs.lemmas.List.{with_items_is}
 use Rattle.std.proofs.lemmas.List.Edits.{length-between}
 use Rattle.morph_io.specs.Told.{ahead, ahead_nil}
 use Rattle.event_reader.proofs.BufferParts.{range_filled, range_kept, length-range, twice_written, first_item, within_limit}
-use Rattle.event_reader.proofs.Askings.{once, not_beyond, last_where_none}
+use Rattle.event_reader.proofs.LineReads.{once, not_beyond, last_where_none}
 use Rattle.event_reader.proofs.lines.Lines.fill.Goals as goal
 
 pub returns-then-left-eq0-clause-fills : goal.returns-then-left-eq0-clause-fills
@@ -70,7 +70,7 @@ returns-in_default-clause-asks g c =
     = length-between inner.buffer.items inner.start inner.end (omega arith) in
     rw (← c.self.view_is)
     (once g.S.Source.left g.S.Source.reads c.asked_bytes-most.result (length (slice_range inner.buffer.items inner.start inner.end)) (inner.end - inner.start) (inner.limit - inner.taken)
-    c.args.source.now _ [] true c.read_behind.new.source c.asked_bytes-most.ensures.bytes size c.in_default.ensures.does refl
+    c.args.source.now _ [] true c.read_behind.new.source c.asked_bytes-most.ensures.bytes size c.in_default.ensures.answer refl
     (sym c.in_default.ensures.failed ∙ sym (ahead_nil (g.S.Source.left c.read_behind.new.source))) refl)
 
 pub returns-clause-asks : goal.returns-clause-asks
@@ -91,7 +91,7 @@ returns-clause-asks g c =
     rw (← c.self.view_is) record {
       bytes = slice_range after end (end + c.in-Ok.got);
       asks = once g.S.Source.left g.S.Source.reads c.asked_bytes-most.result (length (slice_range inner.buffer.items inner.start inner.end)) end (inner.limit - inner.taken)
-          c.args.source.now (Ok c.in-Ok.got) (slice_range after end (end + c.in-Ok.got)) _ c.read_behind.new.source c.asked_bytes-most.ensures.bytes size c.in-Ok.ensures.does count
+          c.args.source.now (Ok c.in-Ok.got) (slice_range after end (end + c.in-Ok.got)) _ c.read_behind.new.source c.asked_bytes-most.ensures.bytes size c.in-Ok.ensures.answer count
           c.in-Ok.ensures.bytes (last_where_none c.in-Ok.got (inner.limit - inner.taken) (not_beyond c.in-Ok.got (inner.limit - inner.taken) c.else-got-gt0.either));
       kept = rw items (range_filled inner.buffer.items moved after inner.start inner.end c.in-Ok.got front kept);
       room = rw count (omega arith);

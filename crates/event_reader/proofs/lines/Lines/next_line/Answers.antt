@@ -2,9 +2,9 @@ use Rattle.std.proofs.Common.{◌+◌, ◌-◌, false, ap, ◌∙◌, sym, refl}
 use Rattle.std.proofs.lemmas.Bool.{true≢false}
 use Rattle.std.proofs.lemmas.Result.{err_from_is_err_and}
 use Rattle.event_reader.specs.Reader.{reading_of}
-use Rattle.event_reader.proofs.Goings.{goes_nowhere, goes_further, answers_fault, shows_fault, answers_line, answers_long, answers_end}
+use Rattle.event_reader.proofs.LineAnswers.{goes_nowhere, goes_further, answers_fault, shows_fault, answers_line, answers_long, answers_end}
 use Rattle.event_reader.specs.declared.answers.LineNext.TheVariants.{Long, End}
-use Rattle.event_reader.proofs.Askings.{asked_nothing, asked_more, asked_last, asked_line, asked_none}
+use Rattle.event_reader.proofs.LineReads.{asked_nothing, asked_more, asked_last, asked_line, asked_none}
 use Rattle.event_reader.proofs.lines.Lines.next_line.Goals as goal
 
 pub reads-init : goal.reads-init

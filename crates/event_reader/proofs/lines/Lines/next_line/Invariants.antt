@@ -1,7 +1,7 @@
 use Rattle.std.specs.Prelude.{IsTrue}
 use Rattle.std.proofs.Common.{◌≡◌, ◌+◌, ◌-◌, ◌*◌, if◌then◌else◌}
-use Rattle.event_reader.proofs.Goings.{GoesOn}
-use Rattle.event_reader.proofs.Askings.{AskedSoFar}
+use Rattle.event_reader.proofs.LineAnswers.{GoesOn}
+use Rattle.event_reader.proofs.LineReads.{AskedSoFar}
 use Rattle.event_reader.proofs.lines.Lines.next_line.Given as goal
 
 abbrev pub invariant-reads : goal.invariant-reads

@@ -4,7 +4,7 @@ use Rattle.morph_base.specs.Transactions.{transaction_of}
 use Rattle.event_reader.specs.Pending.{batch_of}
 use Rattle.event_reader.specs.Steps.{rules_of, said_by}
 use Rattle.event_reader.specs.declared.cause.Cause.TheVariants.{Form}
-use Rattle.event_reader.proofs.Stepping.{leads_ignored, leads_empty, leads_closed, leads_refused, leads_joined, leads_not_joined, sound_more, some_item}
+use Rattle.event_reader.proofs.LineSteps.{leads_ignored, leads_empty, leads_closed, leads_refused, leads_joined, leads_not_joined, sound_more, some_item}
 use Rattle.event_reader.proofs.pending.Pending.take_line.Goals as goal
 
 pub returns-then-is_ignored_line : goal.returns-then-is_ignored_line

@@ -2,7 +2,7 @@
 use Rattle.std.proofs.Common.{◌≡◌, ℕ, ◌+◌, ◌-◌, ◌<◌, ◌≤◌, ◌++◌, length, drop, take, ◌∙◌, sym, ap, arith}
 use Rattle.std.proofs.lemmas.Result.{err_from_is_err_and}
 use Rattle.morph_io.specs.Limits.{out_bytes}
-use Rattle.morph_io.proofs.Putting.{puts_kept, part_more, kept_all, kept_rest, filled_parts, writes_full}
+use Rattle.morph_io.proofs.BufferPuts.{puts_kept, part_more, kept_all, kept_rest, filled_parts, writes_full}
 use Rattle.morph_io.proofs.output.Out.put.Goals as goal
 
 pub returns-then-bytes-room-clause-puts : goal.returns-then-bytes-room-clause-puts

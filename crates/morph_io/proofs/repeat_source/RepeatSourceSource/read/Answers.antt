@@ -1,6 +1,6 @@
 use Rattle.std.proofs.Common.{◌≤◌, ◌∙◌, length, drop, sym, arith}
 use Rattle.std.proofs.lemmas.List.{take_rest}
-use Rattle.morph_io.proofs.Repeating.{left_from_given}
+use Rattle.morph_io.proofs.RepeatedLine.{left_from_given}
 use Rattle.morph_io.proofs.repeat_source.RepeatSourceSource.read.Goals as goal
 
 pub returns-clause-bytes : goal.returns-clause-bytes

@@ -8,9 +8,9 @@ use Rattle.batch_pipe.specs.declared.items.Sent.{Sent}
 use Rattle.batch_pipe.specs.declared.items.Ran.{Ran}
 use Rattle.batch_pipe.specs.declared.tail.Tail.{Tail}
 use Rattle.batch_pipe.specs.declared.tail.Tail.TheVariants.{RunMemory}
-use Rattle.batch_pipe.specs.Reading.{stand}
-use Rattle.batch_pipe.specs.Planning.{Plans, AreNumbered, plans_of}
-use Rattle.batch_pipe.specs.Running.{Manner, AreRun, state_after, last_after}
+use Rattle.batch_pipe.specs.GivenBatches.{stand}
+use Rattle.batch_pipe.specs.PlannedBatches.{Plans, AreNumbered, plans_of}
+use Rattle.batch_pipe.specs.PlanRuns.{Manner, AreRun, state_after, last_after}
 use Rattle.decision_model.specs.Choices.{no_last}
 
 -- A pipe: its reader, the state of its engine, the plans that wait, the results of those that were run and not yet

@@ -7,9 +7,9 @@ use Rattle.event_reader.specs.declared.cause.Cause.{Cause}
 use Rattle.event_reader.specs.Steps.{Rules, Step, Ignored, Closes, Adds, Refuses, latest_with, is_punctuation, step_of}
 use Rattle.event_reader.specs.Accepted.{Accepted, Ending, Ended, RefusedAt, CutOff, led_by, accepted_lines}
 use Rattle.event_reader.specs.LineEvents.{events_said, has_event, before_last, closed_said}
-use Rattle.event_reader.proofs.Comings.{Comes, passed_over, marks, joins, comes}
-use Rattle.event_reader.proofs.Refusing.{same_ending}
-use Rattle.event_reader.proofs.Sayings.{ignored_no_mark, none_ignored, says_event, parts, onto, some_part, parts_marked, parts_unmarked, onto_more, onto_none, kept_batch}
+use Rattle.event_reader.proofs.StepCases.{Comes, passed_over, marks, joins, comes}
+use Rattle.event_reader.proofs.FirstRefused.{same_ending}
+use Rattle.event_reader.proofs.LineEvents.{ignored_no_mark, none_ignored, says_event, parts, onto, some_part, parts_marked, parts_unmarked, onto_more, onto_none, kept_batch}
 
 before_more : {X : Type 0} (x y : X) (ys : List X) → before_last (x ∷ y ∷ ys) ≡ x ∷ before_last (y ∷ ys)
 before_more x y ys =

@@ -13,12 +13,12 @@ use Rattle.event_reader.specs.Steps.{Meaning}
 use Rattle.event_reader.specs.Accepted.{Accepted, with_batch}
 use Rattle.event_reader.specs.declared.answers.Next.TheVariants.{Batch}
 use Rattle.event_reader.specs.Reader.{accepted_by, accepted_after, accepted_next, AnswersNext, ShowsNext, TakesBytes, SameReader}
-use Rattle.batch_pipe.specs.Reading.{Stand, GivesBatches, with_batches}
+use Rattle.batch_pipe.specs.GivenBatches.{Stand, GivesBatches, with_batches}
 use Rattle.batch_pipe.specs.declared.tail.Tail.{Tail}
-use Rattle.batch_pipe.specs.Planning.{Plans, StopsWithTail}
+use Rattle.batch_pipe.specs.PlannedBatches.{Plans, StopsWithTail}
 use Rattle.morph_base.specs.declared.plan.Plan.{Plan}
 use Rattle.morph_base.specs.Plans.{transactions}
-use Rattle.event_reader.proofs.Opening.{keeps_same, same_both}
+use Rattle.event_reader.proofs.InputVersion.{keeps_same, same_both}
 use Rattle.morph_base.specs.Transactions.{by_time}
 use Rattle.std.proofs.lemmas.List.{map-append}
 

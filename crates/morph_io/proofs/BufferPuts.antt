@@ -4,7 +4,7 @@ use Rattle.std.proofs.lemmas.Bool.{lt-ltb, le-ltb}
 use Rattle.std.proofs.lemmas.List.{length-append, take-append-drop}
 use Rattle.std.proofs.Math.Seq.{drop-append-add, take-append-add}
 use Rattle.morph_io.specs.Limits.{out_bytes}
-use Rattle.morph_io.specs.Writing.{AppendsPart, WritesAll, WritesFull}
+use Rattle.morph_io.specs.SinkWrites.{AppendsPart, WritesAll, WritesFull}
 use Rattle.morph_io.specs.declared.sink.WriteFailed.{WriteFailed}
 use Rattle.morph_io.specs.Told.{behind, behind_nil, behind_behind, Puts, AppendsPrefix, kept_of}
 

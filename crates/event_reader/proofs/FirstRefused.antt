@@ -15,8 +15,8 @@ use Rattle.event_reader.specs.Accepted.{Accepted, Ended, RefusedAt, with_batch, 
 use Rattle.event_reader.specs.Reader.{IsOfWords}
 use Rattle.event_reader.specs.LineEvents.{event_said, events_said}
 use Rattle.event_reader.specs.FirstRefused.{rank, HasWordCauses, open_lines, closed_lines, closed_time, unfinished, Applies, NoneApplies, IsLeastCause, IsFirstRefused}
-use Rattle.event_reader.proofs.Comings.{SaysWords, Comes, is_long, passed_over, marks, says_none, is_late, is_twice, is_full, joins, comes}
-use Rattle.event_reader.proofs.Sayings.{none_ignored, none_marked, says_event, ignored_no_mark}
+use Rattle.event_reader.proofs.StepCases.{SaysWords, Comes, is_long, passed_over, marks, says_none, is_late, is_twice, is_full, joins, comes}
+use Rattle.event_reader.proofs.LineEvents.{none_ignored, none_marked, says_event, ignored_no_mark}
 
 -- events of lines one after another
 said_append : (m : Rules) (front back : List (List ℕ)) → events_said m.says (front ++ back) ≡ events_said m.says front ++ events_said m.says back

@@ -22,7 +22,7 @@ use Rattle.event_reader.specs.Words.{words_of}
 use Rattle.event_reader.specs.Steps.{Rules, Step, Ignored, Closes, Adds, Refuses, latest_with, has_time, joining, event_step, said_by, is_ignored, is_punctuation, step_of}
 use Rattle.event_reader.specs.Accepted.{RefusedAt, accepted_from, with_batch}
 use Rattle.event_reader.specs.Pending.{IsSoundBatch}
-use Rattle.event_reader.proofs.Batching.{leads}
+use Rattle.event_reader.proofs.BatchAnswers.{leads}
 
 module _ (m : Rules) (closed : ℕ) (batch : List Transaction) (line : List ℕ) (short : length line ≤ longest_line) where
   is_short : nat_lt longest_line (length line) ≡ false

@@ -11,7 +11,7 @@ use Rattle.event_reader.specs.Decisions.{MayFollow, DecidesLine, DecidesLong, De
 use Rattle.event_reader.specs.Limits.{longest_line}
 use Rattle.event_reader.specs.declared.fault.ReaderFault.{ReaderFault}
 use Rattle.event_reader.specs.declared.fault.ReaderFault.TheVariants.{ReadFault, TooLong, OutOfMemory}
-use Rattle.event_reader.specs.Filling.{KeepsMore, KeepsAll, Fills}
+use Rattle.event_reader.specs.Refills.{KeepsMore, KeepsAll, Fills}
 use Rattle.event_reader.specs.Reader.{LinesView, room, left_for, reading_of, TakesBytes, AnswersLine, ShowsLine}
 
 -- a reader that has gone on from `before`: it has taken `got` and decided nothing

@@ -4,7 +4,7 @@ use Rattle.morph_base.specs.Transactions.{Transaction}
 use Rattle.event_reader.specs.declared.cause.Cause.{Cause}
 use Rattle.event_reader.specs.Steps.{Rules, Step, Ignored, Closes, Adds, Refuses, latest_with, step_of}
 use Rattle.event_reader.specs.Accepted.{Accepted, Ending, Ended, RefusedAt, CutOff, led_by, accepted_lines}
-use Rattle.event_reader.proofs.Refusing.{same_ending}
+use Rattle.event_reader.proofs.FirstRefused.{same_ending}
 
 abbrev pub one_later : Ending → Ending
 one_later (RefusedAt line cause) = RefusedAt (line + 1) cause

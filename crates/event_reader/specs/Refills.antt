@@ -5,7 +5,7 @@ use Rattle.event_reader.specs.declared.fault.ReaderFault.{ReaderFault}
 use Rattle.event_reader.specs.declared.fault.ReaderFault.TheVariants.{ReadFault, TooLong, OutOfMemory}
 use Rattle.morph_io.specs.declared.source.ReadFailed.{ReadFailed}
 use Rattle.event_reader.specs.Reader.{LinesView}
-use Rattle.event_reader.specs.Asking.{AsksOnce}
+use Rattle.event_reader.specs.SourceReads.{AsksOnce}
 
 -- The reader keeps `got` more bytes, or the source came to its end
 pub record KeepsMore (before : LinesView) (left : Option (List ℕ)) (after : LinesView)

@@ -7,7 +7,7 @@ use Rattle.morph_base.specs.Transactions.{Transaction}
 use Rattle.event_reader.specs.Steps.{Rules, Step, Ignored, Closes, Adds, Refuses, latest_with, is_ignored, is_punctuation, step_of}
 use Rattle.event_reader.specs.Accepted.{Accepted, Ended, with_batch, led_by, accepted_lines}
 use Rattle.event_reader.specs.LineEvents.{event_said, events_said, has_event, batches_said}
-use Rattle.event_reader.proofs.Comings.{SaysWords, Comes, passed_over, marks, joins, comes}
+use Rattle.event_reader.proofs.StepCases.{SaysWords, Comes, passed_over, marks, joins, comes}
 
 -- an ignored line is no punctuation
 pub ignored_no_mark : (line : List ℕ) → is_ignored line ≡ true → is_punctuation line ≡ false

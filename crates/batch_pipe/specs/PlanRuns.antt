@@ -17,7 +17,7 @@ use Rattle.batch_pipe.specs.declared.items.Sent.{Sent}
 use Rattle.batch_pipe.specs.declared.items.Ran.{Ran}
 use Rattle.batch_pipe.specs.declared.items.Picker.{Picker}
 use Rattle.batch_pipe.specs.declared.runner.Runner.{Runner}
-use Rattle.batch_pipe.specs.Planning.{IsReadyPlan}
+use Rattle.batch_pipe.specs.PlannedBatches.{IsReadyPlan}
 
 -- How plans are run: how the strategy of each is picked, and by how many workers
 pub record Manner : Type 0 where
@@ -108,19 +108,28 @@ pub record Runs (m : Manner) (a : Desk) (runs : List Sent) (b : Desk) : Type 0 w
   pub next_is : b.next ≡ a.next + length runs
   pub many : length b.places ≡ length a.places
 
+-- A runner between two plans: its desk, what it received over its ring, and what it knows to be in the ring
+pub record Post : Type 0 where
+  pub desk : Desk
+  pub received : List Sent
+  pub known : List Sent
+
+-- The post of a runner whose next free place is `next`
+abbrev pub post : Runner → (next : ℕ) → Post
+post r next = record { desk = desk r next; received = received r.ring; known = known_items r.ring }
+
 -- What a runner did with the plans that waited: the `first`, which do not go through the ring, and those known to be in
 -- the ring. It ran the first few of them in order. If `all`, it ran all of them; if not, it took one more, for which
 -- memory was refused, and left the others
-pub record RunsWaiting (m : Manner) (a : Desk) (first known : List Sent) (all : Bool) (b : Desk)
-    (received received' known' : List Sent) : Type 0 where
+pub record RunsWaiting (m : Manner) (a : Post) (first : List Sent) (all : Bool) (b : Post) : Type 0 where
   pub runs : List Sent
   pub lost : List Sent
   pub popped : List Sent
-  pub run : Runs m a runs b
+  pub run : Runs m a.desk runs b.desk
   pub parts : first ++ popped ≡ runs ++ lost
-  pub known_is : known ≡ popped ++ known'
-  pub received_is : received' ≡ received ++ popped
-  pub whole : all ≡ true → (lost ≡ []) × (known' ≡ [])
+  pub known_is : a.known ≡ popped ++ b.known
+  pub received_is : b.received ≡ a.received ++ popped
+  pub whole : all ≡ true → (lost ≡ []) × (b.known ≡ [])
   pub refused : all ≡ false → length lost ≡ 1
 
 -- The plan can be run by the engine once its bases are filled in: it is valid, its keys are in the layout, and no value
@@ -145,7 +154,7 @@ pub record CanRun (first : List Sent) (r : Runner) : Type 0 where
 -- The runner ran what waited, by `RunsWaiting`, from no taken place on
 pub record HasRunWaiting (m : Manner) (first : List Sent) (a : Runner) (all : Bool) (b : Runner) : Type 0 where
   pub next : ℕ
-  pub runs : RunsWaiting m (desk a 0) first (known_items a.ring) all (desk b next) (received a.ring) (received b.ring) (known_items b.ring)
+  pub runs : RunsWaiting m (post a 0) first all (post b next)
   pub ring : SameConsumer a.ring b.ring
   pub layout : b.engine.layout ≡ a.engine.layout
 

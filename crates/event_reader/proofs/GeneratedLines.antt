@@ -1,7 +1,7 @@
 -- A generated text that is given line by line.
 use Rattle.std.proofs.Common.{◌≡◌, ℕ, zero, suc, ◌+◌, ◌-◌, ◌<◌, ◌≤◌, List, [], ◌++◌, length, take, drop, refl, sym, ◌∙◌, ap, arith, append_assoc}
 use Rattle.std.proofs.lemmas.List.{length-drop}
-use Rattle.morph_io.proofs.Repeating.{given_parts}
+use Rattle.morph_io.proofs.RepeatedLine.{given_parts}
 use Rattle.event_reader.specs.Generated.{Drawn}
 use Rattle.event_reader.specs.GeneratedText.{with_end, generated_from}
 

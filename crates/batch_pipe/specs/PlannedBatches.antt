@@ -17,7 +17,7 @@ use Rattle.batch_pipe.specs.declared.items.Sent.{Sent}
 use Rattle.batch_pipe.specs.declared.planner.Planner.{Planner}
 use Rattle.batch_pipe.specs.declared.tail.Tail.{Tail}
 use Rattle.batch_pipe.specs.declared.tail.Tail.TheVariants.{End, Refused, Fault, RunMemory}
-use Rattle.batch_pipe.specs.Reading.{Stand, stand, GivesBatches}
+use Rattle.batch_pipe.specs.GivenBatches.{Stand, stand, GivesBatches}
 
 -- The answer of a reader that a tail stands for. For `RunMemory` it is `OutOfMemory`, which says nothing
 abbrev pub answer_of : Tail → Result Next ReaderFault
@@ -50,6 +50,16 @@ AreNumbered before (x ∷ xs) = (x.number ≡ before + 1) × AreNumbered (before
 abbrev pub layout_by : {App : Type 0} → (table_count : App → ℕ) → ReaderView App → Layout
 layout_by table_count r = record { tables = table_count r.app; size = r.size }
 
+-- A planner between two batches: the stand of its reader, what it sent, and the number of the last plan that it made
+pub record Bench (App : Type 0) : Type 0 where
+  pub at : Stand App
+  pub sent : List Sent
+  pub number : ℕ
+
+-- The bench of a planner whose source has `left`
+abbrev pub bench : {App : Type 0} → Planner App → (left : Option (List ℕ)) → Bench App
+bench p left = record { at = stand p.reader left; sent = sent p.ring; number = p.sent }
+
 module _ {App : Type 0} (event_of : App → ℕ → Meaning) where
   -- The reader was asked and gave no batch, or its batch was not planned, and so this tail was met
   pub record StopsWithTail (tail : Tail) (a b : Stand App) : Type 0 where
@@ -73,20 +83,19 @@ module _ {App : Type 0} (event_of : App → ℕ → Meaning) where
     pub stops : MayStop tail middle b
 
   -- Plans were made of the next batches that the reader gave, and sent behind those that were sent before, numbered on
-  pub record PlansAhead (layout : Layout) (high : ℕ) (a : Stand App) (before : List Sent) (number : ℕ)
-      (tail : Option Tail) (b : Stand App) (after : List Sent) (number' : ℕ) : Type 0 where
+  pub record PlansAhead (layout : Layout) (high : ℕ) (a : Bench App) (tail : Option Tail) (b : Bench App) : Type 0 where
     pub more : List Sent
-    pub sent_is : after ≡ before ++ more
-    pub plans : Plans a (plans_of more) tail b
+    pub sent_is : b.sent ≡ a.sent ++ more
+    pub plans : Plans a.at (plans_of more) tail b.at
     pub ready : All (λ (x : Sent). IsReadyPlan layout high x.plan) more
-    pub numbered : AreNumbered number more
-    pub number_is : number' ≡ number + length more
+    pub numbered : AreNumbered a.number more
+    pub number_is : b.number ≡ a.number + length more
 
   -- The planner read, planned, and sent what it planned over its ring, and then met the tail, if there is one
   abbrev pub HasPlanned : (table_count : App → ℕ) → Planner App → Option (List ℕ) → Option Tail → Planner App
       → Option (List ℕ) → Type 0
   HasPlanned table_count a left tail b left' =
-      PlansAhead (layout_by table_count a.reader) (greatest_of b.reader.past.version) (stand a.reader left) (sent a.ring) a.sent tail (stand b.reader left') (sent b.ring) b.sent
+      PlansAhead (layout_by table_count a.reader) (greatest_of b.reader.past.version) (bench a left) tail (bench b left')
 
 -- The planner may go on, and has sent at most as many plans as its reader gave lines
 pub record CanPlan {App : Type 0} (p : Planner App) : Type 0 where

@@ -12,10 +12,10 @@ use Rattle.event_reader.specs.declared.answers.LineNext.{LineNext}
 use Rattle.event_reader.specs.declared.answers.LineNext.TheVariants.{Line, Long, End}
 use Rattle.event_reader.specs.declared.fault.ReaderFault.TheVariants.{ReadFault, TooLong, OutOfMemory}
 use Rattle.event_reader.specs.Decisions.{DecidesLine}
-use Rattle.event_reader.proofs.Goings.{GoesOn}
+use Rattle.event_reader.proofs.LineAnswers.{GoesOn}
 use Rattle.event_reader.specs.Limits.{buffer_bytes}
-use Rattle.event_reader.specs.Asking.{bytes_asked, is_last, CameWith, AsksOnce, ReadsInOrder, no_read, one_more, AsksForLine}
-use Rattle.event_reader.specs.Filling.{KeepsRead, FillsBy}
+use Rattle.event_reader.specs.SourceReads.{bytes_asked, is_last, CameWith, AsksOnce, ReadsInOrder, no_read, one_more, AsksForLine}
+use Rattle.event_reader.specs.Refills.{KeepsRead, FillsBy}
 
 module _ {S : Type 0} (left_of : S → Option (List ℕ)) (reads : S → ℕ → Result ℕ ReadFailed → S → Type 0) (before : LinesView) (source₀ : S) where
   -- it has read so far, and what it keeps decides nothing yet

@@ -24,7 +24,7 @@ use Rattle.event_reader.specs.Steps.{Rules, Meaning, rules_of, Step, step_of}
 use Rattle.event_reader.specs.Accepted.{Accepted, Ended, RefusedAt, CutOff, with_batch, at_last, led_by, accepted_lines, accepted_from, accepted_behind}
 use Rattle.event_reader.specs.Pending.{IsSoundBatch}
 use Rattle.event_reader.specs.VersionLaws.{long_plain}
-use Rattle.event_reader.proofs.Goings.{end_told, at_end_for}
+use Rattle.event_reader.proofs.LineAnswers.{end_told, at_end_for}
 use Rattle.event_reader.specs.Reader.{LinesView, room, left_for, reading_of, TakesBytes, AnswersLine, ShowsLine, accepted_next, accepted_at, AnswersNext, ShowsBatch}
 
 -- what is still to be given is `F` of the lines that come after `now`

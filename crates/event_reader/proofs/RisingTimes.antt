@@ -8,8 +8,8 @@ use Rattle.morph_base.specs.Transactions.{Transaction, time}
 use Rattle.event_reader.specs.Steps.{Rules, Step, Ignored, Closes, Adds, Refuses, latest_with, step_of}
 use Rattle.event_reader.specs.Accepted.{Accepted, Ended, with_batch, led_by, accepted_lines}
 use Rattle.event_reader.specs.LineEvents.{IsBefore}
-use Rattle.event_reader.proofs.Comings.{Comes, joins, comes}
-use Rattle.event_reader.proofs.Stepping.{distinct_more}
+use Rattle.event_reader.proofs.StepCases.{Comes, joins, comes}
+use Rattle.event_reader.proofs.LineSteps.{distinct_more}
 
 -- the greatest timestamp is at least what it was before, and at least each of the batch
 pub latest_rises : (batch : List Transaction) (closed : ℕ) → closed ≤ latest_with batch closed

@@ -12,7 +12,7 @@ use Rattle.event_reader.specs.declared.decision.Decision.{Decision}
 use Rattle.event_reader.specs.declared.decision.Decision.TheVariants.{Line, Long, End, Open}
 use Rattle.event_reader.specs.Lines.{is_line_feed, behind_last_feed, without_cr, last_if, lines_of, decided_lines, IsLongFirst}
 use Rattle.event_reader.specs.Decisions.{DecidesLine, DecidesLong, DecidesNone, Decides, DecidesPiece}
-use Rattle.event_reader.proofs.Cutting.{none_pass_before, split_at_place, lines_by, line_at, lines_open, long_open}
+use Rattle.event_reader.proofs.Pieces.{none_pass_before, split_at_place, lines_by, line_at, lines_open, long_open}
 
 abbrev has_bytes : List ℕ → Bool
 has_bytes piece = nat_le 1 (length piece)

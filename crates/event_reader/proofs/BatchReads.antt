@@ -19,9 +19,9 @@ use Rattle.event_reader.specs.declared.version.Version.{Version}
 use Rattle.event_reader.specs.Steps.{Meaning}
 use Rattle.event_reader.specs.Accepted.{accepted_behind}
 use Rattle.event_reader.specs.Reader.{LinesView, reading_of}
-use Rattle.event_reader.specs.Asking.{AsksOnce, ReadsInOrder, no_read, one_more, AsksForLine, AsksBatch, not_yet, once_more, AsksForBatch}
-use Rattle.event_reader.proofs.Cutting.{line_at}
-use Rattle.event_reader.proofs.Batching.{Reads, reads_nothing, shows_failed, reads_as, reads_line, reads_more}
+use Rattle.event_reader.specs.SourceReads.{AsksOnce, ReadsInOrder, no_read, one_more, AsksForLine, AsksBatch, not_yet, once_more, AsksForBatch}
+use Rattle.event_reader.proofs.Pieces.{line_at}
+use Rattle.event_reader.proofs.BatchAnswers.{Reads, reads_nothing, shows_failed, reads_as, reads_line, reads_more}
 
 -- bytes have no LF, or a first one
 abbrev IsFree : List ℕ → Type 0

@@ -33,7 +33,7 @@ some_same is = cc
 pub returns-in-Value-clause-shown : goal.returns-in-Value-clause-shown
 returns-in-Value-clause-shown c = λ is.
     let a = c.in_default.field-0 in let x = c.in-Value.field-0 in
-    let held = c.in_default.ensures.does.tells.holds in
-    let fetched = (c.in-Value.ensures.does.tells a [] held).holds in
+    let held = c.in_default.ensures.answer.tells.holds in
+    let fetched = (c.in-Value.ensures.answer.tells a [] held).holds in
     failure_shown c.args.plan.now (cap_of c.args.board.now) c.args.op a (view_of c.fetch-fetched.new.hand) (view_of c.finish.new.hand) (x ∷ []) fetched
-    (subst (FinishDoes c.args.plan.now (cap_of c.args.board.now) c.args.op (view_of c.fetch-fetched.new.hand) (view_of c.finish.new.hand)) (some_same is) c.finish.ensures.does)
+    (subst (FinishDoes c.args.plan.now (cap_of c.args.board.now) c.args.op (view_of c.fetch-fetched.new.hand) (view_of c.finish.new.hand)) (some_same is) c.finish.ensures.answer)

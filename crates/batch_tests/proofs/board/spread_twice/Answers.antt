@@ -14,5 +14,5 @@ spread-again-requires-clause-sibling c =
       in_range = c.requires.sibling;
       another = c.requires.another;
       same_event = sym (ap (λ (q : PlanOp). q.event) (c.get.ensures.at no_plan_op)) ∙ c.if-get.false ∙ ap (λ (q : PlanOp). q.event) (c.get-2.ensures.at no_plan_op);
-      failure = record { entry = shown.entry; inside = c.spread-first.ensures.does.goes.adds.published shown.entry shown.inside; op_is = shown.op_is; failed_is = shown.failed_is };
+      failure = record { entry = shown.entry; inside = c.spread-first.ensures.answer.goes.adds.published shown.entry shown.inside; op_is = shown.op_is; failed_is = shown.failed_is };
     }

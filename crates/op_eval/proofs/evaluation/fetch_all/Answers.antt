@@ -8,10 +8,10 @@ pub fetch-requires-clause-held : goal.fetch-requires-clause-held
 fetch-requires-clause-held c = let held = c.requires.held in let up = c.loop-j.invariant.1 held.0 held.1 in (held.0, up.values, up.holds, up.count)
 
 pub returns-in-Unready-clause-answer : goal.returns-in-Unready-clause-answer
-returns-in-Unready-clause-answer c = λ a holds. fetched_stops _ _ _ a _ _ _ (c.loop-j.invariant.1 a holds) c.in-Unready.ensures.does
+returns-in-Unready-clause-answer c = λ a holds. fetched_stops _ _ _ a _ _ _ (c.loop-j.invariant.1 a holds) c.in-Unready.ensures.answer
 
 pub loop-j-preserved : goal.loop-j-preserved
-loop-j-preserved c = (c.in-Value.ensures.hand, λ a holds. fetched_more _ _ _ a _ (c.loop-j.invariant.1 a holds) c.in-Value.ensures.does)
+loop-j-preserved c = (c.in-Value.ensures.hand, λ a holds. fetched_more _ _ _ a _ (c.loop-j.invariant.1 a holds) c.in-Value.ensures.answer)
 
 pub returns-clause-answer : goal.returns-clause-answer
 returns-clause-answer c = λ a holds. fetched_all _ _ a _ _ c.loop-j-test.false c.loop-j.auto.j-end c.places_of-j-end.ensures.places (c.loop-j.invariant.1 a holds)

@@ -63,17 +63,17 @@ pub record IsEqualAt (p : Plan) (o : ℕ) (w : OpWord) (u : View) (j : ℕ) : Ty
   pub recorded : IsRecordSeen u o j w (source p (final p) o j)
 
 -- A place, the value that its record has, and that of its source
-pub record Difference : Type 0 where
+pub record PlaceDifference : Type 0 where
   pub place : ℕ
   pub kept : ℕ
   pub value : ℕ
 
 -- The difference at a place
-abbrev pub difference_at : (place kept value : ℕ) → Difference
+abbrev pub difference_at : (place kept value : ℕ) → PlaceDifference
 difference_at place kept value = record { place = place; kept = kept; value = value }
 
 -- Under word w of operation o, the record at a place has another value than its settled source
-pub record IsOtherAt (p : Plan) (o : ℕ) (w : OpWord) (xs : List Item) (u : View) (d : Difference) : Type 0 where
+pub record IsOtherAt (p : Plan) (o : ℕ) (w : OpWord) (xs : List Item) (u : View) (d : PlaceDifference) : Type 0 where
   pub in_places : d.place < places p o
   pub right : IsSourceRight p o d.place xs u d.value
   pub recorded : IsRecordSeen u o d.place w d.kept

@@ -14,12 +14,11 @@ use Rattle.run_text.specs.Text.{Telling, event_lines, end_text, whole_text}
 use Rattle.morph_cli.specs.Runs.{EndsSo}
 use Rattle.morph_cli.specs.Status.{status_of}
 use Rattle.morph_cli.specs.Headline.{Headline, Completes}
-use Rattle.run_text.specs.declared.choices.Settings.{Settings}
 use Rattle.run_text.specs.declared.tally.Tally.{Tally}
-use Rattle.run_text.specs.Notes.{noted, closing_notes}
-use Rattle.morph_cli.specs.Outputs.{Outputs, with_batches, IsCutIn, IsCutInBatch, IsAtLast}
+use Rattle.morph_cli.specs.Outputs.{Outputs, closing_note, with_batches, IsCutIn, IsCutInBatch, IsAtLast}
+use Rattle.morph_cli.specs.Requests.{Request}
 use Rattle.morph_cli.specs.Tallies.{RunTold}
-use Rattle.morph_cli.proofs.Running.{event_lines-front}
+use Rattle.morph_cli.proofs.RunTexts.{event_lines-front}
 
 module _ (meaning : Meaning) (telling : Telling) (limit : ℕ) (input : List ℕ) where
   abbrev some : Accepted
@@ -142,12 +141,16 @@ module _ (meaning : Meaning) (telling : Telling) (limit : ℕ) (input : List ℕ
     long = λ is. inl refl;
   }
 
+module _ (asked : Request) (limit : ℕ) (input : List ℕ) where
+  abbrev Told : Accepted → (status : ℕ) → Tally → (old new : Outputs) → Type 0
+  Told given status t old new = RunTold asked (Some given) status t old new
+
   -- what is told of a run that was cut off before the end, over the whole input
-  told_within : (status : ℕ) (t : Tally) (s : Settings) (before after : Outputs) (counted : RunTold telling (Some some) s status t before after) →
-      ((status ≡ 0) ⊎ (status ≡ 3) → ⊥) → (status ≡ 5 → IsCutInBatch telling.report s counted.done counted.accounts counted.audits before after) →
-      RunTold telling (Some all) s status t before after
-  told_within status t s before after counted unended cut =
-      let first = within_is_first meaning limit input in
+  told_within : (status : ℕ) (t : Tally) (old new : Outputs) (counted : Told (accepted_within asked.meaning limit input) status t old new) →
+      ((status ≡ 0) ⊎ (status ≡ 3) → ⊥) → (status ≡ 5 → IsCutInBatch asked counted.done counted.accounts counted.audits old new) →
+      Told (accepted asked.meaning input) status t old new
+  told_within status t old new counted unended cut =
+      let first = within_is_first asked.meaning limit input in
       record {
         done = counted.done;
         rest = counted.rest ++ first.more;
@@ -167,34 +170,29 @@ module _ (meaning : Meaning) (telling : Telling) (limit : ℕ) (input : List ℕ
       }
 
   -- and of one that came to its end
-  told_same : (status : ℕ) (t : Tally) (s : Settings) (before after : Outputs) (ending : Ending) → (ending ≡ CutOff → ⊥) → some.ending ≡ ending →
-      RunTold telling (Some some) s status t before after → RunTold telling (Some all) s status t before after
-  told_same status t s before after Ended reached is counted =
-      subst (λ (a : Accepted). RunTold telling (Some a) s status t before after) (sym (within_ended meaning limit input is).1) counted
-  told_same status t s before after (RefusedAt line cause) reached is counted =
-      subst (λ (a : Accepted). RunTold telling (Some a) s status t before after) (sym (within_refused meaning limit input line cause is)) counted
-  told_same status t s before after CutOff reached is counted = absurd (reached refl)
+  told_same : (status : ℕ) (t : Tally) (old new : Outputs) (ending : Ending) → (ending ≡ CutOff → ⊥) → (accepted_within asked.meaning limit input).ending ≡ ending →
+      Told (accepted_within asked.meaning limit input) status t old new → Told (accepted asked.meaning input) status t old new
+  told_same status t old new Ended reached is counted =
+      subst (λ a. Told a status t old new) (sym (within_ended asked.meaning limit input is).1) counted
+  told_same status t old new (RefusedAt line cause) reached is counted =
+      subst (λ a. Told a status t old new) (sym (within_refused asked.meaning limit input line cause is)) counted
+  told_same status t old new CutOff reached is counted = absurd (reached refl)
 
   not_whole : (status : ℕ) → (3 < status) → (status ≡ 0) ⊎ (status ≡ 3) → ⊥
   not_whole status high (inl is) = absurd (omega (arith, is, high))
   not_whole status high (inr is) = absurd (omega (arith, is, high))
 
-  pub told_all : (left old new : Option (List ℕ)) (r : Result Finish Fault) (t : Tally) (s : Settings) (before after : Outputs) →
-      EndsSo meaning telling limit input left old r new → RunTold telling (Some some) s (status_of r) t before after →
-      RunTold telling (Some all) s (status_of r) t before after
-  told_all left old new (Ok Complete) t s before after ends counted = told_same 0 t s before after Ended (λ is. absurd (cc)) ends.0 counted
-  told_all left old new (Ok Refused) t s before after (line, cause, at, appended) counted =
-      told_same 3 t s before after (RefusedAt line cause) (λ is. absurd (cc)) at counted
-  told_all left old new (Err Read) t s before after ends counted =
-      told_within 4 t s before after counted (not_whole 4 (omega arith)) (λ is. absurd (omega (arith, is)))
-  told_all left old new (Err OutOfMemory) t s before after ends counted =
-      told_within 6 t s before after counted (not_whole 6 (omega arith)) (λ is. absurd (omega (arith, is)))
-  told_all left old new (Err TooLong) t s before after ends counted =
-      told_within 7 t s before after counted (not_whole 7 (omega arith)) (λ is. absurd (omega (arith, is)))
-  told_all left old new (Err Write) t s before after ends counted = by_cut (counted.cut refl)
+  pub told_all : (left : Option (List ℕ)) (r : Result Finish Fault) (t : Tally) (old new : Outputs) → EndsSo asked.meaning asked.telling limit input left old.sink r new.sink →
+      Told (accepted_within asked.meaning limit input) (status_of r) t old new → Told (accepted asked.meaning input) (status_of r) t old new
+  told_all left (Ok Complete) t old new ends counted = told_same 0 t old new Ended (λ is. absurd (cc)) ends.0 counted
+  told_all left (Ok Refused) t old new (line, cause, at, appended) counted = told_same 3 t old new (RefusedAt line cause) (λ is. absurd (cc)) at counted
+  told_all left (Err Read) t old new ends counted = told_within 4 t old new counted (not_whole 4 (omega arith)) (λ is. absurd (omega (arith, is)))
+  told_all left (Err OutOfMemory) t old new ends counted = told_within 6 t old new counted (not_whole 6 (omega arith)) (λ is. absurd (omega (arith, is)))
+  told_all left (Err TooLong) t old new ends counted = told_within 7 t old new counted (not_whole 7 (omega arith)) (λ is. absurd (omega (arith, is)))
+  told_all left (Err Write) t old new ends counted = by_cut (counted.cut refl)
     where
-      by_cut : IsCutInBatch telling.report s counted.done counted.accounts counted.audits before after ⊎ ((last : IsAtLast (Some some) counted.rest)
-          × IsCutIn (with_batches before telling.report s counted.done counted.accounts counted.audits) (end_text telling counted.done last.ending) (noted s.notes (closing_notes s.workers t)) after) →
-          RunTold telling (Some all) s 5 t before after
-      by_cut (inl cut) = told_within 5 t s before after counted (not_whole 5 (omega arith)) (λ is. cut)
-      by_cut (inr last) = told_same 5 t s before after last.0.ending last.0.reached last.0.ends counted
+      by_cut : IsCutInBatch asked counted.done counted.accounts counted.audits old new ⊎ ((last : IsAtLast (Some (accepted_within asked.meaning limit input)) counted.rest)
+          × IsCutIn (with_batches old asked counted.done counted.accounts counted.audits) (end_text asked.telling counted.done last.ending) (closing_note asked.settings t) new) →
+          Told (accepted asked.meaning input) 5 t old new
+      by_cut (inl cut) = told_within 5 t old new counted (not_whole 5 (omega arith)) (λ is. cut)
+      by_cut (inr last) = told_same 5 t old new last.0.ending last.0.reached last.0.ends counted

@@ -16,7 +16,7 @@ use Rattle.snapshot_reader.proofs.Overwrites.{after_plans-more}
 use Rattle.version_table.specs.Totals.{total_of}
 use Rattle.morph_cli.specs.Batches.{IsSeen, IsShown, also_posted}
 use Rattle.morph_cli.specs.Tallies.{IsChecked}
-use Rattle.morph_cli.proofs.Noting.{IsAudit}
+use Rattle.morph_cli.proofs.NoteLaws.{IsAudit}
 
 -- what holds of what is published, where anything is
 pub if_posted : {P : Posted → Type 0} {Q : Posted → Type 0} (posted : Option Posted) → ((p : Posted) → P p → Q p) → IfSome posted P → IfSome posted Q

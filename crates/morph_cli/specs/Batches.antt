@@ -62,14 +62,27 @@ pub record IsShown (layout : Layout) (batches : ℕ) (s : State) (posted : Poste
   pub count : length posted.plans ≡ batches
   pub state : after_plans posted.plans ≡ s
 
--- A batch was run and counted: how it was run, and what was seen beside it
-pub record IsBatchTaken (s : Settings) (last : Last) (before : Kept) (posted : Option Posted) (batch : Batch)
-    (t t' : Tally) : Type 0 where
+-- A point of a run between two batches: the outcome of the last batch, the values, what is published of them, the
+-- tally, and what was written
+pub record RunPoint : Type 0 where
+  pub last : Last
+  pub values : Kept
+  pub posted : Option Posted
+  pub tally : Tally
+  pub outputs : Outputs
+
+-- The point with these parts
+abbrev pub run_point : Last → (values : Kept) → Option Posted → Tally → Outputs → RunPoint
+run_point last values posted tally outputs =
+    record { last = last; values = values; posted = posted; tally = tally; outputs = outputs }
+
+-- A batch was run and counted from a point on: how it was run, and what was seen beside it
+pub record IsBatchTaken (s : Settings) (batch : Batch) (before : RunPoint) (t : Tally) : Type 0 where
   pub end : BatchEnd
   pub audit : Option Total
-  pub ran : IsEndOf s last before batch end
-  pub seen : IfSome audit (IsSeen posted)
-  pub adds : CountsBatch t t' (account_of end) (settled_fates end.plan end.settled)
+  pub ran : IsEndOf s before.last before.values batch end
+  pub seen : IfSome audit (IsSeen before.posted)
+  pub adds : CountsBatch before.tally t (account_of end) (settled_fates end.plan end.settled)
 
 -- The lines of a batch that was run
 abbrev pub lines_of_batch : Settings → BatchEnd → List ℕ
@@ -80,37 +93,37 @@ abbrev pub note_of_batch : Settings → (number : ℕ) → Option Total → Batc
 note_of_batch s number audit end = audit_of audit ++ own_note s number (account_of end)
 
 -- The batch was taken whole: it was written and noted, and the values are those after it
-pub record IsTakenWhole (s : Settings) (last : Last) (before after : Kept) (posted : Option Posted) (batch : Batch)
-    (t t' : Tally) (old new : Outputs) : Type 0 where
-  pub taken : IsBatchTaken s last before posted batch t t'
-  pub state : contents after ≡ fold_batch batch (contents before)
-  pub written : new ≡ with_both old (lines_of_batch s taken.end) (note_of_batch s t'.batches taken.audit taken.end)
+pub record IsTakenWhole (s : Settings) (batch : Batch) (before after : RunPoint) : Type 0 where
+  pub taken : IsBatchTaken s batch before after.tally
+  pub state : contents after.values ≡ fold_batch batch (contents before.values)
+  pub written : after.outputs ≡ with_both before.outputs (lines_of_batch s taken.end)
+      (note_of_batch s after.tally.batches taken.audit taken.end)
 
--- What a call did that writes a batch which was run, with its number. Either all of it was written and the batch was
--- published, or a write failed, and a part of it was written, or memory was refused to publish it
-abbrev pub TellsBatch : {T : Type 0} → Result T Fault → Settings → BatchEnd → Option Total
-    → (posted posted' : Option Posted) → (number : ℕ) → (last : Last) → (old new : Outputs) → Type 0
-TellsBatch (Ok done) s end audit posted posted' number last old new =
-    (new ≡ with_both old (lines_of_batch s end) (note_of_batch s number audit end))
-    × (last ≡ last_of (settled_fates end.plan end.settled)) × (posted' ≡ also_posted end.plan posted)
-TellsBatch (Err Write) s end audit posted posted' number last old new =
-    IsCutIn old (lines_of_batch s end) (note_of_batch s number audit end) new
-TellsBatch (Err NoMemory) s end audit posted posted' number last old new =
-    new ≡ with_both old (lines_of_batch s end) (note_of_batch s number audit end)
-TellsBatch (Err Read) s end audit posted posted' number last old new = ⊥
-TellsBatch (Err TooLong) s end audit posted posted' number last old new = ⊥
+-- What a call did that writes a batch which was run. Either all of it was written and the batch was published, or a
+-- write failed, and a part of it was written, or memory was refused to publish it
+abbrev pub TellsBatch : {T : Type 0} → Result T Fault → Settings → BatchEnd → Option Total → (before after : RunPoint)
+    → Type 0
+TellsBatch (Ok done) s end audit before after =
+    (after.outputs ≡ with_both before.outputs (lines_of_batch s end) (note_of_batch s after.tally.batches audit end))
+    × (after.last ≡ last_of (settled_fates end.plan end.settled)) × (after.posted ≡ also_posted end.plan before.posted)
+TellsBatch (Err Write) s end audit before after =
+    IsCutIn before.outputs (lines_of_batch s end) (note_of_batch s after.tally.batches audit end) after.outputs
+TellsBatch (Err NoMemory) s end audit before after =
+    after.outputs ≡ with_both before.outputs (lines_of_batch s end) (note_of_batch s after.tally.batches audit end)
+TellsBatch (Err Read) s end audit before after = ⊥
+TellsBatch (Err TooLong) s end audit before after = ⊥
 
 -- What a call did that takes a batch. Either all was done and the batch was published, or a write failed, and a part of
 -- it was written, or memory was refused: to run it, and then nothing was done, or to publish it, and then all else was
-abbrev pub TakesBatch : {T : Type 0} → Result T Fault → Settings → (last : Last) → (before after : Kept)
-    → (posted posted' : Option Posted) → Batch → (t t' : Tally) → (last' : Last) → (old new : Outputs) → Type 0
-TakesBatch (Ok done) s last before after posted posted' batch t t' last' old new =
-    (whole : IsTakenWhole s last before after posted batch t t' old new)
-    × (last' ≡ last_of (settled_fates whole.taken.end.plan whole.taken.end.settled))
-    × (posted' ≡ also_posted whole.taken.end.plan posted)
-TakesBatch (Err Write) s last before after posted posted' batch t t' last' old new =
-    (taken : IsBatchTaken s last before posted batch t t') × IsCutIn old (lines_of_batch s taken.end) (note_of_batch s t'.batches taken.audit taken.end) new
-TakesBatch (Err NoMemory) s last before after posted posted' batch t t' last' old new =
-    ((new ≡ old) × (t' ≡ t)) ⊎ IsTakenWhole s last before after posted batch t t' old new
-TakesBatch (Err Read) s last before after posted posted' batch t t' last' old new = ⊥
-TakesBatch (Err TooLong) s last before after posted posted' batch t t' last' old new = ⊥
+abbrev pub TakesBatch : {T : Type 0} → Result T Fault → Settings → Batch → (before after : RunPoint) → Type 0
+TakesBatch (Ok done) s batch before after =
+    (whole : IsTakenWhole s batch before after)
+    × (after.last ≡ last_of (settled_fates whole.taken.end.plan whole.taken.end.settled))
+    × (after.posted ≡ also_posted whole.taken.end.plan before.posted)
+TakesBatch (Err Write) s batch before after =
+    (taken : IsBatchTaken s batch before after.tally) × IsCutIn before.outputs (lines_of_batch s taken.end)
+    (note_of_batch s after.tally.batches taken.audit taken.end) after.outputs
+TakesBatch (Err NoMemory) s batch before after =
+    ((after.outputs ≡ before.outputs) × (after.tally ≡ before.tally)) ⊎ IsTakenWhole s batch before after
+TakesBatch (Err Read) s batch before after = ⊥
+TakesBatch (Err TooLong) s batch before after = ⊥

@@ -5,9 +5,11 @@ pub mod Status
 pub mod Headline
 pub mod Apps
 pub mod Strategies
+pub mod Requests
 pub mod Tallies
 pub mod RunContract
 pub mod Outputs
+pub mod Streams
 pub mod Batches
 pub mod Endings
 pub mod Calls

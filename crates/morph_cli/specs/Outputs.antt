@@ -10,12 +10,13 @@ use Rattle.morph_io.specs.Told.{behind}
 use Rattle.morph_io.specs.SinkWrites.{AppendsPart}
 use Rattle.event_reader.specs.Accepted.{Accepted, Ending, CutOff}
 use Rattle.run_text.specs.declared.choices.Settings.{Settings}
-use Rattle.run_text.specs.declared.report.Report.{Report}
 use Rattle.run_text.specs.Text.{event_lines, told_lines, run_state}
-use Rattle.run_text.specs.Notes.{noted, audit_note, batch_note, check_notes}
+use Rattle.run_text.specs.declared.tally.Tally.{Tally}
+use Rattle.run_text.specs.Notes.{noted, audit_note, batch_note, check_notes, closing_notes}
 use Rattle.run_text.specs.Checks.{is_checked}
 use Rattle.snapshot_reader.specs.declared.viewer.Total.{Total}
 use Rattle.version_table.specs.Totals.{total_of}
+use Rattle.morph_cli.specs.Requests.{Request}
 
 -- The bytes that the sink and the notes reveal to have been written to them
 pub record Outputs : Type 0 where
@@ -80,13 +81,16 @@ pub record AreAudits (s : Settings) (accounts : List Account) (audits : List Boo
   pub unwatched : s.watch ≡ false → All (λ audited. audited ≡ false) audits
 
 -- The outputs after batches that were run with these accounts were written and noted, whole
-abbrev pub with_batches : Outputs → Report → Settings → List (List Transaction) → List Account → (audits : List Bool)
-    → Outputs
-with_batches old report s batches accounts audits =
-    with_both old (event_lines report batches) (notes_from s opening_state 0 batches accounts audits)
+abbrev pub with_batches : Outputs → Request → List (List Transaction) → List Account → (audits : List Bool) → Outputs
+with_batches old asked batches accounts audits =
+    with_both old (event_lines asked.telling.report batches) (notes_from asked.settings opening_state 0 batches accounts audits)
+
+-- What the notes have at the end: the tally, if they are on
+abbrev pub closing_note : Settings → Tally → List ℕ
+closing_note s t = noted s.notes (closing_notes s.workers t)
 
 -- A write failed at the last of the batches that were run. Those before it were written and noted whole
-pub record IsCutInBatch (report : Report) (s : Settings) (done : List (List Transaction)) (accounts : List Account)
+pub record IsCutInBatch (asked : Request) (done : List (List Transaction)) (accounts : List Account)
     (audits : List Bool) (old new : Outputs) : Type 0 where
   pub before : List (List Transaction)
   pub before_accounts : List Account
@@ -97,8 +101,9 @@ pub record IsCutInBatch (report : Report) (s : Settings) (done : List (List Tran
   pub done_is : done ≡ before ++ batch ∷ []
   pub accounts_is : accounts ≡ before_accounts ++ account ∷ []
   pub audits_is : audits ≡ before_audits ++ audited ∷ []
-  pub cut : IsCutIn (with_batches old report s before before_accounts before_audits) (told_lines report (fates (run_state before) (by_time batch)))
-      (note_of s (run_state before) (length before) audited account) new
+  pub cut : IsCutIn (with_batches old asked before before_accounts before_audits)
+      (told_lines asked.telling.report (fates (run_state before) (by_time batch)))
+      (note_of asked.settings (run_state before) (length before) audited account) new
 
 -- The end of the input or a refused line was reached, and no batch is left
 pub record IsAtLast (told : Option Accepted) (rest : List (List Transaction)) : Type 0 where

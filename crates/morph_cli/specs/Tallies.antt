@@ -1,5 +1,5 @@
 -- What was done in a run: the accounts of the batches that were run, and the numbers that are counted from them
-use Rattle.std.specs.Prelude.{◌≡◌, ℕ, ◌+◌, ◌*◌, ◌<◌, ◌≤◌, ◌⊎◌, Bool, false, All, List, [], ◌∷◌, ◌++◌, count_by, length, slice_index, sum, sum_by, Option, IfSome, IsTrue}
+use Rattle.std.specs.Prelude.{◌≡◌, ℕ, ◌+◌, ◌*◌, ◌<◌, ◌≤◌, ◌⊎◌, Bool, false, All, List, [], ◌∷◌, ◌++◌, count_by, length, slice_index, sum, sum_by, Option, option_map, IfSome, IsTrue}
 use Rattle.morph_base.specs.Limits.{most_workers}
 use Rattle.morph_base.specs.declared.limits.TheConstants.{EVENT_OPS}
 use Rattle.morph_base.specs.declared.plan.Plan.{Plan}
@@ -15,24 +15,25 @@ use Rattle.morph_base.specs.Graphs.{IsValidPlan, below}
 use Rattle.morph_base.specs.Guesses.{stale_count}
 use Rattle.steal_explorer.specs.Dealing.{level_one}
 use Rattle.morph_engine.specs.Accounts.{Account, IsAccount, is_committed_by_worker, settled_by}
-use Rattle.event_reader.specs.Accepted.{Accepted}
+use Rattle.event_reader.specs.Accepted.{Accepted, accepted}
 use Rattle.run_text.specs.Counts.{counted_to}
 use Rattle.decision_model.specs.declared.counts.Last.{Last}
 use Rattle.run_text.specs.declared.choices.Planning.{Planning}
 use Rattle.run_text.specs.declared.choices.Planning.TheVariants.{Fixed}
-use Rattle.run_text.specs.declared.choices.Settings.{Settings}
 use Rattle.run_text.specs.declared.tally.Tally.{Tally}
 use Rattle.morph_io.specs.Told.{HasRisen}
-use Rattle.run_text.specs.Notes.{noted, closing_notes, is_cut}
+use Rattle.run_text.specs.Notes.{is_cut}
 use Rattle.run_text.specs.Checks.{is_checked}
 use Rattle.interleaving_core.specs.Core.{Core, start}
 use Rattle.interleaving_core.specs.Orders.{Leads}
 use Rattle.run_checker.specs.Answers.{SettlesWholeFold}
-use Rattle.morph_cli.specs.Outputs.{Outputs, has_notes, with_both, with_batches, AreAudits, IsCutIn, IsCutInBatch, IsAtLast}
+use Rattle.morph_cli.specs.Outputs.{Outputs, has_notes, with_both, with_batches, closing_note, AreAudits, IsCutIn, IsCutInBatch, IsAtLast}
+use Rattle.morph_cli.specs.Requests.{Request}
 use Rattle.morph_cli.specs.Status.{EndsNotes}
 use Rattle.morph_cli.specs.Strategies.{strategy_by}
+use Rattle.morph_cli.specs.Streams.{Streams}
 use Rattle.decision_model.specs.Choices.{last_of, no_last}
-use Rattle.run_text.specs.Text.{Telling, run_fates, committed_in, aborted_in, end_text}
+use Rattle.run_text.specs.Text.{run_fates, committed_in, aborted_in, end_text}
 
 -- The plan is a valid one of the events of a batch, from the state before it
 pub record IsMadeOf (s : State) (batch : List Transaction) (p : Plan) : Type 0 where
@@ -147,44 +148,45 @@ pub record IsBalanced (planning : Planning) (workers : ℕ) (t : Tally) : Type 0
   pub alone : workers ≡ 1 → IsBalancedAlone t
   pub by : (s : Strategy) → planning ≡ Fixed s → IsBalancedBy s workers t
 
--- What is known of a run by its status. The first few accepted batches were run, each by a valid plan from the state
--- before it, and these are counted. Their lines and their notes, each batch's in turn, are what was written, with an
--- audit line in front of the note of some of them if the balances are watched. At 0 and 3 these are all accepted
--- batches, and the end follows. At 4, 6 and 7 nothing follows. At 5 a write failed at the last of these batches or at
--- the end, and everything before it was written whole
-pub record RunTold (telling : Telling) (told : Option Accepted) (s : Settings) (status : ℕ) (t : Tally)
+-- What is known of a run by its status. `told` is what it accepts, if that is revealed. The first few accepted batches
+-- were run, each by a valid plan from the state before it, and these are counted. Their lines and their notes, each
+-- batch's in turn, are what was written, with an audit line in front of the note of some of them if the balances are
+-- watched. At 0 and 3 these are all accepted batches, and the end follows. At 4, 6 and 7 nothing follows. At 5 a write
+-- failed at the last of these batches or at the end, and everything before it was written whole
+pub record RunTold (asked : Request) (told : Option Accepted) (status : ℕ) (t : Tally)
     (old new : Outputs) : Type 0 where
   pub done : List (List Transaction)
   pub rest : List (List Transaction)
   pub accounts : List Account
   pub audits : List Bool
   pub parts : IfSome told (λ all. all.batches ≡ done ++ rest)
-  pub ran : AreRunFrom s.planning opening_state no_last done accounts
-  pub audited : AreAudits s accounts audits
-  pub sound : All (IsSoundAccount s.workers) accounts
-  pub checked : IsTrue (is_checked s.check) → All IsChecked accounts
+  pub ran : AreRunFrom asked.settings.planning opening_state no_last done accounts
+  pub audited : AreAudits asked.settings accounts audits
+  pub sound : All (IsSoundAccount asked.settings.workers) accounts
+  pub checked : IsTrue (is_checked asked.settings.check) → All IsChecked accounts
   pub counts : IsTallyOf done accounts t
-  pub founded : FollowsAccounts s.workers accounts t
-  pub balanced : IsBalanced s.planning s.workers t
+  pub founded : FollowsAccounts asked.settings.workers accounts t
+  pub balanced : IsBalanced asked.settings.planning asked.settings.workers t
   -- At 0 and 3 the end was written behind the batches, and the tally was noted
   pub whole : (status ≡ 0) ⊎ (status ≡ 3) → (last : IsAtLast told rest)
-      × (new ≡ with_both (with_batches old telling.report s done accounts audits) (end_text telling done last.ending) (noted s.notes (closing_notes s.workers t)))
+      × (new ≡ with_both (with_batches old asked done accounts audits) (end_text asked.telling done last.ending)
+      (closing_note asked.settings t))
   -- At 4, 6 and 7 reading failed, memory was refused or the input is too long, between two batches
-  pub short : (status ≡ 4) ⊎ (status ≡ 6) ⊎ (status ≡ 7) → new ≡ with_batches old telling.report s done accounts audits
+  pub short : (status ≡ 4) ⊎ (status ≡ 6) ⊎ (status ≡ 7) → new ≡ with_batches old asked done accounts audits
   -- At 5 a write failed, at the last of these batches or at the end
-  pub cut : status ≡ 5 → IsCutInBatch telling.report s done accounts audits old new ⊎ ((last : IsAtLast told rest)
-      × IsCutIn (with_batches old telling.report s done accounts audits) (end_text telling done last.ending) (noted s.notes (closing_notes s.workers t)) new)
+  pub cut : status ≡ 5 → IsCutInBatch asked done accounts audits old new
+      ⊎ ((last : IsAtLast told rest) × IsCutIn (with_batches old asked done accounts audits)
+      (end_text asked.telling done last.ending) (closing_note asked.settings t) new)
 
--- What is known of a call: what its run wrote, and the last line of the notes behind that. `HasSunk` says that a write
--- to the sink failed. The notes' count of faults went from `faults` to `faults'`. A fault of the last line changes
--- nothing: the status is 5 only if a write failed before it
-pub record CallTold (telling : Telling) (told : Option Accepted) (s : Settings) (status : ℕ) (t : Tally)
-    (old new : Outputs) (HasSunk : Type 0) (faults faults' : ℕ) : Type 0 where
+-- What is known of a call that read its settings, over the whole input: what its run wrote, and the last line of the
+-- notes behind that. A fault of the last line changes nothing: the status is 5 only if a write failed before it
+pub record CallTold (asked : Request) (status : ℕ) (t : Tally) (before after : Streams) : Type 0 where
   pub ran : Outputs
-  pub run : RunTold telling told s status t old ran
-  pub sink : new.sink ≡ ran.sink
+  pub run : RunTold asked (option_map (accepted asked.meaning) asked.input) status t before.outputs ran
+  pub sink : after.outputs.sink ≡ ran.sink
   -- The notes' count of faults before the last line
-  pub before : ℕ
-  pub cause : status ≡ 5 → HasSunk ⊎ (IsTrue (has_notes s) × HasRisen faults before)
-  pub steady : (status ≡ 5 → ⊥) → before ≡ faults
-  pub last : EndsNotes status ran.notes new.notes before faults'
+  pub before_last : ℕ
+  pub cause : status ≡ 5 → HasRisen before.faults.sink after.faults.sink
+      ⊎ (IsTrue (has_notes asked.settings) × HasRisen before.faults.notes before_last)
+  pub steady : (status ≡ 5 → ⊥) → before_last ≡ before.faults.notes
+  pub last : EndsNotes status ran.notes after.outputs.notes before_last after.faults.notes

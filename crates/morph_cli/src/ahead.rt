@@ -16,14 +16,15 @@ ghost use Rattle.batch_pipe.specs.PipeRounds.{new_pipe};
 ghost use Rattle.run_text.specs.Checks.{is_checked};
 ghost use Rattle.run_text.specs.Settings.{AreInRange};
 ghost use Rattle.run_text.specs.Counts.{CountsBatch, HasRoom, no_tally};
-ghost use Rattle.run_text.specs.Notes.{noted, closing_notes};
 ghost use Rattle.run_text.specs.Reports.{report_of};
 ghost use Rattle.run_text.specs.Text.{told_values, counts_line};
 ghost use Rattle.morph_cli.specs.Batches.{lines_of_batch, note_of_batch};
-ghost use Rattle.morph_cli.specs.Outputs.{outputs_of, WritesBoth};
+ghost use Rattle.morph_cli.specs.Outputs.{closing_note, outputs_of, WritesBoth};
 ghost use Rattle.morph_cli.specs.Endings.{EndsBy};
-ghost use Rattle.morph_cli.specs.RunContract.{RunDoes, fault_counts, request_of, streams_of};
+ghost use Rattle.morph_cli.specs.Requests.{request_of};
+ghost use Rattle.morph_cli.specs.RunContract.{RunDoes};
 ghost use Rattle.morph_cli.specs.Runs.{layout_of};
+ghost use Rattle.morph_cli.specs.Streams.{fault_counts, streams_of};
 ghost use Rattle.morph_cli.specs.Strategies.{strategy_by};
 
 use crate::fault::Fault;
@@ -110,7 +111,7 @@ fn tell_next<K: Sink, N: Sink>(
     requires room { HasRoom tally.old (account_of ran.end) }
     ensures adds { CountsBatch tally.old tally.new (account_of ran.end)
         (settled_fates ran.end.plan ran.end.settled) }
-    ensures told { WritesBoth result (outputs_of (K.written sink.old) (N.written notes.old))
+    ensures written { WritesBoth result (outputs_of (K.written sink.old) (N.written notes.old))
         (lines_of_batch settings.now ran.end)
         (note_of_batch settings.now tally.new.batches None ran.end)
         (outputs_of (K.written sink.new) (N.written notes.new)) }
@@ -148,7 +149,7 @@ fn end_ahead<R, A: EventApp + Copy, K: Sink, N: Sink, G>(
         (outputs_of (K.written sink.old) (N.written notes.old))
         (told_values (report_of settings) kept.layout (A.name_of job.now.app) (contents kept)
         ++ counts_line tally.now.committed tally.now.aborted)
-        (noted settings.notes (closing_notes settings.workers tally.now))
+        (closing_note settings tally.now)
         (outputs_of (K.written sink.new) (N.written notes.new)) }
     ensures sink_faults { K.faults sink.old ≤ K.faults sink.new }
     ensures notes_faults { N.faults notes.old ≤ N.faults notes.new }
@@ -202,7 +203,7 @@ pub fn run_ahead<
         ≡ layout_of (A.table_count job.now.app) job.now.settings.size }
     requires opening { contents ahead.old.pipe.engine ≡ opening_state }
     requires empty { ahead.old.out ≡ [] }
-    ensures does { let app = job.now.app in let settings = job.now.settings in
+    ensures run { let app = job.now.app in let settings = job.now.settings in
         RunDoes (request_of (A.event_of app) (A.table_count app) (A.name_of app)
         settings (S.left source.old)) result tally.new
         (streams_of (S.left source.old) (K.written sink.old) (N.written notes.old)

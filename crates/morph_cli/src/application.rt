@@ -1,18 +1,18 @@
-ghost use Rattle.std.specs.Prelude.{◌≡◌, ◌≤◌, ◌⊎◌, None, map, option_map, IfSome, IsTrue};
+ghost use Rattle.std.specs.Prelude.{◌≡◌, ◌⊎◌, None, map, IfSome, IsTrue};
 ghost use Rattle.morph_io.specs.Told.{HasRisen};
-ghost use Rattle.event_reader.specs.Accepted.{accepted};
 ghost use Rattle.morph_cli.specs.Apps.{telling_for};
 ghost use Rattle.morph_cli.specs.Calls.{IsReadBy};
 ghost use Rattle.morph_cli.specs.Headline.{Headline, Completes, input_limit};
-ghost use Rattle.morph_cli.specs.Outputs.{has_notes, outputs_of};
+ghost use Rattle.morph_cli.specs.Outputs.{has_notes};
+ghost use Rattle.morph_cli.specs.Requests.{request_of};
 ghost use Rattle.morph_cli.specs.Status.{EndsWith, IsStatus};
+ghost use Rattle.morph_cli.specs.Streams.{fault_counts, streams_of};
 ghost use Rattle.morph_cli.specs.Tallies.{CallTold, IsBalanced};
 ghost use Rattle.run_text.specs.Counts.{no_tally};
 ghost use Rattle.run_text.specs.Settings.{settings_of_own};
 
-use crate::ended::{Ended, USAGE_STATUS, note_of, status};
+use crate::ended::{Ended, end_run, end_unasked};
 use crate::job::{Host, Job};
-use crate::note::write_note;
 use crate::run::run;
 use event_reader::EventApp;
 use morph_base::List;
@@ -74,27 +74,21 @@ pub fn run_application<
     // If nothing is read ahead, the source is read for the next batch only, and not beyond the end of the run.
     ensures asks { IfSome (settings_of_own (map (λ word. word.items) words.now)) (λ s.
         s.ahead ≡ 0 → IsReadBy S.left S.reads (A.event_of app s.size) source.old source.new) }
-    ensures told { IfSome (settings_of_own (map (λ word. word.items) words.now)) (λ s.
-        CallTold (telling_for s (A.table_count app) (A.name_of app))
-        (option_map (accepted (A.event_of app s.size)) (S.left source.old))
-        s result.status result.tally
-        (outputs_of (K.written sink.old) (N.written notes.old))
-        (outputs_of (K.written sink.new) (N.written notes.new))
-        (HasRisen (K.faults sink.old) (K.faults sink.new))
-        (N.faults notes.old) (N.faults notes.new)) }
+    ensures run { IfSome (settings_of_own (map (λ word. word.items) words.now)) (λ s.
+        CallTold (request_of (A.event_of app) (A.table_count app) (A.name_of app)
+        s (S.left source.old)) result.status result.tally
+        (streams_of (S.left source.old) (K.written sink.old) (N.written notes.old)
+        (fault_counts (S.faults source.old) (K.faults sink.old) (N.faults notes.old)))
+        (streams_of (S.left source.new) (K.written sink.new) (N.written notes.new)
+        (fault_counts (S.faults source.new) (K.faults sink.new) (N.faults notes.new)))) }
     ensures balanced { IfSome (settings_of_own (map (λ word. word.items) words.now))
         (λ s. IsBalanced s.planning s.workers result.tally) }
     ensures uncounted { result.status ≡ 2 → result.tally ≡ no_tally }
     ensures note { result.status ≡ 2 → EndsWith usage.now
         (N.written notes.old) (N.written notes.new) (N.faults notes.old) (N.faults notes.new) }
 {
-    let mut tally = Tally::new();
     let Some(settings) = own_settings(words) else {
-        write_note(notes, usage);
-        return Ended {
-            status: USAGE_STATUS,
-            tally,
-        };
+        return end_unasked(notes, usage);
     };
     let host = Host { rt, alloc, gate };
     let job = Job {
@@ -102,10 +96,7 @@ pub fn run_application<
         app,
         settings,
     };
+    let mut tally = Tally::new();
     let end = run(&job, source, sink, notes, &mut tally);
-    write_note(notes, note_of(&end));
-    Ended {
-        status: status(&end),
-        tally,
-    }
+    end_run(notes, &end, tally)
 }

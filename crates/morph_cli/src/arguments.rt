@@ -1,23 +1,24 @@
-ghost use Rattle.std.specs.Prelude.{◌≡◌, ◌⊎◌, None, map, option_map, IsSome, IfSome, IfOk, OnErr, IsTrue};
+ghost use Rattle.std.specs.Prelude.{◌≡◌, ◌⊎◌, None, map, IsSome, IfSome, IfOk, OnErr, IsTrue};
 ghost use Rattle.std.specs.Process.{exit_status};
 ghost use Rattle.morph_io.specs.Told.{HasRisen};
 ghost use Rattle.morph_cli.specs.Apps.{input_of, left_by, meaning_of, telling_of};
-ghost use Rattle.event_reader.specs.Accepted.{accepted};
 ghost use Rattle.morph_cli.specs.Calls.{IsReadBy};
 ghost use Rattle.morph_cli.specs.Headline.{Headline, Completes, input_limit};
-ghost use Rattle.morph_cli.specs.Outputs.{has_notes, outputs_of};
+ghost use Rattle.morph_cli.specs.Outputs.{has_notes};
+ghost use Rattle.morph_cli.specs.Requests.{request_in};
+ghost use Rattle.morph_cli.specs.Streams.{fault_counts, streams_of};
 ghost use Rattle.morph_cli.specs.Tallies.{CallTold};
-ghost use Rattle.run_text.specs.declared.tally.Tally.{Tally};
+ghost use Rattle.run_text.specs.declared.tally.Tally.{Tally as Counted};
 ghost use Rattle.run_text.specs.Settings.{settings_of};
 ghost use Rattle.morph_cli.specs.Status.{IsStatus, IsMadeStatus, EndsNotes};
 ghost use Rattle.morph_cli.specs.Words.{words_behind};
 
-use crate::ended::{note_of, status};
+use crate::ended::end_run;
 use crate::fault::Fault;
-use crate::note::write_note;
 use crate::top_call::morph;
 use morph_base::{List, OutOfMemory};
 use morph_io::{Sink, Source};
+use run_text::Tally;
 use std::alloc::Global;
 use std::process::ExitCode;
 use std::sync::Wait;
@@ -44,9 +45,8 @@ fn end_without_memory<N: Sink>(notes: &mut N) -> ExitCode
     ensures note { EndsNotes 6 (N.written notes.old) (N.written notes.new)
         (N.faults notes.old) (N.faults notes.new) }
 {
-    let end = Err(Fault::OutOfMemory);
-    write_note(notes, note_of(&end));
-    ExitCode::from(status(&end))
+    let end = end_run(notes, &Err(Fault::OutOfMemory), Tally::new());
+    ExitCode::from(end.status)
 }
 
 /// Does all that the program does, with its arguments, and returns the status that it ends with, which is that of
@@ -83,14 +83,12 @@ pub fn program<R: Threads + Wait + Sync, S: Source + Send, K: Sink, N: Sink>(
     ensures made { IfOk args (λ args. IfSome (settings_of (words_behind args.items)) (λ s.
         IsSome s.generated
         → (source.new ≡ source.old) × IsMadeStatus (exit_status result))) }
-    ensures told { IfOk args (λ args. IfSome (settings_of (words_behind args.items)) (λ s.
-        (tally : Tally) × CallTold (telling_of s)
-        (option_map (accepted (meaning_of s)) (input_of s (S.left source.old)))
-        s (exit_status result) tally
-        (outputs_of (K.written sink.old) (N.written notes.old))
-        (outputs_of (K.written sink.new) (N.written notes.new))
-        (HasRisen (K.faults sink.old) (K.faults sink.new))
-        (N.faults notes.old) (N.faults notes.new))) }
+    ensures run { IfOk args (λ args. IfSome (settings_of (words_behind args.items)) (λ s.
+        (tally : Counted) × CallTold (request_in s (S.left source.old)) (exit_status result) tally
+        (streams_of (S.left source.old) (K.written sink.old) (N.written notes.old)
+        (fault_counts (S.faults source.old) (K.faults sink.old) (N.faults notes.old)))
+        (streams_of (S.left source.new) (K.written sink.new) (N.written notes.new)
+        (fault_counts (S.faults source.new) (K.faults sink.new) (N.faults notes.new))))) }
     ensures read { exit_status result ≡ 4 → HasRisen (S.faults source.old) (S.faults source.new) }
     ensures write { IfOk args (λ args. IfSome (settings_of (words_behind args.items)) (λ s.
         exit_status result ≡ 5 → HasRisen (K.faults sink.old) (K.faults sink.new)

@@ -1,8 +1,10 @@
-ghost use Rattle.std.specs.Prelude.{◌≡◌};
-ghost use Rattle.morph_cli.specs.Status.{status_of, note_at};
+ghost use Rattle.std.specs.Prelude.{◌≡◌, ◌≤◌};
+ghost use Rattle.morph_cli.specs.Status.{EndsNotes, EndsWith, status_of, note_at};
+ghost use Rattle.run_text.specs.Counts.{no_tally};
 
 use crate::fault::Fault;
 use crate::run::Finish;
+use morph_io::{Sink, write_all};
 use run_text::Tally;
 
 /// How the program ends.
@@ -15,14 +17,46 @@ pub struct Ended {
     pub tally: Tally,
 }
 
-/// The status if the words are no settings.
-pub const USAGE_STATUS: u8 = 2;
+/// Ends a call whose words are no settings: the last line of the notes is its usage.
+pub fn end_unasked<N: Sink>(notes: &mut N, usage: &[u8]) -> Ended
+    ensures status { result.status ≡ 2 }
+    ensures tally { result.tally ≡ no_tally }
+    ensures last { EndsWith usage.now (N.written notes.old) (N.written notes.new)
+        (N.faults notes.old) (N.faults notes.new) }
+{
+    write_last(notes, usage);
+    Ended {
+        status: 2,
+        tally: Tally::new(),
+    }
+}
 
-/// The last line of the notes if the words are no settings.
-pub const USAGE: &[u8] = b"usage: morph app=ledger|grep|toll [name=value ...]\n";
+/// Ends a call after its run: writes the last line of the notes.
+pub fn end_run<N: Sink>(notes: &mut N, end: &Result<Finish, Fault>, tally: Tally) -> Ended
+    ensures status { result.status ≡ status_of end.now }
+    ensures tally { result.tally ≡ tally }
+    ensures last { EndsNotes (status_of end.now) (N.written notes.old) (N.written notes.new)
+        (N.faults notes.old) (N.faults notes.new) }
+    ensures never_falls { N.faults notes.old ≤ N.faults notes.new }
+{
+    write_last(notes, note_of(end));
+    Ended {
+        status: status(end),
+        tally,
+    }
+}
+
+/// Writes a last line to the notes. If writing fails, nothing else changes: a part of the line then stands there.
+fn write_last<N: Sink>(notes: &mut N, line: &[u8])
+    ensures last { EndsWith line.now (N.written notes.old) (N.written notes.new)
+        (N.faults notes.old) (N.faults notes.new) }
+    ensures never_falls { N.faults notes.old ≤ N.faults notes.new }
+{
+    let _ = write_all(notes, line);
+}
 
 /// The status of a run.
-pub fn status(end: &Result<Finish, Fault>) -> u8
+fn status(end: &Result<Finish, Fault>) -> u8
     ensures { result ≡ status_of end.now }
 {
     match end {
@@ -36,7 +70,7 @@ pub fn status(end: &Result<Finish, Fault>) -> u8
 }
 
 /// The last line of the notes of a run; nothing if the run had no fault.
-pub fn note_of(end: &Result<Finish, Fault>) -> &'static [u8]
+fn note_of(end: &Result<Finish, Fault>) -> &'static [u8]
     ensures { result.now ≡ note_at (status_of end.now) }
 {
     match end {

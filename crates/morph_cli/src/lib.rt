@@ -10,16 +10,26 @@
 //!
 //! # The files
 //!
-//! Read `top_call` first, which has the contract of the whole call, and then `run`. From the top down, `morph` calls
-//! `run_app`, which knows the application, that calls `run_over`, which knows the input, and that `run`, which reads
-//! ahead or not. `run_batches` takes each batch by `take_batch`, which has it run by `run_watched`, beside a viewer or
-//! not, and that by `run_batch`, which chooses the strategy and asks the engine.
+//! Read `top_call` first, which has the contract of the whole call, and then `run`. From the top down:
+//!
+//! | Call | What it knows or chooses, and which call it makes next |
+//! |---|---|
+//! | `morph` | the settings, from the words: `run_app`, and then `end_run` |
+//! | `run_app` | the application: `run_over` |
+//! | `run_over` | the input, which is the source's or made by the program: `run`, or `run_made` and that `run` |
+//! | `run` | whether batches are read ahead: `run_ahead`, whose pipe runs them, or else `run_batches` |
+//! | `run_batches` | what the reader gives: `take_batch` for each batch |
+//! | `take_batch` | a batch: `run_watched`, and then `tell_and_publish` |
+//! | `run_watched` | whether a viewer looks beside it: `run_batch` |
+//! | `run_batch` | the strategy, and whether a journal is kept: the engine, or `run_checked` and that the engine |
+//!
+//! `run_application` begins with `run`, and `program` calls `morph`.
 //!
 //! | File | What it has |
 //! |---|---|
 //! | `top_call`, `application` | `morph`; `run_application` |
 //! | `arguments` | `program` and `words_of` |
-//! | `ended`, `note` | `Ended`, the statuses and the last lines of the notes; how such a line is written |
+//! | `ended` | `Ended`, the statuses and the last lines of the notes; how a call ends |
 //! | `job`, `fault` | what a run is to do, and with what; what cuts it off |
 //! | `run`, `progress` | a run, batch by batch; how far it has got |
 //! | `take_batch`, `run_batch` | a batch run, written and published; its plan made and run |
@@ -37,7 +47,6 @@ mod ended;
 mod fault;
 mod job;
 mod laws;
-mod note;
 mod progress;
 mod run;
 mod run_batch;

@@ -5,8 +5,10 @@ ghost use Rattle.morph_base.specs.Flat.{contents};
 ghost use Rattle.event_reader.specs.Reader.{new_reader};
 ghost use Rattle.morph_cli.specs.Batches.{IsShown};
 ghost use Rattle.morph_cli.specs.Calls.{IsReadBy};
-ghost use Rattle.morph_cli.specs.RunContract.{RunDoes, fault_counts, request_of, streams_of};
+ghost use Rattle.morph_cli.specs.Requests.{request_of};
+ghost use Rattle.morph_cli.specs.RunContract.{RunDoes};
 ghost use Rattle.morph_cli.specs.Runs.{layout_of};
+ghost use Rattle.morph_cli.specs.Streams.{fault_counts, streams_of};
 ghost use Rattle.run_text.specs.Settings.{AreInRange};
 ghost use Rattle.decision_model.specs.Choices.{no_last};
 ghost use Rattle.run_text.specs.Counts.{no_tally};
@@ -56,7 +58,7 @@ pub fn run<
 ) -> Result<Finish, Fault>
     requires settings { AreInRange job.now.settings }
     requires tally { tally.old ≡ no_tally }
-    ensures does { let app = job.now.app in let settings = job.now.settings in
+    ensures run { let app = job.now.app in let settings = job.now.settings in
         RunDoes (request_of (A.event_of app) (A.table_count app) (A.name_of app)
         settings (S.left source.old)) result tally.new
         (streams_of (S.left source.old) (K.written sink.old) (N.written notes.old)
@@ -98,7 +100,7 @@ fn run_batches<R: Threads + Wait + Sync, A: EventApp + Copy, S: Source, K: Sink,
     requires shown { IfSome (progress.old.watching)
         (IsShown progress.old.engine.layout 0 opening_state) }
     requires watch { IsSome (progress.old.watching) ↔ IsTrue job.now.settings.watch }
-    ensures does { let app = job.now.app in let settings = job.now.settings in
+    ensures run { let app = job.now.app in let settings = job.now.settings in
         RunDoes (request_of (A.event_of app) (A.table_count app) (A.name_of app)
         settings (S.left source.old)) result tally.new
         (streams_of (S.left source.old) (K.written sink.old) (N.written notes.old)

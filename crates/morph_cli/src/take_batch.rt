@@ -10,7 +10,7 @@ ghost use Rattle.run_text.specs.Checks.{is_checked};
 ghost use Rattle.run_text.specs.Counts.{CountsBatch, HasRoom};
 ghost use Rattle.run_text.specs.Settings.{AreInRange};
 ghost use Rattle.snapshot_reader.specs.Batches.{after_plans};
-ghost use Rattle.morph_cli.specs.Batches.{IsShown, TakesBatch, TellsBatch};
+ghost use Rattle.morph_cli.specs.Batches.{IsShown, TakesBatch, TellsBatch, run_point};
 ghost use Rattle.morph_cli.specs.Outputs.{has_notes, outputs_of};
 ghost use Rattle.morph_cli.specs.Tallies.{IsSoundAccount};
 
@@ -47,11 +47,11 @@ pub fn take_batch<R: Threads + Wait + Sync, A: EventApp, K: Sink, N: Sink, G: Ga
     requires shown { IfSome progress.old.watching (IsShown progress.old.engine.layout
         tally.old.batches (contents progress.old.engine)) }
     requires watch { IsSome progress.old.watching → IsTrue job.now.settings.watch }
-    ensures takes { TakesBatch result job.now.settings progress.old.last
-        progress.old.engine progress.new.engine progress.old.watching progress.new.watching
-        batch.now tally.old tally.new progress.new.last
-        (outputs_of (K.written sink.old) (N.written notes.old))
-        (outputs_of (K.written sink.new) (N.written notes.new)) }
+    ensures takes { TakesBatch result job.now.settings batch.now
+        (run_point progress.old.last progress.old.engine progress.old.watching tally.old
+        (outputs_of (K.written sink.old) (N.written notes.old)))
+        (run_point progress.new.last progress.new.engine progress.new.watching tally.new
+        (outputs_of (K.written sink.new) (N.written notes.new))) }
     ensures reader { progress.new.reader ≡ progress.old.reader }
     ensures layout { progress.new.engine.layout ≡ progress.old.engine.layout }
     ensures empty { OnOk result (progress.new.out ≡ []) }
@@ -92,9 +92,10 @@ fn tell_and_publish<R: Wait, A: EventApp, K: Sink, N: Sink, G>(
     ensures adds { CountsBatch tally.old tally.new (account_of ran.now.end)
         (settled_fates ran.now.end.plan ran.now.end.settled) }
     ensures tells { TellsBatch result job.now.settings ran.now.end ran.now.audit
-        progress.old.watching progress.new.watching tally.new.batches progress.new.last
-        (outputs_of (K.written sink.old) (N.written notes.old))
-        (outputs_of (K.written sink.new) (N.written notes.new)) }
+        (run_point progress.old.last progress.old.engine progress.old.watching tally.old
+        (outputs_of (K.written sink.old) (N.written notes.old)))
+        (run_point progress.new.last progress.new.engine progress.new.watching tally.new
+        (outputs_of (K.written sink.new) (N.written notes.new))) }
     ensures engine { progress.new.engine ≡ progress.old.engine }
     ensures reader { progress.new.reader ≡ progress.old.reader }
     ensures empty { OnOk result (progress.new.out ≡ []) }

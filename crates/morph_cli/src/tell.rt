@@ -5,16 +5,15 @@ ghost use Rattle.morph_base.specs.Plans.{IsPlan, IsSettledOf};
 ghost use Rattle.decision_model.specs.Choices.{last_of};
 ghost use Rattle.morph_engine.specs.Accounts.{account_of};
 ghost use Rattle.morph_engine.specs.Fates.{settled_fates};
-ghost use Rattle.morph_io.specs.Told.{behind, HasRisen};
-ghost use Rattle.morph_io.specs.SinkWrites.{AppendsPart};
+ghost use Rattle.morph_io.specs.Told.{HasRisen};
 ghost use Rattle.run_text.specs.declared.choices.TheConstants.{GREATEST_SIZE};
+ghost use Rattle.run_text.specs.Calls.{WritesText};
 ghost use Rattle.run_text.specs.Checks.{is_checked};
 ghost use Rattle.run_text.specs.Counts.{CountsBatch, HasRoom};
 ghost use Rattle.run_text.specs.Reports.{report_of};
-ghost use Rattle.run_text.specs.Notes.{noted, closing_notes};
 ghost use Rattle.morph_cli.specs.Batches.{lines_of_batch, note_of_batch};
-ghost use Rattle.morph_cli.specs.Outputs.{audit_of, own_note, outputs_of, WritesBoth};
-ghost use Rattle.run_text.specs.Text.{told_lines, told_values, counts_line, refused_text};
+ghost use Rattle.morph_cli.specs.Outputs.{audit_of, closing_note, own_note, outputs_of, WritesBoth};
+ghost use Rattle.run_text.specs.Text.{told_values, counts_line, refused_text};
 
 use crate::job::Job;
 use crate::strategies::count;
@@ -50,9 +49,9 @@ fn tell_batch<K: Sink, N: Sink>(
     requires empty { out.old ≡ [] }
     requires plan { IsPlan ran.now.end.plan }
     requires settled { IsSettledOf ran.now.end.plan ran.now.end.settled }
-    ensures told { WritesBoth result (outputs_of (K.written sink.old) (N.written notes.old))
-        (told_lines (report_of settings.now) (settled_fates ran.now.end.plan ran.now.end.settled))
-        (audit_of ran.now.audit ++ own_note settings.now number (account_of ran.now.end))
+    ensures written { WritesBoth result (outputs_of (K.written sink.old) (N.written notes.old))
+        (lines_of_batch settings.now ran.now.end)
+        (note_of_batch settings.now number ran.now.audit ran.now.end)
         (outputs_of (K.written sink.new) (N.written notes.new)) }
     ensures empty { OnOk result (out.new ≡ []) }
     ensures sink_faults { K.faults sink.old ≤ K.faults sink.new }
@@ -85,7 +84,7 @@ pub fn tell_counted<K: Sink, N: Sink>(
         (settled_fates ran.now.end.plan ran.now.end.settled) }
     ensures last { IfOk result
         (λ last. last ≡ last_of (settled_fates ran.now.end.plan ran.now.end.settled)) }
-    ensures told { WritesBoth result (outputs_of (K.written sink.old) (N.written notes.old))
+    ensures written { WritesBoth result (outputs_of (K.written sink.old) (N.written notes.old))
         (lines_of_batch settings.now ran.now.end)
         (note_of_batch settings.now tally.new.batches ran.now.audit ran.now.end)
         (outputs_of (K.written sink.new) (N.written notes.new)) }
@@ -114,17 +113,11 @@ fn note_ran<N: Sink>(
 ) -> Result<(), WriteFailed>
     requires empty { out.old ≡ [] }
     requires plan { IsPlan ran.now.end.plan }
-    ensures written { OnOk result (N.written notes.new ≡ behind (N.written notes.old)
-        (audit_of ran.now.audit ++ own_note settings.now number (account_of ran.now.end))) }
-    ensures prefix { OnErr result (AppendsPart (N.written notes.old)
-        (audit_of ran.now.audit ++ own_note settings.now number (account_of ran.now.end))
-        (N.written notes.new)) }
+    ensures text { WritesText N.written N.faults
+        (note_of_batch settings.now number ran.now.audit ran.now.end) result notes.old notes.new }
     ensures empty { OnOk result (out.new ≡ []) }
-    ensures never_falls { N.faults notes.old ≤ N.faults notes.new }
-    ensures steady { OnOk result (N.faults notes.new ≡ N.faults notes.old) }
-    ensures cause { OnErr result (((IsSome ran.now.audit)
-        ⊎ ((IsTrue settings.now.notes) ⊎ IsTrue (is_checked settings.now.check)))
-        × HasRisen (N.faults notes.old) (N.faults notes.new)) }
+    ensures cause { OnErr result ((IsSome ran.now.audit)
+        ⊎ ((IsTrue settings.now.notes) ⊎ IsTrue (is_checked settings.now.check))) }
 {
     note_seen(notes, &ran.audit)?;
     note_own(out, notes, settings, number, &ran.end)
@@ -141,16 +134,11 @@ fn note_own<N: Sink>(
 ) -> Result<(), WriteFailed>
     requires empty { out.old ≡ [] }
     requires plan { IsPlan end.now.plan }
-    ensures written { OnOk result (N.written notes.new ≡ behind (N.written notes.old)
-        (own_note settings.now number (account_of end.now))) }
-    ensures prefix { OnErr result (AppendsPart (N.written notes.old)
-        (own_note settings.now number (account_of end.now)) (N.written notes.new)) }
+    ensures text { WritesText N.written N.faults
+        (own_note settings.now number (account_of end.now)) result notes.old notes.new }
     ensures empty { OnOk result (out.new ≡ []) }
-    ensures never_falls { N.faults notes.old ≤ N.faults notes.new }
-    ensures steady { OnOk result (N.faults notes.new ≡ N.faults notes.old) }
-    ensures cause { OnErr result (((IsTrue settings.now.notes)
-        ⊎ IsTrue (is_checked settings.now.check))
-        × HasRisen (N.faults notes.old) (N.faults notes.new)) }
+    ensures cause { OnErr result ((IsTrue settings.now.notes)
+        ⊎ IsTrue (is_checked settings.now.check)) }
 {
     note_batch(notes, settings.notes, number, &end.plan, end.strategy)?;
     let journal = end.closed.journal();
@@ -159,14 +147,8 @@ fn note_own<N: Sink>(
 
 /// Writes to the notes what was seen of the balances, if anything was.
 fn note_seen<N: Sink>(notes: &mut N, audit: &Option<Total>) -> Result<(), WriteFailed>
-    ensures written { OnOk result (N.written notes.new
-        ≡ behind (N.written notes.old) (audit_of audit.now)) }
-    ensures prefix { OnErr result
-        (AppendsPart (N.written notes.old) (audit_of audit.now) (N.written notes.new)) }
-    ensures never_falls { N.faults notes.old ≤ N.faults notes.new }
-    ensures steady { OnOk result (N.faults notes.new ≡ N.faults notes.old) }
-    ensures cause { OnErr result (IsSome audit.now
-        × HasRisen (N.faults notes.old) (N.faults notes.new)) }
+    ensures text { WritesText N.written N.faults (audit_of audit.now) result notes.old notes.new }
+    ensures cause { OnErr result (IsSome audit.now) }
 {
     match audit {
         Some(seen) => note_audit(notes, seen.number, seen.total),
@@ -188,11 +170,11 @@ pub fn tell_closing<A: EventApp, R, G, K: Sink, N: Sink>(
     requires few_ids { values.now.layout.size ≤ GREATEST_SIZE }
     requires few { job.now.settings.workers ≤ WORKERS }
     requires all { length tally.now.settled_by ≡ 17 }
-    ensures told { let settings = job.now.settings in
+    ensures written { let settings = job.now.settings in
         WritesBoth result (outputs_of (K.written sink.old) (N.written notes.old))
         (told_values (report_of settings) values.now.layout (A.name_of job.now.app)
         (contents values.now) ++ counts_line tally.now.committed tally.now.aborted)
-        (noted settings.notes (closing_notes settings.workers tally.now))
+        (closing_note settings tally.now)
         (outputs_of (K.written sink.new) (N.written notes.new)) }
     ensures sink_faults { K.faults sink.old ≤ K.faults sink.new }
     ensures notes_faults { N.faults notes.old ≤ N.faults notes.new }
@@ -218,9 +200,9 @@ pub fn tell_refused<K: Sink, N: Sink>(
     requires empty { out.old ≡ [] }
     requires few { settings.now.workers ≤ WORKERS }
     requires all { length tally.now.settled_by ≡ 17 }
-    ensures told { WritesBoth result (outputs_of (K.written sink.old) (N.written notes.old))
+    ensures written { WritesBoth result (outputs_of (K.written sink.old) (N.written notes.old))
         (refused_text refusal.now.line refusal.now.cause)
-        (noted settings.now.notes (closing_notes settings.now.workers tally.now))
+        (closing_note settings.now tally.now)
         (outputs_of (K.written sink.new) (N.written notes.new)) }
     ensures sink_faults { K.faults sink.old ≤ K.faults sink.new }
     ensures notes_faults { N.faults notes.old ≤ N.faults notes.new }

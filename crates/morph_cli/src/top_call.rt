@@ -1,22 +1,22 @@
-ghost use Rattle.std.specs.Prelude.{◌≡◌, ◌⊎◌, None, Some, map, option_map, IsSome, IfSome, IsTrue};
+ghost use Rattle.std.specs.Prelude.{◌≡◌, ◌⊎◌, None, Some, map, IsSome, IfSome, IsTrue};
 ghost use Rattle.morph_io.specs.Told.{HasRisen};
-ghost use Rattle.event_reader.specs.Accepted.{accepted};
 ghost use Rattle.event_reader.specs.GeneratedText.{generated_text};
 ghost use Rattle.morph_cli.specs.Apps.{input_by, input_of, left_by, meaning_of, telling_of};
 ghost use Rattle.morph_cli.specs.Calls.{IsReadBy};
 ghost use Rattle.morph_cli.specs.Headline.{Headline, Completes, input_limit};
-ghost use Rattle.morph_cli.specs.Outputs.{has_notes, outputs_of};
-ghost use Rattle.morph_cli.specs.RunContract.{RunDoes, fault_counts, request_in, request_of, streams_of};
+ghost use Rattle.morph_cli.specs.Outputs.{has_notes};
+ghost use Rattle.morph_cli.specs.Requests.{request_in, request_of};
+ghost use Rattle.morph_cli.specs.RunContract.{RunDoes};
 ghost use Rattle.morph_cli.specs.Runs.{EndsMade};
 ghost use Rattle.run_text.specs.Settings.{AreInRange, settings_of};
 ghost use Rattle.morph_cli.specs.Status.{EndsNotes, IsStatus, IsMadeStatus};
+ghost use Rattle.morph_cli.specs.Streams.{fault_counts, streams_of};
 ghost use Rattle.run_text.specs.Counts.{no_tally};
 ghost use Rattle.morph_cli.specs.Tallies.{CallTold, IsBalanced};
 
-use crate::ended::{Ended, USAGE_STATUS, note_of, status};
+use crate::ended::{Ended, end_run, end_unasked};
 use crate::fault::Fault;
 use crate::job::{Host, Job};
-use crate::note::{write_note, write_usage};
 use crate::run::{Finish, run};
 use event_reader::laws::generated_text_is_accepted;
 use event_reader::{GenSource, MakesInput};
@@ -30,6 +30,9 @@ use std::sync::Wait;
 use std::thread::Threads;
 use toll_app::Toll;
 use worker_gate::Gate;
+
+/// The last line of the notes if the words are no settings.
+const USAGE: &[u8] = b"usage: morph app=ledger|grep|toll [name=value ...]\n";
 
 /// Runs an application over the input that the settings ask for: the source's, or one that the program makes.
 fn run_over<
@@ -48,9 +51,10 @@ fn run_over<
 ) -> Result<Finish, Fault>
     requires settings { AreInRange job.now.settings }
     requires tally { tally.old ≡ no_tally }
-    ensures does { let app = job.now.app in let settings = job.now.settings in
+    ensures run { let app = job.now.app in let settings = job.now.settings in
         RunDoes (request_of (A.event_of app) (A.table_count app) (A.name_of app) settings
-        (input_by settings.generated (generated_text (A.generated app settings.size)) (S.left source.old))) result tally.new
+        (input_by settings.generated (generated_text (A.generated app settings.size))
+        (S.left source.old))) result tally.new
         (streams_of (S.left source.old) (K.written sink.old) (N.written notes.old)
         (fault_counts (S.faults source.old) (K.faults sink.old) (N.faults notes.old)))
         (streams_of (left_by settings.generated (S.left source.new)) (K.written sink.new) (N.written notes.new)
@@ -76,7 +80,7 @@ fn run_made<R: Threads + Wait + Sync, A: MakesInput + Copy + Send, K: Sink, N: S
     requires settings { AreInRange job.now.settings }
     requires generated { job.now.settings.generated ≡ Some generated }
     requires tally { tally.old ≡ no_tally }
-    ensures does { let app = job.now.app in let settings = job.now.settings in
+    ensures run { let app = job.now.app in let settings = job.now.settings in
         RunDoes (request_of (A.event_of app) (A.table_count app) (A.name_of app) settings
         (Some (generated_text (A.generated app settings.size) generated.seed generated.events))) result tally.new
         (streams_of None (K.written sink.old) (N.written notes.old)
@@ -103,7 +107,7 @@ fn run_app<R: Threads + Wait + Sync, S: Source + Send, K: Sink, N: Sink, G: Gate
 ) -> Result<Finish, Fault>
     requires settings { AreInRange settings }
     requires tally { tally.old ≡ no_tally }
-    ensures does { RunDoes (request_in settings (S.left source.old)) result tally.new
+    ensures run { RunDoes (request_in settings (S.left source.old)) result tally.new
         (streams_of (S.left source.old) (K.written sink.old) (N.written notes.old)
         (fault_counts (S.faults source.old) (K.faults sink.old) (N.faults notes.old)))
         (streams_of (left_by settings.generated (S.left source.new)) (K.written sink.new) (N.written notes.new)
@@ -187,33 +191,23 @@ pub fn morph<R: Threads + Wait + Sync, S: Source + Send, K: Sink, N: Sink, G: Ga
     // If nothing is read ahead, the source is read for the next batch only, and not beyond the end of the run.
     ensures asks { IfSome (settings_of (map (λ word. word.items) words.now)) (λ s. s.ahead ≡ 0
         → IsReadBy S.left S.reads (meaning_of s) source.old source.new) }
-    ensures told { IfSome (settings_of (map (λ word. word.items) words.now)) (λ s.
-        CallTold (telling_of s)
-        (option_map (accepted (meaning_of s)) (input_of s (S.left source.old)))
-        s result.status result.tally
-        (outputs_of (K.written sink.old) (N.written notes.old))
-        (outputs_of (K.written sink.new) (N.written notes.new))
-        (HasRisen (K.faults sink.old) (K.faults sink.new))
-        (N.faults notes.old) (N.faults notes.new)) }
+    ensures run { IfSome (settings_of (map (λ word. word.items) words.now)) (λ s.
+        CallTold (request_in s (S.left source.old)) result.status result.tally
+        (streams_of (S.left source.old) (K.written sink.old) (N.written notes.old)
+        (fault_counts (S.faults source.old) (K.faults sink.old) (N.faults notes.old)))
+        (streams_of (S.left source.new) (K.written sink.new) (N.written notes.new)
+        (fault_counts (S.faults source.new) (K.faults sink.new) (N.faults notes.new)))) }
     ensures balanced { IfSome (settings_of (map (λ word. word.items) words.now))
         (λ s. IsBalanced s.planning s.workers result.tally) }
     ensures uncounted { result.status ≡ 2 → result.tally ≡ no_tally }
     ensures note { result.status ≡ 2 → EndsNotes result.status
         (N.written notes.old) (N.written notes.new) (N.faults notes.old) (N.faults notes.new) }
 {
-    let mut tally = Tally::new();
     let Some(settings) = settings(words) else {
-        write_usage(notes);
-        return Ended {
-            status: USAGE_STATUS,
-            tally,
-        };
+        return end_unasked(notes, USAGE);
     };
     let host = Host { rt, alloc, gate };
+    let mut tally = Tally::new();
     let end = run_app(&host, settings, source, sink, notes, &mut tally);
-    write_note(notes, note_of(&end));
-    Ended {
-        status: status(&end),
-        tally,
-    }
+    end_run(notes, &end, tally)
 }

@@ -14,11 +14,11 @@ use Rattle.morph_cli.specs.Outputs.{outputs_of}
 use Rattle.std.proofs.lemmas.Bool.{true≢false}
 use Rattle.batch_pipe.specs.Courses.{steps_left}
 use Rattle.batch_pipe.proofs.Rounds.{turns_fall}
-use Rattle.morph_cli.proofs.Between.{course_of, error_is}
-use Rattle.morph_cli.proofs.Faulting.{counts_still, faults_since, faults_ahead}
-use Rattle.morph_cli.proofs.Noting.{unchecked_ahead, told_note, noted_so}
+use Rattle.morph_cli.proofs.RunPoints.{course_of, error_is}
+use Rattle.morph_cli.proofs.FaultLaws.{counts_still, faults_since, faults_ahead}
+use Rattle.morph_cli.proofs.NoteLaws.{unchecked_ahead, told_note, noted_so}
 use Rattle.morph_cli.proofs.Tails.{read_by_tail, ends_by_tail, told_by_tail}
-use Rattle.morph_cli.proofs.Piping.{piped_start, piped_as, piped_round, piped_told, read_in_round, next, room_told, ends_in_run, told_in_run}
+use Rattle.morph_cli.proofs.PipedRuns.{piped_start, piped_as, piped_round, piped_told, read_in_round, next, room_told, ends_in_run, told_in_run}
 use Rattle.morph_cli.proofs.ahead.run_ahead.Goals as goal
 
 pub turns-init : goal.turns-init
@@ -56,13 +56,13 @@ returns-in_err-tell_next-in-Some g c =
     let got = rw c.in-Some.is at c.next.ensures.some in
     let failed = error_is c.from_residual.result Write c.from_residual.ensures.1 in
     record {
-      does = record {
+      run = record {
         ends = ends_in_run c.picker-pick.ensures refl c.turns.invariant.run c.in-Some.ran c.next.new.self.rans got.1 (g.S.Source.left c.turns.source)
             (outputs_of (g.K.Sink.written c.tell_next.new.sink) (g.N.Sink.written c.tell_next.new.notes)) (told_note c.args.job.now.settings c.tell_next.new.tally.batches None (account_of c.in-Some.ran.end))
-            (error_is c.from_residual.result Write c.from_residual.ensures.1) c.in_err-tell_next-in-Some.ensures.told;
+            (error_is c.from_residual.result Write c.from_residual.ensures.1) c.in_err-tell_next-in-Some.ensures.written;
         told = told_in_run c.picker-pick.ensures refl c.turns.invariant.run c.in-Some.ran c.next.new.self.rans got.1
             (outputs_of (g.K.Sink.written c.tell_next.new.sink) (g.N.Sink.written c.tell_next.new.notes)) c.tell_next.new.tally (unchecked_ahead c.args.job.now.settings c.requires.settings c.requires.ahead)
-            (error_is c.from_residual.result Write c.from_residual.ensures.1) c.tell_next.ensures.adds c.in_err-tell_next-in-Some.ensures.told;
+            (error_is c.from_residual.result Write c.from_residual.ensures.1) c.tell_next.ensures.adds c.in_err-tell_next-in-Some.ensures.written;
         faults = faults_since c.args.job.now.settings (counts_still refl c.turns.invariant.sink_steady c.turns.invariant.notes_steady refl) (faults_ahead c.args.job.now.settings (noted_so c.args.job.now.settings) c.requires.ahead c.turns.invariant.source_faults
             (λ is. absurd (let both = sym failed ∙ is in cc)) c.in_err-tell_next-in-Some.ensures.sink_faults c.in_err-tell_next-in-Some.ensures.notes_faults (λ is. c.in_err-tell_next-in-Some.ensures.cause) (λ other. absurd (other failed)));
       };
@@ -74,7 +74,7 @@ turns-preserved-in-Some g c =
     record {
       run = piped_told c.picker-pick.ensures refl c.turns.invariant.run c.in-Some.ran c.next.new.self.rans got.1 c.next.new.self
           (outputs_of (g.K.Sink.written c.tell_next.new.sink) (g.N.Sink.written c.tell_next.new.notes)) c.tell_next.new.tally c.tell_next.new.out (unchecked_ahead c.args.job.now.settings c.requires.settings c.requires.ahead)
-          got.0 c.in_ok-tell_next-in-Some.ensures.told c.in_ok-tell_next-in-Some.ensures.empty c.tell_next.ensures.adds;
+          got.0 c.in_ok-tell_next-in-Some.ensures.written c.in_ok-tell_next-in-Some.ensures.empty c.tell_next.ensures.adds;
       read = λ is. c.turns.invariant.read (sym (ap (λ (v : PipeView _). v.tail) got.0) ∙ is);
       source_faults = c.turns.invariant.source_faults;
       sink_steady = c.in_ok-tell_next-in-Some.ensures.steady.0 ∙ c.turns.invariant.sink_steady;
@@ -125,7 +125,7 @@ returns g c =
     let p = piped_as got.0 c.turns.invariant.run in
     let over : IsGoing c.next.new.self → ⊥ = λ going. true≢false (sym (c.going.ensures.going.1 going) ∙ c.if-going.false) in
     record {
-      does = record {
+      run = record {
         ends = ends_by_tail c.end_ahead.result (outputs_of (g.K.Sink.written c.end_ahead.new.sink) (g.N.Sink.written c.end_ahead.new.notes))
             (closing_text c.args.job.now.settings (g.A.EventApp.name_of c.args.job.now.app) c.next.new.self.engine c.turns.tally) p (ap (λ (v : PipeView _). v.rans) got.0 ∙ got.1) over
             (closing_there c.args.job.now.settings (g.A.EventApp.name_of c.args.job.now.app) c.next.new.self.engine c.turns.tally _ p.layout) c.end_ahead.ensures.ends;

@@ -6,8 +6,8 @@ use Rattle.batch_pipe.specs.declared.tail.Tail.TheVariants.{Fault}
 use Rattle.batch_pipe.specs.Courses.{steps_left}
 use Rattle.batch_pipe.specs.PlanRuns.{manner}
 use Rattle.morph_cli.specs.Outputs.{outputs_of}
-use Rattle.morph_cli.proofs.Between.{course_of}
-use Rattle.morph_cli.proofs.Piping.{Piped}
+use Rattle.morph_cli.proofs.RunPoints.{course_of}
+use Rattle.morph_cli.proofs.PipedRuns.{Piped}
 use Rattle.morph_cli.proofs.ahead.run_ahead.Given as goal
 
 abbrev pub invariant-turns : goal.invariant-turns

@@ -1,9 +1,9 @@
 use Rattle.std.proofs.Common.{◌≡◌, map, ap, ◌∙◌, refl}
 use Rattle.std.specs.Process.{exit_status}
 use Rattle.morph_io.specs.Told.{HasRisen}
-use Rattle.morph_cli.specs.Outputs.{outputs_of}
+use Rattle.morph_cli.specs.Streams.{fault_counts, streams_of}
 use Rattle.morph_cli.specs.Words.{words_behind}
-use Rattle.morph_cli.proofs.Starting.{at_ok, along, AsksBy, no_memory_asks, HeadlineBy, UsageBy, CompletesBy, MadeBy, ToldBy, UntouchedBy, UnreadBy, WriteBy, usage_along, tally_told, no_memory, no_memory_completes, no_memory_made, no_memory_told, no_memory_notes, no_memory_unread, no_memory_write}
+use Rattle.morph_cli.proofs.ProgramClauses.{at_ok, along, AsksBy, no_memory_asks, HeadlineBy, UsageBy, CompletesBy, MadeBy, RunBy, UntouchedBy, UnreadBy, WriteBy, usage_along, some_tally, no_memory, no_memory_completes, no_memory_made, no_memory_run, no_memory_notes, no_memory_unread, no_memory_write}
 use Rattle.morph_cli.proofs.arguments.program.Goals as goal
 
 -- ---- no memory for the words
@@ -39,18 +39,17 @@ returns-in_default-words_of-clause-made g c =
     at_ok c.args.args c.in-Ok.args c.in-Ok.is (λ args. MadeBy (c.args.source.now ≡ c.args.source.now) (words_behind args.items) status)
     (no_memory_made (c.args.source.now ≡ c.args.source.now) (words_behind c.in-Ok.args.items) status c.end_without_memory-in_default-words_of.ensures.status refl)
 
-pub returns-in_default-words_of-clause-told : goal.returns-in_default-words_of-clause-told
-returns-in_default-words_of-clause-told g c =
-    let told = g.S.Source.left c.args.source.now in
+pub returns-in_default-words_of-clause-run : goal.returns-in_default-words_of-clause-run
+returns-in_default-words_of-clause-run g c =
+    let left = g.S.Source.left c.args.source.now in
     let sink = g.K.Sink.written c.args.sink.now in
-    let sunk = HasRisen (g.K.Sink.faults c.args.sink.now) (g.K.Sink.faults c.args.sink.now) in
     let old = g.N.Sink.written c.args.notes.now in
     let new = g.N.Sink.written c.end_without_memory-in_default-words_of.new.notes in
-    let before = g.N.Sink.faults c.args.notes.now in
-    let after = g.N.Sink.faults c.end_without_memory-in_default-words_of.new.notes in
+    let before = fault_counts (g.S.Source.faults c.args.source.now) (g.K.Sink.faults c.args.sink.now) (g.N.Sink.faults c.args.notes.now) in
+    let last = g.N.Sink.faults c.end_without_memory-in_default-words_of.new.notes in
     let status = exit_status c.end_without_memory-in_default-words_of.result in
-    at_ok c.args.args c.in-Ok.args c.in-Ok.is (λ args. ToldBy told (outputs_of sink old) (outputs_of sink new) sunk before after (words_behind args.items) status)
-    (no_memory_told told sink old new sunk before after (words_behind c.in-Ok.args.items) status c.end_without_memory-in_default-words_of.ensures.status c.end_without_memory-in_default-words_of.ensures.note)
+    at_ok c.args.args c.in-Ok.args c.in-Ok.is (λ args. RunBy left (streams_of left sink old before) (streams_of left sink new (record before { notes = last })) (words_behind args.items) status)
+    (no_memory_run left (streams_of left sink old before) new last (words_behind c.in-Ok.args.items) status c.end_without_memory-in_default-words_of.ensures.status c.end_without_memory-in_default-words_of.ensures.note)
 
 -- ---- what the call says
 
@@ -95,18 +94,17 @@ returns-clause-made g c =
     (along (MadeBy (c.morph-ended.new.source ≡ c.args.source.now)) (map (λ word. word.items) c.as_slice.result.now) (words_behind c.in-Ok.args.items) c.morph-ended.result.status (exit_status c.from.result)
     (ap (map (λ word. word.items)) c.as_slice.ensures ∙ c.in-Ok-words_of.ensures ∙ ap words_behind c.deref.ensures.value) c.from.ensures c.morph-ended.ensures.made)
 
-pub returns-clause-told : goal.returns-clause-told
-returns-clause-told g c =
-    let told = g.S.Source.left c.args.source.now in
-    let sunk = HasRisen (g.K.Sink.faults c.args.sink.now) (g.K.Sink.faults c.morph-ended.new.sink) in
-    let old = outputs_of (g.K.Sink.written c.args.sink.now) (g.N.Sink.written c.args.notes.now) in
-    let new = outputs_of (g.K.Sink.written c.morph-ended.new.sink) (g.N.Sink.written c.morph-ended.new.notes) in
-    let before = g.N.Sink.faults c.args.notes.now in
-    let after = g.N.Sink.faults c.morph-ended.new.notes in
-    at_ok c.args.args c.in-Ok.args c.in-Ok.is (λ args. ToldBy told old new sunk before after (words_behind args.items) (exit_status c.from.result))
-    (along (ToldBy told old new sunk before after) (map (λ word. word.items) c.as_slice.result.now) (words_behind c.in-Ok.args.items) c.morph-ended.result.status (exit_status c.from.result)
+pub returns-clause-run : goal.returns-clause-run
+returns-clause-run g c =
+    let left = g.S.Source.left c.args.source.now in
+    let before = streams_of left (g.K.Sink.written c.args.sink.now) (g.N.Sink.written c.args.notes.now)
+    (fault_counts (g.S.Source.faults c.args.source.now) (g.K.Sink.faults c.args.sink.now) (g.N.Sink.faults c.args.notes.now)) in
+    let after = streams_of (g.S.Source.left c.morph-ended.new.source) (g.K.Sink.written c.morph-ended.new.sink) (g.N.Sink.written c.morph-ended.new.notes)
+    (fault_counts (g.S.Source.faults c.morph-ended.new.source) (g.K.Sink.faults c.morph-ended.new.sink) (g.N.Sink.faults c.morph-ended.new.notes)) in
+    at_ok c.args.args c.in-Ok.args c.in-Ok.is (λ args. RunBy left before after (words_behind args.items) (exit_status c.from.result))
+    (along (RunBy left before after) (map (λ word. word.items) c.as_slice.result.now) (words_behind c.in-Ok.args.items) c.morph-ended.result.status (exit_status c.from.result)
     (ap (map (λ word. word.items)) c.as_slice.ensures ∙ c.in-Ok-words_of.ensures ∙ ap words_behind c.deref.ensures.value) c.from.ensures
-    (tally_told told old new sunk before after (map (λ word. word.items) c.as_slice.result.now) c.morph-ended.result.status c.morph-ended.result.tally c.morph-ended.ensures.told))
+    (some_tally left before after (map (λ word. word.items) c.as_slice.result.now) c.morph-ended.result.status c.morph-ended.result.tally c.morph-ended.ensures.run))
 
 pub returns-clause-write : goal.returns-clause-write
 returns-clause-write g c =

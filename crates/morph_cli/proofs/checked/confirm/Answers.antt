@@ -1,7 +1,7 @@
 use Rattle.std.proofs.Common.{sym, subst, ◌∙◌}
 use Rattle.morph_engine.specs.Accounts.{account_of}
 use Rattle.run_checker.specs.Answers.{Answers}
-use Rattle.morph_cli.proofs.Checking.{answer_is, checked_cut, checked_yes}
+use Rattle.morph_cli.proofs.JournalChecks.{answer_is, checked_cut, checked_yes}
 use Rattle.morph_cli.proofs.checked.confirm.Goals as goal
 
 pub returns-then-is_cut : goal.returns-then-is_cut

@@ -1,4 +1,4 @@
-use Rattle.morph_cli.proofs.Noting.{unwatched_notes}
+use Rattle.morph_cli.proofs.NoteLaws.{unwatched_notes}
 use Rattle.morph_cli.proofs.laws.unwatched_runs_have_no_audit_lines.Goals as goal
 
 pub returns : goal.returns

@@ -6,9 +6,9 @@ use Rattle.morph_base.specs.Flat.{contents}
 use Rattle.morph_base.specs.States.{IsUpTo}
 use Rattle.morph_cli.specs.Batches.{IsShown}
 use Rattle.morph_cli.specs.Outputs.{outputs_of}
-use Rattle.morph_cli.specs.RunContract.{fault_counts}
-use Rattle.morph_cli.proofs.Between.{Between, course_of}
-use Rattle.morph_cli.proofs.Calling.{Called}
+use Rattle.morph_cli.specs.Streams.{fault_counts}
+use Rattle.morph_cli.proofs.RunPoints.{Between, course_of}
+use Rattle.morph_cli.proofs.ReaderCalls.{Called}
 use Rattle.morph_cli.proofs.run.run_batches.Given as goal
 
 abbrev pub invariant-batches : goal.invariant-batches

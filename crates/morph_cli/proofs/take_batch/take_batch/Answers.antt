@@ -1,7 +1,7 @@
 use Rattle.std.proofs.Common.{ap, ◌∙◌}
 use Rattle.morph_base.specs.Flat.{contents}
 use Rattle.morph_engine.specs.Accounts.{account_of}
-use Rattle.morph_cli.proofs.Takings.{takes_told}
+use Rattle.morph_cli.proofs.TakenBatches.{takes_told}
 use Rattle.morph_cli.proofs.Watches.{may_publish}
 use Rattle.morph_cli.proofs.take_batch.take_batch.Goals as goal
 
@@ -15,7 +15,7 @@ tell_and_publish-requires-clause-bases g c =
 
 pub returns-clause-takes : goal.returns-clause-takes
 returns-clause-takes g c =
-    takes_told _ _ _ _ _ (record { end = c.in_ok-ran.ran.end; audit = c.in_ok-ran.ran.audit; ran = c.in_ok-ran.ensures.ran; seen = c.in_ok-ran.ensures.audit; adds = c.tell_and_publish.ensures.adds })
+    takes_told _ _ _ _ (record { end = c.in_ok-ran.ran.end; audit = c.in_ok-ran.ran.audit; ran = c.in_ok-ran.ensures.ran; seen = c.in_ok-ran.ensures.audit; adds = c.tell_and_publish.ensures.adds })
     (ap contents c.tell_and_publish.ensures.engine ∙ c.in_ok-ran.ensures.state) c.in_ok-ran.ensures.watching c.tell_and_publish.result c.tell_and_publish.ensures.tells
 
 pub returns-clause-steady : goal.returns-clause-steady

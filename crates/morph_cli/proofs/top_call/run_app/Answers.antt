@@ -2,17 +2,17 @@ use Rattle.std.proofs.Common.{sym, subst}
 use Rattle.run_text.specs.declared.choices.App.TheVariants.{Ledger, Grep, Toll}
 use Rattle.morph_cli.specs.Apps.{event_in}
 use Rattle.morph_cli.specs.Calls.{IsReadBy}
-use Rattle.morph_cli.proofs.Making.{does_in_app}
+use Rattle.morph_cli.proofs.Inputs.{does_in_app}
 use Rattle.morph_cli.proofs.top_call.run_app.Goals as goal
 
-pub returns-in-Ledger-clause-does : goal.returns-in-Ledger-clause-does
-returns-in-Ledger-clause-does g c = does_in_app c.args.settings (g.S.Source.left c.args.source.now) Ledger c.in-Ledger.is c.run_over.ensures.does
+pub returns-in-Ledger-clause-run : goal.returns-in-Ledger-clause-run
+returns-in-Ledger-clause-run g c = does_in_app c.args.settings (g.S.Source.left c.args.source.now) Ledger c.in-Ledger.is c.run_over.ensures.run
 
-pub returns-in-Grep-clause-does : goal.returns-in-Grep-clause-does
-returns-in-Grep-clause-does g c = does_in_app c.args.settings (g.S.Source.left c.args.source.now) Grep c.in-Grep.is c.run_over-in-Grep.ensures.does
+pub returns-in-Grep-clause-run : goal.returns-in-Grep-clause-run
+returns-in-Grep-clause-run g c = does_in_app c.args.settings (g.S.Source.left c.args.source.now) Grep c.in-Grep.is c.run_over-in-Grep.ensures.run
 
-pub returns-in-Toll-clause-does : goal.returns-in-Toll-clause-does
-returns-in-Toll-clause-does g c = does_in_app c.args.settings (g.S.Source.left c.args.source.now) Toll c.in-Toll.is c.run_over-in-Toll.ensures.does
+pub returns-in-Toll-clause-run : goal.returns-in-Toll-clause-run
+returns-in-Toll-clause-run g c = does_in_app c.args.settings (g.S.Source.left c.args.source.now) Toll c.in-Toll.is c.run_over-in-Toll.ensures.run
 
 pub returns-in-Ledger-clause-asks : goal.returns-in-Ledger-clause-asks
 returns-in-Ledger-clause-asks g c none =

@@ -12,7 +12,9 @@ use Rattle.run_text.specs.declared.choices.App.{App}
 use Rattle.run_text.specs.declared.choices.Generated.{Generated}
 use Rattle.run_text.specs.declared.choices.Settings.{Settings}
 use Rattle.morph_cli.specs.Apps.{drawn_in, event_in, input_by, left_by, name_in, tables_in}
-use Rattle.morph_cli.specs.RunContract.{FaultCounts, RunDoes, Streams, fault_counts, request_in, request_of, streams_of}
+use Rattle.morph_cli.specs.Requests.{request_in, request_of}
+use Rattle.morph_cli.specs.RunContract.{RunDoes}
+use Rattle.morph_cli.specs.Streams.{FaultCounts, Streams, fault_counts, streams_of}
 use Rattle.morph_cli.specs.Runs.{EndsSo, EndsMade}
 use Rattle.run_text.specs.declared.tally.Tally.{Tally}
 use Rattle.run_text.specs.Text.{Telling}

@@ -5,7 +5,7 @@ use Rattle.morph_io.specs.Told.{behind, AppendsPrefix, HasRisen}
 use Rattle.morph_io.specs.SinkWrites.{AppendsPart, part_is_prefix}
 use Rattle.morph_cli.specs.Outputs.{Outputs, outputs_of, with_both, IsCutIn, WritesBoth}
 use Rattle.morph_cli.specs.Status.{EndsWith}
-use Rattle.morph_cli.proofs.Noting.{prefix_all}
+use Rattle.morph_cli.proofs.NoteLaws.{prefix_all}
 
 -- outputs by what stands in each
 pub both_is : (told : Outputs) (sink notes : Option (List ℕ)) → told.sink ≡ sink → told.notes ≡ notes → told ≡ outputs_of sink notes

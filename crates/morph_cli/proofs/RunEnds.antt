@@ -20,20 +20,20 @@ use Rattle.morph_cli.specs.declared.fault.Fault.{Fault}
 use Rattle.morph_cli.specs.declared.fault.Fault.TheVariants.{Read, Write, OutOfMemory, TooLong}
 use Rattle.morph_cli.specs.declared.run.Finish.{Finish}
 use Rattle.morph_cli.specs.declared.run.Finish.TheVariants.{Complete, Refused}
-use Rattle.run_text.specs.Notes.{noted, closing_notes}
 use Rattle.snapshot_reader.specs.declared.viewer.Total.{Total}
-use Rattle.morph_cli.specs.Outputs.{Outputs, note_of, with_both, with_batches, AreAudits, IsCutIn, IsAtLast}
+use Rattle.morph_cli.specs.Outputs.{Outputs, note_of, closing_note, with_both, with_batches, AreAudits, IsCutIn, IsAtLast}
+use Rattle.morph_cli.specs.Requests.{Request}
 use Rattle.morph_cli.specs.Runs.{EndsSo}
 use Rattle.morph_cli.specs.Status.{status_of}
 use Rattle.run_text.specs.Counts.{CountsBatch, no_tally}
 use Rattle.morph_cli.specs.Strategies.{strategy_by}
 use Rattle.morph_cli.specs.Tallies.{IsMadeOf, IsSoundAccount, RunTold, IsChecked}
 use Rattle.run_text.specs.Text.{Telling, event_lines, told_lines, run_state, end_text}
-use Rattle.morph_cli.proofs.Noting.{IsNoted, notes_of, noted_nothing, noted_more, IsAudit, told_note, told_note_is, no_audits, audits_more, as_many, checked_more}
-use Rattle.morph_cli.proofs.Running.{RunsOn, IsLast, fronts, runs_start, runs_batch, runs_ended, runs_done, runs_cut, runs_short, runs_cut_in_batch, whole_more, told_more, last_is}
-use Rattle.morph_cli.proofs.Taking.{TakesOn, takes_failed}
-use Rattle.morph_cli.proofs.Tallying.{Tallied, last_after, tallied_start, tallied_more}
-use Rattle.morph_cli.proofs.Turns.{both_is, both_as, cut_as}
+use Rattle.morph_cli.proofs.NoteLaws.{IsNoted, notes_of, noted_nothing, noted_more, IsAudit, told_note, told_note_is, no_audits, audits_more, as_many, checked_more}
+use Rattle.morph_cli.proofs.RunTexts.{RunsOn, IsLast, fronts, runs_start, runs_batch, runs_ended, runs_done, runs_cut, runs_short, runs_cut_in_batch, whole_more, told_more, last_is}
+use Rattle.morph_cli.proofs.TakenBytes.{TakesOn, takes_failed}
+use Rattle.morph_cli.proofs.TallyLaws.{Tallied, last_after, tallied_start, tallied_more}
+use Rattle.morph_cli.proofs.OutputLaws.{both_is, both_as, cut_as}
 
 -- what is given of a run: what the application's lines say, how many ids each of its tables has, how many bytes of the input are read, how the run is
 -- told, its settings, the input, and what stood in the outputs before
@@ -117,12 +117,15 @@ module _ {App : Type 0} where
   abbrev pub accepted_in : Course App → Option Accepted
   accepted_in c = option_map (accepted_within (meaning_in c) c.limit) c.input
 
+  abbrev pub asked_in : Course App → Request
+  asked_in c = record { meaning = meaning_in c; telling = c.telling; settings = c.settings; input = c.input }
+
   -- how the run ends, and what is told of it
   abbrev pub Ends : Course App → (left : Option (List ℕ)) → Result Finish Fault → Outputs → Type 0
   Ends c left x new = IfSome c.input (λ input. EndsSo (meaning_in c) c.telling c.limit input left c.old.sink x new.sink)
 
   abbrev pub IsTold : Course App → (status : ℕ) → Tally → Outputs → Type 0
-  IsTold c status t new = RunTold c.telling (accepted_in c) c.settings status t c.old new
+  IsTold c status t new = RunTold (asked_in c) (accepted_in c) status t c.old new
 
   -- between two batches of a run: some batches were done, and `now` are those that are still to come
   pub record Goes (c : Course App) (now : Option Accepted) (new : Outputs) (s : State) (tally : Tally) : Type 0 where
@@ -275,7 +278,7 @@ module _ {App : Type 0} where
 
   -- what was written so far
   wrote : (c : Course App) (now : Option Accepted) (new : Outputs) (s : State) (tally : Tally) (goes : Goes c now new s tally) →
-      new ≡ with_batches c.old c.telling.report c.settings goes.done goes.accounts goes.audits
+      new ≡ with_batches c.old (asked_in c) goes.done goes.accounts goes.audits
   wrote c now new s tally goes =
       both_is new (behind c.old.sink (event_lines c.telling.report goes.done)) (behind c.old.notes (notes_of c.settings goes.done goes.accounts goes.audits)) goes.runs.appended goes.noted
 
@@ -334,7 +337,7 @@ module _ {App : Type 0} where
           done_is = refl;
           accounts_is = refl;
           audits_is = refl;
-          cut = cut_as new (with_batches c.old c.telling.report c.settings goes.done goes.accounts goes.audits) (told_lines c.telling.report told)
+          cut = cut_as new (with_batches c.old (asked_in c) goes.done goes.accounts goes.audits) (told_lines c.telling.report told)
               (told_lines c.telling.report (fates (run_state goes.done) (by_time batch))) (told_note c.settings tally'.batches audit a)
               (note_of c.settings (run_state goes.done) (length goes.done) (is_some audit) a) newer
               (wrote c now new s tally goes)
@@ -363,7 +366,7 @@ module _ {App : Type 0} where
   -- the text and the tally were written there
   pub told_at_end : {c : Course App} {now : Option Accepted} {new : Outputs} {s : State} {tally : Tally} (newer : Outputs) (status : ℕ) (ending : Ending) (text : List ℕ) →
       (status ≡ 0) ⊎ (status ≡ 3) → (ending ≡ CutOff → ⊥) → Goes c now new s tally → IfSome now (IsOver ending) →
-      IsLast c.telling s tally ending text → newer ≡ with_both new text (noted c.settings.notes (closing_notes c.settings.workers tally)) → IsTold c status tally newer
+      IsLast c.telling s tally ending text → newer ≡ with_both new text (closing_note c.settings tally) → IsTold c status tally newer
   told_at_end {c} {now} {new} {s} {tally} newer status ending text ends reached goes over last written = record {
     done = goes.done;
     rest = [];
@@ -379,7 +382,7 @@ module _ {App : Type 0} where
     balanced = goes.tallied.balanced;
     whole = λ is. (
       at_last c now new s tally ending reached goes over,
-      both_as new (with_batches c.old c.telling.report c.settings goes.done goes.accounts goes.audits) text (end_text c.telling goes.done ending) (noted c.settings.notes (closing_notes c.settings.workers tally)) (noted c.settings.notes (closing_notes c.settings.workers tally)) newer
+      both_as new (with_batches c.old (asked_in c) goes.done goes.accounts goes.audits) text (end_text c.telling goes.done ending) (closing_note c.settings tally) (closing_note c.settings tally) newer
           (wrote c now new s tally goes) (text_is c now new s tally ending text goes last) refl written,
     );
     short = λ is. absurd (whole_not_short status ends is);
@@ -389,7 +392,7 @@ module _ {App : Type 0} where
   -- a write failed there
   pub told_cut_at_end : {c : Course App} {now : Option Accepted} {new : Outputs} {s : State} {tally : Tally} {x : Result Finish Fault} (newer : Outputs) (ending : Ending) (text : List ℕ) →
       x ≡ Err Write → (ending ≡ CutOff → ⊥) → Goes c now new s tally → IfSome now (IsOver ending) →
-      IsLast c.telling s tally ending text → IsCutIn new text (noted c.settings.notes (closing_notes c.settings.workers tally)) newer → IsTold c (status_of x) tally newer
+      IsLast c.telling s tally ending text → IsCutIn new text (closing_note c.settings tally) newer → IsTold c (status_of x) tally newer
   told_cut_at_end {c} {now} {new} {s} {tally} {x} newer ending text failed reached goes over last cut = subst (λ y. IsTold c (status_of y) tally newer) (sym failed) (record {
     done = goes.done;
     rest = [];
@@ -407,7 +410,7 @@ module _ {App : Type 0} where
     short = λ is. absurd (write_not_short 5 refl is);
     cut = λ is. inr (
       at_last c now new s tally ending reached goes over,
-      cut_as new (with_batches c.old c.telling.report c.settings goes.done goes.accounts goes.audits) text (end_text c.telling goes.done ending) (noted c.settings.notes (closing_notes c.settings.workers tally)) (noted c.settings.notes (closing_notes c.settings.workers tally)) newer
+      cut_as new (with_batches c.old (asked_in c) goes.done goes.accounts goes.audits) text (end_text c.telling goes.done ending) (closing_note c.settings tally) (closing_note c.settings tally) newer
           (wrote c now new s tally goes) (text_is c now new s tally ending text goes last) refl cut,
     );
   })

@@ -11,7 +11,7 @@ use Rattle.event_reader.specs.declared.past.Past.{Past}
 use Rattle.event_reader.specs.Reader.{LinesView, new_lines, no_past, accepted_next, TakesBytes, ShowsBatch}
 use Rattle.run_text.specs.Text.{Telling, event_lines}
 use Rattle.morph_cli.specs.Runs.{AppendsClosed}
-use Rattle.morph_cli.proofs.Running.{fronts, with_batch-fronts}
+use Rattle.morph_cli.proofs.RunTexts.{fronts, with_batch-fronts}
 
 -- the bytes taken so far: while the source has not come to its end, what they decide, whatever follows, is what was done
 -- and what the reader has still to give

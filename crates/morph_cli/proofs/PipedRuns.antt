@@ -46,13 +46,13 @@ use Rattle.morph_cli.specs.Outputs.{Outputs, with_both, IsCutIn}
 use Rattle.morph_cli.specs.Status.{status_of}
 use Rattle.morph_cli.specs.Strategies.{strategy_by}
 use Rattle.morph_cli.specs.Tallies.{IsMadeOf, IsSoundAccount}
-use Rattle.morph_cli.proofs.Between.{room_for, meaning_is}
-use Rattle.morph_cli.proofs.Taking.{TakesOn}
-use Rattle.morph_cli.proofs.Turns.{cut_text}
-use Rattle.morph_cli.proofs.Ending.{Course, Goes, Ends, IsTold, meaning_in, accepted_in, ends_read, ends_long, ends_memory, given_at_start, goes_start, goes_batch, ends_batch_cut, told_in_batch, IsChosen}
-use Rattle.morph_cli.proofs.Noting.{told_note, unseen}
-use Rattle.morph_cli.proofs.Running.{RunsOn, fronts, option_map-same, option_map-twice, with_batch-fronts}
-use Rattle.morph_cli.proofs.Tallying.{last_after, last_is, last_start}
+use Rattle.morph_cli.proofs.RunPoints.{room_for, meaning_is}
+use Rattle.morph_cli.proofs.TakenBytes.{TakesOn}
+use Rattle.morph_cli.proofs.OutputLaws.{cut_text}
+use Rattle.morph_cli.proofs.RunEnds.{Course, Goes, Ends, IsTold, meaning_in, accepted_in, ends_read, ends_long, ends_memory, given_at_start, goes_start, goes_batch, ends_batch_cut, told_in_batch, IsChosen}
+use Rattle.morph_cli.proofs.NoteLaws.{told_note, unseen}
+use Rattle.morph_cli.proofs.RunTexts.{RunsOn, fronts, option_map-same, option_map-twice, with_batch-fronts}
+use Rattle.morph_cli.proofs.TallyLaws.{last_after, last_is, last_start}
 
 -- batches put in front of some, behind others
 fronts_both : (xs ys : List (List Transaction)) (all : Accepted) → fronts xs (fronts ys all) ≡ fronts (xs ++ ys) all

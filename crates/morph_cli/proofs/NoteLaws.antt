@@ -23,7 +23,7 @@ use Rattle.morph_cli.specs.Outputs.{AreAudits, has_notes, audit_before, audit_of
 use Rattle.run_text.specs.declared.choices.Planning.{Planning}
 use Rattle.decision_model.specs.Choices.{last_of}
 use Rattle.morph_cli.specs.Tallies.{AreRunFrom, IsChecked}
-use Rattle.morph_cli.proofs.Tallying.{Tallied}
+use Rattle.morph_cli.proofs.TallyLaws.{Tallied}
 
 -- the notes of one batch more
 notes_more : (s : Settings) (state : State) (before : ℕ) (done : List (List Transaction)) (accounts : List Account) (audits : List Bool) (batch : List Transaction) (a : Account) (audited : Bool) →

@@ -1,29 +1,30 @@
 -- What is said of the program, from what is said of the call.
 use Rattle.std.proofs.Common.{◌≡◌, ◌⊎◌, inl, inr, ℕ, List, [], ◌++◌, Option, Some, None, Result, Ok, Err, refl, ap, sym, ◌∙◌, subst, arith}
 use Rattle.std.proofs.lemmas.List.Elements.{All-nil}
-use Rattle.std.specs.Prelude.{option_map, IsSome, IfSome, IfOk, IsTrue}
+use Rattle.std.specs.Prelude.{IsSome, IfSome, IfOk, IsTrue}
 use Rattle.morph_base.specs.Transactions.{Transaction}
 use Rattle.morph_io.specs.declared.source.ReadFailed.{ReadFailed}
 use Rattle.morph_io.specs.Told.{behind, behind_nil}
-use Rattle.event_reader.specs.Accepted.{Accepted, accepted, accepted_within}
+use Rattle.event_reader.specs.Accepted.{Accepted, accepted_within}
 use Rattle.run_text.specs.declared.choices.Settings.{Settings}
-use Rattle.run_text.specs.declared.report.Report.{Report}
 use Rattle.run_text.specs.declared.tally.Tally.{Tally}
 use Rattle.run_text.specs.Counts.{no_tally}
 use Rattle.run_text.specs.Settings.{settings_of}
-use Rattle.run_text.specs.Text.{Telling, event_lines}
+use Rattle.run_text.specs.Text.{event_lines}
 use Rattle.morph_cli.specs.declared.fault.Fault.TheVariants.{OutOfMemory}
 use Rattle.morph_cli.specs.Apps.{input_of, left_by, meaning_of, telling_of}
 use Rattle.morph_cli.specs.Headline.{Headline, Completes, input_limit}
 use Rattle.morph_cli.specs.Outputs.{Outputs, has_notes, outputs_of, with_batches, notes_from}
+use Rattle.morph_cli.specs.Requests.{Request, request_in}
+use Rattle.morph_cli.specs.Streams.{Streams, streams_of}
 use Rattle.morph_cli.specs.Status.{IsMadeStatus, EndsNotes}
 use Rattle.morph_cli.specs.Tallies.{RunTold, CallTold, IsChecked}
 use Rattle.morph_cli.specs.Calls.{IsReadBy}
-use Rattle.morph_cli.proofs.Calling.{unread_by}
+use Rattle.morph_cli.proofs.ReaderCalls.{unread_by}
 use Rattle.morph_cli.proofs.Headlines.{headline}
-use Rattle.morph_cli.proofs.Noting.{no_audits}
-use Rattle.morph_cli.proofs.Running.{nothing_told}
-use Rattle.morph_cli.proofs.Tallying.{tallied_start}
+use Rattle.morph_cli.proofs.NoteLaws.{no_audits}
+use Rattle.morph_cli.proofs.RunTexts.{nothing_told}
+use Rattle.morph_cli.proofs.TallyLaws.{tallied_start}
 
 pub at_ok : {T E : Type 0} (r : Result T E) (x : T) → r ≡ Ok x → (P : T → Type 0) → P x → IfOk r P
 at_ok r x is P holds = subst (λ r. IfOk r P) (sym is) holds
@@ -50,9 +51,8 @@ AsksBy left_of reads source source' words status = IfSome (settings_of words) (�
 abbrev pub MadeBy : (Same : Type 0) → (words : List (List ℕ)) → (status : ℕ) → Type 0
 MadeBy Same words status = IfSome (settings_of words) (λ s. IsSome s.generated → Same × IsMadeStatus status)
 
-abbrev pub ToldBy : (told : Option (List ℕ)) → (old new : Outputs) → (Sunk : Type 0) → (faults faults' : ℕ) → (words : List (List ℕ)) → (status : ℕ) → Type 0
-ToldBy told old new Sunk faults faults' words status =
-    IfSome (settings_of words) (λ s. (t : Tally) × CallTold (telling_of s) (option_map (accepted (meaning_of s)) (input_of s told)) s status t old new Sunk faults faults')
+abbrev pub RunBy : (left : Option (List ℕ)) → (before after : Streams) → (words : List (List ℕ)) → (status : ℕ) → Type 0
+RunBy left before after words status = IfSome (settings_of words) (λ s. (t : Tally) × CallTold (request_in s left) status t before after)
 
 abbrev pub UntouchedBy : {S K : Type 0} → (source source' : S) → (sink sink' : K) → (old new : Option (List ℕ)) → (faults faults' : ℕ) → (words : List (List ℕ)) → (status : ℕ) → Type 0
 UntouchedBy source source' sink sink' old new faults faults' words status =
@@ -72,12 +72,11 @@ pub usage_along : (words words' : List (List ℕ)) (status status' : ℕ) → wo
 usage_along words words' status status' same is holds = along UsageBy words words' status status' same is (holds.0, λ none. inl (holds.1 none))
 
 -- the tally of a call is some tally
-pub tally_told : (told : Option (List ℕ)) (old new : Outputs) (Sunk : Type 0) (faults faults' : ℕ) (words : List (List ℕ)) (status : ℕ) (t : Tally)
-    → IfSome (settings_of words) (λ s. CallTold (telling_of s) (option_map (accepted (meaning_of s)) (input_of s told)) s status t old new Sunk faults faults') → ToldBy told old new Sunk faults faults' words status
-tally_told told old new Sunk faults faults' words status t holds = by_settings (settings_of words) holds
+pub some_tally : (left : Option (List ℕ)) (before after : Streams) (words : List (List ℕ)) (status : ℕ) (t : Tally)
+    → IfSome (settings_of words) (λ s. CallTold (request_in s left) status t before after) → RunBy left before after words status
+some_tally left before after words status t holds = by_settings (settings_of words) holds
   where
-    by_settings : (o : Option Settings) → IfSome o (λ s. CallTold (telling_of s) (option_map (accepted (meaning_of s)) (input_of s told)) s status t old new Sunk faults faults')
-        → IfSome o (λ s. (t : Tally) × CallTold (telling_of s) (option_map (accepted (meaning_of s)) (input_of s told)) s status t old new Sunk faults faults')
+    by_settings : (o : Option Settings) → IfSome o (λ s. CallTold (request_in s left) status t before after) → IfSome o (λ s. (t : Tally) × CallTold (request_in s left) status t before after)
     by_settings None holds = tt
     by_settings (Some s) holds = (t, holds)
 
@@ -122,11 +121,11 @@ pub no_memory_made : (Same : Type 0) (words : List (List ℕ)) (status : ℕ) �
 no_memory_made Same words status is same = for_some (λ s. IsSome s.generated → Same × IsMadeStatus status) (settings_of words) (λ s made. (same, inr (inr is)))
 
 -- no batch was run
-nothing_written : (report : Report) (s : Settings) (old : Outputs) → old ≡ with_batches old report s [] [] []
+nothing_written : (asked : Request) (old : Outputs) → old ≡ with_batches old asked [] [] []
 unfolding notes_from
-nothing_written report s old =
-    ap (λ sink. outputs_of sink old.notes) (sym (behind_nil old.sink) ∙ ap (behind old.sink) (nothing_told report))
-    ∙ ap (outputs_of (behind old.sink (event_lines report []))) (sym (behind_nil old.notes))
+nothing_written asked old =
+    ap (λ sink. outputs_of sink old.notes) (sym (behind_nil old.sink) ∙ ap (behind old.sink) (nothing_told asked.telling.report))
+    ∙ ap (outputs_of (behind old.sink (event_lines asked.telling.report []))) (sym (behind_nil old.notes))
 
 abbrev batches_of : Option Accepted → List (List Transaction)
 batches_of None = []
@@ -136,9 +135,9 @@ are_left : (told : Option Accepted) → IfSome told (λ all. all.batches ≡ [] 
 are_left None = tt
 are_left (Some all) = refl
 
-told_unrun : (telling : Telling) (told : Option Accepted) (s : Settings) (old : Outputs) → RunTold telling told s 6 no_tally old old
-told_unrun telling told s old =
-    let tallied = tallied_start s.planning s.workers no_tally refl in
+told_unrun : (asked : Request) (told : Option Accepted) (old : Outputs) → RunTold asked told 6 no_tally old old
+told_unrun asked told old =
+    let tallied = tallied_start asked.settings.planning asked.settings.workers no_tally refl in
     record {
       done = [];
       rest = batches_of told;
@@ -146,32 +145,33 @@ told_unrun telling told s old =
       audits = [];
       parts = are_left told;
       ran = tallied.ran;
-      audited = no_audits s;
+      audited = no_audits asked.settings;
       sound = tallied.sound;
       checked = λ on. All-nil IsChecked;
       counts = tallied.counts;
       founded = tallied.founded;
       balanced = tallied.balanced;
       whole = λ is. elim is [ inl none ↦ absurd (omega (arith, none)) | inr refused ↦ absurd (omega (arith, refused)) ];
-      short = λ is. nothing_written telling.report s old;
+      short = λ is. nothing_written asked old;
       cut = λ five. absurd (omega (arith, five));
     }
 
 pub no_memory_notes : (old new : Option (List ℕ)) (faults faults' status : ℕ) → status ≡ 6 → EndsNotes 6 old new faults faults' → EndsNotes status old new faults faults'
 no_memory_notes old new faults faults' status is noted = subst (λ n. EndsNotes n old new faults faults') (sym is) noted
 
-pub no_memory_told : (told sink old new : Option (List ℕ)) (Sunk : Type 0) (faults faults' : ℕ) (words : List (List ℕ)) (status : ℕ) → status ≡ 6 → EndsNotes 6 old new faults faults'
-    → ToldBy told (outputs_of sink old) (outputs_of sink new) Sunk faults faults' words status
-no_memory_told told sink old new Sunk faults faults' words status is noted =
-    for_some (λ s. (t : Tally) × CallTold (telling_of s) (option_map (accepted (meaning_of s)) (input_of s told)) s status t (outputs_of sink old) (outputs_of sink new) Sunk faults faults') (settings_of words)
+pub no_memory_run : (left : Option (List ℕ)) (before : Streams) (notes : Option (List ℕ)) (last : ℕ) (words : List (List ℕ)) (status : ℕ) → status ≡ 6 → EndsNotes 6 before.outputs.notes notes before.faults.notes last
+    → RunBy left before (streams_of before.left before.outputs.sink notes (record before.faults { notes = last })) words status
+no_memory_run left before notes last words status is noted =
+    let after : Streams = streams_of before.left before.outputs.sink notes (record before.faults { notes = last }) in
+    for_some (λ s. (t : Tally) × CallTold (request_in s left) status t before after) (settings_of words)
     (λ s. (
       no_tally,
-      subst (λ n. CallTold (telling_of s) (option_map (accepted (meaning_of s)) (input_of s told)) s n no_tally (outputs_of sink old) (outputs_of sink new) Sunk faults faults') (sym is)
+      subst (λ n. CallTold (request_in s left) n no_tally before after) (sym is)
           (record {
-            ran = outputs_of sink old;
-            run = told_unrun (telling_of s) (option_map (accepted (meaning_of s)) (input_of s told)) s (outputs_of sink old);
+            ran = before.outputs;
+            run = told_unrun (request_in s left) _ before.outputs;
             sink = refl;
-            before = faults;
+            before_last = before.faults.notes;
             cause = λ five. absurd (omega (arith, five));
             steady = λ other. refl;
             last = noted;

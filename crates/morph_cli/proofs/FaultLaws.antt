@@ -14,9 +14,11 @@ use Rattle.morph_cli.specs.declared.fault.Fault.TheVariants.{Read, Write, OutOfM
 use Rattle.morph_cli.specs.declared.run.Finish.{Finish}
 use Rattle.morph_cli.specs.Faults.{fault_of}
 use Rattle.morph_cli.specs.Outputs.{has_notes}
-use Rattle.morph_cli.specs.RunContract.{FaultCounts, FaultsGoOn, RunDoes, Streams, fault_counts, request_of}
-use Rattle.morph_cli.proofs.Between.{course_of, ends_at_once, told_at_once}
-use Rattle.morph_cli.proofs.Takings.{error_same}
+use Rattle.morph_cli.specs.Requests.{request_of}
+use Rattle.morph_cli.specs.RunContract.{FaultsGoOn, RunDoes}
+use Rattle.morph_cli.specs.Streams.{FaultCounts, Streams, fault_counts}
+use Rattle.morph_cli.proofs.RunPoints.{course_of, ends_at_once, told_at_once}
+use Rattle.morph_cli.proofs.TakenBatches.{error_same}
 
 -- the counts are still those of the start
 pub counts_still : {k k' m m' n n' : ℕ} {f : FaultCounts} → k' ≡ k → m' ≡ m → n' ≡ n → fault_counts k m n ≡ f → fault_counts k' m' n' ≡ f

@@ -25,7 +25,7 @@ use Rattle.batch_pipe.specs.PlannedBatches.{Plans, StopsWithTail, MayStop, ArePl
 use Rattle.batch_pipe.specs.PlanRuns.{Manner, AreRun, state_after, last_after}
 use Rattle.decision_model.specs.Choices.{no_last}
 use Rattle.batch_pipe.specs.PipeRounds.{PipeView, IsRound, IsGoing, new_pipe, number_before, or_else}
-use Rattle.batch_pipe.specs.Courses.{IsCourse, ending_of}
+use Rattle.batch_pipe.specs.Courses.{pipe_point, pipe_start, IsCourse, ending_of}
 use Rattle.batch_pipe.proofs.Ahead.{numbered-append}
 use Rattle.batch_pipe.proofs.GivenBatches.{plans_nothing, plans_both}
 use Rattle.batch_pipe.proofs.Desks.{state_after-append, last_after-append, AreRun-append, empty_is}
@@ -47,7 +47,7 @@ split_front f g (x ∷ xs) more (y ∷ ys) e =
 
 module _ {App : Type 0} (event_of : App → ℕ → Meaning) (m : Manner) where
   pub course_start : (reader : ReaderView App) (engine : Kept) (ahead : ℕ) (left : Option (List ℕ)) →
-      IsCourse event_of m reader engine left 0 [] (new_pipe reader engine ahead) left
+      IsCourse event_of m (pipe_start reader engine left) 0 [] (pipe_point (new_pipe reader engine ahead) left)
   unfolding AreRun state_after last_after AreNumbered
   course_start reader engine ahead left = record {
     more = [];
@@ -71,9 +71,9 @@ module _ {App : Type 0} (event_of : App → ℕ → Meaning) (m : Manner) where
 
   -- what was taken out changes nothing else
   pub course_taken : {reader : ReaderView App} {engine : Kept} {left left' : Option (List ℕ)} {rounds : ℕ} {rans : List Ran} {b c : PipeView App} →
-      IsCourse event_of m reader engine left rounds rans b left' → c ≡ record b { rans = c.rans } → IsCourse event_of m reader engine left rounds rans c left'
+      IsCourse event_of m (pipe_start reader engine left) rounds rans (pipe_point b left') → c ≡ record b { rans = c.rans } → IsCourse event_of m (pipe_start reader engine left) rounds rans (pipe_point c left')
   course_taken {reader} {engine} {left} {left'} {rounds} {rans} {b} {c} p same =
-      subst (λ (v : PipeView App). IsCourse event_of m reader engine left rounds rans v left') (sym same) record {
+      subst (λ (v : PipeView App). IsCourse event_of m (pipe_start reader engine left) rounds rans (pipe_point v left')) (sym same) record {
         more = p.more;
         stop = p.stop;
         plans = p.plans;
@@ -94,8 +94,8 @@ module _ {App : Type 0} (event_of : App → ℕ → Meaning) (m : Manner) where
       }
 
   pub course_round : {reader : ReaderView App} {engine : Kept} {left left1 left2 : Option (List ℕ)} {rounds : ℕ} {rans : List Ran} {b c : PipeView App} →
-      IsCourse event_of m reader engine left rounds rans b left1 → IsGoing b → IsRound event_of m b left1 c left2 →
-      IsCourse event_of m reader engine left (rounds + 1) (rans ++ c.rans) c left2
+      IsCourse event_of m (pipe_start reader engine left) rounds rans (pipe_point b left1) → IsGoing b → IsRound event_of m b left1 c left2 →
+      IsCourse event_of m (pipe_start reader engine left) (rounds + 1) (rans ++ c.rans) (pipe_point c left2)
   course_round {reader} {engine} {left} {left1} {left2} {rounds} {rans} {b} {c} p going q = record {
     more = p.more ++ q.more;
     stop = or_else p.stop q.stop;
@@ -170,7 +170,7 @@ module _ {App : Type 0} (event_of : App → ℕ → Meaning) (m : Manner) where
           no_more (Some x) = refl
 
   module _ {reader : ReaderView App} {engine : Kept} {left left' : Option (List ℕ)} {rounds : ℕ} {rans : List Ran} {b : PipeView App}
-      (p : IsCourse event_of m reader engine left rounds rans b left') where
+      (p : IsCourse event_of m (pipe_start reader engine left) rounds rans (pipe_point b left')) where
     -- once the pipe isn't going, and no run was refused memory, all plans that were sent were run
     pub course_whole : (IsGoing b → ⊥) → b.tail ≢ Some RunMemory → (p.runs ≡ p.more) × (b.waiting ≡ [])
     course_whole done fine = by (zero_or (length b.waiting))

@@ -15,31 +15,50 @@ use Rattle.batch_pipe.specs.PlanRuns.{Manner, AreRun, state_after, last_after}
 use Rattle.decision_model.specs.Choices.{no_last}
 use Rattle.batch_pipe.specs.PipeRounds.{PipeView, IsGoing}
 
+-- How a pipe begins: with this reader and this engine, while the source has these bytes left
+pub record PipeStart (App : Type 0) : Type 0 where
+  pub reader : ReaderView App
+  pub engine : Kept
+  pub left : Option (List ℕ)
+
+-- The start with these parts
+abbrev pub pipe_start : {App : Type 0} → ReaderView App → Kept → Option (List ℕ) → PipeStart App
+pipe_start reader engine left = record { reader = reader; engine = engine; left = left }
+
+-- A pipe between two rounds, and the bytes that the source has left
+pub record PipePoint (App : Type 0) : Type 0 where
+  pub pipe : PipeView App
+  pub left : Option (List ℕ)
+
+-- The point with these parts
+abbrev pub pipe_point : {App : Type 0} → PipeView App → Option (List ℕ) → PipePoint App
+pipe_point pipe left = record { pipe = pipe; left = left }
+
 -- This many rounds of a new pipe, with this reader and engine, led to the pipe b. The plans that were sent, numbered
 -- from 1, are those of the first batches that the reader gave, in order and each once. Those that were run are the
 -- first of these, and `rans` are their results in order, whether they were taken out of the pipe or not
-pub record IsCourse {App : Type 0} (event_of : App → ℕ → Meaning) (m : Manner) (reader : ReaderView App) (engine : Kept)
-    (left : Option (List ℕ)) (rounds : ℕ) (rans : List Ran) (b : PipeView App) (left' : Option (List ℕ)) : Type 0 where
+pub record IsCourse {App : Type 0} (event_of : App → ℕ → Meaning) (m : Manner) (start : PipeStart App) (rounds : ℕ)
+    (rans : List Ran) (now : PipePoint App) : Type 0 where
   pub more : List Sent
   pub stop : Option Tail
-  pub plans : Plans event_of (stand reader left) (plans_of more) stop (stand b.reader left')
+  pub plans : Plans event_of (stand start.reader start.left) (plans_of more) stop (stand now.pipe.reader now.left)
   pub runs : List Sent
   -- The plan for which memory was refused, if there is one
   pub lost : List Sent
-  pub parts : more ≡ (runs ++ lost) ++ b.waiting
-  pub run : AreRun m (contents engine) no_last runs rans
-  pub state_is : contents b.engine ≡ state_after (contents engine) runs
-  pub last_is : b.last ≡ last_after no_last rans
-  pub sent_is : b.sent ≡ length more
+  pub parts : more ≡ (runs ++ lost) ++ now.pipe.waiting
+  pub run : AreRun m (contents start.engine) no_last runs rans
+  pub state_is : contents now.pipe.engine ≡ state_after (contents start.engine) runs
+  pub last_is : now.pipe.last ≡ last_after no_last rans
+  pub sent_is : now.pipe.sent ≡ length more
   pub numbered : AreNumbered 0 more
-  pub layout : b.engine.layout ≡ engine.layout
+  pub layout : now.pipe.engine.layout ≡ start.engine.layout
   -- If no memory was refused in running, the tail is that of the planner
-  pub whole : b.tail ≢ Some RunMemory → lost ≡ []
-  pub met : b.tail ≡ None → stop ≡ None
-  pub tail_is : b.tail ≢ Some RunMemory → b.tail ≡ stop
+  pub whole : now.pipe.tail ≢ Some RunMemory → lost ≡ []
+  pub met : now.pipe.tail ≡ None → stop ≡ None
+  pub tail_is : now.pipe.tail ≢ Some RunMemory → now.pipe.tail ≡ stop
   -- Each round but the last took a plan
   pub few : rounds ≤ length runs + length lost + 1
-  pub few_going : IsGoing b → rounds ≤ length runs
+  pub few_going : IsGoing now.pipe → rounds ≤ length runs
 
 -- A bound on the rounds that reading can still need: one, and two for each line not yet read, which may be the one of a
 -- batch; none after a tail

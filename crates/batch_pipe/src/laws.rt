@@ -10,7 +10,7 @@ ghost use Rattle.event_reader.specs.declared.fault.ReaderFault.TheVariants.{Read
 ghost use Rattle.batch_pipe.specs.declared.items.Ran.{Ran};
 ghost use Rattle.batch_pipe.specs.declared.tail.Tail.{Tail};
 ghost use Rattle.batch_pipe.specs.declared.tail.Tail.TheVariants.{Fault, RunMemory};
-ghost use Rattle.batch_pipe.specs.Courses.{IsCourse, ending_of, steps_left};
+ghost use Rattle.batch_pipe.specs.Courses.{pipe_point, pipe_start, IsCourse, ending_of, steps_left};
 ghost use Rattle.batch_pipe.specs.PlannedBatches.{ArePlansOf, plans_of};
 ghost use Rattle.batch_pipe.specs.PlanRuns.{Manner};
 ghost use Rattle.batch_pipe.specs.PipeRounds.{PipeView, IsGoing, IsRound, new_pipe};
@@ -23,17 +23,17 @@ use event_reader::EventApp;
 pub fn courses_go_on<A: EventApp>()
     ensures begins { (m : Manner) (reader : ReaderView A) (engine : Kept) (ahead : ℕ)
         (left : Option (List ℕ))
-        → IsCourse A.event_of m reader engine left 0 [] (new_pipe reader engine ahead) left }
+        → IsCourse A.event_of m (pipe_start reader engine left) 0 [] (pipe_point (new_pipe reader engine ahead) left) }
     ensures round { (m : Manner) (reader : ReaderView A) (engine : Kept)
         (left before after : Option (List ℕ)) (rounds : ℕ) (rans : List Ran) (old new : PipeView A)
-        → IsCourse A.event_of m reader engine left rounds rans old before
+        → IsCourse A.event_of m (pipe_start reader engine left) rounds rans (pipe_point old before)
         → IsGoing old → IsRound A.event_of m old before new after
-        → IsCourse A.event_of m reader engine left (rounds + 1) (rans ++ new.rans) new after }
+        → IsCourse A.event_of m (pipe_start reader engine left) (rounds + 1) (rans ++ new.rans) (pipe_point new after) }
     ensures taken { (m : Manner) (reader : ReaderView A) (engine : Kept)
         (left after : Option (List ℕ)) (rounds : ℕ) (rans : List Ran) (old new : PipeView A)
-        → IsCourse A.event_of m reader engine left rounds rans old after
+        → IsCourse A.event_of m (pipe_start reader engine left) rounds rans (pipe_point old after)
         → new ≡ record old { rans = new.rans }
-        → IsCourse A.event_of m reader engine left rounds rans new after }
+        → IsCourse A.event_of m (pipe_start reader engine left) rounds rans (pipe_point new after) }
 {}
 
 /// A run ends: each round lowers the number of rounds that there can still be, even if each result counts half a round.
@@ -45,7 +45,7 @@ pub fn rounds_are_few<A: EventApp>()
         → length new.rans + 2 * steps_left new < 2 * steps_left old }
     ensures few { (m : Manner) (reader : ReaderView A) (engine : Kept)
         (left after : Option (List ℕ)) (rounds : ℕ) (rans : List Ran) (v : PipeView A)
-        (course : IsCourse A.event_of m reader engine left rounds rans v after)
+        (course : IsCourse A.event_of m (pipe_start reader engine left) rounds rans (pipe_point v after))
         → rounds ≤ length course.plans.batches + 1 }
 {}
 
@@ -58,29 +58,29 @@ pub fn rounds_are_few<A: EventApp>()
 pub fn courses_end<A: EventApp>()
     ensures front { (m : Manner) (reader : ReaderView A) (engine : Kept)
         (left after : Option (List ℕ)) (rounds : ℕ) (rans : List Ran) (v : PipeView A)
-        (course : IsCourse A.event_of m reader engine left rounds rans v after)
+        (course : IsCourse A.event_of m (pipe_start reader engine left) rounds rans (pipe_point v after))
         → IfSome (accepted_by A.event_of reader left) (λ all. (rest : List (List Transaction))
         × (all.batches ≡ course.plans.batches ++ rest)) }
     ensures ran { (m : Manner) (reader : ReaderView A) (engine : Kept)
         (left after : Option (List ℕ)) (rounds : ℕ) (rans : List Ran) (v : PipeView A)
-        (course : IsCourse A.event_of m reader engine left rounds rans v after)
+        (course : IsCourse A.event_of m (pipe_start reader engine left) rounds rans (pipe_point v after))
         → (done : List (List Transaction)) × (rest : List (List Transaction))
         × (course.plans.batches ≡ done ++ rest) × ArePlansOf done (plans_of course.runs) }
     ensures whole { (m : Manner) (reader : ReaderView A) (engine : Kept)
         (left after : Option (List ℕ)) (rounds : ℕ) (rans : List Ran) (v : PipeView A)
-        (course : IsCourse A.event_of m reader engine left rounds rans v after)
+        (course : IsCourse A.event_of m (pipe_start reader engine left) rounds rans (pipe_point v after))
         → (IsGoing v → ⊥) → v.tail ≢ Some RunMemory
         → (course.runs ≡ course.more) × (v.waiting ≡ []) }
     ensures ended { (m : Manner) (reader : ReaderView A) (engine : Kept)
         (left after : Option (List ℕ)) (rounds : ℕ) (rans : List Ran) (v : PipeView A)
-        (course : IsCourse A.event_of m reader engine left rounds rans v after)
+        (course : IsCourse A.event_of m (pipe_start reader engine left) rounds rans (pipe_point v after))
         (tail : Tail) (ending : Ending)
         → course.stop ≡ Some tail → ending_of tail ≡ Some ending
         → IfSome (accepted_by A.event_of reader left) (λ all.
         (all.ending ≡ ending) × (all.batches ≡ course.plans.batches)) }
     ensures cut { (m : Manner) (reader : ReaderView A) (engine : Kept)
         (left after : Option (List ℕ)) (rounds : ℕ) (rans : List Ran) (v : PipeView A)
-        (course : IsCourse A.event_of m reader engine left rounds rans v after)
+        (course : IsCourse A.event_of m (pipe_start reader engine left) rounds rans (pipe_point v after))
         (app : A) (size limit : ℕ)
         → reader ≡ new_reader app size limit → course.stop ≡ Some (Fault ReadFault)
         → TakesBytes left after (λ got.

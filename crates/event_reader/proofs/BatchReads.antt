@@ -19,7 +19,7 @@ use Rattle.event_reader.specs.declared.version.Version.{Version}
 use Rattle.event_reader.specs.Steps.{Meaning}
 use Rattle.event_reader.specs.Accepted.{accepted_behind}
 use Rattle.event_reader.specs.Reader.{LinesView, reading_of}
-use Rattle.event_reader.specs.SourceReads.{AsksOnce, ReadsInOrder, no_read, one_more, AsksForLine, AsksBatch, not_yet, once_more, AsksForBatch}
+use Rattle.event_reader.specs.SourceReads.{read_state, line_state, read_piece, read_room, AsksOnce, ReadsInOrder, no_read, one_more, AsksForLine, AsksBatch, not_yet, once_more, AsksForBatch}
 use Rattle.event_reader.proofs.Pieces.{line_at}
 use Rattle.event_reader.proofs.BatchAnswers.{Reads, reads_nothing, shows_failed, reads_as, reads_line, reads_more}
 
@@ -105,7 +105,7 @@ module _ {S : Type 0} (left_of : S → Option (List ℕ)) (reads : S → ℕ →
     chain : Chain (got ++ more) last source
 
   same_once : (n n' r r' : ℕ) (source : S) (bytes : List ℕ) (last : Bool) (source' : S) → n ≡ n' → r ≡ r'
-      → AsksOnce left_of reads n r source bytes last source' → AsksOnce left_of reads n' r' source bytes last source'
+      → AsksOnce left_of reads (read_room n r) source (read_piece bytes last) source' → AsksOnce left_of reads (read_room n' r') source (read_piece bytes last) source'
   same_once n n' r r' source bytes last source' e f h = rw (e, f) at h
 
   follows : (v : Version) (batch : List Transaction) (now : LinesView) (source : S) (h : AskedTo v batch now source) (kept : List ℕ) (room : ℕ) (last : Bool) (source' : S)
@@ -145,7 +145,7 @@ module _ {S : Type 0} (left_of : S → Option (List ℕ)) (reads : S → ℕ →
 
   -- after a line's reads
   line_chain : (v : Version) (batch : List Transaction) (now : LinesView) (source : S) (h : AskedTo v batch now source) (answer : Result LineNext ReaderFault) (next : LinesView) (source' : S)
-      → (a : AsksForLine left_of reads now source answer next source')
+      → (a : AsksForLine left_of reads (line_state now source) answer (line_state next source'))
       → (before.limit - before.taken - length (h.has_read.got ++ a.got) ≡ a.room) × Chain (h.has_read.got ++ a.got) a.last source'
   line_chain v batch now source h answer next source' a =
       let f = follows v batch now source h (now.kept ++ a.got) a.room a.last source' a.asks in
@@ -156,8 +156,8 @@ module _ {S : Type 0} (left_of : S → Option (List ℕ)) (reads : S → ℕ →
 
   -- the reads of a call that ends with a line's
   pub asked_all : {A : Type 0} (v : Version) (batch : List Transaction) (now : LinesView) (source : S) (h : AskedTo v batch now source) (line : Result LineNext ReaderFault) (next : LinesView) (source' : S)
-      → (a : AsksForLine left_of reads now source line next source') → (answer : Result A ReaderFault) → IfOk answer (λ _. a.last ≡ next.ended)
-      → AsksForBatch {A = A} left_of reads m past before source₀ answer next source'
+      → (a : AsksForLine left_of reads (line_state now source) line (line_state next source')) → (answer : Result A ReaderFault) → IfOk answer (λ _. a.last ≡ next.ended)
+      → AsksForBatch {A = A} left_of reads m (read_state past before source₀) answer (line_state next source')
   asked_all v batch now source h line next source' a answer ends = record {
     got = h.has_read.got ++ a.got;
     taken = h.has_read.taken ∙ ap (ahead h.has_read.got) a.taken ∙ ahead_ahead h.has_read.got a.got (left_of source');
@@ -168,7 +168,7 @@ module _ {S : Type 0} (left_of : S → Option (List ℕ)) (reads : S → ℕ →
 
   -- after a line that leads on
   pub asked_next : (v v' : Version) (batch batch' : List Transaction) (now : LinesView) (source : S) (h : AskedTo v batch now source) (next : LinesView) (source' : S)
-      → (a : AsksForLine left_of reads now source (Ok Line) next source')
+      → (a : AsksForLine left_of reads (line_state now source) (Ok Line) (line_state next source'))
       → reading_of now (left_of source) ≡ option_map (with_line next.line) (reading_of next (left_of source'))
       → (next.ended ≡ false → now.ended ≡ false) → next.number ≡ now.number + 1
       → ((r : Reading) → accepted_behind m v now.number past.closed batch (with_line next.line r) ≡ accepted_behind m v' (now.number + 1) past.closed batch' r)

@@ -14,7 +14,7 @@ use Rattle.event_reader.specs.declared.fault.ReaderFault.TheVariants.{ReadFault,
 use Rattle.event_reader.specs.Decisions.{DecidesLine}
 use Rattle.event_reader.proofs.LineAnswers.{GoesOn}
 use Rattle.event_reader.specs.Limits.{buffer_bytes}
-use Rattle.event_reader.specs.SourceReads.{bytes_asked, is_last, CameWith, AsksOnce, ReadsInOrder, no_read, one_more, AsksForLine}
+use Rattle.event_reader.specs.SourceReads.{line_state, read_piece, read_room, bytes_asked, is_last, CameWith, AsksOnce, ReadsInOrder, no_read, one_more, AsksForLine}
 use Rattle.event_reader.specs.Refills.{KeepsRead, FillsBy}
 
 module _ {S : Type 0} (left_of : S → Option (List ℕ)) (reads : S → ℕ → Result ℕ ReadFailed → S → Type 0) (before : LinesView) (source₀ : S) where
@@ -46,7 +46,7 @@ module _ {S : Type 0} (left_of : S → Option (List ℕ)) (reads : S → ℕ →
 
   -- a read that was the last of a call without an answer
   last_read : (now : LinesView) (source source' : S) (h : GoesOn before (left_of source₀) now (left_of source)) → AskedSoFar now source → now.ended ≡ false → decided_lines now.kept ≡ []
-      → (bytes : List ℕ) → AsksOnce left_of reads (length now.kept) (now.limit - now.taken) source bytes true source'
+      → (bytes : List ℕ) → AsksOnce left_of reads (read_room (length now.kept) (now.limit - now.taken)) source (read_piece bytes true) source'
       → ReadsInOrder left_of reads before.kept (before.limit - before.taken) before.ended source₀ (before.kept ++ (h.got ++ bytes)) (now.limit - now.taken - length bytes) true source'
   last_read now source source' h asked unended none bytes once =
       same_state (now.kept ++ bytes) (before.kept ++ (h.got ++ bytes)) (now.limit - now.taken - length bytes) (now.limit - now.taken - length bytes) true true source'
@@ -56,10 +56,10 @@ module _ {S : Type 0} (left_of : S → Option (List ℕ)) (reads : S → ℕ →
 
   pub asked_last : (now next : LinesView) (source source' : S) (fault : ReaderFault) (h : GoesOn before (left_of source₀) now (left_of source)) → AskedSoFar now source
       → now.ended ≡ false → decided_lines now.kept ≡ [] → FillsBy left_of reads now source (Err fault) next source'
-      → AsksForLine left_of reads before source₀ (Err fault) next source'
+      → AsksForLine left_of reads (line_state before source₀) (Err fault) (line_state next source')
   asked_last now next source source' ReadFault h asked unended none once = record {
     got = h.got ++ [];
-    taken = h.from ∙ ap (ahead h.got) once.told ∙ ahead_ahead h.got [] (left_of source');
+    taken = h.from ∙ ap (ahead h.got) once.gives ∙ ahead_ahead h.got [] (left_of source');
     shows = rw append-nil (rw (← h.kept) (ap (λ lines. record { lines = lines; cut = true }) none));
     room = now.limit - now.taken - 0;
     last = true;
@@ -69,7 +69,7 @@ module _ {S : Type 0} (left_of : S → Option (List ℕ)) (reads : S → ℕ →
   }
   asked_last now next source source' TooLong h asked unended none (bytes, once) = record {
     got = h.got ++ bytes;
-    taken = h.from ∙ ap (ahead h.got) once.told ∙ ahead_ahead h.got bytes (left_of source');
+    taken = h.from ∙ ap (ahead h.got) once.gives ∙ ahead_ahead h.got bytes (left_of source');
     shows = tt;
     room = now.limit - now.taken - length bytes;
     last = true;
@@ -79,7 +79,7 @@ module _ {S : Type 0} (left_of : S → Option (List ℕ)) (reads : S → ℕ →
   }
   asked_last now next source source' OutOfMemory h asked unended none (bytes, once) = record {
     got = h.got ++ bytes;
-    taken = h.from ∙ ap (ahead h.got) once.told ∙ ahead_ahead h.got bytes (left_of source');
+    taken = h.from ∙ ap (ahead h.got) once.gives ∙ ahead_ahead h.got bytes (left_of source');
     shows = tt;
     room = now.limit - now.taken - length bytes;
     last = true;
@@ -91,7 +91,7 @@ module _ {S : Type 0} (left_of : S → Option (List ℕ)) (reads : S → ℕ →
   -- a call that gave a line, or none
   pub asked_line : (now : LinesView) (source : S) (len used number : ℕ) (h : GoesOn before (left_of source₀) now (left_of source)) → AskedSoFar now source
       → DecidesLine now.kept now.ended len used
-      → AsksForLine left_of reads before source₀ (Ok Line) (record now { kept = drop used now.kept; line = take len now.kept; number = number }) source
+      → AsksForLine left_of reads (line_state before source₀) (Ok Line) (line_state (record now { kept = drop used now.kept; line = take len now.kept; number = number }) source)
   asked_line now source len used number h asked d = record {
     got = h.got;
     taken = h.from;
@@ -106,7 +106,7 @@ module _ {S : Type 0} (left_of : S → Option (List ℕ)) (reads : S → ℕ →
   }
 
   pub asked_none : (now next : LinesView) (source : S) (h : GoesOn before (left_of source₀) now (left_of source)) → AskedSoFar now source → now.ended ≡ next.ended
-      → now.limit - now.taken ≡ next.limit - next.taken → (answer : LineNext) → is_line (Ok answer) ≡ false → AsksForLine left_of reads before source₀ (Ok answer) next source
+      → now.limit - now.taken ≡ next.limit - next.taken → (answer : LineNext) → is_line (Ok answer) ≡ false → AsksForLine left_of reads (line_state before source₀) (Ok answer) (line_state next source)
   asked_none now next source h asked same same' Line no_line = absurd (cc)
   asked_none now next source h asked same same' Long no_line = record {
     got = h.got;
@@ -145,12 +145,12 @@ last_beyond got room none = by_test (got == 0) (room == 0) (grind (arith, nat_te
 pub once : {S : Type 0} (left_of : S → Option (List ℕ)) (reads : S → ℕ → Result ℕ ReadFailed → S → Type 0) (asked kept size room : ℕ) (source : S) (answer : Result ℕ ReadFailed) (bytes : List ℕ) (last : Bool) (source' : S)
     → asked ≡ (if room == 0 then 1 else min (buffer_bytes - size) room) → kept ≡ size → reads source asked answer source'
     → CameWith answer bytes → left_of source ≡ ahead bytes (left_of source') → last ≡ is_last room answer
-    → AsksOnce left_of reads kept room source bytes last source'
+    → AsksOnce left_of reads (read_room kept room) source (read_piece bytes last) source'
 once left_of reads asked kept size room source answer bytes last source' is same does came told ends = record {
   answer = answer;
-  does = subst (λ n. reads source n answer source') (is ∙ ap (λ k. bytes_asked k room) (sym same)) does;
+  asks = subst (λ n. reads source n answer source') (is ∙ ap (λ k. bytes_asked k room) (sym same)) does;
   came = came;
-  told = told;
+  gives = told;
   ends = ends;
 }
 

@@ -6,10 +6,9 @@ use Rattle.morph_io.specs.declared.source.ReadFailed.{ReadFailed}
 use Rattle.event_reader.specs.declared.answers.Next.{Next}
 use Rattle.event_reader.specs.declared.fault.ReaderFault.{ReaderFault}
 use Rattle.event_reader.specs.declared.fault.ReaderFault.TheVariants.{ReadFault, TooLong}
-use Rattle.event_reader.specs.declared.past.Past.{Past}
 use Rattle.event_reader.specs.Steps.{Meaning}
-use Rattle.event_reader.specs.Reader.{LinesView, accepted_at, reading_of, event_count, AnswersNext, IsValidNext, KnowsVersion, ShowsBatch, TakesBytes}
-use Rattle.event_reader.specs.SourceReads.{AsksForBatch}
+use Rattle.event_reader.specs.Reader.{accepted_at, reading_of, event_count, AnswersNext, IsValidNext, KnowsVersion, ShowsBatch, TakesBytes}
+use Rattle.event_reader.specs.SourceReads.{line_state, AsksForBatch, ReadState}
 
 -- What a source says of itself: the bytes that it has left, its count of faults, and its reads
 pub record SourceMembers (S : Type 0) : Type 1 where
@@ -22,16 +21,6 @@ abbrev pub members : {S : Type 0} → (left : S → Option (List ℕ)) → (faul
     → (reads : S → ℕ → Result ℕ ReadFailed → S → Type 0) → SourceMembers S
 members left faults reads = record { left = left; faults = faults; reads = reads }
 
--- How far a reader of batches has read: what was read before, its reader of lines, and its source
-pub record ReadState (S : Type 0) : Type 0 where
-  pub past : Past
-  pub lines : LinesView
-  pub source : S
-
--- How far a reader of batches has read that has this past, reader of lines and source
-abbrev pub read_state : {S : Type 0} → Past → LinesView → S → ReadState S
-read_state past lines source = record { past = past; lines = lines; source = source }
-
 -- What the answer of one call for a batch says of the bytes of the source, and by which reads it came, from how far the
 -- reader had read before to how far it has read after, with what lines mean to it then
 pub record IsBatchAnswer {S : Type 0} (source : SourceMembers S) (meaning : Meaning) (before : ReadState S)
@@ -40,8 +29,7 @@ pub record IsBatchAnswer {S : Type 0} (source : SourceMembers S) (meaning : Mean
       (accepted_at meaning' after.past after.lines (source.left after.source))
   pub shows : TakesBytes (source.left before.source) (source.left after.source)
       (ShowsBatch meaning before.past before.lines answer after.past after.lines)
-  pub asks : AsksForBatch source.left source.reads meaning before.past before.lines before.source answer after.lines
-      after.source
+  pub asks : AsksForBatch source.left source.reads meaning before answer (line_state after.lines after.source)
 
 -- What one call for a batch gives: a batch is valid, and has at most as many events as lines were given for it; and the
 -- version is that of the input

@@ -5,7 +5,7 @@ use Rattle.event_reader.specs.declared.fault.ReaderFault.{ReaderFault}
 use Rattle.event_reader.specs.declared.fault.ReaderFault.TheVariants.{ReadFault, TooLong, OutOfMemory}
 use Rattle.morph_io.specs.declared.source.ReadFailed.{ReadFailed}
 use Rattle.event_reader.specs.Reader.{LinesView}
-use Rattle.event_reader.specs.SourceReads.{AsksOnce}
+use Rattle.event_reader.specs.SourceReads.{read_piece, read_room, AsksOnce}
 
 -- The reader keeps `got` more bytes, or the source came to its end
 pub record KeepsMore (before : LinesView) (left : Option (List ℕ)) (after : LinesView)
@@ -50,7 +50,7 @@ Fills before left (Err OutOfMemory) after left' = ⊥
 pub record KeepsRead {S : Type 0} (left_of : S → Option (List ℕ)) (reads : S → ℕ → Result ℕ ReadFailed → S → Type 0)
     (before : LinesView) (source : S) (after : LinesView) (source' : S) : Type 0 where
   pub bytes : List ℕ
-  pub asks : AsksOnce left_of reads (length before.kept) (before.limit - before.taken) source bytes after.ended source'
+  pub asks : AsksOnce left_of reads (read_room (length before.kept) (before.limit - before.taken)) source (read_piece bytes after.ended) source'
   pub kept : after.kept ≡ before.kept ++ bytes
   pub room : after.limit - after.taken ≡ before.limit - before.taken - length bytes
 
@@ -59,6 +59,6 @@ abbrev pub FillsBy : {S : Type 0} → (S → Option (List ℕ)) → (S → ℕ �
     → Result (Unit {0}) ReaderFault → LinesView → S → Type 0
 FillsBy left_of reads before source (Ok _) after source' = KeepsRead left_of reads before source after source'
 FillsBy left_of reads before source (Err ReadFault) after source' =
-    AsksOnce left_of reads (length before.kept) (before.limit - before.taken) source [] true source'
+    AsksOnce left_of reads (read_room (length before.kept) (before.limit - before.taken)) source (read_piece [] true) source'
 FillsBy left_of reads before source (Err _) after source' =
-    (bytes : List ℕ) × AsksOnce left_of reads (length before.kept) (before.limit - before.taken) source bytes true source'
+    (bytes : List ℕ) × AsksOnce left_of reads (read_room (length before.kept) (before.limit - before.taken)) source (read_piece bytes true) source'

@@ -1,7 +1,8 @@
 ghost use Rattle.std.specs.Prelude.{◌≡◌, ◌↔◌, ◌+◌, ◌<◌, ◌≤◌, true, [], IsTrue, IfOk, false};
 ghost use Rattle.event_reader.specs.declared.version.Version.TheVariants.{One};
 ghost use Rattle.event_reader.specs.Reader.{goes_on};
-ghost use Rattle.event_reader.specs.BatchAnswers.{IsBatchAnswer, GivesBatch, HasReadOn, members, read_state};
+ghost use Rattle.event_reader.specs.BatchAnswers.{IsBatchAnswer, GivesBatch, HasReadOn, members};
+ghost use Rattle.event_reader.specs.SourceReads.{read_state};
 ghost use Rattle.event_reader.specs.Versions.{is_version_line};
 
 use crate::answers::{LineNext, Next};

@@ -108,7 +108,7 @@ impl Lines {
     ghost use Rattle.event_reader.specs.Limits.{longest_line, deciding_bytes, input_bytes};
     ghost use Rattle.event_reader.specs.Reader.{LinesView, new_lines, reading_of, AnswersLine, ShowsLine, TakesBytes, is_line, lines_given};
     ghost use Rattle.event_reader.specs.Refills.{Fills, FillsBy};
-    ghost use Rattle.event_reader.specs.SourceReads.{AsksForLine};
+    ghost use Rattle.event_reader.specs.SourceReads.{AsksForLine, line_state};
 
     /// A reader of an input of at most `limit` bytes, which has taken none yet.
     pub fn new(alloc: Global, limit: u64) -> Result<Self, OutOfMemory>
@@ -225,7 +225,7 @@ impl Lines {
             → S.faults source.new ≡ S.faults source.old }
         ensures cause { IsErrOf result ReaderFault.ReadFault
             → HasRisen (S.faults source.old) (S.faults source.new) }
-        ensures asks { AsksForLine S.left S.reads self.old source.old result self.new source.new }
+        ensures asks { AsksForLine S.left S.reads (line_state self.old source.old) result (line_state self.new source.new) }
     {
         'reads: loop {
             match decide(self.kept(), self.ended) {

@@ -3,7 +3,7 @@ use Rattle.std.proofs.Common.{◌≡◌, ℕ, true, List, Option, Result, refl, 
 use Rattle.morph_io.specs.declared.source.ReadFailed.{ReadFailed}
 use Rattle.event_reader.specs.declared.answers.Next.{Next}
 use Rattle.event_reader.specs.declared.fault.ReaderFault.{ReaderFault}
-use Rattle.event_reader.specs.SourceReads.{AsksForBatch, AsksForNext}
+use Rattle.event_reader.specs.SourceReads.{read_state, line_state, AsksForBatch, AsksForNext}
 use Rattle.event_reader.specs.Reader.{ReaderView, ShowsBatch, ShowsNext, TakesBytes, goes_on, new_lines, no_past}
 use Rattle.event_reader.specs.Steps.{Meaning}
 use Rattle.morph_cli.specs.Calls.{AsksForBatches, no_call, one_call, IsReadBy}
@@ -25,7 +25,7 @@ module _ {S App : Type 0} (left_of : S → Option (List ℕ)) (reads : S → ℕ
   one_more r r' source source' answer h asks shows =
       let same = same_meaning r h.app_is h.size_is in
       one_call r.past r'.past r.lines r'.lines source source' answer h.calls
-      (subst (λ m. AsksForBatch left_of reads m r.past r.lines source answer r'.lines source') same asks)
+      (subst (λ m. AsksForBatch left_of reads m (read_state r.past r.lines source) answer (line_state r'.lines source')) same asks)
       (subst (λ m. TakesBytes (left_of source) (left_of source') (ShowsBatch m r.past r.lines answer r'.past r'.lines)) same shows)
 
   -- with the last call

@@ -1,5 +1,5 @@
 -- What is shown of the balances between two batches, and what was seen beside one.
-use Rattle.std.proofs.Common.{◌≡◌, ℕ, ◌+◌, ◌^◌, ◌<◌, true, false, [], ◌∷◌, length, Option, Some, None, refl, ap, sym, subst, ◌∙◌, arith}
+use Rattle.std.proofs.Common.{◌≡◌, ◌⊎◌, ℕ, ◌+◌, ◌^◌, ◌<◌, Bool, true, false, ◌||◌, inl, inr, [], ◌∷◌, length, Option, Some, None, refl, ap, sym, subst, ◌∙◌, arith}
 use Rattle.std.specs.Prelude.{IfSome, IsSome, IsTrue}
 use Rattle.std.proofs.lemmas.List.{length-append}
 use Rattle.morph_base.specs.declared.key.Layout.{Layout}
@@ -15,6 +15,7 @@ use Rattle.snapshot_reader.specs.Steady.{Posted}
 use Rattle.snapshot_reader.proofs.Overwrites.{after_plans-more}
 use Rattle.version_table.specs.Totals.{total_of}
 use Rattle.morph_cli.specs.Batches.{IsSeen, IsShown, also_posted}
+use Rattle.morph_cli.specs.Outputs.{has_notes}
 use Rattle.morph_cli.specs.Tallies.{IsChecked}
 use Rattle.morph_cli.proofs.NoteLaws.{IsAudit}
 
@@ -22,6 +23,23 @@ use Rattle.morph_cli.proofs.NoteLaws.{IsAudit}
 pub if_posted : {P : Posted → Type 0} {Q : Posted → Type 0} (posted : Option Posted) → ((p : Posted) → P p → Q p) → IfSome posted P → IfSome posted Q
 if_posted None so shown = tt
 if_posted (Some p) so shown = so p shown
+
+or_first : (a b : Bool) → IsTrue a → IsTrue (a || b)
+or_first true b is = refl
+or_first false b is = absurd (cc)
+
+or_second : (a b : Bool) → IsTrue b → IsTrue (a || b)
+or_second true b is = refl
+or_second false b is = is
+
+-- a batch has notes beside its lines only where the settings ask for notes
+pub noted_by_settings : (s : Settings) (posted : Option Posted) (audit : Option Total) → (IsSome posted → IsTrue s.watch) → IfSome audit (IsSeen posted)
+    → IsSome audit ⊎ (IsTrue s.notes ⊎ IsTrue (is_checked s.check)) → IsTrue (has_notes s)
+noted_by_settings s posted None watch seen (inl some) = absurd (cc)
+noted_by_settings s None (Some x) watch seen (inl some) = absurd seen
+noted_by_settings s (Some p) (Some x) watch seen (inl some) = or_second s.notes (s.watch || is_checked s.check) (or_first s.watch (is_checked s.check) (watch refl))
+noted_by_settings s posted audit watch seen (inr (inl notes)) = or_first s.notes (s.watch || is_checked s.check) notes
+noted_by_settings s posted audit watch seen (inr (inr checked)) = or_second s.notes (s.watch || is_checked s.check) (or_second s.watch (is_checked s.check) checked)
 
 module _ (layout : Layout) (before : ℕ) (state : State) where
   -- what was seen beside a batch is the audit of the state before it

@@ -4,7 +4,7 @@ use Rattle.morph_io.specs.declared.source.ReadFailed.{ReadFailed}
 use Rattle.event_reader.specs.declared.answers.Next.{Next}
 use Rattle.event_reader.specs.declared.fault.ReaderFault.{ReaderFault}
 use Rattle.event_reader.specs.declared.past.Past.{Past}
-use Rattle.event_reader.specs.SourceReads.{AsksForBatch}
+use Rattle.event_reader.specs.SourceReads.{read_state, line_state, AsksForBatch}
 use Rattle.event_reader.specs.Reader.{LinesView, ShowsBatch, TakesBytes, goes_on, new_lines, no_past}
 use Rattle.event_reader.specs.Steps.{Meaning}
 use Rattle.morph_cli.specs.Headline.{input_limit}
@@ -17,7 +17,7 @@ pub data AsksForBatches {S : Type 0} (left_of : S → Option (List ℕ)) (reads 
   no_call : AsksForBatches left_of reads meaning past₀ lines₀ source₀ past₀ lines₀ true source₀
   one_call : (past past' : Past) (lines lines' : LinesView) (source source' : S) (answer : Result Next ReaderFault)
       → AsksForBatches left_of reads meaning past₀ lines₀ source₀ past lines true source
-      → AsksForBatch left_of reads meaning past lines source answer lines' source'
+      → AsksForBatch left_of reads meaning (read_state past lines source) answer (line_state lines' source')
       → TakesBytes (left_of source) (left_of source') (ShowsBatch meaning past lines answer past' lines')
       → AsksForBatches left_of reads meaning past₀ lines₀ source₀ past' lines' (goes_on answer) source'
 

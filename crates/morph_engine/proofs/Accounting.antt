@@ -37,7 +37,7 @@ use Rattle.steal_explorer.specs.Dealing.{level_one}
 use Rattle.morph_engine.specs.Accounts.{Account, settled_by, is_committed_by_worker, IsAccount, IsAccountAlone}
 use Rattle.morph_engine.specs.Caps.{cap_for}
 use Rattle.morph_engine.specs.Exploring.{Items, AreBalanced}
-use Rattle.morph_engine.specs.Runs.{HasRun}
+use Rattle.morph_engine.specs.Runs.{run_outcome, HasRun}
 use Rattle.morph_engine.proofs.Caps.{cap_small, attempts_few, rises_few}
 use Rattle.morph_engine.proofs.HandingOut.{one, weight_one}
 
@@ -97,7 +97,7 @@ module _ (p : Plan) (valid : IsPlan p) (handed stolen : ℕ) where
     none_stolen : x.stolen ≡ [] → stolen ≡ 0
     none_stolen own = balanced.stolen_is ∙ ap (λ (l : List ℕ). up_to (length l)) own
 
-module _ (p : Plan) (valid : IsPlan p) (strategy : Strategy) (workers : ℕ) (closed : Closed) (lists : List (List Left)) (by : List ℕ) (handed stolen : ℕ) (run : HasRun p strategy.explore strategy.abort workers closed lists by handed stolen)
+module _ (p : Plan) (valid : IsPlan p) (strategy : Strategy) (workers : ℕ) (closed : Closed) (lists : List (List Left)) (by : List ℕ) (handed stolen : ℕ) (run : HasRun p strategy.explore strategy.abort workers closed (run_outcome lists by handed stolen))
     (each : length by ≡ op_count p) (counts : Counts)
     (counted : counts ≡ counts_of run.ended.ends.history) (left : ℕ) (kept : left ≡ causes lists) where
   abbrev core : Core

@@ -42,7 +42,7 @@ use Rattle.abort_lazy.proofs.Made.{places_some}
 use Rattle.morph_engine.specs.declared.prepared.Prepared.{Prepared}
 use Rattle.morph_engine.specs.Caps.{cap_for}
 use Rattle.morph_engine.specs.Exploring.{HavePassed, HaveHanded, HasExploredBy}
-use Rattle.morph_engine.specs.Runs.{AreFirstRunners, IsPrepared, HasJournalRoom, HavePassedLevels, IsHandedOut, HasRunAlone, HasRun, IsJournalledRun}
+use Rattle.morph_engine.specs.Runs.{run_outcome, AreFirstRunners, IsPrepared, HasJournalRoom, HavePassedLevels, IsHandedOut, HasRunAlone, HasRun, IsJournalledRun}
 use Rattle.morph_engine.proofs.Alone.{IsLoneRun, evaluated_alone, rolled_alone}
 use Rattle.morph_engine.proofs.Reaching.{item_reached, places_reached}
 
@@ -264,7 +264,7 @@ module _ (p : Plan) (valid : IsValidPlan p) (x : Prepared) (prepared : IsPrepare
         alone = λ one. out.alone (new_root one any);
       }
 
-      pub has_run : HasRun p explore x.abort (length before) closed (map (λ (l : Contents Left). l.items) left) by handed stolen
+      pub has_run : HasRun p explore x.abort (length before) closed (run_outcome (map (λ (l : Contents Left). l.items) left) by handed stolen)
       has_run = record {
         counters = counters;
         view = root_view any rs;

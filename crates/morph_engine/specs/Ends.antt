@@ -13,7 +13,7 @@ use Rattle.op_words.specs.declared.trail.View.{View}
 use Rattle.morph_engine.specs.Accounts.{IsAccount, account_of}
 use Rattle.morph_engine.specs.Caps.{cap_for}
 use Rattle.morph_engine.specs.Fates.{settled_fates}
-use Rattle.morph_engine.specs.Runs.{HasRun}
+use Rattle.morph_engine.specs.Runs.{run_outcome, HasRun}
 use Rattle.morph_engine.specs.declared.engine.BatchEnd.{BatchEnd}
 
 -- The plan was run from state s on, with this strategy and by this many workers. What was settled gives the fate of
@@ -23,8 +23,7 @@ pub record IsEnd (p : Plan) (strategy : Strategy) (workers : ℕ) (s : State) (e
   pub strategy_is : end.strategy ≡ strategy
   pub settled : IsSettledOf p end.settled
   pub fates_are : settled_fates p end.settled ≡ fates s (transactions p)
-  pub run : HasRun p strategy.explore strategy.abort workers end.closed
-      (map (λ (l : Contents Left). l.items) end.left.items) end.settled.by.items end.handed end.stolen
+  pub run : HasRun p strategy.explore strategy.abort workers end.closed (run_outcome (map (λ (l : Contents Left). l.items) end.left.items) end.settled.by.items end.handed end.stolen)
   pub counts : (counters : ℕ) (v : View) (is : IsClosed p (cap_for strategy.abort) counters v end.closed)
       → end.counts ≡ counts_of is.ends.history
   pub account : IsAccount strategy.explore strategy.abort workers (account_of end)

@@ -109,22 +109,35 @@ pub record HasRunAlone (p : Plan) (abort : Abort) (history : List CoreEvent) (li
   pub evaluated_is : abort ≡ Lazy → evaluated history ≡ op_count p + rolled history
   pub rolled_is : abort ≡ Lazy → rolled history ≡ stale_count p
 
+-- What a run leaves besides the closed board: by worker, why events were left; by operation, the worker that settled
+-- it, or 0; and how many operations were handed out and stolen
+pub record RunOutcome : Type 0 where
+  pub lists : List (List Left)
+  pub by : List ℕ
+  pub handed : ℕ
+  pub stolen : ℕ
+
+-- The outcome with these parts
+abbrev pub run_outcome : (lists : List (List Left)) (by : List ℕ) (handed stolen : ℕ) → RunOutcome
+run_outcome lists by handed stolen = record { lists = lists; by = by; handed = handed; stolen = stolen }
+
 -- The plan was explored in this way, with this abort, by this many workers, and settled. The closed board is that of
 -- the plan, and shows a view. Each operation has the worker that settled it there, or 0, and the lists say by worker
 -- why events were left. By strata every place of each pass was taken and reached. By deques each operation that one
 -- took was reached
-pub record HasRun (p : Plan) (explore : Explore) (abort : Abort) (workers : ℕ) (closed : Closed) (lists : List (List Left)) (by : List ℕ) (handed stolen : ℕ) : Type 0 where
+pub record HasRun (p : Plan) (explore : Explore) (abort : Abort) (workers : ℕ) (closed : Closed)
+    (outcome : RunOutcome) : Type 0 where
   pub counters : ℕ
   pub view : View
   pub ended : IsClosed p (cap_for abort) counters view closed
   pub hands : view.made ≡ workers
-  pub len : length lists ≡ workers
-  pub tags : (o : ℕ) → o < op_count p → slice_index by o ≡ settler (ended.ends.core.word o)
-  pub left : AreCauses p ended.ends.core view lists
+  pub len : length outcome.lists ≡ workers
+  pub tags : (o : ℕ) → o < op_count p → slice_index outcome.by o ≡ settler (ended.ends.core.word o)
+  pub left : AreCauses p ended.ends.core view outcome.lists
   pub places : explore ≡ Strata → HavePassedLevels p abort view
-  pub unhanded : explore ≡ Strata → (handed ≡ 0) × (stolen ≡ 0)
-  pub handed_out : explore ≡ Steal → IsHandedOut p abort workers view handed stolen
-  pub alone : workers ≡ 1 → HasRunAlone p abort ended.ends.history lists by
+  pub unhanded : explore ≡ Strata → (outcome.handed ≡ 0) × (outcome.stolen ≡ 0)
+  pub handed_out : explore ≡ Steal → IsHandedOut p abort workers view outcome.handed outcome.stolen
+  pub alone : workers ≡ 1 → HasRunAlone p abort ended.ends.history outcome.lists outcome.by
 
 -- The root, whose view the closed board shows, was the only hand made. It kept a journal with this room, and settled
 -- each operation on the board

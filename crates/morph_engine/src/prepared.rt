@@ -9,7 +9,7 @@ ghost use Rattle.op_words.specs.Rule.{first_view};
 ghost use Rattle.op_eval.specs.Gathering.{runners_of};
 ghost use Rattle.morph_engine.specs.Caps.{cap_for};
 ghost use Rattle.morph_engine.specs.Exploring.{explore_of};
-ghost use Rattle.morph_engine.specs.Runs.{IsPrepared, HasJournalRoom, HasRun, IsJournalledRun};
+ghost use Rattle.morph_engine.specs.Runs.{run_outcome, IsPrepared, HasJournalRoom, HasRun, IsJournalledRun};
 
 use crate::supply::{Supply, Tallied, explore_by};
 use abort_lazy::{Room, finish, settle_all};
@@ -121,10 +121,7 @@ impl Prepared {
         requires valid { IsValidPlan plan.now }
         requires prepared { IsPrepared plan.now self }
         ensures settled { IsSettledOf plan.now result.settled }
-        ensures ran { HasRun plan.now (explore_of self.supply) self.abort
-            (length (runners_of self.runners))
-            result.closed (map (λ list. list.items) result.left.items) result.settled.by.items
-            result.tallied.handed result.tallied.stolen }
+        ensures ran { HasRun plan.now (explore_of self.supply) self.abort (length (runners_of self.runners)) result.closed (run_outcome (map (λ list. list.items) result.left.items) result.settled.by.items result.tallied.handed result.tallied.stolen) }
         ensures kept { (room : ℕ) → HasJournalRoom room self
             → length (runners_of self.runners) ≡ 1
             → IsJournalledRun plan.now self.abort room result.closed }

@@ -29,8 +29,8 @@
 //! | `line_buf`, `output` | `LineBuf`, a line that is being written; `Out` and `write_all` |
 //! | `mem_source`, `mem_sink` | `MemSource` and `MemSink`, which hold their bytes and fail at chosen calls |
 //! | `repeat_source` | `RepeatSource`, one line again and again |
-//! | `std_source`, `std_sink` | `StdSource` and `StdSink` |
-//! | `retries` | `MAX_RETRIES`, and whether an interrupted call is tried again |
+//! | `std_source`, `std_sink` | `StdSource` and `StdSink`, with their retries and their counts of faults |
+//! | `retries` | `MAX_RETRIES`, and whether an interrupted call is tried again, which is counted |
 //! | `copy`, `calls` | copies into buffers; counts of calls, and whether a call is a chosen one |
 //! | `laws` | that the constants are those of the definitions |
 #![tactic(auto)]

@@ -1,7 +1,7 @@
 //! What the notes say of journals.
 ghost use Rattle.std.specs.Prelude.{◌≡◌, ◌+◌, ◌*◌, ◌<◌, ◌≤◌, [], ◌++◌, length, IsTrue, OnOk, OnErr};
 ghost use Rattle.morph_base.specs.Plans.{IsPlan};
-ghost use Rattle.run_text.specs.Calls.{PutsText, WritesText};
+ghost use Rattle.run_text.specs.Calls.{buffered, PutsText, WritesText};
 ghost use Rattle.morph_io.specs.Told.{behind, HasRisen};
 ghost use Rattle.morph_io.specs.SinkWrites.{AppendsPart};
 ghost use Rattle.run_checker.specs.Lines.{text_of};
@@ -111,8 +111,7 @@ fn put_steps<N: Sink>(
     notes: &mut N,
     journal: &[CoreEvent],
 ) -> Result<(), WriteFailed>
-    ensures { PutsText N.written N.faults (text_of journal.now)
-        result notes.old out.old notes.new out.new }
+    ensures { PutsText N.written N.faults (text_of journal.now) result (buffered notes.old out.old) (buffered notes.new out.new) }
 {
     let mut line = LineBuf::new();
     for i in 0..journal.len() {

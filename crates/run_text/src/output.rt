@@ -3,7 +3,7 @@ ghost use Rattle.morph_base.specs.Flat.{contents};
 ghost use Rattle.morph_base.specs.Plans.{IsPlan, IsSettledOf};
 ghost use Rattle.morph_engine.specs.Fates.{settled_fates};
 ghost use Rattle.run_text.specs.declared.choices.TheConstants.{GREATEST_SIZE};
-ghost use Rattle.run_text.specs.Calls.{PutsText, WritesText};
+ghost use Rattle.run_text.specs.Calls.{buffered, PutsText, WritesText};
 ghost use Rattle.morph_io.specs.Told.{behind, HasRisen};
 ghost use Rattle.morph_io.specs.SinkWrites.{AppendsPart};
 ghost use Rattle.run_text.specs.Text.{lines_of, told_lines, told_values, counts_line, cause_word, refused_text};
@@ -129,8 +129,7 @@ fn put_events<K: Sink>(
 ) -> Result<(), WriteFailed>
     requires plan { IsPlan plan.now }
     requires settled { IsSettledOf plan.now settled.now }
-    ensures { PutsText K.written K.faults (lines_of (settled_fates plan.now settled.now))
-        result sink.old out.old sink.new out.new }
+    ensures { PutsText K.written K.faults (lines_of (settled_fates plan.now settled.now)) result (buffered sink.old out.old) (buffered sink.new out.new) }
 {
     let mut line = LineBuf::new();
     for i in 0..plan.events.len() as u32 {
@@ -144,8 +143,7 @@ fn put_events<K: Sink>(
 
 /// Puts the line of the counts.
 fn put_counts<K: Sink>(out: &mut Out, sink: &mut K, tally: &Tally) -> Result<(), WriteFailed>
-    ensures { PutsText K.written K.faults (counts_line tally.now.committed tally.now.aborted)
-        result sink.old out.old sink.new out.new }
+    ensures { PutsText K.written K.faults (counts_line tally.now.committed tally.now.aborted) result (buffered sink.old out.old) (buffered sink.new out.new) }
 {
     let mut line = LineBuf::new();
     line.word(b"committed ");
@@ -163,8 +161,7 @@ fn put_refused<K: Sink>(
     number: u64,
     cause: Cause,
 ) -> Result<(), WriteFailed>
-    ensures { PutsText K.written K.faults (refused_text number cause)
-        result sink.old out.old sink.new out.new }
+    ensures { PutsText K.written K.faults (refused_text number cause) result (buffered sink.old out.old) (buffered sink.new out.new) }
 {
     let mut line = LineBuf::new();
     line.word(b"refused line ");

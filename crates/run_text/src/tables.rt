@@ -2,7 +2,7 @@ ghost use Rattle.std.specs.Prelude.{◌≡◌, ◌<◌, ◌≤◌, length};
 ghost use Rattle.morph_base.specs.Flat.{contents};
 ghost use Rattle.event_reader.specs.declared.limits.TheConstants.{NAME_BYTES};
 ghost use Rattle.run_text.specs.declared.choices.TheConstants.{GREATEST_SIZE};
-ghost use Rattle.run_text.specs.Calls.{PutsText};
+ghost use Rattle.run_text.specs.Calls.{buffered, PutsText};
 ghost use Rattle.run_text.specs.Text.{value_line, table_lines, total_line, told_table, told_values};
 ghost use Rattle.version_table.specs.Totals.{total_of};
 
@@ -21,8 +21,7 @@ fn put_value<K: Sink>(
     value: u64,
 ) -> Result<(), WriteFailed>
     requires short { length name.now ≤ NAME_BYTES }
-    ensures { PutsText K.written K.faults (value_line name.now id value)
-        result sink.old out.old sink.new out.new }
+    ensures { PutsText K.written K.faults (value_line name.now id value) result (buffered sink.old out.old) (buffered sink.new out.new) }
 {
     if value == 0 {
         return Ok(());
@@ -47,9 +46,7 @@ fn put_table<K: Sink>(
 ) -> Result<(), WriteFailed>
     requires table { table < values.now.layout.tables }
     requires short { length name.now ≤ NAME_BYTES }
-    ensures { PutsText K.written K.faults
-        (table_lines name.now (contents values.now) table values.now.layout.size)
-        result sink.old out.old sink.new out.new }
+    ensures { PutsText K.written K.faults (table_lines name.now (contents values.now) table values.now.layout.size) result (buffered sink.old out.old) (buffered sink.new out.new) }
 {
     for id in 0..values.layout().size {
         let value = values.get(Key { table, id });
@@ -82,9 +79,7 @@ fn put_total<K: Sink>(
     requires table { table < values.now.layout.tables }
     requires few_ids { values.now.layout.size ≤ GREATEST_SIZE }
     requires short { length name.now ≤ NAME_BYTES }
-    ensures { PutsText K.written K.faults
-        (total_line name.now (contents values.now) table values.now.layout.size)
-        result sink.old out.old sink.new out.new }
+    ensures { PutsText K.written K.faults (total_line name.now (contents values.now) table values.now.layout.size) result (buffered sink.old out.old) (buffered sink.new out.new) }
 {
     let mut line = LineBuf::new();
     line.word(name.as_bytes());
@@ -106,9 +101,7 @@ fn put_told_table<K: Sink>(
     requires table { table < values.now.layout.tables }
     requires few_ids { values.now.layout.size ≤ GREATEST_SIZE }
     requires short { length name.now ≤ NAME_BYTES }
-    ensures { PutsText K.written K.faults
-        (told_table report name.now (contents values.now) table values.now.layout.size)
-        result sink.old out.old sink.new out.new }
+    ensures { PutsText K.written K.faults (told_table report name.now (contents values.now) table values.now.layout.size) result (buffered sink.old out.old) (buffered sink.new out.new) }
 {
     match report {
         Report::Whole => put_table(out, sink, name, values, table),
@@ -126,9 +119,7 @@ pub fn put_told_values<A: EventApp, K: Sink>(
 ) -> Result<(), WriteFailed>
     requires tables { values.now.layout.tables ≡ A.table_count app.now }
     requires few_ids { values.now.layout.size ≤ GREATEST_SIZE }
-    ensures { PutsText K.written K.faults
-        (told_values report values.now.layout (A.name_of app.now) (contents values.now))
-        result sink.old out.old sink.new out.new }
+    ensures { PutsText K.written K.faults (told_values report values.now.layout (A.name_of app.now) (contents values.now)) result (buffered sink.old out.old) (buffered sink.new out.new) }
 {
     for table in 0..app.tables() {
         let name = app.table_name(table);

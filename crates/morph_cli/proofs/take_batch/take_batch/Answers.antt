@@ -1,8 +1,8 @@
-use Rattle.std.proofs.Common.{ap, ◌∙◌}
+use Rattle.std.proofs.Common.{ap, ◌∙◌, inl, inr}
 use Rattle.morph_base.specs.Flat.{contents}
 use Rattle.morph_engine.specs.Accounts.{account_of}
 use Rattle.morph_cli.proofs.TakenBatches.{takes_told}
-use Rattle.morph_cli.proofs.Watches.{may_publish}
+use Rattle.morph_cli.proofs.Watches.{may_publish, noted_by_settings}
 use Rattle.morph_cli.proofs.take_batch.take_batch.Goals as goal
 
 pub tell_and_publish-requires-clause-room : goal.tell_and_publish-requires-clause-room
@@ -20,3 +20,9 @@ returns-clause-takes g c =
 
 pub returns-clause-steady : goal.returns-clause-steady
 returns-clause-steady g c = c.tell_and_publish.ensures.steady
+
+pub returns-clause-cause : goal.returns-clause-cause
+returns-clause-cause g c = λ failed. elim (c.tell_and_publish.ensures.cause failed) [
+  | inl risen ↦ inl risen
+  | inr risen ↦ inr (noted_by_settings c.args.job.now.settings c.args.progress.now.watching c.in_ok-ran.ran.audit c.requires.watch c.in_ok-ran.ensures.audit risen.0, risen.1)
+]

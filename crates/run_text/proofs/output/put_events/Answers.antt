@@ -6,7 +6,7 @@ use Rattle.morph_base.specs.declared.plan.Settled.{Settled}
 use Rattle.morph_base.specs.Graphs.{below}
 use Rattle.morph_base.specs.Plans.{event_count}
 use Rattle.morph_engine.specs.Fates.{settled_fate}
-use Rattle.run_text.specs.Calls.{PutsText}
+use Rattle.run_text.specs.Calls.{buffered, PutsText}
 use Rattle.run_text.specs.Text.{event_line, event_text}
 use Rattle.run_text.proofs.Pieces.{put_as, number_then, number_stop, numbers_end}
 use Rattle.run_text.proofs.output.put_events.Goals as goal
@@ -30,7 +30,7 @@ returns-in_err-put g c =
     let p = c.args.plan.now in
     let r = c.args.settled.now in
     let lt : c.loop-i.i < event_count p = omega (arith, c.loop-i-test.true, c.len-i-end.ensures) in
-    let put : PutsText g.K.Sink.written g.K.Sink.faults c.word.new.self (Err c.in_err-put.field-0.0) c.loop-i.sink c.loop-i.out c.put.new.sink c.put.new.self = search rules in
+    let put : PutsText g.K.Sink.written g.K.Sink.faults c.word.new.self (Err c.in_err-put.field-0.0) (buffered c.loop-i.sink c.loop-i.out) (buffered c.put.new.sink c.put.new.self) = search rules in
     c.loop-i.invariant _ _ _ (number_stop (line_at p r) (event_count p) c.loop-i.i c.from_residual.result lt
     (line_is p r c.loop-i.i c.event_line.new.line c.word.new.self c.event_line.ensures.text c.word.ensures) c.from_residual.ensures.0 put)
 
@@ -39,7 +39,7 @@ loop-i-preserved g c =
     let p = c.args.plan.now in
     let r = c.args.settled.now in
     let lt : c.loop-i.i < event_count p = omega (arith, c.loop-i-test.true, c.len-i-end.ensures) in
-    let put : PutsText g.K.Sink.written g.K.Sink.faults c.word.new.self (Ok c.in_ok-put.field-0) c.loop-i.sink c.loop-i.out c.put.new.sink c.put.new.self = search rules in
+    let put : PutsText g.K.Sink.written g.K.Sink.faults c.word.new.self (Ok c.in_ok-put.field-0) (buffered c.loop-i.sink c.loop-i.out) (buffered c.put.new.sink c.put.new.self) = search rules in
     λ answer sink' kept' more. c.loop-i.invariant answer sink' kept' (number_then (line_at p r) (event_count p) c.loop-i.i lt
     (line_is p r c.loop-i.i c.event_line.new.line c.word.new.self c.event_line.ensures.text c.word.ensures) put more)
 

@@ -9,16 +9,16 @@ use Rattle.op_words.specs.declared.closed.Closed.{Closed}
 use Rattle.op_eval.specs.declared.answers.Left.{Left}
 use Rattle.op_eval.specs.Gathering.{runners_of}
 use Rattle.morph_engine.specs.Caps.{cap_for}
-use Rattle.morph_engine.specs.Runs.{HasRun, IsJournalledRun}
+use Rattle.morph_engine.specs.Runs.{run_outcome, HasRun, IsJournalledRun}
 use Rattle.morph_engine.proofs.Accounting.{is_account, causes_in}
 use Rattle.morph_engine.proofs.Told.{settled_fates-are}
 use Rattle.morph_engine.proofs.engine.Engine.run_prepared.Goals as goal
 
 -- what was prepared is explored as the strategy says
 prepared_run : (p : Plan) (closed : Closed) (lists : List (List Left)) (by : List ℕ) (handed stolen : ℕ) {made explore : Explore} {kept abort : Abort} {workers : ℕ} → made ≡ explore → kept ≡ abort
-    → HasRun p made kept workers closed lists by handed stolen → HasRun p explore abort workers closed lists by handed stolen
+    → HasRun p made kept workers closed (run_outcome lists by handed stolen) → HasRun p explore abort workers closed (run_outcome lists by handed stolen)
 prepared_run p closed lists by handed stolen {workers = workers} explored aborts ran =
-    subst (λ (z : Explore × Abort). HasRun p z.0 z.1 workers closed lists by handed stolen) (λ a. (explored a, aborts a)) ran
+    subst (λ (z : Explore × Abort). HasRun p z.0 z.1 workers closed (run_outcome lists by handed stolen)) (λ a. (explored a, aborts a)) ran
 
 pub returns-clause-ran : goal.returns-clause-ran
 returns-clause-ran g c =

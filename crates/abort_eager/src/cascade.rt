@@ -42,7 +42,7 @@ fn sources(plan: &Plan, op: u32, failed: bool) -> (u32, u32)
     if !failed {
         return (op, op + 1);
     }
-    let event = plan.events.get(plan.ops.get(op as usize).event as usize);
+    let event = plan.events.get(plan.ops.event(op as usize) as usize);
     (event.first, event.first + event.count)
 }
 

@@ -25,9 +25,9 @@
 //! |---|---|
 //! | `ground` | `Ground`, what workers share while they explore |
 //! | `walk` | `walk_unit`, and `Walking`: what a worker does with each operation |
-//! | `attempts` | `attempt`, `AttemptWithCascade`, `Notes` |
+//! | `attempts` | `attempt`; `AttemptWithCascade`, which also runs the cascade to its end; `Notes` |
 //! | `behind` | whether a cascade follows an evaluation |
-//! | `cascade`, `search` | `Cascade`; how its next target is found |
+//! | `cascade`, `search` | `Cascade`, a position among the targets; how the next one is found |
 //! | `answers` | `Target`, `Touch`, `Touched` |
 //! | `laws` | what a whole cascade makes of a view |
 #![tactic(auto)]

@@ -65,7 +65,7 @@ pub(crate) fn place_from(plan: &Plan, first: u32, end: u32, op: u32, from: u8) -
 {
     let count = places_of(plan, op);
     for j in from..count {
-        if is_one_of(plan.ops.get(op as usize).origins[j as usize], first, end) {
+        if is_one_of(plan.ops.origin(op as usize, j as usize), first, end) {
             return Some(j);
         }
     }

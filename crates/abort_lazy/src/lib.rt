@@ -15,6 +15,16 @@
 //! ```
 //!
 //! It uses `op_eval`, `op_words` and `interleaving_core`, for the board; `worker_gate`; and `morph_base`.
+//!
+//! # The files
+//!
+//! | File | What it has |
+//! |---|---|
+//! | `transaction` | `settle_txn`, `TxnAnswer`, and how a word that stops the call becomes its answer |
+//! | `transaction/prepare`, `transaction/decide`, `transaction/settle` | the stages of `settle_txn` for an event's operations |
+//! | `run`, `run/level` | `settle_all` and `SettledRun`; one level of events, each tried by the worker that takes its number |
+//! | `plain_finish`, `sources`, `room` | `finish`; the settled values of an operation's sources; the memory that it needs |
+//! | `laws` | how many evaluations and rollbacks there are at most |
 #![tactic(auto)]
 
 pub mod laws;

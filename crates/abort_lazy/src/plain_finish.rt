@@ -99,9 +99,8 @@ fn answer(plan: &Plan, o: usize, values: &List<u64>) -> Option<u64>
         values.now.items }
     ensures { result ≡ outcome plan.now (final plan.now) o }
 {
-    let planned = plan.ops.get(o);
     let sources = read_settled(plan, o, values);
-    eval(&planned.op, &sources[..planned.places()])
+    plan.ops.eval(o, &sources[..plan.ops.places(o)])
 }
 
 /// Completes the operations of an event whose verdict is known.
@@ -159,5 +158,5 @@ fn value_left(plan: &Plan, o: usize, committed: bool, values: &List<u64>) -> u64
         };
         return value;
     }
-    plan.ops.get(o).origins[0].value_in(values)
+    plan.ops.origin(o, 0).value_in(values)
 }

@@ -14,10 +14,9 @@ pub(crate) fn read_settled(plan: &Plan, o: usize, values: &List<u64>) -> [u64; R
     ensures long { length result ≡ READS }
     ensures values { take (length (keys_of plan.now o)) result ≡ settled_sources plan.now o }
 {
-    let op = plan.ops.get(o);
     let mut xs = [0; READS];
-    for j in 0..op.places() {
-        xs[j] = op.origins[j].value_in(values);
+    for j in 0..plan.ops.places(o) {
+        xs[j] = plan.ops.origin(o, j).value_in(values);
     }
     xs
 }

@@ -158,7 +158,7 @@ fn spread_twice(
     ensures hand { IsHandOf board.now hand.new }
     ensures free { (view_of hand.new).claim ≡ None }
 {
-    if plan.ops.get(sibling as usize).event != plan.ops.get(op as usize).event {
+    if plan.ops.event(sibling as usize) != plan.ops.event(op as usize) {
         return None;
     }
     if !fails(board, hand, plan, sibling) {

@@ -1,5 +1,5 @@
 use crate::four_events::batch_of;
-use morph_base::{Edges, List, Origin, OutOfMemory, Plan, PlanOp, Rows};
+use morph_base::{Edges, List, Origin, OutOfMemory, Plan, PlanOps, Rows};
 use precedence_graph::build;
 use std::alloc::Global;
 use std::process::Abort;
@@ -52,10 +52,11 @@ fn source(origin: Origin) -> u32 {
 
 fn ops_of(
     alloc: Global,
-    ops: &[PlanOp],
+    ops: &PlanOps,
 ) -> Result<Vec<(u32, u8, u32, u64, u32, u32, u32)>, OutOfMemory> {
     let mut rows = Vec::new(alloc);
-    for op in ops {
+    for o in 0..ops.len() {
+        let op = ops.get(o);
         let (key, c) = (op.op.key, op.op.c);
         let (first, second) = (source(op.origins[0]), source(op.origins[1]));
         rows.push((op.event, key.table, key.id, c, first, second, op.level))?;
@@ -107,16 +108,22 @@ fn built(rt: &impl Abort, alloc: Global, times: &[u64]) -> Result<Plan, OutOfMem
 }
 
 /// Whether all places from the third on hold the base 0.
-fn has_blank_ends(ops: &[PlanOp]) -> bool {
-    ops.iter().all(|op| op.origins[2..]
-        .iter()
-        .all(|origin| *origin == Origin::Base(0)))
+fn has_blank_ends(ops: &PlanOps) -> bool {
+    for o in 0..ops.len() {
+        if ops.origins(o)[2..]
+            .iter()
+            .any(|origin| *origin != Origin::Base(0))
+        {
+            return false;
+        }
+    }
+    true
 }
 
 /// Compares the operations and events of a plan with those above.
 fn check(rt: &impl Abort, alloc: Global, plan: &Plan) -> Result<(), OutOfMemory> {
-    assert!(rt; has_blank_ends(plan.ops.as_slice()));
-    let ops = ops_of(alloc, plan.ops.as_slice())?;
+    assert!(rt; has_blank_ends(&plan.ops));
+    let ops = ops_of(alloc, &plan.ops)?;
     assert_eq!(rt; ops.as_slice(), OPS.as_slice());
     let events = events_of(alloc, plan)?;
     assert_eq!(rt; events.as_slice(), EVENTS.as_slice());

@@ -18,7 +18,7 @@ fn settle(board: &Board, hand: &mut Hand, plan: &Plan, op: u32) -> (Decided, Opt
     ensures tag { (view_of hand.new).tag ≡ (view_of hand.old).tag }
     ensures made { (view_of hand.new).made ≡ (view_of hand.old).made }
 {
-    let event = plan.ops.get(op as usize).event;
+    let event = plan.ops.event(op as usize);
     let decided = board.decide(hand, plan, event);
     let answer = match decided {
         Decided::Committed => Some(board.settle(hand, plan, op)),

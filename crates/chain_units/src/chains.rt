@@ -16,7 +16,7 @@ pub fn chains(alloc: Global, plan: &Plan) -> Result<List<List<u32>>, OutOfMemory
 {
     let mut chains = BTreeMap::new(alloc);
     for op in 0..plan.ops.len() {
-        append(alloc, &mut chains, plan.ops.get(op).op.key, op as u32)?;
+        append(alloc, &mut chains, plan.ops.key(op), op as u32)?;
     }
     in_order(alloc, chains)
 }

@@ -13,8 +13,9 @@
 //! | `entry`, `claim` | `Record`, `Held`, `Entry` and `Settling`; what a worker holds, as `CoreState` keeps it |
 //! | `state` | `CoreState`: `new`, `step`, `word`, `decision` |
 //! | `state/guards`, `state/reads` | whether a step may be made; what guards need to know of a state and its plan |
-//! | `state/steps`, `state/effects` | how a step is made; the single changes that it consists of |
-//! | `state/published` | the values that were shown, linked by operation |
+//! | `state/steps`, `state/effects` | how a step of each kind is made; the single changes that it consists of |
+//! | `state/answers` | whether an operation answers or fails on settled sources, and an event's operations all do |
+//! | `state/published` | `Published`: the versions that were shown, linked by operation |
 //! | `laws` | what holds after each step, and after every list of steps |
 #![tactic(auto)]
 

@@ -50,3 +50,13 @@ pub mod LinkLaws
 pub mod RowLemmas
 -- Keys that differ: one more, and one that is there already. Places that hold no key.
 pub mod ValidLemmas
+-- The row of an operation in a list that has the rows of all.
+pub mod OpRowLaws
+-- The operations that stand as parts, one more and one changed.
+pub mod OpPartLaws
+-- What contracts see of the operations of a plan, by their parts.
+pub mod OpViewLaws
+-- An operation that is put together from its keys and sources.
+pub mod OpPushLaws
+-- Rows of different operations do not meet.
+pub mod OpApartLaws

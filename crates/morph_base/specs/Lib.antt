@@ -16,3 +16,6 @@ pub mod Known
 pub mod Words
 pub mod Links
 pub mod Rows
+pub mod OpParts
+pub mod OpLists
+pub mod OpViews

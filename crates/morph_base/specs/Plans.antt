@@ -188,4 +188,4 @@ filled s q = record q { origins = filled_in s (reads q.op) q.origins }
 
 -- The plan with each base at a used place replaced by the value of its key in the state
 abbrev pub filled_plan : State → Plan → Plan
-filled_plan s p = record p { ops = record { items = map (filled s) p.ops.items; room = p.ops.room } }
+filled_plan s p = record p { ops = record p.ops { items = map (filled s) p.ops.items } }

@@ -1,9 +1,9 @@
-ghost use Rattle.std.specs.Prelude.{◌≡◌, ℕ, ◌+◌, ◌-◌, ◌^◌, ◌<◌, ◌≤◌, length, min, sum, All, IfSome};
-ghost use Rattle.morph_base.specs.Functions.{at_most as at_most_of, toll as toll_of, value_of};
-ghost use Rattle.morph_base.specs.Operations.{IsShaped};
+ghost use Rattle.std.specs.Prelude.{◌≡◌, ℕ, ◌+◌, ◌-◌, ◌^◌, ◌<◌, ◌≤◌, length, drop, min, sum, slice_index, All, IfSome};
+ghost use Rattle.morph_base.specs.Functions.{at_most as at_most_of, toll as toll_of, result_of, value_of};
+ghost use Rattle.morph_base.specs.Operations.{least_params, IsShaped};
 ghost use Rattle.morph_base.specs.Words.{finished};
 
-use crate::limits::MAX;
+use crate::limits::{MAX, READS};
 use crate::operation::{Func, Op};
 use crate::word::{OpState, OpWord};
 
@@ -20,18 +20,37 @@ pub fn eval(op: &Op, xs: &[u64]) -> Option<u64>
     ensures small { IfSome result (λ v. v ≤ MAX) }
     ensures within { All (λ x. x ≤ op.now.high) xs.now → IfSome result (λ v. v ≤ op.now.high) }
 {
+    eval_by(op.func, op.c, [op.low, op.high], xs)
+}
+
+/// The same by the parts of an operation: its function, its constant, and its limits, which are its floor and its
+/// greatest value.
+#[tactic(auto, unfolding(crate::specs::Functions::value_of))]
+pub(crate) fn eval_by(func: Func, c: u64, limits: [u64; 2], xs: &[u64]) -> Option<u64>
+    requires few { length xs.now ≤ READS }
+    requires params { least_params func < length xs.now }
+    requires values { All (λ x. x ≤ MAX) xs.now }
+    requires constant { c ≤ MAX }
+    requires floor { slice_index limits 0 ≤ MAX }
+    requires limit { slice_index limits 1 ≤ MAX }
+    ensures value { result ≡ result_of (slice_index limits 0) (slice_index limits 1) func c
+        (slice_index xs.now 0) (drop 1 xs.now) }
+    ensures small { IfSome result (λ v. v ≤ MAX) }
+    ensures within { c ≤ slice_index limits 1 → All (λ x. x ≤ slice_index limits 1) xs.now
+        → IfSome result (λ v. v ≤ slice_index limits 1) }
+{
+    let [low, high] = limits;
     let x = xs[0];
-    let c = op.c;
-    let least = c + op.low;
-    match op.func {
+    let least = c + low;
+    match func {
         Func::Keep => Some(x),
-        Func::Add => at_most(op.high, x + c),
+        Func::Add => at_most(high, x + c),
         Func::Sub => { if x < least { None } else { Some(x - c) } }
         Func::MoveIn => {
             if xs[1] < least {
                 None
             } else {
-                at_most(op.high, x + c)
+                at_most(high, x + c)
             }
         }
         Func::Sum => at_most(c, total(&xs[1..])),
@@ -41,7 +60,7 @@ pub fn eval(op: &Op, xs: &[u64]) -> Option<u64>
             if xs[1] == c {
                 Some(x)
             } else {
-                at_most(op.high, x + 1)
+                at_most(high, x + 1)
             }
         }
         Func::Charge => at_most(c, x.saturating_add(toll(xs[1], xs[2]))),

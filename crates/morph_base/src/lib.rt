@@ -32,7 +32,7 @@
 //! | `event`, `validity` | `Event` and `Batch`; whether a batch that was put together by hand is valid |
 //! | `values` | `Values`: a value for each key |
 //! | `plain`, `outcome` | `fold`, the events one at a time; the `Outcome` of an event |
-//! | `plan`, `rows` | `Plan`, `PlanEvent`, `PlanOp`, `Origin`, `Edges` and `Settled`; `Rows` of numbers in one list |
+//! | `plan`, `plan_ops`, `rows` | `Plan`, `PlanEvent`, `PlanOp`, `Origin`, `Edges` and `Settled`; the operations of a plan in sized lists; `Rows` of numbers in one list |
 //! | `word` | `OpState`, `OpWord`, and a word as one number |
 //! | `strategy` | `Strategy`: `Unit`, `Explore` and `Abort` |
 //! | `list`, `memory` | `List`, whose contracts see its spare room; `OutOfMemory` |
@@ -50,6 +50,7 @@ mod operation;
 mod outcome;
 pub mod plain;
 mod plan;
+mod plan_ops;
 mod rows;
 mod strategy;
 mod validity;
@@ -65,6 +66,7 @@ pub use memory::OutOfMemory;
 pub use operation::{Func, Op};
 pub use outcome::Outcome;
 pub use plan::{Edges, Origin, Plan, PlanEvent, PlanOp, Settled};
+pub use plan_ops::PlanOps;
 pub use rows::Rows;
 pub use strategy::{Abort, Explore, Strategy, Unit};
 pub use values::Values;

@@ -7,6 +7,7 @@ ghost use Rattle.morph_base.specs.Words.{value_of_word};
 use crate::limits::READS;
 use crate::list::List;
 use crate::operation::Op;
+use crate::plan_ops::PlanOps;
 use crate::rows::Rows;
 use crate::word::OpWord;
 
@@ -98,7 +99,7 @@ pub struct Plan {
     /// By rising timestamp.
     pub events: List<PlanEvent>,
     /// By event, and then in operation order; the place of each is its number.
-    pub ops: List<PlanOp>,
+    pub ops: PlanOps,
     /// For each operation those that read from it, rising, each once.
     pub dependents: Rows,
     /// The operations of level 1, of level 2 and so on, each rising.

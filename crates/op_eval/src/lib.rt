@@ -13,6 +13,15 @@
 //! ```
 //!
 //! It uses `op_words`, the board; `interleaving_core`, whose words its contracts cite; and `morph_base`.
+//!
+//! # The files
+//!
+//! | File | What it has |
+//! |---|---|
+//! | `evaluation` | `evaluate`: an operation is made ready, claimed, fetched and finished |
+//! | `answers` | `Evaluation`, `Answers`, and `Left`, why an event was left |
+//! | `runner`, `runners` | `Runner`; `Runners`, with a hand of the board each |
+//! | `explored` | `Explored`, what exploring hands to settling, and `RunEnd` |
 #![tactic(auto)]
 
 mod answers;

@@ -3,6 +3,7 @@ use Rattle.std.specs.Prelude.{◌≡◌, ℕ, ◌-◌, ◌^◌, ◌≤◌, ◌<�
 use Rattle.morph_base.specs.declared.limits.TheConstants.{MAX, READS}
 use Rattle.morph_base.specs.Limits.{most_attempts}
 use Rattle.morph_base.specs.declared.plan.Plan.{Plan}
+use Rattle.morph_base.specs.OpLists.{op_list}
 use Rattle.morph_base.specs.Plans.{IsPlan, op_count}
 use Rattle.interleaving_core.specs.declared.entry.Held.{Held}
 use Rattle.interleaving_core.specs.declared.event.CoreEvent.{CoreEvent}
@@ -33,7 +34,7 @@ abbrev pub no_plan : Plan
 no_plan =
     record {
       events = record { items = []; room = 0 };
-      ops = record { items = []; room = 0 };
+      ops = op_list [] 0 0 0;
       dependents = [];
       op_levels = record { items = []; room = 0 };
       event_levels = record { items = []; room = 0 };

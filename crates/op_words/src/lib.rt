@@ -27,7 +27,7 @@
 //! | `board` | `Board` and `Hand` |
 //! | `board/calls` | a new board; its hands; `peek`, `ready`, `claim`, `fetch`, `finish`, `give_back` |
 //! | `board/verdict`, `board/decide`, `board/settle` | the calls of these names |
-//! | `board/roll_back` | `spread`, `roll_back` |
+//! | `board/roll_back` | `spread`, `roll_back`, and whether a word is within the cap |
 //! | `board/counters`, `board/hands`, `board/close` | counters and level word; a hand's own calls; the end |
 //! | `board/steps`, `board/changes`, `board/loads` | the single atomic steps that the calls are made of |
 //! | `board/sources`, `board/grounds`, `board/values` | sources loaded place by place; values that a hand fetched |
@@ -35,7 +35,8 @@
 //! | `trail`, `journal` | what contracts see of a hand; the steps that a hand writes down |
 //! | `rule`, `counter_plays` | the rule of the table, and the kinds of atomic step |
 //! | `words`, `places`, `note` | the numbers in the row; the places of an operation; notes in a journal |
-//! | `closed`, `laws` | a board after its end; what is proved of every step |
+//! | `closed` | `Closed`, a board after its end: its words, decisions and counts, and the root's journal |
+//! | `laws` | what is proved of every step |
 //!
 //! # The specs
 //!

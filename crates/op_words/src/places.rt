@@ -14,7 +14,7 @@ pub fn places_of(plan: &Plan, op: u32) -> u8
     ensures few { result ≤ READS }
     ensures some { 0 < result }
 {
-    plan.ops.get(op as usize).places() as u8
+    plan.ops.places(op as usize) as u8
 }
 
 /// Where the value of a place comes from.
@@ -24,5 +24,5 @@ pub(crate) fn origin_of(plan: &Plan, op: u32, j: u8) -> Origin
     requires in_places { j < places plan.now op }
     ensures { result ≡ origin_at plan.now op j }
 {
-    plan.ops.get(op as usize).origins[j as usize]
+    plan.ops.origin(op as usize, j as usize)
 }

@@ -39,15 +39,14 @@ pub fn build(alloc: Global, txns: &Txns) -> Result<Plan, OutOfMemory>
         events,
         written,
     } = plan_transactions(alloc, txns)?;
-    let planned = ops.as_slice();
     let edges = Edges {
         temporal: written.targets,
         parametric: written.parameters,
         logical: logical(events.as_slice()),
     };
     let reads = edges.temporal.saturating_add(edges.parametric);
-    let dependents = dependents(alloc, planned, reads as usize)?;
-    let op_levels = op_level_lists(alloc, planned)?;
+    let dependents = dependents(alloc, &ops, reads as usize)?;
+    let op_levels = op_level_lists(alloc, &ops)?;
     let event_levels = event_level_lists(alloc, events.as_slice())?;
     Ok(Plan {
         events,

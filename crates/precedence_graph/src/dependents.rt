@@ -5,38 +5,38 @@ ghost use Rattle.precedence_graph.specs.Links.{items_of};
 ghost use Rattle.precedence_graph.specs.Planned.{IsAmong, IsSoundPlanOp, planned, sources_of};
 
 use crate::links::{Link, grouped};
-use crate::sources::used;
-use morph_base::{List, Origin, OutOfMemory, PlanOp, Rows};
+use morph_base::{List, Origin, OutOfMemory, PlanOps, Rows};
 use std::alloc::Global;
 
 /// For each operation, those that read from it, by rising number, each once. `reads` of all places read from
 /// operations.
-pub fn dependents(alloc: Global, ops: &[PlanOp], reads: usize) -> Result<Rows, OutOfMemory>
-    requires ready { All (IsSoundPlanOp (length ops.now)) ops.now }
-    requires few { length ops.now < 2 ^ 32 }
+pub fn dependents(alloc: Global, ops: &PlanOps, reads: usize) -> Result<Rows, OutOfMemory>
+    requires ready { All (IsSoundPlanOp (length ops.now.items)) ops.now.items }
+    requires few { length ops.now.items < 2 ^ 32 }
     ensures { IfOk result (λ rows. rows
-        ≡ map (λ o. filter (λ t. list_any (is_written_by o) (sources_of (planned ops.now t)))
-        (below (length ops.now)))
-        (below (length ops.now))) }
+        ≡ map (λ o. filter (λ t. list_any (is_written_by o) (sources_of (planned ops.now.items t)))
+        (below (length ops.now.items)))
+        (below (length ops.now.items))) }
 {
     let links = read_links(alloc, ops, reads)?;
     grouped(alloc, ops.len(), links.as_slice())
 }
 
 /// Makes each operation an item of the groups of the operations that it reads from.
-fn read_links(alloc: Global, ops: &[PlanOp], reads: usize) -> Result<List<Link>, OutOfMemory>
-    requires ready { All (IsSoundPlanOp (length ops.now)) ops.now }
-    requires few { length ops.now < 2 ^ 32 }
+fn read_links(alloc: Global, ops: &PlanOps, reads: usize) -> Result<List<Link>, OutOfMemory>
+    requires ready { All (IsSoundPlanOp (length ops.now.items)) ops.now.items }
+    requires few { length ops.now.items < 2 ^ 32 }
     ensures items { IfOk result (λ links. (o : ℕ) → items_of links.items o
-        ≡ filter (λ t. list_any (is_written_by o) (sources_of (planned ops.now t)))
-        (below (length ops.now))) }
-    ensures groups { IfOk result (λ links. All (λ link. link.group < length ops.now) links.items) }
+        ≡ filter (λ t. list_any (is_written_by o) (sources_of (planned ops.now.items t)))
+        (below (length ops.now.items))) }
+    ensures groups { IfOk result (λ links. All (λ link. link.group < length ops.now.items) links.items) }
 {
     let mut links = List::with_room(alloc, reads)?;
-    for (t, op) in ops.iter().enumerate() {
+    for t in 0..ops.len() {
         // An operation of level 1 reads from no operation.
-        if op.level > 1 {
-            link_sources(&mut links, used(op), t as u32)?;
+        if ops.level(t) > 1 {
+            let origins = ops.origins(t);
+            link_sources(&mut links, &origins[..ops.places(t)], t as u32)?;
         }
     }
     Ok(links)

@@ -1,6 +1,7 @@
-ghost use Rattle.std.specs.Prelude.{◌≡◌, ◌+◌, ◌^◌, ◌<◌, ◌++◌, [], ◌∷◌, length, map, take, IfOk};
+ghost use Rattle.std.specs.Prelude.{◌≡◌, ◌+◌, ◌*◌, ◌^◌, ◌<◌, ◌≤◌, ◌++◌, [], ◌∷◌, length, map, take, IfOk};
 ghost use Rattle.morph_base.specs.Graphs.{greatest, level_of};
-ghost use Rattle.morph_base.specs.Operations.{reads, IsShaped};
+ghost use Rattle.morph_base.specs.Operations.{high_in, reads, IsShaped};
+ghost use Rattle.morph_base.specs.OpLists.{op_list};
 ghost use Rattle.txn_splitter.specs.Txns.{IsTxns, txn_count, txn_op_count, txn_at};
 ghost use Rattle.precedence_graph.specs.Planned.{HasWriters, HasLevels, HasEventLevels, IsWrittenOf, ArePlanned, AreEventsPlanned, IsSumOf, event_sources_of, members_of, padded};
 ghost use Rattle.precedence_graph.specs.Writers.{entered_level, entered_event_level, source_in};
@@ -9,14 +10,14 @@ use crate::edges::Written;
 use crate::sources::{Reads, sources};
 use crate::transactions::event_at;
 use crate::writers::Writers;
-use morph_base::{List, Op, Origin, OutOfMemory, PlanEvent, PlanOp, READS};
+use morph_base::{List, MAX, Op, Origin, OutOfMemory, PlanEvent, PlanOps, READS};
 use std::alloc::Global;
 use txn_splitter::{TxnEvent, Txns};
 
 /// Operations and events as a plan has them, and how many reads of operations they have.
 #[derive(Debug, Drop)]
 pub struct Planned {
-    pub ops: List<PlanOp>,
+    pub ops: PlanOps,
     pub events: List<PlanEvent>,
     pub written: Written,
 }
@@ -32,7 +33,7 @@ pub fn plan_transactions(alloc: Global, txns: &Txns) -> Result<Planned, OutOfMem
     ensures written { IfOk result (λ planned. IsWrittenOf planned.ops.items planned.written) }
 {
     let mut writers = Writers::new(alloc, txns.ops.len())?;
-    let mut ops = List::with_room(alloc, txns.ops.len())?;
+    let mut ops = room_for_ops(alloc, txns)?;
     let mut events = List::with_room(alloc, txns.events.len())?;
     let mut written = Written {
         targets: 0,
@@ -48,7 +49,7 @@ pub fn plan_transactions(alloc: Global, txns: &Txns) -> Result<Planned, OutOfMem
             count,
             level,
         });
-        enter_event(txns, i, ops.as_slice(), events.as_slice(), &mut writers);
+        enter_event(txns, i, &ops, events.as_slice(), &mut writers);
     }
     Ok(Planned {
         ops,
@@ -63,7 +64,7 @@ fn plan_event_ops(
     txns: &Txns,
     i: usize,
     writers: &Writers,
-    ops: &mut List<PlanOp>,
+    ops: &mut PlanOps,
     written: &mut Written,
 ) -> u32
     requires txns { IsTxns txns.now }
@@ -71,9 +72,13 @@ fn plan_event_ops(
     requires writers { HasWriters txns.now (txn_at txns.now i).first writers.now }
     requires levels { HasLevels ops.old.items (txn_at txns.now i).first writers.now }
     requires room { length ops.old.items + ops.old.room ≡ txn_op_count txns.now }
+    requires spare { READS * ops.old.room ≤ ops.old.spare }
+    requires high { ops.old.high ≡ high_in txns.now.ops.items }
     requires planned { ArePlanned txns.now (txn_at txns.now i).first ops.old.items }
     requires written { IsWrittenOf ops.old.items written.old }
     ensures room { length ops.new.items + ops.new.room ≡ txn_op_count txns.now }
+    ensures spare { READS * ops.new.room ≤ ops.new.spare }
+    ensures high { ops.new.high ≡ high_in txns.now.ops.items }
     ensures planned { ArePlanned txns.now
         ((txn_at txns.now i).first + (txn_at txns.now i).count) ops.new.items }
     ensures kept { take (txn_at txns.now i).first ops.new.items ≡ ops.old.items }
@@ -92,14 +97,17 @@ fn plan_event_ops(
     most
 }
 
-/// Appends an operation of an event with its sources and its level, and returns what is known of the sources. They are
-/// put into its places in the list, since the operation is large.
-fn add_planned(ops: &mut List<PlanOp>, op: &Op, event: u32, writers: &Writers) -> Reads
+/// Appends an operation of an event with its sources and its level, and returns what is known of the sources.
+fn add_planned(ops: &mut PlanOps, op: &Op, event: u32, writers: &Writers) -> Reads
     requires shaped { IsShaped op.now }
     requires room { 0 < ops.old.room }
+    requires spare { READS * ops.old.room ≤ ops.old.spare }
+    requires high { op.now.high ≡ ops.old.high }
     requires low { 1 + greatest (map (level_of (entered_level writers.now))
         (map (source_in writers.now) (reads op.now))) < 2 ^ 32 }
     ensures room { ops.old.room ≡ ops.new.room + 1 }
+    ensures spare { READS * ops.new.room ≤ ops.new.spare }
+    ensures high { ops.new.high ≡ ops.old.high }
     ensures items { ops.new.items ≡ ops.old.items ++ record {
       op = op.now;
       event = event;
@@ -108,40 +116,53 @@ fn add_planned(ops: &mut List<PlanOp>, op: &Op, event: u32, writers: &Writers) -
     } ∷ [] }
     ensures sums { IsSumOf writers.now op.now result }
 {
-    ops.add(PlanOp {
-        op: *op,
-        event,
-        origins: [Origin::Base(0); READS],
-        level: 0,
-    });
-    let last = ops.len() - 1;
-    let planned = ops.get_mut(last);
-    let reads = sources(op, writers, &mut planned.origins);
-    planned.level = 1 + reads.level;
+    let mut origins = [Origin::Base(0); READS];
+    let reads = sources(op, writers, &mut origins);
+    ops.add(op, event, 1 + reads.level, &origins);
     reads
 }
 
+/// No operation, with room for those of the transactions.
+fn room_for_ops(alloc: Global, txns: &Txns) -> Result<PlanOps, OutOfMemory>
+    requires { IsTxns txns.now }
+    ensures { IfOk result (λ ops. ops ≡ op_list [] (high_in txns.now.ops.items)
+        (txn_op_count txns.now) (READS * txn_op_count txns.now)) }
+{
+    let count = txns.ops.len();
+    PlanOps::with_room(alloc, count, READS * count, greatest_value(txns))
+}
+
+/// The greatest value of all operations.
+fn greatest_value(txns: &Txns) -> u64
+    ensures { result ≡ high_in txns.now.ops.items }
+{
+    if txns.ops.is_empty() {
+        MAX
+    } else {
+        txns.ops.get(0).high
+    }
+}
+
 /// Enters the operations of event `i` as writers, each with its level and that of the event.
-fn enter_event(txns: &Txns, i: usize, ops: &[PlanOp], events: &[PlanEvent], writers: &mut Writers)
+fn enter_event(txns: &Txns, i: usize, ops: &PlanOps, events: &[PlanEvent], writers: &mut Writers)
     requires txns { IsTxns txns.now }
     requires event { i < txn_count txns.now }
     requires planned { ArePlanned txns.now
-        ((txn_at txns.now i).first + (txn_at txns.now i).count) ops.now }
+        ((txn_at txns.now i).first + (txn_at txns.now i).count) ops.now.items }
     requires there { i < length events.now }
     requires writers { HasWriters txns.now (txn_at txns.now i).first writers.old }
-    requires levels { HasLevels ops.now (txn_at txns.now i).first writers.old }
-    requires event_levels { HasEventLevels ops.now events.now (txn_at txns.now i).first writers.old }
+    requires levels { HasLevels ops.now.items (txn_at txns.now i).first writers.old }
+    requires event_levels { HasEventLevels ops.now.items events.now (txn_at txns.now i).first writers.old }
     ensures writers { HasWriters txns.now
         ((txn_at txns.now i).first + (txn_at txns.now i).count) writers.new }
-    ensures levels { HasLevels ops.now
+    ensures levels { HasLevels ops.now.items
         ((txn_at txns.now i).first + (txn_at txns.now i).count) writers.new }
-    ensures event_levels { HasEventLevels ops.now events.now
+    ensures event_levels { HasEventLevels ops.now.items events.now
         ((txn_at txns.now i).first + (txn_at txns.now i).count) writers.new }
 {
     let event = event_at(txns, i);
     let level = events[i].level;
     for o in event.first..event.first + event.count {
-        let op = &ops[o as usize];
-        writers.enter(op.op.key, op.level, level);
+        writers.enter(ops.key(o as usize), ops.level(o as usize), level);
     }
 }

@@ -1,12 +1,12 @@
-ghost use Rattle.std.specs.Prelude.{◌≡◌, length, map, replicate};
+ghost use Rattle.std.specs.Prelude.{◌≡◌, map, replicate};
 ghost use Rattle.morph_base.specs.declared.limits.TheConstants.{READS};
 ghost use Rattle.morph_base.specs.Operations.{reads, IsShaped};
-ghost use Rattle.precedence_graph.specs.Planned.{IsSumOf, padded, sources_of};
+ghost use Rattle.precedence_graph.specs.Planned.{IsSumOf, padded};
 ghost use Rattle.precedence_graph.specs.Writers.{source_in};
 
 use crate::edges::written_count;
 use crate::writers::Writers;
-use morph_base::{Op, Origin, PlanOp, READS};
+use morph_base::{Op, Origin, READS};
 
 /// What is known of the sources of an operation.
 #[derive(Clone, Copy, Debug, PartialEq, Eq)]
@@ -47,13 +47,4 @@ pub fn sources(op: &Op, writers: &Writers, origins: &mut [Origin; READS]) -> Rea
         target: written_count(target.origin),
         parameters,
     }
-}
-
-/// The sources of the places that an operation uses, its target's first.
-pub fn used(op: &PlanOp) -> &[Origin]
-    requires shaped { IsShaped op.now.op }
-    requires places { length op.now.origins ≡ READS }
-    ensures { result.now ≡ sources_of op.now }
-{
-    &op.origins[..op.places()]
 }

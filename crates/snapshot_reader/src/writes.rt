@@ -28,7 +28,7 @@ pub fn writes(
     let mut list = List::with_room(alloc, plan.ops.len())?;
     for o in 0..plan.ops.len() {
         list.add(Write {
-            place: place(layout, plan.ops.get(o).op.key),
+            place: place(layout, plan.ops.key(o)),
             value: *settled.values.get(o),
         });
     }

@@ -31,7 +31,7 @@
 //! | `lend`, `gather` | tickets, by which others steal from a deque: lent, and given back |
 //! | `find` | an item is popped or stolen |
 //! | `serve`, `walk` | an item's unit is walked, and dependents are asked and pushed; the same without a push |
-//! | `cascade` | what follows an evaluation under eager abort |
+//! | `cascade` | the cascade of `abort_eager` behind an evaluation, and what it rolls back is asked and pushed |
 //! | `member`, `seats` | what a worker has; runners are put beside their deques, and taken back |
 //! | `job`, `worker` | all workers side by side, and `pieces`; the turns of one, and `EMPTY_TURNS` |
 //! | `exploration` | `explore` and `Handed` |

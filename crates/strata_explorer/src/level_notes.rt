@@ -15,7 +15,7 @@ impl Notes for LevelNotes {
     fn note(&self, ground: &Ground<'_>, runner: &mut Runner, touched: Touched) {
         match touched.touch {
             Touch::RolledBack => {
-                let level = ground.plan.ops.get(touched.op as usize).level;
+                let level = ground.plan.ops.level(touched.op as usize);
                 ground.board.lower(&mut runner.hand, level)
             }
             _ => {}

@@ -1,15 +1,14 @@
 -- Filling in the sources of an operation, place by place.
-use Rattle.std.proofs.Common.{◌≡◌, ℕ, zero, suc, ◌+◌, ◌-◌, ◌<◌, ◌≤◌, List, [], ◌∷◌, ◌++◌, length, map, take, drop, set, get_or, refl, ap, sym, ◌∙◌, add-one, arith, le_refl, subst}
-use Rattle.std.proofs.lemmas.List.{length-map, length-take, take_all, get_or-append_right, get_or-drop, get_or-take, get_or_default, drop_all, append-nil}
+use Rattle.std.proofs.Common.{◌≡◌, ℕ, zero, suc, ◌+◌, ◌-◌, ◌<◌, ◌≤◌, List, [], ◌∷◌, ◌++◌, length, map, take, drop, set, get_or, refl, ap, sym, ◌∙◌, arith, le_refl, length-append}
+use Rattle.std.proofs.lemmas.List.{length-map, length-take, length-drop, set-set, set-get_or, get_or-set_same, take_all, get_or-append_right, get_or-drop, get_or_default, drop_all, append-nil}
 use Rattle.std.proofs.lemmas.List.Edits.{map_over_more}
 use Rattle.morph_base.specs.declared.key.Key.{Key}
-use Rattle.morph_base.specs.declared.operation.Op.{Op}
 use Rattle.morph_base.specs.declared.plan.Origin.{Origin}
 use Rattle.morph_base.specs.declared.plan.Origin.TheVariants.{Base, Op as Written}
 use Rattle.morph_base.specs.declared.plan.PlanOp.{PlanOp}
 use Rattle.morph_base.specs.Operations.{reads, no_key}
 use Rattle.morph_base.specs.States.{State}
-use Rattle.morph_base.specs.Plans.{filled, filled_in}
+use Rattle.morph_base.specs.Plans.{filled, filled_in, no_plan_op}
 use Rattle.version_table.specs.Filling.{filled_origin}
 
 pub filled_in-none : (s : State) (os : List Origin) → filled_in s [] os ≡ os
@@ -40,10 +39,6 @@ filled_in-more s ks os j d e lt lt' = more s ks os j d e lt lt' ∙ ap (λ n. fi
 abbrev pub with_origins : PlanOp → List Origin → PlanOp
 with_origins q origins = record q { origins = origins }
 
--- parameter j is read at the place after it
-pub parameter_read : (op : Op) (j : ℕ) → j < op.n_params → get_or op.params j no_key ≡ get_or (reads op) (j + 1) no_key
-parameter_read op j lt = sym (ap (λ k. get_or (reads op) k no_key) (add-one j) ∙ get_or-take op.n_params op.params j no_key lt)
-
 -- an operation filled in at its first j places, with one place more
 pub fill_one : (s : State) (q r : PlanOp) (j : ℕ) (key : Key) (origin : Origin) → r ≡ record q { origins = filled_in s (take j (reads q.op)) q.origins } →
     key ≡ get_or (reads r.op) j no_key → origin ≡ filled_origin s key (get_or r.origins j (Base 0)) → j < length (reads q.op) → j < length q.origins →
@@ -58,6 +53,41 @@ fill_one s q r j key origin front its_key its_origin lt lt' =
 pub fill_all : (s : State) (q r : PlanOp) (j : ℕ) → r ≡ record q { origins = filled_in s (take j (reads q.op)) q.origins } → length (reads q.op) ≤ j → r ≡ filled s q
 fill_all s q r j front all = front ∙ ap (λ ks. with_origins q (filled_in s ks q.origins)) (take_all j (reads q.op) all)
 
+-- ---- operation o among the others
+
+abbrev pub items_at : State → List PlanOp → ℕ → ℕ → List PlanOp
+items_at s qs o j = set qs o (with_origins (get_or qs o no_plan_op) (filled_in s (take j (reads (get_or qs o no_plan_op).op)) (get_or qs o no_plan_op).origins))
+
+pub items_at-none : (s : State) (qs : List PlanOp) (o : ℕ) → qs ≡ items_at s qs o 0
+items_at-none s qs o = sym (ap (λ (os : List Origin). set qs o (with_origins (get_or qs o no_plan_op) os)) (filled_in-none s (get_or qs o no_plan_op).origins) ∙ set-get_or qs o no_plan_op)
+
+pub items_at-all : (s : State) (qs : List PlanOp) (o j : ℕ) → length (reads (get_or qs o no_plan_op).op) ≤ j → items_at s qs o j ≡ set qs o (filled s (get_or qs o no_plan_op))
+items_at-all s qs o j all = ap (λ (ks : List Key). set qs o (with_origins (get_or qs o no_plan_op) (filled_in s ks (get_or qs o no_plan_op).origins))) (take_all j (reads (get_or qs o no_plan_op).op) all)
+
+pub items_at-is : (s : State) (qs : List PlanOp) (o j : ℕ) → o < length qs → get_or (items_at s qs o j) o no_plan_op ≡ with_origins (get_or qs o no_plan_op) (filled_in s (take j (reads (get_or qs o no_plan_op).op)) (get_or qs o no_plan_op).origins)
+items_at-is s qs o j lt = get_or-set_same qs o _ no_plan_op lt
+
+-- the source at place j as it should be, put there
+pub items_at-more : (s : State) (qs : List PlanOp) (o j : ℕ) (origin : Origin) → o < length qs → j < length (reads (get_or qs o no_plan_op).op) → j < length (get_or qs o no_plan_op).origins →
+    origin ≡ filled_origin s (get_or (reads (get_or qs o no_plan_op).op) j no_key) (get_or (get_or (items_at s qs o j) o no_plan_op).origins j (Base 0)) →
+    set (items_at s qs o j) o (with_origins (get_or (items_at s qs o j) o no_plan_op) (set (get_or (items_at s qs o j) o no_plan_op).origins j origin)) ≡ items_at s qs o (j + 1)
+items_at-more s qs o j origin lt place fits its =
+    let q = get_or qs o no_plan_op in
+    let r : PlanOp = get_or (items_at s qs o j) o no_plan_op in
+    let front : r ≡ with_origins q (filled_in s (take j (reads q.op)) q.origins) = items_at-is s qs o j lt in
+    let key : get_or (reads q.op) j no_key ≡ get_or (reads r.op) j no_key = sym (ap (λ (x : PlanOp). get_or (reads x.op) j no_key) front) in
+    let one = fill_one s q r j (get_or (reads q.op) j no_key) origin front key its place fits in
+    set-set qs o (with_origins q (filled_in s (take j (reads q.op)) q.origins)) (with_origins r (set r.origins j origin)) ∙ ap (set qs o) one
+
+-- a source that is as it should be already
+pub items_at-same : (s : State) (qs : List PlanOp) (o j : ℕ) → o < length qs → j < length (reads (get_or qs o no_plan_op).op) → j < length (get_or qs o no_plan_op).origins →
+    get_or (get_or (items_at s qs o j) o no_plan_op).origins j (Base 0) ≡ filled_origin s (get_or (reads (get_or qs o no_plan_op).op) j no_key) (get_or (get_or (items_at s qs o j) o no_plan_op).origins j (Base 0)) →
+    items_at s qs o j ≡ items_at s qs o (j + 1)
+items_at-same s qs o j lt place fits its =
+    let xs : List PlanOp = items_at s qs o j in
+    let r : PlanOp = get_or xs o no_plan_op in
+    sym (set-get_or xs o no_plan_op) ∙ ap (λ (os : List Origin). set xs o (with_origins r os)) (sym (set-get_or r.origins j (Base 0))) ∙ items_at-more s qs o j (get_or r.origins j (Base 0)) lt place fits its
+
 -- ---- the operations of a plan, one after another
 
 -- what stands at place i, where those before it are changed
@@ -69,22 +99,6 @@ changed_front-at f xs ys i d is lt =
     ∙ get_or-drop i xs (i - i) d
     ∙ ap (λ k. get_or xs k d) {x = i + (i - i)} {y = i} (omega arith)
 
--- what holds of it in the plan holds of it there, whatever stands past the end
-pub changed_front-holds : {X : Type 0} (P : X → Type 0) (f : X → X) (xs ys : List X) (i : ℕ) (d e : X) → ys ≡ map f (take i xs) ++ drop i xs → i < length xs →
-    P (get_or xs i e) → P (get_or ys i d)
-changed_front-holds P f xs ys i d e is lt holds = subst P (get_or_default xs i e d lt ∙ sym (changed_front-at f xs ys i d is lt)) holds
-
--- all of them changed, when their loan has ended
-pub changed_all : {X : Type 0} (f : X → X) (olds xs ys : List X) (i : ℕ) → xs ≡ olds → ys ≡ map f (take i xs) ++ drop i xs → length xs ≤ i →
-    take (length olds) (ys ++ drop (length ys) olds) ≡ map f olds
-changed_all f olds xs ys i same is all =
-    let whole : ys ≡ map f olds = is ∙ ap (λ l. map f l ++ drop i xs) (take_all i xs all) ∙ ap (λ l. map f xs ++ l) (drop_all i xs all) ∙ append-nil (map f xs) ∙ ap (map f) same in
-    let len : length ys ≡ length olds = ap length whole ∙ length-map olds f in
-    ap (λ l. take (length olds) (ys ++ l)) (drop_all (length ys) olds (omega arith))
-    ∙ ap (take (length olds)) (append-nil ys)
-    ∙ take_all (length olds) ys (omega arith)
-    ∙ whole
-
 -- one of them more is changed
 pub changed_more : {X : Type 0} (f g : X → X) (xs ys : List X) (i : ℕ) (d x : X) → g ≡ f → i < length xs → length ys ≡ length xs →
     ys ≡ map f (take i xs) ++ drop i xs → x ≡ g (get_or ys i d) → set ys i x ≡ map f (take (i + 1) xs) ++ drop (i + 1) xs
@@ -92,3 +106,11 @@ changed_more f g xs ys i d x same lt len front one =
     let inside : i < length ys = omega arith in
     ap (set ys i) (one ∙ ap (λ (h : _ → _). h (get_or ys i d)) same)
     ∙ map_over_more f xs ys i (get_or ys i d) lt front (get_or_default ys i d (get_or ys i d) inside)
+
+-- their number stays
+pub length-changed : {X : Type 0} (f : X → X) (xs : List X) (i : ℕ) → length (map f (take i xs) ++ drop i xs) ≡ length xs
+length-changed f xs i = simp (length-append, length-map, length-take, length-drop) (omega arith)
+
+-- all of them are changed
+pub changed_all : {X : Type 0} (f : X → X) (xs : List X) (i : ℕ) → length xs ≤ i → map f (take i xs) ++ drop i xs ≡ map f xs
+changed_all f xs i all = ap (λ l. map f l ++ drop i xs) (take_all i xs all) ∙ ap (λ l. map f xs ++ l) (drop_all i xs all) ∙ append-nil (map f xs)

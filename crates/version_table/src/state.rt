@@ -4,10 +4,10 @@ ghost use Rattle.morph_base.specs.Operations.{InLayout};
 ghost use Rattle.morph_base.specs.States.{opening_state, IsUpTo};
 ghost use Rattle.morph_base.specs.Flat.{contents};
 ghost use Rattle.morph_base.specs.Plans.{IsPlan, high_of, HasBases, PlanKeysIn, IsSettledOf};
-ghost use Rattle.morph_base.specs.Plans.{event_count, event_at, state_at, filled_plan};
+ghost use Rattle.morph_base.specs.Plans.{event_count, event_at, event_of, op_count, target, state_at, filled_plan};
 
 use crate::fill::fill;
-use morph_base::{Key, Layout, OutOfMemory, Plan, PlanOp, Settled, Values};
+use morph_base::{Key, Layout, OutOfMemory, Plan, Settled, Values};
 use std::alloc::Global;
 use std::marker::Model;
 
@@ -71,8 +71,8 @@ impl State {
         ensures plan { IsPlan plan.new }
         ensures bases { HasBases plan.new (contents self.now) }
     {
-        for op in plan.ops.as_mut_slice() {
-            fill(&self.values, op);
+        for o in 0..plan.ops.len() {
+            fill(&self.values, &mut plan.ops, o);
         }
     }
 
@@ -90,7 +90,7 @@ impl State {
     {
         let mut value = self.get(key);
         for o in 0..plan.ops.len() {
-            if changes(plan, plan.ops.get(o), key, ts) {
+            if changes(plan, o, key, ts) {
                 value = *settled.values.get(o);
             }
         }
@@ -110,16 +110,18 @@ impl State {
         ensures layout { self.new.layout ≡ self.old.layout }
     {
         for o in 0..settled.values.len() {
-            let key = plan.ops.get(o).op.key;
+            let key = plan.ops.key(o);
             self.values.put(key, *settled.values.get(o));
         }
     }
 }
 
-/// Whether an operation of the plan changes the key at a time up to `ts`.
-fn changes(plan: &Plan, op: &PlanOp, key: Key, ts: u64) -> bool
-    requires { op.now.event < event_count plan.now }
-    ensures { IsTrue result ↔ ((op.now.op.key ≡ key) × ((event_at plan.now op.now.event).ts ≤ ts)) }
+/// Whether operation `o` of the plan changes the key at a time up to `ts`.
+fn changes(plan: &Plan, o: usize, key: Key, ts: u64) -> bool
+    requires op { o < op_count plan.now }
+    requires event { event_of plan.now o < event_count plan.now }
+    ensures { IsTrue result ↔ ((target plan.now o ≡ key)
+        × ((event_at plan.now (event_of plan.now o)).ts ≤ ts)) }
 {
-    op.op.key == key && plan.events.get(op.event as usize).ts <= ts
+    plan.ops.key(o) == key && plan.events.get(plan.ops.event(o) as usize).ts <= ts
 }

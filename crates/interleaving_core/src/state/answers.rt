@@ -10,7 +10,7 @@ ghost use Rattle.interleaving_core.specs.Stored.{core_of, IsStateOf};
 
 use super::CoreState;
 use super::reads::{origin_of, places_of};
-use morph_base::{Plan, READS, eval};
+use morph_base::{Plan, READS};
 
 impl CoreState {
     /// Whether all sources of the operation are settled.
@@ -94,7 +94,7 @@ impl CoreState {
         for j in 0..places {
             values[j] = self.source_value(plan, op, j);
         }
-        eval(&plan.ops.get(op as usize).op, &values[..places])
+        plan.ops.eval(op as usize, &values[..places])
     }
 
     /// Whether the operation answers on settled sources.

@@ -83,7 +83,7 @@ impl CoreState {
             return false;
         }
         sibling != op
-            && plan.ops.get(sibling as usize).event == plan.ops.get(op as usize).event
+            && plan.ops.event(sibling as usize) == plan.ops.event(op as usize)
             && self.word(op).attempt < self.cap
             && self.published.has_failed(sibling)
     }
@@ -204,7 +204,7 @@ impl CoreState {
         ensures { IsTrue result
             ↔ ((core_of self.now).decision (event_of plan.now op) ≡ Some committed) }
     {
-        match self.decision(plan.ops.get(op as usize).event) {
+        match self.decision(plan.ops.event(op as usize)) {
             Some(decided) => decided == committed,
             None => false,
         }

@@ -23,7 +23,7 @@ pub(super) fn places_of(plan: &Plan, op: u32) -> usize
     ensures few { result ≤ READS }
     ensures some { 0 < result }
 {
-    plan.ops.get(op as usize).places()
+    plan.ops.places(op as usize)
 }
 
 /// Where the value of a place comes from.
@@ -34,7 +34,7 @@ pub(super) fn origin_of(plan: &Plan, op: u32, j: usize) -> Origin
     ensures origin { result ≡ origin_at plan.now op j }
     ensures inside { IsInside (op_count plan.now) result }
 {
-    plan.ops.get(op as usize).origins[j]
+    plan.ops.origin(op as usize, j)
 }
 
 /// Whether this is the number of a worker.

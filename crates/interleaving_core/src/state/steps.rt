@@ -9,7 +9,7 @@ use super::CoreState;
 use crate::claim::Claim;
 use crate::entry::{Entry, Record, Settling};
 use crate::event::CoreEvent;
-use morph_base::{OpState, OpWord, Plan, READS, evaluate};
+use morph_base::{OpState, OpWord, Plan, READS};
 
 impl CoreState {
     /// Makes a step that may be made.
@@ -118,11 +118,7 @@ impl CoreState {
     {
         let attempt = self.word(op).attempt;
         let claim = self.held(by);
-        evaluate(
-            &plan.ops.get(op as usize).op,
-            &claim.values[..claim.count as usize],
-            attempt,
-        )
+        plan.ops.evaluate(op as usize, &claim.values[..claim.count as usize], attempt)
     }
 
     fn give_back(&mut self, plan: &Plan, op: u32, by: u8)
@@ -186,7 +182,7 @@ impl CoreState {
         ensures shape { IsSameShape self.old self.new }
     {
         let word = self.word(op);
-        match self.decision(plan.ops.get(op as usize).event) {
+        match self.decision(plan.ops.event(op as usize)) {
             Some(true) => {
                 self.book(Settling { op, by });
                 self.put_word(

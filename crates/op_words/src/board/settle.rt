@@ -36,7 +36,7 @@ impl Board {
         if !word.state.is_open() {
             return SettleAnswer::Not { at: op, word };
         }
-        if self.decision(hand, plan, plan.ops.get(op as usize).event) {
+        if self.decision(hand, plan, plan.ops.event(op as usize)) {
             self.settle_committed(hand, plan, op, word)
         } else {
             self.settle_aborted(hand, plan, op, word)

@@ -34,7 +34,7 @@ impl Holding {
         ensures small { IfSome result (λ x. x ≤ MAX) }
     {
         let values = &self.values[..self.count as usize];
-        eval(&plan.ops.get(self.op as usize).op, values)
+        plan.ops.eval(self.op as usize, values)
     }
 
     /// The word that the operation is left with: executed with the answer, or failed with the value of its target.

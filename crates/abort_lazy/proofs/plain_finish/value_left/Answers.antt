@@ -1,10 +1,8 @@
-use Rattle.std.proofs.Common.{◌∙◌, ◌<◌, length, get_or, slice_index, sym, ap, subst}
+use Rattle.std.proofs.Common.{◌∙◌, ◌<◌, length, slice_index, sym, ap, subst}
 use Rattle.std.proofs.lemmas.Option.{none-some, same_Some}
-use Rattle.morph_base.specs.declared.plan.Origin.TheVariants.{Base}
-use Rattle.morph_base.specs.declared.plan.PlanOp.{PlanOp}
 use Rattle.morph_base.specs.Clean.{from}
 use Rattle.morph_base.specs.Known.{IsKnown}
-use Rattle.morph_base.specs.Plans.{no_plan_op, final}
+use Rattle.morph_base.specs.Plans.{final}
 use Rattle.morph_base.proofs.KnownLaws.{final_committed, final_aborted}
 use Rattle.abort_lazy.proofs.Made.{places_some}
 use Rattle.abort_lazy.proofs.Reading.{source_known, source_read}
@@ -26,7 +24,7 @@ pub value_in-requires : goal.value_in-requires
 value_in-requires c =
     let p = c.args.plan.now in
     let o = c.args.o in
-    let at_place = ap (λ (q : PlanOp). get_or q.origins 0 (Base 0)) (c.get.ensures.at no_plan_op) in
+    let at_place = c.origin.ensures in
     subst (IsKnown (λ t. t < length c.args.values.now.items)) (sym at_place)
     (source_known p o 0 c.args.values.now.items c.requires.plan c.requires.op (places_some p o c.requires.plan c.requires.op).0 c.requires.values)
 
@@ -34,7 +32,7 @@ pub returns : goal.returns
 returns c =
     let p = c.args.plan.now in
     let o = c.args.o in
-    let at_place = ap (λ (q : PlanOp). get_or q.origins 0 (Base 0)) (c.get.ensures.at no_plan_op) in
+    let at_place = c.origin.ensures in
     c.value_in.ensures
     ∙ ap (from (slice_index c.args.values.now.items)) at_place
     ∙ source_read p o 0 c.args.values.now.items c.requires.plan c.requires.op (places_some p o c.requires.plan c.requires.op).0 c.requires.values

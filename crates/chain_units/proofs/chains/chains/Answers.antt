@@ -1,8 +1,7 @@
 use Rattle.std.proofs.Common.{◌≡◌, ℕ, List, map, ◌∙◌, ap, arith}
 use Rattle.std.proofs.lemmas.Result.{IfOk-weaker}
 use Rattle.morph_base.specs.declared.key.Key.{Key}
-use Rattle.morph_base.specs.declared.plan.PlanOp.{PlanOp}
-use Rattle.morph_base.specs.Plans.{no_plan_op, op_count, target}
+use Rattle.morph_base.specs.Plans.{op_count, target}
 use Rattle.chain_units.specs.Chains.{chain_lists, with_op}
 use Rattle.chain_units.specs.Units.{chain, targets_in_order}
 use Rattle.chain_units.proofs.Chaining.{chains_below, chains_more, lists_of, chains_of}
@@ -11,7 +10,7 @@ use Rattle.chain_units.proofs.chains.chains.Goals as goal
 pub loop-op-preserved : goal.loop-op-preserved
 loop-op-preserved c =
     c.in_ok-append.ensures
-    ∙ ap (λ (q : PlanOp). with_op q.op.key c.loop-op.op (chain_lists c.loop-op.chains)) (c.get.ensures.at no_plan_op)
+    ∙ ap (λ (k : Key). with_op k c.loop-op.op (chain_lists c.loop-op.chains)) c.key.ensures
     ∙ ap (with_op (target c.args.plan.now c.loop-op.op) c.loop-op.op) c.loop-op.invariant
     ∙ chains_more c.args.plan.now c.loop-op.op
 

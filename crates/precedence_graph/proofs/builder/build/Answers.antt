@@ -2,37 +2,36 @@ use Rattle.std.proofs.Common.{◌<◌, ◌≤◌, length, sym, ap, subst, ◌∙
 use Rattle.std.specs.Prelude.{All}
 use Rattle.morph_base.specs.declared.limits.TheConstants.{EVENT_OPS}
 use Rattle.morph_base.specs.declared.plan.Plan.{Plan}
-use Rattle.precedence_graph.specs.Planned.{IsSoundPlanOp}
 use Rattle.precedence_graph.proofs.ReadyLemmas.{all_ready, levels_positive, ops_few}
 use Rattle.precedence_graph.proofs.EventLemmas.{event_levels_positive, event_counts, events_few}
 use Rattle.precedence_graph.proofs.BuiltLemmas.{op_column, event_of_column, event_column, transactions_same}
 use Rattle.precedence_graph.proofs.BlankLemmas.{blank_is, plan_is}
-use Rattle.precedence_graph.proofs.GraphLemmas.{readers_of, op_lists_of, event_lists_of, logical_of, graph_is}
+use Rattle.precedence_graph.proofs.GraphLemmas.{event_lists_of, logical_of, graph_is}
 use Rattle.precedence_graph.proofs.builder.build.Goals as goal
 
 pub dependents-requires-clause-ready : goal.dependents-requires-clause-ready
 dependents-requires-clause-ready c =
     let x = c.args.txns.now in
     let ops = c.in_ok-ops.field-0.ops.items in
-    subst (λ os. All (IsSoundPlanOp (length os)) os) (sym c.as_slice-planned.ensures) (all_ready x c.requires ops c.in_ok-ops.ensures.ops)
+    all_ready x c.requires ops c.in_ok-ops.ensures.ops
 
 pub dependents-requires-clause-few : goal.dependents-requires-clause-few
 dependents-requires-clause-few c =
     let x = c.args.txns.now in
     let ops = c.in_ok-ops.field-0.ops.items in
-    omega (arith, ap length c.as_slice-planned.ensures, ops_few x c.requires ops c.in_ok-ops.ensures.ops)
+    omega (arith, ops_few x c.requires ops c.in_ok-ops.ensures.ops)
 
 pub op_level_lists-requires-clause-positive : goal.op_level_lists-requires-clause-positive
 op_level_lists-requires-clause-positive c =
     let x = c.args.txns.now in
     let ops = c.in_ok-ops.field-0.ops.items in
-    subst (All (λ q. 0 < q.level)) (sym c.as_slice-planned.ensures) (levels_positive x c.requires ops c.in_ok-ops.ensures.ops)
+    levels_positive x c.requires ops c.in_ok-ops.ensures.ops
 
 pub op_level_lists-requires-clause-few : goal.op_level_lists-requires-clause-few
 op_level_lists-requires-clause-few c =
     let x = c.args.txns.now in
     let ops = c.in_ok-ops.field-0.ops.items in
-    omega (arith, ap length c.as_slice-planned.ensures, ops_few x c.requires ops c.in_ok-ops.ensures.ops)
+    omega (arith, ops_few x c.requires ops c.in_ok-ops.ensures.ops)
 
 pub event_level_lists-requires-clause-positive : goal.event_level_lists-requires-clause-positive
 event_level_lists-requires-clause-positive c =
@@ -88,9 +87,8 @@ returns-clause-graph c =
       edges = record { temporal = c.in_ok-ops.field-0.written.targets; parametric = c.in_ok-ops.field-0.written.parameters; logical = c.logical.result };
     } in
     let events_done = c.in_ok-ops.ensures.events in
-    let same = c.as_slice-planned.ensures in
     let same_events = c.as_slice.ensures in
-    graph_is x c.requires p c.in_ok-ops.ensures.ops events_done (c.in_ok-dependents.ensures ∙ ap readers_of same) (c.in_ok-op_levels.ensures ∙ ap op_lists_of same) (c.in_ok-event_levels.ensures ∙ ap event_lists_of c.as_slice-2.ensures)
+    graph_is x c.requires p c.in_ok-ops.ensures.ops events_done c.in_ok-dependents.ensures c.in_ok-op_levels.ensures (c.in_ok-event_levels.ensures ∙ ap event_lists_of c.as_slice-2.ensures)
     c.in_ok-ops.ensures.written.targets c.in_ok-ops.ensures.written.parameters (c.logical.ensures ∙ ap logical_of same_events)
 
 pub returns-clause-ops : goal.returns-clause-ops

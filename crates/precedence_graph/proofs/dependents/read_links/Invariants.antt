@@ -8,6 +8,6 @@ use Rattle.precedence_graph.proofs.dependents.read_links.Given as goal
 
 abbrev pub invariant-loop-t : goal.invariant-loop-t
 invariant-loop-t l = record {
-  items : (o : ℕ) → items_of l.links.items o ≡ filter (λ t. list_any (is_written_by o) (sources_of (planned l.ops t))) (below l.t);
-  groups : All (λ link. link.group < length l.ops) l.links.items;
+  items : (o : ℕ) → items_of l.links.items o ≡ filter (λ t. list_any (is_written_by o) (sources_of (planned l.ops.items t))) (below l.t);
+  groups : All (λ link. link.group < length l.ops.items) l.links.items;
 }

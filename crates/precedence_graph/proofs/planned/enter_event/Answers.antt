@@ -1,12 +1,13 @@
 use Rattle.std.proofs.Common.{◌≡◌, ℕ, ◌+◌, ◌<◌, List, get_or, sym, ap, subst, ◌∙◌, if◌then◌else◌, arith}
 use Rattle.std.proofs.lemmas.List.{get_or_default}
+use Rattle.morph_base.specs.declared.key.Key.{Key}
 use Rattle.morph_base.specs.declared.operation.Op.{Op}
 use Rattle.morph_base.specs.declared.plan.Origin.TheVariants.{Op as Written}
 use Rattle.morph_base.specs.declared.plan.PlanOp.{PlanOp}
 use Rattle.morph_base.specs.declared.plan.PlanEvent.{PlanEvent}
 use Rattle.morph_base.specs.Numbering.{IsWithin}
 use Rattle.morph_base.specs.Operations.{same_key}
-use Rattle.morph_base.specs.Plans.{no_plan_op, no_event}
+use Rattle.morph_base.specs.Plans.{no_event}
 use Rattle.txn_splitter.specs.declared.txns.TxnEvent.{TxnEvent}
 use Rattle.txn_splitter.specs.Txns.{txn_at, txn_target}
 use Rattle.precedence_graph.specs.Writers.{entered_count, source_in, entered_level, entered_event_level}
@@ -20,7 +21,7 @@ loop-o-preserved c =
     let x = c.args.txns.now in
     let i : ℕ = c.args.i in
     let o : ℕ = c.loop-o.o in
-    let ops : List PlanOp = c.args.ops.now in
+    let ops : List PlanOp = c.args.ops.now.items in
     let events : List PlanEvent = c.args.events.now in
     let old = c.loop-o.writers in
     let new = c.enter.new.self in
@@ -28,7 +29,6 @@ loop-o-preserved c =
     let within : IsWithin (txn_at x i).first (txn_at x i).count o = subst (λ (e : TxnEvent). IsWithin e.first e.count o) c.event_at-event.ensures.event (record { from = c.loop-o.auto.o; below = c.loop-o-test.true }) in
     let below : o < (txn_at x i).first + (txn_at x i).count = within.below in
     let q = c.requires.planned.each o below in
-    let at : get_or ops o _ ≡ planned ops o = get_or_default ops o _ no_plan_op (omega (arith, c.requires.planned.many)) in
     let event_is : (planned ops o).event ≡ i = q.event_is ∙ (c.requires.txns.numbering.owned i o c.requires.event within).1 in
     let level : (get_or events i _).level ≡ event_level_in ops events o = ap (λ e. e.level) (get_or_default events i _ no_event c.requires.there) ∙ ap (λ j. (get_or events j no_event).level) (sym event_is) in
     record {
@@ -37,10 +37,9 @@ loop-o-preserved c =
         room = omega (arith, c.enter.ensures.room, before.writers.room);
         source = entered o (txn_target x) (source_in old) (source_in new) before.writers.source
             (λ key. c.enter.ensures.source key
-            ∙ ap (λ (p : PlanOp). if same_key p.op.key key then Written (entered_count old) else source_in old key) at
-            ∙ ap (λ (p : Op). if same_key p.key key then Written (entered_count old) else source_in old key) q.op_is
+            ∙ ap (λ (k : Key). if same_key k key then Written (entered_count old) else source_in old key) (c.key.ensures ∙ ap (λ (p : Op). p.key) q.op_is)
             ∙ ap (λ n. if same_key (txn_target x o) key then Written n else source_in old key) before.writers.count);
       };
-      levels = entered_next o (entered_count old) _ (entered_level old) (entered_level new) (op_level_in ops) before.writers.count (ap (λ p. p.level) at) c.enter.ensures.levels before.levels;
+      levels = entered_next o (entered_count old) _ (entered_level old) (entered_level new) (op_level_in ops) before.writers.count c.level.ensures c.enter.ensures.levels before.levels;
       event_levels = entered_next o (entered_count old) _ (entered_event_level old) (entered_event_level new) (event_level_in ops events) before.writers.count level c.enter.ensures.event_levels before.event_levels;
     }

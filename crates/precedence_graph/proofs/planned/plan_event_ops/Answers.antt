@@ -20,6 +20,12 @@ pub add_planned-reads-requires-clause-shaped : goal.add_planned-reads-requires-c
 add_planned-reads-requires-clause-shaped c =
     subst IsShaped (sym (c.get.ensures.at no_op)) (c.requires.txns.numbering.shaped c.loop-o.o (omega (arith, c.event_at-event.ensures.end, c.loop-o-test.true)))
 
+pub add_planned-reads-requires-clause-high : goal.add_planned-reads-requires-clause-high
+add_planned-reads-requires-clause-high c =
+    ap (λ (op : Op). op.high) (c.get.ensures.at no_op)
+    ∙ c.requires.txns.alike c.loop-o.o no_op (omega (arith, c.event_at-event.ensures.end, c.loop-o-test.true))
+    ∙ sym c.loop-o.invariant.high
+
 pub add_planned-reads-requires-clause-low : goal.add_planned-reads-requires-clause-low
 add_planned-reads-requires-clause-low c =
     let x = c.args.txns.now in
@@ -47,6 +53,8 @@ loop-o-preserved c =
     let from : (txn_at x i).first ≤ o = within.from in
     record {
       room = omega (arith, c.add_planned-reads.ensures.room, ap length c.add_planned-reads.ensures.items, length_push ops q, c.loop-o.invariant.room);
+      spare = c.add_planned-reads.ensures.spare;
+      high = c.add_planned-reads.ensures.high ∙ c.loop-o.invariant.high;
       planned = subst (ArePlanned x (o + 1)) (sym c.add_planned-reads.ensures.items)
           (planned_with x c.requires.txns i c.requires.event c.args.writers.now c.requires.writers o within ops done q op refl refl (c.get.ensures.at no_op) refl level);
       kept = ap (take (txn_at x i).first) c.add_planned-reads.ensures.items ∙ take-append-le (txn_at x i).first ops (q ∷ []) (omega arith) ∙ c.loop-o.invariant.kept;

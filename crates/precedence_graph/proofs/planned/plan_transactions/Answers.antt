@@ -4,6 +4,7 @@ use Rattle.std.proofs.lemmas.List.Elements.{All-same, All-nil}
 use Rattle.morph_base.specs.declared.plan.PlanOp.{PlanOp}
 use Rattle.morph_base.specs.declared.plan.PlanEvent.{PlanEvent}
 use Rattle.morph_base.specs.Sources.{IsSource}
+use Rattle.morph_base.specs.OpLists.{OpList}
 use Rattle.txn_splitter.specs.Txns.{txn_count, txn_at, txn_target}
 use Rattle.txn_splitter.proofs.TxnLemmas.{txn_start, txn_next, txn_last, txn_none, txn_ops_few}
 use Rattle.precedence_graph.specs.Planned.{HasWriters, HasLevels, HasEventLevels, txn_event, targets_in, parameters_in, ArePlanned, AreEventsPlanned}
@@ -19,21 +20,24 @@ pub loop-i-init : goal.loop-i-init
 loop-i-init c =
     let x = c.args.txns.now in
     let ops : List PlanOp = c.in_ok-ops.ops.items in
-    let none : length ops ≡ 0 = ap length c.in_ok-ops.ensures.items in
+    let empty : ops ≡ [] = ap (λ (l : OpList). l.items) c.in_ok-ops.ensures in
+    let none : length ops ≡ 0 = ap length empty in
     record {
       start = λ some. none ∙ sym (txn_start x c.requires some);
       end = λ all. none ∙ sym (txn_none x c.requires (omega arith));
-      room = omega (arith, c.in_ok-ops.ensures.room);
-      event_room = omega (arith, c.in_ok-events.ensures.room, c.len-3.ensures);
-      planned = record { many = refl; each = λ o lt. absurd (omega arith); low = All-same (λ q. q.level ≤ length ops) ops [] c.in_ok-ops.ensures.items (All-nil (λ q. q.level ≤ length ops)) };
+      room = omega (arith, none, ap (λ (l : OpList). l.room) c.in_ok-ops.ensures);
+      spare = omega (arith, ap (λ (l : OpList). l.room) c.in_ok-ops.ensures, ap (λ (l : OpList). l.spare) c.in_ok-ops.ensures);
+      high = ap (λ (l : OpList). l.high) c.in_ok-ops.ensures;
+      event_room = omega (arith, c.in_ok-events.ensures.room, c.len-2.ensures);
+      planned = record { many = refl; each = λ o lt. absurd (omega arith); low = All-same (λ q. q.level ≤ length ops) ops [] empty (All-nil (λ q. q.level ≤ length ops)) };
       events = record {
         events_are = ap (map txn_event) c.in_ok-events.ensures.items;
         level_is = λ j lt. absurd (omega arith);
         low = All-same (λ e. e.level ≤ 0) c.in_ok-events.events.items [] c.in_ok-events.ensures.items (All-nil (λ e. e.level ≤ 0));
       };
       written = record {
-        targets = sym (ap targets_in c.in_ok-ops.ensures.items);
-        parameters = sym (ap parameters_in c.in_ok-ops.ensures.items);
+        targets = sym (ap targets_in empty);
+        parameters = sym (ap parameters_in empty);
         few = zero-le;
       };
       writers = record {
@@ -68,9 +72,8 @@ enter_event-requires-clause-event_levels c =
     let events : List PlanEvent = c.loop-i.events.items in
     let many = events_many x c.requires before (length before) c.loop-i.invariant.planned i events (omega arith) c.loop-i.invariant.events in
     let has = event_levels_kept first ops before events c.loop-i.writers c.plan_event_ops-most.ensures.kept (c.loop-i.invariant.start lt) c.loop-i.invariant.event_levels in
-    subst (λ ps. HasEventLevels ps c.as_slice-in-loop-i.result.now first c.loop-i.writers) (sym c.as_slice.ensures)
-    (subst (λ es. HasEventLevels ops es first c.loop-i.writers) (sym (c.as_slice-in-loop-i.ensures ∙ c.add.ensures.items))
-    (event_levels_next x c.requires i lt ops c.plan_event_ops-most.ensures.planned events many c.loop-i.writers has _))
+    subst (λ es. HasEventLevels ops es first c.loop-i.writers) (sym (c.as_slice.ensures ∙ c.add.ensures.items))
+    (event_levels_next x c.requires i lt ops c.plan_event_ops-most.ensures.planned events many c.loop-i.writers has _)
 
 pub loop-i-preserved : goal.loop-i-preserved
 loop-i-preserved c =
@@ -96,14 +99,15 @@ loop-i-preserved c =
       start = λ next. many ∙ sym (txn_next x c.requires i next);
       end = λ all. many ∙ txn_last x c.requires i (omega arith);
       room = c.plan_event_ops-most.ensures.room;
+      spare = c.plan_event_ops-most.ensures.spare;
+      high = c.plan_event_ops-most.ensures.high;
       event_room = omega (arith, c.add.ensures.room, c.loop-i.invariant.event_room);
       planned = subst (λ n. ArePlanned x n ops) (sym many) done;
       events = subst (AreEventsPlanned x ops (i + 1)) (sym c.add.ensures.items)
           (events_more x c.requires ops (first + (txn_at x i).count) done i events e lt (end_by_next x c.requires i lt) so_far c.event_at-ts.ensures.event level (omega (arith, c.plan_event_ops-most.ensures.level, low)));
       written = c.plan_event_ops-most.ensures.written;
       writers = subst (λ n. HasWriters x n c.enter_event.new.writers) (sym many) c.enter_event.ensures.writers;
-      levels = subst (λ n. HasLevels ops n c.enter_event.new.writers) (sym many) (subst (λ ps. HasLevels ps (first + (txn_at x i).count) c.enter_event.new.writers) c.as_slice.ensures c.enter_event.ensures.levels);
+      levels = subst (λ n. HasLevels ops n c.enter_event.new.writers) (sym many) c.enter_event.ensures.levels;
       event_levels = subst (λ n. HasEventLevels ops c.add.new.self.items n c.enter_event.new.writers) (sym many)
-          (subst (λ ps. HasEventLevels ps c.add.new.self.items (first + (txn_at x i).count) c.enter_event.new.writers) c.as_slice.ensures
-          (subst (λ es. HasEventLevels c.as_slice.result.now es (first + (txn_at x i).count) c.enter_event.new.writers) c.as_slice-in-loop-i.ensures c.enter_event.ensures.event_levels));
+          (subst (λ es. HasEventLevels ops es (first + (txn_at x i).count) c.enter_event.new.writers) c.as_slice.ensures c.enter_event.ensures.event_levels);
     }

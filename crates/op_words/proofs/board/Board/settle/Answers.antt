@@ -1,6 +1,5 @@
-use Rattle.std.proofs.Common.{◌≡◌, ◌∙◌, Bool, Some, sym, subst, ap, inl}
-use Rattle.morph_base.specs.declared.plan.PlanOp.{PlanOp}
-use Rattle.morph_base.specs.Plans.{event_of, no_plan_op}
+use Rattle.std.proofs.Common.{◌≡◌, ◌∙◌, Bool, Some, sym, subst, inl}
+use Rattle.morph_base.specs.Plans.{event_of}
 use Rattle.op_words.specs.declared.trail.View.{View}
 use Rattle.op_words.specs.Hands.{view_of, call_on}
 use Rattle.op_words.specs.Views.{IsDecisionSeen}
@@ -16,9 +15,9 @@ returns-then-not-is_open-clause-answer c =
 
 pub decision-requires-clause-decided : goal.decision-requires-clause-decided
 decision-requires-clause-decided c =
-    let event : c.get.result.now.event ≡ event_of c.args.plan.now c.args.op = ap (λ (q : PlanOp). q.event) (c.get.ensures.at no_plan_op) in (
+    let event : c.event.result ≡ event_of c.args.plan.now c.args.op = c.event.ensures in (
       c.requires.decided.0,
-      subst (λ (v : View). IsDecisionSeen v c.get.result.now.event c.requires.decided.0) (sym c.look-word.ensures.view)
+      subst (λ (v : View). IsDecisionSeen v c.event.result c.requires.decided.0) (sym c.look-word.ensures.view)
           (subst (λ n. IsDecisionSeen (view_of c.args.hand.now) n c.requires.decided.0) (sym event) c.requires.decided.1),
     )
 
@@ -28,12 +27,12 @@ settle_committed-requires-clause-loaded c = last_then c.args.self.now c.args.pla
 pub settle_committed-requires-clause-decided : goal.settle_committed-requires-clause-decided
 settle_committed-requires-clause-decided c =
     known_then c.args.self.now c.args.plan.now c.args.op _ _ _ c.requires.may.3 c.look-word.ensures _ _ _
-    (subst (λ (d : Bool). Learned (call_on c.args.self.now c.look-word.new.hand c.decision.new.hand) c.get.result.now.event (Some d)) c.if-decision.true c.decision.ensures) (ap (λ (q : PlanOp). q.event) (c.get.ensures.at no_plan_op))
+    (subst (λ (d : Bool). Learned (call_on c.args.self.now c.look-word.new.hand c.decision.new.hand) c.event.result (Some d)) c.if-decision.true c.decision.ensures) (c.event.ensures)
 
 pub settle_committed-requires-clause-commits : goal.settle_committed-requires-clause-commits
 settle_committed-requires-clause-commits c =
     right_then c.args.self.now c.args.plan.now c.args.op _ _ _ c.requires.may.3 c.look-word.ensures _ _ _
-    (subst (λ (d : Bool). Learned (call_on c.args.self.now c.look-word.new.hand c.decision.new.hand) c.get.result.now.event (Some d)) c.if-decision.true c.decision.ensures) (ap (λ (q : PlanOp). q.event) (c.get.ensures.at no_plan_op)) c.requires.may.1
+    (subst (λ (d : Bool). Learned (call_on c.args.self.now c.look-word.new.hand c.decision.new.hand) c.event.result (Some d)) c.if-decision.true c.decision.ensures) (c.event.ensures) c.requires.may.1
 
 pub settle_aborted-requires-clause-loaded : goal.settle_aborted-requires-clause-loaded
 settle_aborted-requires-clause-loaded c = last_then c.args.self.now c.args.plan.now c.args.op _ _ _ c.requires.may.3 c.look-word.ensures _ _ _ c.decision.ensures
@@ -41,7 +40,7 @@ settle_aborted-requires-clause-loaded c = last_then c.args.self.now c.args.plan.
 pub settle_aborted-requires-clause-decided : goal.settle_aborted-requires-clause-decided
 settle_aborted-requires-clause-decided c =
     known_then c.args.self.now c.args.plan.now c.args.op _ _ _ c.requires.may.3 c.look-word.ensures _ _ _
-    (subst (λ (d : Bool). Learned (call_on c.args.self.now c.look-word.new.hand c.decision.new.hand) c.get.result.now.event (Some d)) c.if-decision.false c.decision.ensures) (ap (λ (q : PlanOp). q.event) (c.get.ensures.at no_plan_op))
+    (subst (λ (d : Bool). Learned (call_on c.args.self.now c.look-word.new.hand c.decision.new.hand) c.event.result (Some d)) c.if-decision.false c.decision.ensures) (c.event.ensures)
 
 pub returns-then-decision-clause-answer : goal.returns-then-decision-clause-answer
 returns-then-decision-clause-answer c = c.settle_committed.ensures.answer (view_of c.args.hand.now) (opened_then c.args.self.now c.args.plan.now c.args.op _ _ _ c.requires.may.3 c.look-word.ensures _ _ _ c.decision.ensures)

@@ -5,7 +5,7 @@ use Rattle.morph_base.specs.declared.plan.Plan.{Plan}
 use Rattle.morph_base.specs.Operations.{no_key}
 use Rattle.morph_base.specs.States.{State, overwritten}
 use Rattle.morph_base.specs.Flat.{contents}
-use Rattle.morph_base.specs.Plans.{IsPlan, HasBases, event_count, state_at, op_count, target, no_plan_op, final}
+use Rattle.morph_base.specs.Plans.{IsPlan, HasBases, event_count, state_at, op_count, target, final}
 use Rattle.morph_base.proofs.BoundLaws.{final-small, state_at-small}
 use Rattle.morph_base.proofs.EndLaws.{overwritten-end}
 use Rattle.version_table.proofs.Overwriting.{overwritten-zero, overwritten-step, overwritten-same}
@@ -20,19 +20,19 @@ loop-o-init c = record {
 pub put-requires-clause-key : goal.put-requires-clause-key
 put-requires-clause-key c =
     let lt : c.loop-o.o < op_count c.args.plan.now = omega (arith, c.len-o-end.ensures, c.requires.settled.values, c.loop-o-test.true) in
-    rw (c.get.ensures.at no_plan_op, c.loop-o.invariant.layout) (c.requires.keys c.loop-o.o lt 0 no_key (zero-lt-suc _))
+    rw (c.key-key.ensures, c.loop-o.invariant.layout) (c.requires.keys c.loop-o.o lt 0 no_key (zero-lt-suc _))
 
 pub put-requires-clause-small : goal.put-requires-clause-small
 put-requires-clause-small c =
     let lt : c.loop-o.o < op_count c.args.plan.now = omega (arith, c.len-o-end.ensures, c.requires.settled.values, c.loop-o-test.true) in
-    rw (c.get-in-loop-o.ensures.at 0, c.requires.settled.value c.loop-o.o lt) (final-small c.args.plan.now c.loop-o.o c.requires.plan)
+    rw (c.get.ensures.at 0, c.requires.settled.value c.loop-o.o lt) (final-small c.args.plan.now c.loop-o.o c.requires.plan)
 
 pub loop-o-preserved : goal.loop-o-preserved
 loop-o-preserved c = record {
   state =
       overwritten-step (target c.args.plan.now) (contents c.args.self.now) (slice_index c.args.settled.now.values.items) c.loop-o.o
-      (contents c.loop-o.self-inside.values) (contents c.put.new.self) c.get.result.now.op.key c.get-in-loop-o.result.now c.loop-o.invariant.state
-      c.put.ensures.state (ap (λ q. q.op.key) (c.get.ensures.at no_plan_op)) (c.get-in-loop-o.ensures.at 0);
+      (contents c.loop-o.self-inside.values) (contents c.put.new.self) c.key-key.result c.get.result.now c.loop-o.invariant.state
+      c.put.ensures.state c.key-key.ensures (c.get.ensures.at 0);
   layout = c.put.ensures.layout ∙ c.loop-o.invariant.layout;
 }
 

@@ -3,9 +3,9 @@ use Rattle.std.proofs.lemmas.List.Sums.{sum_by-le}
 use Rattle.std.proofs.Math.Nat.{mul-le-mul_right}
 use Rattle.std.proofs.lemmas.List.Elements.{All-take, All-drop}
 use Rattle.morph_base.specs.declared.limits.TheConstants.{MAX, PARAMS}
-use Rattle.morph_base.proofs.evaluation.eval.Goals as goal
+use Rattle.morph_base.proofs.evaluation.eval_by.Goals as goal
 
--- the sum of the numbers after the first one, each within a bound
+-- as in morph_base's `eval`
 sum_of_tail : (high n : ℕ) (xs : List ℕ) → All (λ x. x ≤ high) xs → length xs ≤ n + 1 →
     sum (take (length xs - 1) (drop 1 xs)) ≤ n * high
 sum_of_tail high n xs small few =
@@ -16,9 +16,5 @@ sum_of_tail high n xs small few =
     let short : length tail ≤ n = simp (length-take, length-drop) (omega arith) in
     omega (arith, mul-le-mul_right {m = length tail} {n = n} high short)
 
--- at most PARAMS parameters, each at most the greatest value
 pub total-requires : goal.total-requires
-total-requires c =
-    let few : length c.args.xs.now ≤ PARAMS + 1 = omega (arith, c.requires.shaped.places, c.requires.reads) in
-    let within = sum_of_tail MAX PARAMS c.args.xs.now c.requires.values few in
-    omega arith
+total-requires c = let within = sum_of_tail MAX PARAMS c.args.xs.now c.requires.values (omega arith) in omega arith

@@ -1,8 +1,8 @@
--- What contracts see of `Ops`, by its fields.
-use Rattle.std.proofs.Common.{◌≡◌, ℕ, zero, suc, ◌+◌, ◌<◌, ◌≤◌, List, [], ◌∷◌, ◌++◌, length, get_or, set, take, drop, map, refl, sym, ap, ◌∙◌, subst, arith}
+-- What contracts see of `PlanOps`, by its fields.
+use Rattle.std.proofs.Common.{◌≡◌, ℕ, zero, suc, ◌+◌, ◌<◌, ◌≤◌, List, [], ◌∷◌, ◌++◌, length, get_or, set, take, drop, map, refl, sym, ap, ◌∙◌, subst, arith, le_refl}
 use Rattle.std.specs.List.{range_with_len, sum_by}
 use Rattle.std.proofs.lemmas.List.Sums.{sum_by_push}
-use Rattle.std.proofs.lemmas.List.{drop_more, take_more, length-map, length-set}
+use Rattle.std.proofs.lemmas.List.{drop_more, take_more, take_all, length-map, length-set}
 use Rattle.morph_base.specs.declared.limits.TheConstants.{MAX}
 use Rattle.morph_base.specs.declared.key.Key.{Key}
 use Rattle.morph_base.specs.declared.plan.Origin.{Origin}
@@ -164,6 +164,13 @@ module _ (s : Inside) (v : OpList) (is : ops_of s ≡ v) (are : AreOps s) where
 
   pub place_is : (o : ℕ) → o < length v.items → places_before v.items o ≡ (head_at s.heads.items o).place
   place_is o lt = before_is o (omega arith) ∙ sym (are.parts.begins o (inner o lt))
+
+  -- all places are those before the end
+  pub places_are : places_before v.items (length v.items) ≡ length s.places.items
+  places_are =
+      before_is (length v.items) (le_refl (length v.items))
+      ∙ ap (λ (hs : List OpHead). sum_by reads_in hs) (take_all (length v.items) s.heads.items (omega (arith, count_is)))
+      ∙ sym are.parts.whole
 
   -- one operation more
   pub added : (part : PlanOpParts) (key : Key) (params : List Key) (origins : List Origin) (lows' : List ℕ) → map origin_of (map word_of origins) ≡ origins → length origins ≡ length params + 1 →

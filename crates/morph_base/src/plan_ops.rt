@@ -250,10 +250,19 @@ impl PlanOps {
         usize::from(self.heads.get(o).reads)
     }
 
+    /// How many places all operations read.
+    pub fn all_places(&self) -> usize
+        ensures count { result ≡ places_before self.now.items (length self.now.items) }
+        ensures few { result < 4_294_967_296 }
+    {
+        self.places.len()
+    }
+
     /// How many places the operations before this one read.
     pub fn places_before(&self, o: usize) -> usize
         requires { o < length self.now.items }
-        ensures { result ≡ places_before self.now.items o }
+        ensures count { result ≡ places_before self.now.items o }
+        ensures few { result < 4_294_967_296 }
     {
         self.heads.get(o).place as usize
     }

@@ -5,7 +5,6 @@ use Rattle.std.proofs.lemmas.Option.{same_Some}
 use mathlib.Core.Option.{some, none}
 use lib.ListN.{get_elem?}
 use Rattle.atomic_table.specs.Table.{step, keeps as no_act, Allows}
-use Rattle.morph_base.specs.declared.limits.TheConstants.{READS}
 use Rattle.morph_base.specs.declared.plan.Plan.{Plan}
 use Rattle.morph_base.specs.declared.plan.Origin.{Origin}
 use Rattle.morph_base.specs.declared.plan.Origin.TheVariants.{Base, Op as Written}
@@ -60,7 +59,7 @@ module _ (c : Core) (s x : ℕ) (w : OpWord) (noted : IsNoted c s w) (value : w.
       ]
 
 module _ {p : Plan} {cap counters : ℕ} (s : Seats) (lawful : Lawful p cap counters s) (i : ℕ) (v : View) (at : get_elem? s.views i ≡ some (Some v)) (h : Held) (holds : v.claim ≡ Some h)
-    (lt : length h.values < places p h.op) (few : length h.values < READS) (x : ℕ) (usable : IsUsable v cap h.attempt (origin_at p h.op (length h.values)) x) where
+    (lt : length h.values < places p h.op) (x : ℕ) (usable : IsUsable v cap h.attempt (origin_at p h.op (length h.values)) x) where
   knows : Knows p cap lawful.core (length s.views) i v
   knows = lawful.hands i v at
 
@@ -122,8 +121,8 @@ module _ {p : Plan} {cap counters : ℕ} (s : Seats) (lawful : Lawful p cap coun
         places = refl;
       })
       (set s.words (record_index p h.op j) (packed_record kept_record))
-      (shows_record s.words lawful.shows h.op in_range next j few kept_record (λ q. refl) (λ q k. ap (λ (a : ℕ). put lawful.core.recorded h.op (put (lawful.core.recorded h.op) j (Some (record { value = x; attempt = a }))) q k) attempt_is) (λ d. refl))
-      (numbers_put s.words (record_index p h.op j) (packed_record kept_record) (let b = record_below s.words lawful.shows h.op in_range j few in omega (arith, b)) lawful.numbers)
+      (shows_record s.words lawful.shows h.op in_range next j lt kept_record (λ q. refl) (λ q k. ap (λ (a : ℕ). put lawful.core.recorded h.op (put (lawful.core.recorded h.op) j (Some (record { value = x; attempt = a }))) q k) attempt_is) (λ d. refl))
+      (numbers_put s.words (record_index p h.op j) (packed_record kept_record) (let b = record_below s.words lawful.shows h.op in_range j lt in omega (arith, b)) lawful.numbers)
       knows_kept
       (λ single first. record { each = (lawful.alone single v (root_before s lawful i v (fetching h x v) at first)).each })
     where
@@ -136,7 +135,7 @@ module _ {p : Plan} {cap counters : ℕ} (s : Seats) (lawful : Lawful p cap coun
 same_value : (x y a b : ℕ) → a ≡ b → packed_record (Some (record { value = x; attempt = a })) ≡ packed_record (Some (record { value = y; attempt = b })) → x ≡ y
 same_value x y a b same e = omega (arith, same, e)
 
-module _ {p : Plan} {cap counters : ℕ} (slots id : ℕ) (me : Sat) (v : View) (is : me.0 ≡ Some v) (h : Held) (holds : v.claim ≡ Some h) (lt : length h.values < places p h.op) (few : length h.values < READS) (x : ℕ)
+module _ {p : Plan} {cap counters : ℕ} (slots id : ℕ) (me : Sat) (v : View) (is : me.0 ≡ Some v) (h : Held) (holds : v.claim ≡ Some h) (lt : length h.values < places p h.op) (x : ℕ)
     (usable : IsUsable v cap h.attempt (origin_at p h.op (length h.values)) x) where
   pub allows_keep : Allows (Lawful p cap counters) slots id me (record_index p h.op (length h.values)) (λ n. packed_record (Some (record { value = x; attempt = h.attempt })))
       (λ n. keeps (step slots (record_index p h.op (length h.values)) (packed_record (Some (record { value = x; attempt = h.attempt }))) 0 none) me (packed_record (Some (record { value = x; attempt = h.attempt }))))
@@ -145,11 +144,11 @@ module _ {p : Plan} {cap counters : ℕ} (slots id : ℕ) (me : Sat) (v : View) 
         Some (fetching h x v),
         no_act,
         tt,
-        (kept_steps s lawful id v there h holds lt few x usable).next,
+        (kept_steps s lawful id v there h holds lt x usable).next,
         λ y same k held z first.
             let e : v ≡ y = same_Some v y (sym is ∙ same) in
             let one : h ≡ k = same_Some h k (sym holds ∙ ap (λ (u : View). u.claim) e ∙ held) in
             let value : x ≡ z = same_value x z h.attempt k.attempt (ap (λ (q : Held). q.attempt) one) first in
             subst (λ (t : View × Held × ℕ). (◌≡◌ {A = Sat} (Some (fetching h x v), me.1) (Some (fetching t.1 t.2 t.0), me.1)) × IsTold (fetching t.1 t.2 t.0)) (λ n. (e n, one n, value n))
-            (refl, kept_told s lawful id v there h holds lt few x usable),
+            (refl, kept_told s lawful id v there h holds lt x usable),
       )

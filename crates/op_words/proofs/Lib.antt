@@ -54,6 +54,8 @@ pub mod Finishing
 pub mod Keeping
 -- The place of a record in the row, as the code computes it from what a hand keeps.
 pub mod Storing
+-- The places of records: before the decisions, and one for each.
+mod RecordPlaces
 -- Loads of records and decisions keep the rule, and what they show a hand.
 pub mod Recalling
 -- What `fetch` and `finish` answer, from what their steps showed.

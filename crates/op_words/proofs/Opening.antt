@@ -16,6 +16,7 @@ use Rattle.op_words.specs.declared.trail.View.{View}
 use Rattle.op_words.specs.Views.{IsPresent}
 use Rattle.op_words.specs.Layout.{Shows, AreFirstWords, record_index, decision_base}
 use Rattle.op_words.specs.Rule.{Knows, first_view, Lawful}
+use Rattle.op_words.proofs.RecordPlaces.{record_before}
 use Rattle.op_words.proofs.Rows.{not_inside}
 use Rattle.op_words.proofs.Trailing.{last-none}
 
@@ -23,7 +24,7 @@ shows_start : (p : Plan) (counters : ℕ) (ws : List ℕ) → AreFirstWords p co
 shows_start p counters ws first = record {
   long = first.long;
   ops = first.ops;
-  records = λ o j lt few. first.zeros (record_index p o j) (omega arith) (omega (arith, lt, few));
+  records = λ o j lt few. first.zeros (record_index p o j) (omega arith) (let b = record_before p o j lt few in omega (arith, b));
   decisions = λ i lt. first.zeros (decision_base p + i) (omega arith) (omega (arith, lt));
 }
 

@@ -1,5 +1,5 @@
 -- Loads of records and decisions keep the rule.
-use Rattle.std.proofs.Common.{◌≡◌, ℕ, suc, suc-le-suc, ◌+◌, ◌-◌, ◌*◌, ◌<◌, ◌≤◌, Bool, List, [], ◌∷◌, length, get_or, set, refl, sym, ap, ◌∙◌, subst, inl, inr, arith, Option, Some, None}
+use Rattle.std.proofs.Common.{◌≡◌, ℕ, suc, suc-le-suc, ◌+◌, ◌-◌, ◌<◌, ◌≤◌, Bool, List, [], ◌∷◌, length, get_or, set, refl, sym, ap, ◌∙◌, subst, inl, inr, arith, Option, Some, None}
 use Rattle.std.specs.Prelude.{Contains, slice_index}
 use Rattle.std.proofs.lemmas.Bool.{cases_eq, false≢true}
 use Rattle.std.proofs.lemmas.Option.{same_Some}
@@ -7,9 +7,10 @@ use Rattle.std.proofs.lemmas.List.Elements.{Contains-append_cases}
 use mathlib.Core.Option.{some, none}
 use lib.ListN.{get_elem?}
 use Rattle.atomic_table.specs.Table.{step, keeps, Allows}
-use Rattle.morph_base.specs.declared.limits.TheConstants.{MAX, READS}
+use Rattle.morph_base.specs.declared.limits.TheConstants.{MAX}
 use Rattle.morph_base.specs.declared.plan.Plan.{Plan}
 use Rattle.morph_base.specs.declared.word.OpWord.{OpWord}
+use Rattle.morph_base.specs.OpLists.{places_before}
 use Rattle.morph_base.specs.Plans.{IsPlan, op_count, event_count}
 use Rattle.morph_base.proofs.BoundLaws.{high_of-small}
 use Rattle.interleaving_core.specs.declared.entry.Record.{Record}
@@ -37,7 +38,7 @@ use Rattle.op_words.proofs.Knowing.{same_grows, words_more, knows_more}
 use Rattle.op_words.proofs.Moving.{with_view, moved, sum_kept, root_before}
 use Rattle.op_words.proofs.Sighting.{seen_decided}
 use Rattle.op_words.proofs.Loading.{same_stays}
-use Rattle.op_words.proofs.Storing.{places_few}
+use Rattle.op_words.proofs.RecordPlaces.{one_record}
 
 -- the last word that was noted, or the first one of all
 last_noted : (o : ℕ) (P : OpWord → Type 0) (d : OpWord) (xs : List Item) → P d → ((t : Item) → Contains xs t → t.op ≡ o → P t.word) → P (last_word o d xs)
@@ -139,15 +140,12 @@ module _ {p : Plan} {cap counters : ℕ} (s : Seats) (lawful : Lawful p cap coun
     pub learned_keeps : (k : ℕ) → Lawful p cap counters (with_view (set s.words k (get_or s.words k 0)) s i (learning e (lawful.core.decision e) v))
     learned_keeps k = subst (λ ws. Lawful p cap counters (with_view ws s i (learning e (lawful.core.decision e) v))) (sym (set_same s.words k)) (learned_stays (lawful.core.decision e) refl).next
 
--- one place for each record, and for each decision
-same_place : (p : Plan) (o j m n : ℕ) → j < READS → n < READS → record_index p o j ≡ record_index p m n → (o ≡ m) × (j ≡ n)
-same_place p o j m n few less same = (omega (arith, few, less, same), omega (arith, few, less, same))
-
+-- one place for each decision
 pub decision_place : (p q : Plan) (e level n : ℕ) → q ≡ p → level ≡ level_index p → n ≡ event_count q → decision_base p + e ≡ level - n + e
 decision_place p q e level n same is long = let c = ap event_count same in omega (arith, c, is, long)
 
-pub record_place : (p q : Plan) (o j n : ℕ) → q ≡ p → n ≡ op_count q → record_index p o j ≡ n + o * READS + j
-record_place p q o j n same is = let e = ap op_count same in omega (arith, e, is)
+pub record_place : (p q : Plan) (o j n before : ℕ) → q ≡ p → n ≡ op_count q → before ≡ places_before q.ops.items o → record_index p o j ≡ n + before + j
+record_place p q o j n before same is front = let e = ap op_count same in let f = ap (λ (r : Plan). places_before r.ops.items o) same in omega (arith, e, f, is, front)
 
 module _ {p : Plan} {cap counters : ℕ} (slots id : ℕ) (me : Sat) (v : View) (is : me.0 ≡ Some v) (plan : v.plan.value ≡ p) where
   pub allows_recall : (o j : ℕ) → o < op_count p → j < places p o → IsPlan p → Allows (Lawful p cap counters) slots id me (record_index p o j) (λ n. n) (recalls (step slots (record_index p o j) 0 0 none) me)
@@ -160,13 +158,12 @@ module _ {p : Plan} {cap counters : ℕ} (slots id : ℕ) (me : Sat) (v : View) 
         λ x same m n m_lt n_below index.
             let e : v ≡ x = same_Some v x (sym is ∙ same) in
             let q : x.plan.value ≡ p = ap (λ (y : View). y.plan.value) (sym e) ∙ plan in
-            let few = places_few p o valid lt in
-            let less = places_few p m valid (subst (λ (y : Plan). m < op_count y) q m_lt) in
+            let m_in : m < op_count p = subst (λ (y : Plan). m < op_count y) q m_lt in
             let n_lt = subst (λ (y : Plan). n < places y m) q n_below in
-            let one = same_place p o j m n (omega (arith, below, few)) (omega (arith, n_lt, less)) (index ∙ ap (λ (y : Plan). record_index y m n) q) in
+            let one = one_record p o j m n lt below m_in n_lt (index ∙ ap (λ (y : Plan). record_index y m n) q) in
             subst (λ (z : View × ℕ × ℕ). (r : Option Record) × (record_value r ≤ MAX) × (slice_index s.words (record_index p o j) ≡ packed_record r) × (◌≡◌ {A = Sat} (Some (recalling o j (record_value (lawful.core.recorded o j)) v), me.1) (Some (recalling z.1 z.2 (record_value r) z.0), me.1)))
             (λ a. (e a, one.0 a, one.1 a))
-            (lawful.core.recorded o j, small_value s lawful id v there o j lt below, lawful.shows.records o j lt (omega (arith, below, few)), refl),
+            (lawful.core.recorded o j, small_value s lawful id v there o j lt below, lawful.shows.records o j lt below, refl),
       )
 
   pub allows_learn : (e : ℕ) → e < event_count p → Allows (Lawful p cap counters) slots id me (decision_base p + e) (λ n. n) (learns (step slots (decision_base p + e) 0 0 none) me)

@@ -1,9 +1,10 @@
 -- The place of a record, as the code computes it from what the hand keeps.
-use Rattle.std.proofs.Common.{◌≡◌, ℕ, ◌+◌, ◌*◌, ◌<◌, ◌≤◌, List, [], ◌∷◌, ◌++◌, length, refl, sym, ap, ◌∙◌, subst, arith, Some}
+use Rattle.std.proofs.Common.{◌≡◌, ℕ, ◌+◌, ◌<◌, ◌≤◌, List, [], ◌∷◌, ◌++◌, length, refl, sym, ap, ◌∙◌, subst, arith, Some}
 use Rattle.std.proofs.lemmas.List.{length-take-le, length-take}
 use Rattle.std.proofs.lemmas.Option.{same_Some}
 use Rattle.morph_base.specs.declared.limits.TheConstants.{READS}
 use Rattle.morph_base.specs.declared.plan.Plan.{Plan}
+use Rattle.morph_base.specs.OpLists.{places_before}
 use Rattle.morph_base.specs.Plans.{IsPlan, op_count, op_at}
 use Rattle.interleaving_core.specs.declared.event.CoreEvent.TheVariants.{Fetch}
 use Rattle.interleaving_core.specs.Core.{places}
@@ -37,10 +38,11 @@ module _ (b : Board) (h : Hand) (is : IsHandOf b h) (k : Holding) (some : h.held
   pub count_kept : k.count ≡ length xs
   count_kept = count_is k xs (is.fits k some) (held_parts h k o a xs (kept is) some holds).2
 
-  pub index_is : (p : Plan) (n : ℕ) → p ≡ plan_of b → n ≡ op_count p → n + (k.op * READS + k.count) ≡ record_index (plan_of b) o (length xs)
-  index_is p n plan len =
+  pub index_is : (p : Plan) (n before : ℕ) → p ≡ plan_of b → n ≡ op_count p → before ≡ places_before p.ops.items k.op → n + (before + k.count) ≡ record_index (plan_of b) o (length xs)
+  index_is p n before plan len front =
       let op = (held_parts h k o a xs (kept is) some holds).0 in let count = count_kept in let q : op_count p ≡ op_count (plan_of b) = ap op_count plan in
-      omega (arith, op, count, q, len)
+      let base : before ≡ places_before (plan_of b).ops.items o = front ∙ ap (λ (r : Plan). places_before r.ops.items k.op) plan ∙ ap (places_before (plan_of b).ops.items) op in
+      omega (arith, base, count, q, len)
 
   -- with a value more
   pub kept_hand : (g : Hand) (m : Holding) (x : ℕ) → g.seat.table_id ≡ h.seat.table_id → g.seat.me ≡ (Some (fetching (record { op = o; attempt = a; values = xs }) x (view_of h)), h.seat.me.1)

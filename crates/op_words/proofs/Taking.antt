@@ -19,6 +19,7 @@ use Rattle.op_words.specs.declared.board.Hand.{Hand}
 use Rattle.op_words.specs.Hands.{view_of, held_of}
 use Rattle.op_words.specs.Plays.{Sat, IsTold}
 use Rattle.op_words.specs.Counting.{place, taking, times, IsNumberTaken, takes, passes}
+use Rattle.op_words.proofs.RecordPlaces.{record_before}
 use Rattle.op_words.proofs.Rows.{sum_set, sum_has, set_apart}
 use Rattle.op_words.proofs.Sizes.{sum_most, sum_inside, single_sum, sum_ones, none_left, sum_below, range_size, sum_above}
 use Rattle.op_words.proofs.Handing.{IsKept}
@@ -87,7 +88,7 @@ module _ {p : Plan} {cap counters : ℕ} (s : Seats) (lawful : Lawful p cap coun
     shows_taken = record {
       long = length-set s.words (counter_base p + k) (n + 1) ∙ lawful.shows.long;
       ops = λ o lt. after_else o (λ e. omega (arith, lt, e)) ∙ lawful.shows.ops o lt;
-      records = λ o j lt few. after_else (record_index p o j) (λ e. omega (arith, lt, few, e)) ∙ lawful.shows.records o j lt few;
+      records = λ o j lt few. after_else (record_index p o j) (λ e. let b = record_before p o j lt few in omega (arith, b, e)) ∙ lawful.shows.records o j lt few;
       decisions = λ d lt. after_else (decision_base p + d) (λ e. omega (arith, lt, e)) ∙ lawful.shows.decisions d lt;
     }
 
@@ -248,7 +249,7 @@ module _ {p : Plan} {cap counters : ℕ} where
     shows_level = record {
       long = length-set s.words (level_index p) a ∙ lawful.shows.long;
       ops = λ o lt. set_apart s.words (level_index p) o a (λ e. omega (arith, lt, e)) ∙ lawful.shows.ops o lt;
-      records = λ o j lt few. set_apart s.words (level_index p) (record_index p o j) a (λ e. omega (arith, lt, few, e)) ∙ lawful.shows.records o j lt few;
+      records = λ o j lt few. set_apart s.words (level_index p) (record_index p o j) a (λ e. let b = record_before p o j lt few in omega (arith, b, e)) ∙ lawful.shows.records o j lt few;
       decisions = λ d lt. set_apart s.words (level_index p) (decision_base p + d) a (λ e. omega (arith, lt, e)) ∙ lawful.shows.decisions d lt;
     }
 

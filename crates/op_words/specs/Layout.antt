@@ -1,20 +1,24 @@
 -- How the board keeps a state of the machine in one row of words
-use Rattle.std.specs.Prelude.{◌≡◌, ℕ, ◌+◌, ◌*◌, ◌≤◌, ◌<◌, Bool, true, false, List, length, Option, Some, None, slice_index}
-use Rattle.morph_base.specs.declared.limits.TheConstants.{READS}
+use Rattle.std.specs.Prelude.{◌≡◌, ℕ, ◌+◌, ◌≤◌, ◌<◌, Bool, true, false, List, length, Option, Some, None, slice_index}
 use Rattle.morph_base.specs.declared.plan.Plan.{Plan}
 use Rattle.morph_base.specs.Plans.{op_count, event_count}
+use Rattle.morph_base.specs.OpLists.{places_before}
 use Rattle.morph_base.specs.Words.{packed}
 use Rattle.interleaving_core.specs.declared.entry.Record.{Record}
-use Rattle.interleaving_core.specs.Core.{Core, blocked, ready}
+use Rattle.interleaving_core.specs.Core.{Core, blocked, places, ready}
 
--- The word of operation o is the o-th. The records come after the operations, READS for each: this is the place of the
--- record of operation o at place j
+-- The word of operation o is the o-th. The records come after the operations, one for each place that an operation
+-- reads: this is the place of the first one of operation o
+abbrev pub record_base : Plan → ℕ → ℕ
+record_base p o = op_count p + places_before p.ops.items o
+
+-- The place of the record of operation o at place j
 abbrev pub record_index : Plan → ℕ → ℕ → ℕ
-record_index p o j = op_count p + (o * READS + j)
+record_index p o j = record_base p o + j
 
 -- The decisions come after the records: this is the place of the first one
 abbrev pub decision_base : Plan → ℕ
-decision_base p = op_count p + op_count p * READS
+decision_base p = record_base p (op_count p)
 
 -- The level word comes after the decisions: this is its place
 abbrev pub level_index : Plan → ℕ
@@ -42,7 +46,7 @@ pub record Shows (p : Plan) (counters : ℕ) (c : Core) (ws : List ℕ) : Type 0
   pub long : length ws ≡ counter_base p + counters
   pub ops : (o : ℕ) → o < op_count p → slice_index ws o ≡ packed (c.word o)
   pub records :
-      (o j : ℕ) → o < op_count p → j < READS → slice_index ws (record_index p o j) ≡ packed_record (c.recorded o j)
+      (o j : ℕ) → o < op_count p → j < places p o → slice_index ws (record_index p o j) ≡ packed_record (c.recorded o j)
   pub decisions : (i : ℕ) → i < event_count p → slice_index ws (decision_base p + i) ≡ packed_decision (c.decision i)
 
 -- The words ws are those of a new board: each operation is blocked at attempt 1, nothing is recorded or decided, the

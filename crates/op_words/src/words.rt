@@ -9,7 +9,7 @@ ghost use Rattle.interleaving_core.specs.Core.{record_value, ready as ready_at, 
 ghost use Rattle.interleaving_core.specs.Core.{settled as settled_at, settled_aborted as aborted_at};
 ghost use Rattle.op_words.specs.Layout.{packed_record, packed_decision, AreFirstWords};
 
-use morph_base::{OpState, OpWord, Plan, READS};
+use morph_base::{OpState, OpWord, Plan};
 use std::alloc::{AllocError, Global};
 
 /// The level word if no level was put there: the greatest u32.
@@ -24,7 +24,7 @@ pub(crate) fn first_words(alloc: Global, plan: &Plan, counters: u32) -> Result<V
     ensures { IfOk result (λ ws. AreFirstWords plan.now counters ws.items) }
 {
     let ops = plan.ops.len();
-    let level = ops + ops * READS + plan.events.len();
+    let level = ops + plan.ops.all_places() + plan.events.len();
     let len = level + 1 + counters as usize;
     let mut words = Vec::with_capacity(alloc, len)?;
     words.resize(ops, OpWord::blocked(1).pack())?;

@@ -8,7 +8,7 @@ ghost use Rattle.op_words.specs.Hands.{call_on, plan_of, IsHandOf, MayCall};
 use super::{Board, Hand};
 use crate::rule::{LoadDecision, LoadRecord};
 use crate::words::{decision_of, value_of_record};
-use morph_base::{Plan, READS};
+use morph_base::Plan;
 
 impl Board {
     /// Loads the record of an operation at a place that it reads. It is 0 if there is none.
@@ -17,7 +17,7 @@ impl Board {
         requires in_places { j < places plan.now op }
         ensures { Recalled (call_on self.now hand.old hand.new) op j result }
     {
-        let place = plan.ops.len() + op as usize * READS + j as usize;
+        let place = plan.ops.len() + plan.ops.places_before(op as usize) + j as usize;
         let n = self.table.shared.load::<LoadRecord>(&mut hand.seat, place);
         value_of_record(n)
     }

@@ -136,7 +136,7 @@ impl Board {
         let Some(holding) = &mut hand.held else {
             unreachable!()
         };
-        let place = holding.op as usize * READS + holding.count as usize;
+        let place = plan.ops.places_before(holding.op as usize) + holding.count as usize;
         let record = pack_record(value, holding.attempt);
         let step = CoreEvent::Fetch {
             op: holding.op,

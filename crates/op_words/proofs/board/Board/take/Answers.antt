@@ -8,17 +8,19 @@ use Rattle.op_words.specs.Layout.{counter_base}
 use Rattle.op_words.specs.Plays.{Sat}
 use Rattle.op_words.specs.Rule.{Lawful}
 use Rattle.op_words.proofs.Handing.{kept, still}
+use Rattle.op_words.proofs.RecordPlaces.{all_few}
 use Rattle.op_words.proofs.Taking.{allows_take, taking_kept, taking_told}
 use Rattle.op_words.proofs.board.Board.take.Goals as goal
 
 pub overflow_add-word : goal.overflow_add-word
 overflow_add-word c =
-    let few = op_count-small (plan_of c.args.self.now) c.requires.hand.valid in let e = c.requires.hand.valid.numbering.few in let l = c.args.self.now.leveled in omega (arith, few, e, l)
+    let few = op_count-small (plan_of c.args.self.now) c.requires.hand.valid in let e = c.requires.hand.valid.numbering.few in let l = c.args.self.now.leveled in
+    let records = all_few (plan_of c.args.self.now) c.requires.hand.valid in omega (arith, few, e, l, records)
 
 pub overflow_add-word-2 : goal.overflow_add-word-2
 overflow_add-word-2 c =
     let few = op_count-small (plan_of c.args.self.now) c.requires.hand.valid in let e = c.requires.hand.valid.numbering.few in let l = c.args.self.now.leveled in
-    let fits = c.ranges.counter.fits in omega (arith, few, e, l, fits)
+    let records = all_few (plan_of c.args.self.now) c.requires.hand.valid in let fits = c.ranges.counter.fits in omega (arith, few, e, l, fits, records)
 
 pub fetch_add-requires : goal.fetch_add-requires
 fetch_add-requires c =

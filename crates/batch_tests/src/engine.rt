@@ -10,7 +10,7 @@ use std::alloc::Global;
 use std::test::Fail;
 use std::thread::Threads;
 use version_table::State;
-use worker_gate::FreeGate;
+use worker_gate::HoldGate;
 
 /// The outcome of a batch: the verdicts, who settled each operation, how much was evaluated, spread and rolled back,
 /// how many causes were kept, whether the state is that of the fold, and the values of accounts 0 to 2 and assets 0 to
@@ -51,7 +51,7 @@ fn first_values(alloc: Global, state: &State) -> Result<Vec<Option<u64>>, OutOfM
     Ok(values)
 }
 
-/// Runs a batch on a new engine in these units, explored in this way, and folds it.
+/// Runs a batch on a new engine in these units, explored in this way, and folds it. All workers take part.
 fn run<R: Threads + Sync>(
     rt: &R,
     alloc: Global,
@@ -72,7 +72,8 @@ fn run<R: Threads + Sync>(
         explore,
         abort: Abort::Lazy,
     };
-    let end = engine.run_batch(rt, alloc, plan, &strategy, workers, &FreeGate)?;
+    let side_by_side = HoldGate::new(0, 0, 0);
+    let end = engine.run_batch(rt, alloc, plan, &strategy, workers, &side_by_side)?;
     let mut folded = Values::new(alloc, LAYOUT)?;
     let _outcomes = plain::fold(alloc, &mut folded, batch)?;
     told(alloc, engine.state(), &end, &folded)

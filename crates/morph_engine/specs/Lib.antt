@@ -4,4 +4,5 @@ pub mod Fates
 pub mod Accounts
 pub mod Exploring
 pub mod Runs
+pub mod Teams
 pub mod Ends

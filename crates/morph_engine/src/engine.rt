@@ -9,10 +9,12 @@ ghost use Rattle.morph_base.specs.Plans.{high_of, state_at, transactions};
 ghost use Rattle.morph_base.specs.Graphs.{IsValidPlan};
 ghost use Rattle.morph_engine.specs.Runs.{IsPrepared, HasJournalRoom, IsJournalledRun};
 ghost use Rattle.morph_engine.specs.Ends.{IsEnd};
+ghost use Rattle.morph_engine.specs.Teams.{IsTeam};
 ghost use Rattle.morph_engine.specs.Exploring.{explore_of};
 ghost use Rattle.op_eval.specs.Gathering.{runners_of};
 
 use crate::prepared::{Prepared, Ran};
+use crate::team::team_for;
 use morph_base::{Batch, Layout, List, OutOfMemory, Plan, Settled, Strategy};
 use op_eval::Left;
 use op_words::{Closed, Counts};
@@ -132,7 +134,9 @@ impl Engine {
 
     /// Runs a plan that was made from the present state: the state becomes the fold of its events.
     ///
-    /// There are 1 to [`WORKERS`](morph_base::WORKERS) workers. They share a board with a word for each operation.
+    /// There are 1 to [`WORKERS`](morph_base::WORKERS) workers. As many take part as the batch has work for: one for each
+    /// 32,768 operations, and at least one. Under a gate that [needs threads](Gate::needs_threads) all of them do. They
+    /// share a board with a word for each operation.
     /// First they explore: they evaluate the operations, on the values that their sources show at the time. By strata
     /// they go level by level, and take the operations of each level from a counter. By deques each worker has a deque
     /// of operations: those of level 1 are dealt to all, what an evaluation made ready is pushed, and a worker with
@@ -172,7 +176,8 @@ impl Engine {
         ensures refused { OnErr result (self.new ≡ self.old) }
     {
         let side_by_side = gate.needs_threads();
-        let prepared = Prepared::new(alloc, &plan, strategy, workers, side_by_side, 0)?;
+        let team = team_for(&plan, workers, side_by_side);
+        let prepared = Prepared::new(alloc, &plan, strategy, team, side_by_side, 0)?;
         Ok(self.run_prepared(rt, prepared, plan, strategy, gate))
     }
 
@@ -193,8 +198,8 @@ impl Engine {
         requires abort { prepared.abort ≡ strategy.now.abort }
         ensures state { contents self.new ≡ state_at plan (contents self.old) (event_count plan) }
         ensures layout { self.new.layout ≡ self.old.layout }
-        ensures ran { IsEnd plan strategy.now (length (runners_of prepared.runners))
-            (contents self.old) result }
+        ensures ran { (workers : ℕ) → IsTeam plan workers (length (runners_of prepared.runners))
+            → IsEnd plan strategy.now workers (contents self.old) result }
         ensures kept { (room : ℕ) → HasJournalRoom room prepared
             → length (runners_of prepared.runners) ≡ 1
             → IsJournalledRun plan strategy.now.abort room result.closed }

@@ -37,5 +37,6 @@ mod engine;
 mod kept;
 mod prepared;
 mod supply;
+mod team;
 
 pub use engine::{BatchEnd, Engine, plan_batch};

@@ -121,7 +121,10 @@ impl Prepared {
         requires valid { IsValidPlan plan.now }
         requires prepared { IsPrepared plan.now self }
         ensures settled { IsSettledOf plan.now result.settled }
-        ensures ran { HasRun plan.now (explore_of self.supply) self.abort (length (runners_of self.runners)) result.closed (run_outcome (map (λ list. list.items) result.left.items) result.settled.by.items result.tallied.handed result.tallied.stolen) }
+        ensures ran { HasRun plan.now (explore_of self.supply) self.abort
+            (length (runners_of self.runners)) result.closed
+            (run_outcome (map (λ list. list.items) result.left.items) result.settled.by.items
+            result.tallied.handed result.tallied.stolen) }
         ensures kept { (room : ℕ) → HasJournalRoom room self
             → length (runners_of self.runners) ≡ 1
             → IsJournalledRun plan.now self.abort room result.closed }

@@ -111,7 +111,8 @@ fn put_steps<N: Sink>(
     notes: &mut N,
     journal: &[CoreEvent],
 ) -> Result<(), WriteFailed>
-    ensures { PutsText N.written N.faults (text_of journal.now) result (buffered notes.old out.old) (buffered notes.new out.new) }
+    ensures { PutsText N.written N.faults (text_of journal.now)
+        result (buffered notes.old out.old) (buffered notes.new out.new) }
 {
     let mut line = LineBuf::new();
     for i in 0..journal.len() {

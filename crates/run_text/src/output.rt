@@ -129,7 +129,8 @@ fn put_events<K: Sink>(
 ) -> Result<(), WriteFailed>
     requires plan { IsPlan plan.now }
     requires settled { IsSettledOf plan.now settled.now }
-    ensures { PutsText K.written K.faults (lines_of (settled_fates plan.now settled.now)) result (buffered sink.old out.old) (buffered sink.new out.new) }
+    ensures { PutsText K.written K.faults (lines_of (settled_fates plan.now settled.now))
+        result (buffered sink.old out.old) (buffered sink.new out.new) }
 {
     let mut line = LineBuf::new();
     for i in 0..plan.events.len() as u32 {
@@ -143,7 +144,8 @@ fn put_events<K: Sink>(
 
 /// Puts the line of the counts.
 fn put_counts<K: Sink>(out: &mut Out, sink: &mut K, tally: &Tally) -> Result<(), WriteFailed>
-    ensures { PutsText K.written K.faults (counts_line tally.now.committed tally.now.aborted) result (buffered sink.old out.old) (buffered sink.new out.new) }
+    ensures { PutsText K.written K.faults (counts_line tally.now.committed tally.now.aborted)
+        result (buffered sink.old out.old) (buffered sink.new out.new) }
 {
     let mut line = LineBuf::new();
     line.word(b"committed ");
@@ -161,7 +163,8 @@ fn put_refused<K: Sink>(
     number: u64,
     cause: Cause,
 ) -> Result<(), WriteFailed>
-    ensures { PutsText K.written K.faults (refused_text number cause) result (buffered sink.old out.old) (buffered sink.new out.new) }
+    ensures { PutsText K.written K.faults (refused_text number cause)
+        result (buffered sink.old out.old) (buffered sink.new out.new) }
 {
     let mut line = LineBuf::new();
     line.word(b"refused line ");

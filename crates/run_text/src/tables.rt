@@ -21,7 +21,8 @@ fn put_value<K: Sink>(
     value: u64,
 ) -> Result<(), WriteFailed>
     requires short { length name.now ≤ NAME_BYTES }
-    ensures { PutsText K.written K.faults (value_line name.now id value) result (buffered sink.old out.old) (buffered sink.new out.new) }
+    ensures { PutsText K.written K.faults (value_line name.now id value)
+        result (buffered sink.old out.old) (buffered sink.new out.new) }
 {
     if value == 0 {
         return Ok(());
@@ -46,7 +47,9 @@ fn put_table<K: Sink>(
 ) -> Result<(), WriteFailed>
     requires table { table < values.now.layout.tables }
     requires short { length name.now ≤ NAME_BYTES }
-    ensures { PutsText K.written K.faults (table_lines name.now (contents values.now) table values.now.layout.size) result (buffered sink.old out.old) (buffered sink.new out.new) }
+    ensures { PutsText K.written K.faults
+        (table_lines name.now (contents values.now) table values.now.layout.size)
+        result (buffered sink.old out.old) (buffered sink.new out.new) }
 {
     for id in 0..values.layout().size {
         let value = values.get(Key { table, id });
@@ -79,7 +82,9 @@ fn put_total<K: Sink>(
     requires table { table < values.now.layout.tables }
     requires few_ids { values.now.layout.size ≤ GREATEST_SIZE }
     requires short { length name.now ≤ NAME_BYTES }
-    ensures { PutsText K.written K.faults (total_line name.now (contents values.now) table values.now.layout.size) result (buffered sink.old out.old) (buffered sink.new out.new) }
+    ensures { PutsText K.written K.faults
+        (total_line name.now (contents values.now) table values.now.layout.size)
+        result (buffered sink.old out.old) (buffered sink.new out.new) }
 {
     let mut line = LineBuf::new();
     line.word(name.as_bytes());
@@ -101,7 +106,9 @@ fn put_told_table<K: Sink>(
     requires table { table < values.now.layout.tables }
     requires few_ids { values.now.layout.size ≤ GREATEST_SIZE }
     requires short { length name.now ≤ NAME_BYTES }
-    ensures { PutsText K.written K.faults (told_table report name.now (contents values.now) table values.now.layout.size) result (buffered sink.old out.old) (buffered sink.new out.new) }
+    ensures { PutsText K.written K.faults
+        (told_table report name.now (contents values.now) table values.now.layout.size)
+        result (buffered sink.old out.old) (buffered sink.new out.new) }
 {
     match report {
         Report::Whole => put_table(out, sink, name, values, table),
@@ -119,7 +126,9 @@ pub fn put_told_values<A: EventApp, K: Sink>(
 ) -> Result<(), WriteFailed>
     requires tables { values.now.layout.tables ≡ A.table_count app.now }
     requires few_ids { values.now.layout.size ≤ GREATEST_SIZE }
-    ensures { PutsText K.written K.faults (told_values report values.now.layout (A.name_of app.now) (contents values.now)) result (buffered sink.old out.old) (buffered sink.new out.new) }
+    ensures { PutsText K.written K.faults
+        (told_values report values.now.layout (A.name_of app.now) (contents values.now))
+        result (buffered sink.old out.old) (buffered sink.new out.new) }
 {
     for table in 0..app.tables() {
         let name = app.table_name(table);

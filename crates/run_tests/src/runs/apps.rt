@@ -1,9 +1,10 @@
 //! Runs of the applications of cells and of tolls, and of inputs that the program makes.
 use super::lines::{Part, append, append_lines, lines, number_behind};
-use super::{expect, run_words};
+use super::{expect, run_gated, run_words};
 use morph_base::{List, OutOfMemory};
 use std::alloc::Global;
 use std::test::Fail;
+use worker_gate::HoldGate;
 
 #[test]
 fn cells_and_their_sums(rt: HostRuntime) -> Result<(), Fail> {
@@ -133,9 +134,10 @@ fn counted(text: &[u8]) -> Option<u64> {
     committed.checked_add(aborted)
 }
 
-/// With a million ids most operations of a batch are on the first level, which is enough of them for several threads.
+/// Four workers have a thread each. With a million ids most operations of a batch are on the first level.
 #[test]
 fn workers_and_strategies_do_not_change_the_answer(rt: HostRuntime) -> Result<(), Fail> {
+    let side_by_side = HoldGate::new(0, 0, 0);
     let runs: [[&[u8]; 3]; 2] = [
         [b"size=10000", b"explore=steal", b"abort=eager"],
         [b"size=1000000", b"explore=strata", b"abort=lazy"],
@@ -151,7 +153,7 @@ fn workers_and_strategies_do_not_change_the_answer(rt: HostRuntime) -> Result<()
             abort,
         ];
         let one = run_words(&rt, rt.alloc(), &made[..4], b"")?;
-        let four = run_words(&rt, rt.alloc(), &made, b"")?;
+        let four = run_gated(&rt, rt.alloc(), &made, b"", &side_by_side)?;
         assert_eq!(rt; (one.status, counted(one.sink.bytes())), (0, Some(20_000)));
         assert_eq!(rt; (four.status, four.sink.bytes()), (0, one.sink.bytes()));
     }

@@ -201,10 +201,10 @@ module _ {p : Plan} {cap counters : ℕ} {ws : List ℕ} {v : View} (end : EndsS
 
 -- ---- all runners
 
-module _ (p : Plan) (valid : IsValidPlan p) (b : Board) (from : ℕ) (start rs : List Runner) (d : Runner) (begun : AreAtStart from start)
-    (settling : AreSettling b p from (length p.event_levels.items) start rs) (some : 0 < length rs) {cap : ℕ} {ws : List ℕ} (end : EndsSound p cap (counters_of b) ws (root_view d rs)) where
+module _ (p : Plan) (valid : IsValidPlan p) (b : Board) (from : ℕ) (start rs : List Runner) (idle : ℕ) (d : Runner) (begun : AreAtStart from start)
+    (settling : AreSettling b p from (length p.event_levels.items) start rs) (some : 0 < length rs) {cap : ℕ} {ws : List ℕ} (end : EndsSound p cap (counters_of b) ws (root_view idle d rs)) where
   abbrev calls : ℕ → List TakingCall
-  calls = calls_made p valid b from start rs d begun settling some end
+  calls = calls_made p valid b from start rs idle d begun settling some end
 
   made : (k : ℕ) → k < length rs → MakesCalls p (calls k) (slice_index_or start k d) (slice_index_or rs k d)
   made = made_of p b from (length p.event_levels.items) start rs d settling
@@ -213,7 +213,7 @@ module _ (p : Plan) (valid : IsValidPlan p) (b : Board) (from : ℕ) (start rs :
   before k lt = subst (λ n. k < n) settling.len lt
 
   -- what a runner kept is a cause
-  kept_is : (k : ℕ) → k < length rs → (x : Left) → Contains (slice_index_or rs k d).kept.items x → IsKept p end.core (root_view d rs) (k + 1) x
+  kept_is : (k : ℕ) → k < length rs → (x : Left) → Contains (slice_index_or rs k d).kept.items x → IsKept p end.core (root_view idle d rs) (k + 1) x
   kept_is k lt x found = (
     (hand_view (slice_index_or rs k d)).trail,
     record {
@@ -248,8 +248,8 @@ module _ (p : Plan) (valid : IsValidPlan p) (b : Board) (from : ℕ) (start rs :
       tag : (hand_view (slice_index_or rs k d)).tag ≡ k + 1
       tag = one.tag ∙ begun.tags k d (before k lt)
 
-      of_worker : HasTrail (root_view d rs) (k + 1) (hand_view (slice_index_or rs k d)).trail
-      of_worker = subst (λ t. HasTrail (root_view d rs) t (hand_view (slice_index_or rs k d)).trail) tag (root_trail d rs k lt)
+      of_worker : HasTrail (root_view idle d rs) (k + 1) (hand_view (slice_index_or rs k d)).trail
+      of_worker = subst (λ t. HasTrail (root_view idle d rs) t (hand_view (slice_index_or rs k d)).trail) tag (root_trail idle d rs k lt)
 
       left_tried : Contains one.tried.calls (Tried x.event)
       left_tried = (one.tried.left x (begun.none_kept k d (before k lt)) found).0
@@ -261,7 +261,7 @@ module _ (p : Plan) (valid : IsValidPlan p) (b : Board) (from : ℕ) (start rs :
   kept_once : (i : ℕ) → sum_by (λ r. kept_of i r.kept.items) rs ≤ 1
   kept_once i =
       let places = sum_places (λ r. kept_of i r.kept.items) rs d in
-      let all = tried_once p valid b from start rs d begun settling some end (is_it i) in
+      let all = tried_once p valid b from start rs idle d begun settling some end (is_it i) in
       let most = range_once i 0 (event_count p) in
       let each =
       below_least (λ k. kept_of i (slice_index_or rs k d).kept.items) (λ k. sum_by (tried_by (is_it i)) (calls k)) (length rs)
@@ -276,7 +276,7 @@ module _ (p : Plan) (valid : IsValidPlan p) (b : Board) (from : ℕ) (start rs :
   kept_some o lt open_is =
       elim (calls_answered p i (calls who.0) (slice_index_or start who.0 d) (slice_index_or rs who.0 d) (made who.0 who.1) (has_tried i (calls who.0) who.2)) [
         | inl seen ↦
-            let note = root_seen d rs who.0 who.1 o (seen o home.1) in
+            let note = root_seen idle d rs who.0 who.1 o (seen o home.1) in
             absurd (false≢true (sym open_is ∙ ap (λ (w : OpWord). is_settled w.state) (noted_present end.noted note) ∙ note.settled))
         | inr kept ↦ let part = get_or-le-sum_by (λ r. kept_of i r.kept.items) rs who.0 d who.1 in omega (arith, kept, part)
       ]
@@ -290,7 +290,7 @@ module _ (p : Plan) (valid : IsValidPlan p) (b : Board) (from : ℕ) (start rs :
       who : (k : ℕ) × (k < length rs) × (1 ≤ sum_by (tried_by (is_it i)) (calls k))
       who =
           below_some (λ k. sum_by (tried_by (is_it i)) (calls k)) (length rs)
-          (let all = tried_once p valid b from start rs d begun settling some end (is_it i) in
+          (let all = tried_once p valid b from start rs idle d begun settling some end (is_it i) in
           let has = sum_inside (is_it i) (below (event_count p)) i (below_has (event_count p) i home.0) in
           let is : is_it i i ≡ 1 = cond-true (eqb i i) 1 0 (eq-eqb i i refl) in
           omega (arith, all, has, is))
@@ -301,12 +301,12 @@ module _ (p : Plan) (valid : IsValidPlan p) (b : Board) (from : ℕ) (start rs :
   causes_are : (i : ℕ) → causes_of i kept_lists ≡ sum_by (λ r. kept_of i r.kept.items) rs
   causes_are i = sum_map (kept_of i) (λ (r : Runner). r.kept.items) rs
 
-  pub are_causes : AreCauses p end.core (root_view d rs) kept_lists
+  pub are_causes : AreCauses p end.core (root_view idle d rs) kept_lists
   are_causes = record {
     each = λ k e lt.
         let less : k < length rs = subst (λ n. k < n) (length-map rs (λ (r : Runner). r.kept.items)) lt in
-        subst (All (IsKept p end.core (root_view d rs) (k + 1))) (sym (get_or-map (λ (r : Runner). r.kept.items) rs k d e less))
-        (All-weaker (Contains (slice_index_or rs k d).kept.items) (IsKept p end.core (root_view d rs) (k + 1)) (kept_is k less) (slice_index_or rs k d).kept.items
+        subst (All (IsKept p end.core (root_view idle d rs) (k + 1))) (sym (get_or-map (λ (r : Runner). r.kept.items) rs k d e less))
+        (All-weaker (Contains (slice_index_or rs k d).kept.items) (IsKept p end.core (root_view idle d rs) (k + 1)) (kept_is k less) (slice_index_or rs k d).kept.items
         (All-contains_itself (slice_index_or rs k d).kept.items));
     once = λ i. let same = causes_are i in let once = kept_once i in omega (arith, same, once);
     some = λ o lt open_is. let same = causes_are (event_of p o) in let once = kept_once (event_of p o) in let one = kept_some o lt open_is in omega (arith, same, once, one);

@@ -1,9 +1,11 @@
 -- From what exploring left to what is closed.
-use Rattle.std.proofs.Common.{◌≡◌, ℕ, zero, suc, ◌<◌, ◌≤◌, List, [], ◌∷◌, ◌++◌, length, map, refl, sym, ap, ◌∙◌, subst, inl, inr, arith}
+use Rattle.std.proofs.Common.{◌≡◌, ℕ, zero, suc, ◌+◌, ◌<◌, ◌≤◌, List, [], ◌∷◌, ◌++◌, length, map, refl, sym, ap, ◌∙◌, subst, inl, inr, arith}
 use Rattle.std.specs.Prelude.{Contains, drop, take, slice_index_or}
+use Rattle.std.proofs.lemmas.Bool.{cases_lt}
 use Rattle.std.proofs.lemmas.List.{length-map, get_or-map}
 use Rattle.morph_base.specs.declared.plan.Plan.{Plan}
 use Rattle.morph_base.specs.Graphs.{IsValidPlan}
+use Rattle.morph_base.specs.Limits.{most_workers}
 use Rattle.morph_base.specs.Plans.{event_count}
 use Rattle.op_words.specs.declared.board.Board.{Board}
 use Rattle.op_words.specs.declared.trail.View.{View}
@@ -16,11 +18,12 @@ use Rattle.op_eval.specs.Exploring.{MayExplore}
 use Rattle.op_eval.specs.Gathering.{runners_of, gathered, HasPlaces, AreAtRest}
 use Rattle.op_eval.specs.Lending.{with_runners}
 use Rattle.op_eval.specs.Running.{hand_view}
-use Rattle.abort_lazy.specs.Runs.{IsSettledByRoot, AreSettling, AreAllHands, root_view}
+use Rattle.abort_lazy.specs.Runs.{IsSettledByRoot, AreSettling, AreAllHands, idled, root_view}
 use Rattle.abort_lazy.proofs.Alone.{alone_begins, alone_ends}
 use Rattle.abort_lazy.proofs.Levelling.{first_room}
 use Rattle.abort_lazy.proofs.Advancing.{tried_none}
 use Rattle.abort_lazy.proofs.Gathered.{gathered_made, gathered_tag, gathered_joined, gathered_has}
+use Rattle.abort_lazy.proofs.Idle.{idled_all, idled_made, idled_none, idled_root, idled_tag}
 
 pub settling_begins : (b : Board) (p : Plan) (from : ℕ) (rs : Runners) → IsValidPlan p → p ≡ plan_of b → from ≤ counters_of b → MayExplore b from rs → AreSettling b p from 0 (runners_of rs) (runners_of rs)
 settling_begins b p from rs valid plan counters explored = record {
@@ -80,6 +83,7 @@ pub places_back : (rs : Runners) (items : List Runner) → length items ≡ leng
 places_back rs items len places = record {
   none = places.none;
   room = let same = ap length (items_back (runners_of rs) items len) in let room = places.room in omega (arith, same, room, len);
+  all = places.all;
 }
 
 -- what stands in the place of the runners that were lent
@@ -121,9 +125,10 @@ gathered_other : (v : View) (ws : List View) (k : ℕ) (d : View) (t : ℕ) → 
 gathered_other v ws k d t lt is = (joined_of (slice_index_or ws k d), gathered_has v ws k d lt, is)
 
 -- the root has joined all
-pub all_joined : (d : Runner) (rs : List Runner) → AreAllHands rs → 0 < length rs → (t : ℕ) → 1 < t → t ≤ (root_view d rs).made → IsJoined (root_view d rs) t
-all_joined d [] all some t above most = absurd (omega (arith, some))
-all_joined d (r ∷ rs) all some t above most =
+all_gathered : (d : Runner) (rs : List Runner) → AreAllHands rs → 0 < length rs → (t : ℕ) → 1 < t → t ≤ (root_view 0 d rs).made → IsJoined (root_view 0 d rs) t
+unfolding idled
+all_gathered d [] all some t above most = absurd (omega (arith, some))
+all_gathered d (r ∷ rs) all some t above most =
     elim (all t d above (subst (λ n. t ≤ n) (gathered_made (hand_view r) (map hand_view rs)) most)) [
       | inl is ↦ gathered_root (hand_view r) (map hand_view rs) t is
       | inr is ↦ other is.0 is.1 is.2 is.3
@@ -138,11 +143,45 @@ all_joined d (r ∷ rs) all some t above most =
         less : suc k < suc (length rs) → k < length rs
         less l = omega (arith, l)
 
+-- the root that they were gathered in
+module _ (rs : List Runner) (some : 0 < length rs) (v : View) (is : (d : Runner) → v ≡ gathered (hand_view (slice_index_or rs 0 d)) (map hand_view (drop 1 rs))) where
+  pub root_tag : ((d : Runner) → (hand_view (slice_index_or rs 0 d)).tag ≡ 1) → v.tag ≡ 1
+  root_tag root = at rs some is root
+    where
+      at : (qs : List Runner) → 0 < length qs → ((d : Runner) → v ≡ gathered (hand_view (slice_index_or qs 0 d)) (map hand_view (drop 1 qs))) → ((d : Runner) → (hand_view (slice_index_or qs 0 d)).tag ≡ 1) → v.tag ≡ 1
+      at [] more same tags = absurd (omega (arith, more))
+      at (q ∷ qs) more same tags = ap (λ (w : View). w.tag) (same q) ∙ gathered_tag (hand_view q) (map hand_view qs) ∙ tags q
+
+  pub root_few : (n : ℕ) → ((d : Runner) → (root_view 0 d rs).made + n ≤ most_workers) → v.made + n ≤ most_workers
+  root_few n few = at rs some is few
+    where
+      at : (qs : List Runner) → 0 < length qs → ((d : Runner) → v ≡ gathered (hand_view (slice_index_or qs 0 d)) (map hand_view (drop 1 qs))) → ((d : Runner) → (root_view 0 d qs).made + n ≤ most_workers)
+          → v.made + n ≤ most_workers
+      at [] more same fits = absurd (omega (arith, more))
+      at (q ∷ qs) more same fits =
+          let mine = ap (λ (w : View). w.made) (same q) in
+          let none = ap (λ (w : View). w.made) (idled_none (gathered (hand_view q) (map hand_view qs))) in
+          let fit = fits q in
+          omega (arith, mine, none, fit)
+
+-- idle workers' hands too
+all_joined : (n : ℕ) (v : View) → ((t : ℕ) → 1 < t → t ≤ v.made → IsJoined v t) → (t : ℕ) → 1 < t → t ≤ (idled n v).made → IsJoined (idled n v) t
+all_joined n v all t above most =
+    let made = idled_made n v in
+    elim (cases_lt v.made t) [
+      | inl idle ↦ idled_all n v t idle (omega (arith, most, made))
+      | inr before ↦ idled_root n v t (all t above before)
+    ]
+
 -- the root can close the board
-pub closes : (rs : List Runner) → 0 < length rs → (u : View) → ((d : Runner) → u ≡ root_view d rs) → ((d : Runner) → (hand_view (slice_index_or rs 0 d)).tag ≡ 1) → AreAllHands rs
-    → (u.tag ≡ 1) × ((t : ℕ) → 1 < t → t ≤ u.made → IsJoined u t)
-closes [] some u is root all = absurd (omega (arith, some))
-closes (r ∷ rs) some u is root all = (
-  ap (λ (v : View). v.tag) (is r) ∙ gathered_tag (hand_view r) (map hand_view rs) ∙ root r,
-  λ t above most. subst (λ (v : View). IsJoined v t) (sym (is r)) (all_joined r (r ∷ rs) all some t above (subst (λ (v : View). t ≤ v.made) (is r) most)),
+pub closes : (rs : List Runner) → 0 < length rs → (n : ℕ) (v u : View) → ((d : Runner) → v ≡ gathered (hand_view (slice_index_or rs 0 d)) (map hand_view (drop 1 rs))) → u ≡ idled n v
+    → ((d : Runner) → (hand_view (slice_index_or rs 0 d)).tag ≡ 1) → AreAllHands rs → (u.tag ≡ 1) × ((t : ℕ) → 1 < t → t ≤ u.made → IsJoined u t)
+unfolding idled
+closes [] some n v u is with root all = absurd (omega (arith, some))
+closes (r ∷ rs) some n v u is with root all = (
+  ap (λ (w : View). w.tag) with ∙ idled_tag n v ∙ ap (λ (w : View). w.tag) (is r) ∙ gathered_tag (hand_view r) (map hand_view rs) ∙ root r,
+  λ t above most.
+      subst (λ (w : View). IsJoined w t) (sym with)
+      (all_joined n v (λ k low few. subst (λ (w : View). IsJoined w k) (sym (is r)) (all_gathered r (r ∷ rs) all some k low (subst (λ (w : View). k ≤ w.made) (is r) few))) t above
+      (subst (λ (w : View). t ≤ w.made) with most)),
 )

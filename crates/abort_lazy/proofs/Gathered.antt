@@ -1,6 +1,6 @@
 -- What the root's view has of each runner once they are gathered.
 use Rattle.std.proofs.Common.{◌≡◌, ℕ, zero, suc, ◌<◌, List, [], ◌∷◌, length, map, refl, sym, subst, inl, inr, arith}
-use Rattle.std.specs.Prelude.{Contains, slice_index_or}
+use Rattle.std.specs.Prelude.{Contains, drop, slice_index_or}
 use Rattle.std.proofs.lemmas.List.{length-map, get_or-map}
 use Rattle.std.proofs.lemmas.List.Elements.{Contains-append_left, Contains-append_right, Contains-push}
 use Rattle.op_words.specs.declared.trail.Item.{Item}
@@ -12,6 +12,7 @@ use Rattle.op_eval.specs.declared.runner.Runner.{Runner}
 use Rattle.op_eval.specs.Gathering.{gathered}
 use Rattle.op_eval.specs.Running.{hand_view}
 use Rattle.abort_lazy.specs.Runs.{root_view}
+use Rattle.abort_lazy.proofs.Idle.{idled_notes, idled_trail_of}
 
 -- ---- what stays of the root's own
 
@@ -64,25 +65,31 @@ gathered_noted v (w ∷ ws) (suc k) d t lt found = gathered_noted (merged v w) w
 
 -- ---- the runners
 
+abbrev gathered_view : Runner → List Runner → View
+gathered_view d rs = gathered (hand_view (slice_index_or rs 0 d)) (map hand_view (drop 1 rs))
+
 -- each has its trail there, by its tag
-pub root_trail : (d : Runner) (rs : List Runner) (k : ℕ) → k < length rs → HasTrail (root_view d rs) (hand_view (slice_index_or rs k d)).tag (hand_view (slice_index_or rs k d)).trail
-root_trail d [] k lt = absurd (omega (arith, lt))
-root_trail d (r ∷ rs) zero lt = inl (gathered_tag (hand_view r) (map hand_view rs), gathered_trail (hand_view r) (map hand_view rs))
-root_trail d (r ∷ rs) (suc k) lt =
+trail_there : (d : Runner) (rs : List Runner) (k : ℕ) → k < length rs → HasTrail (gathered_view d rs) (hand_view (slice_index_or rs k d)).tag (hand_view (slice_index_or rs k d)).trail
+trail_there d [] k lt = absurd (omega (arith, lt))
+trail_there d (r ∷ rs) zero lt = inl (gathered_tag (hand_view r) (map hand_view rs), gathered_trail (hand_view r) (map hand_view rs))
+trail_there d (r ∷ rs) (suc k) lt =
     inr (
       joined_of (hand_view (slice_index_or rs k d)),
-      subst (λ w. Contains (root_view d (r ∷ rs)).joined (joined_of w)) (get_or-map hand_view rs k d (hand_view d) (less-from lt))
+      subst (λ w. Contains (gathered_view d (r ∷ rs)).joined (joined_of w)) (get_or-map hand_view rs k d (hand_view d) (less-from lt))
           (gathered_has (hand_view r) (map hand_view rs) k (hand_view d) (subst (λ n. k < n) (sym (length-map rs hand_view)) (less-from lt))),
       refl,
       refl,
     )
 
+pub root_trail : (n : ℕ) (d : Runner) (rs : List Runner) (k : ℕ) → k < length rs → HasTrail (root_view n d rs) (hand_view (slice_index_or rs k d)).tag (hand_view (slice_index_or rs k d)).trail
+root_trail n d rs k lt = idled_trail_of n (gathered_view d rs) (trail_there d rs k lt)
+
 -- what one has seen settled
-pub root_seen : (d : Runner) (rs : List Runner) (k : ℕ) → k < length rs → (o : ℕ) → IsSettledSeen (hand_view (slice_index_or rs k d)) o → IsSettledSeen (root_view d rs) o
-root_seen d [] k lt o seen = absurd (omega (arith, lt))
-root_seen d (r ∷ rs) zero lt o seen =
+seen_there : (d : Runner) (rs : List Runner) (k : ℕ) → k < length rs → (o : ℕ) → IsSettledSeen (hand_view (slice_index_or rs k d)) o → IsSettledSeen (gathered_view d rs) o
+seen_there d [] k lt o seen = absurd (omega (arith, lt))
+seen_there d (r ∷ rs) zero lt o seen =
     record { note = seen.note; inside = gathered_notes (hand_view r) (map hand_view rs) seen.note seen.inside; op_is = seen.op_is; settled = seen.settled }
-root_seen d (r ∷ rs) (suc k) lt o seen =
+seen_there d (r ∷ rs) (suc k) lt o seen =
     record {
       note = seen.note;
       inside =
@@ -91,3 +98,8 @@ root_seen d (r ∷ rs) (suc k) lt o seen =
       op_is = seen.op_is;
       settled = seen.settled;
     }
+
+pub root_seen : (n : ℕ) (d : Runner) (rs : List Runner) (k : ℕ) → k < length rs → (o : ℕ) → IsSettledSeen (hand_view (slice_index_or rs k d)) o → IsSettledSeen (root_view n d rs) o
+root_seen n d rs k lt o seen =
+    let there = seen_there d rs k lt o seen in
+    record { note = there.note; inside = idled_notes n (gathered_view d rs) there.note there.inside; op_is = there.op_is; settled = there.settled }

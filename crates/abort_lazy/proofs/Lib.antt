@@ -30,6 +30,8 @@ pub mod Alone
 pub mod Agreeing
 -- One level of events after another, by one runner and by all.
 pub mod Advancing
+-- What the root's view has after the hands of idle workers were joined into it.
+pub mod Idle
 -- What the root's view has of each runner once they are gathered: its trail, and what it saw settled.
 pub mod Gathered
 -- From what exploring left to settled runners, and to a root that can close the board.

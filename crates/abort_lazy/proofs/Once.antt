@@ -108,8 +108,8 @@ module _ (p : Plan) (b : Board) (from level : ℕ) (start rs : List Runner) (d :
 
 -- ---- once the board is closed
 
-module _ (p : Plan) (valid : IsValidPlan p) (b : Board) (from : ℕ) (start rs : List Runner) (d : Runner) (begun : AreAtStart from start)
-    (settling : AreSettling b p from (length p.event_levels.items) start rs) (some : 0 < length rs) {cap : ℕ} {ws : List ℕ} (end : EndsSound p cap (counters_of b) ws (root_view d rs)) where
+module _ (p : Plan) (valid : IsValidPlan p) (b : Board) (from : ℕ) (start rs : List Runner) (idle : ℕ) (d : Runner) (begun : AreAtStart from start)
+    (settling : AreSettling b p from (length p.event_levels.items) start rs) (some : 0 < length rs) {cap : ℕ} {ws : List ℕ} (end : EndsSound p cap (counters_of b) ws (root_view idle d rs)) where
   abbrev pub calls_made : ℕ → List TakingCall
   calls_made = calls_of p b from (length p.event_levels.items) start rs d settling
 
@@ -123,7 +123,7 @@ module _ (p : Plan) (valid : IsValidPlan p) (b : Board) (from : ℕ) (start rs :
         | inl none ↦ no_events (from + l) (events_of p l) weight rs none
         | inr seen ↦
             let counters = settling.counters in
-            all_taken end (from + l) (omega (arith, counters, lt)) d rs refl some root_joined last.0 last.1 seen.0 seen.1 (events_of p l) seen.2 weight
+            all_taken end (from + l) (omega (arith, counters, lt)) idle d rs refl some root_joined last.0 last.1 seen.0 seen.1 (events_of p l) seen.2 weight
       ]
 
   pub tried_once : (weight : ℕ → ℕ) → sum_by (λ k. sum_by (tried_by weight) (calls_made k)) (below (length rs)) ≡ sum_by weight (below (event_count p))
@@ -142,7 +142,7 @@ module _ (p : Plan) (valid : IsValidPlan p) (b : Board) (from : ℕ) (start rs :
     once = λ weight. ap (λ n. sum_by (λ k. sum_by (tried_by weight) (calls_made k)) (below n)) (sym settling.len) ∙ tried_once weight;
   }
 
-pub all_tried : (p : Plan) → IsValidPlan p → (b : Board) (from : ℕ) (start rs : List Runner) → AreAtStart from start → AreSettling b p from (length p.event_levels.items) start rs → 0 < length rs
-    → {cap : ℕ} {ws : List ℕ} → ((d : Runner) → EndsSound p cap (counters_of b) ws (root_view d rs)) → AreTries p start rs
-all_tried p valid b from start [] begun settling some end = absurd (omega (arith, some))
-all_tried p valid b from start (r ∷ rs) begun settling some end = are_tries p valid b from start (r ∷ rs) r begun settling some (end r)
+pub all_tried : (p : Plan) → IsValidPlan p → (b : Board) (from : ℕ) (start rs : List Runner) (idle : ℕ) → AreAtStart from start → AreSettling b p from (length p.event_levels.items) start rs → 0 < length rs
+    → {cap : ℕ} {ws : List ℕ} → ((d : Runner) → EndsSound p cap (counters_of b) ws (root_view idle d rs)) → AreTries p start rs
+all_tried p valid b from start [] idle begun settling some end = absurd (omega (arith, some))
+all_tried p valid b from start (r ∷ rs) idle begun settling some end = are_tries p valid b from start (r ∷ rs) idle r begun settling some (end r)

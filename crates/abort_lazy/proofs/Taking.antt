@@ -20,6 +20,7 @@ use Rattle.op_eval.specs.Running.{hand_view}
 use Rattle.op_eval.specs.Turns.{TakingCall, Took, Tried}
 use Rattle.abort_lazy.specs.Runs.{root_view}
 use Rattle.abort_lazy.specs.Sweeps.{MakesCalls, taken_by, weight_at}
+use Rattle.abort_lazy.proofs.Idle.{idled_taken}
 use Rattle.abort_lazy.proofs.Summing.{below_same, sum_map, sum_none, sum_places, sum_same}
 
 -- ---- one runner
@@ -68,15 +69,16 @@ module _ (c : ℕ) (weight : ℕ → ℕ) where
       let first = sum_by-cons (λ (u : View). sum_by (of_counter c weight) u.places) w ws in
       omega (arith, rest, joins, first)
 
-  pub root_taken : (d : Runner) (rs : List Runner) → 0 < length rs → (hand_view (slice_index_or rs 0 d)).joined ≡ []
-      → taken c weight (root_view d rs) ≡ sum_by (weights_of c weight) rs
-  root_taken d [] some none = absurd (omega (arith, some))
-  root_taken d (r ∷ rs) some none =
+  pub root_taken : (idle : ℕ) (d : Runner) (rs : List Runner) → 0 < length rs → (hand_view (slice_index_or rs 0 d)).joined ≡ []
+      → taken c weight (root_view idle d rs) ≡ sum_by (weights_of c weight) rs
+  root_taken idle d [] some none = absurd (omega (arith, some))
+  root_taken idle d (r ∷ rs) some none =
+      let without = idled_taken c weight idle (gathered (hand_view r) (map hand_view rs)) in
       let all = gathered_taken (hand_view r) (map hand_view rs) in
       let others = sum_map (λ (w : View). sum_by (of_counter c weight) w.places) hand_view rs in
       let joins = ap (sum_by (of_joined c weight)) none in
       let first = sum_by-cons (weights_of c weight) r rs in
-      omega (arith, all, others, joins, first)
+      omega (arith, without, all, others, joins, first)
 
 -- numbers without weight
 weightless : (c : ℕ) (weight : ℕ → ℕ) → ((n : ℕ) → weight n ≡ 0) → (rs : List Runner) → sum_by (weights_of c weight) rs ≡ 0
@@ -132,11 +134,11 @@ module _ {p : Plan} {cap counters : ℕ} {ws : List ℕ} {v : View} (end : EndsS
       ]
 
   -- where the last of so many numbers was taken, all of them were, each once
-  pub all_taken : (d : Runner) (rs : List Runner) → v ≡ root_view d rs → 0 < length rs → (hand_view (slice_index_or rs 0 d)).joined ≡ [] → (k : ℕ) → k < length rs
+  pub all_taken : (idle : ℕ) (d : Runner) (rs : List Runner) → v ≡ root_view idle d rs → 0 < length rs → (hand_view (slice_index_or rs 0 d)).joined ≡ [] → (k : ℕ) → k < length rs
       → (n : ℕ) → Contains (hand_view (slice_index_or rs k d)).places (place c n) → (events : List ℕ) → length events ≤ n + 1 → (weight : ℕ → ℕ)
       → sum_by (weights_of c (weight_at events weight)) rs ≡ sum_by weight events
-  all_taken d rs root some none k less n found events long weight =
-      sym (root_taken c (weight_at events weight) d rs some none) ∙ ap (taken c (weight_at events weight)) (sym root) ∙ end.numbers c lt (weight_at events weight)
+  all_taken idle d rs root some none k less n found events long weight =
+      sym (root_taken c (weight_at events weight) idle d rs some none) ∙ ap (taken c (weight_at events weight)) (sym root) ∙ end.numbers c lt (weight_at events weight)
       ∙ sum_weights events weight (slice_index ws (counter_base p + c)) (omega (arith, long, reached))
     where
       mine : 1 ≤ weights_of c (is_it n) (slice_index_or rs k d)
@@ -149,7 +151,7 @@ module _ {p : Plan} {cap counters : ℕ} {ws : List ℕ} {v : View} (end : EndsS
       reached : n < slice_index ws (counter_base p + c)
       reached =
           taken_below n
-          (let whole = ap (taken c (is_it n)) root ∙ root_taken c (is_it n) d rs some none in
+          (let whole = ap (taken c (is_it n)) root ∙ root_taken c (is_it n) idle d rs some none in
           let part = get_or-le-sum_by (weights_of c (is_it n)) rs k d less in
           let here = mine in
           omega (arith, whole, part, here))

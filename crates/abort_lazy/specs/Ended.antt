@@ -1,5 +1,6 @@
 -- What is known of a batch once its board is closed: each event was tried once, and why some were left
-use Rattle.std.specs.Prelude.{◌≡◌, ◌≢◌, ℕ, ◌+◌, ◌<◌, ◌≤◌, ◌==◌, ◌⊎◌, true, false, List, [], Contains, All, count_by, sum_by, length, slice_index_or}
+use Rattle.std.specs.Prelude.{◌≡◌, ◌≢◌, ℕ, ◌+◌, ◌<◌, ◌≤◌, ◌==◌, ◌⊎◌, ◌++◌, true, false, List, [], Contains, All, count_by, sum_by, length, map, replicate, slice_index_or}
+use Rattle.morph_base.specs.Contents.{Contents}
 use Rattle.morph_base.specs.declared.plan.Plan.{Plan}
 use Rattle.morph_base.specs.declared.word.OpState.TheVariants.{Claimed}
 use Rattle.morph_base.specs.Graphs.{below}
@@ -36,6 +37,12 @@ pub record AreTries (p : Plan) (start rs : List Runner) : Type 0 where
       → sum_by (λ k. sum_by (tried_by weight) (calls k)) (below (length start)) ≡ sum_by weight (below (event_count p))
 
 -- ---- why events were left
+
+-- After a list of what workers left, there is an empty one for each of n idle workers
+pub record AddsEmpty (n : ℕ) (before after : List (Contents Left)) : Type 0 where
+  pub added : List (Contents Left)
+  pub all : after ≡ before ++ added
+  pub empty : map (λ l. l.items) added ≡ replicate n []
 
 -- How many causes are kept of event i
 abbrev pub causes_of : ℕ → List (List Left) → ℕ

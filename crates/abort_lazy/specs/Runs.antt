@@ -1,5 +1,5 @@
 -- What becomes of a batch that was explored: all events are tried, level by level
-use Rattle.std.specs.Prelude.{◌≡◌, ◌≢◌, ℕ, ◌+◌, ◌<◌, ◌≤◌, ◌⊎◌, true, false, List, [], ◌∷◌, Contains, None, drop, map, filter, nat_lt, length, slice_index_or, sum_by}
+use Rattle.std.specs.Prelude.{◌≡◌, ◌≢◌, ℕ, zero, suc, ◌+◌, ◌<◌, ◌≤◌, ◌⊎◌, true, false, List, [], ◌∷◌, Contains, None, drop, map, filter, nat_lt, length, slice_index_or, sum_by}
 use Rattle.morph_base.specs.declared.plan.Plan.{Plan}
 use Rattle.morph_base.specs.declared.word.OpState.TheVariants.{Claimed}
 use Rattle.morph_base.specs.declared.word.OpWord.{OpWord}
@@ -13,7 +13,7 @@ use Rattle.op_words.specs.Closing.{IsJoined}
 use Rattle.op_words.specs.Counting.{times}
 use Rattle.op_words.specs.Hands.{counters_of, IsHandOf}
 use Rattle.op_words.specs.Trails.{loaded, IsSourceOf, IsShaken}
-use Rattle.op_words.specs.Views.{IsLone, IsSettledSeen}
+use Rattle.op_words.specs.Views.{IsLone, IsSettledSeen, child, merged, parent}
 use Rattle.op_eval.specs.declared.answers.Left.{Left}
 use Rattle.op_eval.specs.declared.runner.Runner.{Runner}
 use Rattle.op_eval.specs.Exploring.{Unused}
@@ -154,6 +154,15 @@ pub record IsSettledRun (r : SettledRun) : Type 0 where
   pub places : HasPlaces r.runners
   pub rest : AreAtRest r.board (runners_of r.runners)
 
--- The root's view after the other runners' hands were joined into it
-abbrev pub root_view : Runner → List Runner → View
-root_view d rs = gathered (hand_view (slice_index_or rs 0 d)) (map hand_view (drop 1 rs))
+-- The root's view after it made one more hand, and joined it as it was
+abbrev pub with_idle : View → View
+with_idle v = merged (parent v) (child v)
+
+-- The root's view after it made n more hands, and joined each as it was
+unfoldable pub idled : ℕ → View → View
+idled zero v = v
+idled (suc n) v = with_idle (idled n v)
+
+-- The root's view after the other runners' hands were joined into it, and then those of n idle workers
+abbrev pub root_view : (idle : ℕ) → Runner → List Runner → View
+root_view n d rs = idled n (gathered (hand_view (slice_index_or rs 0 d)) (map hand_view (drop 1 rs)))

@@ -10,7 +10,7 @@
 //! ```text
 //! let room = Room::new(alloc, &plan)?;                  // all memory is taken before
 //! let run = settle_all(&rt, explored, &plan);
-//! let (closed, left) = run.close(&plan);
+//! let (closed, left) = run.close(alloc, &plan, 0);
 //! let settled = finish(&closed, &plan, room);
 //! ```
 //!

@@ -1,17 +1,19 @@
 //! Settles all events of a batch on the shared board, event level by event level, by several runners.
 ghost use Rattle.std.specs.Prelude.{◌≡◌, ℕ, ◌+◌, ◌<◌, ◌≤◌, ◌^◌, List as Listed, length, map};
 ghost use Rattle.morph_base.specs.Graphs.{IsValidPlan};
+ghost use Rattle.morph_base.specs.Limits.{most_workers};
 ghost use Rattle.op_words.specs.Closing.{IsClosed};
-ghost use Rattle.op_words.specs.Hands.{plan_of, cap_of, counters_of};
+ghost use Rattle.op_words.specs.Hands.{plan_of, cap_of, counters_of, view_of, IsHandOf};
 ghost use Rattle.op_eval.specs.declared.runner.Runner.{Runner as R};
 ghost use Rattle.op_eval.specs.Gathering.{runners_of};
 ghost use Rattle.op_eval.specs.Exploring.{IsExploredBoard};
-ghost use Rattle.abort_lazy.specs.Ended.{AreAtStart, AreTries, AreCauses};
-ghost use Rattle.abort_lazy.specs.Runs.{AreSettling, AreAllHands, IsSettledByRoot, IsSettledRun, root_view};
+ghost use Rattle.abort_lazy.specs.Ended.{AddsEmpty, AreAtStart, AreTries, AreCauses};
+ghost use Rattle.abort_lazy.specs.Runs.{AreSettling, AreAllHands, IsSettledByRoot, IsSettledRun, idled, root_view};
 
 use morph_base::{List, Plan};
 use op_eval::{Explored, Left, Runner, Runners};
-use op_words::{Board, Closed};
+use op_words::{Board, Closed, Hand};
+use std::alloc::Global;
 use std::thread::Threads;
 
 mod level;
@@ -19,10 +21,19 @@ mod level;
 use level::{Sweep, sweep_by};
 
 /// A board and its runners after each event of a batch was tried, before the board is closed.
-#[derive(Drop)]
 pub struct SettledRun {
     board: Board,
     runners: Runners,
+}
+
+// Not derived: see "What costs" in docs/CONTRIBUTING.md.
+impl Drop for SettledRun {
+    fn drop(self) {
+        let SettledRun {
+            board: _,
+            runners: _,
+        } = self;
+    }
 }
 
 /// Tries the events of each level, from the lowest on. Each level has a counter of its own.
@@ -79,9 +90,29 @@ pub fn settle_all<T: Threads + Sync>(rt: &T, run: Explored, plan: &Plan) -> Sett
     SettledRun { board, runners }
 }
 
+/// Makes a hand for each of this many workers who had no work, and joins it as it is. Each of them left nothing.
+fn add_idle(alloc: Global, board: &Board, root: &mut Hand, left: &mut List<List<Left>>, idle: u32)
+    requires root { IsHandOf board.now root.old }
+    requires tag { (view_of root.old).tag ≡ 1 }
+    requires few { (view_of root.old).made + idle ≤ most_workers }
+    requires room { idle ≤ left.old.room }
+    ensures root { IsHandOf board.now root.new }
+    ensures view { view_of root.new ≡ idled idle (view_of root.old) }
+    ensures left { AddsEmpty idle left.old.items left.new.items }
+{
+    'hands: for _ in 0..idle {
+        let hand = board.split(root);
+        board.join(root, hand);
+        left.add(List::new(alloc));
+    }
+}
+
 impl SettledRun {
     /// Joins the hands into the root and closes the board. Returns the closed board, and why events were not settled by
     /// the runners that tried them, worker 1 first. The runners' hands are all those of the board.
+    ///
+    /// `idle` more workers had no work: there is a hand for each, which did nothing, and an empty list after those of the
+    /// runners.
     ///
     /// If the plan is valid, the run was settled by [`settle_all`], and its runners had left nothing before, then each
     /// event was tried once, over all of them. A cause is true of the closed board: the worker that tried the event
@@ -89,29 +120,32 @@ impl SettledRun {
     /// all of it is settled.
     ///
     /// It takes no memory.
-    pub fn close(self, plan: &Plan) -> (Closed, List<List<Left>>)
+    pub fn close(self, alloc: Global, plan: &Plan, idle: u32) -> (Closed, List<List<Left>>)
         requires run { IsSettledRun self }
         requires plan { plan.now ≡ plan_of self.board }
         requires all { AreAllHands (runners_of self.runners) }
+        requires places { length (runners_of self.runners) + idle ≤ most_workers }
+        requires few { (d : R) → (root_view 0 d (runners_of self.runners)).made + idle ≤ most_workers }
         ensures closed { (d : R)
             → IsClosed (plan_of self.board) (cap_of self.board) (counters_of self.board)
-            (root_view d (runners_of self.runners)) result.0 }
-        ensures left { result.1.items ≡ map (λ r. r.kept) (runners_of self.runners) }
+            (root_view idle d (runners_of self.runners)) result.0 }
+        ensures left { AddsEmpty idle (map (λ r. r.kept) (runners_of self.runners)) result.1.items }
         ensures tried { (from : ℕ) (start : Listed R) → IsValidPlan plan.now → AreAtStart from start
             → AreSettling self.board plan.now from (length plan.now.event_levels.items) start
             (runners_of self.runners)
             → AreTries plan.now start (runners_of self.runners) }
         ensures causes { (d : R) (from : ℕ) (start : Listed R)
             (is : IsClosed plan.now (cap_of self.board) (counters_of self.board)
-            (root_view d (runners_of self.runners)) result.0)
+            (root_view idle d (runners_of self.runners)) result.0)
             → IsValidPlan plan.now → AreAtStart from start
             → AreSettling self.board plan.now from (length plan.now.event_levels.items) start
             (runners_of self.runners)
-            → AreCauses plan.now is.ends.core (root_view d (runners_of self.runners))
+            → AreCauses plan.now is.ends.core (root_view idle d (runners_of self.runners))
             (map (λ list. list.items) result.1.items) }
     {
         let SettledRun { board, runners } = self;
-        let (root, left) = runners.gather(&board);
+        let (mut root, mut left) = runners.gather(&board);
+        add_idle(alloc, &board, &mut root, &mut left, idle);
         (board.close(plan, root), left)
     }
 }

@@ -27,7 +27,7 @@ mod steps;
 /// state.step(&plan, &CoreEvent::Ready { op: 0 });      // Taken
 /// state.step(&plan, &CoreEvent::Finish { op: 0, by: 1 });  // Refused: nobody has claimed it
 /// ```
-#[derive(Debug, Drop)]
+#[derive(Debug)]
 pub struct CoreState {
     /// The last attempt at which values that are not settled may be read.
     cap: u8,
@@ -39,6 +39,21 @@ pub struct CoreState {
     decisions: List<Option<bool>>,
     published: Published,
     settlings: List<Settling>,
+}
+
+// Not derived: see "What costs" in docs/CONTRIBUTING.md.
+impl Drop for CoreState {
+    fn drop(self) {
+        let CoreState {
+            cap: _,
+            words: _,
+            records: _,
+            claims: _,
+            decisions: _,
+            published: _,
+            settlings: _,
+        } = self;
+    }
 }
 
 impl CoreState {

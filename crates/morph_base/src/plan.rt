@@ -94,7 +94,7 @@ pub struct Edges {
 }
 
 /// The task precedence graph of a batch: its events by rising timestamp, their operations, and what each one reads.
-#[derive(Debug, Drop)]
+#[derive(Debug)]
 pub struct Plan {
     /// By rising timestamp.
     pub events: List<PlanEvent>,
@@ -110,9 +110,23 @@ pub struct Plan {
     pub edges: Edges,
 }
 
+// Not derived: see "What costs" in docs/CONTRIBUTING.md.
+impl Drop for Plan {
+    fn drop(self) {
+        let Plan {
+            events: _,
+            ops: _,
+            dependents: _,
+            op_levels: _,
+            event_levels: _,
+            edges: _,
+        } = self;
+    }
+}
+
 /// The result of a plan: the value of each operation, the verdict on each event, and the worker that settled each
 /// operation, or 0 for none.
-#[derive(Debug, Drop)]
+#[derive(Debug)]
 pub struct Settled {
     /// By operation, the value after it. If the event aborted, that is its target's value before the event.
     pub values: List<u64>,
@@ -120,4 +134,15 @@ pub struct Settled {
     pub committed: List<bool>,
     /// By operation: a worker from 1 to [`WORKERS`](crate::WORKERS), or 0.
     pub by: List<u8>,
+}
+
+// Not derived: see "What costs" in docs/CONTRIBUTING.md.
+impl Drop for Settled {
+    fn drop(self) {
+        let Settled {
+            values: _,
+            committed: _,
+            by: _,
+        } = self;
+    }
 }

@@ -52,7 +52,7 @@ struct PlanOpParts {
 /// Contracts see them as a list of [`PlanOp`], with the greatest value of each and the room that is left. They stand in
 /// six lists, in which an operation takes 24 bytes and 16 for each place that it reads, while a `PlanOp` has room for
 /// [`READS`] places. So a walk over a large plan moves a fifth of the memory.
-#[derive(Debug, Drop)]
+#[derive(Debug)]
 pub struct PlanOps {
     heads: List<OpHead>,
     marks: List<OpMark>,
@@ -63,6 +63,20 @@ pub struct PlanOps {
     /// The floors of operations. An operation past the end has the floor 0.
     lows: List<u64>,
     high: u64,
+}
+
+// Not derived: see "What costs" in docs/CONTRIBUTING.md.
+impl Drop for PlanOps {
+    fn drop(self) {
+        let PlanOps {
+            heads: _,
+            marks: _,
+            keys: _,
+            places: _,
+            lows: _,
+            high: _,
+        } = self;
+    }
 }
 
 impl Model for PlanOps {

@@ -1,8 +1,8 @@
 -- A batch from its runners at the start to its closed board.
-use Rattle.std.proofs.Common.{◌≡◌, ℕ, ◌+◌, ◌-◌, ◌<◌, ◌≤◌, true, List, [], ◌∷◌, ◌++◌, length, map, refl, sym, ap, ◌∙◌, subst, inr, arith}
+use Rattle.std.proofs.Common.{◌≡◌, ℕ, ◌+◌, ◌-◌, ◌<◌, ◌≤◌, true, List, [], ◌∷◌, ◌++◌, append-nil, length, map, replicate, refl, sym, ap, ◌∙◌, subst, inr, arith}
 use Rattle.std.specs.Prelude.{Contains, drop, slice_index, slice_index_or}
 use Rattle.std.proofs.lemmas.Bool.{cond-true}
-use Rattle.std.proofs.lemmas.List.{length-map}
+use Rattle.std.proofs.lemmas.List.{length-append, length-map, length-replicate}
 use Rattle.morph_base.specs.Contents.{Contents}
 use Rattle.morph_base.specs.declared.plan.Plan.{Plan}
 use Rattle.morph_base.specs.declared.strategy.Abort.TheVariants.{Lazy}
@@ -11,6 +11,7 @@ use Rattle.morph_base.specs.declared.strategy.Explore.TheVariants.{Strata, Steal
 use Rattle.morph_base.specs.declared.word.OpWord.{OpWord}
 use Rattle.morph_base.specs.Graphs.{IsValidPlan}
 use Rattle.morph_base.specs.Guesses.{stale_count}
+use Rattle.morph_base.specs.Limits.{most_workers}
 use Rattle.morph_base.specs.Plans.{op_count}
 use Rattle.morph_base.specs.Words.{is_settled}
 use Rattle.interleaving_core.specs.Core.{places}
@@ -33,16 +34,17 @@ use Rattle.op_eval.specs.Running.{hand_view}
 use Rattle.op_eval.specs.Alone.{IsNewRoot, HasRunAll}
 use Rattle.op_eval.specs.Further.{IsFurther, HaveGoneOn}
 use Rattle.strata_explorer.specs.Levels.{counters_for}
-use Rattle.abort_lazy.specs.Ended.{AreAtStart, AreCauses, causes}
+use Rattle.abort_lazy.specs.Ended.{AddsEmpty, AreAtStart, AreCauses, causes}
 use Rattle.abort_lazy.specs.Finishing.{settler}
-use Rattle.abort_lazy.specs.Runs.{AreAllHands, AreSettling, HasSettledAll, IsSettledByRoot, root_view}
+use Rattle.abort_lazy.specs.Runs.{AreAllHands, AreSettling, HasSettledAll, IsSettledByRoot, idled, root_view}
 use Rattle.abort_lazy.proofs.Causing.{settler_within}
+use Rattle.abort_lazy.proofs.Idle.{idled_made, idled_room, lists_are}
 use Rattle.abort_lazy.proofs.Gathered.{gathered_made, gathered_room}
 use Rattle.abort_lazy.proofs.Made.{places_some}
 use Rattle.morph_engine.specs.declared.prepared.Prepared.{Prepared}
 use Rattle.morph_engine.specs.Caps.{cap_for}
 use Rattle.morph_engine.specs.Exploring.{HavePassed, HaveHanded, HasExploredBy}
-use Rattle.morph_engine.specs.Runs.{run_outcome, AreFirstRunners, IsPrepared, HasJournalRoom, HavePassedLevels, IsHandedOut, HasRunAlone, HasRun, IsJournalledRun}
+use Rattle.morph_engine.specs.Runs.{run_outcome, workers_of, AreFirstRunners, IsPrepared, HasJournalRoom, HavePassedLevels, IsHandedOut, HasRunAlone, HasRun, IsJournalledRun}
 use Rattle.morph_engine.proofs.Alone.{IsLoneRun, evaluated_alone, rolled_alone}
 use Rattle.morph_engine.proofs.Reaching.{item_reached, places_reached}
 
@@ -54,15 +56,32 @@ some_runner [] some = absurd (omega (arith, some))
 some_runner (r ∷ rs) some = r
 
 -- the root's view of so many hands
-root_made : (d : Runner) (rs : List Runner) → 0 < length rs → (root_view d rs).made ≡ (hand_view (slice_index_or rs 0 d)).made
-root_made d rs some = gathered_made (hand_view (slice_index_or rs 0 d)) (map hand_view (drop 1 rs))
+root_made : (n : ℕ) (d : Runner) (rs : List Runner) → (root_view n d rs).made ≡ (hand_view (slice_index_or rs 0 d)).made + n
+root_made n d rs =
+    idled_made n (gathered (hand_view (slice_index_or rs 0 d)) (map hand_view (drop 1 rs))) ∙ ap (λ k. k + n) (gathered_made (hand_view (slice_index_or rs 0 d)) (map hand_view (drop 1 rs)))
 
 -- one that was alone is the root
-single_root : (d : Runner) (rs : List Runner) → length rs ≡ 1 → root_view d rs ≡ hand_view (slice_index_or rs 0 d)
-unfolding gathered
-single_root d [] one = absurd (omega (arith, one))
-single_root d (r ∷ []) one = refl
-single_root d (r ∷ q ∷ rs) one = absurd (omega (arith, one))
+single_root : (n : ℕ) (d : Runner) (rs : List Runner) → n ≡ 0 → length rs ≡ 1 → root_view n d rs ≡ hand_view (slice_index_or rs 0 d)
+unfolding gathered idled
+single_root n d rs none one = ap (λ k. root_view k d rs) none ∙ single rs one
+  where
+    single : (rs : List Runner) → length rs ≡ 1 → root_view 0 d rs ≡ hand_view (slice_index_or rs 0 d)
+    single [] one = absurd (omega (arith, one))
+    single (r ∷ []) one = refl
+    single (r ∷ q ∷ rs) one = absurd (omega (arith, one))
+
+-- how many lists there are, with an empty one for each idle worker
+lists_many : (n : ℕ) (rs : List Runner) (left : List (Contents Left)) → AddsEmpty n (map (λ r. r.kept) rs) left → length (map (λ (l : Contents Left). l.items) left) ≡ length rs + n
+lists_many n rs left kept =
+    let are = ap length (lists_are n rs left kept) in
+    let parts = length-append (map (λ (l : Contents Left). l.items) (map (λ r. r.kept) rs)) (replicate n []) in
+    let first = length-map (map (λ r. r.kept) rs) (λ (l : Contents Left). l.items) in
+    let runners = length-map rs (λ r. r.kept) in
+    let more : length (replicate n none) ≡ n = length-replicate n none in
+    omega (arith, are, parts, first, runners, more)
+  where
+    none : List Left
+    none = []
 
 single_kept : (rs : List Runner) → length rs ≡ 1 → ((d : Runner) → (slice_index_or rs 0 d).kept.items ≡ []) → causes (map (λ (l : Contents Left). l.items) (map (λ r. r.kept) rs)) ≡ 0
 single_kept [] one none = refl
@@ -106,6 +125,13 @@ module _ (p : Plan) (valid : IsValidPlan p) (x : Prepared) (prepared : IsPrepare
   some_before : 0 < length before
   some_before = prepared.ready.rest.some
 
+  -- one worker takes part if there is one in all
+  one_before : workers_of x ≡ 1 → length before ≡ 1
+  one_before one = let some = some_before in omega (arith, one, some)
+
+  none_idle : workers_of x ≡ 1 → x.idle ≡ 0
+  none_idle one = let some = some_before in omega (arith, one, some)
+
   some_mid : 0 < length mid
   some_mid = subst (λ n. 0 < n) (sym further.len) some_before
 
@@ -128,6 +154,12 @@ module _ (p : Plan) (valid : IsValidPlan p) (x : Prepared) (prepared : IsPrepare
 
   made_is : (d : Runner) → (hand_view (slice_index_or rs 0 d)).made ≡ length before
   made_is d = (settling.each 0 d some_after).made ∙ (further.each 0 d some_before).made ∙ prepared.first.made d
+
+  pub made_all : (d : Runner) → (root_view 0 d rs).made + x.idle ≤ most_workers
+  made_all d = let all = root_made 0 d rs in let first = made_is d in let few = prepared.few in omega (arith, all, first, few)
+
+  pub places_all : length rs + x.idle ≤ most_workers
+  places_all = let few = prepared.few in let same = many in omega (arith, few, same)
 
   none_joined : (d : Runner) → (hand_view (slice_index_or rs 0 d)).joined ≡ []
   none_joined d = (settling.each 0 d some_after).joined ∙ begun.none_joined d
@@ -174,32 +206,35 @@ module _ (p : Plan) (valid : IsValidPlan p) (x : Prepared) (prepared : IsPrepare
   abbrev pub any : Runner
   any = some_runner rs some_after
 
+  all_hands : (root_view x.idle any rs).made ≡ workers_of x
+  all_hands = let all = root_made x.idle any rs in let first = made_is any in omega (arith, all, first)
+
   -- what a root that was alone settled
-  all_settled : length before ≡ 1 → (counters : ℕ) (closed : Closed) (is : IsClosed p (cap_for x.abort) counters (root_view any rs) closed) → (o : ℕ) → o < op_count p → is_settled (is.ends.core.word o).state ≡ true
+  all_settled : workers_of x ≡ 1 → (counters : ℕ) (closed : Closed) (is : IsClosed p (cap_for x.abort) counters (root_view x.idle any rs) closed) → (o : ℕ) → o < op_count p → is_settled (is.ends.core.word o).state ≡ true
   all_settled one counters closed is o lt =
-      let seen = (settled_all one any).settled o lt in
-      let present : IsSettledSeen (root_view any rs) o = subst (λ v. IsSettledSeen v o) (sym (single_root any rs (many ∙ one))) seen in
+      let seen = (settled_all (one_before one) any).settled o lt in
+      let present : IsSettledSeen (root_view x.idle any rs) o = subst (λ v. IsSettledSeen v o) (sym (single_root x.idle any rs (none_idle one) (many ∙ one_before one))) seen in
       ap (λ (w : OpWord). is_settled w.state) (noted_present is.ends.noted present) ∙ present.settled
 
   -- the journal that it kept
-  pub kept_run : (room : ℕ) → HasJournalRoom room x → length before ≡ 1 → (counters : ℕ) (closed : Closed) → IsClosed p (cap_for x.abort) counters (root_view any rs) closed → IsJournalledRun p x.abort room closed
+  pub kept_run : (room : ℕ) → HasJournalRoom room x → workers_of x ≡ 1 → (counters : ℕ) (closed : Closed) → IsClosed p (cap_for x.abort) counters (root_view x.idle any rs) closed → IsJournalledRun p x.abort room closed
   kept_run room fits one counters closed is = record {
     counters = counters;
-    view = root_view any rs;
+    view = root_view x.idle any rs;
     ended = is;
-    alone = root_made any rs some_after ∙ made_is any ∙ one;
+    alone = all_hands ∙ one;
     room_is =
-        gathered_room (hand_view (slice_index_or rs 0 any)) (map hand_view (drop 1 rs)) ∙ (settling.each 0 any some_after).journal_room ∙ (further.each 0 any some_before).room ∙ fits any;
+        idled_room x.idle (gathered (hand_view (slice_index_or rs 0 any)) (map hand_view (drop 1 rs))) ∙ gathered_room (hand_view (slice_index_or rs 0 any)) (map hand_view (drop 1 rs)) ∙ (settling.each 0 any some_after).journal_room ∙ (further.each 0 any some_before).room ∙ fits any;
     settled = all_settled one counters closed is;
   }
 
-  module _ (counters : ℕ) (fits : counters_for p ≤ counters) (closed : Closed) (is : IsClosed p (cap_for x.abort) counters (root_view any rs) closed) (left : List (Contents Left)) (kept : left ≡ map (λ r. r.kept) rs)
-      (why : AreCauses p is.ends.core (root_view any rs) (map (λ (l : Contents Left). l.items) left)) (by : List ℕ) (tags : (o : ℕ) → o < op_count p → slice_index by o ≡ settler (is.ends.core.word o)) where
-    settled_by_one : length before ≡ 1 → (o : ℕ) → o < op_count p → slice_index by o ≡ 1
+  module _ (counters : ℕ) (fits : counters_for p ≤ counters) (closed : Closed) (is : IsClosed p (cap_for x.abort) counters (root_view x.idle any rs) closed) (left : List (Contents Left)) (kept : AddsEmpty x.idle (map (λ r. r.kept) rs) left)
+      (why : AreCauses p is.ends.core (root_view x.idle any rs) (map (λ (l : Contents Left). l.items) left)) (by : List ℕ) (tags : (o : ℕ) → o < op_count p → slice_index by o ≡ settler (is.ends.core.word o)) where
+    settled_by_one : workers_of x ≡ 1 → (o : ℕ) → o < op_count p → slice_index by o ≡ 1
     settled_by_one one o lt =
         let now = all_settled one counters closed is o lt in
         let within = settler_within is.ends o lt now in
-        let made = root_made any rs some_after ∙ made_is any ∙ one in
+        let made = all_hands ∙ one in
         let least = within.0 in
         let most = within.1 in
         tags o lt ∙ cond-true (is_settled (is.ends.core.word o).state) (is.ends.core.word o).by 0 now ∙ omega (arith, least, most, made)
@@ -207,16 +242,16 @@ module _ (p : Plan) (valid : IsValidPlan p) (x : Prepared) (prepared : IsPrepare
     some_places : (o : ℕ) → o < op_count p → 0 < places p o
     some_places o lt = (places_some p o valid.plan lt).0
 
-    module _ (one : length before ≡ 1) (lazy : x.abort ≡ Lazy) where
+    module _ (one : workers_of x ≡ 1) (lazy : x.abort ≡ Lazy) where
       run : IsLoneRun p (slice_index_or mid 0 any) (slice_index_or rs 0 any)
-      run = lone_run one any lazy
+      run = lone_run (one_before one) any lazy
 
       -- the closed board as that of the only hand, with the cap of lazy abort
       abbrev At : ((cap : ℕ) (v : View) → EndsSound p cap counters (words_of closed) v → Type 0) → ℕ × View → Type 0
       At Of z = (end : EndsSound p z.0 counters (words_of closed) z.1) → Of z.0 z.1 end
 
-      own : ◌≡◌ {A = ℕ × View} (1, hand_view (slice_index_or rs 0 any)) (cap_for x.abort, root_view any rs)
-      own a = (sym (ap cap_for lazy) a, sym (single_root any rs (many ∙ one)) a)
+      own : ◌≡◌ {A = ℕ × View} (1, hand_view (slice_index_or rs 0 any)) (cap_for x.abort, root_view x.idle any rs)
+      own a = (sym (ap cap_for lazy) a, sym (single_root x.idle any rs (none_idle one) (many ∙ one_before one)) a)
 
       lone_evaluated : evaluated is.ends.history ≡ op_count p + rolled is.ends.history
       lone_evaluated =
@@ -228,9 +263,11 @@ module _ (p : Plan) (valid : IsValidPlan p) (x : Prepared) (prepared : IsPrepare
           subst (At (λ cap v end. rolled end.history ≡ stale_count p)) own
           (rolled_alone p valid.plan some_places (slice_index_or mid 0 any) (slice_index_or rs 0 any) run) is.ends
 
-    alone : length before ≡ 1 → HasRunAlone p x.abort is.ends.history (map (λ (l : Contents Left). l.items) left) by
+    alone : workers_of x ≡ 1 → HasRunAlone p x.abort is.ends.history (map (λ (l : Contents Left). l.items) left) by
     alone one = record {
-      none = ap (λ l. causes (map (λ (q : Contents Left). q.items) l)) kept ∙ single_kept rs (many ∙ one) (λ d. (settled_all one d).none);
+      none =
+          ap causes (lists_are x.idle rs left kept) ∙ ap (λ n. causes (map (λ (q : Contents Left). q.items) (map (λ r. r.kept) rs) ++ replicate n [])) (none_idle one)
+          ∙ ap causes (append-nil (map (λ (q : Contents Left). q.items) (map (λ r. r.kept) rs))) ∙ single_kept rs (many ∙ one_before one) (λ d. (settled_all (one_before one) d).none);
       mine = settled_by_one one;
       evaluated_is = lone_evaluated one;
       rolled_is = lone_rolled one;
@@ -243,7 +280,7 @@ module _ (p : Plan) (valid : IsValidPlan p) (x : Prepared) (prepared : IsPrepare
       by_deques : explore ≡ Steal → HaveHanded p x.abort before e handed stolen
       by_deques same = subst (λ by. HasExploredBy by p x.abort before e handed stolen) same way
 
-      all_places : HavePassed p x.abort e handed stolen → HavePassedLevels p x.abort (root_view any rs)
+      all_places : HavePassed p x.abort e handed stolen → HavePassedLevels p x.abort (root_view x.idle any rs)
       all_places out =
           let fewer : length out.levels ≤ counters = (let few = out.passed.few in omega (arith, few, fits)) in
           record {
@@ -251,26 +288,26 @@ module _ (p : Plan) (valid : IsValidPlan p) (x : Prepared) (prepared : IsPrepare
             passed = out.passed;
             places =
                 places_reached e.board p out.levels (length p.event_levels.items) mid rs
-                (subst (λ from. AreSettling e.board p from (length p.event_levels.items) mid rs) out.passes settling) out.strata any is.ends fewer some_after (none_joined any);
+                (subst (λ from. AreSettling e.board p from (length p.event_levels.items) mid rs) out.passes settling) out.strata x.idle any is.ends fewer some_after (none_joined any);
           }
 
-      all_items : HaveHanded p x.abort before e handed stolen → IsHandedOut p x.abort (length before) (root_view any rs) handed stolen
+      all_items : HaveHanded p x.abort before e handed stolen → IsHandedOut p x.abort (workers_of x) (root_view x.idle any rs) handed stolen
       all_items out = record {
         items = out.items;
         balanced = out.balanced;
         reached = λ o found.
             let at = out.reached o found in
-            item_reached e.board p e.next_counter (length p.event_levels.items) mid rs settling any o (out.inside o found) at.0 at.1 at.2;
-        alone = λ one. out.alone (new_root one any);
+            item_reached e.board p e.next_counter (length p.event_levels.items) mid rs settling x.idle any o (out.inside o found) at.0 at.1 at.2;
+        alone = λ one. out.alone (new_root (one_before one) any);
       }
 
-      pub has_run : HasRun p explore x.abort (length before) closed (run_outcome (map (λ (l : Contents Left). l.items) left) by handed stolen)
+      pub has_run : HasRun p explore x.abort (workers_of x) closed (run_outcome (map (λ (l : Contents Left). l.items) left) by handed stolen)
       has_run = record {
         counters = counters;
-        view = root_view any rs;
+        view = root_view x.idle any rs;
         ended = is;
-        hands = root_made any rs some_after ∙ made_is any;
-        len = length-map left (λ (l : Contents Left). l.items) ∙ ap length kept ∙ length-map rs (λ r. r.kept) ∙ many;
+        hands = all_hands;
+        len = lists_many x.idle rs left kept ∙ ap (λ n. n + x.idle) many;
         tags = tags;
         left = why;
         places = λ same. all_places (by_strata same);

@@ -22,5 +22,5 @@ pub mod Waiting
 pub mod Ending
 -- The account of a batch, from what its closed board shows.
 pub mod Accounting
--- The end of a batch, by those of the workers who take part.
+-- The end of a batch, by the number of workers that were prepared.
 pub mod Ended

@@ -1,6 +1,6 @@
 -- What was taken was reached, as the closed board shows it: each place of each pass, and each operation from a deque.
 use Rattle.std.proofs.Common.{◌≡◌, ℕ, zero, suc, ◌+◌, ◌<◌, ◌≤◌, eqb, List, [], ◌∷◌, length, map, refl, sym, ap, ◌∙◌, subst, inl, inr, arith}
-use Rattle.std.specs.Prelude.{Contains, slice_index, slice_index_or, sum_by}
+use Rattle.std.specs.Prelude.{Contains, drop, slice_index, slice_index_or, sum_by}
 use Rattle.std.proofs.lemmas.Bool.{cases_eq, cond-true, cond-false, eq-eqb, ne_eqb}
 use Rattle.std.proofs.lemmas.List.{length-map, get_or-map, get_or_default}
 use Rattle.std.proofs.lemmas.List.Sums.{sum_by-cons, get_or-le-sum_by}
@@ -29,6 +29,7 @@ use Rattle.op_eval.specs.Turns.{TakingCall, Took, Tried}
 use Rattle.abort_lazy.specs.Runs.{AreSettling, root_view}
 use Rattle.abort_lazy.specs.Sweeps.{MakesCalls}
 use Rattle.abort_lazy.proofs.Gathered.{gathered_has, gathered_tag, gathered_trail}
+use Rattle.abort_lazy.proofs.Idle.{idled_joined, idled_places, idled_tag, idled_trail}
 use Rattle.abort_lazy.proofs.Summing.{below_has, below_some, sum_places}
 use Rattle.abort_lazy.proofs.Taking.{weights_of, root_taken, taken_below}
 use Rattle.abort_lazy.proofs.Trying.{calls_hold, calls_places}
@@ -56,14 +57,17 @@ unfolding gathered
 gathered_places v [] = refl
 gathered_places v (w ∷ ws) = gathered_places (merged v w) ws
 
-root_hand : (d : Runner) (rs : List Runner) (k : ℕ) → k < length rs
-    → HasHand (root_view d rs) (hand_view (slice_index_or rs k d)).tag (hand_view (slice_index_or rs k d)).trail (hand_view (slice_index_or rs k d)).places
-root_hand d [] k lt = absurd (omega (arith, lt))
-root_hand d (r ∷ rs) zero lt = inl (gathered_tag (hand_view r) (map hand_view rs), gathered_trail (hand_view r) (map hand_view rs), gathered_places (hand_view r) (map hand_view rs))
-root_hand d (r ∷ rs) (suc k) lt =
+abbrev gathered_view : Runner → List Runner → View
+gathered_view d rs = gathered (hand_view (slice_index_or rs 0 d)) (map hand_view (drop 1 rs))
+
+hand_there : (d : Runner) (rs : List Runner) (k : ℕ) → k < length rs
+    → HasHand (gathered_view d rs) (hand_view (slice_index_or rs k d)).tag (hand_view (slice_index_or rs k d)).trail (hand_view (slice_index_or rs k d)).places
+hand_there d [] k lt = absurd (omega (arith, lt))
+hand_there d (r ∷ rs) zero lt = inl (gathered_tag (hand_view r) (map hand_view rs), gathered_trail (hand_view r) (map hand_view rs), gathered_places (hand_view r) (map hand_view rs))
+hand_there d (r ∷ rs) (suc k) lt =
     inr (
       joined_of (hand_view (slice_index_or rs k d)),
-      subst (λ w. Contains (root_view d (r ∷ rs)).joined (joined_of w)) (get_or-map hand_view rs k d (hand_view d) (less lt))
+      subst (λ w. Contains (gathered_view d (r ∷ rs)).joined (joined_of w)) (get_or-map hand_view rs k d (hand_view d) (less lt))
           (gathered_has (hand_view r) (map hand_view rs) k (hand_view d) (subst (λ n. k < n) (sym (length-map rs hand_view)) (less lt))),
       refl,
       refl,
@@ -73,9 +77,17 @@ root_hand d (r ∷ rs) (suc k) lt =
     less : suc k < suc (length rs) → k < length rs
     less l = omega (arith, l)
 
+root_hand : (n : ℕ) (d : Runner) (rs : List Runner) (k : ℕ) → k < length rs
+    → HasHand (root_view n d rs) (hand_view (slice_index_or rs k d)).tag (hand_view (slice_index_or rs k d)).trail (hand_view (slice_index_or rs k d)).places
+root_hand n d rs k lt =
+    elim (hand_there d rs k lt) [
+      | inl own ↦ inl (idled_tag n (gathered_view d rs) ∙ own.0, idled_trail n (gathered_view d rs) ∙ own.1, idled_places n (gathered_view d rs) ∙ own.2)
+      | inr other ↦ inr (other.0, idled_joined n (gathered_view d rs) other.0 other.1, other.2, other.3, other.4)
+    ]
+
 -- what a runner had reached before events were tried
-module _ (b : Board) (p : Plan) (from level : ℕ) (start rs : List Runner) (settling : AreSettling b p from level start rs) (d : Runner) where
-  pub item_reached : (o : ℕ) → o < op_count p → (k : ℕ) → k < length start → ((e : Runner) → IsReached p o (hand_view (slice_index_or start k e)).trail) → IsItemReached p (root_view d rs) o
+module _ (b : Board) (p : Plan) (from level : ℕ) (start rs : List Runner) (settling : AreSettling b p from level start rs) (idle : ℕ) (d : Runner) where
+  pub item_reached : (o : ℕ) → o < op_count p → (k : ℕ) → k < length start → ((e : Runner) → IsReached p o (hand_view (slice_index_or start k e)).trail) → IsItemReached p (root_view idle d rs) o
   item_reached o in_range k lt reached =
       let there = subst (λ n. k < n) (sym settling.len) lt in
       let here = settling.each k d there in
@@ -85,7 +97,7 @@ module _ (b : Board) (p : Plan) (from level : ℕ) (start rs : List Runner) (set
         tag = (hand_view b).tag;
         trail = (hand_view b).trail;
         places = (hand_view b).places;
-        hand = root_hand d rs k there;
+        hand = root_hand idle d rs k there;
         reached = calls_reached p o here.tried.calls (slice_index_or start k d) b here.tried.made (reached d);
       }
 
@@ -117,8 +129,8 @@ place_counts c n xs found =
     let is : is_it n n ≡ 1 = cond-true (eqb n n) 1 0 (eq-eqb n n refl) in
     omega (arith, inside, it, is)
 
-module _ (b : Board) (p : Plan) (levels : List ℕ) (level : ℕ) (start rs : List Runner) (settling : AreSettling b p (length levels) level start rs) (strata : AreStrata p levels start) {cap counters : ℕ} {ws : List ℕ} (d : Runner)
-    (end : EndsSound p cap counters ws (root_view d rs)) (fits : length levels ≤ counters) (some : 0 < length rs) (none : (hand_view (slice_index_or rs 0 d)).joined ≡ []) where
+module _ (b : Board) (p : Plan) (levels : List ℕ) (level : ℕ) (start rs : List Runner) (settling : AreSettling b p (length levels) level start rs) (strata : AreStrata p levels start) {cap counters : ℕ} {ws : List ℕ} (idle : ℕ) (d : Runner)
+    (end : EndsSound p cap counters ws (root_view idle d rs)) (fits : length levels ≤ counters) (some : 0 < length rs) (none : (hand_view (slice_index_or rs 0 d)).joined ≡ []) where
   in_counters : (c : ℕ) → c < length levels → c < counters
   in_counters c lt = omega (arith, lt, fits)
 
@@ -135,7 +147,7 @@ module _ (b : Board) (p : Plan) (levels : List ℕ) (level : ℕ) (start rs : Li
       let counted = sum_inside (is_it n) (below end_is) n (below_has end_is n less) in
       let it : is_it n n ≡ 1 = cond-true (eqb n n) 1 0 (eq-eqb n n refl) in
       let numbers = end.numbers c (in_counters c low) (is_it n) in
-      let total = root_taken c (is_it n) d rs some none in
+      let total = root_taken c (is_it n) idle d rs some none in
       let places = sum_places (weights_of c (is_it n)) rs d in
       let one = below_some (λ k. weights_of c (is_it n) (slice_index_or rs k d)) (length rs) (omega (arith, counted, it, numbers, total, places)) in
       (one.0, one.1, some_place c n (hand_view (slice_index_or rs one.0 d)).places one.2)
@@ -149,7 +161,7 @@ module _ (b : Board) (p : Plan) (levels : List ℕ) (level : ℕ) (start rs : Li
         let held = calls_hold p here.tried.calls (slice_index_or start k e) (slice_index_or rs k e) here.tried.made (place c n) found in
         let counts = place_counts c n (hand_view (slice_index_or rs k e)).places held in
         let part = get_or-le-sum_by (weights_of c (is_it n)) rs k e (there k less) in
-        let total = root_taken c (is_it n) d rs some none in
+        let total = root_taken c (is_it n) idle d rs some none in
         taken_below end c (in_counters c low) n (omega (arith, counts, part, total));
     taken = λ n less.
         let one = all_taken c n low less in (
@@ -162,7 +174,7 @@ module _ (b : Board) (p : Plan) (levels : List ℕ) (level : ℕ) (start rs : Li
         );
   }
 
-  pub places_reached : (c n : ℕ) → c < length levels → n < length (ops_of p (level_of levels c)) → IsPlaceReached p (root_view d rs) c (level_of levels c) n
+  pub places_reached : (c n : ℕ) → c < length levels → n < length (ops_of p (level_of levels c)) → IsPlaceReached p (root_view idle d rs) c (level_of levels c) n
   places_reached c n low less =
       let one = union p levels start strata d c low (whole c low) n less in
       let lt = there one.0 one.1 in
@@ -173,7 +185,7 @@ module _ (b : Board) (p : Plan) (levels : List ℕ) (level : ℕ) (start rs : Li
         tag = (hand_view b).tag;
         trail = (hand_view b).trail;
         places = (hand_view b).places;
-        hand = root_hand d rs one.0 lt;
+        hand = root_hand idle d rs one.0 lt;
         taken = calls_hold p here.tried.calls a b here.tried.made (place c n) one.2;
         reached = calls_reached p (op_of p (level_of levels c) n) here.tried.calls a b here.tried.made one.3;
       }

@@ -14,19 +14,16 @@ use Rattle.morph_engine.specs.Accounts.{IsAccount, account_of}
 use Rattle.morph_engine.specs.Caps.{cap_for}
 use Rattle.morph_engine.specs.Fates.{settled_fates}
 use Rattle.morph_engine.specs.Runs.{run_outcome, HasRun}
-use Rattle.morph_engine.specs.Teams.{IsTeam}
 use Rattle.morph_engine.specs.declared.engine.BatchEnd.{BatchEnd}
 
--- The plan was run from state s on, with this strategy and by those of this many workers who take part. What was
--- settled gives the fate of each event, and the board, the counts and the numbers are those of such a run
+-- The plan was run from state s on, with this strategy and by this many workers. What was settled gives the fate of
+-- each event, and the board, the counts and the numbers are those of such a run
 pub record IsEnd (p : Plan) (strategy : Strategy) (workers : ℕ) (s : State) (end : BatchEnd) : Type 0 where
   pub plan : end.plan ≡ p
   pub strategy_is : end.strategy ≡ strategy
   pub settled : IsSettledOf p end.settled
   pub fates_are : settled_fates p end.settled ≡ fates s (transactions p)
-  pub team : ℕ
-  pub team_is : IsTeam p workers team
-  pub run : HasRun p strategy.explore strategy.abort team end.closed (run_outcome (map (λ (l : Contents Left). l.items) end.left.items) end.settled.by.items end.handed end.stolen)
+  pub run : HasRun p strategy.explore strategy.abort workers end.closed (run_outcome (map (λ (l : Contents Left). l.items) end.left.items) end.settled.by.items end.handed end.stolen)
   pub counts : (counters : ℕ) (v : View) (is : IsClosed p (cap_for strategy.abort) counters v end.closed)
       → end.counts ≡ counts_of is.ends.history
   pub account : IsAccount strategy.explore strategy.abort workers (account_of end)

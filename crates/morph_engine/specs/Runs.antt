@@ -1,11 +1,12 @@
 -- What a batch takes its memory for, and what its board shows after its end
-use Rattle.std.specs.Prelude.{◌≡◌, ℕ, ◌+◌, ◌*◌, ◌<◌, ◌⊎◌, List, [], Contains, length, slice_index, slice_index_or}
+use Rattle.std.specs.Prelude.{◌≡◌, ℕ, ◌+◌, ◌*◌, ◌<◌, ◌≤◌, ◌⊎◌, List, [], Contains, length, slice_index, slice_index_or}
 use Rattle.morph_base.specs.declared.plan.Plan.{Plan}
 use Rattle.morph_base.specs.declared.strategy.Abort.{Abort}
 use Rattle.morph_base.specs.declared.strategy.Abort.TheVariants.{Lazy}
 use Rattle.morph_base.specs.declared.strategy.Explore.{Explore}
 use Rattle.morph_base.specs.declared.strategy.Explore.TheVariants.{Strata, Steal}
 use Rattle.morph_base.specs.Guesses.{stale_count}
+use Rattle.morph_base.specs.Limits.{most_workers}
 use Rattle.morph_base.specs.Plans.{op_count}
 use Rattle.chain_units.specs.Places.{IsPartition}
 use Rattle.interleaving_core.specs.declared.event.CoreEvent.{CoreEvent}
@@ -43,6 +44,10 @@ pub record AreFirstRunners (rs : List Runner) : Type 0 where
   pub trail : (d : Runner) → (hand_view (slice_index_or rs 0 d)).trail ≡ []
   pub notes : (d : Runner) → (hand_view (slice_index_or rs 0 d)).notes ≡ []
 
+-- How many workers there are: those who take part, and the idle ones
+abbrev pub workers_of : Prepared → ℕ
+workers_of x = length (runners_of x.runners) + x.idle
+
 -- The memory for a batch is taken: a board for the plan, with the cap of its abort and counters for all passes and the
 -- levels of events; units; runners that can explore; what they take operations from; and room for what is settled
 pub record IsPrepared (p : Plan) (x : Prepared) : Type 0 where
@@ -53,6 +58,7 @@ pub record IsPrepared (p : Plan) (x : Prepared) : Type 0 where
   pub number : x.units.ops ≡ op_count p
   pub ready : MayExplore x.board 0 x.runners
   pub first : AreFirstRunners (runners_of x.runners)
+  pub few : workers_of x ≤ most_workers
   pub supply : IsSupply p (length (runners_of x.runners)) x.supply
   pub room : IsRoomFor p x.room
 

@@ -7,14 +7,11 @@ ghost use Rattle.morph_base.specs.Transactions.{IsBatch, BatchKeysIn, high_of_al
 ghost use Rattle.morph_base.specs.Plans.{HasBases, IsPlanOf, PlanKeysIn, event_count};
 ghost use Rattle.morph_base.specs.Plans.{high_of, state_at, transactions};
 ghost use Rattle.morph_base.specs.Graphs.{IsValidPlan};
-ghost use Rattle.morph_engine.specs.Runs.{IsPrepared, HasJournalRoom, IsJournalledRun};
+ghost use Rattle.morph_engine.specs.Runs.{workers_of, IsPrepared, HasJournalRoom, IsJournalledRun};
 ghost use Rattle.morph_engine.specs.Ends.{IsEnd};
-ghost use Rattle.morph_engine.specs.Teams.{IsTeam};
 ghost use Rattle.morph_engine.specs.Exploring.{explore_of};
-ghost use Rattle.op_eval.specs.Gathering.{runners_of};
 
 use crate::prepared::{Prepared, Ran};
-use crate::team::team_for;
 use morph_base::{Batch, Layout, List, OutOfMemory, Plan, Settled, Strategy};
 use op_eval::Left;
 use op_words::{Closed, Counts};
@@ -52,7 +49,6 @@ pub struct Engine {
 ///
 /// Event `i` of the plan has its timestamp there, its verdict at `committed[i]`, and the values of its operations in
 /// `values` from its `first` on, `count` of them.
-#[derive(Drop)]
 pub struct BatchEnd {
     /// The plan that was run.
     pub plan: Plan,
@@ -70,6 +66,22 @@ pub struct BatchEnd {
     pub handed: u64,
     /// How many of these a worker took from another worker's deque.
     pub stolen: u64,
+}
+
+// Not derived: see "What costs" in docs/CONTRIBUTING.md.
+impl Drop for BatchEnd {
+    fn drop(self) {
+        let BatchEnd {
+            plan: _,
+            strategy: _,
+            settled: _,
+            closed: _,
+            left: _,
+            counts: _,
+            handed: _,
+            stolen: _,
+        } = self;
+    }
 }
 
 impl Model for Engine {
@@ -135,14 +147,15 @@ impl Engine {
     /// Runs a plan that was made from the present state: the state becomes the fold of its events.
     ///
     /// There are 1 to [`WORKERS`](morph_base::WORKERS) workers. As many take part as the batch has work for: one for each
-    /// 32,768 operations, and at least one. Under a gate that [needs threads](Gate::needs_threads) all of them do. They
-    /// share a board with a word for each operation.
-    /// First they explore: they evaluate the operations, on the values that their sources show at the time. By strata
-    /// they go level by level, and take the operations of each level from a counter. By deques each worker has a deque
-    /// of operations: those of level 1 are dealt to all, what an evaluation made ready is pushed, and a worker with
-    /// nothing left steals from another. Then they settle the events, each tried once: what rested on an aborted
-    /// version is rolled back and evaluated again. Whatever a worker skipped because another was in its way is
-    /// completed in the end, on plain data.
+    /// 32,768 operations, and at least one. Under a gate that [needs threads](Gate::needs_threads) all of them do. The
+    /// others have a hand on the board that does nothing, and an empty list of causes.
+    ///
+    /// Those who take part share a board with a word for each operation. First they explore: they evaluate the
+    /// operations, on the values that their sources show at the time. By strata they go level by level, and take the
+    /// operations of each level from a counter. By deques each worker has a deque of operations: those of level 1 are
+    /// dealt to all, what an evaluation made ready is pushed, and a worker with nothing left steals from another. Then
+    /// they settle the events, each tried once: what rested on an aborted version is rolled back and evaluated again.
+    /// Whatever a worker skipped because another was in its way is completed in the end, on plain data.
     ///
     /// Under lazy abort a failure waits for settling. Under eager abort its cascade is run at once, and what the
     /// cascade rolled back is explored again: by strata from a lower level on, and by deques as an operation that is
@@ -176,15 +189,15 @@ impl Engine {
         ensures refused { OnErr result (self.new ≡ self.old) }
     {
         let side_by_side = gate.needs_threads();
-        let team = team_for(&plan, workers, side_by_side);
-        let prepared = Prepared::new(alloc, &plan, strategy, team, side_by_side, 0)?;
-        Ok(self.run_prepared(rt, prepared, plan, strategy, gate))
+        let prepared = Prepared::new(alloc, &plan, strategy, workers, side_by_side, 0)?;
+        Ok(self.run_prepared(rt, alloc, prepared, plan, strategy, gate))
     }
 
     /// Runs a plan that all memory is taken for, and applies what was settled to the state.
     pub(crate) fn run_prepared<R: Threads + Sync, G: Gate>(
         &mut self,
         rt: &R,
+        alloc: Global,
         prepared: Prepared,
         plan: Plan,
         strategy: &Strategy,
@@ -198,10 +211,9 @@ impl Engine {
         requires abort { prepared.abort ≡ strategy.now.abort }
         ensures state { contents self.new ≡ state_at plan (contents self.old) (event_count plan) }
         ensures layout { self.new.layout ≡ self.old.layout }
-        ensures ran { (workers : ℕ) → IsTeam plan workers (length (runners_of prepared.runners))
-            → IsEnd plan strategy.now workers (contents self.old) result }
+        ensures ran { IsEnd plan strategy.now (workers_of prepared) (contents self.old) result }
         ensures kept { (room : ℕ) → HasJournalRoom room prepared
-            → length (runners_of prepared.runners) ≡ 1
+            → workers_of prepared ≡ 1
             → IsJournalledRun plan strategy.now.abort room result.closed }
     {
         let Ran {
@@ -209,7 +221,7 @@ impl Engine {
             closed,
             left,
             tallied,
-        } = prepared.run(rt, &plan, gate);
+        } = prepared.run(rt, alloc, &plan, gate);
         self.state.apply(&plan, &settled);
         let counts = closed.counts();
         BatchEnd {

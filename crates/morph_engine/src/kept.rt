@@ -46,6 +46,6 @@ impl Engine {
     {
         let room = room_for(plan.ops.len());
         let prepared = Prepared::new(alloc, &plan, strategy, 1, false, room)?;
-        Ok(self.run_prepared(rt, prepared, plan, strategy, &FreeGate))
+        Ok(self.run_prepared(rt, alloc, prepared, plan, strategy, &FreeGate))
     }
 }

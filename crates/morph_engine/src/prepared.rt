@@ -6,12 +6,12 @@ ghost use Rattle.morph_base.specs.Plans.{IsPlan, IsSettledOf};
 ghost use Rattle.op_words.specs.Hands.{plan_of, cap_of as cap_of_board, counters_of, view_of, IsHandOf};
 ghost use Rattle.op_words.specs.Journals.{roomed};
 ghost use Rattle.op_words.specs.Rule.{first_view};
-ghost use Rattle.op_eval.specs.Gathering.{runners_of};
 ghost use Rattle.morph_engine.specs.Caps.{cap_for};
 ghost use Rattle.morph_engine.specs.Exploring.{explore_of};
-ghost use Rattle.morph_engine.specs.Runs.{run_outcome, IsPrepared, HasJournalRoom, HasRun, IsJournalledRun};
+ghost use Rattle.morph_engine.specs.Runs.{run_outcome, workers_of, IsPrepared, HasJournalRoom, HasRun, IsJournalledRun};
 
 use crate::supply::{Supply, Tallied, explore_by};
+use crate::team::team_for;
 use abort_lazy::{Room, finish, settle_all};
 use chain_units::{Units, units};
 use morph_base::{Abort, List, OutOfMemory, Plan, Settled, Strategy};
@@ -61,14 +61,31 @@ fn board_for(
 }
 
 /// All that a batch takes its memory for, before its first worker runs.
-#[derive(Drop)]
 pub(crate) struct Prepared {
     abort: Abort,
     units: Units,
     board: Board,
+    /// Those of the workers who take part.
     runners: Runners,
+    /// How many more workers there are.
+    idle: u32,
     supply: Supply,
     room: Room,
+}
+
+// Not derived: see "What costs" in docs/CONTRIBUTING.md.
+impl Drop for Prepared {
+    fn drop(self) {
+        let Prepared {
+            abort: _,
+            units: _,
+            board: _,
+            runners: _,
+            idle: _,
+            supply: _,
+            room: _,
+        } = self;
+    }
 }
 
 /// What the workers and the plain finish made of a batch.
@@ -82,7 +99,7 @@ pub(crate) struct Ran {
 
 impl Prepared {
     /// Takes the memory for a plan, for this strategy and this many workers. The root has this much room for a journal.
-    /// The workers are to work side by side, or in as many threads as the plan is worth.
+    /// If the workers are to work side by side, all of them take part, and else as many as the plan has work for.
     pub(crate) fn new(
         alloc: Global,
         plan: &Plan,
@@ -95,7 +112,7 @@ impl Prepared {
         requires some { 1 ≤ workers }
         requires few { workers ≤ most_workers }
         ensures prepared { IfOk result (IsPrepared plan.now) }
-        ensures workers { IfOk result (λ made. length (runners_of made.runners) ≡ workers) }
+        ensures workers { IfOk result (λ made. workers_of made ≡ workers) }
         ensures explore { IfOk result (λ made. explore_of made.supply ≡ strategy.now.explore) }
         ensures abort { IfOk result (λ made. made.abort ≡ strategy.now.abort) }
         ensures journal { IfOk result (HasJournalRoom room) }
@@ -103,30 +120,38 @@ impl Prepared {
         let units = units(alloc, plan, strategy.unit)?;
         let counters = counters(plan) + plan.event_levels.len() as u32;
         let (board, root) = board_for(alloc, plan, cap_of(strategy.abort), counters, room)?;
-        let runners = Runners::new(alloc, &board, root, workers, plan.events.len() as u32)?;
-        let supply = Supply::new(alloc, plan, strategy.explore, workers, side_by_side)?;
+        let team = team_for(plan, workers, side_by_side);
+        let runners = Runners::new(alloc, &board, root, team, plan.events.len() as u32)?;
+        let supply = Supply::new(alloc, plan, strategy.explore, team, side_by_side)?;
         let room = Room::new(alloc, plan)?;
         Ok(Prepared {
             abort: strategy.abort,
             units,
             board,
             runners,
+            idle: workers - team,
             supply,
             room,
         })
     }
 
     /// Explores and settles the plan side by side, closes the board, and completes what was left.
-    pub(crate) fn run<R: Threads + Sync, G: Gate>(self, rt: &R, plan: &Plan, gate: &G) -> Ran
+    pub(crate) fn run<R: Threads + Sync, G: Gate>(
+        self,
+        rt: &R,
+        alloc: Global,
+        plan: &Plan,
+        gate: &G,
+    ) -> Ran
         requires valid { IsValidPlan plan.now }
         requires prepared { IsPrepared plan.now self }
         ensures settled { IsSettledOf plan.now result.settled }
         ensures ran { HasRun plan.now (explore_of self.supply) self.abort
-            (length (runners_of self.runners)) result.closed
+            (workers_of self) result.closed
             (run_outcome (map (λ list. list.items) result.left.items) result.settled.by.items
             result.tallied.handed result.tallied.stolen) }
         ensures kept { (room : ℕ) → HasJournalRoom room self
-            → length (runners_of self.runners) ≡ 1
+            → workers_of self ≡ 1
             → IsJournalledRun plan.now self.abort room result.closed }
     {
         let Prepared {
@@ -134,11 +159,12 @@ impl Prepared {
             units,
             board,
             runners,
+            idle,
             supply,
             room,
         } = self;
         let (explored, tallied) = explore_by(rt, board, runners, supply, plan, &units, abort, gate);
-        let (closed, left) = settle_all(rt, explored, plan).close(plan);
+        let (closed, left) = settle_all(rt, explored, plan).close(alloc, plan, idle);
         let settled = finish(&closed, plan, room);
         Ran {
             settled,

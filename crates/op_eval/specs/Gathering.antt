@@ -1,5 +1,6 @@
 -- The runners of a board: how they begin, and what the root has once they are gathered
 use Rattle.std.specs.Prelude.{◌≡◌, ℕ, ◌+◌, ◌-◌, ◌<◌, ◌≤◌, List, [], ◌∷◌, None, All, length, slice_index_or}
+use Rattle.morph_base.specs.Limits.{most_workers}
 use Rattle.op_words.specs.declared.board.Board.{Board}
 use Rattle.op_words.specs.declared.trail.View.{View}
 use Rattle.op_words.specs.Hands.{IsHandOf}
@@ -16,10 +17,11 @@ runners_of rs = rs.runners.items
 abbrev pub spare : Runners → ℕ
 spare rs = rs.runners.room
 
--- The list of what is left has a place for each runner, and nothing in it yet
+-- The list of what is left has a place for each runner and for each worker that there can be, and nothing in it yet
 pub record HasPlaces (rs : Runners) : Type 0 where
   pub none : rs.left.items ≡ []
   pub room : length rs.runners.items + rs.runners.room ≤ rs.left.room
+  pub all : most_workers ≤ rs.left.room
 
 -- The view of a root that made k more hands
 abbrev pub raised : ℕ → View → View

@@ -15,13 +15,24 @@ pub enum RunEnd {
 /// A board and its runners after a batch was explored, before it is settled.
 ///
 /// Exploring is only a head start: settling goes through all events, whatever was tried before.
-#[derive(Drop)]
 pub struct Explored {
     board: Board,
     runners: Runners,
     end: RunEnd,
     /// The first of the counters that no runner took a number from.
     next_counter: u32,
+}
+
+// Not derived: see "What costs" in docs/CONTRIBUTING.md.
+impl Drop for Explored {
+    fn drop(self) {
+        let Explored {
+            board: _,
+            runners: _,
+            end: _,
+            next_counter: _,
+        } = self;
+    }
 }
 
 impl Explored {

@@ -1,4 +1,4 @@
-ghost use Rattle.std.specs.Prelude.{◌≡◌, ℕ, ◌+◌, ◌-◌, ◌<◌, ◌≤◌, ◌↔◌, ◌++◌, ◌∷◌, [], All, None, IsNone, IfSome, IfOk, length, map, drop, reverse, slice_set, slice_index_or};
+ghost use Rattle.std.specs.Prelude.{◌≡◌, ℕ, ◌+◌, ◌-◌, ◌<◌, ◌≤◌, ◌↔◌, ◌++◌, ◌∷◌, [], All, None, IsNone, IfSome, IfOk, length, map, drop, max, reverse, slice_set, slice_index_or};
 ghost use Rattle.std.specs.Borrow.{sem};
 ghost use Rattle.morph_base.specs.Limits.{most_workers};
 ghost use Rattle.op_words.specs.Hands.{view_of, IsHandOf};
@@ -8,28 +8,38 @@ ghost use Rattle.op_eval.specs.Gathering.{runners_of, spare, gathered, HasPlaces
 
 use crate::answers::{Answers, Left};
 use crate::runner::Runner;
-use morph_base::{List, OutOfMemory};
+use morph_base::{List, OutOfMemory, WORKERS};
 use op_words::{Board, Hand};
 use std::alloc::Global;
 
 /// The runners of a board, worker 1 first. Worker 1 has the root.
 ///
 /// What the runners hold may be changed at will: [`Runners::gather`] states what it needs of them.
-#[derive(Drop)]
 pub struct Runners {
     runners: List<Runner>,
     /// The list that [`Runners::gather`] fills.
     left: List<List<Left>>,
 }
 
-/// Makes this many empty lists, each with room for what `events` events leave.
+// Not derived: see "What costs" in docs/CONTRIBUTING.md.
+impl Drop for Runners {
+    fn drop(self) {
+        let Runners {
+            runners: _,
+            left: _,
+        } = self;
+    }
+}
+
+/// Makes this many empty lists, each with room for what `events` events leave. Their list has room for one for each
+/// worker that there can be.
 fn empty_lists(alloc: Global, count: usize, events: usize) -> Result<List<List<Left>>, OutOfMemory>
     ensures len { IfOk result (λ lists. length lists.items ≡ count) }
     ensures empty { IfOk result
         (λ lists. All (λ list. (list.items ≡ []) × (events ≤ list.room)) lists.items) }
-    ensures room { IfOk result (λ lists. lists.room ≡ 0) }
+    ensures room { IfOk result (λ lists. lists.room + count ≡ max count most_workers) }
 {
-    let mut lists = List::with_room(alloc, count)?;
+    let mut lists = List::with_room(alloc, count.max(WORKERS as usize))?;
     'lists: for _ in 0..count {
         lists.add(List::with_room(alloc, events)?);
     }
@@ -89,6 +99,7 @@ fn join_all(board: &Board, root: &mut Hand, runners: &mut List<Runner>, left: &m
         (map hand_view (reverse runners.old.items)) }
     ensures left { left.new.items ≡ left.old.items
         ++ map (λ r. r.kept) (reverse runners.old.items) }
+    ensures places { left.old.room ≡ left.new.room + length runners.old.items }
 {
     'joins: for _ in 0..runners.len() {
         let Some(Runner { hand, kept, .. }) = runners.pop() else {
@@ -187,6 +198,7 @@ impl Runners {
             ≡ gathered (hand_view (slice_index_or (runners_of self) 0 d))
             (map hand_view (drop 1 (runners_of self))) }
         ensures left { result.1.items ≡ map (λ r. r.kept) (runners_of self) }
+        ensures room { most_workers ≤ length result.1.items + result.1.room }
     {
         let Runners {
             mut runners,

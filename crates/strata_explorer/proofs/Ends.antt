@@ -52,6 +52,7 @@ handed_on p b now rs ls m lent qs same plan old is len seated root strata next =
   places = record {
     none = old.places.none;
     room = let e : length (with_items rs.runners qs).items ≡ length rs.runners.items = ap length back ∙ many in let room = old.places.room in omega arith;
+    all = old.places.all;
   };
   rest = subst (AreAtRest now) (sym back) (record {
     some = let some = old.rest.some in omega (arith, many);

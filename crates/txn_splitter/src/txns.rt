@@ -14,7 +14,7 @@ pub struct TxnEvent {
 /// A batch cut into transactions: its events by rising timestamp, and all their operations in one list.
 ///
 /// Events and operations are numbered from 0, operations by event and then by operation order.
-#[derive(Debug, Drop)]
+#[derive(Debug)]
 pub struct Txns {
     /// The events by rising timestamp. The place of each is its number.
     pub events: List<TxnEvent>,
@@ -22,4 +22,15 @@ pub struct Txns {
     pub ops: List<Op>,
     /// For each operation, the number of its event.
     pub event_of: List<u32>,
+}
+
+// Not derived: see "What costs" in docs/CONTRIBUTING.md.
+impl Drop for Txns {
+    fn drop(self) {
+        let Txns {
+            events: _,
+            ops: _,
+            event_of: _,
+        } = self;
+    }
 }

@@ -3,11 +3,11 @@ use Rattle.morph_base.specs.declared.limits.TheConstants.{EVENT_OPS, EVENTS}
 use Rattle.morph_base.specs.Plans.{op_count}
 use Rattle.morph_base.proofs.NumberLaws.{op_count-small}
 use Rattle.morph_engine.specs.Runs.{IsJournalledRun, journal_room}
-use Rattle.morph_engine.proofs.Ended.{lone_team, team_is}
+use Rattle.morph_engine.proofs.Ended.{end_by}
 use Rattle.morph_engine.proofs.engine.Engine.run_kept.Goals as goal
 
 pub returns-clause-ended : goal.returns-clause-ended
-returns-clause-ended g c = c.run_prepared.ensures.ran 1 (team_is c.in_ok-prepared.ensures.workers (lone_team c.args.plan))
+returns-clause-ended g c = end_by c.in_ok-prepared.ensures.workers c.run_prepared.ensures.ran
 
 pub room_for-room-requires : goal.room_for-room-requires
 room_for-room-requires g c =

@@ -7,11 +7,9 @@ use Rattle.morph_base.specs.Flat.{Kept, contents}
 use Rattle.morph_base.specs.Plans.{HasBases}
 use Rattle.op_words.specs.declared.closed.Closed.{Closed}
 use Rattle.op_eval.specs.declared.answers.Left.{Left}
-use Rattle.op_eval.specs.Gathering.{runners_of}
 use Rattle.morph_engine.specs.Caps.{cap_for}
-use Rattle.morph_engine.specs.Runs.{run_outcome, HasRun, IsJournalledRun}
+use Rattle.morph_engine.specs.Runs.{run_outcome, workers_of, HasRun, IsJournalledRun}
 use Rattle.morph_engine.proofs.Accounting.{is_account, causes_in}
-use Rattle.morph_engine.proofs.Ended.{account_of_team}
 use Rattle.morph_engine.proofs.Told.{settled_fates-are}
 use Rattle.morph_engine.proofs.engine.Engine.run_prepared.Goals as goal
 
@@ -22,10 +20,10 @@ prepared_run p closed lists by handed stolen {workers = workers} explored aborts
     subst (λ (z : Explore × Abort). HasRun p z.0 z.1 workers closed (run_outcome lists by handed stolen)) (λ a. (explored a, aborts a)) ran
 
 pub returns-clause-ran : goal.returns-clause-ran
-returns-clause-ran g c = λ workers team.
+returns-clause-ran g c =
     let p : Plan = c.args.plan in
     let strategy = c.args.strategy.now in
-    let made = length (runners_of c.args.prepared.runners) in
+    let workers = workers_of c.args.prepared in
     let closed = c.run-settled.result.closed in
     let lists = map (λ (l : Contents Left). l.items) c.run-settled.result.left.items in
     let by = c.run-settled.result.settled.by.items in
@@ -36,13 +34,11 @@ returns-clause-ran g c = λ workers team.
       strategy_is = refl;
       settled = c.run-settled.ensures.settled;
       fates_are = settled_fates-are p c.run-settled.result.settled c.requires.plan.plan c.run-settled.ensures.settled (contents c.args.self.now) c.requires.bases;
-      team = made;
-      team_is = team;
       run = ran;
       counts = λ counters v is. c.counts-counts.ensures p (cap_for strategy.abort) counters v is;
       account =
-          account_of_team team (is_account p c.requires.plan.plan strategy made closed lists by tallied.handed tallied.stolen ran c.run-settled.ensures.settled.workers c.counts-counts.result
-          (c.counts-counts.ensures p (cap_for strategy.abort) ran.counters ran.view ran.ended) (sum_by (λ (l : Contents Left). length l.items) c.run-settled.result.left.items) (causes_in c.run-settled.result.left.items));
+          is_account p c.requires.plan.plan strategy workers closed lists by tallied.handed tallied.stolen ran c.run-settled.ensures.settled.workers c.counts-counts.result
+          (c.counts-counts.ensures p (cap_for strategy.abort) ran.counters ran.view ran.ended) (sum_by (λ (l : Contents Left). length l.items) c.run-settled.result.left.items) (causes_in c.run-settled.result.left.items);
     }
 
 pub returns-clause-kept : goal.returns-clause-kept

@@ -44,7 +44,8 @@ returns-clause-prepared c =
       partition = subst (λ us. IsPartition us (op_count c.args.plan.now)) (sym c.in_ok-units.ensures.units) (each_in_one c.args.plan.now c.args.strategy.now.unit);
       number = c.in_ok-units.ensures.ops;
       ready = c.in_ok-runners.ensures.fresh (ap (λ (v : View). v.claim) seen) (ap (λ (v : View). v.places) seen) (let same = ap event_count c.in_ok-board.ensures.plan in omega (arith, same, c.len-2.ensures));
-      first = first_runners board (view_of c.in_ok-board.root) c.args.workers _ (runners_of c.in_ok-runners.runners) c.in_ok-runners.ensures.new untouched c.requires.some;
+      first = first_runners board (view_of c.in_ok-board.root) c.team_for-team.result _ (runners_of c.in_ok-runners.runners) c.in_ok-runners.ensures.new untouched c.team_for-team.ensures.some;
+      few = (let many = c.in_ok-runners.ensures.new.len in omega (arith, many, c.team_for-team.ensures.few, c.requires.few));
       supply = subst (λ n. IsSupply c.args.plan.now n c.in_ok-supply.supply) (sym c.in_ok-runners.ensures.new.len) c.in_ok-supply.ensures.ready;
       room = c.in_ok-room.ensures;
     }

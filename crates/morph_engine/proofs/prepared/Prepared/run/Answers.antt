@@ -13,7 +13,7 @@ use Rattle.abort_lazy.specs.Runs.{AreSettling, root_view}
 use Rattle.morph_engine.specs.Caps.{cap_for}
 use Rattle.morph_engine.specs.Exploring.{explore_of}
 use Rattle.morph_engine.proofs.Caps.{cap_some}
-use Rattle.morph_engine.proofs.Ending.{some_runner, all_made, begun, closed_at, some_after, has_run, kept_run}
+use Rattle.morph_engine.proofs.Ending.{some_runner, all_made, begun, closed_at, made_all, places_all, some_after, has_run, kept_run}
 use Rattle.morph_engine.proofs.EventLevels.{small_event_levels}
 use Rattle.morph_engine.proofs.prepared.Prepared.run.Goals as goal
 
@@ -36,6 +36,20 @@ close-closed-requires-clause-all g c =
     c.settle_all.ensures.all
     (all_made c.args.plan.now c.requires.valid x c.requires.prepared e (runners_of c.settle_all.result.runners) told.explored told.plan told.cap told.hands told.ran c.settle_all.ensures.settled c.settle_all.ensures.alone)
 
+pub close-closed-requires-clause-places : goal.close-closed-requires-clause-places
+close-closed-requires-clause-places g c =
+    let x = c.args.self in
+    let e = c.explore_by-explored.result.0 in
+    let told = c.explore_by-explored.ensures in
+    places_all c.args.plan.now c.requires.valid x c.requires.prepared e (runners_of c.settle_all.result.runners) told.explored told.plan told.cap told.hands told.ran c.settle_all.ensures.settled c.settle_all.ensures.alone
+
+pub close-closed-requires-clause-few : goal.close-closed-requires-clause-few
+close-closed-requires-clause-few g c =
+    let x = c.args.self in
+    let e = c.explore_by-explored.result.0 in
+    let told = c.explore_by-explored.ensures in
+    made_all c.args.plan.now c.requires.valid x c.requires.prepared e (runners_of c.settle_all.result.runners) told.explored told.plan told.cap told.hands told.ran c.settle_all.ensures.settled c.settle_all.ensures.alone
+
 pub finish-settled-requires-clause-closed : goal.finish-settled-requires-clause-closed
 finish-settled-requires-clause-closed g c =
     let b = c.settle_all.result.board in
@@ -45,8 +59,8 @@ finish-settled-requires-clause-closed g c =
     let d : Runner = some_runner rs c.settle_all.ensures.run.rest.some in (
       cap_for c.args.self.abort,
       counters_of b,
-      root_view d rs,
-      closed_at c.args.plan.now (cap_for c.args.self.abort) b (counters_of b) (root_view d rs) c.close-closed.result.0 (ap plan_of same ∙ told.plan ∙ c.requires.prepared.plan) (ap cap_of same ∙ told.cap ∙ c.requires.prepared.cap)
+      root_view c.args.self.idle d rs,
+      closed_at c.args.plan.now (cap_for c.args.self.abort) b (counters_of b) (root_view c.args.self.idle d rs) c.close-closed.result.0 (ap plan_of same ∙ told.plan ∙ c.requires.prepared.plan) (ap cap_of same ∙ told.cap ∙ c.requires.prepared.cap)
           (c.close-closed.ensures.closed d),
     )
 
@@ -67,18 +81,18 @@ returns-clause-ran g c =
     let its_cap = ap cap_of same ∙ told.cap ∙ c.requires.prepared.cap in
     let some = some_after p c.requires.valid x c.requires.prepared e rs told.explored told.plan told.cap told.hands told.ran settling by_root in
     let d : Runner = some_runner rs some in
-    let is : IsClosed p cap (counters_of b) (root_view d rs) closed =
-    closed_at p cap b (counters_of b) (root_view d rs) closed (ap plan_of same ∙ told.plan ∙ c.requires.prepared.plan) its_cap (c.close-closed.ensures.closed d) in
+    let is : IsClosed p cap (counters_of b) (root_view x.idle d rs) closed =
+    closed_at p cap b (counters_of b) (root_view x.idle d rs) closed (ap plan_of same ∙ told.plan ∙ c.requires.prepared.plan) its_cap (c.close-closed.ensures.closed d) in
     let lists = map (λ (l : Contents Left). l.items) c.close-closed.result.1.items in
     let start = begun p c.requires.valid x c.requires.prepared e rs told.explored told.plan told.cap told.hands told.ran settling by_root in
     let fits : counters_for p ≤ counters_of b = (let counters : counters_of b ≡ counters_for p + length p.event_levels.items = ap counters_of same ∙ told.counters ∙ c.requires.prepared.counters in omega (arith, counters)) in
     has_run p c.requires.valid x c.requires.prepared e rs told.explored told.plan told.cap told.hands told.ran settling by_root (counters_of b) fits closed is
     c.close-closed.result.1.items c.close-closed.ensures.left
-    (subst (λ n. (z : IsClosed p n (counters_of b) (root_view d rs) closed) → AreCauses p z.ends.core (root_view d rs) lists) its_cap
+    (subst (λ n. (z : IsClosed p n (counters_of b) (root_view x.idle d rs) closed) → AreCauses p z.ends.core (root_view x.idle d rs) lists) its_cap
     (λ z.
     c.close-closed.ensures.causes d e.next_counter (runners_of e.runners) z c.requires.valid start
     (subst (λ board. AreSettling board p e.next_counter (length p.event_levels.items) (runners_of e.runners) rs) (sym c.settle_all.ensures.board) settling)) is)
-    c.finish-settled.result.by.items (c.finish-settled.ensures.tags cap (counters_of b) (root_view d rs) is)
+    c.finish-settled.result.by.items (c.finish-settled.ensures.tags cap (counters_of b) (root_view x.idle d rs) is)
     (explore_of x.supply) tallied.handed tallied.stolen told.way
 
 pub returns-clause-kept : goal.returns-clause-kept
@@ -96,6 +110,6 @@ returns-clause-kept g c = λ room fits one.
     let same = c.settle_all.ensures.board in
     let some = some_after p c.requires.valid x c.requires.prepared e rs told.explored told.plan told.cap told.hands told.ran settling by_root in
     let d : Runner = some_runner rs some in
-    let is : IsClosed p cap (counters_of b) (root_view d rs) closed =
-    closed_at p cap b (counters_of b) (root_view d rs) closed (ap plan_of same ∙ told.plan ∙ c.requires.prepared.plan) (ap cap_of same ∙ told.cap ∙ c.requires.prepared.cap) (c.close-closed.ensures.closed d) in
+    let is : IsClosed p cap (counters_of b) (root_view x.idle d rs) closed =
+    closed_at p cap b (counters_of b) (root_view x.idle d rs) closed (ap plan_of same ∙ told.plan ∙ c.requires.prepared.plan) (ap cap_of same ∙ told.cap ∙ c.requires.prepared.cap) (c.close-closed.ensures.closed d) in
     kept_run p c.requires.valid x c.requires.prepared e rs told.explored told.plan told.cap told.hands told.ran settling by_root room fits one (counters_of b) closed is

@@ -11,6 +11,7 @@ returns-clause-places c = record {
   room =
       let are = c.seat_all.ensures.new c.args.events c.in_ok-left.ensures.empty in
       omega (arith, are.len, c.seat_all.ensures.full, c.seat_all.ensures.places, c.in_ok-runners.ensures.room, c.in_ok-left.ensures.len, c.in_ok-left.ensures.room);
+  all = omega (arith, c.seat_all.ensures.places, c.in_ok-left.ensures.len, c.in_ok-left.ensures.room);
 }
 
 pub returns-clause-new : goal.returns-clause-new

@@ -51,14 +51,15 @@ fn first_values(alloc: Global, state: &State) -> Result<Vec<Option<u64>>, OutOfM
     Ok(values)
 }
 
-/// Runs a batch on a new engine in these units, explored in this way, and folds it. All workers take part.
-fn run<R: Threads + Sync>(
+/// A new engine after a batch, and the outcome of the batch, which ran in these units and was explored in this way. All
+/// workers take part.
+fn ended<R: Threads + Sync>(
     rt: &R,
     alloc: Global,
     batch: &Batch,
     how: (Unit, Explore),
     workers: u32,
-) -> Result<Ran, OutOfMemory>
+) -> Result<(Engine, BatchEnd), OutOfMemory>
     requires batch { IsBatch batch.now }
     requires keys { BatchKeysIn LAYOUT batch.now }
     requires some { 1 ≤ workers }
@@ -74,9 +75,35 @@ fn run<R: Threads + Sync>(
     };
     let side_by_side = HoldGate::new(0, 0, 0);
     let end = engine.run_batch(rt, alloc, plan, &strategy, workers, &side_by_side)?;
-    let mut folded = Values::new(alloc, LAYOUT)?;
-    let _outcomes = plain::fold(alloc, &mut folded, batch)?;
-    told(alloc, engine.state(), &end, &folded)
+    Ok((engine, end))
+}
+
+/// The values after the fold of a batch.
+fn folded(alloc: Global, batch: &Batch) -> Result<Values, OutOfMemory>
+    requires batch { IsBatch batch.now }
+    requires keys { BatchKeysIn LAYOUT batch.now }
+{
+    let mut values = Values::new(alloc, LAYOUT)?;
+    let _outcomes = plain::fold(alloc, &mut values, batch)?;
+    Ok(values)
+}
+
+/// Runs a batch on a new engine in these units, explored in this way, and folds it.
+fn run<R: Threads + Sync>(
+    rt: &R,
+    alloc: Global,
+    batch: &Batch,
+    how: (Unit, Explore),
+    workers: u32,
+) -> Result<Ran, OutOfMemory>
+    requires batch { IsBatch batch.now }
+    requires keys { BatchKeysIn LAYOUT batch.now }
+    requires some { 1 ≤ workers }
+    requires few { workers ≤ most_workers }
+{
+    let values = folded(alloc, batch)?;
+    let (engine, end) = ended(rt, alloc, batch, how, workers)?;
+    told(alloc, engine.state(), &end, &values)
 }
 
 /// The outcome of a batch, as the tests compare it.

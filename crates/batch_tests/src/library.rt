@@ -7,7 +7,7 @@ use decision_model::{Last, choose, profile};
 use morph_base::{
     Abort, Batch, Event, Explore, Func, Key, Layout, List, Op, OutOfMemory, Strategy, Unit,
 };
-use morph_engine::Engine;
+use morph_engine::{BatchEnd, Engine};
 use std::alloc::Global;
 use std::test::Fail;
 use std::thread::Threads;
@@ -68,6 +68,30 @@ struct Came {
     strategy: Strategy,
 }
 
+/// A new engine after a batch, and the outcome of the batch, which this many workers ran with this strategy, or with one
+/// chosen by the counts of the plan.
+fn ended<R: Threads + Sync>(
+    rt: &R,
+    alloc: Global,
+    batch: &Batch,
+    own: Option<Strategy>,
+    workers: u32,
+) -> Result<(Engine, BatchEnd), OutOfMemory>
+    requires batch { IsBatch batch.now }
+    requires keys { BatchKeysIn SHOP batch.now }
+    requires some { 1 ≤ workers }
+    requires few { workers ≤ most_workers }
+{
+    let mut engine = Engine::new(alloc, SHOP)?;
+    let plan = engine.plan(alloc, batch)?;
+    let strategy = match own {
+        Some(strategy) => strategy,
+        None => choose(&profile(&plan, Last::default())),
+    };
+    let end = engine.run_batch(rt, alloc, plan, &strategy, workers, &FreeGate)?;
+    Ok((engine, end))
+}
+
 /// Plans a batch and runs it on a new engine by this many workers, with this strategy, or with one chosen by the counts
 /// of the plan.
 fn run<R: Threads + Sync>(
@@ -82,13 +106,7 @@ fn run<R: Threads + Sync>(
     requires some { 1 ≤ workers }
     requires few { workers ≤ most_workers }
 {
-    let mut engine = Engine::new(alloc, SHOP)?;
-    let plan = engine.plan(alloc, batch)?;
-    let strategy = match own {
-        Some(strategy) => strategy,
-        None => choose(&profile(&plan, Last::default())),
-    };
-    let end = engine.run_batch(rt, alloc, plan, &strategy, workers, &FreeGate)?;
+    let (engine, end) = ended(rt, alloc, batch, own, workers)?;
     Ok(Came {
         committed: Vec::from_slice(alloc, end.settled.committed.as_slice())?,
         values: [value(engine.state(), STOCK), value(engine.state(), BILL)],

@@ -94,7 +94,7 @@ pub fn settle_all<T: Threads + Sync>(rt: &T, run: Explored, plan: &Plan) -> Sett
 fn add_idle(alloc: Global, board: &Board, root: &mut Hand, left: &mut List<List<Left>>, idle: u32)
     requires root { IsHandOf board.now root.old }
     requires tag { (view_of root.old).tag ≡ 1 }
-    requires few { (view_of root.old).made + idle ≤ most_workers }
+    requires few { 0 < idle → (view_of root.old).made + idle ≤ most_workers }
     requires room { idle ≤ left.old.room }
     ensures root { IsHandOf board.now root.new }
     ensures view { view_of root.new ≡ idled idle (view_of root.old) }
@@ -124,8 +124,9 @@ impl SettledRun {
         requires run { IsSettledRun self }
         requires plan { plan.now ≡ plan_of self.board }
         requires all { AreAllHands (runners_of self.runners) }
-        requires places { length (runners_of self.runners) + idle ≤ most_workers }
-        requires few { (d : R) → (root_view 0 d (runners_of self.runners)).made + idle ≤ most_workers }
+        requires places { 0 < idle → length (runners_of self.runners) + idle ≤ most_workers }
+        requires few { 0 < idle → (d : R)
+            → (root_view 0 d (runners_of self.runners)).made + idle ≤ most_workers }
         ensures closed { (d : R)
             → IsClosed (plan_of self.board) (cap_of self.board) (counters_of self.board)
             (root_view idle d (runners_of self.runners)) result.0 }

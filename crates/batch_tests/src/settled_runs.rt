@@ -1,11 +1,9 @@
 //! The four events, settled on the board level by level by one runner, with nothing explored before.
-ghost use Rattle.std.specs.Prelude.{◌≡◌, ◌≤◌, IfOk, length, slice_index_or};
+ghost use Rattle.std.specs.Prelude.{◌≡◌, ◌≤◌, IfOk, length};
 ghost use Rattle.morph_base.specs.Graphs.{IsValidPlan};
 ghost use Rattle.op_words.specs.Hands.{plan_of, counters_of};
 ghost use Rattle.op_eval.specs.Exploring.{IsExploredBoard};
-ghost use Rattle.op_eval.specs.declared.runner.Runner.{Runner as R};
 ghost use Rattle.op_eval.specs.Gathering.{runners_of};
-ghost use Rattle.op_eval.specs.Running.{hand_view};
 ghost use Rattle.abort_lazy.specs.Runs.{AreAllHands};
 
 use crate::four_events::plan;
@@ -24,9 +22,6 @@ fn unexplored(alloc: Global, plan: &Plan, counters: u32) -> Result<Explored, Out
     ensures counters { IfOk result (λ run. counters_of run.board ≡ counters) }
     ensures next { IfOk result (λ run. run.next_counter ≡ 0) }
     ensures all { IfOk result (λ run. AreAllHands (runners_of run.runners)) }
-    ensures one { IfOk result (λ run. length (runners_of run.runners) ≡ 1) }
-    ensures made { IfOk result (λ run. (d : R)
-        → (hand_view (slice_index_or (runners_of run.runners) 0 d)).made ≡ 1) }
 {
     let (board, root) = Board::new(alloc, plan, 1, counters)?;
     let runners = Runners::new(alloc, &board, root, 1, plan.events.len() as u32)?;

@@ -15,7 +15,8 @@ split-hand-requires-clause-root c = ap (λ (v : View). v.tag) c.hands.invariant.
 pub split-hand-requires-clause-few : goal.split-hand-requires-clause-few
 split-hand-requires-clause-few c =
     let made = ap (λ (v : View). v.made) c.hands.invariant.1 ∙ idled_made c.hands.counter (view_of c.args.root.now) in
-    omega (arith, made, c.requires.few, c.hands-test.true)
+    let few = c.requires.few (omega (arith, c.hands-test.true)) in
+    omega (arith, made, few, c.hands-test.true)
 
 pub join-requires-clause-root : goal.join-requires-clause-root
 join-requires-clause-root c = ap (λ (v : View). v.tag) c.split-hand.ensures.parent ∙ ap (λ (v : View). v.tag) c.hands.invariant.1 ∙ idled_tag c.hands.counter (view_of c.args.root.now) ∙ c.requires.tag

@@ -1,4 +1,5 @@
-use Rattle.std.proofs.Common.{[], ◌++◌, ap, ◌∙◌, refl, sym, subst, arith, length, map, replicate}
+use Rattle.std.proofs.Common.{[], ◌++◌, ap, ◌∙◌, refl, sym, subst, inl, inr, arith, length, map, replicate}
+use Rattle.std.proofs.lemmas.Bool.{cases_lt}
 use Rattle.std.proofs.lemmas.List.{length-map}
 use Rattle.op_words.specs.Closing.{EndsSound, IsClosed, words_of}
 use Rattle.op_words.specs.Hands.{view_of, plan_of, cap_of, counters_of}
@@ -16,12 +17,15 @@ pub add_idle-requires-clause-tag : goal.add_idle-requires-clause-tag
 add_idle-requires-clause-tag c = root_tag (runners_of c.args.self.runners) c.requires.run.rest.some (view_of c.gather-root.result.0) c.gather-root.ensures.view c.requires.run.rest.root
 
 pub add_idle-requires-clause-few : goal.add_idle-requires-clause-few
-add_idle-requires-clause-few c = root_few (runners_of c.args.self.runners) c.requires.run.rest.some (view_of c.gather-root.result.0) c.gather-root.ensures.view c.args.idle c.requires.few
+add_idle-requires-clause-few c = λ some. root_few (runners_of c.args.self.runners) c.requires.run.rest.some (view_of c.gather-root.result.0) c.gather-root.ensures.view c.args.idle (c.requires.few some)
 
 pub add_idle-requires-clause-room : goal.add_idle-requires-clause-room
 add_idle-requires-clause-room c =
     let many = ap length c.gather-root.ensures.left ∙ length-map (runners_of c.args.self.runners) (λ r. r.kept) in
-    omega (arith, many, c.gather-root.ensures.room, c.requires.places)
+    elim (cases_lt 0 c.args.idle) [
+      | inl some ↦ let fits = c.requires.places some in omega (arith, many, c.gather-root.ensures.room, fits)
+      | inr none ↦ omega (arith, none)
+    ]
 
 pub close-requires-clause-tag : goal.close-requires-clause-tag
 close-requires-clause-tag c =

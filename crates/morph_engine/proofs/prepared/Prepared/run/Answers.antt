@@ -37,14 +37,14 @@ close-closed-requires-clause-all g c =
     (all_made c.args.plan.now c.requires.valid x c.requires.prepared e (runners_of c.settle_all.result.runners) told.explored told.plan told.cap told.hands told.ran c.settle_all.ensures.settled c.settle_all.ensures.alone)
 
 pub close-closed-requires-clause-places : goal.close-closed-requires-clause-places
-close-closed-requires-clause-places g c =
+close-closed-requires-clause-places g c = λ some.
     let x = c.args.self in
     let e = c.explore_by-explored.result.0 in
     let told = c.explore_by-explored.ensures in
     places_all c.args.plan.now c.requires.valid x c.requires.prepared e (runners_of c.settle_all.result.runners) told.explored told.plan told.cap told.hands told.ran c.settle_all.ensures.settled c.settle_all.ensures.alone
 
 pub close-closed-requires-clause-few : goal.close-closed-requires-clause-few
-close-closed-requires-clause-few g c =
+close-closed-requires-clause-few g c = λ some.
     let x = c.args.self in
     let e = c.explore_by-explored.result.0 in
     let told = c.explore_by-explored.ensures in

@@ -50,7 +50,7 @@ struct PlanOpParts {
 /// The operations of a plan.
 ///
 /// Contracts see them as a list of [`PlanOp`], with the greatest value of each and the room that is left. They stand in
-/// six lists, in which an operation takes 24 bytes and 16 for each place that it reads, while a `PlanOp` has room for
+/// five lists, in which an operation takes 24 bytes and 16 for each place that it reads, while a `PlanOp` has room for
 /// [`READS`] places. So a walk over a large plan moves a fifth of the memory.
 #[derive(Debug)]
 pub struct PlanOps {

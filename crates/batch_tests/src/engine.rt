@@ -4,7 +4,7 @@ ghost use Rattle.morph_base.specs.Limits.{most_workers};
 ghost use Rattle.morph_base.specs.Transactions.{IsBatch, BatchKeysIn};
 
 use crate::four_events::{ACCOUNTS, ASSETS, LAYOUT, batch_of};
-use morph_base::{Abort, Batch, Explore, Key, OutOfMemory, Strategy, Unit, Values, WORKERS, plain};
+use morph_base::{Abort, Batch, Explore, Key, OutOfMemory, Strategy, Unit, Values, plain};
 use morph_engine::{BatchEnd, Engine};
 use std::alloc::Global;
 use std::test::Fail;

@@ -1,5 +1,5 @@
 //! What a batch takes its memory for, and its run with that, which takes none.
-ghost use Rattle.std.specs.Prelude.{◌≡◌, ℕ, ◌≤◌, ◌<◌, IfOk, length, map};
+ghost use Rattle.std.specs.Prelude.{◌≡◌, ℕ, ◌≤◌, ◌<◌, IfOk, map};
 ghost use Rattle.morph_base.specs.Graphs.{IsValidPlan};
 ghost use Rattle.morph_base.specs.Limits.{most_attempts, most_workers};
 ghost use Rattle.morph_base.specs.Plans.{IsPlan, IsSettledOf};

@@ -1,5 +1,5 @@
 -- A batch from its runners at the start to its closed board.
-use Rattle.std.proofs.Common.{◌≡◌, ℕ, ◌+◌, ◌-◌, ◌<◌, ◌≤◌, true, List, [], ◌∷◌, ◌++◌, append-nil, length, map, replicate, refl, sym, ap, ◌∙◌, subst, inr, arith}
+use Rattle.std.proofs.Common.{◌≡◌, ℕ, ◌+◌, ◌-◌, ◌<◌, ◌≤◌, true, List, [], ◌∷◌, ◌++◌, append-nil, length, map, replicate, refl, sym, ap, ◌∙◌, subst, inl, inr, arith}
 use Rattle.std.specs.Prelude.{Contains, drop, slice_index, slice_index_or}
 use Rattle.std.proofs.lemmas.Bool.{cond-true}
 use Rattle.std.proofs.lemmas.List.{length-append, length-map, length-replicate}
@@ -44,9 +44,9 @@ use Rattle.abort_lazy.proofs.Made.{places_some}
 use Rattle.morph_engine.specs.declared.prepared.Prepared.{Prepared}
 use Rattle.morph_engine.specs.Caps.{cap_for}
 use Rattle.morph_engine.specs.Exploring.{HavePassed, HaveHanded, HasExploredBy}
-use Rattle.morph_engine.specs.Runs.{run_outcome, workers_of, AreFirstRunners, IsPrepared, HasJournalRoom, HavePassedLevels, IsHandedOut, HasRunAlone, HasRun, IsJournalledRun}
+use Rattle.morph_engine.specs.Runs.{run_outcome, workers_of, AreFirstRunners, IsPrepared, HasJournalRoom, HavePassedLevels, IsHandedOut, HasRunAlone, HasRun, HasHand, HaveTakenPart, IsJournalledRun}
 use Rattle.morph_engine.proofs.Alone.{IsLoneRun, evaluated_alone, rolled_alone}
-use Rattle.morph_engine.proofs.Reaching.{item_reached, places_reached}
+use Rattle.morph_engine.proofs.Reaching.{item_reached, places_reached, root_hand}
 
 -- ---- runners
 
@@ -273,6 +273,28 @@ module _ (p : Plan) (valid : IsValidPlan p) (x : Prepared) (prepared : IsPrepare
       rolled_is = lone_rolled one;
     }
 
+    -- each runner took a number from the counter of each level that is shared
+    took_part : HaveTakenPart p (root_view x.idle any rs) (length before)
+    took_part = record {
+      from = e.next_counter;
+      each = λ l k lt many_events inside.
+          let there : k < length rs = (let same = many in omega (arith, inside, same)) in
+          let tag = (settling.each k any there).tag ∙ begun.tags k any (subst (λ n. k < n) settling.len there) in
+          elim (settling.shared l lt many_events k any there) [
+            | inl none ↦ absurd (omega (arith, none, many_events))
+            | inr took ↦
+                record {
+                  trail = (hand_view (slice_index_or rs k any)).trail;
+                  places = (hand_view (slice_index_or rs k any)).places;
+                  hand =
+                      subst (λ t. HasHand (root_view x.idle any rs) t (hand_view (slice_index_or rs k any)).trail (hand_view (slice_index_or rs k any)).places) tag
+                      (root_hand x.idle any rs k there);
+                  number = took.0;
+                  taken = took.1;
+                }
+          ];
+    }
+
     module _ (explore : Explore) (handed stolen : ℕ) (way : HasExploredBy explore p x.abort before e handed stolen) where
       by_strata : explore ≡ Strata → HavePassed p x.abort e handed stolen
       by_strata same = subst (λ by. HasExploredBy by p x.abort before e handed stolen) same way
@@ -307,6 +329,9 @@ module _ (p : Plan) (valid : IsValidPlan p) (x : Prepared) (prepared : IsPrepare
         view = root_view x.idle any rs;
         ended = is;
         hands = all_hands;
+        team = length before;
+        team_is = prepared.team;
+        took_part = took_part;
         len = lists_many x.idle rs left kept ∙ ap (λ n. n + x.idle) many;
         tags = tags;
         left = why;

@@ -77,7 +77,7 @@ hand_there d (r ∷ rs) (suc k) lt =
     less : suc k < suc (length rs) → k < length rs
     less l = omega (arith, l)
 
-root_hand : (n : ℕ) (d : Runner) (rs : List Runner) (k : ℕ) → k < length rs
+pub root_hand : (n : ℕ) (d : Runner) (rs : List Runner) (k : ℕ) → k < length rs
     → HasHand (root_view n d rs) (hand_view (slice_index_or rs k d)).tag (hand_view (slice_index_or rs k d)).trail (hand_view (slice_index_or rs k d)).places
 root_hand n d rs k lt =
     elim (hand_there d rs k lt) [

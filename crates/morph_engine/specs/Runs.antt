@@ -30,8 +30,11 @@ use Rattle.strata_explorer.specs.Levels.{counters_for, level_of, ops_of, op_of}
 use Rattle.abort_lazy.specs.Ended.{AreCauses, causes}
 use Rattle.abort_lazy.specs.Finishing.{settler}
 use Rattle.abort_lazy.specs.Rooms.{IsRoomFor}
+use Rattle.abort_lazy.specs.Runs.{events_of}
+use Rattle.worker_gate.specs.Sharing.{shared_from}
 use Rattle.morph_engine.specs.declared.prepared.Prepared.{Prepared}
 use Rattle.morph_engine.specs.Caps.{cap_for}
+use Rattle.morph_engine.specs.Teams.{IsTeam}
 use Rattle.morph_engine.specs.Exploring.{IsSupply, Items, AreBalanced, AreOwn, ArePassed}
 
 -- ---- before
@@ -59,6 +62,7 @@ pub record IsPrepared (p : Plan) (x : Prepared) : Type 0 where
   pub ready : MayExplore x.board 0 x.runners
   pub first : AreFirstRunners (runners_of x.runners)
   pub few : workers_of x ≤ most_workers
+  pub team : IsTeam p (workers_of x) (length (runners_of x.runners))
   pub supply : IsSupply p (length (runners_of x.runners)) x.supply
   pub room : IsRoomFor p x.room
 
@@ -127,6 +131,22 @@ pub record RunOutcome : Type 0 where
 abbrev pub run_outcome : (lists : List (List Left)) (by : List ℕ) (handed stolen : ℕ) → RunOutcome
 run_outcome lists by handed stolen = record { lists = lists; by = by; handed = handed; stolen = stolen }
 
+-- The hand of this tag took a number from this counter
+pub record HasTaken (v : View) (tag counter : ℕ) : Type 0 where
+  pub trail : List Item
+  pub places : List Place
+  pub hand : HasHand v tag trail places
+  pub number : ℕ
+  pub taken : Contains places (place counter number)
+
+-- The first so many workers took part in settling: each of them took a number from the counter of each level of events
+-- that is shared
+pub record HaveTakenPart (p : Plan) (v : View) (team : ℕ) : Type 0 where
+  -- the counter of the first level of events
+  pub from : ℕ
+  pub each : (l k : ℕ) → l < length p.event_levels.items → shared_from ≤ length (events_of p l) → k < team
+      → HasTaken v (k + 1) (from + l)
+
 -- The plan was explored in this way, with this abort, by this many workers, and settled. The closed board is that of
 -- the plan, and shows a view. Each operation has the worker that settled it there, or 0, and the lists say by worker
 -- why events were left. By strata every place of each pass was taken and reached. By deques each operation that one
@@ -137,6 +157,9 @@ pub record HasRun (p : Plan) (explore : Explore) (abort : Abort) (workers : ℕ)
   pub view : View
   pub ended : IsClosed p (cap_for abort) counters view closed
   pub hands : view.made ≡ workers
+  pub team : ℕ
+  pub team_is : IsTeam p workers team
+  pub took_part : HaveTakenPart p view team
   pub len : length outcome.lists ≡ workers
   pub tags : (o : ℕ) → o < op_count p → slice_index outcome.by o ≡ settler (ended.ends.core.word o)
   pub left : AreCauses p ended.ends.core view outcome.lists

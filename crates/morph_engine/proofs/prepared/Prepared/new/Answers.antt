@@ -1,4 +1,4 @@
-use Rattle.std.proofs.Common.{◌≤◌, ◌*◌, sym, ap, ◌∙◌, subst, arith}
+use Rattle.std.proofs.Common.{◌≡◌, ◌≤◌, ◌+◌, ◌-◌, ◌*◌, length, sym, ap, ◌∙◌, subst, arith}
 use Rattle.morph_base.specs.declared.limits.TheConstants.{EVENT_OPS, EVENTS}
 use Rattle.morph_base.specs.Plans.{op_count, event_count}
 use Rattle.morph_base.proofs.NumberLaws.{op_count-small}
@@ -9,6 +9,7 @@ use Rattle.op_words.specs.Hands.{view_of}
 use Rattle.op_eval.specs.Gathering.{runners_of}
 use Rattle.strata_explorer.proofs.Leveling.{small_levels}
 use Rattle.morph_engine.specs.Exploring.{IsSupply}
+use Rattle.morph_engine.specs.Teams.{IsTeam}
 use Rattle.morph_engine.proofs.EventLevels.{small_event_levels}
 use Rattle.morph_engine.proofs.Preparing.{IsUntouched, first_runners}
 use Rattle.morph_engine.proofs.prepared.Prepared.new.Goals as goal
@@ -37,6 +38,9 @@ returns-clause-prepared c =
       trail = ap (λ (v : View). v.trail) seen;
       notes = ap (λ (v : View). v.notes) seen;
     } in
+    let many = c.in_ok-runners.ensures.new.len in
+    let all : length (runners_of c.in_ok-runners.runners) + (c.args.workers - c.team_for-team.result) ≡ c.args.workers = omega (arith, many, c.team_for-team.ensures.few) in
+    let team_of_made = subst (λ n. IsTeam c.args.plan.now n (length (runners_of c.in_ok-runners.runners))) (sym all) (subst (IsTeam c.args.plan.now c.args.workers) (sym many) c.team_for-team.ensures) in
     record {
       plan = c.in_ok-board.ensures.plan;
       cap = c.in_ok-board.ensures.cap ∙ c.cap_of.ensures;
@@ -45,6 +49,7 @@ returns-clause-prepared c =
       number = c.in_ok-units.ensures.ops;
       ready = c.in_ok-runners.ensures.fresh (ap (λ (v : View). v.claim) seen) (ap (λ (v : View). v.places) seen) (let same = ap event_count c.in_ok-board.ensures.plan in omega (arith, same, c.len-2.ensures));
       first = first_runners board (view_of c.in_ok-board.root) c.team_for-team.result _ (runners_of c.in_ok-runners.runners) c.in_ok-runners.ensures.new untouched c.team_for-team.ensures.some;
+      team = team_of_made;
       few = (let many = c.in_ok-runners.ensures.new.len in omega (arith, many, c.team_for-team.ensures.few, c.requires.few));
       supply = subst (λ n. IsSupply c.args.plan.now n c.in_ok-supply.supply) (sym c.in_ok-runners.ensures.new.len) c.in_ok-supply.ensures.ready;
       room = c.in_ok-room.ensures;

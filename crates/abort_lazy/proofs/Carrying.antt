@@ -1,6 +1,6 @@
 -- What a call of the board leaves true of what its hand saw before, and what it shows of what it loaded.
 use Rattle.std.proofs.Common.{◌≡◌, ◌≢◌, ◌⊎◌, ℕ, ◌≤◌, true, false, List, ◌++◌, refl, sym, ap, ◌∙◌, subst, inl, inr, arith}
-use Rattle.std.specs.Prelude.{Contains, slice_index}
+use Rattle.std.specs.Prelude.{Contains, Option, slice_index}
 use Rattle.std.proofs.lemmas.Bool.{false≢true}
 use Rattle.std.proofs.lemmas.List.Elements.{Contains-append_left, Contains-append_right}
 use Rattle.morph_base.specs.declared.plan.Plan.{Plan}
@@ -8,14 +8,15 @@ use Rattle.morph_base.specs.declared.plan.Origin.{Origin}
 use Rattle.morph_base.specs.declared.plan.Origin.TheVariants.{Base, Op as Written}
 use Rattle.morph_base.specs.declared.word.OpState.TheVariants.{Claimed, Spread}
 use Rattle.morph_base.specs.declared.word.OpWord.{OpWord}
-use Rattle.morph_base.specs.Plans.{origin_at}
+use Rattle.morph_base.specs.Plans.{origin_at, final}
+use Rattle.morph_base.specs.Clean.{source}
 use Rattle.morph_base.specs.Words.{is_settled, is_idle, is_evaluated}
 use Rattle.op_words.specs.declared.trail.Item.{Item}
 use Rattle.op_words.specs.declared.trail.View.{View}
 use Rattle.op_words.specs.Trails.{loaded, HasLast, IsDisturbed, IsShaken, IsSteadyAt, IsCalmAt, NoneOwn}
 use Rattle.op_words.specs.Views.{IsSettledSeen, IsSourceSeen, IsRecordSeen, IsJudged, IsLone, AddsAndFrees}
 use Rattle.op_words.specs.Calls.{IsSettledRead, IsSourceOpen}
-use Rattle.op_words.specs.Judging.{IsStaleAt}
+use Rattle.op_words.specs.Judging.{IsAnswerSeen, IsGoodAt, IsStaleAt}
 use Rattle.op_words.specs.Retrying.{IsOwnUnrolled, IsUpToDate}
 use Rattle.op_words.proofs.Trailing.{disturbed_later, along_contains, calm_undisturbed, settled_last}
 use Rattle.op_words.proofs.Comparing.{noted_more, seen_more as source_more}
@@ -39,6 +40,20 @@ module _ {v u : View} {xs : List Item} (goes : AddsAndFrees v u xs) where
     values = judged.values;
     records = record { len = judged.records.len; each = λ j below. goes.adds.records _ (judged.records.each j below) };
     sources = λ j below. source_more goes.adds (origin_at p o j) (slice_index judged.values j) (judged.sources j below);
+  }
+
+  pub good_at_more : {p : Plan} {o : ℕ} {w : OpWord} → IsGoodAt p v o w → IsGoodAt p u o w
+  good_at_more {p} {o} {w} good = record {
+    in_range = good.in_range;
+    executed = good.executed;
+    sources = λ j below. source_more goes.adds (origin_at p o j) (source p (final p) o j) (good.sources j below);
+    records = λ j below. goes.adds.records _ (good.records j below);
+  }
+
+  pub answer_more : {p : Plan} {o : ℕ} {r : Option ℕ} → IsAnswerSeen p v o r → IsAnswerSeen p u o r
+  answer_more {p} {o} {r} is = record {
+    sources = λ j below. let seen = is.sources j below in (seen.0, source_more goes.adds (origin_at p o j) seen.0 seen.1);
+    answer_is = is.answer_is;
   }
 
   pub sources_more : {p : Plan} {o : ℕ} → AreSourcesSeen p v o → AreSourcesSeen p u o

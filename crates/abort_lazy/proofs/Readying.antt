@@ -1,5 +1,5 @@
 -- How one operation is made ready for the decision.
-use Rattle.std.proofs.Common.{◌≡◌, ◌≢◌, ◌⊎◌, ℕ, ◌+◌, Bool, true, false, List, ◌++◌, refl, sym, ap, ◌∙◌, subst, inl, inr, append_assoc, Option, Some, None}
+use Rattle.std.proofs.Common.{◌≡◌, ◌≢◌, ◌⊎◌, ℕ, ◌+◌, Bool, true, false, List, [], ◌++◌, refl, sym, ap, ◌∙◌, subst, inl, inr, append_assoc}
 use Rattle.std.specs.Prelude.{Contains}
 use Rattle.std.proofs.lemmas.Bool.{false≢true, cases_Bool}
 use Rattle.std.proofs.lemmas.List.Elements.{Contains-append_right}
@@ -17,19 +17,20 @@ use Rattle.op_words.specs.declared.answers.Rolled.TheVariants.{Done as HasRolled
 use Rattle.op_words.specs.declared.trail.Item.{Item}
 use Rattle.op_words.specs.declared.trail.View.{View}
 use Rattle.op_words.specs.Trails.{loaded, HasLast, IsDisturbed, IsShaken, OwnOn, OwnOpen, ComeFirst}
-use Rattle.op_words.specs.Views.{AddsAndFrees}
+use Rattle.op_words.specs.Views.{IsSettledSeen, AddsAndFrees}
 use Rattle.op_words.specs.Calls.{IsSourceOpen, PeekDoes}
-use Rattle.op_words.specs.Judging.{IsGood, IsBad, VerdictDoes}
+use Rattle.op_words.specs.Judging.{IsGood, IsGoodAt, IsBad, VerdictDoes, VerdictAtDoes}
 use Rattle.op_words.specs.Retrying.{RollDoes}
 use Rattle.op_words.proofs.Trailing.{last_later, disturbed_later, disturbed_more}
 use Rattle.op_words.proofs.Adding.{goes_then}
 use Rattle.op_eval.specs.declared.answers.Evaluation.TheVariants.{Evaluated, Blocked as BlockedOn, Busy as BusyAt, Already}
 use Rattle.op_eval.specs.Evaluations.{EvaluationDoes, SoFar}
 use Rattle.op_eval.proofs.Following.{found_other, none_own, none_open, far_then}
+use Rattle.abort_lazy.specs.declared.transaction.standing.Standing.{Standing}
+use Rattle.abort_lazy.specs.declared.transaction.standing.Standing.TheVariants.{Good as StandsGood, Bad as StandsBad, Settled as IsSettledNow, Stopped}
 use Rattle.abort_lazy.specs.declared.transaction.TxnAnswer.{TxnAnswer}
 use Rattle.abort_lazy.specs.declared.transaction.TxnAnswer.TheVariants.{NotYet}
-use Rattle.abort_lazy.specs.Transactions.{StopsAt}
-use Rattle.abort_lazy.specs.Progress.{so_far, ReadyTells, ReadyDoes, IsIdleSoFar, IsOutdatedSoFar, IsMadeSoFar, IsFoundSoFar}
+use Rattle.abort_lazy.specs.Progress.{so_far, IsStandingOf, StopsWithCause, ReadyDoes, IsIdleSoFar, IsOutdatedSoFar, IsMadeSoFar, IsFoundSoFar}
 use Rattle.abort_lazy.proofs.Carrying.{settled_read_seen, found_seen, already_other, already_last, already_seen, unrolled_other, fresh_other}
 use Rattle.abort_lazy.proofs.Stopping.{source_open_later, stop_source, stop_busy, stop_shaken, stale_again}
 
@@ -69,59 +70,72 @@ run_evaluated SettledAborted ran = ran
 pub shaken_more : {p : Plan} {o : ℕ} {xs : List Item} (ys : List Item) → IsShaken p o xs → IsShaken p o (xs ++ ys)
 shaken_more ys is = elim is [ inl own ↦ inl (disturbed_more ys own) | inr source ↦ inr (source.0, source.1, disturbed_more ys source.2) ]
 
--- found with a word that stops it
-pub ready_here : (p : Plan) (i o : ℕ) → InEvent p i o → {start u : View} {xs : List Item} {w : OpWord} {r : Option TxnAnswer} → SoFar o start u xs → HasLast o xs w → Contains xs (loaded o w)
-    → (w.state ≡ Claimed) ⊎ IsShaken p o xs → StopsAt o w r → ReadyDoes p i o start u r
-ready_here p i o inside {start} {u} {xs} {w} {r} far last seen cause stops = record {
-  words = xs;
+-- ready, or stopped
+ready_settled : {p : Plan} {i o : ℕ} {start u : View} {xs : List Item} → SoFar o start u xs → IsSettledSeen u o → ReadyDoes p i o start u IsSettledNow
+ready_settled {xs = xs} far seen = record { words = xs; far = far; tells = seen; dealt = λ goes_on. inl seen }
+
+ready_stopped : {p : Plan} {i o : ℕ} {start u : View} {xs : List Item} {r : TxnAnswer} → SoFar o start u xs → StopsWithCause p i start u xs r → ReadyDoes p i o start u (Stopped r)
+ready_stopped {xs = xs} far stops = record { words = xs; far = far; tells = stops; dealt = λ goes_on. absurd goes_on }
+
+ready_judged_good : {p : Plan} {cap i o x : ℕ} {start v u : View} (ys : List Item) {xs : List Item} {w : OpWord} → SoFar o start u (ys ++ xs) → IsGood p cap o v u xs x → HasLast o xs w × IsGoodAt p u o w
+    → ReadyDoes p i o start u (StandsGood w)
+ready_judged_good {x = x} ys {xs} far is good = record {
+  words = ys ++ xs;
   far = far;
-  tells =
-      elim (cases_Bool (is_settled w.state)) [
-        | inl settled ↦ subst (ReadyTells p i o start u xs) (sym (stops.settled settled)) (inl (found_seen far.goes (loaded o w) seen refl settled))
-        | inr open' ↦
-            elim (cases_claimed w.state) [
-              | inl claimed ↦ subst (ReadyTells p i o start u xs) (sym (stops.claimed claimed)) (stop_busy p i far.goes inside last seen claimed)
-              | inr free ↦
-                  subst (ReadyTells p i o start u xs) (sym (stops.other open' free))
-                  (stop_shaken p i far.goes inside last seen open' (elim cause [ inl claimed ↦ absurd (free claimed) | inr shaken ↦ shaken ]))
-            ]
-      ];
+  tells = record {
+    last = inl (last_later ys good.0);
+    good = good.1;
+    answers = (x, record { sources = λ j below. (_, is.judged.sources j below); answer_is = is.answer });
+  };
+  dealt = λ goes_on. inr (inl (record { word = is.word; last = last_later ys is.last; judged = is.judged; fails = λ failed. absurd (executed_failed (sym is.state_is ∙ failed)) }));
 }
 
+ready_judged_bad : {p : Plan} {cap i o : ℕ} {start v u : View} (ys : List Item) {xs : List Item} → SoFar o start u (ys ++ xs) → IsBad p cap o v u xs → ReadyDoes p i o start u StandsBad
+ready_judged_bad ys {xs} far is = record {
+  words = ys ++ xs;
+  far = far;
+  tells = record { sources = λ j below. (_, is.judged.sources j below); answer_is = is.answer };
+  dealt = λ goes_on. inr (inl (record { word = is.word; last = last_later ys is.last; judged = is.judged; fails = λ failed. is.answer }));
+}
+
+-- found with a word that stops it
+pub ready_here : (p : Plan) (i o : ℕ) → InEvent p i o → {start u : View} {xs : List Item} {w : OpWord} {r : Standing} → SoFar o start u xs → HasLast o xs w → Contains xs (loaded o w)
+    → (w.state ≡ Claimed) ⊎ IsShaken p o xs → IsStandingOf o w r → ReadyDoes p i o start u r
+ready_here p i o inside {start} {u} {xs} {w} {r} far last seen cause stops =
+    elim (cases_Bool (is_settled w.state)) [
+      | inl settled ↦ subst (ReadyDoes p i o start u) (sym (stops.settled settled)) (ready_settled far (found_seen far.goes (loaded o w) seen refl settled))
+      | inr open' ↦
+          elim (cases_claimed w.state) [
+            | inl claimed ↦ subst (ReadyDoes p i o start u) (sym (stops.claimed claimed)) (ready_stopped far (stop_busy p i far.goes inside last seen claimed))
+            | inr free ↦
+                subst (ReadyDoes p i o start u) (sym (stops.other open' free))
+                (ready_stopped far (stop_shaken p i far.goes inside last seen open' (elim cause [ inl claimed ↦ absurd (free claimed) | inr shaken ↦ shaken ])))
+          ]
+    ]
+
 module _ (p : Plan) (i o : ℕ) (inside : InEvent p i o) {start v u : View} {ys xs : List Item} (far : SoFar o start v ys) (goes : AddsAndFrees v u xs) (own : OwnOn o xs) (open_own : OwnOpen xs) where
-  pub ready_stop : {w : OpWord} {r : Option TxnAnswer} → HasLast o xs w → Contains xs (loaded o w) → (w.state ≡ Claimed) ⊎ IsShaken p o (ys ++ xs) → StopsAt o w r → ReadyDoes p i o start u r
+  pub ready_stop : {w : OpWord} {r : Standing} → HasLast o xs w → Contains xs (loaded o w) → (w.state ≡ Claimed) ⊎ IsShaken p o (ys ++ xs) → IsStandingOf o w r → ReadyDoes p i o start u r
   ready_stop {w} last seen cause stops = ready_here p i o inside (far_then far goes own open_own) (last_later ys last) (Contains-append_right ys xs (loaded o w) seen) cause stops
 
-  pub ready_source : {cap at : ℕ} {w : OpWord} → IsSourceOpen p cap o v u xs at w → ReadyDoes p i o start u (Some (NotYet at w))
-  ready_source is = record { words = ys ++ xs; far = far_then far goes own open_own; tells = stop_source p i (goes_then far.goes goes) inside (source_open_later {start = start} ys is) }
-
-  pub ready_good : {cap x : ℕ} → IsGood p cap o v u xs x → ReadyDoes p i o start u None
-  ready_good is = record {
-    words = ys ++ xs;
-    far = far_then far goes own open_own;
-    tells = inr (inl (record { word = is.word; last = last_later ys is.last; judged = is.judged; fails = λ failed. absurd (executed_failed (sym is.state_is ∙ failed)) }));
-  }
-
-  pub ready_bad : {cap : ℕ} → IsBad p cap o v u xs → ReadyDoes p i o start u None
-  ready_bad is = record {
-    words = ys ++ xs;
-    far = far_then far goes own open_own;
-    tells = inr (inl (record { word = is.word; last = last_later ys is.last; judged = is.judged; fails = λ failed. is.answer }));
-  }
+  pub ready_source : {cap at : ℕ} {w : OpWord} → IsSourceOpen p cap o v u xs at w → ReadyDoes p i o start u (Stopped (NotYet at w))
+  ready_source is = ready_stopped (far_then far goes own open_own) (stop_source p i (goes_then far.goes goes) inside (source_open_later {start = start} ys is))
 
 module _ (p : Plan) (cap i o : ℕ) (inside : InEvent p i o) (first : ComeFirst p o) {start v u : View} {xs : List Item} where
   -- the verdict after an evaluation
-  pub judged_good : {x : ℕ} → VerdictDoes p cap o v u (Good x) → IsMadeSoFar p cap o (so_far start v xs) → ReadyDoes p i o start u None
-  judged_good does made = ready_good p i o inside made.far does.goes (none_own does.words does.none) (none_open does.words does.none) does.tells
+  far_judged : {r : Verdict} → (does : VerdictDoes p cap o v u r) → IsMadeSoFar p cap o (so_far start v xs) → SoFar o start u (xs ++ does.words)
+  far_judged does made = far_then made.far does.goes (none_own does.words does.none) (none_open does.words does.none)
 
-  pub judged_bad : VerdictDoes p cap o v u Bad → IsMadeSoFar p cap o (so_far start v xs) → ReadyDoes p i o start u None
-  judged_bad does made = ready_bad p i o inside made.far does.goes (none_own does.words does.none) (none_open does.words does.none) does.tells
+  pub judged_good : {x : ℕ} {w : OpWord} → VerdictAtDoes p cap o v u w (Good x) → IsMadeSoFar p cap o (so_far start v xs) → ReadyDoes p i o start u (StandsGood w)
+  judged_good {x} does made = ready_judged_good xs (far_judged does.answer made) does.answer.tells (does.good x refl)
 
-  pub judged_source : {at : ℕ} {w : OpWord} → at ≢ o → VerdictDoes p cap o v u (Unready at w) → IsMadeSoFar p cap o (so_far start v xs) → ReadyDoes p i o start u (Some (NotYet at w))
+  pub judged_bad : VerdictDoes p cap o v u Bad → IsMadeSoFar p cap o (so_far start v xs) → ReadyDoes p i o start u StandsBad
+  judged_bad does made = ready_judged_bad xs (far_judged does made) does.tells
+
+  pub judged_source : {at : ℕ} {w : OpWord} → at ≢ o → VerdictDoes p cap o v u (Unready at w) → IsMadeSoFar p cap o (so_far start v xs) → ReadyDoes p i o start u (Stopped (NotYet at w))
   judged_source {at} {w} other does made =
       elim does.tells [ inl own ↦ absurd (other own.0) | inr source ↦ ready_source p i o inside made.far does.goes (none_own does.words does.none) (none_open does.words does.none) source.1 ]
 
-  pub judged_own : {at : ℕ} {w : OpWord} {r : Option TxnAnswer} → at ≡ o → VerdictDoes p cap o v u (Unready at w) → IsMadeSoFar p cap o (so_far start v xs) → StopsAt o w r → ReadyDoes p i o start u r
+  pub judged_own : {at : ℕ} {w : OpWord} {r : Standing} → at ≡ o → VerdictDoes p cap o v u (Unready at w) → IsMadeSoFar p cap o (so_far start v xs) → IsStandingOf o w r → ReadyDoes p i o start u r
   judged_own {at} {w} {r} same does made stops =
       elim does.tells [
         | inr source ↦ absurd (source.0 same)
@@ -139,7 +153,7 @@ module _ (p : Plan) (cap i o : ℕ) (inside : InEvent p i o) (first : ComeFirst 
       known : (made : IsMadeSoFar p cap o (so_far start v xs)) → HasLast o xs made.evaluated.word
       known made = subst (λ zs. HasLast o zs made.evaluated.word) (sym made.parts) (last_later made.front made.evaluated.last)
 
-  pub judged_stale : {j kept value : ℕ} {w : OpWord} {m : View} {r : Option TxnAnswer} → VerdictDoes p cap o v m (Stale j kept value) → PeekDoes p cap o m u w → IsMadeSoFar p cap o (so_far start v xs) → StopsAt o w r
+  pub judged_stale : {j kept value : ℕ} {w : OpWord} {m : View} {r : Standing} → VerdictDoes p cap o v m (Stale j kept value) → PeekDoes p cap o m u w → IsMadeSoFar p cap o (so_far start v xs) → IsStandingOf o w r
       → ReadyDoes p i o start u r
   judged_stale {j} {kept} {value} {w} {m} {r} does peek made stops =
       let shaken : IsShaken p o (made.back ++ does.words) = stale_again first (back_own made) does.none made.evaluated does.tells.stale in
@@ -171,15 +185,15 @@ module _ (p : Plan) (cap i o : ℕ) (inside : InEvent p i o) (first : ComeFirst 
     },
   )
 
-  pub run_blocked : {source : ℕ} {w : OpWord} → EvaluationDoes p cap o v u (BlockedOn source w) → IsIdleSoFar o (so_far start v xs) → ReadyDoes p i o start u (Some (NotYet source w))
+  pub run_blocked : {source : ℕ} {w : OpWord} → EvaluationDoes p cap o v u (BlockedOn source w) → IsIdleSoFar o (so_far start v xs) → ReadyDoes p i o start u (Stopped (NotYet source w))
   run_blocked does idle = ready_source p i o inside idle.far does.goes does.own does.open_own does.tells.source
 
-  pub run_busy : {w : OpWord} {r : Option TxnAnswer} → EvaluationDoes p cap o v u (BusyAt w) → IsIdleSoFar o (so_far start v xs) → StopsAt o w r → ReadyDoes p i o start u r
+  pub run_busy : {w : OpWord} {r : Standing} → EvaluationDoes p cap o v u (BusyAt w) → IsIdleSoFar o (so_far start v xs) → IsStandingOf o w r → ReadyDoes p i o start u r
   run_busy does idle stops =
       ready_stop p i o inside idle.far does.goes does.own does.open_own does.tells.last does.tells.seen
       (elim does.tells.cause [ inl claimed ↦ inl claimed | inr there ↦ inr (inl (disturbed_later xs there)) ]) stops
 
-  pub run_already : {w : OpWord} {r : Option TxnAnswer} → EvaluationDoes p cap o v u (Already w) → IsIdleSoFar o (so_far start v xs) → StopsAt o w r → ReadyDoes p i o start u r
+  pub run_already : {w : OpWord} {r : Standing} → EvaluationDoes p cap o v u (Already w) → IsIdleSoFar o (so_far start v xs) → IsStandingOf o w r → ReadyDoes p i o start u r
   run_already {w} does idle stops =
       ready_stop p i o inside idle.far does.goes does.own does.open_own (already_last p cap o does.tells) (already_seen p cap o does.tells) (inr (inl (already_other p cap o xs idle.last idle.idle does.tells))) stops
 
@@ -187,11 +201,11 @@ module _ (p : Plan) (cap i o : ℕ) (inside : InEvent p i o) (first : ComeFirst 
   pub idle_so_far : {j : ℕ} → RollDoes p cap o v u j HasRolled → IsOutdatedSoFar p cap o j (so_far start v xs) → (ys : List Item) × IsIdleSoFar o (so_far start u ys)
   idle_so_far {j} does old = (xs ++ does.words, record { far = far_then old.far does.goes does.own does.open_own; word = blocked (does.tells.first.attempt + 1); last = last_later xs does.tells.last; idle = refl })
 
-  pub redo_source : {j at : ℕ} {w : OpWord} → at ≢ o → RollDoes p cap o v u j (Unrolled at w) → IsOutdatedSoFar p cap o j (so_far start v xs) → ReadyDoes p i o start u (Some (NotYet at w))
+  pub redo_source : {j at : ℕ} {w : OpWord} → at ≢ o → RollDoes p cap o v u j (Unrolled at w) → IsOutdatedSoFar p cap o j (so_far start v xs) → ReadyDoes p i o start u (Stopped (NotYet at w))
   redo_source {j} {at} {w} other does old =
       elim does.tells [ inl own ↦ absurd (other own.0) | inr source ↦ ready_source p i o inside old.far does.goes does.own does.open_own source.1.source_open ]
 
-  pub redo_own : {j at : ℕ} {w : OpWord} {r : Option TxnAnswer} → at ≡ o → RollDoes p cap o v u j (Unrolled at w) → IsOutdatedSoFar p cap o j (so_far start v xs) → StopsAt o w r → ReadyDoes p i o start u r
+  pub redo_own : {j at : ℕ} {w : OpWord} {r : Standing} → at ≡ o → RollDoes p cap o v u j (Unrolled at w) → IsOutdatedSoFar p cap o j (so_far start v xs) → IsStandingOf o w r → ReadyDoes p i o start u r
   redo_own {j} {at} {w} {r} same does old stops =
       elim does.tells [
         | inr source ↦ absurd (source.0 same)
@@ -200,7 +214,7 @@ module _ (p : Plan) (cap i o : ℕ) (inside : InEvent p i o) (first : ComeFirst 
             (inr (inl (unrolled_other p cap o xs old.last old.evaluated old.below own.1))) stops
       ]
 
-  pub redo_fresh : {j x : ℕ} {w : OpWord} {m : View} {r : Option TxnAnswer} → RollDoes p cap o v m j (Fresh x) → PeekDoes p cap o m u w → IsOutdatedSoFar p cap o j (so_far start v xs) → StopsAt o w r
+  pub redo_fresh : {j x : ℕ} {w : OpWord} {m : View} {r : Standing} → RollDoes p cap o v m j (Fresh x) → PeekDoes p cap o m u w → IsOutdatedSoFar p cap o j (so_far start v xs) → IsStandingOf o w r
       → ReadyDoes p i o start u r
   redo_fresh {j} {x} {w} {m} {r} does peek old stops =
       ready_stop p i o inside (far_then old.far does.goes does.own does.open_own) peek.goes (none_own peek.words peek.none) (none_open peek.words peek.none) peek.last peek.seen
@@ -217,10 +231,10 @@ module _ (p : Plan) (cap i o : ℕ) (inside : InEvent p i o) {start v : View} {x
   found_run : {w : OpWord} {s : OpState} → w.state ≡ s → has_run s ≡ true → IsFoundSoFar p cap o (so_far start v xs) w → IsDisturbed o xs
   found_run is ran found = elim found.cause [ inr there ↦ there | inl unrun ↦ absurd (false≢true (sym unrun ∙ ap has_run is ∙ ran)) ]
 
-  found_settled : {w : OpWord} {r : Option TxnAnswer} → is_settled w.state ≡ true → IsFoundSoFar p cap o (so_far start v xs) w → StopsAt o w r → ReadyDoes p i o start v r
-  found_settled {w} {r} settled found stops = record { words = xs; far = found.far; tells = subst (ReadyTells p i o start v xs) (sym (stops.settled settled)) (inl (found_seen found.far.goes (loaded o w) found.seen refl settled)) }
+  found_settled : {w : OpWord} {r : Standing} → is_settled w.state ≡ true → IsFoundSoFar p cap o (so_far start v xs) w → IsStandingOf o w r → ReadyDoes p i o start v r
+  found_settled {w} {r} settled found stops = subst (ReadyDoes p i o start v) (sym (stops.settled settled)) (ready_settled found.far (found_seen found.far.goes (loaded o w) found.seen refl settled))
 
-  pub found_stop : {w : OpWord} {r : Option TxnAnswer} (s : OpState) → w.state ≡ s → can_stop s ≡ true → IsFoundSoFar p cap o (so_far start v xs) w → StopsAt o w r → ReadyDoes p i o start v r
+  pub found_stop : {w : OpWord} {r : Standing} (s : OpState) → w.state ≡ s → can_stop s ≡ true → IsFoundSoFar p cap o (so_far start v xs) w → IsStandingOf o w r → ReadyDoes p i o start v r
   found_stop {w} {r} Blocked is can found stops = absurd (false≢true can)
   found_stop {w} {r} Ready is can found stops = absurd (false≢true can)
   found_stop {w} {r} Claimed is can found stops = ready_here p i o inside found.far found.last found.seen (inl is) stops
@@ -235,19 +249,11 @@ module _ (p : Plan) (cap i o : ℕ) (inside : InEvent p i o) {v u : View} where
   pub first_far : {r : Verdict} → (does : VerdictDoes p cap o v u r) → SoFar o v u does.words
   first_far does = record { goes = does.goes; own = none_own does.words does.none; open_own = none_open does.words does.none }
 
-  pub first_good : {x : ℕ} → VerdictDoes p cap o v u (Good x) → ReadyDoes p i o v u None
-  first_good does = record {
-    words = does.words;
-    far = first_far does;
-    tells = inr (inl (record { word = does.tells.word; last = does.tells.last; judged = does.tells.judged; fails = λ failed. absurd (executed_failed (sym does.tells.state_is ∙ failed)) }));
-  }
+  pub first_good : {x : ℕ} {w : OpWord} → VerdictAtDoes p cap o v u w (Good x) → ReadyDoes p i o v u (StandsGood w)
+  first_good {x} does = ready_judged_good [] (first_far does.answer) does.answer.tells (does.good x refl)
 
-  pub first_bad : VerdictDoes p cap o v u Bad → ReadyDoes p i o v u None
-  first_bad does = record {
-    words = does.words;
-    far = first_far does;
-    tells = inr (inl (record { word = does.tells.word; last = does.tells.last; judged = does.tells.judged; fails = λ failed. does.tells.answer }));
-  }
+  pub first_bad : VerdictDoes p cap o v u Bad → ReadyDoes p i o v u StandsBad
+  first_bad does = ready_judged_bad [] (first_far does) does.tells
 
   pub first_stale : {j kept value : ℕ} → VerdictDoes p cap o v u (Stale j kept value) → (xs : List Item) × IsOutdatedSoFar p cap o j (so_far v u xs)
   first_stale {j} {kept} {value} does =
@@ -270,9 +276,6 @@ module _ (p : Plan) (cap i o : ℕ) (inside : InEvent p i o) {v u : View} where
         | inl own ↦ (does.words, record { far = first_far does; last = own.1.last; seen = own.1.seen; cause = own.1.cause; spread = own.1.spread })
       ]
 
-  pub first_source : {at : ℕ} {w : OpWord} → at ≢ o → VerdictDoes p cap o v u (Unready at w) → ReadyDoes p i o v u (Some (NotYet at w))
+  pub first_source : {at : ℕ} {w : OpWord} → at ≢ o → VerdictDoes p cap o v u (Unready at w) → ReadyDoes p i o v u (Stopped (NotYet at w))
   first_source {at} {w} other does =
-      elim does.tells [
-        | inl own ↦ absurd (other own.0)
-        | inr source ↦ record { words = does.words; far = first_far does; tells = stop_source p i does.goes inside source.1 }
-      ]
+      elim does.tells [ inl own ↦ absurd (other own.0) | inr source ↦ ready_stopped (first_far does) (stop_source p i does.goes inside source.1) ]

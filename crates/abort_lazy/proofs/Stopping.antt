@@ -27,8 +27,11 @@ use Rattle.op_eval.proofs.Following.{claimed_other, found_other}
 use Rattle.abort_lazy.specs.declared.transaction.TxnAnswer.{TxnAnswer}
 use Rattle.abort_lazy.specs.declared.transaction.TxnAnswer.TheVariants.{Settled as AllSettled, NotYet, Busy}
 use Rattle.abort_lazy.specs.Transactions.{AnswersWithCause}
-use Rattle.abort_lazy.specs.Progress.{StopsWithCause, IsJudgedLast, IsDealtWith}
-use Rattle.abort_lazy.proofs.Carrying.{seen_more, judged_more, sources_more, not_seen, no_open_source, lone_unclaimed, lone_unshaken, judged_not_stale}
+use Rattle.abort_lazy.specs.declared.transaction.standing.Grounds.{Grounds}
+use Rattle.abort_lazy.specs.declared.transaction.standing.Say.{Say}
+use Rattle.abort_lazy.specs.declared.transaction.standing.Say.TheVariants.{Commit, Abort, Decided}
+use Rattle.abort_lazy.specs.Progress.{StopsWithCause, IsGoodLast, IsJudgedLast, IsDealtWith, IsReadyBy}
+use Rattle.abort_lazy.proofs.Carrying.{seen_more, judged_more, good_at_more, answer_more, sources_more, not_seen, no_open_source, lone_unclaimed, lone_unshaken, judged_not_stale}
 
 pub source_open_later : {p : Plan} {cap o at : ℕ} {w : OpWord} {start v u : View} (ys : List Item) {xs : List Item} → IsSourceOpen p cap o v u xs at w → IsSourceOpen p cap o start u (ys ++ xs) at w
 source_open_later {p} {cap} {o} {at} {w} ys {xs} is = record {
@@ -128,6 +131,10 @@ stale_again {p} {cap} {o} {attempt} {j} {kept} {value} {r} {w} {f} {a} {v} {u} {
 
 -- ---- while it is decided and settled
 
+-- the last word of an operation stays so, or the operation was disturbed
+last_more : {o : ℕ} {w : OpWord} (ys xs : List Item) → ((t : Item) → Contains xs t → t.op ≡ o → t.own ≡ false) → HasLast o ys w ⊎ IsDisturbed o ys → HasLast o (ys ++ xs) w ⊎ IsDisturbed o (ys ++ xs)
+last_more ys xs loads is = elim is [ inl last ↦ stays_or ys xs last loads | inr there ↦ inr (disturbed_more xs there) ]
+
 module _ {p : Plan} {v u : View} {xs : List Item} (goes : AddsAndFrees v u xs) where
   -- what was ready stays so, or was disturbed
   pub ready_more : {o : ℕ} (ys : List Item) → ((t : Item) → Contains xs t → t.op ≡ o → t.own ≡ false) → IsDealtWith p o v ys → IsDealtWith p o u (ys ++ xs)
@@ -144,6 +151,10 @@ module _ {p : Plan} {v u : View} {xs : List Item} (goes : AddsAndFrees v u xs) w
                   ]
             ]
       ]
+
+  -- what was judged good stays so
+  pub good_more : {o : ℕ} {w : OpWord} (ys : List Item) → ((t : Item) → Contains xs t → t.op ≡ o → t.own ≡ false) → IsGoodLast p o v ys w → IsGoodLast p o u (ys ++ xs) w
+  good_more ys loads is = record { last = last_more ys xs loads is.last; good = good_at_more goes is.good; answers = (is.answers.0, answer_more goes is.answers.1) }
 
   -- no decision yet: the operation that was ready was disturbed
   pub undecided_disturbed : {cap o : ℕ} {w : OpWord} (ys : List Item) → NoneOwn xs → (IsSettledSeen v o → ⊥) → IsDealtWith p o v ys
@@ -213,3 +224,10 @@ module _ {p : Plan} {v u : View} {xs : List Item} (goes : AddsAndFrees v u xs) w
           of_state Spread is ran = absurd (false≢true ran)
           of_state Settled is ran = absurd (false≢true ran)
           of_state SettledAborted is ran = absurd (false≢true ran)
+
+-- what is known of an operation before it is settled stays so
+pub by_more : (p : Plan) (i : ℕ) (g : Grounds) (s : Say) {o : ℕ} {v u : View} {xs : List Item} → AddsAndFrees v u xs → (ys : List Item) → ((t : Item) → Contains xs t → t.op ≡ o → t.own ≡ false) → IsReadyBy p i g s o v ys
+    → IsReadyBy p i g s o u (ys ++ xs)
+by_more p i g Commit {xs = xs} goes ys loads is = last_more ys xs loads is
+by_more p i g Abort goes ys loads is = ready_more goes ys loads is
+by_more p i g Decided goes ys loads is = ready_more goes ys loads is

@@ -22,6 +22,7 @@
 //! |---|---|
 //! | `transaction` | `settle_txn`, `TxnAnswer`, and how a word that stops the call becomes its answer |
 //! | `transaction/prepare`, `transaction/decide`, `transaction/settle` | the stages of `settle_txn` for an event's operations |
+//! | `transaction/standing` | how an operation is before the decision, and what those of an event say of it together |
 //! | `run`, `run/level` | `settle_all` and `SettledRun`; one level of events, each tried by the worker that takes its number |
 //! | `plain_finish`, `sources`, `room` | `finish`; the settled values of an operation's sources; the memory that it needs |
 //! | `laws` | how many evaluations and rollbacks there are at most |

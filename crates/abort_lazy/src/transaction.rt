@@ -12,10 +12,12 @@ use op_words::Board;
 mod decide;
 mod prepare;
 mod settle;
+mod standing;
 
-use decide::decide_now;
+use decide::decide;
 use prepare::prepare_all;
 use settle::settle_rest;
+use standing::Grounds;
 
 /// The outcome when a runner tries to settle a transaction.
 #[derive(Clone, Copy, Debug, PartialEq, Eq)]
@@ -31,7 +33,8 @@ pub enum TxnAnswer {
 }
 
 /// Settles a transaction: makes each of its operations ready for the decision, then decides the event, then settles
-/// each operation.
+/// each operation. If all of them were judged, the event is decided by that, with one exchange; and if all were good,
+/// each is settled from the word at which it was judged, with one exchange. Else the call judges them once more.
 ///
 /// To make an operation ready, the call judges it. If a record differs from its settled source, or a failure took its
 /// value back, the operation is rolled back and evaluated again. If it was not evaluated yet, it is evaluated. Then it
@@ -47,12 +50,13 @@ pub fn settle_txn(board: &Board, runner: &mut Runner, plan: &Plan, event: u32) -
     ensures answer { TxnDoes plan.now event (hand_view runner.old) (hand_view runner.new) result }
     ensures answered { IsAnswered (event_at plan.now event).count runner.old runner.new }
 {
-    if let Some(answer) = prepare_all(board, runner, plan, event) {
+    let mut grounds = Grounds::new();
+    if let Some(answer) = prepare_all(board, runner, plan, event, &mut grounds) {
         return answer;
     }
-    match decide_now(board, &mut runner.hand, plan, event) {
+    match decide(board, &mut runner.hand, plan, event, &grounds) {
         Err(answer) => answer,
-        Ok(committed) => match settle_rest(board, &mut runner.hand, plan, event) {
+        Ok(committed) => match settle_rest(board, &mut runner.hand, plan, event, &grounds) {
             Some(answer) => answer,
             None => TxnAnswer::Settled { committed },
         },

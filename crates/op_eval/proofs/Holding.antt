@@ -28,9 +28,11 @@ use Rattle.op_words.specs.Views.{Agrees, Adds, AddsAndFrees, Holds, looked, look
 use Rattle.op_words.specs.Calls.{Elsewhere, IsReadValue, IsUsed, IsPlaceTaken, PeekDoes, MakeDoes, ClaimDoes, FetchDoes, FinishDoes, GiveBackDoes}
 use Rattle.op_words.proofs.Trailing.{cases_word, last_item, last_later, one_last, disturbed_later, disturbed_more}
 use Rattle.op_eval.specs.declared.answers.Evaluation.TheVariants.{Evaluated, Blocked as BlockedOn, Busy as BusyAt, Already}
-use Rattle.op_eval.specs.Evaluations.{fetches, IsReadiedOrNot, IsClaimedWith, EvaluationDoes, IsEvaluatingSoFar, SoFar, fetching, IsFetchedUpTo, IsStopped}
+use Rattle.op_words.specs.Attempts.{fetches}
+use Rattle.op_words.proofs.Attempting.{fetches-nil, fetches-snoc}
+use Rattle.op_eval.specs.Evaluations.{IsReadiedOrNot, IsClaimedWith, EvaluationDoes, IsEvaluatingSoFar, SoFar, fetching, IsFetchedUpTo, IsStopped}
 use Rattle.op_words.proofs.Adding.{adds_then, adds_none}
-use Rattle.op_eval.proofs.Stepping.{fetches-nil, fetches-snoc, count_quiet, readied_quiet, claimed_quiet}
+use Rattle.op_eval.proofs.Stepping.{count_quiet, readied_quiet, claimed_quiet}
 use Rattle.op_eval.proofs.Following.{claimed_other, one_is_last, one_none, found_other, own_append, none_own, open_append, none_open, far_then}
 
 pub read_more : (xs ys : List Item) (q : Origin) (x : ℕ) → IsReadValue xs q x → IsReadValue (xs ++ ys) q x
@@ -109,14 +111,14 @@ fetched_stops p cap o a j at w up does =
 
 -- ---- reached
 
-reached_own : {p : Plan} {o : ℕ} {xs : List Item} (t : Item) → Contains xs t → t.op ≡ o → t.word ≢ blocked 1 → IsReached p o xs
+pub reached_own : {p : Plan} {o : ℕ} {xs : List Item} (t : Item) → Contains xs t → t.op ≡ o → t.word ≢ blocked 1 → IsReached p o xs
 reached_own t inside same other = record { item = t; inside = inside; tells = record { cause = inl (same, other) } }
 
-reached_idle : {p : Plan} {o at : ℕ} {w : OpWord} {xs : List Item} → IsSourceOf p o at → Contains xs (loaded at w) → is_idle w.state ≡ true → IsReached p o xs
+pub reached_idle : {p : Plan} {o at : ℕ} {w : OpWord} {xs : List Item} → IsSourceOf p o at → Contains xs (loaded at w) → is_idle w.state ≡ true → IsReached p o xs
 reached_idle {p} {o} {at} {w} source inside idle = record { item = loaded at w; inside = inside; tells = record { cause = inr (source, idle) } }
 
 -- where it was disturbed, one of the two words is not the first one
-reached_disturbed : {p : Plan} {o : ℕ} {xs : List Item} → IsDisturbed o xs → IsReached p o xs
+pub reached_disturbed : {p : Plan} {o : ℕ} {xs : List Item} → IsDisturbed o xs → IsReached p o xs
 reached_disturbed {p} {o} {xs} is =
     elim (cases_word is.found (blocked 1)) [
       | inr other ↦
@@ -132,7 +134,7 @@ reached_disturbed {p} {o} {xs} is =
 
 -- ---- evaluating
 
-idle_open : (s : OpState) → is_idle s ≡ true → is_settled s ≡ false
+pub idle_open : (s : OpState) → is_idle s ≡ true → is_settled s ≡ false
 idle_open Blocked is = refl
 idle_open Ready is = refl
 idle_open Claimed is = refl
@@ -172,7 +174,7 @@ own_pair o z y = own_append (loaded o z ∷ []) (left o y ∷ []) (none_own (loa
 open_pair : (o : ℕ) (z y : OpWord) → is_settled y.state ≡ false → OwnOpen (loaded o z ∷ left o y ∷ [])
 open_pair o z y open' = open_append (loaded o z ∷ []) (left o y ∷ []) (none_open (loaded o z ∷ []) (one_none (loaded o z) refl)) (open_one o y open')
 
-begins_more : {o : ℕ} {first : OpWord} (rest xs ys : List Item) → xs ≡ loaded o first ∷ rest → xs ++ ys ≡ loaded o first ∷ (rest ++ ys)
+pub begins_more : {o : ℕ} {first : OpWord} (rest xs ys : List Item) → xs ≡ loaded o first ∷ rest → xs ++ ys ≡ loaded o first ∷ (rest ++ ys)
 begins_more rest xs ys begins = ap (λ zs. zs ++ ys) begins
 
 claimed_blocked : Claimed ≡ Blocked → ⊥

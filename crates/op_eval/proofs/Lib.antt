@@ -4,6 +4,8 @@ pub mod Following
 pub mod Stepping
 -- How an operation is evaluated, call by call.
 pub mod Holding
+-- A blocked operation is evaluated by one call.
+mod Attempting
 -- How the runners of a board begin, and how their hands are joined, one after another.
 pub mod Seating
 -- New runners can be explored with.

@@ -1,25 +1,11 @@
 -- The steps of an evaluation, and what they count.
-use Rattle.std.proofs.Common.{◌≡◌, ℕ, ◌+◌, Bool, false, List, [], ◌∷◌, ◌++◌, length, refl, ap, ◌∙◌, inl, inr, arith, cond, zero-add}
+use Rattle.std.proofs.Common.{◌≡◌, ℕ, ◌+◌, Bool, false, List, [], ◌∷◌, refl, ap, ◌∙◌, inl, inr, cond, zero-add}
 use Rattle.std.specs.Prelude.{count_by}
 use Rattle.std.proofs.lemmas.List.Sums.{sum_by-cons}
 use Rattle.interleaving_core.specs.declared.event.CoreEvent.{CoreEvent}
 use Rattle.interleaving_core.specs.declared.event.CoreEvent.TheVariants.{Ready as ReadyStep, Claim, Fetch}
-use Rattle.op_eval.specs.Evaluations.{fetches, IsReadiedOrNot, IsClaimedWith}
-
-pub fetches-nil : (o tag k : ℕ) (es : List CoreEvent) → fetches o tag k [] es ≡ es
-unfolding fetches
-fetches-nil o tag k es = refl
-
--- the last value that was fetched
-fetches_last : (o tag k : ℕ) (xs : List ℕ) (x : ℕ) (es : List CoreEvent) → fetches o tag k (xs ++ x ∷ []) es ≡ Fetch o (k + length xs) tag x ∷ fetches o tag k xs es
-unfolding fetches
-fetches_last o tag k [] x es = ap (λ n. Fetch o n tag x ∷ es) (omega arith)
-fetches_last o tag k (y ∷ xs) x es =
-    fetches_last o tag (k + 1) xs x (Fetch o k tag y ∷ es)
-    ∙ ap (λ n. Fetch o n tag x ∷ fetches o tag (k + 1) xs (Fetch o k tag y ∷ es)) (omega arith)
-
-pub fetches-snoc : (o tag : ℕ) (xs : List ℕ) (x : ℕ) (es : List CoreEvent) → fetches o tag 0 (xs ++ x ∷ []) es ≡ Fetch o (length xs) tag x ∷ fetches o tag 0 xs es
-fetches-snoc o tag xs x es = fetches_last o tag 0 xs x es ∙ ap (λ n. Fetch o n tag x ∷ fetches o tag 0 xs es) (zero-add (length xs))
+use Rattle.op_words.specs.Attempts.{fetches}
+use Rattle.op_eval.specs.Evaluations.{IsReadiedOrNot, IsClaimedWith}
 
 -- ---- what is not counted
 

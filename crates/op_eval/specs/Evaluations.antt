@@ -9,13 +9,14 @@ use Rattle.morph_base.specs.Plans.{op_at, op_count, origin_at}
 use Rattle.morph_base.specs.Words.{is_idle, is_settled}
 use Rattle.interleaving_core.specs.Core.{blocked, claimed, entry_of, finished, has_run, places}
 use Rattle.interleaving_core.specs.declared.event.CoreEvent.{CoreEvent}
-use Rattle.interleaving_core.specs.declared.event.CoreEvent.TheVariants.{Ready as ReadyStep, Claim, Fetch, Finish, GiveBack}
+use Rattle.interleaving_core.specs.declared.event.CoreEvent.TheVariants.{Ready as ReadyStep, Claim, Finish, GiveBack}
 use Rattle.interleaving_core.specs.Counts.{evaluated, spreads, rolled}
 use Rattle.op_words.specs.declared.answers.Outcome.{Outcome}
 use Rattle.op_words.specs.declared.trail.Item.{Item}
 use Rattle.op_words.specs.declared.trail.View.{View}
 use Rattle.op_words.specs.Trails.{loaded, left, HasLast, IsDisturbed, IsReached, IsSourceOf, OwnOn, OwnOpen}
 use Rattle.op_words.specs.Views.{Adds, AddsAndFrees, Holds, HasRecordsSeen}
+use Rattle.op_words.specs.Attempts.{fetches}
 use Rattle.op_words.specs.Calls.{answer_of, Elsewhere, IsReadValue, IsSourceOpen}
 use Rattle.op_eval.specs.declared.answers.Evaluation.{Evaluation}
 use Rattle.op_eval.specs.declared.answers.Evaluation.TheVariants.{Evaluated, Blocked as BlockedOn, Busy as BusyAt, Already}
@@ -24,11 +25,6 @@ use Rattle.op_eval.specs.declared.runner.Runner.{Runner}
 use Rattle.op_eval.specs.Running.{hand_view, counted}
 
 -- ---- the steps of an evaluation, the last one first
-
--- The steps after es and then the fetches of the values xs for operation o, from place k on, by the hand of this tag
-unfoldable pub fetches : ℕ → ℕ → ℕ → List ℕ → List CoreEvent → List CoreEvent
-fetches o tag k [] es = es
-fetches o tag k (x ∷ xs) es = fetches o tag (k + 1) xs (Fetch o k tag x ∷ es)
 
 -- The steps fs are es, or es and then the step that makes operation o ready
 abbrev pub IsReadiedOrNot : ℕ → List CoreEvent → List CoreEvent → Type 0

@@ -1,4 +1,5 @@
-ghost use Rattle.std.specs.Prelude.{◌≡◌, ℕ, ◌<◌, List, [], None};
+ghost use Rattle.std.specs.Prelude.{◌≡◌, ℕ, ◌≤◌, ◌<◌, List, [], None};
+ghost use Rattle.morph_base.specs.Words.{IsWord};
 ghost use Rattle.morph_base.specs.declared.word.OpState.TheVariants.{Ready, Blocked};
 ghost use Rattle.morph_base.specs.declared.word.OpWord.{OpWord as Word};
 ghost use Rattle.interleaving_core.specs.Core.{places};
@@ -12,7 +13,7 @@ ghost use Rattle.op_eval.specs.Evaluations.{fetching, EvaluationDoes, FetchAllTe
 use crate::answers::Evaluation;
 use crate::runner::Runner;
 use morph_base::{OpState, OpWord, Plan};
-use op_words::{Board, Claimed, Fetched, Hand, Readied, places_of};
+use op_words::{Attempt, Board, Claimed, Fetched, Hand, Readied, places_of};
 
 /// The source that stopped an evaluation, with its word.
 #[derive(Clone, Copy, Debug, PartialEq, Eq)]
@@ -85,6 +86,44 @@ fn make(board: &Board, hand: &mut Hand, plan: &Plan, op: u32) -> Evaluation
     }
 }
 
+/// Evaluates an operation that was found blocked with this word, which is not at the last attempt.
+fn attempt(board: &Board, hand: &mut Hand, plan: &Plan, op: u32, word: OpWord) -> Evaluation
+    requires may { MayBegin board.now hand.old plan.now op }
+    requires word { IsWord word }
+    requires blocked { word.state ≡ Blocked }
+    requires below { word.attempt ≤ cap_of board.now }
+    ensures hand { IsHandOf board.now hand.new }
+    ensures answer { (start : View) (xs : List Item)
+        → IsEvaluatingSoFar op start (view_of hand.old) xs word
+        → EvaluationDoes plan.now (cap_of board.now) op start (view_of hand.new) result }
+{
+    match board.attempt(hand, plan, op, word.attempt) {
+        Attempt::Ran(outcome) => Evaluation::Evaluated {
+            attempt: word.attempt,
+            outcome,
+        },
+        Attempt::Blocked { source, word } => Evaluation::Blocked { source, word },
+        Attempt::Busy { word } => Evaluation::Busy { word },
+    }
+}
+
+/// Evaluates an operation that was found blocked with this word: in one call, unless it is at the last attempt.
+fn begin(board: &Board, hand: &mut Hand, plan: &Plan, op: u32, word: OpWord) -> Evaluation
+    requires may { MayBegin board.now hand.old plan.now op }
+    requires word { IsWord word }
+    requires blocked { word.state ≡ Blocked }
+    ensures hand { IsHandOf board.now hand.new }
+    ensures answer { (start : View) (xs : List Item)
+        → IsEvaluatingSoFar op start (view_of hand.old) xs word
+        → EvaluationDoes plan.now (cap_of board.now) op start (view_of hand.new) result }
+{
+    if board.may_guess(word.attempt) {
+        attempt(board, hand, plan, op, word)
+    } else {
+        make(board, hand, plan, op)
+    }
+}
+
 /// Loads an operation's word, and evaluates the operation if it is idle.
 fn evaluate_by(board: &Board, hand: &mut Hand, plan: &Plan, op: u32) -> Evaluation
     requires may { MayBegin board.now hand.old plan.now op }
@@ -94,7 +133,7 @@ fn evaluate_by(board: &Board, hand: &mut Hand, plan: &Plan, op: u32) -> Evaluati
 {
     let word = board.peek(hand, plan, op);
     match word.state {
-        OpState::Blocked => make(board, hand, plan, op),
+        OpState::Blocked => begin(board, hand, plan, op, word),
         OpState::Ready => hold(board, hand, plan, op),
         OpState::Claimed => Evaluation::Busy { word },
         OpState::Executed => Evaluation::Already { word },
@@ -106,7 +145,8 @@ fn evaluate_by(board: &Board, hand: &mut Hand, plan: &Plan, op: u32) -> Evaluati
 }
 
 /// Evaluates an operation: makes it ready if it is blocked, claims it, fetches its places in order, and finishes it. If
-/// a source stops this, the operation is given back.
+/// a source stops this, the operation is given back. The sources of a blocked operation are loaded before its first
+/// step, and once, unless it is at the last attempt.
 ///
 /// The answer is [`Evaluation::Blocked`] only if the named source, as its word was loaded here, was neither evaluated
 /// nor settled, or was not settled at the last attempt. It is [`Evaluation::Busy`] only if the operation was seen

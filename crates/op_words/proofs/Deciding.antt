@@ -1,5 +1,5 @@
 -- A decision is made: the step of the machine, and what the calls of one event come to.
-use Rattle.std.proofs.Common.{◌≡◌, ◌≢◌, ◌⊎◌, ℕ, ◌+◌, ◌<◌, Bool, true, false, List, [], ◌∷◌, length, get_or, set, refl, sym, ap, ◌∙◌, subst, inl, inr, arith, Option, Some, None, unwrap_or, length-set, get_or-set_same}
+use Rattle.std.proofs.Common.{◌≡◌, ◌≢◌, ◌⊎◌, ℕ, ◌+◌, ◌<◌, Bool, true, false, List, [], ◌∷◌, length, get_or, set, refl, sym, ap, ◌∙◌, subst, inl, inr, arith, Option, Some, None, length-set, get_or-set_same}
 use Rattle.std.specs.Prelude.{IsSome, slice_index, ◌==◌}
 use Rattle.std.proofs.lemmas.Bool.{cases_Bool, cases_eq, eqb-true}
 use Rattle.std.proofs.lemmas.Option.{same_Some}
@@ -25,13 +25,12 @@ use Rattle.op_words.specs.declared.trail.View.{View}
 use Rattle.op_words.specs.declared.board.Board.{Board}
 use Rattle.op_words.specs.declared.board.Hand.{Hand}
 use Rattle.op_words.specs.Trails.{IsSteadyAt, IsCalmAt}
-use Rattle.op_words.specs.Hands.{plan_of, view_in, view_of, held_of, call_on, IsHandOf}
+use Rattle.op_words.specs.Hands.{plan_of, view_in, view_of, held_of, IsHandOf}
 use Rattle.op_words.specs.Views.{IsSourceSeen, IsDecisionSeen, AddsAndFrees, learning, deciding}
 use Rattle.op_words.specs.Layout.{Shows, record_index, decision_base, packed_record, packed_decision}
 use Rattle.op_words.specs.Rule.{Seats, Knows, Lawful, Steps}
 use Rattle.op_words.specs.Plays.{Sat, IsTold, decides}
-use Rattle.op_words.specs.Comparing.{MaySayOf, IsConcluded}
-use Rattle.op_words.specs.Judging.{IsAnswerSeen}
+use Rattle.op_words.specs.Judging.{IsAnswerSeen, MaySayOf, ConcludeDoes}
 use Rattle.op_words.proofs.Rows.{no_more, not_inside, one_inside, set_apart, set_same}
 use Rattle.op_words.proofs.Knowing.{knows_more}
 use Rattle.op_words.proofs.Moving.{with_view, advanced, grown, root_before}
@@ -273,35 +272,29 @@ module _ (b : Board) (h g : Hand) (is : IsHandOf b h) (table : g.seat.table_id �
   known_after v = Contains-append_right v.decisions _ _ (0, omega arith, refl)
 
   pub concluded_as : (n : ℕ) → (n ≡ 0 → HasNoted h.journal g.journal (Decide e committed)) → (n ≢ 0 → g.journal ≡ h.journal)
-      → Concluding e (view_of h) committed n h.seat.me g.seat.me → IsConcluded (call_on b h g) p e committed
+      → Concluding e (view_of h) committed n h.seat.me g.seat.me → IsHandOf b g × ConcludeDoes p e (view_of h) (view_of g) committed
   concluded_as n noted same tells =
       elim tells [
         | inl hit ↦
             let me : g.seat.me ≡ (Some (deciding e committed (view_of h)), []) = hit.1 ∙ ap (λ (m : Sat). (Some (deciding e committed (view_of h)), m.1)) is.seat in
-            let view : view_of g ≡ deciding e committed (view_of h) = ap (λ (m : Sat). view_in m.0) me in
-            record {
-              hand = made_hand (noted hit.0) me hit.2;
-              goes = subst (λ (u : View). AddsAndFrees (view_of h) u []) (sym view) (goes_deciding hit.2);
-              steps = inr (ap (λ (u : View). u.events) view);
-              right = right;
-              known = subst (λ (u : View). IsDecisionSeen u e committed) (sym view) (known_after (view_of h));
-            }
+            let view : view_of g ≡ deciding e committed (view_of h) = ap (λ (m : Sat). view_in m.0) me in (
+              made_hand (noted hit.0) me hit.2,
+              record {
+                goes = subst (λ (u : View). AddsAndFrees (view_of h) u []) (sym view) (goes_deciding hit.2);
+                steps = inr (ap (λ (u : View). u.events) view);
+                right = right;
+                known = subst (λ (u : View). IsDecisionSeen u e committed) (sym view) (known_after (view_of h));
+              },
+            )
         | inr missed ↦
             let me : g.seat.me ≡ (Some (learning e (Some committed) (view_of h)), []) = missed.1 ∙ ap (λ (m : Sat). (Some (learning e (Some committed) (view_of h)), m.1)) is.seat in
-            let view : view_of g ≡ learning e (Some committed) (view_of h) = ap (λ (m : Sat). view_in m.0) me in
-            record {
-              hand = learned_still b h g is table tag made held counts (same (λ zero. let some = some_decided committed in omega (arith, some, zero, missed.0))) e (Some committed) me;
-              goes = subst (λ (u : View). AddsAndFrees (view_of h) u []) (sym view) goes_learning;
-              steps = inl (ap (λ (u : View). u.events) view);
-              right = right;
-              known = subst (λ (u : View). IsDecisionSeen u e committed) (sym view) (known_after (view_of h));
-            }
-      ]
-
-  -- the decision that the exchange shows
-  pub stands_as : (n : ℕ) → Concluding e (view_of h) committed n h.seat.me g.seat.me → (r : Option Bool) → ((d : Option Bool) → n ≡ packed_decision d → r ≡ d) → unwrap_or r committed ≡ committed
-  stands_as n tells r decoded =
-      elim tells [
-        | inl hit ↦ ap (λ (x : Option Bool). unwrap_or x committed) (decoded None hit.0)
-        | inr missed ↦ ap (λ (x : Option Bool). unwrap_or x committed) (decoded (Some committed) missed.0)
+            let view : view_of g ≡ learning e (Some committed) (view_of h) = ap (λ (m : Sat). view_in m.0) me in (
+              learned_still b h g is table tag made held counts (same (λ zero. let some = some_decided committed in omega (arith, some, zero, missed.0))) e (Some committed) me,
+              record {
+                goes = subst (λ (u : View). AddsAndFrees (view_of h) u []) (sym view) goes_learning;
+                steps = inl (ap (λ (u : View). u.events) view);
+                right = right;
+                known = subst (λ (u : View). IsDecisionSeen u e committed) (sym view) (known_after (view_of h));
+              },
+            )
       ]

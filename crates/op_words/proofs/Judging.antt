@@ -25,7 +25,7 @@ use Rattle.op_words.specs.Trails.{loaded, OfSources, HasLast, NoneOwn}
 use Rattle.op_words.specs.Views.{IsJudged, IsRecordSeen, IsSourceSeen, Adds}
 use Rattle.op_words.specs.Calls.{IsSettledRead}
 use Rattle.op_words.specs.Plays.{IsRunResult, IsSight}
-use Rattle.op_words.specs.Judging.{verdict_of, IsStaleAt, IsGood, IsBad, VerdictTells}
+use Rattle.op_words.specs.Judging.{verdict_of, IsStaleAt, IsGood, IsGoodAt, IsBad, VerdictTells}
 use Rattle.op_words.specs.Hands.{plan_of, cap_of, view_of, call_on, IsHandOf}
 use Rattle.op_words.specs.Stepping.{Looked, IsWalk}
 use Rattle.op_words.specs.Comparing.{difference_at, OfReads, IsEqualAt, IsOtherAt, IsStoppedAt, IsJudgedAs}
@@ -136,6 +136,9 @@ module _ (b : Board) (p : Plan) (o : ℕ) (plan : p ≡ plan_of b) (lt : o < op_
   not_stale : (at : ℕ) (z : OpWord) (j kept value : ℕ) → Unready at z ≡ Stale j kept value → ⊥
   not_stale at z j kept value same = cc
 
+  not_good : (at : ℕ) (z : OpWord) (x : ℕ) → Unready at z ≡ Good x → ⊥
+  not_good at z x same = cc
+
   -- its word is neither executed nor failed
   pub judged_idle : has_run w.state ≡ false → IsJudgedAs (call_on b h g) p cap o w (Unready o w)
   judged_idle idle = record {
@@ -150,6 +153,7 @@ module _ (b : Board) (p : Plan) (o : ℕ) (plan : p ≡ plan_of b) (lt : o < op_
     stays = stays_first;
     tells = inl (refl, record { last = last_first; seen = (0, omega arith, refl); cause = inl idle; spread = (sight_of b p o h g w hand plan did).spread });
     stale = λ j kept value same. absurd (not_stale o w j kept value same);
+    good = λ x same. absurd (not_good o w x same);
   }
 
   -- its sources and records were loaded
@@ -203,6 +207,7 @@ module _ (b : Board) (p : Plan) (o : ℕ) (plan : p ≡ plan_of b) (lt : o < op_
         },
       );
       stale = λ j kept value same. absurd (not_stale stop.source stop.word j kept value same);
+      good = λ x same. absurd (not_good stop.source stop.word x same);
     }
 
     -- the word was loaded again
@@ -230,8 +235,9 @@ module _ (b : Board) (p : Plan) (o : ℕ) (plan : p ≡ plan_of b) (lt : o < op_
           ]
 
       judged_with : (r : Verdict) → VerdictTells p cap o (view_of h) (view_of m) (front ++ loaded o z ∷ []) r
-          → ((j kept value : ℕ) → r ≡ Stale j kept value → IsStaleAt p cap o (view_of h) (view_of m) (front ++ loaded o z ∷ []) z j kept value) → IsJudgedAs (call_on b h m) p cap o z r
-      judged_with r tells stale = record {
+          → ((j kept value : ℕ) → r ≡ Stale j kept value → IsStaleAt p cap o (view_of h) (view_of m) (front ++ loaded o z ∷ []) z j kept value)
+          → ((x : ℕ) → r ≡ Good x → IsGoodAt p (view_of m) o z) → IsJudgedAs (call_on b h m) p cap o z r
+      judged_with r tells stale good = record {
         hand = again.hand;
         words = all;
         goes = record { adds = adds_all; free = ap (λ (v : View). v.claim) again.view ∙ free_front };
@@ -243,13 +249,14 @@ module _ (b : Board) (p : Plan) (o : ℕ) (plan : p ≡ plan_of b) (lt : o < op_
         stays = ap (λ (v : View). v.events) again.view ∙ stays_front;
         tells = tells;
         stale = stale;
+        good = λ x same. (last_all, good x same);
       }
 
       judged_changed : z ≢ w → IsJudgedAs (call_on b h m) p cap o z (Unready o z)
       judged_changed other =
           judged_with (Unready o z)
           (inl (refl, record { last = last_all; seen = seen_all; cause = inr (found_disturbed o front w z last_front other); spread = (sight_of b p o k m z walk.hand plan again).spread }))
-          (λ j kept value same. absurd (not_stale o z j kept value same))
+          (λ j kept value same. absurd (not_stale o z j kept value same)) (λ x same. absurd (not_good o z x same))
 
       module _ (same : z ≡ w) where
         ran_again : has_run z.state ≡ true
@@ -295,7 +302,7 @@ module _ (b : Board) (p : Plan) (o : ℕ) (plan : p ≡ plan_of b) (lt : o < op_
                       value_is = ap (λ (x : OpWord). x.value) same;
                       answer = executed_answer z.attempt run.values (outcome p (final p) o) z word_is state ∙ ap (λ (x : OpWord). Some x.value) same;
                     } in
-                    subst (IsJudgedAs (call_on b h m) p cap o z) (sym (ap (λ (f : Bool). if f then Bad else Good w.value) executed.0)) (judged_with (Good w.value) good (λ j kept value e. absurd (good_stale w.value j kept value e)))
+                    subst (IsJudgedAs (call_on b h m) p cap o z) (sym (ap (λ (f : Bool). if f then Bad else Good w.value) executed.0)) (judged_with (Good w.value) good (λ j kept value e. absurd (good_stale w.value j kept value e)) (λ x e. good_at state))
                 | inr fails ↦
                     let state : z.state ≡ Failed = ap (λ (x : OpWord). x.state) same ∙ fails.1 in
                     let bad : IsBad p cap o (view_of h) (view_of m) (front ++ loaded o z ∷ []) = record {
@@ -305,7 +312,7 @@ module _ (b : Board) (p : Plan) (o : ℕ) (plan : p ≡ plan_of b) (lt : o < op_
                       judged = judged;
                       answer = failed_answer z.attempt run.values (outcome p (final p) o) z word_is state;
                     } in
-                    subst (IsJudgedAs (call_on b h m) p cap o z) (sym (ap (λ (f : Bool). if f then Bad else Good w.value) fails.0)) (judged_with Bad bad (λ j kept value e. absurd (bad_stale j kept value e)))
+                    subst (IsJudgedAs (call_on b h m) p cap o z) (sym (ap (λ (f : Bool). if f then Bad else Good w.value) fails.0)) (judged_with Bad bad (λ j kept value e. absurd (bad_stale j kept value e)) (λ x e. absurd (bad_good x e)))
               ]
             where
               good_stale : (x j kept value : ℕ) → Good x ≡ Stale j kept value → ⊥
@@ -314,14 +321,28 @@ module _ (b : Board) (p : Plan) (o : ℕ) (plan : p ≡ plan_of b) (lt : o < op_
               bad_stale : (j kept value : ℕ) → Bad ≡ Stale j kept value → ⊥
               bad_stale j kept value e = cc
 
+              bad_good : (x : ℕ) → Bad ≡ Good x → ⊥
+              bad_good x e = cc
+
+              good_at : z.state ≡ Executed → IsGoodAt p (view_of m) o z
+              good_at state = record {
+                in_range = again.tells.is_word;
+                executed = state;
+                sources = λ j below. seen_more adds_again (origin_at p o j) (source p (final p) o j) (equal j below).seen;
+                records = λ j below. subst (λ (x : OpWord). IsRecordSeen (view_of m) o j x (source p (final p) o j)) (sym same) (adds_again.records _ (equal j below).recorded);
+              }
+
         -- a record is another one
         pub judged_stale : (j kept value : ℕ) → IsOtherAt p o w xs (view_of k) (difference_at j kept value) → IsJudgedAs (call_on b h m) p cap o z (Stale j kept value)
-        judged_stale j kept value at = judged_with (Stale j kept value) (record { word = z; stale = stale }) (λ n y x e. same_stale n y x e)
+        judged_stale j kept value at = judged_with (Stale j kept value) (record { word = z; stale = stale }) (λ n y x e. same_stale n y x e) (λ x e. absurd (stale_good x e))
           where
             stale : IsStaleAt p cap o (view_of h) (view_of m) (front ++ loaded o z ∷ []) z j kept value
             stale =
                 stale_again b p o plan (view_of h) k m front walk.hand free_front adds_front z again ran_again j kept value (subst (λ (x : OpWord). IsOtherAt p o x xs (view_of k) (difference_at j kept value)) (sym same) at)
                 (read_right (loaded o w ∷ []) xs (origin_at p o j) value at.right.read)
+
+            stale_good : (x : ℕ) → Stale j kept value ≡ Good x → ⊥
+            stale_good x e = cc
 
             same_stale : (n y x : ℕ) → Stale j kept value ≡ Stale n y x → IsStaleAt p cap o (view_of h) (view_of m) (front ++ loaded o z ∷ []) z n y x
             same_stale n y x e = subst (λ (t : ℕ × ℕ × ℕ). IsStaleAt p cap o (view_of h) (view_of m) (front ++ loaded o z ∷ []) z t.0 t.1 t.2) (λ i. (ap place_in e i, ap kept_in e i, ap value_in e i)) stale

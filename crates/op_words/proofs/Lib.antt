@@ -60,6 +60,8 @@ mod RecordPlaces
 pub mod Recalling
 -- What `fetch` and `finish` answer, from what their steps showed.
 pub mod Fetching
+-- What `attempt` answers, from what its loads and steps showed.
+pub mod Attempting
 -- How great sums over rows of numbers and over lists of views are.
 pub mod Sizes
 -- An addition to a counter keeps the rule, and so does any step on the level word.

@@ -1,8 +1,9 @@
 -- The value of a source is loaded, and the sources are, up to the first that is not settled.
-use Rattle.std.proofs.Common.{◌≡◌, ◌≢◌, ◌⊎◌, ℕ, ◌+◌, ◌<◌, Bool, true, false, [], ◌∷◌, ◌++◌, refl, sym, ap, ◌∙◌, subst, inl, inr, arith, Some, None}
+use Rattle.std.proofs.Common.{◌≡◌, ◌≢◌, ◌⊎◌, ℕ, ◌+◌, ◌<◌, ◌≤◌, Bool, true, false, [], ◌∷◌, ◌++◌, refl, sym, ap, ◌∙◌, subst, inl, inr, arith, Some, None}
 use Rattle.std.specs.Prelude.{Ok, Err, Result}
 use Rattle.std.proofs.lemmas.Bool.{cases_lt, false≢true}
 use Rattle.std.proofs.lemmas.List.Elements.{Contains-append_left, Contains-append_right}
+use Rattle.morph_base.specs.declared.limits.TheConstants.{MAX}
 use Rattle.morph_base.specs.declared.plan.Plan.{Plan}
 use Rattle.morph_base.specs.declared.plan.Origin.{Origin}
 use Rattle.morph_base.specs.declared.plan.Origin.TheVariants.{Base, Op as Written}
@@ -27,8 +28,8 @@ use Rattle.op_words.proofs.Seeking.{row_none, row_then, row_look}
 -- ---- one source
 
 module _ (b : Board) (p : Plan) (o j : ℕ) (needed : Bool) where
-  pub source_base : (h : Hand) (x : ℕ) → IsHandOf b h → origin_at p o j ≡ Base x → SourceDoes (call_on b h h) p o j needed (Ok x)
-  source_base h x is base = record {
+  pub source_base : (h : Hand) (x : ℕ) → IsHandOf b h → origin_at p o j ≡ Base x → x ≤ MAX → SourceDoes (call_on b h h) p o j needed (Ok x)
+  source_base h x is base small = record {
     words = [];
     row = row_none b o h is;
     sources = λ t inside. absurd (not_inside t inside);
@@ -36,6 +37,7 @@ module _ (b : Board) (p : Plan) (o j : ℕ) (needed : Bool) where
       fold = λ asked. sym (ap (from (final p)) base);
       read = subst (λ (q : Origin). IsSourceLoaded [] needed q x) (sym base) refl;
       known = λ y seen. sym (subst (λ (q : Origin). IsSourceSeen (view_of h) q y) base seen);
+      small = small;
     };
   }
 
@@ -55,6 +57,7 @@ module _ (b : Board) (p : Plan) (o j : ℕ) (needed : Bool) where
         known = λ y seen.
             let known = subst (λ (q : Origin). IsSourceSeen (view_of h) q y) is seen in
             sym known.value_is ∙ sym (ap (λ (z : OpWord). z.value) (did.tells.fresh.settled known.seen.note known.seen.inside known.seen.op_is known.seen.settled));
+        small = did.tells.is_word.small;
       };
     }
 

@@ -1,5 +1,5 @@
 -- The records of an operation lie before the decisions, and apart from those of other operations.
-use Rattle.std.proofs.Common.{◌≡◌, ℕ, ◌+◌, ◌*◌, ◌<◌, ◌≤◌, length, ap, le_refl, subst, sym, inl, inr, arith}
+use Rattle.std.proofs.Common.{◌≡◌, ℕ, ◌*◌, ◌<◌, ◌≤◌, length, ap, le_refl, subst, sym, inl, inr, arith}
 use Rattle.std.specs.List.{sum_by}
 use Rattle.std.proofs.lemmas.Bool.{cases_lt}
 use Rattle.std.proofs.lemmas.List.{take_all}
@@ -13,7 +13,7 @@ use Rattle.morph_base.specs.Plans.{IsPlan, no_plan_op, op_count}
 use Rattle.morph_base.specs.OpLists.{places_before}
 use Rattle.morph_base.proofs.OpApartLaws.{places_apart}
 use Rattle.interleaving_core.specs.Core.{places}
-use Rattle.op_words.specs.Layout.{record_base, record_index, decision_base}
+use Rattle.op_words.specs.Layout.{record_index, decision_base}
 use Rattle.op_words.proofs.Storing.{places_few}
 
 pub record_before : (p : Plan) (o j : ℕ) → o < op_count p → j < places p o → record_index p o j < decision_base p

@@ -9,7 +9,7 @@ use Rattle.morph_base.specs.declared.word.OpState.{OpState}
 use Rattle.morph_base.specs.declared.word.OpState.TheVariants.{Blocked, Ready, Claimed, Executed, Failed, Spread, Settled, SettledAborted}
 use Rattle.morph_base.specs.declared.word.OpWord.{OpWord}
 use Rattle.morph_base.specs.Plans.{event_of, origin_at, final, verdict}
-use Rattle.morph_base.specs.Words.{IsWord, is_settled, packed}
+use Rattle.morph_base.specs.Words.{IsWord, is_settled, packed, settled}
 use Rattle.morph_base.proofs.WordLaws.{one_word}
 use Rattle.interleaving_core.specs.declared.event.CoreEvent.{CoreEvent}
 use Rattle.interleaving_core.specs.declared.event.CoreEvent.TheVariants.{Settle}
@@ -23,10 +23,11 @@ use Rattle.op_words.specs.declared.trail.View.{View}
 use Rattle.op_words.specs.Trails.{loaded, left, HasLast, IsDisturbed, IsSourceOf, NoneOwn, IsSteadyAt, IsCalmAt}
 use Rattle.op_words.specs.Views.{IsDecisionSeen, Adds, settling}
 use Rattle.op_words.specs.Plays.{Leaves}
-use Rattle.op_words.specs.Judging.{IsStaleWord, SettleDoes}
+use Rattle.op_words.specs.Judging.{IsStaleWord, SettleDoes, SettleGoodDoes}
 use Rattle.op_words.specs.Hands.{plan_of, cap_of, view_of, call_on}
 use Rattle.op_words.specs.Stepping.{Looked, Left, Learned, IsWalk}
 use Rattle.op_words.specs.Comparing.{difference_at, IsNotedLast, IsOtherAt, BeginsWithLoad, IsSealed}
+use Rattle.op_words.proofs.Rows.{not_inside}
 use Rattle.op_words.proofs.Trailing.{last_later}
 use Rattle.op_words.proofs.Adding.{adds_then, adds_look, along_one, calm_left, free_apart, last_one, none_one}
 use Rattle.op_words.proofs.Making.{last_else, found_disturbed, none_elsewhere, none_then, own_none, own_left}
@@ -199,6 +200,45 @@ module _ (b : Board) (p : Plan) (o : ℕ) (v : View) (h : Hand) (w : OpWord) (op
       sealed_as plan z stands by attempt (Done x) is = settled_here plan z stands by attempt x is.tells.0 is.tells.1 is.tells.2
       sealed_as plan z stands by attempt (Not at found) is =
           subst (λ n. SettleDoes p cap o v (view_of m) (Not n found)) (sym is.tells.0) (found_other found is.tells.1 is.tells.2)
+
+-- ---- from a word that was judged good, with no load
+
+module _ (b : Board) (p : Plan) (o : ℕ) (h m : Hand) (w : OpWord) (plan : p ≡ plan_of b) (free : (view_of h).claim ≡ None) where
+  pub sealed_good : (r : SettleAnswer) → IsSealed (call_on b h m) o w (settled w.attempt w.value (view_of h).tag) r → SettleGoodDoes p o (view_of h) (view_of m) w r
+  sealed_good (Done x) is =
+      let z : OpWord = settled w.attempt w.value (view_of h).tag in
+      let step = is.tells.0 in
+      record {
+        words = left o z ∷ [];
+        goes = record {
+          adds = subst (λ (u : View). Adds (view_of h) u (left o z ∷ [])) (sym step.view) (adds_settling (view_of h) o z step.tells);
+          free = ap (λ (u : View). u.claim) step.view ∙ free;
+        };
+        own = own_left o [] z (λ t inside. absurd (not_inside t inside));
+        steps = ap (λ (u : View). u.events) step.view;
+        tells = record {
+          word = z;
+          words_are = refl;
+          settled = refl;
+          mine = refl;
+          kept = refl;
+          value_is = sym is.tells.1;
+          fold = is.tells.1 ∙ is.tells.2 ∙ ap (λ (q : Plan). final q o) (sym plan);
+          booked = subst (λ (u : View). Contains u.settlings (record { op = o; by = (view_of h).tag })) (sym step.view) (Contains-append_right (view_of h).settlings _ _ (0, omega arith, refl));
+        };
+      }
+  sealed_good (Not at found) is =
+      let did = is.tells.2 in
+      record {
+        words = loaded o found ∷ [];
+        goes = record {
+          adds = subst (λ (u : View). Adds (view_of h) u (loaded o found ∷ [])) (sym did.view) (adds_look o _ (view_of h) found (free_apart (view_of h) o free) did.tells);
+          free = ap (λ (u : View). u.claim) did.view ∙ free;
+        };
+        own = own_none o (loaded o found ∷ []) (none_one o found);
+        steps = ap (λ (u : View). u.events) did.view;
+        tells = (is.tells.0, record { differs = is.tells.1; words_are = refl });
+      }
 
 -- ---- the begin of the call
 

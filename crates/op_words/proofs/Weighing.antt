@@ -24,10 +24,10 @@ use Rattle.op_words.specs.declared.trail.View.{View}
 use Rattle.op_words.specs.Trails.{loaded, HasLast, IsDisturbed, IsSourceOf, NoneOwn}
 use Rattle.op_words.specs.Views.{IsDecisionSeen, IsSettledSeen, Adds}
 use Rattle.op_words.specs.Calls.{IsSettledRead, Elsewhere}
-use Rattle.op_words.specs.Judging.{decided_as, IsStaleWord, IsOwnUnready, IsJudgedGood, IsDoubtful, IsInDoubt, IsDecided, MayHaveDecided, DecideSteps, DecideTells, DecideDoes}
+use Rattle.op_words.specs.Judging.{decided_as, IsStaleWord, IsOwnUnready, IsJudgedGood, IsDoubtful, IsInDoubt, IsDecided, MayHaveDecided, DecideSteps, DecideTells, DecideDoes, MaySayOf, ConcludeDoes}
 use Rattle.op_words.specs.Hands.{cap_of, plan_of, view_of, call_on, IsHandOf}
 use Rattle.op_words.specs.Stepping.{Learned}
-use Rattle.op_words.specs.Comparing.{OfReads, IsJudgedAs, WeighTells, IsWeighed, FindsGood, FindsNoFailure, HasDoubt, GroundsTell, HasFoundGrounds, MaySayOf, IsConcluded}
+use Rattle.op_words.specs.Comparing.{OfReads, IsJudgedAs, WeighTells, IsWeighed, FindsGood, FindsNoFailure, HasDoubt, GroundsTell, HasFoundGrounds}
 use Rattle.op_words.proofs.Rows.{not_inside}
 use Rattle.op_words.proofs.Trailing.{last_later, disturbed_later, disturbed_more}
 use Rattle.op_words.proofs.Adding.{adds_none, goes_then}
@@ -349,7 +349,7 @@ module _ (b : Board) (p : Plan) (i : ℕ) (plan : p ≡ plan_of b) (h g : Hand) 
   module _ (k : Hand) (end : ℕ) where
     -- a decision was made, or found
     module _ (m : Hand) where
-      pub decided_now : (committed : Bool) (r : Decided) → HasFoundGrounds (call_on b g k) p i end r → IsConcluded (call_on b k m) p i committed → DecideDoes p (cap_of b) i (view_of h) (view_of m) (decided_as committed)
+      pub decided_now : (committed : Bool) (r : Decided) → HasFoundGrounds (call_on b g k) p i end r → ConcludeDoes p i (view_of k) (view_of m) committed → DecideDoes p (cap_of b) i (view_of h) (view_of m) (decided_as committed)
       decided_now committed r all stands = subst (λ (v : View). DecideDoes p (cap_of b) i v (view_of m) (decided_as committed)) view_same (record {
         words = all.words ++ [];
         goes = goes_then all.goes stands.goes;

@@ -1,12 +1,12 @@
 -- Inside the crate: records of an operation beside its settled sources, and what a hand has to have seen to decide and
 -- settle
-use Rattle.std.specs.Prelude.{◌≡◌, ◌≢◌, ℕ, ◌<◌, ◌⊎◌, Bool, true, false, List, [], ◌∷◌, Contains, None, Result, Ok, Err}
+use Rattle.std.specs.Prelude.{◌≡◌, ◌≢◌, ℕ, ◌<◌, ◌⊎◌, true, false, List, [], ◌∷◌, Contains, None, Result, Ok, Err}
 use Rattle.morph_base.specs.declared.plan.Plan.{Plan}
 use Rattle.morph_base.specs.declared.plan.Origin.TheVariants.{Op as Written}
 use Rattle.morph_base.specs.declared.word.OpState.TheVariants.{Executed}
 use Rattle.morph_base.specs.declared.word.OpWord.{OpWord}
 use Rattle.morph_base.specs.Clean.{source}
-use Rattle.morph_base.specs.Plans.{event_of, origin_at, final, verdict, InEvent}
+use Rattle.morph_base.specs.Plans.{event_of, origin_at, final, InEvent}
 use Rattle.morph_base.specs.Words.{is_settled, settled, settled_aborted}
 use Rattle.interleaving_core.specs.Core.{blocked, is_open, places}
 use Rattle.op_words.specs.declared.answers.Compared.{Compared}
@@ -17,13 +17,13 @@ use Rattle.op_words.specs.declared.answers.Stop.{Stop}
 use Rattle.op_words.specs.declared.answers.SettleAnswer.{SettleAnswer}
 use Rattle.op_words.specs.declared.answers.SettleAnswer.TheVariants.{Done as HasSettledIt, Not as Unsettled}
 use Rattle.op_words.specs.declared.answers.Verdict.{Verdict}
-use Rattle.op_words.specs.declared.answers.Verdict.TheVariants.{Stale, Unready}
+use Rattle.op_words.specs.declared.answers.Verdict.TheVariants.{Good, Stale, Unready}
 use Rattle.op_words.specs.declared.trail.Item.{Item}
 use Rattle.op_words.specs.declared.trail.View.{View}
-use Rattle.op_words.specs.Trails.{loaded, left, last_word, IsSourceOf, OfSources, NoneOwn}
+use Rattle.op_words.specs.Trails.{loaded, left, last_word, HasLast, IsSourceOf, OfSources, NoneOwn}
 use Rattle.op_words.specs.Views.{IsDecisionSeen, IsRecordSeen, IsSourceSeen, AddsAndFrees, settling}
 use Rattle.op_words.specs.Calls.{IsSettledRead}
-use Rattle.op_words.specs.Judging.{MayHaveDecided, IsStaleAt, VerdictTells, IsAnswerSeen, IsGoodSeen, IsJudgedGood, IsDoubtful, IsInDoubt}
+use Rattle.op_words.specs.Judging.{IsStaleAt, VerdictTells, IsAnswerSeen, IsGoodAt, IsJudgedGood, IsDoubtful, IsInDoubt}
 use Rattle.op_words.specs.Hands.{cap_of, plan_of, view_of, HandCall, IsHandOf}
 use Rattle.op_words.specs.Stepping.{Looked, Left, IsWalk}
 
@@ -136,8 +136,8 @@ pub record IsConfirmed (c : HandCall) (o : ℕ) (first : OpWord) (verdict : Verd
 
 -- ---- a verdict, with the word that it is about
 
--- Operation o was judged with the answer r. The call loads o first, and then only o and its sources. A stale answer is
--- about this word w
+-- Operation o was judged with the answer r. The call loads o first, and then only o and its sources. A stale answer and
+-- a good one are about this word w
 pub record IsJudgedAs (c : HandCall) (p : Plan) (cap o : ℕ) (w : OpWord) (r : Verdict) : Type 0 where
   pub hand : IsHandOf c.board c.after
   pub words : List Item
@@ -151,6 +151,7 @@ pub record IsJudgedAs (c : HandCall) (p : Plan) (cap o : ℕ) (w : OpWord) (r : 
   pub tells : VerdictTells p cap o (view_of c.before) (view_of c.after) words r
   pub stale :
       (j kept value : ℕ) → r ≡ Stale j kept value → IsStaleAt p cap o (view_of c.before) (view_of c.after) words w j kept value
+  pub good : (x : ℕ) → r ≡ Good x → HasLast o words w × IsGoodAt p (view_of c.after) o w
 
 -- ---- what the operations of an event say of it
 
@@ -210,11 +211,6 @@ pub record HasFoundGrounds (c : HandCall) (p : Plan) (i end : ℕ) (r : Decided)
 
 -- ---- what a hand has to have seen
 
--- The hand has seen what decides event i: every operation answers on settled sources, or one fails on them
-abbrev pub MaySayOf : Plan → View → ℕ → Bool → Type 0
-MaySayOf p v i true = (o : ℕ) → InEvent p i o → IsGoodSeen p v o
-MaySayOf p v i false = (o : ℕ) × InEvent p i o × IsAnswerSeen p v o None
-
 -- The word w of operation o may become the settled word z of a committed event: w is executed on records that are the
 -- values of its sources
 pub record IsToCommit (p : Plan) (v : View) (o : ℕ) (w z : OpWord) : Type 0 where
@@ -234,16 +230,6 @@ pub record IsToAbort (p : Plan) (v : View) (o : ℕ) (w z : OpWord) : Type 0 whe
 -- The word w of operation o may become the settled word z
 abbrev pub MaySettleIt : Plan → View → ℕ → OpWord → OpWord → Type 0
 MaySettleIt p v o w z = IsToCommit p v o w z ⊎ IsToAbort p v o w z
-
--- ---- the decision that stands
-
--- The call loaded no operation, and the hand knows the decision on event i, which is the fold's
-pub record IsConcluded (c : HandCall) (p : Plan) (i : ℕ) (committed : Bool) : Type 0 where
-  pub hand : IsHandOf c.board c.after
-  pub goes : AddsAndFrees (view_of c.before) (view_of c.after) []
-  pub steps : MayHaveDecided i committed (view_of c.before) (view_of c.after)
-  pub right : verdict p i ≡ committed
-  pub known : IsDecisionSeen (view_of c.after) i committed
 
 -- ---- settling
 

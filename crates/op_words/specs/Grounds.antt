@@ -1,5 +1,6 @@
 -- Inside the crate: what a hand has to have seen before it takes a value back, and how it looks for it
 use Rattle.std.specs.Prelude.{◌≡◌, ◌≢◌, ℕ, ◌+◌, ◌≤◌, ◌<◌, ◌⊎◌, Bool, true, false, List, Contains, Option, Some, None, Result, Ok, Err}
+use Rattle.morph_base.specs.declared.limits.TheConstants.{MAX}
 use Rattle.morph_base.specs.declared.plan.Plan.{Plan}
 use Rattle.morph_base.specs.declared.plan.Origin.{Origin}
 use Rattle.morph_base.specs.declared.plan.Origin.TheVariants.{Base, Op as Written}
@@ -77,12 +78,13 @@ module _ (xs : List Item) (needed : Bool) where
     pub cause : (is_idle stop.word.state ≡ true) ⊎ (needed ≡ true)
 
 module _ (p : Plan) (o j : ℕ) (needed : Bool) (v : View) (xs : List Item) where
-  -- The source at place j has the value x, and had it before if the hand saw it settled. If it has to be settled, x is
-  -- the fold's value
+  -- The source at place j has the value x, which is no greater than a value can be, and had it before if the hand saw it
+  -- settled. If it has to be settled, x is the fold's value
   pub record IsValueLoaded (x : ℕ) : Type 0 where
     pub read : IsSourceLoaded xs needed (origin_at p o j) x
     pub fold : needed ≡ true → x ≡ source p (final p) o j
     pub known : (y : ℕ) → IsSourceSeen v (origin_at p o j) y → y ≡ x
+    pub small : x ≤ MAX
 
   -- The source at place j stopped the call
   pub record IsNoValueLoaded (stop : Stop) : Type 0 where

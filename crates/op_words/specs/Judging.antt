@@ -5,8 +5,8 @@ use Rattle.morph_base.specs.declared.plan.Origin.TheVariants.{Op as Written}
 use Rattle.morph_base.specs.declared.word.OpState.TheVariants.{Claimed, Executed, Failed, Spread}
 use Rattle.morph_base.specs.declared.word.OpWord.{OpWord}
 use Rattle.morph_base.specs.Plans.{event_of, origin_at, final, verdict, InEvent}
-use Rattle.morph_base.specs.Clean.{outcome}
-use Rattle.morph_base.specs.Words.{is_settled}
+use Rattle.morph_base.specs.Clean.{outcome, source}
+use Rattle.morph_base.specs.Words.{IsWord, is_settled}
 use Rattle.interleaving_core.specs.declared.event.CoreEvent.{CoreEvent}
 use Rattle.interleaving_core.specs.declared.event.CoreEvent.TheVariants.{Decide, Settle}
 use Rattle.interleaving_core.specs.Core.{has_run, is_failed, places}
@@ -129,6 +129,14 @@ abbrev pub settle_steps : ℕ → ℕ → SettleAnswer → List CoreEvent
 settle_steps o tag (HasSettledIt x) = Settle o tag ∷ []
 settle_steps o tag (Unsettled at w) = []
 
+-- The hand saw operation o good at word w: w is executed, and each record under w is the fold's value of its source,
+-- which is settled
+pub record IsGoodAt (p : Plan) (v : View) (o : ℕ) (w : OpWord) : Type 0 where
+  pub in_range : IsWord w
+  pub executed : w.state ≡ Executed
+  pub sources : (j : ℕ) → j < places p o → IsSourceSeen v (origin_at p o j) (source p (final p) o j)
+  pub records : (j : ℕ) → j < places p o → IsRecordSeen v o j w (source p (final p) o j)
+
 -- The hand saw all sources of operation o settled, and on their values o gives this answer, or nothing if it fails
 pub record IsAnswerSeen (p : Plan) (u : View) (o : ℕ) (answer : Option ℕ) : Type 0 where
   pub sources : (j : ℕ) → j < places p o → (x : ℕ) × IsSourceSeen u (origin_at p o j) x
@@ -137,6 +145,11 @@ pub record IsAnswerSeen (p : Plan) (u : View) (o : ℕ) (answer : Option ℕ) : 
 -- The hand saw all sources of operation o settled, and o answers on their values
 abbrev pub IsGoodSeen : Plan → View → ℕ → Type 0
 IsGoodSeen p u o = (x : ℕ) × IsAnswerSeen p u o (Some x)
+
+-- The hand has seen what decides event i: every operation answers on settled sources, or one fails on them
+abbrev pub MaySayOf : Plan → View → ℕ → Bool → Type 0
+MaySayOf p v i true = (o : ℕ) → InEvent p i o → IsGoodSeen p v o
+MaySayOf p v i false = (o : ℕ) × InEvent p i o × IsAnswerSeen p v o None
 
 -- Operation o is in doubt at word w of operation `at`: it is not ready to be judged, or stale, or a source of it is not
 -- settled
@@ -204,6 +217,12 @@ module _ (p : Plan) (cap o : ℕ) (v u : View) where
     pub stays : u.events ≡ v.events
     pub tells : VerdictTells p cap o v u words r
 
+  -- The call `verdict_at` led from view v to view u, as `verdict` does with its answer r. A good operation is so at the
+  -- word w, its last one
+  pub record VerdictAtDoes (w : OpWord) (r : Verdict) : Type 0 where
+    pub answer : VerdictDoes r
+    pub good : (x : ℕ) → r ≡ Good x → HasLast o answer.words w × IsGoodAt p u o w
+
   -- The call `settle` led from view v to view u, and its answer r has its cause in the words that it added
   pub record SettleDoes (r : SettleAnswer) : Type 0 where
     pub words : List Item
@@ -219,3 +238,42 @@ pub record DecideDoes (p : Plan) (cap i : ℕ) (v u : View) (r : Decided) : Type
   pub none : NoneOwn words
   pub steps : DecideSteps i v u r
   pub tells : DecideTells p cap i v u words r
+
+-- The call `conclude` led from view v to view u. It loaded no operation. The hand knows the decision on event i, which
+-- is the fold's
+pub record ConcludeDoes (p : Plan) (i : ℕ) (v u : View) (committed : Bool) : Type 0 where
+  pub goes : AddsAndFrees v u []
+  pub steps : MayHaveDecided i committed v u
+  pub right : verdict p i ≡ committed
+  pub known : IsDecisionSeen u i committed
+
+-- ---- settling from a word that was judged
+
+-- The hand settled operation o with the fold's value x, at the attempt of the word w, and loaded nothing
+pub record IsDoneFrom (p : Plan) (o : ℕ) (v u : View) (xs : List Item) (w : OpWord) (x : ℕ) : Type 0 where
+  pub word : OpWord
+  pub words_are : xs ≡ left o word ∷ []
+  pub settled : is_settled word.state ≡ true
+  pub mine : word.by ≡ v.tag
+  pub kept : word.attempt ≡ w.attempt
+  pub value_is : word.value ≡ x
+  pub fold : x ≡ final p o
+  pub booked : Contains u.settlings (record { op = o; by = v.tag })
+
+-- The exchange found another word of operation o than w, and loaded nothing else
+pub record IsOvertaken (o : ℕ) (xs : List Item) (w found : OpWord) : Type 0 where
+  pub differs : found ≢ w
+  pub words_are : xs ≡ loaded o found ∷ []
+
+-- The answer of `settle_good` has its cause in the words xs
+abbrev pub SettleGoodTells : Plan → ℕ → View → View → List Item → OpWord → SettleAnswer → Type 0
+SettleGoodTells p o v u xs w (HasSettledIt x) = IsDoneFrom p o v u xs w x
+SettleGoodTells p o v u xs w (Unsettled at found) = (at ≡ o) × IsOvertaken o xs w found
+
+-- The call `settle_good` led from view v to view u, and its answer r has its cause in the words that it added
+pub record SettleGoodDoes (p : Plan) (o : ℕ) (v u : View) (w : OpWord) (r : SettleAnswer) : Type 0 where
+  pub words : List Item
+  pub goes : AddsAndFrees v u words
+  pub own : OwnOn o words
+  pub steps : u.events ≡ settle_steps o v.tag r ++ v.events
+  pub tells : SettleGoodTells p o v u words w r

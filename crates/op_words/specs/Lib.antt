@@ -2,6 +2,7 @@ pub mod Trails
 pub mod Views
 pub mod Evidence
 pub mod Calls
+pub mod Attempts
 pub mod Layout
 pub mod Rule
 pub mod Plays
@@ -15,3 +16,4 @@ pub mod Judging
 pub mod Retrying
 pub mod Comparing
 pub mod Grounds
+pub mod Values

@@ -43,6 +43,18 @@ pub enum Outcome {
     Failed,
 }
 
+/// The outcome when a blocked operation is evaluated in one call.
+#[derive(Clone, Copy, Debug, PartialEq, Eq)]
+pub enum Attempt {
+    /// It was evaluated.
+    Ran(Outcome),
+    /// The source had no value, as its word was loaded in the call. The operation is as it was.
+    Blocked { source: u32, word: OpWord },
+    /// Another hand changed the operation: this word was found in place of the blocked one, or of the ready one that
+    /// the call had left.
+    Busy { word: OpWord },
+}
+
 /// Whether the failure of an operation was spread to another operation of its event.
 #[derive(Clone, Copy, Debug, PartialEq, Eq)]
 pub enum Spreaded {

@@ -9,6 +9,7 @@ use atomic_table::{Seat, Table};
 use morph_base::READS;
 use std::alloc::Global;
 
+mod attempt;
 mod calls;
 mod changes;
 mod close;

@@ -15,9 +15,12 @@
 //! board.finish(&mut hand, &plan, op);     // Executed(x), or Failed: others may read its value now
 //! ```
 //!
+//! `board.attempt(&mut hand, &plan, op, 1)` does all of this in one call, and loads each source once.
+//!
 //! Another hand may come between any two of these calls, so each of them says what it found. A value that was read
 //! before it was settled is a guess. It is judged later (`verdict`), the event is decided (`decide`), and each of its
-//! operations is settled (`settle`). A guess that turns out wrong is taken back (`spread`, `roll_back`), and the
+//! operations is settled (`settle`). What a hand has judged it can decide and settle without a second look
+//! (`verdict_at`, `conclude`, `settle_good`). A guess that turns out wrong is taken back (`spread`, `roll_back`), and the
 //! operation runs again.
 //!
 //! # The files
@@ -26,6 +29,7 @@
 //! |---|---|
 //! | `board` | `Board` and `Hand` |
 //! | `board/calls` | a new board; its hands; `peek`, `ready`, `claim`, `fetch`, `finish`, `give_back` |
+//! | `board/attempt` | `attempt`, which evaluates a blocked operation in one call; whether an attempt may read guesses |
 //! | `board/verdict`, `board/decide`, `board/settle` | the calls of these names |
 //! | `board/roll_back` | `spread`, `roll_back`, and whether a word is within the cap |
 //! | `board/counters`, `board/hands`, `board/close` | counters and level word; a hand's own calls; the end |
@@ -41,9 +45,9 @@
 //! # The specs
 //!
 //! Begin with `specs/Views.antt`, which says what a hand knows, and `specs/Calls.antt`, which says what each call adds
-//! to that and why it answers as it does. `specs/Judging.antt` and `specs/Retrying.antt` do so for the calls that
-//! judge, settle and take back. The rule behind them all is `Lawful` in `specs/Rule.antt`. `specs/Kinds.antt` says
-//! which step of the machine each atomic step is.
+//! to that and why it answers as it does. `specs/Attempts.antt` does so for `attempt`; `specs/Judging.antt` and
+//! `specs/Retrying.antt` do so for the calls that judge, settle and take back. The rule behind them all is `Lawful` in
+//! `specs/Rule.antt`. `specs/Kinds.antt` says which step of the machine each atomic step is.
 #![tactic(auto)]
 
 mod answers;
@@ -59,7 +63,8 @@ mod trail;
 mod words;
 
 pub use answers::{
-    Claimed, Counts, Decided, Fetched, Outcome, Readied, Rolled, SettleAnswer, Spreaded, Verdict,
+    Attempt, Claimed, Counts, Decided, Fetched, Outcome, Readied, Rolled, SettleAnswer, Spreaded,
+    Verdict,
 };
 pub use board::{Board, Hand};
 pub use closed::Closed;

@@ -10,28 +10,33 @@ ghost use Rattle.op_eval.specs.Running.{hand_view};
 ghost use Rattle.abort_lazy.specs.Transactions.{MaySettleEvent, IsAnswered};
 ghost use Rattle.abort_lazy.specs.Progress.{so_far, IsIdleSoFar, IsOutdatedSoFar, IsMadeSoFar, IsFoundSoFar, ReadyDoes, AllReadyDoes};
 
-use super::{TxnAnswer, end_of, first_of, stop};
+use super::standing::{Grounds, Say, Standing};
+use super::{TxnAnswer, end_of, first_of};
 use morph_base::{OpState, OpWord, Plan};
 use op_eval::{Evaluation, Runner, evaluate};
 use op_words::{Board, Hand, Rolled, Verdict};
 
-/// Makes all operations of an event ready for the decision, up to the first one that cannot be made ready.
+/// Makes all operations of an event ready for the decision, up to the first one that cannot be made ready, and hears
+/// what they say of the event.
 pub(super) fn prepare_all(
     board: &Board,
     runner: &mut Runner,
     plan: &Plan,
     event: u32,
+    grounds: &mut Grounds,
 ) -> Option<TxnAnswer>
     requires may { MaySettleEvent board.now runner.old.hand plan.now event }
+    requires grounds { grounds.old.say ≡ Say.Commit }
     ensures hand { IsHandOf board.now runner.new.hand }
     ensures ready { AllReadyDoes plan.now event (hand_view runner.old)
-        (hand_view runner.new) result }
+        (hand_view runner.new) grounds.new result }
     ensures answered { IsAnswered (event_at plan.now event).count runner.old runner.new }
 {
     let first = first_of(plan, event);
     let end = end_of(plan, event);
     for op in first..end {
-        match prepare(board, runner, plan, event, op) {
+        let standing = prepare(board, runner, plan, event, op);
+        match grounds.hear((op - first) as usize, standing) {
             None => {}
             Some(answer) => return Some(answer),
         }
@@ -40,13 +45,7 @@ pub(super) fn prepare_all(
 }
 
 /// Makes an operation ready for the decision: judges it, and mends it if that is needed.
-fn prepare(
-    board: &Board,
-    runner: &mut Runner,
-    plan: &Plan,
-    event: u32,
-    op: u32,
-) -> Option<TxnAnswer>
+fn prepare(board: &Board, runner: &mut Runner, plan: &Plan, event: u32, op: u32) -> Standing
     requires may { MayBegin board.now runner.old.hand plan.now op }
     requires inside { InEvent plan.now event op }
     ensures hand { IsHandOf board.now runner.new.hand }
@@ -55,15 +54,16 @@ fn prepare(
         (hand_view runner.new) result }
     ensures answered { IsAnswered 1 runner.old runner.new }
 {
-    match board.verdict(&mut runner.hand, plan, op) {
-        Verdict::Good(_) => None,
-        Verdict::Bad => None,
+    let (word, verdict) = board.verdict_at(&mut runner.hand, plan, op);
+    match verdict {
+        Verdict::Good(_) => Standing::Good(word),
+        Verdict::Bad => Standing::Bad,
         Verdict::Stale { j, .. } => redo(board, runner, plan, event, op, j),
         Verdict::Unready { at, word } => {
             if at == op {
                 mend(board, runner, plan, event, op, word)
             } else {
-                Some(TxnAnswer::NotYet { at, word })
+                Standing::Stopped(TxnAnswer::NotYet { at, word })
             }
         }
     }
@@ -77,7 +77,7 @@ fn mend(
     event: u32,
     op: u32,
     word: OpWord,
-) -> Option<TxnAnswer>
+) -> Standing
     requires may { MayBegin board.now runner.old.hand plan.now op }
     requires inside { InEvent plan.now event op }
     ensures hand { IsHandOf board.now runner.new.hand }
@@ -91,23 +91,16 @@ fn mend(
         OpState::Spread => redo(board, runner, plan, event, op, 0),
         OpState::Blocked => run(board, runner, plan, event, op),
         OpState::Ready => run(board, runner, plan, event, op),
-        OpState::Claimed => stop(op, word),
-        OpState::Executed => stop(op, word),
-        OpState::Failed => stop(op, word),
-        OpState::Settled => stop(op, word),
-        OpState::SettledAborted => stop(op, word),
+        OpState::Claimed => Standing::found(op, word),
+        OpState::Executed => Standing::found(op, word),
+        OpState::Failed => Standing::found(op, word),
+        OpState::Settled => Standing::found(op, word),
+        OpState::SettledAborted => Standing::found(op, word),
     }
 }
 
 /// Rolls back an operation that was found stale or spread, and evaluates it again.
-fn redo(
-    board: &Board,
-    runner: &mut Runner,
-    plan: &Plan,
-    event: u32,
-    op: u32,
-    j: u8,
-) -> Option<TxnAnswer>
+fn redo(board: &Board, runner: &mut Runner, plan: &Plan, event: u32, op: u32, j: u8) -> Standing
     requires may { MayBegin board.now runner.old.hand plan.now op }
     requires in_places { j < places plan.now op }
     requires inside { InEvent plan.now event op }
@@ -122,20 +115,20 @@ fn redo(
         Rolled::Done => run(board, runner, plan, event, op),
         Rolled::Fresh { .. } => {
             let word = board.peek(&mut runner.hand, plan, op);
-            stop(op, word)
+            Standing::found(op, word)
         }
         Rolled::Not { at, word } => {
             if at == op {
-                stop(op, word)
+                Standing::found(op, word)
             } else {
-                Some(TxnAnswer::NotYet { at, word })
+                Standing::Stopped(TxnAnswer::NotYet { at, word })
             }
         }
     }
 }
 
 /// Evaluates an operation that was found blocked or ready, and judges it.
-fn run(board: &Board, runner: &mut Runner, plan: &Plan, event: u32, op: u32) -> Option<TxnAnswer>
+fn run(board: &Board, runner: &mut Runner, plan: &Plan, event: u32, op: u32) -> Standing
     requires may { MayBegin board.now runner.old.hand plan.now op }
     requires inside { InEvent plan.now event op }
     ensures hand { IsHandOf board.now runner.new.hand }
@@ -146,15 +139,18 @@ fn run(board: &Board, runner: &mut Runner, plan: &Plan, event: u32, op: u32) -> 
 {
     match evaluate(board, runner, plan, op) {
         Evaluation::Evaluated { .. } => judge(board, &mut runner.hand, plan, event, op),
-        Evaluation::Blocked { source, word } => Some(TxnAnswer::NotYet { at: source, word }),
-        Evaluation::Busy { word } => stop(op, word),
-        Evaluation::Already { word } => stop(op, word),
+        Evaluation::Blocked { source, word } => Standing::Stopped(TxnAnswer::NotYet {
+            at: source,
+            word,
+        }),
+        Evaluation::Busy { word } => Standing::found(op, word),
+        Evaluation::Already { word } => Standing::found(op, word),
     }
 }
 
 /// The verdict on an operation that was evaluated in this call. If a record differs even so, another hand changed the
 /// operation or its source.
-fn judge(board: &Board, hand: &mut Hand, plan: &Plan, event: u32, op: u32) -> Option<TxnAnswer>
+fn judge(board: &Board, hand: &mut Hand, plan: &Plan, event: u32, op: u32) -> Standing
     requires may { MayBegin board.now hand.old plan.now op }
     requires inside { InEvent plan.now event op }
     ensures hand { IsHandOf board.now hand.new }
@@ -163,18 +159,19 @@ fn judge(board: &Board, hand: &mut Hand, plan: &Plan, event: u32, op: u32) -> Op
         → IsMadeSoFar plan.now (cap_of board.now) op (so_far start (view_of hand.old) xs)
         → ReadyDoes plan.now event op start (view_of hand.new) result }
 {
-    match board.verdict(hand, plan, op) {
-        Verdict::Good(_) => None,
-        Verdict::Bad => None,
+    let (word, verdict) = board.verdict_at(hand, plan, op);
+    match verdict {
+        Verdict::Good(_) => Standing::Good(word),
+        Verdict::Bad => Standing::Bad,
         Verdict::Stale { .. } => {
             let word = board.peek(hand, plan, op);
-            stop(op, word)
+            Standing::found(op, word)
         }
         Verdict::Unready { at, word } => {
             if at == op {
-                stop(op, word)
+                Standing::found(op, word)
             } else {
-                Some(TxnAnswer::NotYet { at, word })
+                Standing::Stopped(TxnAnswer::NotYet { at, word })
             }
         }
     }

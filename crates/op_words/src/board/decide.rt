@@ -1,15 +1,15 @@
 //! Decides events by the verdicts on their operations.
 ghost use Rattle.std.specs.Prelude.{◌≡◌, ◌+◌, ◌<◌, None};
 ghost use Rattle.morph_base.specs.Plans.{event_count, event_at};
-ghost use Rattle.op_words.specs.Judging.{DecideDoes};
-ghost use Rattle.op_words.specs.Comparing.{IsWeighed, HasFoundGrounds, MaySayOf, IsConcluded};
+ghost use Rattle.op_words.specs.Judging.{DecideDoes, ConcludeDoes, MaySayOf};
+ghost use Rattle.op_words.specs.Comparing.{IsWeighed, HasFoundGrounds};
 ghost use Rattle.op_words.specs.Hands.{call_on, plan_of, cap_of, view_of, IsHandOf, MayBegin};
 
 use super::{Board, Hand};
 use crate::answers::{Decided, Verdict};
 use crate::note::note;
 use crate::rule::Decide;
-use crate::words::{decision_of, pack_decision};
+use crate::words::pack_decision;
 use interleaving_core::CoreEvent;
 use morph_base::Plan;
 
@@ -36,7 +36,8 @@ impl Board {
             Decided::Aborted => false,
             Decided::NotYet { op, word } => return Decided::NotYet { op, word },
         };
-        Decided::of(self.conclude(hand, plan, event, committed))
+        self.conclude(hand, plan, event, committed);
+        Decided::of(committed)
     }
 
     /// What the verdicts on its operations say of an event.
@@ -75,14 +76,17 @@ impl Board {
         }
     }
 
-    /// Exchanges no decision for this one, and returns the decision that stands.
-    fn conclude(&self, hand: &mut Hand, plan: &Plan, event: u32, committed: bool) -> bool
+    /// Decides an event as its operations say that the hand has seen: it commits if all are good, and aborts if one is
+    /// bad. If there is a decision, it is the same.
+    pub fn conclude(&self, hand: &mut Hand, plan: &Plan, event: u32, committed: bool)
         requires hand { IsHandOf self.now hand.old }
         requires plan { plan.now ≡ plan_of self.now }
         requires in_range { event < event_count plan.now }
         requires grounds { MaySayOf plan.now (view_of hand.old) event committed }
         requires free { (view_of hand.old).claim ≡ None }
-        ensures { IsConcluded (call_on self.now hand.old hand.new) plan.now event result }
+        ensures hand { IsHandOf self.now hand.new }
+        ensures answer { ConcludeDoes plan.now event (view_of hand.old)
+            (view_of hand.new) committed }
     {
         let place = self.level - plan.events.len() + event as usize;
         let new = pack_decision(committed);
@@ -90,10 +94,9 @@ impl Board {
             .table
             .shared
             .compare_exchange::<Decide>(&mut hand.seat, place, 0, new);
-        if found == 0 {
-            note(&mut hand.journal, CoreEvent::Decide { event, committed });
-            return committed;
+        if found != 0 {
+            return;
         }
-        decision_of(found).unwrap_or(committed)
+        note(&mut hand.journal, CoreEvent::Decide { event, committed });
     }
 }

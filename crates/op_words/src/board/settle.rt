@@ -3,7 +3,7 @@ ghost use Rattle.std.specs.Prelude.{◌≡◌, ◌<◌, Bool, true, false, Some,
 ghost use Rattle.morph_base.specs.Plans.{op_count, event_count, event_of, verdict};
 ghost use Rattle.morph_base.specs.Words.{IsWord, is_open};
 ghost use Rattle.op_words.specs.declared.trail.View.{View as V};
-ghost use Rattle.op_words.specs.Judging.{SettleDoes};
+ghost use Rattle.op_words.specs.Judging.{IsGoodAt, SettleDoes, SettleGoodDoes};
 ghost use Rattle.op_words.specs.Comparing.{IsNotedLast, BeginsWithLoad, IsSealed, MaySettleIt};
 ghost use Rattle.op_words.specs.Stepping.{Learned};
 ghost use Rattle.op_words.specs.Views.{IsDecisionSeen};
@@ -108,6 +108,20 @@ impl Board {
                 self.seal(hand, op, word, new)
             }
         }
+    }
+
+    /// Settles an operation of an event that commits, from the word at which the hand saw it good. It loads nothing: the
+    /// answer is [`SettleAnswer::Not`] exactly if the exchange finds another word.
+    pub fn settle_good(&self, hand: &mut Hand, plan: &Plan, op: u32, word: OpWord) -> SettleAnswer
+        requires may { MayBegin self.now hand.old plan.now op }
+        requires good { IsGoodAt plan.now (view_of hand.old) op word }
+        requires decided { IsDecisionSeen (view_of hand.old) (event_of plan.now op) true }
+        ensures hand { IsHandOf self.now hand.new }
+        ensures answer { SettleGoodDoes plan.now op (view_of hand.old)
+            (view_of hand.new) word result }
+    {
+        let sealed = settled(word.attempt, word.value, hand.tag);
+        self.seal(hand, op, word, sealed)
     }
 
     /// Exchanges the word for a settled one.

@@ -2,7 +2,7 @@
 ghost use Rattle.std.specs.Prelude.{◌<◌};
 ghost use Rattle.morph_base.specs.Plans.{op_count};
 ghost use Rattle.interleaving_core.specs.Core.{places};
-ghost use Rattle.op_words.specs.Judging.{VerdictDoes};
+ghost use Rattle.op_words.specs.Judging.{VerdictDoes, VerdictAtDoes};
 ghost use Rattle.op_words.specs.Comparing.{IsComparedAt, IsCompared, IsConfirmed, IsJudgedAs};
 ghost use Rattle.op_words.specs.Hands.{call_on, plan_of, cap_of, view_of, IsHandOf, MayBegin};
 
@@ -26,6 +26,17 @@ impl Board {
     {
         let (_, verdict) = self.judge(hand, plan, op);
         verdict
+    }
+
+    /// Says what an operation's records are worth, as [`Board::verdict`] does, and returns the word of it that was loaded
+    /// last. A good operation can be [settled](Board::settle_good) from that word.
+    pub fn verdict_at(&self, hand: &mut Hand, plan: &Plan, op: u32) -> (OpWord, Verdict)
+        requires may { MayBegin self.now hand.old plan.now op }
+        ensures hand { IsHandOf self.now hand.new }
+        ensures answer { VerdictAtDoes plan.now (cap_of self.now) op (view_of hand.old)
+            (view_of hand.new) result.0 result.1 }
+    {
+        self.judge(hand, plan, op)
     }
 
     /// Returns the verdict on an operation, and the word of it that was loaded last.

@@ -1,7 +1,7 @@
 use Rattle.std.proofs.Common.{ap, ◌∙◌, arith, sym}
 use Rattle.op_words.specs.declared.trail.View.{View}
 use Rattle.op_words.specs.Hands.{view_of}
-use Rattle.op_words.specs.Views.{merged, parent, child}
+use Rattle.op_words.specs.Views.{merged, parent}
 use Rattle.abort_lazy.specs.Runs.{with_idle}
 use Rattle.abort_lazy.proofs.Idle.{empty_more, empty_none, idled_made, idled_next, idled_none, idled_tag}
 use Rattle.abort_lazy.proofs.run.add_idle.Goals as goal

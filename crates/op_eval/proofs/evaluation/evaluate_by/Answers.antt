@@ -4,7 +4,7 @@ use Rattle.op_eval.proofs.Holding.{begun, already, busy_first}
 use Rattle.op_eval.proofs.evaluation.evaluate_by.Goals as goal
 
 pub returns-in-Blocked-clause-answer : goal.returns-in-Blocked-clause-answer
-returns-in-Blocked-clause-answer c = let far = begun _ _ _ (c.peek-word.ensures.answer c.requires.may.3) c.peek-word.ensures.view (ap is_idle c.in-Blocked.is) in c.make.ensures.answer _ far.0 _ far.1 c.in-Blocked.is
+returns-in-Blocked-clause-answer c = let far = begun _ _ _ (c.peek-word.ensures.answer c.requires.may.3) c.peek-word.ensures.view (ap is_idle c.in-Blocked.is) in c.begin.ensures.answer _ far.0 far.1
 
 pub returns-in-Ready-clause-answer : goal.returns-in-Ready-clause-answer
 returns-in-Ready-clause-answer c = let far = begun _ _ _ (c.peek-word.ensures.answer c.requires.may.3) c.peek-word.ensures.view (ap is_idle c.in-Ready.is) in c.hold.ensures.answer _ far.0 _ far.1 c.in-Ready.is

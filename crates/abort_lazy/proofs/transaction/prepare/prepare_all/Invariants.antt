@@ -8,5 +8,5 @@ use Rattle.abort_lazy.proofs.transaction.prepare.prepare_all.Given as goal
 abbrev pub invariant-loop-op : goal.invariant-loop-op
 invariant-loop-op l =
     IsHandOf l.board l.runner.hand
-    × IsReadyUpTo l.plan l.event l.first l.op (hand_view l.fn.runner) (hand_view l.runner)
+    × IsReadyUpTo l.plan l.event l.first l.op (hand_view l.fn.runner) (hand_view l.runner) l.grounds
     × IsAnswered (l.op - l.first) l.fn.runner l.runner

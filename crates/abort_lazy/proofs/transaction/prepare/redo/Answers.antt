@@ -15,14 +15,14 @@ returns-in-Done-clause-answered c = answered_also _ _ _ _ refl refl refl refl c.
 pub returns-in-Fresh-clause-ready : goal.returns-in-Fresh-clause-ready
 returns-in-Fresh-clause-ready c = let first = come_first _ _ (subst IsPlan (sym c.requires.may.1) c.requires.may.0.valid) c.requires.may.2 in
     λ start xs old.
-    redo_fresh _ _ _ _ c.requires.inside first c.in-Fresh.ensures.answer (c.peek-word.ensures.answer c.in-Fresh.ensures.answer.goes.free) old c.stop.ensures
+    redo_fresh _ _ _ _ c.requires.inside first c.in-Fresh.ensures.answer (c.peek-word.ensures.answer c.in-Fresh.ensures.answer.goes.free) old c.found.ensures
 
 pub returns-in-Fresh-clause-answered : goal.returns-in-Fresh-clause-answered
 returns-in-Fresh-clause-answered c = answered_none _ _ _ refl refl
 
 pub returns-then-at-op-clause-ready : goal.returns-then-at-op-clause-ready
 returns-then-at-op-clause-ready c = let first = come_first _ _ (subst IsPlan (sym c.requires.may.1) c.requires.may.0.valid) c.requires.may.2 in
-    λ start xs old. redo_own _ _ _ _ c.requires.inside first c.if-at-op.true c.in-Not.ensures.answer old c.stop-then-at-op.ensures
+    λ start xs old. redo_own _ _ _ _ c.requires.inside first c.if-at-op.true c.in-Not.ensures.answer old c.found-then-at-op.ensures
 
 pub returns-then-at-op-clause-answered : goal.returns-then-at-op-clause-answered
 returns-then-at-op-clause-answered c = answered_none _ _ _ refl refl

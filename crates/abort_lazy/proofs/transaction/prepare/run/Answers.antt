@@ -21,14 +21,14 @@ returns-in-Blocked-clause-answered c = answered_one _ _ _ _ c.in-Blocked.ensures
 
 pub returns-in-Busy-clause-ready : goal.returns-in-Busy-clause-ready
 returns-in-Busy-clause-ready c = let first = come_first _ _ (subst IsPlan (sym c.requires.may.1) c.requires.may.0.valid) c.requires.may.2 in
-    λ start xs idle. run_busy _ _ _ _ c.requires.inside first c.in-Busy.ensures.answer.does idle c.stop.ensures
+    λ start xs idle. run_busy _ _ _ _ c.requires.inside first c.in-Busy.ensures.answer.does idle c.found.ensures
 
 pub returns-in-Busy-clause-answered : goal.returns-in-Busy-clause-answered
 returns-in-Busy-clause-answered c = answered_one _ _ _ _ c.in-Busy.ensures.answer refl refl
 
 pub returns-in-Already-clause-ready : goal.returns-in-Already-clause-ready
 returns-in-Already-clause-ready c = let first = come_first _ _ (subst IsPlan (sym c.requires.may.1) c.requires.may.0.valid) c.requires.may.2 in
-    λ start xs idle. run_already _ _ _ _ c.requires.inside first c.in-Already.ensures.answer.does idle c.stop-in-Already.ensures
+    λ start xs idle. run_already _ _ _ _ c.requires.inside first c.in-Already.ensures.answer.does idle c.found-in-Already.ensures
 
 pub returns-in-Already-clause-answered : goal.returns-in-Already-clause-answered
 returns-in-Already-clause-answered c = answered_one _ _ _ _ c.in-Already.ensures.answer refl refl

@@ -16,14 +16,14 @@ settle-requires-clause-decided c =
 
 pub returns-in-Done-clause-settled : goal.returns-in-Done-clause-settled
 returns-in-Done-clause-settled c =
-    let valid = (subst IsPlan (sym c.requires.may.1) c.requires.may.0.valid) in one_done _ _ _ _ valid (in_range _ _ _ valid c.requires.may.2 c.requires.inside) c.requires.inside c.in-Done.ensures.answer
+    let valid = (subst IsPlan (sym c.requires.may.1) c.requires.may.0.valid) in λ g by_board. one_done _ _ _ _ valid (in_range _ _ _ valid c.requires.may.2 c.requires.inside) c.requires.inside g by_board c.in-Done.ensures.answer
 
 pub returns-then-at-op-clause-settled : goal.returns-then-at-op-clause-settled
 returns-then-at-op-clause-settled c =
     let valid = (subst IsPlan (sym c.requires.may.1) c.requires.may.0.valid) in
-    one_own _ _ _ _ valid (in_range _ _ _ valid c.requires.may.2 c.requires.inside) c.requires.inside c.if-at-op.true c.in-Not.ensures.answer c.stop.ensures
+    λ g by_board. one_own _ _ _ _ valid (in_range _ _ _ valid c.requires.may.2 c.requires.inside) c.requires.inside g by_board c.if-at-op.true c.in-Not.ensures.answer c.stop.ensures
 
 pub returns-else-at-op-clause-settled : goal.returns-else-at-op-clause-settled
 returns-else-at-op-clause-settled c =
     let valid = (subst IsPlan (sym c.requires.may.1) c.requires.may.0.valid) in
-    one_source _ _ _ _ valid (in_range _ _ _ valid c.requires.may.2 c.requires.inside) c.requires.inside c.if-at-op.false c.in-Not.ensures.answer
+    λ g by_board. one_source _ _ _ _ valid (in_range _ _ _ valid c.requires.may.2 c.requires.inside) c.requires.inside g by_board c.if-at-op.false c.in-Not.ensures.answer

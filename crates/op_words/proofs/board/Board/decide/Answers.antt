@@ -1,7 +1,7 @@
 use Rattle.std.proofs.Common.{◌≡◌, ◌+◌, Bool, true, false, sym, subst}
-use Rattle.op_words.specs.Judging.{DecideDoes, decided_as}
+use Rattle.op_words.specs.Judging.{DecideDoes, MaySayOf, decided_as}
 use Rattle.op_words.specs.Hands.{cap_of, view_of, call_on}
-use Rattle.op_words.specs.Comparing.{HasFoundGrounds, MaySayOf}
+use Rattle.op_words.specs.Comparing.{HasFoundGrounds}
 use Rattle.op_words.specs.Stepping.{Learned}
 use Rattle.morph_base.specs.Plans.{event_at}
 use Rattle.op_words.proofs.Weighing.{decided_before, decided_now, may_say, undecided}
@@ -23,7 +23,7 @@ pub returns-clause-answer : goal.returns-clause-answer
 returns-clause-answer c =
     let b = c.args.self.now in let p = c.args.plan.now in let i = c.args.event in
     subst (DecideDoes p (cap_of b) i (view_of c.args.hand.now) (view_of c.conclude.new.hand)) (sym c.of-2.ensures)
-    (decided_now b p i c.requires.plan c.args.hand.now c.learn.new.hand (subst (Learned (call_on b c.args.hand.now c.learn.new.hand) i) c.in_default.is c.learn.ensures) c.requires.hand c.grounds.new.hand _ c.conclude.new.hand c.conclude.result c.grounds.result c.grounds.ensures c.conclude.ensures)
+    (decided_now b p i c.requires.plan c.args.hand.now c.learn.new.hand (subst (Learned (call_on b c.args.hand.now c.learn.new.hand) i) c.in_default.is c.learn.ensures) c.requires.hand c.grounds.new.hand _ c.conclude.new.hand _ c.grounds.result c.grounds.ensures c.conclude.ensures.answer)
 
 pub conclude-requires-clause-grounds : goal.conclude-requires-clause-grounds
 conclude-requires-clause-grounds c =

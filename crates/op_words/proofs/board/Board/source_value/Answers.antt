@@ -1,5 +1,6 @@
-use Rattle.std.proofs.Common.{◌∙◌, sym, subst}
+use Rattle.std.proofs.Common.{◌∙◌, sym, subst, le_trans}
 use Rattle.morph_base.specs.Plans.{IsPlan}
+use Rattle.morph_base.proofs.BoundLaws.{high_of-small}
 use Rattle.op_words.specs.Hands.{view_of}
 use Rattle.op_words.proofs.Adding.{free_apart}
 use Rattle.op_words.proofs.Seeking.{source_other}
@@ -7,7 +8,10 @@ use Rattle.op_words.proofs.Looking.{source_base, source_ready, source_unready}
 use Rattle.op_words.proofs.board.Board.source_value.Goals as goal
 
 pub returns-in-Base : goal.returns-in-Base
-returns-in-Base c = source_base _ _ _ _ _ _ _ c.requires.may.0 (sym c.origin_of.ensures ∙ c.in-Base.is)
+returns-in-Base c =
+    let is = sym c.origin_of.ensures ∙ c.in-Base.is in
+    let valid = subst IsPlan (sym c.requires.may.1) c.requires.may.0.valid in
+    source_base _ _ _ _ _ _ _ c.requires.may.0 is (le_trans (valid.small c.args.op c.args.j c.in-Base.value c.requires.may.2 c.requires.in_places is) (high_of-small c.args.plan.now valid))
 
 pub returns-then-is_usable : goal.returns-then-is_usable
 returns-then-is_usable c =

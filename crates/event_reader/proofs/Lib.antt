@@ -12,6 +12,8 @@ pub mod BufferParts
 pub mod LineAnswers
 -- Decimal digits, read one by one.
 pub mod Digits
+-- A line that begins with digits: its first part, and what follows that.
+pub mod FirstDigits
 -- Timestamps in a rising vector and in a set: which ones are there, and one more.
 pub mod TimeSets
 -- The reads that a reader of lines makes of its source for one line.

@@ -1,5 +1,5 @@
 -- The numbers that words say, and their ranges.
-use Rattle.std.proofs.Common.{◌≡◌, ℕ, zero, suc, ◌+◌, ◌<◌, ◌≤◌, Bool, true, false, ◌&&◌, nat_le, min, List, [], ◌∷◌, ◌++◌, length, take, drop, get_or, set, map, refl, sym, ◌∙◌, ap, arith, Some, None, Result, Ok, Err, inl, inr, subst}
+use Rattle.std.proofs.Common.{◌≡◌, ℕ, zero, suc, ◌+◌, ◌<◌, ◌≤◌, Bool, true, false, ◌&&◌, nat_le, min, List, [], ◌∷◌, ◌++◌, length, take, drop, get_or, set, map, refl, sym, ◌∙◌, ap, arith, Some, Result, Ok, Err, inl, inr, subst}
 use Rattle.std.specs.Prelude.{if◌then◌else◌}
 use Rattle.event_reader.specs.declared.cause.Cause.{Cause}
 use Rattle.event_reader.specs.declared.cause.Cause.TheVariants.{Form}
@@ -30,20 +30,15 @@ pub word_at : (words : List (List ℕ)) (i : ℕ) → get_or (drop 1 words) i []
 word_at words i = get_or-drop 1 words i [] ∙ (let same : 1 + i ≡ i + 1 = omega arith in ap (λ n. get_or words n []) same)
 
 -- what a cut number says of its word
-no_number : (word : List ℕ) (t : Bool) → is_number word ≡ t → cut_number word ≡ None → is_number word ≡ false
-no_number word true is none = absurd (let some = rw is at none in cc)
-no_number word false is none = is
-
 pub a_number : (word : List ℕ) (value : ℕ) (t : Bool) → is_number word ≡ t → cut_number word ≡ Some value → (is_number word ≡ true) × (value ≡ cut_value word)
 a_number word value true is some = (is, let some' = rw is at some in cc)
 a_number word value false is some = absurd (let none = rw is at some in cc)
 
 -- one word that is no number
-pub not_all_numbers : (words : List (List ℕ)) (i : ℕ) → i < length (drop 1 words) → cut_number (get_or words (i + 1) []) ≡ None
+pub not_all_numbers : (words : List (List ℕ)) (i : ℕ) → i < length (drop 1 words) → is_number (get_or words (i + 1) []) ≡ false
     → list_all is_number (drop 1 words) ≡ false
 not_all_numbers words i inside none =
-    list_all_at is_number (drop 1 words) i [] inside
-    (ap is_number (word_at words i) ∙ no_number (get_or words (i + 1) []) (is_number (get_or words (i + 1) [])) refl none)
+    list_all_at is_number (drop 1 words) i [] inside (ap is_number (word_at words i) ∙ none)
 
 -- a number more
 pub numbers_more : (words : List (List ℕ)) (numbers : List ℕ) (i value : ℕ) → i < length (drop 1 words) → i < length numbers

@@ -1,6 +1,7 @@
 pub mod Limits
 pub mod Numbers
 pub mod Words
+pub mod LineParts
 pub mod Lines
 pub mod Steps
 pub mod Accepted

@@ -1,5 +1,9 @@
-ghost use Rattle.std.specs.Prelude.{◌≡◌};
-ghost use Rattle.event_reader.specs.Numbers.{number_of};
+ghost use Rattle.std.specs.Prelude.{◌≡◌, ◌<◌, ◌≤◌, true, false, [], length, take, slice_index, slice_index_or, MatchOption};
+ghost use Rattle.std.specs.Char.{is_ascii_digit};
+ghost use Rattle.std.specs.List.{list_all};
+ghost use Rattle.event_reader.specs.Words.{parts_of};
+ghost use Rattle.event_reader.specs.Numbers.{number_of, is_number, cut_value};
+ghost use Rattle.event_reader.specs.LineParts.{StartsWithPart, StartsWithNumber};
 
 use crate::limits::GREATEST_NUMBER;
 
@@ -14,24 +18,82 @@ pub enum Number {
     NotNumber,
 }
 
+/// How many digits a line begins with, and the number that they say, or one more than the greatest if it is greater.
+fn leading_digits(line: &[u8]) -> (usize, u64)
+    ensures inside { result.0 ≤ length line.now }
+    ensures digits { list_all is_ascii_digit (take result.0 line.now) ≡ true }
+    ensures ends { result.0 < length line.now
+        → is_ascii_digit (slice_index line.now result.0) ≡ false }
+    ensures value { result.1 ≡ cut_value (take result.0 line.now) }
+{
+    let mut value = 0u64;
+    'digits: for i in 0..line.len() {
+        let byte = line[i];
+        if byte < b'0' || b'9' < byte {
+            return (i, value);
+        }
+        value = (10 * value + u64::from(byte - b'0')).min(GREATEST_NUMBER + 1);
+    }
+    (line.len(), value)
+}
+
+/// Whether the first `len` bytes of a line, all digits, are a number: if there are any, and no zero is in front of others.
+fn is_plain(line: &[u8], len: usize) -> bool
+    requires inside { len ≤ length line.now }
+    requires digits { list_all is_ascii_digit (take len line.now) ≡ true }
+    ensures { result ≡ is_number (take len line.now) }
+{
+    len == 1 || (len > 1 && line[0] != b'0')
+}
+
 /// Reads a word as a number.
 pub fn read_number(word: &[u8]) -> Number
     ensures { result ≡ number_of word.now }
 {
-    if word.is_empty() || (word[0] == b'0' && word.len() > 1) {
+    let (len, value) = leading_digits(word);
+    if len < word.len() || !is_plain(word, len) {
         return Number::NotNumber;
-    }
-    let mut value = 0u64;
-    'digits: for byte in word {
-        let byte = *byte;
-        if byte < b'0' || b'9' < byte {
-            return Number::NotNumber;
-        }
-        value = (10 * value + u64::from(byte - b'0')).min(GREATEST_NUMBER + 1);
     }
     if value > GREATEST_NUMBER {
         Number::TooGreat
     } else {
         Number::Value(value)
+    }
+}
+
+/// What follows the digits that a line begins with, `len` of them, and the space behind them; nothing if the line ends
+/// there. `None` if another byte follows.
+fn behind_digits(line: &[u8], len: usize) -> Option<&[u8]>
+    requires inside { len ≤ length line.now }
+    requires digits { list_all is_ascii_digit (take len line.now) ≡ true }
+    requires ends { len < length line.now
+        → is_ascii_digit (slice_index line.now len) ≡ false }
+    ensures { MatchOption result
+        (list_all is_ascii_digit (slice_index_or (parts_of line.now) 0 []) ≡ false)
+        (λ rest. StartsWithPart line.now (take len line.now) rest.now) }
+{
+    if len == line.len() {
+        return Some(&line[len..]);
+    }
+    if line[len] == b' ' {
+        Some(&line[len + 1..])
+    } else {
+        None
+    }
+}
+
+/// The number that the first word of a line says, or one more than the greatest if it is greater, and what follows the
+/// word and its space; nothing if it is the only word. `None` if the word is no number.
+pub(crate) fn first_number(line: &[u8]) -> Option<(u64, &[u8])>
+    ensures { MatchOption result
+        (is_number (slice_index_or (parts_of line.now) 0 []) ≡ false)
+        (λ found. StartsWithNumber line.now found.0 found.1.now) }
+{
+    let (len, value) = leading_digits(line);
+    let rest = behind_digits(line, len)?;
+    if is_plain(line, len) {
+        Some((value, rest))
+    } else {
+        None
     }
 }

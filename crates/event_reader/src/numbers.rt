@@ -1,12 +1,12 @@
 ghost use Rattle.std.specs.Prelude.{◌≡◌, ◌+◌, ◌≤◌, length, take, drop, MatchOption, false};
 ghost use Rattle.std.specs.List.{list_all};
 ghost use Rattle.event_reader.specs.Forms.{IsFormOf, numbers_by, has_form};
-ghost use Rattle.event_reader.specs.Numbers.{is_number, cut_number, AreCutNumbers};
+ghost use Rattle.event_reader.specs.Numbers.{is_number, AreCutNumbers};
 
 use crate::cause::Cause;
 use crate::form::Form;
-use crate::limits::{GREATEST_NUMBER, LINE_WORDS};
-use crate::number::{Number, read_number};
+use crate::limits::LINE_WORDS;
+use crate::number::first_number;
 use crate::words::Words;
 use std::marker::Model;
 
@@ -53,17 +53,6 @@ impl<const N: usize> Numbers<N> {
     }
 }
 
-/// The number that a word says, or one more than the greatest if it is greater; `None` if the word is no number.
-fn cut_number(word: &[u8]) -> Option<u64>
-    ensures { result ≡ cut_number word.now }
-{
-    match read_number(word) {
-        Number::Value(value) => Some(value),
-        Number::TooGreat => Some(GREATEST_NUMBER + 1),
-        Number::NotNumber => None,
-    }
-}
-
 impl Words<'_> {
     /// Whether the words are those of a line of the form, as far as their letter and their count go.
     fn has_form<const N: usize>(&self, form: &Form<'_, N>) -> bool
@@ -86,8 +75,11 @@ impl Words<'_> {
     {
         let count = self.count() - 1;
         let mut numbers = [0; LINE_WORDS];
+        let mut rest = self.rest();
         'places: for i in 0..count {
-            numbers[i] = cut_number(self.word(i + 1))?;
+            let (number, more) = first_number(rest)?;
+            numbers[i] = number;
+            rest = more;
         }
         Some(Numbers { numbers, count })
     }

@@ -1,5 +1,6 @@
-ghost use Rattle.std.specs.Prelude.{◌≡◌, ℕ, ◌<◌, ◌≤◌, List, [], ◌∷◌, length, map, position, take, slice_index_or, MatchOption};
+ghost use Rattle.std.specs.Prelude.{◌≡◌, ℕ, ◌<◌, ◌≤◌, List, [], ◌∷◌, length, drop, position, slice_index_or, MatchOption};
 ghost use Rattle.event_reader.specs.Words.{is_space, parts_of, words_of};
+ghost use Rattle.event_reader.specs.LineParts.{HasRest};
 ghost use Rattle.event_reader.specs.Limits.{line_words};
 ghost use Rattle.event_reader.specs.Forms.{only, letter_of};
 
@@ -7,18 +8,24 @@ use crate::limits::LINE_WORDS;
 use std::marker::Model;
 
 /// The words of a line, which contracts see as a list of lists of bytes: at most [`LINE_WORDS`] words, none empty.
+///
+/// The line is kept as it is, with the number of its words: a word is looked for when it is asked for.
 #[derive(Drop)]
 pub struct Words<'a> {
-    words: [&'a [u8]; LINE_WORDS],
+    line: &'a [u8],
     count: usize,
 }
 
 impl<'a> Model for Words<'a> {
+    ghost use Rattle.std.specs.Prelude.{ℕ, List};
+    ghost use Rattle.event_reader.specs.Words.{parts_of};
+    ghost use Rattle.event_reader.specs.LineParts.{HasParts};
+
     ghost Value = { List (List ℕ) };
 
-    ghost view = { λ w. take w.count (map (λ word. word.now) w.words) };
+    ghost view = { λ w. parts_of w.line.now };
 
-    ghost invariant = { λ w. w.count ≤ line_words };
+    ghost invariant = { λ w. HasParts w.line.now w.count };
 }
 
 /// Where the first space of a line is.
@@ -31,13 +38,24 @@ fn first_space(line: &[u8]) -> Option<usize>
 
 /// The part of a line in front of its first space, and what follows that space; the whole line if it has none.
 fn first_part(line: &[u8]) -> (&[u8], Option<&[u8]>)
-    ensures { MatchOption result.1 (parts_of line.now ≡ result.0.now ∷ [])
+    ensures first { result.0.now ≡ slice_index_or (parts_of line.now) 0 [] }
+    ensures parts { MatchOption result.1 (parts_of line.now ≡ result.0.now ∷ [])
         (λ rest. parts_of line.now
         ≡ result.0.now ∷ parts_of rest.now) }
 {
     match first_space(line) {
         Some(at) => (&line[..at], Some(&line[at + 1..])),
         None => (line, None),
+    }
+}
+
+/// What follows the first space of a line; nothing if it has none.
+fn behind_first(line: &[u8]) -> &[u8]
+    ensures { HasRest line.now result.now }
+{
+    match first_part(line).1 {
+        Some(rest) => rest,
+        None => &line[..0],
     }
 }
 
@@ -54,22 +72,15 @@ impl<'a> Words<'a> {
     pub fn split(line: &'a [u8]) -> Option<Words<'a>>
         ensures { result ≡ words_of line.now }
     {
-        let mut words = [&line[..0]; LINE_WORDS];
         let mut rest = line;
         'parts: for i in 0..LINE_WORDS {
             let (part, after) = first_part(rest);
             if part.is_empty() {
                 return None;
             }
-            words[i] = part;
             match after {
                 Some(more) => rest = more,
-                None => {
-                    return Some(Words {
-                        words,
-                        count: i + 1,
-                    });
-                }
+                None => return Some(Words { line, count: i + 1 }),
             }
         }
         None
@@ -87,17 +98,25 @@ impl<'a> Words<'a> {
     pub fn letter(&self) -> Option<u8>
         ensures { result ≡ letter_of self.now }
     {
-        if self.count == 0 {
-            return None;
-        }
-        only(self.words[0])
+        only(first_part(self.line).0)
     }
 
-    /// The word at place `i`.
+    /// What follows the first word and its space; nothing if there is one word.
+    pub(crate) fn rest(&self) -> &[u8]
+        ensures { 1 < length self.now → parts_of result.now ≡ drop 1 self.now }
+    {
+        behind_first(self.line)
+    }
+
+    /// The word at place `i`, for which the line is gone over up to there.
     pub fn word(&self, i: usize) -> &[u8]
         requires { i < length self.now }
         ensures { result.now ≡ slice_index_or self.now i [] }
     {
-        &self.words[..self.count][i]
+        let mut rest = self.line;
+        'places: for place in 0..i {
+            rest = behind_first(rest);
+        }
+        first_part(rest).0
     }
 }

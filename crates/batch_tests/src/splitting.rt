@@ -26,14 +26,7 @@ const OPS: [(u32, u8, u32, u64); 14] = [
     (3, 1, 2, 5),
 ];
 
-/// The transactions of the events in this order of arrival.
-fn txns_of(rt: &impl Abort, alloc: Global, times: &[u64]) -> Result<Txns, OutOfMemory> {
-    let batch = batch_of(alloc, times)?;
-    assert!(rt; batch.is_valid());
-    split(alloc, &batch)
-}
-
-fn events_of(alloc: Global, txns: &Txns) -> Result<Vec<(u64, u32, u32)>, OutOfMemory> {
+fn events_of(alloc: Global, txns: &Txns<'_>) -> Result<Vec<(u64, u32, u32)>, OutOfMemory> {
     let mut rows = Vec::new(alloc);
     for event in txns.events.as_slice() {
         rows.push((event.ts, event.first, event.count))?;
@@ -41,7 +34,7 @@ fn events_of(alloc: Global, txns: &Txns) -> Result<Vec<(u64, u32, u32)>, OutOfMe
     Ok(rows)
 }
 
-fn ops_of(alloc: Global, txns: &Txns) -> Result<Vec<(u32, u8, u32, u64)>, OutOfMemory> {
+fn ops_of(alloc: Global, txns: &Txns<'_>) -> Result<Vec<(u32, u8, u32, u64)>, OutOfMemory> {
     let mut rows = Vec::new(alloc);
     for (op, event) in txns.ops.as_slice().iter().zip(txns.event_of.as_slice()) {
         rows.push((*event, op.key.table, op.key.id, op.c))?;
@@ -49,11 +42,14 @@ fn ops_of(alloc: Global, txns: &Txns) -> Result<Vec<(u32, u8, u32, u64)>, OutOfM
     Ok(rows)
 }
 
-/// Compares the events and operations of transactions with those above.
-fn check(rt: &impl Abort, alloc: Global, txns: &Txns) -> Result<(), OutOfMemory> {
-    let events = events_of(alloc, txns)?;
+/// Compares the transactions of the events in this order of arrival with those above.
+fn check(rt: &impl Abort, alloc: Global, times: &[u64]) -> Result<(), OutOfMemory> {
+    let batch = batch_of(alloc, times)?;
+    assert!(rt; batch.is_valid());
+    let txns = split(alloc, &batch)?;
+    let events = events_of(alloc, &txns)?;
     assert_eq!(rt; events.as_slice(), EVENTS.as_slice());
-    let ops = ops_of(alloc, txns)?;
+    let ops = ops_of(alloc, &txns)?;
     assert_eq!(rt; ops.as_slice(), OPS.as_slice());
     Ok(())
 }
@@ -61,8 +57,7 @@ fn check(rt: &impl Abort, alloc: Global, txns: &Txns) -> Result<(), OutOfMemory>
 #[test]
 fn order_of_arrival_does_not_matter(rt: HostRuntime) -> Result<(), Fail> {
     for times in [[1, 2, 3, 4], [4, 3, 2, 1]] {
-        let txns = txns_of(&rt, rt.alloc(), &times)?;
-        check(&rt, rt.alloc(), &txns)?;
+        check(&rt, rt.alloc(), &times)?;
     }
     Ok(())
 }

@@ -17,7 +17,7 @@ use Rattle.morph_base.specs.Numbering.{numbers, IsNumbering}
 use Rattle.morph_base.specs.Sources.{IsSource}
 use Rattle.morph_base.specs.Plans.{no_op, no_plan_op, no_event, event_count, op_count, event_at, op_at, event_of, numbers_of, target, keys_of, key_at, origin_at, transaction_in, transactions, IsSourceIn, high_of}
 use Rattle.txn_splitter.specs.declared.txns.Txns.{Txns}
-use Rattle.txn_splitter.specs.Txns.{IsTxns, no_txn, transaction_among, txn_count, txn_op_count, txn_at, txn_op_at, txn_of, txn_target, txn_transactions}
+use Rattle.txn_splitter.specs.Txns.{txn_ops, IsTxns, no_txn, transaction_among, txn_count, txn_op_count, txn_at, txn_op_at, txn_of, txn_target, txn_transactions}
 use Rattle.precedence_graph.specs.Planned.{padded, txn_event, ArePlanned, AreEventsPlanned}
 use Rattle.precedence_graph.proofs.ListLemmas.{get_or-map_all}
 
@@ -54,12 +54,12 @@ numbering_at n m ts first count event_of op n' m' ts' first' count' event_of' op
 
 module _ (x : Txns) (is : IsTxns x) (p : Plan) (done : ArePlanned x (txn_op_count x) p.ops.items) (events_done : AreEventsPlanned x p.ops.items (txn_count x) p.events.items) where
   -- ---- its columns are those of the transactions
-  pub op_column : map (λ q. q.op) p.ops.items ≡ x.ops.items
+  pub op_column : map (λ q. q.op) p.ops.items ≡ txn_ops x
   op_column =
-      same_lists (map (λ q. q.op) p.ops.items) x.ops.items (length-map p.ops.items (λ q. q.op) ∙ done.many)
+      same_lists (map (λ q. q.op) p.ops.items) (txn_ops x) (length-map p.ops.items (λ q. q.op) ∙ done.many)
       (λ k d lt. let many : length p.ops.items ≡ txn_op_count x = done.many in
       let inside : k < length p.ops.items = omega (arith, length-map p.ops.items (λ q. q.op)) in
-      get_or-map (λ q. q.op) p.ops.items k no_plan_op d inside ∙ (done.each k (omega arith)).op_is ∙ get_or_default x.ops.items k no_op d (omega arith))
+      get_or-map (λ q. q.op) p.ops.items k no_plan_op d inside ∙ (done.each k (omega arith)).op_is ∙ get_or_default (txn_ops x) k no_op d (omega arith))
 
   pub event_of_column : map (λ q. q.event) p.ops.items ≡ x.event_of.items
   event_of_column =

@@ -2,7 +2,7 @@ ghost use Rattle.std.specs.Prelude.{◌≡◌, ℕ, map, IfOk};
 ghost use Rattle.morph_base.specs.declared.plan.Origin.TheVariants.{Base};
 ghost use Rattle.morph_base.specs.Plans.{IsPlan, origin_at, transactions};
 ghost use Rattle.morph_base.specs.Graphs.{IsGraph};
-ghost use Rattle.txn_splitter.specs.Txns.{IsTxns, txn_transactions};
+ghost use Rattle.txn_splitter.specs.Txns.{IsTxns, txn_ops, txn_transactions};
 ghost use Rattle.precedence_graph.specs.Planned.{txn_event};
 
 use crate::dependents::dependents;
@@ -17,7 +17,7 @@ use txn_splitter::Txns;
 ///
 /// Each place that reads what an earlier event wrote names the last operation that did so. Each other place holds
 /// `Base(0)`, for the caller to fill in.
-pub fn build(alloc: Global, txns: &Txns) -> Result<Plan, OutOfMemory>
+pub fn build(alloc: Global, txns: &Txns<'_>) -> Result<Plan, OutOfMemory>
     requires { IsTxns txns.now }
 
     // It is a valid plan with its graph: sources, levels, dependents, level lists and counts.
@@ -25,7 +25,7 @@ pub fn build(alloc: Global, txns: &Txns) -> Result<Plan, OutOfMemory>
     ensures graph { IfOk result IsGraph }
 
     // Its operations and its events are those of the transactions.
-    ensures ops { IfOk result (λ plan. map (λ q. q.op) plan.ops.items ≡ txns.now.ops.items) }
+    ensures ops { IfOk result (λ plan. map (λ q. q.op) plan.ops.items ≡ txn_ops txns.now) }
     ensures events_of { IfOk result
         (λ plan. map (λ q. q.event) plan.ops.items ≡ txns.now.event_of.items) }
     ensures events { IfOk result (λ plan. map txn_event plan.events.items ≡ txns.now.events.items) }

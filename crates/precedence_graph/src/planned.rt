@@ -2,13 +2,13 @@ ghost use Rattle.std.specs.Prelude.{◌≡◌, ◌+◌, ◌*◌, ◌^◌, ◌<�
 ghost use Rattle.morph_base.specs.Graphs.{greatest, level_of};
 ghost use Rattle.morph_base.specs.Operations.{high_in, reads, IsShaped};
 ghost use Rattle.morph_base.specs.OpLists.{op_list};
-ghost use Rattle.txn_splitter.specs.Txns.{IsTxns, txn_count, txn_op_count, txn_at};
+ghost use Rattle.txn_splitter.specs.Txns.{IsTxns, txn_ops, txn_count, txn_op_count, txn_at};
 ghost use Rattle.precedence_graph.specs.Planned.{HasWriters, HasLevels, HasEventLevels, IsWrittenOf, ArePlanned, AreEventsPlanned, IsSumOf, event_sources_of, members_of, padded};
 ghost use Rattle.precedence_graph.specs.Writers.{entered_level, entered_event_level, source_in};
 
 use crate::edges::Written;
 use crate::sources::{Reads, sources};
-use crate::transactions::event_at;
+use crate::transactions::{event_at, op_at, op_count};
 use crate::writers::Writers;
 use morph_base::{List, MAX, Op, Origin, OutOfMemory, PlanEvent, PlanOps, READS};
 use std::alloc::Global;
@@ -24,7 +24,7 @@ pub struct Planned {
 
 /// Plans all transactions: the operations in order, each with its event, its sources and its level; the events, each
 /// with its level; and how many reads of operations there are.
-pub fn plan_transactions(alloc: Global, txns: &Txns) -> Result<Planned, OutOfMemory>
+pub fn plan_transactions(alloc: Global, txns: &Txns<'_>) -> Result<Planned, OutOfMemory>
     requires { IsTxns txns.now }
     ensures ops { IfOk result
         (λ planned. ArePlanned txns.now (txn_op_count txns.now) planned.ops.items) }
@@ -32,7 +32,7 @@ pub fn plan_transactions(alloc: Global, txns: &Txns) -> Result<Planned, OutOfMem
         AreEventsPlanned txns.now planned.ops.items (txn_count txns.now) planned.events.items) }
     ensures written { IfOk result (λ planned. IsWrittenOf planned.ops.items planned.written) }
 {
-    let mut writers = Writers::new(alloc, txns.ops.len())?;
+    let mut writers = Writers::new(alloc, op_count(txns))?;
     let mut ops = room_for_ops(alloc, txns)?;
     let mut events = List::with_room(alloc, txns.events.len())?;
     let mut written = Written {
@@ -61,7 +61,7 @@ pub fn plan_transactions(alloc: Global, txns: &Txns) -> Result<Planned, OutOfMem
 /// Plans the operations of event `i`, which read what the events before it wrote, and counts their reads of operations.
 /// Returns the greatest level of the events that they read from, as these were entered, or 0 if there is none.
 fn plan_event_ops(
-    txns: &Txns,
+    txns: &Txns<'_>,
     i: usize,
     writers: &Writers,
     ops: &mut PlanOps,
@@ -73,12 +73,12 @@ fn plan_event_ops(
     requires levels { HasLevels ops.old.items (txn_at txns.now i).first writers.now }
     requires room { length ops.old.items + ops.old.room ≡ txn_op_count txns.now }
     requires spare { READS * ops.old.room ≤ ops.old.spare }
-    requires high { ops.old.high ≡ high_in txns.now.ops.items }
+    requires high { ops.old.high ≡ high_in (txn_ops txns.now) }
     requires planned { ArePlanned txns.now (txn_at txns.now i).first ops.old.items }
     requires written { IsWrittenOf ops.old.items written.old }
     ensures room { length ops.new.items + ops.new.room ≡ txn_op_count txns.now }
     ensures spare { READS * ops.new.room ≤ ops.new.spare }
-    ensures high { ops.new.high ≡ high_in txns.now.ops.items }
+    ensures high { ops.new.high ≡ high_in (txn_ops txns.now) }
     ensures planned { ArePlanned txns.now
         ((txn_at txns.now i).first + (txn_at txns.now i).count) ops.new.items }
     ensures kept { take (txn_at txns.now i).first ops.new.items ≡ ops.old.items }
@@ -89,7 +89,7 @@ fn plan_event_ops(
     let event = event_at(txns, i);
     let mut most: u32 = 0;
     for o in event.first..event.first + event.count {
-        let reads = add_planned(ops, txns.ops.get(o as usize), i as u32, writers);
+        let reads = add_planned(ops, op_at(txns, o), i as u32, writers);
         most = most.max(reads.event_level);
         written.targets += u64::from(reads.target);
         written.parameters += u64::from(reads.parameters);
@@ -123,18 +123,18 @@ fn add_planned(ops: &mut PlanOps, op: &Op, event: u32, writers: &Writers) -> Rea
 }
 
 /// No operation, with room for those of the transactions.
-fn room_for_ops(alloc: Global, txns: &Txns) -> Result<PlanOps, OutOfMemory>
+fn room_for_ops(alloc: Global, txns: &Txns<'_>) -> Result<PlanOps, OutOfMemory>
     requires { IsTxns txns.now }
-    ensures { IfOk result (λ ops. ops ≡ op_list [] (high_in txns.now.ops.items)
+    ensures { IfOk result (λ ops. ops ≡ op_list [] (high_in (txn_ops txns.now))
         (txn_op_count txns.now) (READS * txn_op_count txns.now)) }
 {
-    let count = txns.ops.len();
+    let count = op_count(txns);
     PlanOps::with_room(alloc, count, READS * count, greatest_value(txns))
 }
 
 /// The greatest value of all operations.
-fn greatest_value(txns: &Txns) -> u64
-    ensures { result ≡ high_in txns.now.ops.items }
+fn greatest_value(txns: &Txns<'_>) -> u64
+    ensures { result ≡ high_in (txn_ops txns.now) }
 {
     if txns.ops.is_empty() {
         MAX
@@ -144,7 +144,13 @@ fn greatest_value(txns: &Txns) -> u64
 }
 
 /// Enters the operations of event `i` as writers, each with its level and that of the event.
-fn enter_event(txns: &Txns, i: usize, ops: &PlanOps, events: &[PlanEvent], writers: &mut Writers)
+fn enter_event(
+    txns: &Txns<'_>,
+    i: usize,
+    ops: &PlanOps,
+    events: &[PlanEvent],
+    writers: &mut Writers,
+)
     requires txns { IsTxns txns.now }
     requires event { i < txn_count txns.now }
     requires planned { ArePlanned txns.now

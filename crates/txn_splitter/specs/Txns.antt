@@ -23,9 +23,13 @@ module _ (x : Txns) where
   abbrev pub txn_count : ℕ
   txn_count = length x.events.items
 
+  -- The operations, by event and then in operation order
+  abbrev pub txn_ops : List Op
+  txn_ops = map (λ op. op.now) x.ops.items
+
   -- How many operations there are
   abbrev pub txn_op_count : ℕ
-  txn_op_count = length x.ops.items
+  txn_op_count = length txn_ops
 
   -- The event with number i
   abbrev pub txn_at : ℕ → TxnEvent
@@ -33,7 +37,7 @@ module _ (x : Txns) where
 
   -- The operation with number o
   abbrev pub txn_op_at : ℕ → Op
-  txn_op_at o = slice_index_or x.ops.items o no_op
+  txn_op_at o = slice_index_or txn_ops o no_op
 
   -- The event of operation o
   abbrev pub txn_of : ℕ → ℕ
@@ -45,7 +49,7 @@ module _ (x : Txns) where
 
   -- The events as transactions
   abbrev pub txn_transactions : List Transaction
-  txn_transactions = map (transaction_among x.ops.items) x.events.items
+  txn_transactions = map (transaction_among txn_ops) x.events.items
 
 -- The numbers of the events
 abbrev pub txn_numbers : Txns → EventNumbers
@@ -56,7 +60,7 @@ pub record IsTxns (x : Txns) : Type 0 where
   pub numbering : IsNumbering (txn_numbers x) (txn_op_count x) (txn_of x) (txn_op_at x)
   pub events_of : length x.event_of.items ≡ txn_op_count x
   -- All operations have one greatest value
-  pub alike : All (λ op. op.high ≡ high_in x.ops.items) x.ops.items
+  pub alike : All (λ op. op.high ≡ high_in (txn_ops x)) (txn_ops x)
 
 -- The events are these transactions, in this order, and nothing else: each operation is one of an event's
 pub record IsSplitOf (es : List Transaction) (x : Txns) : Type 0 where

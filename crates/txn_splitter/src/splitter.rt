@@ -1,21 +1,21 @@
-ghost use Rattle.std.specs.Prelude.{◌≡◌, ◌≤◌, ◌++◌, length, replicate, All, IfOk, OnOk, sum_by};
+ghost use Rattle.std.specs.Prelude.{◌≡◌, ◌≤◌, ◌++◌, length, map, replicate, All, IfOk, OnOk, sum_by};
 ghost use Rattle.morph_base.specs.declared.limits.TheConstants.{EVENT_OPS, EVENTS};
 ghost use Rattle.morph_base.specs.Transactions.{IsBatch, high_of_all, transactions_of};
-ghost use Rattle.txn_splitter.specs.Txns.{IsTxns, IsTxnsOf};
+ghost use Rattle.txn_splitter.specs.Txns.{IsTxns, IsTxnsOf, txn_ops};
 
 use crate::txns::{TxnEvent, Txns};
 use morph_base::{Batch, Event, List, Op, OutOfMemory};
 use std::alloc::Global;
 
 /// Cuts a batch into its transactions, by rising timestamp.
-pub fn split(alloc: Global, batch: &Batch) -> Result<Txns, OutOfMemory>
+pub fn split(alloc: Global, batch: &Batch) -> Result<Txns<'_>, OutOfMemory>
     requires { IsBatch batch.now }
 
     // They are the batch's transactions, numbered, with nothing added and nothing dropped.
     ensures of { IfOk result (IsTxnsOf batch.now) }
     ensures valid { IfOk result IsTxns }
     ensures high { IfOk result (λ txns.
-        All (λ op. op.high ≡ high_of_all (transactions_of batch.now)) txns.ops.items) }
+        All (λ op. op.high ≡ high_of_all (transactions_of batch.now)) (txn_ops txns)) }
 {
     let order = batch.by_time(alloc)?;
     let mut events = List::with_room(alloc, order.len())?;
@@ -53,18 +53,19 @@ fn op_count(events: &[Event]) -> usize
 }
 
 /// Appends the operations of event `number`, and that number for each of them.
-fn append_ops(
-    ops: &mut List<Op>,
+fn append_ops<'a>(
+    ops: &mut List<&'a Op>,
     event_of: &mut List<u32>,
-    event: &Event,
+    event: &'a Event,
     number: u32,
 ) -> Result<(), OutOfMemory>
-    ensures ops { OnOk result (ops.new.items ≡ ops.old.items ++ event.now.ops.items) }
+    ensures ops { OnOk result (map (λ op. op.now) ops.new.items
+        ≡ map (λ op. op.now) ops.old.items ++ event.now.ops.items) }
     ensures events { OnOk result (event_of.new.items
         ≡ event_of.old.items ++ replicate (length event.now.ops.items) number) }
 {
     for op in event.ops.as_slice() {
-        ops.push(*op)?;
+        ops.push(op)?;
         event_of.push(number)?;
     }
     Ok(())

@@ -11,21 +11,22 @@ pub struct TxnEvent {
     pub count: u32,
 }
 
-/// A batch cut into transactions: its events by rising timestamp, and all their operations in one list.
+/// A batch cut into transactions: its events by rising timestamp, and all their operations in one list. The operations
+/// stay in the batch.
 ///
 /// Events and operations are numbered from 0, operations by event and then by operation order.
 #[derive(Debug)]
-pub struct Txns {
+pub struct Txns<'a> {
     /// The events by rising timestamp. The place of each is its number.
     pub events: List<TxnEvent>,
     /// The operations by event and then in operation order. The place of each is its number.
-    pub ops: List<Op>,
+    pub ops: List<&'a Op>,
     /// For each operation, the number of its event.
     pub event_of: List<u32>,
 }
 
 // Not derived: see "What costs" in docs/CONTRIBUTING.md.
-impl Drop for Txns {
+impl Drop for Txns<'_> {
     fn drop(self) {
         let Txns {
             events: _,

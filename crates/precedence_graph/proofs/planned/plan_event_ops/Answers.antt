@@ -18,11 +18,11 @@ use Rattle.precedence_graph.proofs.planned.plan_event_ops.Goals as goal
 
 pub add_planned-reads-requires-clause-shaped : goal.add_planned-reads-requires-clause-shaped
 add_planned-reads-requires-clause-shaped c =
-    subst IsShaped (sym (c.get.ensures.at no_op)) (c.requires.txns.numbering.shaped c.loop-o.o (omega (arith, c.event_at-event.ensures.end, c.loop-o-test.true)))
+    subst IsShaped (sym c.op_at.ensures) (c.requires.txns.numbering.shaped c.loop-o.o (omega (arith, c.event_at-event.ensures.end, c.loop-o-test.true)))
 
 pub add_planned-reads-requires-clause-high : goal.add_planned-reads-requires-clause-high
 add_planned-reads-requires-clause-high c =
-    ap (λ (op : Op). op.high) (c.get.ensures.at no_op)
+    ap (λ (op : Op). op.high) c.op_at.ensures
     ∙ c.requires.txns.alike c.loop-o.o no_op (omega (arith, c.event_at-event.ensures.end, c.loop-o-test.true))
     ∙ sym c.loop-o.invariant.high
 
@@ -33,8 +33,8 @@ add_planned-reads-requires-clause-low c =
     let within : IsWithin (txn_at x c.args.i).first (txn_at x c.args.i).count o = subst (λ (e : TxnEvent). IsWithin e.first e.count o) c.event_at-event.ensures.event (record { from = c.loop-o.auto.o; below = c.loop-o-test.true }) in
     let ops : List PlanOp = c.loop-o.ops.items in
     let levels = levels_kept (txn_at x c.args.i).first ops c.args.ops.now.items c.args.writers.now c.loop-o.invariant.kept c.requires.levels in
-    let level = find_levels x c.requires.txns c.args.i c.requires.event c.args.writers.now c.requires.writers o within ops c.loop-o.invariant.planned levels (reads c.get.result.now) in
-    omega (arith, level, find_low x c.requires.txns c.args.i c.requires.event c.args.writers.now c.requires.writers o within c.loop-o.ops.items c.loop-o.invariant.planned c.get.result.now, c.event_at-event.ensures.end, c.event_at-event.ensures.few)
+    let level = find_levels x c.requires.txns c.args.i c.requires.event c.args.writers.now c.requires.writers o within ops c.loop-o.invariant.planned levels (reads c.op_at.result.now) in
+    omega (arith, level, find_low x c.requires.txns c.args.i c.requires.event c.args.writers.now c.requires.writers o within c.loop-o.ops.items c.loop-o.invariant.planned c.op_at.result.now, c.event_at-event.ensures.end, c.event_at-event.ensures.few)
 
 pub loop-o-preserved : goal.loop-o-preserved
 loop-o-preserved c =
@@ -42,7 +42,7 @@ loop-o-preserved c =
     let i = c.args.i in
     let o : ℕ = c.loop-o.o in
     let ops = c.loop-o.ops.items in
-    let op : Op = c.get.result.now in
+    let op : Op = c.op_at.result.now in
     let q : PlanOp = record { op = op; event = i; origins = padded (map (source_in c.args.writers.now) (reads op)); level = 1 + c.add_planned-reads.result.level } in
     let done = c.loop-o.invariant.planned in
     let within : IsWithin (txn_at x i).first (txn_at x i).count o = subst (λ (e : TxnEvent). IsWithin e.first e.count o) c.event_at-event.ensures.event (record { from = c.loop-o.auto.o; below = c.loop-o-test.true }) in
@@ -56,7 +56,7 @@ loop-o-preserved c =
       spare = c.add_planned-reads.ensures.spare;
       high = c.add_planned-reads.ensures.high ∙ c.loop-o.invariant.high;
       planned = subst (ArePlanned x (o + 1)) (sym c.add_planned-reads.ensures.items)
-          (planned_with x c.requires.txns i c.requires.event c.args.writers.now c.requires.writers o within ops done q op refl refl (c.get.ensures.at no_op) refl level);
+          (planned_with x c.requires.txns i c.requires.event c.args.writers.now c.requires.writers o within ops done q op refl refl c.op_at.ensures refl level);
       kept = ap (take (txn_at x i).first) c.add_planned-reads.ensures.items ∙ take-append-le (txn_at x i).first ops (q ∷ []) (omega arith) ∙ c.loop-o.invariant.kept;
       most = c.max-most.ensures ∙ ap (λ n. max n c.add_planned-reads.result.event_level) c.loop-o.invariant.most ∙ ap (max (greatest (map event_level (event_sources_of (drop (txn_at x i).first ops))))) c.add_planned-reads.ensures.sums.event_level
           ∙ sym (most_with x c.requires.txns i c.requires.event c.args.writers.now c.requires.writers o within ops done q op refl refl event_level)

@@ -14,7 +14,7 @@ use Rattle.precedence_graph.proofs.WriterLemmas.{source_among_none}
 use Rattle.precedence_graph.proofs.planned.plan_transactions.Goals as goal
 
 pub new-requires : goal.new-requires
-new-requires c = omega (arith, c.len.ensures, txn_ops_few c.args.txns.now c.requires)
+new-requires c = omega (arith, c.op_count.ensures, txn_ops_few c.args.txns.now c.requires)
 
 pub loop-i-init : goal.loop-i-init
 loop-i-init c =
@@ -28,7 +28,7 @@ loop-i-init c =
       room = omega (arith, none, ap (λ (l : OpList). l.room) c.in_ok-ops.ensures);
       spare = omega (arith, ap (λ (l : OpList). l.room) c.in_ok-ops.ensures, ap (λ (l : OpList). l.spare) c.in_ok-ops.ensures);
       high = ap (λ (l : OpList). l.high) c.in_ok-ops.ensures;
-      event_room = omega (arith, c.in_ok-events.ensures.room, c.len-2.ensures);
+      event_room = omega (arith, c.in_ok-events.ensures.room, c.len.ensures);
       planned = record { many = refl; each = λ o lt. absurd (omega arith); low = All-same (λ q. q.level ≤ length ops) ops [] empty (All-nil (λ q. q.level ≤ length ops)) };
       events = record {
         events_are = ap (map txn_event) c.in_ok-events.ensures.items;
@@ -42,7 +42,7 @@ loop-i-init c =
       };
       writers = record {
         count = c.in_ok-writers.ensures.count ∙ sym none;
-        room = omega (arith, c.in_ok-writers.ensures.room, c.len.ensures);
+        room = omega (arith, c.in_ok-writers.ensures.room, c.op_count.ensures);
         source = λ key. subst (IsSource (length ops) (txn_target x) (λ _. 0) 1 key) (sym (c.in_ok-writers.ensures.none key)) (source_among_none (length ops) (txn_target x) key none);
       };
       levels = λ o lt. absurd (omega arith);

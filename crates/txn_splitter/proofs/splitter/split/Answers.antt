@@ -1,4 +1,4 @@
-use Rattle.std.proofs.Common.{◌≡◌, ℕ, ◌<◌, ◌≤◌, List, [], ◌∷◌, ◌++◌, All, length, get_or, take, replicate, sym, ap, subst, ◌∙◌, arith}
+use Rattle.std.proofs.Common.{◌≡◌, ℕ, ◌<◌, ◌≤◌, List, [], ◌∷◌, ◌++◌, All, length, get_or, map, take, replicate, sym, ap, subst, ◌∙◌, arith}
 use Rattle.std.proofs.lemmas.List.{length-take, length-map, get_or-take, take_more, take_all}
 use Rattle.std.proofs.lemmas.List.Elements.{All-nil, All-append, All-weaker}
 use Rattle.morph_base.specs.declared.limits.TheConstants.{EVENT_OPS, EVENTS}
@@ -8,7 +8,7 @@ use Rattle.morph_base.proofs.ValidLemmas.{All-from_map}
 use Rattle.morph_base.specs.Transactions.{high_of_all, Transaction, IsTransaction, transaction_of, transactions_of, by_time}
 use Rattle.txn_splitter.specs.declared.txns.TxnEvent.{TxnEvent}
 use Rattle.txn_splitter.specs.declared.txns.Txns.{Txns}
-use Rattle.txn_splitter.specs.Txns.{IsSplitOf}
+use Rattle.txn_splitter.specs.Txns.{IsSplitOf, txn_ops, txn_op_count}
 use Rattle.txn_splitter.proofs.TxnLemmas.{txn_ops_few}
 use Rattle.txn_splitter.proofs.OrderLemmas.{order_few, order_valid, order_alike, order_rises, order_at}
 use Rattle.txn_splitter.proofs.SplitLemmas.{split_none, split_more, alike_first}
@@ -24,12 +24,12 @@ op_count-count-requires-clause-each c =
 pub loop-event-init : goal.loop-event-init
 loop-event-init c = record {
   room = omega (arith, c.in_ok-events.ensures.room, c.len.ensures, c.deref-event-items.ensures.len);
-  so_far = split_none _ c.in_ok-events.ensures.items c.in_ok-ops.ensures.items c.in_ok-event_of.ensures.items;
+  so_far = split_none _ c.in_ok-events.ensures.items (ap (map (λ op. op.now)) c.in_ok-ops.ensures.items) c.in_ok-event_of.ensures.items;
   alike = rw c.in_ok-ops.ensures.items (All-nil (λ (op : Op). op.high ≡ high_of_all (transactions_of c.args.batch.now)));
 }
 
 pub overflow_cast-first : goal.overflow_cast-first
-overflow_cast-first c = omega (arith, c.len-first.ensures, txn_ops_few _ c.loop-event.invariant.so_far.txns)
+overflow_cast-first c = omega (arith, c.len-first.ensures, length-map c.loop-event.ops.items (λ op. op.now), txn_ops_few _ c.loop-event.invariant.so_far.txns)
 
 pub overflow_cast-len : goal.overflow_cast-len
 overflow_cast-len c = omega (arith, c.len-in-loop-event.ensures, c.loop-event.invariant.so_far.txns.numbering.few)
@@ -58,10 +58,10 @@ loop-event-preserved c =
     let x : Txns = record { events = c.loop-event.events; ops = c.loop-event.ops; event_of = c.loop-event.event_of } in
     let more : Txns = record { events = c.add.new.self; ops = c.append_ops.new.ops; event_of = c.append_ops.new.event_of } in
     let event_at : ℕ → ℕ → TxnEvent = λ first count. record { ts = t.ts; first = first; count = count } in
-    let events_are = c.add.ensures.items ∙ ap (λ first. x.events.items ++ event_at first c.len-in-loop-event-2.result ∷ []) c.len-first.ensures ∙ ap (λ count. x.events.items ++ event_at (length x.ops.items) count ∷ []) c.len-in-loop-event-2.ensures in
+    let events_are = c.add.ensures.items ∙ ap (λ first. x.events.items ++ event_at first c.len-in-loop-event-2.result ∷ []) (c.len-first.ensures ∙ sym (length-map x.ops.items (λ op. op.now))) ∙ ap (λ count. x.events.items ++ event_at (txn_op_count x) count ∷ []) c.len-in-loop-event-2.ensures in
     let high : ℕ = high_of_all (transactions_of c.args.batch.now) in
     let new : All (λ (op : Op). op.high ≡ high) t.ops = subst (λ (e : Transaction). All (λ (op : Op). op.high ≡ high) e.ops) (sym at.1) (order_alike _ c.requires i t inside) in
-    let alike : All (λ (op : Op). op.high ≡ high) more.ops.items = subst (All (λ (op : Op). op.high ≡ high)) (sym c.in_ok-append_ops.ensures.ops) (All-append (λ (op : Op). op.high ≡ high) x.ops.items t.ops c.loop-event.invariant.alike new) in
+    let alike : All (λ (op : Op). op.high ≡ high) (txn_ops more) = subst (All (λ (op : Op). op.high ≡ high)) (sym c.in_ok-append_ops.ensures.ops) (All-append (λ (op : Op). op.high ≡ high) (txn_ops x) t.ops c.loop-event.invariant.alike new) in
     let numbers_are = c.in_ok-append_ops.ensures.events ∙ ap (λ number. x.event_of.items ++ replicate (length t.ops) number) c.len-in-loop-event.ensures in
     record {
       room = omega (arith, c.add.ensures.room);

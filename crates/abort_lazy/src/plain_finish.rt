@@ -1,7 +1,8 @@
 //! Completes what is left of a plan on a closed board, on plain data.
 ghost use Rattle.std.specs.Prelude.{◌≡◌, ℕ, ◌+◌, ◌<◌, slice_index};
 ghost use Rattle.morph_base.specs.Clean.{outcome};
-ghost use Rattle.morph_base.specs.Plans.{IsPlan, IsSettledOf, op_count, event_count, event_at, event_of, final, verdict};
+ghost use Rattle.morph_base.specs.Plans.{IsPlan, IsSettledOf, op_count, event_count, event_at, event_of};
+ghost use Rattle.morph_base.specs.Plans.{final, verdict};
 ghost use Rattle.op_words.specs.declared.trail.View.{View};
 ghost use Rattle.op_words.specs.Closing.{IsClosed};
 ghost use Rattle.abort_lazy.specs.Finishing.{settler, HasValues, AreFinishedSoFar};

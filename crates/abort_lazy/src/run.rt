@@ -111,8 +111,8 @@ impl SettledRun {
     /// Joins the hands into the root and closes the board. Returns the closed board, and why events were not settled by
     /// the runners that tried them, worker 1 first. The runners' hands are all those of the board.
     ///
-    /// `idle` more workers had no work: there is a hand for each, which did nothing, and an empty list after those of the
-    /// runners. With the runners there are at most [`WORKERS`](morph_base::WORKERS) of them.
+    /// `idle` more workers had no work: there is a hand for each, which did nothing, and an empty list after those of
+    /// the runners. With the runners there are at most [`WORKERS`](morph_base::WORKERS) of them.
     ///
     /// If the plan is valid, the run was settled by [`settle_all`], and its runners had left nothing before, then each
     /// event was tried once, over all of them. A cause is true of the closed board: the worker that tried the event

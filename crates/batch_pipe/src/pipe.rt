@@ -1,4 +1,5 @@
-ghost use Rattle.std.specs.Prelude.{◌≡◌, ◌+◌, ◌<◌, ◌≤◌, ◌↔◌, [], ◌∷◌, ◌++◌, length, replicate, slice_set, slice_index_or, Option, None, Some, IfOk, IfNone, IfSome, IsTrue};
+ghost use Rattle.std.specs.Prelude.{◌≡◌, ◌+◌, ◌<◌, ◌≤◌, ◌↔◌, [], ◌∷◌, ◌++◌, length, replicate, slice_set};
+ghost use Rattle.std.specs.Prelude.{slice_index_or, Option, None, Some, IfOk, IfNone, IfSome, IsTrue};
 ghost use Rattle.morph_base.specs.Limits.{most_workers};
 ghost use Rattle.morph_base.specs.Flat.{contents};
 ghost use Rattle.morph_base.specs.States.{IsUpTo};
@@ -6,7 +7,8 @@ ghost use Rattle.morph_io.specs.Told.{HasRisen};
 ghost use Rattle.event_reader.specs.Limits.{input_bytes};
 ghost use Rattle.event_reader.specs.Versions.{greatest_of};
 ghost use Rattle.event_reader.specs.declared.fault.ReaderFault.TheVariants.{ReadFault};
-ghost use Rattle.rtrb.specs.Ring.{sent, received, known_items, known_free, producer_capacity, IsPair, SameProducer, SameConsumer};
+ghost use Rattle.rtrb.specs.Ring.{sent, received, known_items, known_free, producer_capacity, IsPair};
+ghost use Rattle.rtrb.specs.Ring.{SameProducer, SameConsumer};
 ghost use Rattle.batch_pipe.specs.declared.items.Ran.{Ran};
 ghost use Rattle.batch_pipe.specs.PlannedBatches.{layout_by};
 ghost use Rattle.batch_pipe.specs.PlanRuns.{manner, somes};

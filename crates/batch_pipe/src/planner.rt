@@ -1,4 +1,5 @@
-ghost use Rattle.std.specs.Prelude.{◌≡◌, ◌≢◌, ℕ, ◌+◌, ◌<◌, ◌≤◌, [], ◌∷◌, length, false, None, Some, Ok, IfOk, IfErr, IfNone, IfSome, IsErrOf, IsTrue};
+ghost use Rattle.std.specs.Prelude.{◌≡◌, ◌≢◌, ℕ, ◌+◌, ◌<◌, ◌≤◌, [], ◌∷◌, length, false, None, Some, Ok, IfOk};
+ghost use Rattle.std.specs.Prelude.{IfErr, IfNone, IfSome, IsErrOf, IsTrue};
 ghost use Rattle.morph_io.specs.Told.{HasRisen};
 ghost use Rattle.event_reader.specs.Limits.{input_bytes};
 ghost use Rattle.event_reader.specs.Versions.{greatest_of};
@@ -6,7 +7,8 @@ ghost use Rattle.event_reader.specs.declared.fault.ReaderFault.TheVariants.{Read
 ghost use Rattle.rtrb.specs.Ring.{SameProducer};
 ghost use Rattle.batch_pipe.specs.GivenBatches.{stand};
 ghost use Rattle.event_reader.specs.Reader.{SameReader};
-ghost use Rattle.batch_pipe.specs.PlannedBatches.{IsReadyPlan, Plans, StopsWithTail, PlansAhead, HasPlanned, HasFilled, CanPlan, IsIdlePlanner, layout_by};
+ghost use Rattle.batch_pipe.specs.PlannedBatches.{IsReadyPlan, Plans, StopsWithTail, PlansAhead, HasPlanned};
+ghost use Rattle.batch_pipe.specs.PlannedBatches.{HasFilled, CanPlan, IsIdlePlanner, layout_by};
 ghost use Rattle.batch_pipe.specs.PlanRuns.{one_or_none};
 
 use crate::items::Sent;

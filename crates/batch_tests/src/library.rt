@@ -68,8 +68,8 @@ struct Came {
     strategy: Strategy,
 }
 
-/// A new engine after a batch, and the outcome of the batch, which this many workers ran with this strategy, or with one
-/// chosen by the counts of the plan.
+/// A new engine after a batch, and the outcome of the batch, which this many workers ran with this strategy, or with
+/// one chosen by the counts of the plan.
 fn ended<R: Threads + Sync>(
     rt: &R,
     alloc: Global,

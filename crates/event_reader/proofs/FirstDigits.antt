@@ -1,7 +1,8 @@
 -- A line that begins with digits: its first part, and what follows that.
-use Rattle.std.proofs.Common.{◌≡◌, ℕ, ◌+◌, ◌<◌, Bool, true, false, ◌&&◌, List, [], ◌∷◌, ◌++◌, length, take, drop, get_or, refl, sym, ◌∙◌, ap, arith, append-nil}
+use Rattle.std.proofs.Common.{◌≡◌, ℕ, ◌+◌, ◌<◌, true, false, List, [], ◌∷◌, ◌++◌, length, take, drop, get_or, refl, sym, ◌∙◌, ap, arith, append-nil}
 use Rattle.std.specs.Char.{is_ascii_digit}
 use Rattle.std.specs.List.{All, list_all, slice_split, onto_first}
+use Rattle.std.proofs.lemmas.Bool.{and_parts}
 use Rattle.std.proofs.lemmas.Bool.Decides.{nat_tests}
 use Rattle.std.proofs.lemmas.List.{drop_more, drop_all, take-append-drop}
 use Rattle.std.proofs.lemmas.List.Elements.{All-nil, All-cons}
@@ -12,17 +13,13 @@ use Rattle.event_reader.specs.LineParts.{StartsWithPart}
 use Rattle.event_reader.proofs.Pieces.{some_piece, first_piece}
 
 -- digits are no spaces
-both : (a b : Bool) → (a && b) ≡ true → (a ≡ true) × (b ≡ true)
-both true b is = (refl, is)
-both false b is = absurd (cc)
-
 no_space : (byte : ℕ) → is_ascii_digit byte ≡ true → is_space byte ≡ false
 no_space byte digit = grind (arith, nat_tests)
 
 no_spaces : (digits : List ℕ) → list_all is_ascii_digit digits ≡ true → All (λ b. is_space b ≡ false) digits
 no_spaces [] all = All-nil (λ b. is_space b ≡ false)
 no_spaces (digit ∷ digits) all =
-    let parts = both (is_ascii_digit digit) (list_all is_ascii_digit digits) all in
+    let parts = and_parts (is_ascii_digit digit) (list_all is_ascii_digit digits) all in
     All-cons (λ b. is_space b ≡ false) digit digits (no_space digit parts.0) (no_spaces digits parts.1)
 
 -- the digits stand in front of the first part of what follows them

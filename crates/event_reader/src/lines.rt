@@ -1,4 +1,5 @@
-ghost use Rattle.std.specs.Prelude.{◌≡◌, ℕ, ◌+◌, ◌-◌, ◌<◌, ◌≤◌, ◌==◌, min, if◌then◌else◌, length, take, slice_range, IfOk, OnOk, OnErr};
+ghost use Rattle.std.specs.Prelude.{◌≡◌, ℕ, ◌+◌, ◌-◌, ◌<◌, ◌≤◌, ◌==◌, min, if◌then◌else◌, length, take};
+ghost use Rattle.std.specs.Prelude.{slice_range, IfOk, OnOk, OnErr};
 ghost use Rattle.morph_io.specs.Told.{ahead, IsAtEnd, HasRisen};
 
 use crate::answers::LineNext;
@@ -103,10 +104,12 @@ fn asked_bytes(free: usize, left: u64) -> usize
 }
 
 impl Lines {
-    ghost use Rattle.std.specs.Prelude.{◌≡◌, ℕ, ◌+◌, ◌<◌, ◌≤◌, List, [], ◌++◌, length, take, drop, IsTrue, IfOk, OnOk, IsErrOf, false, Ok, OnErr};
+    ghost use Rattle.std.specs.Prelude.{◌≡◌, ℕ, ◌+◌, ◌<◌, ◌≤◌, List, [], ◌++◌, length, take, drop, IsTrue};
+    ghost use Rattle.std.specs.Prelude.{IfOk, OnOk, IsErrOf, false, Ok, OnErr};
     ghost use Rattle.morph_io.specs.Told.{ahead, IsAtEnd, HasRisen};
     ghost use Rattle.event_reader.specs.Limits.{longest_line, deciding_bytes, input_bytes};
-    ghost use Rattle.event_reader.specs.Reader.{LinesView, new_lines, reading_of, AnswersLine, ShowsLine, TakesBytes, is_line, lines_given};
+    ghost use Rattle.event_reader.specs.Reader.{LinesView, new_lines, reading_of, AnswersLine, ShowsLine};
+    ghost use Rattle.event_reader.specs.Reader.{TakesBytes, is_line, lines_given};
     ghost use Rattle.event_reader.specs.Refills.{Fills, FillsBy};
     ghost use Rattle.event_reader.specs.SourceReads.{AsksForLine, line_state};
 

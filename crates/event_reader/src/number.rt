@@ -1,4 +1,5 @@
-ghost use Rattle.std.specs.Prelude.{◌≡◌, ◌<◌, ◌≤◌, true, false, [], length, take, slice_index, slice_index_or, MatchOption};
+ghost use Rattle.std.specs.Prelude.{◌≡◌, ◌<◌, ◌≤◌, true, false, [], length, take};
+ghost use Rattle.std.specs.Prelude.{slice_index, slice_index_or, MatchOption};
 ghost use Rattle.std.specs.Char.{is_ascii_digit};
 ghost use Rattle.std.specs.List.{list_all};
 ghost use Rattle.event_reader.specs.Words.{parts_of};
@@ -37,7 +38,8 @@ fn leading_digits(line: &[u8]) -> (usize, u64)
     (line.len(), value)
 }
 
-/// Whether the first `len` bytes of a line, all digits, are a number: if there are any, and no zero is in front of others.
+/// Whether the first `len` bytes of a line, all digits, are a number: if there are any, and no zero is in front of
+/// others.
 fn is_plain(line: &[u8], len: usize) -> bool
     requires inside { len ≤ length line.now }
     requires digits { list_all is_ascii_digit (take len line.now) ≡ true }

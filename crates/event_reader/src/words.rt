@@ -1,4 +1,5 @@
-ghost use Rattle.std.specs.Prelude.{◌≡◌, ℕ, ◌<◌, ◌≤◌, List, [], ◌∷◌, length, drop, position, slice_index_or, MatchOption};
+ghost use Rattle.std.specs.Prelude.{◌≡◌, ℕ, ◌<◌, ◌≤◌, List, [], ◌∷◌, length, drop};
+ghost use Rattle.std.specs.Prelude.{position, slice_index_or, MatchOption};
 ghost use Rattle.event_reader.specs.Words.{is_space, parts_of, words_of};
 ghost use Rattle.event_reader.specs.LineParts.{HasRest};
 ghost use Rattle.event_reader.specs.Limits.{line_words};

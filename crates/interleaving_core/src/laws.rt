@@ -2,7 +2,8 @@
 //!
 //! They hold for every valid plan and every cap below [`ATTEMPTS`](morph_base::ATTEMPTS), whatever the order of steps
 //! and however many workers make them. A crate above cites the lemmas behind them, in `proofs/`.
-ghost use Rattle.std.specs.Prelude.{◌≡◌, ℕ, ◌+◌, ◌*◌, ◌<◌, ◌≤◌, Bool, List, ◌++◌, reverse, Contains, Some, count_by, sum_by};
+ghost use Rattle.std.specs.Prelude.{◌≡◌, ℕ, ◌+◌, ◌*◌, ◌<◌, ◌≤◌, Bool, List, ◌++◌, reverse, Contains, Some};
+ghost use Rattle.std.specs.Prelude.{count_by, sum_by};
 ghost use Rattle.morph_base.specs.declared.plan.Plan.{Plan};
 ghost use Rattle.morph_base.specs.Limits.{most_attempts};
 ghost use Rattle.morph_base.specs.Plans.{IsPlan, op_count};
@@ -17,11 +18,13 @@ ghost use Rattle.interleaving_core.specs.Core.{Core, start, places, IsSettledIn,
 ghost use Rattle.interleaving_core.specs.Steps.{May, after, Run};
 ghost use Rattle.interleaving_core.specs.Soundness.{IsSound};
 ghost use Rattle.interleaving_core.specs.Growth.{Grows};
-ghost use Rattle.interleaving_core.specs.Counts.{rises_at, shown_now, is_committed, evaluated, spreads, rolled, IsExplored, AreAgreed};
+ghost use Rattle.interleaving_core.specs.Counts.{rises_at, shown_now, is_committed, evaluated, spreads};
+ghost use Rattle.interleaving_core.specs.Counts.{rolled, IsExplored, AreAgreed};
 ghost use Rattle.interleaving_core.specs.Orders.{Leads};
 ghost use Rattle.interleaving_core.specs.Sightings.{IsNoted, IsRecordNoted};
 ghost use Rattle.morph_base.specs.declared.word.OpWord.{OpWord};
-ghost use Rattle.interleaving_core.specs.Schedules.{RestsOnAborted, IsFold, IsSettledOnce, HasFewAttempts, TellsSteps, settles};
+ghost use Rattle.interleaving_core.specs.Schedules.{RestsOnAborted, IsFold, IsSettledOnce, HasFewAttempts};
+ghost use Rattle.interleaving_core.specs.Schedules.{TellsSteps, settles};
 
 /// The start is sound. A step that may be made keeps a sound state sound, and loses nothing that was seen before it.
 ///

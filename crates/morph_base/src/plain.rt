@@ -1,9 +1,11 @@
 //! The fold of a batch, done as its definition says: the events one at a time by rising timestamp, on plain values.
 //!
 //! It has no graph and no second try. It is slow and short, and every other way of running a batch is compared with it.
-ghost use Rattle.std.specs.Prelude.{◌≡◌, ℕ, ◌+◌, ◌<◌, ◌≤◌, Bool, true, false, List, [], ◌∷◌, length, map, unwrap_or, All, IfOk, IfSome, OnOk, OnErr, MatchOption};
+ghost use Rattle.std.specs.Prelude.{◌≡◌, ℕ, ◌+◌, ◌<◌, ◌≤◌, Bool, true, false, List, [], ◌∷◌, length, map};
+ghost use Rattle.std.specs.Prelude.{unwrap_or, All, IfOk, IfSome, OnOk, OnErr, MatchOption};
 ghost use Rattle.morph_base.specs.Operations.{IsShaped, InLayout, reads};
-ghost use Rattle.morph_base.specs.Transactions.{IsBatch, IsTransaction, BatchKeysIn, HasKeysIn, transaction_of, transactions_of, targets, by_time};
+ghost use Rattle.morph_base.specs.Transactions.{IsBatch, IsTransaction, BatchKeysIn, HasKeysIn};
+ghost use Rattle.morph_base.specs.Transactions.{transaction_of, transactions_of, targets, by_time};
 ghost use Rattle.morph_base.specs.States.{answer as answer_in, all_answer, commits, after, fold_batch, IsAfterSome};
 ghost use Rattle.morph_base.specs.Outcomes.{fate, fate_of, fates};
 ghost use Rattle.morph_base.specs.Flat.{contents, put_all};

@@ -1,4 +1,5 @@
-ghost use Rattle.std.specs.Prelude.{◌≡◌, ℕ, ◌+◌, ◌<◌, ◌≤◌, [], ◌∷◌, ◌++◌, length, map, take, drop, All, slice_set, slice_index_or, IfOk, IfSome};
+ghost use Rattle.std.specs.Prelude.{◌≡◌, ℕ, ◌+◌, ◌<◌, ◌≤◌, [], ◌∷◌, ◌++◌, length, map, take, drop, All};
+ghost use Rattle.std.specs.Prelude.{slice_set, slice_index_or, IfOk, IfSome};
 ghost use Rattle.morph_base.specs.declared.plan.Origin.TheVariants.{Base};
 ghost use Rattle.morph_base.specs.declared.limits.TheConstants.{MAX, PARAMS, READS};
 ghost use Rattle.morph_base.specs.Functions.{value_of};

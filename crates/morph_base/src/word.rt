@@ -1,7 +1,10 @@
 ghost use Rattle.std.specs.Prelude.{◌≡◌, ◌<◌, ◌↔◌, IsTrue, IsSome, IfSome, Some};
 ghost use Rattle.morph_base.specs.declared.word.OpWord.{OpWord};
 ghost use Rattle.morph_base.specs.declared.word.OpState.{OpState};
-ghost use Rattle.morph_base.specs.Words.{IsWord, packed, code_of, is_idle as is_idle_in, is_evaluated as is_evaluated_in, is_settled as is_settled_in, has_worker as has_worker_in, is_failed as is_failed_in, is_open as is_open_in, blocked as blocked_at};
+ghost use Rattle.morph_base.specs.Words.{IsWord, packed, code_of, is_idle as is_idle_in};
+ghost use Rattle.morph_base.specs.Words.{is_evaluated as is_evaluated_in, is_settled as is_settled_in};
+ghost use Rattle.morph_base.specs.Words.{has_worker as has_worker_in, is_failed as is_failed_in};
+ghost use Rattle.morph_base.specs.Words.{is_open as is_open_in, blocked as blocked_at};
 
 use crate::limits::{MAX, VALUES, WORKERS};
 

@@ -146,9 +146,9 @@ impl Engine {
 
     /// Runs a plan that was made from the present state: the state becomes the fold of its events.
     ///
-    /// There are 1 to [`WORKERS`](morph_base::WORKERS) workers. As many take part as the batch has work for: one for each
-    /// 32,768 operations, and at least one. Under a gate that [needs threads](Gate::needs_threads) all of them do. The
-    /// others have a hand on the board that does nothing, and an empty list of causes.
+    /// There are 1 to [`WORKERS`](morph_base::WORKERS) workers. As many take part as the batch has work for: one for
+    /// each 32,768 operations, and at least one. Under a gate that [needs threads](Gate::needs_threads) all of them do.
+    /// The others have a hand on the board that does nothing, and an empty list of causes.
     ///
     /// Those who take part share a board with a word for each operation. First they explore: they evaluate the
     /// operations, on the values that their sources show at the time. By strata they go level by level, and take the

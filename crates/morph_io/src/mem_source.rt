@@ -1,4 +1,5 @@
-ghost use Rattle.std.specs.Prelude.{◌≡◌, ◌+◌, ◌<◌, ◌↔◌, min, List, [], ◌++◌, length, take, drop, Some, Contains, IsErr, IfOk, OnErr};
+ghost use Rattle.std.specs.Prelude.{◌≡◌, ◌+◌, ◌<◌, ◌↔◌, min, List, [], ◌++◌, length, take, drop, Some};
+ghost use Rattle.std.specs.Prelude.{Contains, IsErr, IfOk, OnErr};
 ghost use Rattle.morph_io.specs.InMemory.{Supply, SupplyReads, counted};
 
 use crate::calls::{is_next_call_among, next_count};

@@ -1,10 +1,10 @@
 //! Evaluates operations on the shared board, by runners: a worker's hand, its answers, and what it left.
 //!
 //! [`evaluate`] takes a runner through one operation: it makes the operation ready if it is blocked, claims it, fetches
-//! its places in order, and finishes it. If a source stops this, the operation is given back. A blocked operation before
-//! its last attempt takes one call of the board, [`attempt`](op_words::Board::attempt). The answer names the cause, with
-//! the word that shows it, and the runner counts it. [`Runners`] are the runners of a board: one for the root, and one
-//! for each hand that is split off for a worker.
+//! its places in order, and finishes it. If a source stops this, the operation is given back. A blocked operation
+//! before its last attempt takes one call of the board, [`attempt`](op_words::Board::attempt). The answer names the
+//! cause, with the word that shows it, and the runner counts it. [`Runners`] are the runners of a board: one for the
+//! root, and one for each hand that is split off for a worker.
 //!
 //! ```text
 //! let (board, root) = Board::new(alloc, &plan, 1, 0)?;

@@ -1,4 +1,5 @@
-ghost use Rattle.std.specs.Prelude.{◌≡◌, ℕ, ◌+◌, ◌-◌, ◌<◌, ◌≤◌, ◌↔◌, ◌++◌, ◌∷◌, [], All, None, IsNone, IfSome, IfOk, length, map, drop, max, reverse, slice_set, slice_index_or};
+ghost use Rattle.std.specs.Prelude.{◌≡◌, ℕ, ◌+◌, ◌-◌, ◌<◌, ◌≤◌, ◌↔◌, ◌++◌, ◌∷◌, [], All, None, IsNone};
+ghost use Rattle.std.specs.Prelude.{IfSome, IfOk, length, map, drop, max, reverse, slice_set, slice_index_or};
 ghost use Rattle.std.specs.Borrow.{sem};
 ghost use Rattle.morph_base.specs.Limits.{most_workers};
 ghost use Rattle.op_words.specs.Hands.{view_of, IsHandOf};

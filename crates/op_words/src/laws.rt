@@ -7,7 +7,9 @@ ghost use Rattle.morph_base.specs.declared.plan.Plan.{Plan};
 ghost use Rattle.op_words.specs.declared.closed.Closed.{Closed};
 ghost use Rattle.op_words.specs.declared.trail.View.{View};
 ghost use Rattle.op_words.specs.Closing.{IsClosed};
-ghost use Rattle.op_words.specs.Kinds.{Moment, Loads, Makes, Claims, Records, Finishes, GivesBack, Spreads, RollsBack, DecidesEvent, Settles, LoadsRecord, LoadsDecision, MayTakeNumber, Lowers, GetsRoom, MakesHand, JoinsHand, HoldsAlone};
+ghost use Rattle.op_words.specs.Kinds.{Moment, Loads, Makes, Claims, Records, Finishes, GivesBack, Spreads};
+ghost use Rattle.op_words.specs.Kinds.{RollsBack, DecidesEvent, Settles, LoadsRecord, LoadsDecision};
+ghost use Rattle.op_words.specs.Kinds.{MayTakeNumber, Lowers, GetsRoom, MakesHand, JoinsHand, HoldsAlone};
 
 /// Each atomic step is a step of the machine, or leaves its state as it was.
 ///

@@ -20,8 +20,8 @@
 //! Another hand may come between any two of these calls, so each of them says what it found. A value that was read
 //! before it was settled is a guess. It is judged later (`verdict`), the event is decided (`decide`), and each of its
 //! operations is settled (`settle`). What a hand has judged it can decide and settle without a second look
-//! (`verdict_at`, `conclude`, `settle_good`). A guess that turns out wrong is taken back (`spread`, `roll_back`), and the
-//! operation runs again.
+//! (`verdict_at`, `conclude`, `settle_good`). A guess that turns out wrong is taken back (`spread`, `roll_back`), and
+//! the operation runs again.
 //!
 //! # The files
 //!
@@ -29,7 +29,7 @@
 //! |---|---|
 //! | `board` | `Board` and `Hand` |
 //! | `board/calls` | a new board; its hands; `peek`, `ready`, `claim`, `fetch`, `finish`, `give_back` |
-//! | `board/attempt` | `attempt`, which evaluates a blocked operation in one call; whether an attempt may read guesses |
+//! | `board/attempt` | `attempt`, which evaluates a blocked operation in one call; which attempts may read guesses |
 //! | `board/verdict`, `board/decide`, `board/settle` | the calls of these names |
 //! | `board/roll_back` | `spread`, `roll_back`, and whether a word is within the cap |
 //! | `board/counters`, `board/hands`, `board/close` | counters and level word; a hand's own calls; the end |

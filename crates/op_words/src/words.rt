@@ -5,7 +5,8 @@ ghost use Rattle.morph_base.specs.Limits.{most_attempts};
 ghost use Rattle.morph_base.specs.Plans.{IsPlan};
 ghost use Rattle.morph_base.specs.Words.{is_idle, is_settled, has_run as is_run};
 ghost use Rattle.interleaving_core.specs.declared.entry.Record.{Record};
-ghost use Rattle.interleaving_core.specs.Core.{record_value, ready as ready_at, claimed as claimed_at, spread as spread_at};
+ghost use Rattle.interleaving_core.specs.Core.{record_value, ready as ready_at, claimed as claimed_at};
+ghost use Rattle.interleaving_core.specs.Core.{spread as spread_at};
 ghost use Rattle.interleaving_core.specs.Core.{settled as settled_at, settled_aborted as aborted_at};
 ghost use Rattle.op_words.specs.Layout.{packed_record, packed_decision, AreFirstWords};
 

@@ -3,7 +3,9 @@ ghost use Rattle.morph_base.specs.Graphs.{greatest, level_of};
 ghost use Rattle.morph_base.specs.Operations.{high_in, reads, IsShaped};
 ghost use Rattle.morph_base.specs.OpLists.{op_list};
 ghost use Rattle.txn_splitter.specs.Txns.{IsTxns, txn_ops, txn_count, txn_op_count, txn_at};
-ghost use Rattle.precedence_graph.specs.Planned.{HasWriters, HasLevels, HasEventLevels, IsWrittenOf, ArePlanned, AreEventsPlanned, IsSumOf, event_sources_of, members_of, padded};
+ghost use Rattle.precedence_graph.specs.Planned.{HasWriters, HasLevels, HasEventLevels, IsWrittenOf};
+ghost use Rattle.precedence_graph.specs.Planned.{ArePlanned, AreEventsPlanned, IsSumOf, event_sources_of};
+ghost use Rattle.precedence_graph.specs.Planned.{members_of, padded};
 ghost use Rattle.precedence_graph.specs.Writers.{entered_level, entered_event_level, source_in};
 
 use crate::edges::Written;

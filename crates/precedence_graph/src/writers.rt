@@ -50,7 +50,8 @@ pub struct Writers {
 }
 
 impl Writers {
-    ghost use Rattle.precedence_graph.specs.Writers.{entered_count, room_of, source_in, entered_level, entered_event_level};
+    ghost use Rattle.precedence_graph.specs.Writers.{entered_count, room_of, source_in, entered_level};
+    ghost use Rattle.precedence_graph.specs.Writers.{entered_event_level};
 
     /// Makes a table without operations, with room for `n`.
     pub fn new(alloc: Global, n: usize) -> Result<Self, OutOfMemory>

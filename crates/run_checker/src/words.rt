@@ -1,7 +1,8 @@
 //! What the words of a line say.
 ghost use Rattle.std.specs.Prelude.{◌≡◌, ◌≤◌, drop};
 ghost use Rattle.run_checker.specs.Lines.{greatest_id, greatest_small, greatest_value};
-ghost use Rattle.run_checker.specs.LineEvents.{number_up_to, decision_said, op_said, pair_said, fetch_said, decide_said};
+ghost use Rattle.run_checker.specs.LineEvents.{number_up_to, decision_said, op_said, pair_said, fetch_said};
+ghost use Rattle.run_checker.specs.LineEvents.{decide_said};
 
 use event_reader::{Number, Words, read_number};
 

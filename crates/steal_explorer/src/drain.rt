@@ -2,7 +2,8 @@
 ghost use Rattle.std.specs.Prelude.{◌≡◌, ◌<◌, All};
 ghost use Rattle.crossbeam_deque.specs.Handles.{worker_flavor};
 ghost use Rattle.op_words.specs.Hands.{cap_of};
-ghost use Rattle.steal_explorer.specs.Draining.{WalkedKnown, IsLeftWithNobody, IsCleared, HasAll, IsEmptied, AreEmptied};
+ghost use Rattle.steal_explorer.specs.Draining.{WalkedKnown, IsLeftWithNobody, IsCleared, HasAll, IsEmptied};
+ghost use Rattle.steal_explorer.specs.Draining.{AreEmptied};
 ghost use Rattle.steal_explorer.specs.Handing.{whole};
 ghost use Rattle.abort_eager.specs.Grounds.{IsGround, ground_rules};
 ghost use Rattle.steal_explorer.specs.Members.{own};

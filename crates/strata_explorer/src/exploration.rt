@@ -11,7 +11,8 @@ ghost use Rattle.op_eval.specs.Further.{HaveGoneOn};
 ghost use Rattle.op_eval.specs.Exploring.{MayExplore, IsExploredBoard, Unused, parts_of, rules_on};
 ghost use Rattle.op_eval.specs.Gathering.{runners_of};
 ghost use Rattle.op_eval.specs.Running.{hand_view, IsFreeRunner};
-ghost use Rattle.strata_explorer.specs.Levels.{ops_of, rolled_by, AreStrata, FollowsPass, HasPassed, IsAlone, counters_for};
+ghost use Rattle.strata_explorer.specs.Levels.{ops_of, rolled_by, AreStrata, FollowsPass, HasPassed, IsAlone};
+ghost use Rattle.strata_explorer.specs.Levels.{counters_for};
 ghost use Rattle.strata_explorer.specs.Passes.{course_rules, AreLike, IsPassed};
 
 use crate::course::Course;

@@ -8,7 +8,8 @@ ghost use Rattle.op_words.specs.Hands.{MayBegin};
 ghost use Rattle.op_words.specs.Hands.{cap_of, view_of, IsHandOf};
 ghost use Rattle.op_eval.specs.Running.{hand_view};
 ghost use Rattle.abort_lazy.specs.Transactions.{MaySettleEvent, IsAnswered};
-ghost use Rattle.abort_lazy.specs.Progress.{so_far, IsIdleSoFar, IsOutdatedSoFar, IsMadeSoFar, IsFoundSoFar, ReadyDoes, AllReadyDoes};
+ghost use Rattle.abort_lazy.specs.Progress.{so_far, IsIdleSoFar, IsOutdatedSoFar, IsMadeSoFar, IsFoundSoFar};
+ghost use Rattle.abort_lazy.specs.Progress.{ReadyDoes, AllReadyDoes};
 
 use super::standing::{Grounds, Say, Standing};
 use super::{TxnAnswer, end_of, first_of};

@@ -5,7 +5,8 @@ ghost use Rattle.morph_base.specs.Plans.{IsPlan, op_count, event_count};
 ghost use Rattle.morph_base.specs.Clean.{source, outcome};
 ghost use Rattle.morph_base.specs.Known.{AreKnown};
 ghost use Rattle.interleaving_core.specs.Core.{IsSettledIn, value_in, places};
-ghost use Rattle.interleaving_core.specs.Steps.{AnswersOnSettled, FailsOnSettled, AllAnswer, OneFails, RecordAgrees, RecordsAgree, IsRecordedOtherwise};
+ghost use Rattle.interleaving_core.specs.Steps.{AnswersOnSettled, FailsOnSettled, AllAnswer, OneFails};
+ghost use Rattle.interleaving_core.specs.Steps.{RecordAgrees, RecordsAgree, IsRecordedOtherwise};
 ghost use Rattle.interleaving_core.specs.Stored.{core_of, IsStateOf};
 
 use super::CoreState;

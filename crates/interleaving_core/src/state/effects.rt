@@ -3,7 +3,8 @@ ghost use Rattle.std.specs.Prelude.{◌≡◌, ℕ, ◌+◌, ◌*◌, ◌<◌, �
 ghost use Rattle.morph_base.specs.declared.limits.TheConstants.{READS};
 ghost use Rattle.interleaving_core.specs.Core.{put};
 ghost use Rattle.interleaving_core.specs.declared.claim.Claim.{Claim};
-ghost use Rattle.interleaving_core.specs.Stored.{core_of, held_of, word_count, published_count, decision_count, HasClaimedValues, IsSameShape};
+ghost use Rattle.interleaving_core.specs.Stored.{core_of, held_of, word_count, published_count};
+ghost use Rattle.interleaving_core.specs.Stored.{decision_count, HasClaimedValues, IsSameShape};
 
 use super::CoreState;
 use crate::claim::Claim;

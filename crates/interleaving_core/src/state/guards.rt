@@ -2,7 +2,10 @@
 ghost use Rattle.std.specs.Prelude.{◌≡◌, ◌<◌, ◌↔◌, IsTrue, Some};
 ghost use Rattle.morph_base.specs.Plans.{IsPlan, op_count, event_of};
 ghost use Rattle.interleaving_core.specs.Core.{places};
-ghost use Rattle.interleaving_core.specs.Steps.{May, MayReady, MayClaim, IsClaimedBy, MayFetch, MayFinish, MaySpread, MayRollBack, MayDecide, MaySettle, MaySettleCommitted, MaySettleAborted, HasOtherVersion, IsSpreadOnSettled, IsStaleAtCap};
+ghost use Rattle.interleaving_core.specs.Steps.{May, MayReady, MayClaim, IsClaimedBy, MayFetch, MayFinish};
+ghost use Rattle.interleaving_core.specs.Steps.{MaySpread, MayRollBack, MayDecide, MaySettle};
+ghost use Rattle.interleaving_core.specs.Steps.{MaySettleCommitted, MaySettleAborted, HasOtherVersion};
+ghost use Rattle.interleaving_core.specs.Steps.{IsSpreadOnSettled, IsStaleAtCap};
 ghost use Rattle.interleaving_core.specs.Stored.{core_of, cap_of, IsStateOf};
 
 use super::CoreState;

@@ -8,7 +8,9 @@ ghost use Rattle.morph_base.specs.Known.{IsKnown};
 ghost use Rattle.interleaving_core.specs.declared.claim.Claim.{Claim};
 ghost use Rattle.interleaving_core.specs.Core.{IsSettledIn, value_in, IsSettledAs, IsVersion, fetched, places};
 ghost use Rattle.interleaving_core.specs.Steps.{IsWorker, IsClaimedBy};
-ghost use Rattle.interleaving_core.specs.Stored.{core_of, word_count, published_count, IsInside, IsSettledOtherwise, HasVersionBesides, AllFit, HasClaimedValues, IsStateOf};
+ghost use Rattle.interleaving_core.specs.Stored.{core_of, word_count, published_count, IsInside};
+ghost use Rattle.interleaving_core.specs.Stored.{IsSettledOtherwise, HasVersionBesides, AllFit};
+ghost use Rattle.interleaving_core.specs.Stored.{HasClaimedValues, IsStateOf};
 
 use super::CoreState;
 use crate::claim::Claim;

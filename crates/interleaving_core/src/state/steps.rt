@@ -2,7 +2,10 @@
 ghost use Rattle.std.specs.Prelude.{◌≡◌, ◌<◌, ◌↔◌};
 ghost use Rattle.morph_base.specs.Plans.{IsPlan, op_count, event_of};
 ghost use Rattle.interleaving_core.specs.Core.{entry_of};
-ghost use Rattle.interleaving_core.specs.Steps.{May, MayReady, MayClaim, IsClaimedBy, MayFetch, MayFinish, MaySpread, MayRollBack, MaySettle, after, readied, claiming, fetching, end_of, finishing, giving_back, spread_of, spreading, rolling_back, settling};
+ghost use Rattle.interleaving_core.specs.Steps.{May, MayReady, MayClaim, IsClaimedBy, MayFetch, MayFinish};
+ghost use Rattle.interleaving_core.specs.Steps.{MaySpread, MayRollBack, MaySettle, after, readied, claiming};
+ghost use Rattle.interleaving_core.specs.Steps.{fetching, end_of, finishing, giving_back, spread_of};
+ghost use Rattle.interleaving_core.specs.Steps.{spreading, rolling_back, settling};
 ghost use Rattle.interleaving_core.specs.Stored.{core_of, cap_of, IsSameShape, IsStateOf};
 
 use super::CoreState;

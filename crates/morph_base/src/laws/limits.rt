@@ -1,7 +1,8 @@
 //! The numbers of the limits: the constants of the code are those that the definitions own.
 ghost use Rattle.std.specs.Prelude.{◌≡◌};
 ghost use Rattle.morph_base.specs.declared.limits.TheConstants.{EVENT_OPS, EVENTS, FIRST_MAX, MAX, PARAMS, READS};
-ghost use Rattle.morph_base.specs.Limits.{first_greatest_value, greatest_value, most_batch_events, most_event_ops, most_parameters, most_reads};
+ghost use Rattle.morph_base.specs.Limits.{first_greatest_value, greatest_value, most_batch_events};
+ghost use Rattle.morph_base.specs.Limits.{most_event_ops, most_parameters, most_reads};
 
 /// Each constant of the code that a definition or a clause cites is the number that `specs/Limits` owns.
 ///

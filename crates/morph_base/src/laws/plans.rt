@@ -11,7 +11,9 @@ ghost use Rattle.morph_base.specs.States.{State, after_all, fold_batch};
 ghost use Rattle.morph_base.specs.Functions.{value_of};
 ghost use Rattle.morph_base.specs.Operations.{IsShaped};
 ghost use Rattle.morph_base.specs.Transactions.{Transaction, IsTransaction, IsBatch};
-ghost use Rattle.morph_base.specs.Plans.{IsPlan, HasBases, high_of, PlanKeysIn, event_count, op_count, event_at, event_of, op_at, keys_of, origin_at, transactions, filled_plan, opening, state_at, final};
+ghost use Rattle.morph_base.specs.Plans.{IsPlan, HasBases, high_of, PlanKeysIn, event_count, op_count};
+ghost use Rattle.morph_base.specs.Plans.{event_at, event_of, op_at, keys_of, origin_at, transactions};
+ghost use Rattle.morph_base.specs.Plans.{filled_plan, opening, state_at, final};
 ghost use Rattle.morph_base.specs.Graphs.{IsGraph, IsValidPlan, op_depth, event_depth};
 
 /// If some state has a plan's bases, then the state that the bases themselves show has them: the same value for the

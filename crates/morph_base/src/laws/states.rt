@@ -4,7 +4,8 @@ ghost use Rattle.morph_base.specs.declared.key.Key.{Key};
 ghost use Rattle.morph_base.specs.declared.event.Batch.{Batch};
 ghost use Rattle.morph_base.specs.declared.plan.Plan.{Plan};
 ghost use Rattle.morph_base.specs.States.{State, fold_batch, overwritten};
-ghost use Rattle.morph_base.specs.Plans.{IsPlan, IsPlanOf, HasBases, IsLastWriterIn, IsUnwrittenIn, op_count, event_at, event_of, target, state_at, event_count, final};
+ghost use Rattle.morph_base.specs.Plans.{IsPlan, IsPlanOf, HasBases, IsLastWriterIn, IsUnwrittenIn, op_count};
+ghost use Rattle.morph_base.specs.Plans.{event_at, event_of, target, state_at, event_count, final};
 
 /// The state after the first i events of a plan: a key that one of their operations changes has the fold's value of the
 /// last one that does, and each other key what it had before the batch. As one equation of states: the state before the

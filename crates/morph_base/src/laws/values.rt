@@ -4,7 +4,9 @@ ghost use Rattle.morph_base.specs.declared.plan.Plan.{Plan};
 ghost use Rattle.morph_base.specs.States.{State};
 ghost use Rattle.morph_base.specs.Outcomes.{Fate, fates};
 ghost use Rattle.morph_base.specs.Graphs.{ops_in, below};
-ghost use Rattle.morph_base.specs.Plans.{IsPlan, HasBases, high_of, op_count, event_of, keys_of, key_at, state_at, value_at, commits_at, event_at, event_count, transactions, final, verdict};
+ghost use Rattle.morph_base.specs.Plans.{IsPlan, HasBases, high_of, op_count, event_of, keys_of, key_at};
+ghost use Rattle.morph_base.specs.Plans.{state_at, value_at, commits_at, event_at, event_count, transactions};
+ghost use Rattle.morph_base.specs.Plans.{final, verdict};
 ghost use Rattle.morph_base.specs.Guesses.{IsGuess, guess};
 ghost use Rattle.morph_base.specs.Clean.{source, IsClean};
 

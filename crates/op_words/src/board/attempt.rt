@@ -5,7 +5,8 @@ ghost use Rattle.interleaving_core.specs.Core.{blocked as blocked_at, places};
 ghost use Rattle.op_words.specs.Attempts.{AttemptDoes};
 ghost use Rattle.op_words.specs.Values.{AreUsable, CarryDoes, IsAllLoaded, IsKeptUpTo};
 ghost use Rattle.op_words.specs.Views.{Holds};
-ghost use Rattle.op_words.specs.Hands.{call_on, cap_of, view_of, fetched_of, HasHeldValues, IsHandOf, MayBegin, MayCall};
+ghost use Rattle.op_words.specs.Hands.{call_on, cap_of, view_of, fetched_of};
+ghost use Rattle.op_words.specs.Hands.{HasHeldValues, IsHandOf, MayBegin, MayCall};
 
 use super::{Board, Hand, Holding};
 use crate::answers::{Attempt, Stop};
@@ -22,10 +23,10 @@ impl Board {
 
     /// Evaluates a blocked operation at this attempt, which is not the last one.
     ///
-    /// The call loads the sources, place by place, up to the first one that has no value. If all have one, the operation
-    /// is made ready and claimed, these values are recorded, and it is finished, each by one step. That is what
-    /// [`ready`](Board::ready), [`claim`](Board::claim), [`fetch`](Board::fetch) and [`finish`](Board::finish) do one
-    /// after another, with half of the loads.
+    /// The call loads the sources, place by place, up to the first one that has no value. If all have one, the
+    /// operation is made ready and claimed, these values are recorded, and it is finished, each by one step. That is
+    /// what [`ready`](Board::ready), [`claim`](Board::claim), [`fetch`](Board::fetch) and [`finish`](Board::finish) do
+    /// one after another, where each source is loaded twice.
     pub fn attempt(&self, hand: &mut Hand, plan: &Plan, op: u32, attempt: u8) -> Attempt
         requires may { MayBegin self.now hand.old plan.now op }
         requires word { IsWord (blocked_at attempt) }

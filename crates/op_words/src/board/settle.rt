@@ -110,8 +110,8 @@ impl Board {
         }
     }
 
-    /// Settles an operation of an event that commits, from the word at which the hand saw it good. It loads nothing: the
-    /// answer is [`SettleAnswer::Not`] exactly if the exchange finds another word.
+    /// Settles an operation of an event that commits, from the word at which the hand saw it good. It loads nothing:
+    /// the answer is [`SettleAnswer::Not`] exactly if the exchange finds another word.
     pub fn settle_good(&self, hand: &mut Hand, plan: &Plan, op: u32, word: OpWord) -> SettleAnswer
         requires may { MayBegin self.now hand.old plan.now op }
         requires good { IsGoodAt plan.now (view_of hand.old) op word }

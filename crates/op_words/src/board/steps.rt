@@ -3,7 +3,8 @@ ghost use Rattle.std.specs.Prelude.{◌≡◌, ℕ, ◌≤◌, ◌<◌, List, []
 ghost use Rattle.morph_base.specs.declared.limits.TheConstants.{MAX};
 ghost use Rattle.morph_base.specs.Plans.{op_at, op_count, origin_at};
 ghost use Rattle.morph_base.specs.Words.{IsWord};
-ghost use Rattle.interleaving_core.specs.Core.{blocked as blocked_at, ready as ready_at, claimed as claimed_at, finished, places};
+ghost use Rattle.interleaving_core.specs.Core.{blocked as blocked_at, ready as ready_at};
+ghost use Rattle.interleaving_core.specs.Core.{claimed as claimed_at, finished, places};
 ghost use Rattle.op_words.specs.declared.trail.View.{View as V};
 ghost use Rattle.op_words.specs.Trails.{left};
 ghost use Rattle.op_words.specs.Views.{Holds, IsLone, making, claiming, finishing, giving_back};

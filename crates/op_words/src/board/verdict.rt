@@ -28,8 +28,8 @@ impl Board {
         verdict
     }
 
-    /// Says what an operation's records are worth, as [`Board::verdict`] does, and returns the word of it that was loaded
-    /// last. A good operation can be [settled](Board::settle_good) from that word.
+    /// Says what an operation's records are worth, as [`Board::verdict`] does, and returns the word of it that was
+    /// loaded last. A good operation can be [settled](Board::settle_good) from that word.
     pub fn verdict_at(&self, hand: &mut Hand, plan: &Plan, op: u32) -> (OpWord, Verdict)
         requires may { MayBegin self.now hand.old plan.now op }
         ensures hand { IsHandOf self.now hand.new }

@@ -274,26 +274,23 @@ module _ (p : Plan) (valid : IsValidPlan p) (x : Prepared) (prepared : IsPrepare
     }
 
     -- each runner took a number from the counter of each level that is shared
-    took_part : HaveTakenPart p (root_view x.idle any rs) (length before)
-    took_part = record {
-      from = e.next_counter;
-      each = λ l k lt many_events inside.
-          let there : k < length rs = (let same = many in omega (arith, inside, same)) in
-          let tag = (settling.each k any there).tag ∙ begun.tags k any (subst (λ n. k < n) settling.len there) in
-          elim (settling.shared l lt many_events k any there) [
-            | inl none ↦ absurd (omega (arith, none, many_events))
-            | inr took ↦
-                record {
-                  trail = (hand_view (slice_index_or rs k any)).trail;
-                  places = (hand_view (slice_index_or rs k any)).places;
-                  hand =
-                      subst (λ t. HasHand (root_view x.idle any rs) t (hand_view (slice_index_or rs k any)).trail (hand_view (slice_index_or rs k any)).places) tag
-                      (root_hand x.idle any rs k there);
-                  number = took.0;
-                  taken = took.1;
-                }
-          ];
-    }
+    took_part : HaveTakenPart p (root_view x.idle any rs) (length before) e.next_counter
+    took_part = λ l k lt many_events inside.
+        let there : k < length rs = (let same = many in omega (arith, inside, same)) in
+        let tag = (settling.each k any there).tag ∙ begun.tags k any (subst (λ n. k < n) settling.len there) in
+        elim (settling.shared l lt many_events k any there) [
+          | inl none ↦ absurd (omega (arith, none, many_events))
+          | inr took ↦
+              record {
+                trail = (hand_view (slice_index_or rs k any)).trail;
+                places = (hand_view (slice_index_or rs k any)).places;
+                hand =
+                    subst (λ t. HasHand (root_view x.idle any rs) t (hand_view (slice_index_or rs k any)).trail (hand_view (slice_index_or rs k any)).places) tag
+                    (root_hand x.idle any rs k there);
+                number = took.0;
+                taken = took.1;
+              }
+        ]
 
     module _ (explore : Explore) (handed stolen : ℕ) (way : HasExploredBy explore p x.abort before e handed stolen) where
       by_strata : explore ≡ Strata → HavePassed p x.abort e handed stolen
@@ -324,6 +321,7 @@ module _ (p : Plan) (valid : IsValidPlan p) (x : Prepared) (prepared : IsPrepare
       }
 
       pub has_run : HasRun p explore x.abort (workers_of x) closed (run_outcome (map (λ (l : Contents Left). l.items) left) by handed stolen)
+      unfolding all_places by_strata
       has_run = record {
         counters = counters;
         view = root_view x.idle any rs;
@@ -331,6 +329,7 @@ module _ (p : Plan) (valid : IsValidPlan p) (x : Prepared) (prepared : IsPrepare
         hands = all_hands;
         team = length before;
         team_is = prepared.team;
+        from = e.next_counter;
         took_part = took_part;
         len = lists_many x.idle rs left kept ∙ ap (λ n. n + x.idle) many;
         tags = tags;
@@ -338,5 +337,7 @@ module _ (p : Plan) (valid : IsValidPlan p) (x : Prepared) (prepared : IsPrepare
         places = λ same. all_places (by_strata same);
         unhanded = λ same. let passed = by_strata same in (passed.none_handed, passed.none_stolen);
         handed_out = λ same. all_items (by_deques same);
+        passes = λ same. (by_strata same).passes;
+        no_passes = λ same. (by_deques same).unused;
         alone = alone;
       }

@@ -66,8 +66,10 @@ module _ (rules : RunRules) (d : Deques) (rs : List Runner) (x : Handed) (turns 
       → (e.end ≡ Drained → unserved_of x ≡ [])
       → (length rs ≡ 1 → stolen_of x ≡ [])
       → (rules.abort ≡ Lazy → IsNewRoot rs → IsHandedAlone rules.plan e.end x (runners_of e.runners))
+      → e.next_counter ≡ 0
       → HaveHanded rules.plan rules.abort rs e x.handed x.stolen
-  have_handed e ready balance handed stolen inside reached drained unstolen alone = record {
+  have_handed e ready balance handed stolen inside reached drained unstolen alone unused = record {
+    unused = unused;
     items = items_of x;
     balanced = handed_balance ready balance handed stolen;
     inside = inside;

@@ -177,9 +177,10 @@ pub ran_all : (p : Plan) (all front behind : List Runner) → all ≡ front ++ b
 ran_all p all front behind is some ran d o lt =
     subst (λ (r : Runner). Ran (hand_view r).trail o) (sym (ap (λ (l : List Runner). get_or l 0 d) is ∙ get_or_append_left front behind d 0 some)) (ran d o lt)
 
-pub handed_all : (p : Plan) (abort : Abort) (start front behind : List Runner) (e f : Explored) (handed stolen : ℕ) → start ≡ front ++ behind → 0 < length front → runners_of f.runners ≡ runners_of e.runners ++ behind → HaveHanded p abort front e handed stolen
-    → HaveHanded p abort start f handed stolen
-handed_all p abort start front behind e f handed stolen start_is some runners_is told = record {
+pub handed_all : (p : Plan) (abort : Abort) (start front behind : List Runner) (e f : Explored) (handed stolen : ℕ) → start ≡ front ++ behind → 0 < length front → runners_of f.runners ≡ runners_of e.runners ++ behind
+    → f.next_counter ≡ e.next_counter → HaveHanded p abort front e handed stolen → HaveHanded p abort start f handed stolen
+handed_all p abort start front behind e f handed stolen start_is some runners_is next told = record {
+  unused = next ∙ told.unused;
   items = told.items;
   balanced = told.balanced;
   inside = told.inside;

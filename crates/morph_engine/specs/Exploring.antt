@@ -78,8 +78,9 @@ pub record HavePassed (p : Plan) (abort : Abort) (e : Explored) (handed stolen :
   pub none_handed : handed ≡ 0
   pub none_stolen : stolen ≡ 0
 
--- Operations were handed out, and what a worker took was reached by one
+-- Operations were handed out, and what a worker took was reached by one. No counter was used
 pub record HaveHanded (p : Plan) (abort : Abort) (start : List Runner) (e : Explored) (handed stolen : ℕ) : Type 0 where
+  pub unused : e.next_counter ≡ 0
   pub items : Items
   pub balanced : AreBalanced p items handed stolen
   pub inside : (x : ℕ) → Contains items.taken x → x < op_count p

@@ -140,17 +140,15 @@ pub record HasTaken (v : View) (tag counter : ℕ) : Type 0 where
   pub taken : Contains places (place counter number)
 
 -- The first so many workers took part in settling: each of them took a number from the counter of each level of events
--- that is shared
-pub record HaveTakenPart (p : Plan) (v : View) (team : ℕ) : Type 0 where
-  -- the counter of the first level of events
-  pub from : ℕ
-  pub each : (l k : ℕ) → l < length p.event_levels.items → shared_from ≤ length (events_of p l) → k < team
-      → HasTaken v (k + 1) (from + l)
+-- that is shared. The counter of the first level of events is from
+abbrev pub HaveTakenPart : Plan → View → (team from : ℕ) → Type 0
+HaveTakenPart p v team from = (l k : ℕ) → l < length p.event_levels.items → shared_from ≤ length (events_of p l) → k < team
+    → HasTaken v (k + 1) (from + l)
 
 -- The plan was explored in this way, with this abort, by this many workers, and settled. The closed board is that of
 -- the plan, and shows a view. Each operation has the worker that settled it there, or 0, and the lists say by worker
 -- why events were left. By strata every place of each pass was taken and reached. By deques each operation that one
--- took was reached
+-- took was reached. The counters of settling are those behind the ones of the passes, and by deques there are no passes
 pub record HasRun (p : Plan) (explore : Explore) (abort : Abort) (workers : ℕ) (closed : Closed)
     (outcome : RunOutcome) : Type 0 where
   pub counters : ℕ
@@ -159,13 +157,16 @@ pub record HasRun (p : Plan) (explore : Explore) (abort : Abort) (workers : ℕ)
   pub hands : view.made ≡ workers
   pub team : ℕ
   pub team_is : IsTeam p workers team
-  pub took_part : HaveTakenPart p view team
+  pub from : ℕ
+  pub took_part : HaveTakenPart p view team from
   pub len : length outcome.lists ≡ workers
   pub tags : (o : ℕ) → o < op_count p → slice_index outcome.by o ≡ settler (ended.ends.core.word o)
   pub left : AreCauses p ended.ends.core view outcome.lists
   pub places : explore ≡ Strata → HavePassedLevels p abort view
   pub unhanded : explore ≡ Strata → (outcome.handed ≡ 0) × (outcome.stolen ≡ 0)
   pub handed_out : explore ≡ Steal → IsHandedOut p abort workers view outcome.handed outcome.stolen
+  pub passes : (same : explore ≡ Strata) → from ≡ length (places same).levels
+  pub no_passes : explore ≡ Steal → from ≡ 0
   pub alone : workers ≡ 1 → HasRunAlone p abort ended.ends.history outcome.lists outcome.by
 
 -- The root, whose view the closed board shows, was the only hand made. It kept a journal with this room, and settled

@@ -31,6 +31,6 @@ returns-clause-handed g c =
     let told = c.explore-explored.ensures in
     let e = c.explore-explored.result.0 in
     let handed = c.explore-explored.result.1 in
-    handed_all p c.args.abort (runners_of c.args.runners) (runners_of c.set_aside.new.runners) _ e c.with_waiting-explored.result handed.handed handed.stolen c.set_aside.ensures.all some c.with_waiting-explored.ensures.runners
+    handed_all p c.args.abort (runners_of c.args.runners) (runners_of c.set_aside.new.runners) _ e c.with_waiting-explored.result handed.handed handed.stolen c.set_aside.ensures.all some c.with_waiting-explored.ensures.runners c.with_waiting-explored.ensures.next
     (have_handed (rules_on c.args.board p c.args.units.now.units c.args.abort) c.args.self.deques (runners_of c.set_aside.new.runners) handed told.turns e c.requires.crew.ready told.balance told.handed told.stolen told.inside told.reached told.drained told.unstolen
-    (λ lazy. told.alone lazy c.requires.cap))
+    (λ lazy. told.alone lazy c.requires.cap) told.next_counter)

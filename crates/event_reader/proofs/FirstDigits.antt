@@ -9,7 +9,6 @@ use Rattle.std.proofs.lemmas.List.Elements.{All-nil, All-cons}
 use Rattle.std.proofs.lemmas.List.Folds.{list_all-append}
 use Rattle.std.proofs.lemmas.List.Splits.{slice_split-cons_no}
 use Rattle.event_reader.specs.Words.{is_space, parts_of}
-use Rattle.event_reader.specs.LineParts.{StartsWithPart}
 use Rattle.event_reader.proofs.Pieces.{some_piece, first_piece}
 
 -- digits are no spaces
@@ -30,22 +29,20 @@ behind line len part more digits rest =
     ∙ first_piece is_space (take len line) (drop len line) part more (no_spaces (take len line) digits) rest
 
 -- nothing follows them
-pub to_the_end : (line : List ℕ) (len : ℕ) (rest : List ℕ) → list_all is_ascii_digit (take len line) ≡ true → length line ≡ len
-    → StartsWithPart line (take len line) rest
-to_the_end line len rest digits all =
+pub to_the_end : (line : List ℕ) (len : ℕ) → list_all is_ascii_digit (take len line) ≡ true → length line ≡ len
+    → parts_of line ≡ take len line ∷ []
+to_the_end line len digits all =
     let none : slice_split is_space (drop len line) ≡ [] ∷ [] = ap (slice_split is_space) (drop_all len line (omega arith)) in
-    let parts = behind line len [] [] digits none ∙ ap (λ part. part ∷ []) (append-nil (take len line)) in
-    record { first = ap (λ ps. get_or ps 0 []) parts; others = λ many. absurd (let more = rw parts at many in omega arith) }
+    behind line len [] [] digits none ∙ ap (λ part. part ∷ []) (append-nil (take len line))
 
 -- a space does
 pub to_a_space : (line : List ℕ) (len : ℕ) → list_all is_ascii_digit (take len line) ≡ true → len < length line → get_or line len 0 ≡ 32
-    → StartsWithPart line (take len line) (drop (len + 1) line)
+    → parts_of line ≡ take len line ∷ parts_of (drop (len + 1) line)
 to_a_space line len digits inside space =
     let first : slice_split is_space (drop len line) ≡ [] ∷ parts_of (drop (len + 1) line)
     = ap (slice_split is_space) (drop_more line len 0 inside ∙ ap (λ b. b ∷ drop (len + 1) line) space) in
-    let parts = behind line len [] (parts_of (drop (len + 1) line)) digits first
-    ∙ ap (λ part. part ∷ parts_of (drop (len + 1) line)) (append-nil (take len line)) in
-    record { first = ap (λ ps. get_or ps 0 []) parts; others = λ many. sym (ap (drop 1) parts) }
+    behind line len [] (parts_of (drop (len + 1) line)) digits first
+    ∙ ap (λ part. part ∷ parts_of (drop (len + 1) line)) (append-nil (take len line))
 
 -- another byte does
 pub to_another : (line : List ℕ) (len : ℕ) → list_all is_ascii_digit (take len line) ≡ true → len < length line

@@ -1,18 +1,20 @@
 -- The numbers that words say, and their ranges.
-use Rattle.std.proofs.Common.{◌≡◌, ℕ, zero, suc, ◌+◌, ◌<◌, ◌≤◌, Bool, true, false, ◌&&◌, nat_le, min, List, [], ◌∷◌, ◌++◌, length, take, drop, get_or, set, map, refl, sym, ◌∙◌, ap, arith, Some, Result, Ok, Err, inl, inr, subst}
+use Rattle.std.proofs.Common.{◌≡◌, ℕ, zero, suc, ◌+◌, ◌<◌, ◌≤◌, Bool, true, false, ◌&&◌, nat_le, min, List, [], ◌∷◌, ◌++◌, length, take, drop, get_or, set, map, refl, sym, ◌∙◌, ap, arith, Result, Ok, Err, inl, inr, subst}
 use Rattle.std.specs.Prelude.{if◌then◌else◌}
 use Rattle.event_reader.specs.declared.cause.Cause.{Cause}
 use Rattle.event_reader.specs.declared.cause.Cause.TheVariants.{Form}
 use Rattle.std.specs.List.{All, list_all}
 use Rattle.std.proofs.lemmas.Bool.{cases_lt}
 use Rattle.std.proofs.lemmas.Bool.Decides.{nat_tests}
-use Rattle.std.proofs.lemmas.List.{drop_more, get_or-drop, take_more_set, map_more, drop_all, length-map}
+use Rattle.std.proofs.lemmas.List.{drop_more, get_or-drop, take_more_set, map_more, drop_all, take_all, length-map, length-drop}
 use Rattle.std.proofs.lemmas.List.Elements.{All-head, All-tail}
 use Rattle.std.proofs.lemmas.List.Folds.{list_all_at, list_all_more}
 use Rattle.event_reader.specs.Limits.{greatest_number}
 use Rattle.event_reader.specs.declared.ranges.Range.{Range}
 use Rattle.event_reader.specs.declared.cause.Cause.TheVariants.{Range as OutOfRange}
-use Rattle.event_reader.specs.Numbers.{is_number, value_of, cut_value, cut_number, is_in, are_in, numbers_in, AreCutNumbers}
+use Rattle.event_reader.specs.Numbers.{is_number, value_of, cut_value, is_in, are_in, numbers_in, AreCutNumbers}
+use Rattle.event_reader.specs.LineParts.{AreNumbersUpTo}
+use Rattle.event_reader.proofs.Parts.{part_at}
 use Rattle.event_reader.specs.Reader.{IsOfWords}
 
 -- the numbers from a place on are in their ranges
@@ -25,34 +27,37 @@ pub are_in_end : (ranges : List Range) (numbers : List ℕ) (i : ℕ) → length
 unfolding are_in
 are_in_end ranges numbers i past past' = rw (drop_all i ranges past) refl
 
--- the word after the first at a place
-pub word_at : (words : List (List ℕ)) (i : ℕ) → get_or (drop 1 words) i [] ≡ get_or words (i + 1) []
-word_at words i = get_or-drop 1 words i [] ∙ (let same : 1 + i ≡ i + 1 = omega arith in ap (λ n. get_or words n []) same)
-
--- what a cut number says of its word
-pub a_number : (word : List ℕ) (value : ℕ) (t : Bool) → is_number word ≡ t → cut_number word ≡ Some value → (is_number word ≡ true) × (value ≡ cut_value word)
-a_number word value true is some = (is, let some' = rw is at some in cc)
-a_number word value false is some = absurd (let none = rw is at some in cc)
-
--- one word that is no number
-pub not_all_numbers : (words : List (List ℕ)) (i : ℕ) → i < length (drop 1 words) → is_number (get_or words (i + 1) []) ≡ false
+-- one word after the first that is no number
+pub not_all_numbers : (words : List (List ℕ)) (i : ℕ) → i + 1 < length words → is_number (get_or words (i + 1) []) ≡ false
     → list_all is_number (drop 1 words) ≡ false
 not_all_numbers words i inside none =
-    list_all_at is_number (drop 1 words) i [] inside (ap is_number (word_at words i) ∙ none)
+    let here : get_or (drop 1 words) i [] ≡ get_or words (i + 1) []
+    = get_or-drop 1 words i [] ∙ (let same : 1 + i ≡ i + 1 = omega arith in ap (λ n. get_or words n []) same) in
+    list_all_at is_number (drop 1 words) i [] (omega (arith, length-drop 1 words)) (ap is_number here ∙ none)
 
--- a number more
-pub numbers_more : (words : List (List ℕ)) (numbers : List ℕ) (i value : ℕ) → i < length (drop 1 words) → i < length numbers
-    → cut_number (get_or words (i + 1) []) ≡ Some value → list_all is_number (take i (drop 1 words)) ≡ true
-    → take i numbers ≡ map cut_value (take i (drop 1 words))
-    → (list_all is_number (take (i + 1) (drop 1 words)) ≡ true) × (take (i + 1) (set numbers i value) ≡ map cut_value (take (i + 1) (drop 1 words)))
-numbers_more words numbers i value inside inside' some all so_far =
-    let word = get_or words (i + 1) [] in
-    let one = a_number word value (is_number word) refl some in (
-      list_all_more is_number (drop 1 words) i [] inside ∙ rw (all, word_at words i, one.0) refl,
-      take_more_set numbers i value inside'
-          ∙ rw (so_far, one.1) refl
-          ∙ sym (map_more cut_value (drop 1 words) i [] inside ∙ ap (λ w. map cut_value (take i (drop 1 words)) ++ cut_value w ∷ []) (word_at words i)),
-    )
+-- no part is known
+pub known_none : (parts : List (List ℕ)) (numbers : List ℕ) → AreNumbersUpTo parts 0 numbers
+known_none parts numbers = record { inside = omega arith; all = refl; values = refl }
+
+-- a part more
+pub known_more : (parts others : List (List ℕ)) (i : ℕ) (numbers part : List ℕ) (number : ℕ) → i < length numbers → AreNumbersUpTo parts i numbers
+    → drop i parts ≡ part ∷ others → is_number part ≡ true → number ≡ cut_value part → AreNumbersUpTo parts (i + 1) (set numbers i number)
+known_more parts others i numbers part number room known here is says =
+    let at = part_at parts others i part here in record {
+      inside = omega (arith, at.0);
+      all = list_all_more is_number parts i [] at.0 ∙ rw (known.all, at.1, is) refl;
+      values = take_more_set numbers i number room
+          ∙ rw (known.values, says) refl
+          ∙ sym (map_more cut_value parts i [] at.0 ∙ ap (λ w. map cut_value (take i parts) ++ cut_value w ∷ []) at.1);
+    }
+
+-- all parts
+pub known_all : (parts : List (List ℕ)) (known : ℕ) (numbers : List ℕ) → AreNumbersUpTo parts known numbers → length parts ≤ known
+    → AreCutNumbers parts (take known numbers)
+known_all parts known numbers is all = record {
+  all = ap (list_all is_number) (sym (take_all known parts all)) ∙ is.all;
+  values = is.values ∙ ap (map cut_value) (take_all known parts all);
+}
 
 -- cut numbers are in their ranges where the numbers are
 cut_in : (range : Range) (n limit : ℕ) → range.greatest ≤ limit → is_in range (min n (limit + 1)) ≡ is_in range n

@@ -43,11 +43,6 @@ has_count form count = nat_le (length form.places + form.least) count && nat_le 
 abbrev pub ranges_of : Form → (count : ℕ) → List Range
 ranges_of form count = form.places ++ replicate (count - length form.places) form.more
 
--- A line has `count` numbers, no fewer than the `first` ones in places of their own
-pub record HasFirstNumbers (first count : ℕ) : Type 0 where
-  pub all : first ≤ count
-  pub room : count ≤ line_words
-
 -- The only byte of a word
 abbrev pub only : List ℕ → Option ℕ
 only (byte ∷ []) = Some byte

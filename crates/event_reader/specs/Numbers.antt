@@ -1,5 +1,5 @@
 -- What words say as numbers
-use Rattle.std.specs.Prelude.{◌≡◌, ℕ, ◌+◌, Bool, true, not, ◌&&◌, ◌||◌, ◌==◌, nat_le, min, if◌then◌else◌, List, [], ◌∷◌, length, map, slice_index, Option, Some, None, Result, Ok, Err}
+use Rattle.std.specs.Prelude.{◌≡◌, ℕ, ◌+◌, Bool, true, not, ◌&&◌, ◌||◌, ◌==◌, nat_le, min, if◌then◌else◌, List, [], ◌∷◌, length, map, slice_index, Result, Ok, Err}
 use Rattle.std.specs.Char.{is_ascii_digit}
 use Rattle.std.specs.List.{list_all}
 use Rattle.std.specs.Str.Parse.{digits_value}
@@ -45,10 +45,6 @@ numbers_in ranges words =
 -- The number that digits represent. One above the greatest number stands for all that are greater
 abbrev pub cut_value : List ℕ → ℕ
 cut_value word = min (value_of word) (greatest_number + 1)
-
--- The number that a word says, cut in this way; None if it is no number
-abbrev pub cut_number : List ℕ → Option ℕ
-cut_number word = if is_number word then Some (cut_value word) else None
 
 -- All words are numbers, and `numbers` are what they say, cut in this way
 pub record AreCutNumbers (words : List (List ℕ)) (numbers : List ℕ) : Type 0 where

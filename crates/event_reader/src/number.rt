@@ -1,10 +1,10 @@
-ghost use Rattle.std.specs.Prelude.{◌≡◌, ◌<◌, ◌≤◌, true, false, [], length, take};
+ghost use Rattle.std.specs.Prelude.{◌≡◌, ◌<◌, ◌≤◌, true, false, [], ◌∷◌, length, take};
 ghost use Rattle.std.specs.Prelude.{slice_index, slice_index_or, MatchOption};
 ghost use Rattle.std.specs.Char.{is_ascii_digit};
 ghost use Rattle.std.specs.List.{list_all};
 ghost use Rattle.event_reader.specs.Words.{parts_of};
 ghost use Rattle.event_reader.specs.Numbers.{number_of, is_number, cut_value};
-ghost use Rattle.event_reader.specs.LineParts.{StartsWithPart, StartsWithNumber};
+ghost use Rattle.event_reader.specs.LineParts.{parts_after, StartsWithNumber};
 
 use crate::limits::GREATEST_NUMBER;
 
@@ -63,33 +63,32 @@ pub fn read_number(word: &[u8]) -> Number
     }
 }
 
-/// What follows the digits that a line begins with, `len` of them, and the space behind them; nothing if the line ends
-/// there. `None` if another byte follows.
-fn behind_digits(line: &[u8], len: usize) -> Option<&[u8]>
+/// What follows the first part of a line that begins with `len` digits. `None` if the part has another byte behind them.
+fn behind_digits(line: &[u8], len: usize) -> Option<Option<&[u8]>>
     requires inside { len ≤ length line.now }
     requires digits { list_all is_ascii_digit (take len line.now) ≡ true }
     requires ends { len < length line.now
         → is_ascii_digit (slice_index line.now len) ≡ false }
     ensures { MatchOption result
         (list_all is_ascii_digit (slice_index_or (parts_of line.now) 0 []) ≡ false)
-        (λ rest. StartsWithPart line.now (take len line.now) rest.now) }
+        (λ rest. parts_of line.now ≡ take len line.now ∷ parts_after rest) }
 {
     if len == line.len() {
-        return Some(&line[len..]);
+        return Some(None);
     }
     if line[len] == b' ' {
-        Some(&line[len + 1..])
+        Some(Some(&line[len + 1..]))
     } else {
         None
     }
 }
 
-/// The number that the first word of a line says, or one more than the greatest if it is greater, and what follows the
-/// word and its space; nothing if it is the only word. `None` if the word is no number.
-pub(crate) fn first_number(line: &[u8]) -> Option<(u64, &[u8])>
+/// The number that the first part of a line says, or one more than the greatest if it is greater, and what follows the
+/// part. `None` if the part is no number.
+pub(crate) fn first_number(line: &[u8]) -> Option<(u64, Option<&[u8]>)>
     ensures { MatchOption result
         (is_number (slice_index_or (parts_of line.now) 0 []) ≡ false)
-        (λ found. StartsWithNumber line.now found.0 found.1.now) }
+        (λ found. StartsWithNumber line.now found.0 (parts_after found.1)) }
 {
     let (len, value) = leading_digits(line);
     let rest = behind_digits(line, len)?;

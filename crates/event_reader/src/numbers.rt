@@ -1,7 +1,7 @@
-ghost use Rattle.std.specs.Prelude.{◌≡◌, ◌+◌, ◌≤◌, length, take, drop, MatchOption, false};
-ghost use Rattle.std.specs.List.{list_all};
+ghost use Rattle.std.specs.Prelude.{◌≡◌, ◌≤◌, length, take, drop};
+ghost use Rattle.event_reader.specs.Limits.{line_words};
 ghost use Rattle.event_reader.specs.Forms.{IsFormOf, numbers_by, has_form};
-ghost use Rattle.event_reader.specs.Numbers.{is_number, AreCutNumbers};
+ghost use Rattle.event_reader.specs.LineParts.{parts_after, AreCutUpTo};
 
 use crate::cause::Cause;
 use crate::form::Form;
@@ -10,25 +10,46 @@ use crate::number::first_number;
 use crate::words::Words;
 use std::marker::Model;
 
-/// The numbers of a line, `N` of them in places of their own, which contracts see as a list.
-#[derive(Drop)]
-pub struct Numbers<const N: usize> {
-    numbers: [u64; LINE_WORDS],
-    count: usize,
+/// Reads numbers from parts of a line, up to the first part that is no number, and returns how many there are, and the
+/// parts behind them. Each number is cut at one more than the greatest.
+pub(crate) fn read_numbers<'a>(
+    parts: Option<&'a [u8]>,
+    numbers: &mut [u64; LINE_WORDS],
+) -> (usize, Option<&'a [u8]>)
+    requires { length numbers.old ≡ line_words }
+    ensures { AreCutUpTo (parts_after parts.entry) result.0 numbers.new (parts_after result.1) }
+{
+    let mut rest = parts;
+    'numbers: for i in 0..LINE_WORDS - 1 {
+        let Some(line) = rest else {
+            return (i, None);
+        };
+        let Some((number, behind)) = first_number(line) else {
+            return (i, rest);
+        };
+        numbers[i] = number;
+        rest = behind;
+    }
+    (LINE_WORDS - 1, rest)
 }
 
-impl<const N: usize> Model for Numbers<N> {
-    ghost use Rattle.std.specs.Prelude.{ℕ, List, take};
-    ghost use Rattle.event_reader.specs.Forms.{HasFirstNumbers};
+/// The numbers of a line, `N` of them in places of their own, which contracts see as a list.
+#[derive(Drop)]
+pub struct Numbers<'a, const N: usize> {
+    numbers: &'a [u64],
+}
+
+impl<'a, const N: usize> Model for Numbers<'a, N> {
+    ghost use Rattle.std.specs.Prelude.{ℕ, ◌≤◌, List, length};
 
     ghost Value = { List ℕ };
 
-    ghost view = { λ numbers. take numbers.count numbers.numbers };
+    ghost view = { λ numbers. numbers.numbers.now };
 
-    ghost invariant = { λ numbers. HasFirstNumbers N numbers.count };
+    ghost invariant = { λ numbers. N ≤ length numbers.numbers.now };
 }
 
-impl<const N: usize> Numbers<N> {
+impl<'a, const N: usize> Numbers<'a, N> {
     /// The numbers in places of their own.
     pub fn first(&self) -> [u64; N]
         ensures { result ≡ take N self.now }
@@ -42,14 +63,7 @@ impl<const N: usize> Numbers<N> {
     pub fn rest(&self) -> &[u64]
         ensures { result.now ≡ drop N self.now }
     {
-        &self.numbers[N..self.count]
-    }
-
-    /// All numbers of the line.
-    pub(crate) fn all(&self) -> &[u64]
-        ensures { result.now ≡ self.now }
-    {
-        &self.numbers[..self.count]
+        &self.numbers[N..]
     }
 }
 
@@ -66,29 +80,11 @@ impl Words<'_> {
         }
     }
 
-    /// The numbers that the words after the first say, each cut at one more than the greatest; `None` if a word is no
-    /// number.
-    fn cut_numbers<const N: usize>(&self) -> Option<Numbers<N>>
-        requires { N + 1 ≤ length self.now }
-        ensures { MatchOption result (list_all is_number (drop 1 self.now)
-            ≡ false) (λ numbers. AreCutNumbers (drop 1 self.now) numbers) }
-    {
-        let count = self.count() - 1;
-        let mut numbers = [0; LINE_WORDS];
-        let mut rest = self.rest();
-        'places: for i in 0..count {
-            let (number, more) = first_number(rest)?;
-            numbers[i] = number;
-            rest = more;
-        }
-        Some(Numbers { numbers, count })
-    }
-
     /// Reads the words as a line of the form: the numbers behind its letter.
     ///
     /// The cause is [`Cause::Form`] if the letter or the count is not the form's or a word is no number, and else
     /// [`Cause::Range`] if a number is out of the range of its place.
-    pub fn read<const N: usize>(&self, form: &Form<'_, N>) -> Result<Numbers<N>, Cause>
+    pub fn read<const N: usize>(&self, form: &Form<'_, N>) -> Result<Numbers<'_, N>, Cause>
         ensures { result ≡ numbers_by form.now self.now }
     {
         if !self.has_form(form) {
@@ -97,8 +93,8 @@ impl Words<'_> {
         let Some(numbers) = self.cut_numbers() else {
             return Err(Cause::Form);
         };
-        if form.are_in(numbers.all()) {
-            Ok(numbers)
+        if form.are_in(numbers) {
+            Ok(Numbers { numbers })
         } else {
             Err(Cause::Range)
         }

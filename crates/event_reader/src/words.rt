@@ -1,20 +1,28 @@
 ghost use Rattle.std.specs.Prelude.{◌≡◌, ℕ, ◌<◌, ◌≤◌, List, [], ◌∷◌, length, drop};
-ghost use Rattle.std.specs.Prelude.{position, slice_index_or, MatchOption};
+ghost use Rattle.std.specs.Prelude.{position, slice_index_or, false, MatchOption};
+ghost use Rattle.std.specs.List.{list_all};
+ghost use Rattle.event_reader.specs.Numbers.{is_number, AreCutNumbers};
 ghost use Rattle.event_reader.specs.Words.{is_space, parts_of, words_of};
-ghost use Rattle.event_reader.specs.LineParts.{HasRest};
+ghost use Rattle.event_reader.specs.LineParts.{parts_after, counted, HasRest, AreCutUpTo};
 ghost use Rattle.event_reader.specs.Limits.{line_words};
 ghost use Rattle.event_reader.specs.Forms.{only, letter_of};
 
 use crate::limits::LINE_WORDS;
+use crate::numbers::read_numbers;
 use std::marker::Model;
 
 /// The words of a line, which contracts see as a list of lists of bytes: at most [`LINE_WORDS`] words, none empty.
 ///
-/// The line is kept as it is, with the number of its words: a word is looked for when it is asked for.
+/// The line is kept as it is: a word is looked for when it is asked for. The numbers that the words say are kept, since
+/// they are read as the line is cut.
 #[derive(Drop)]
 pub struct Words<'a> {
     line: &'a [u8],
     count: usize,
+    /// What the words after the first say, up to the first of them that is no number.
+    numbers: [u64; LINE_WORDS],
+    /// How many of these numbers there are.
+    known: usize,
 }
 
 impl<'a> Model for Words<'a> {
@@ -26,7 +34,7 @@ impl<'a> Model for Words<'a> {
 
     ghost view = { λ w. parts_of w.line.now };
 
-    ghost invariant = { λ w. HasParts w.line.now w.count };
+    ghost invariant = { λ w. HasParts w.line.now w.count w.numbers w.known };
 }
 
 /// Where the first space of a line is.
@@ -39,10 +47,7 @@ fn first_space(line: &[u8]) -> Option<usize>
 
 /// The part of a line in front of its first space, and what follows that space; the whole line if it has none.
 fn first_part(line: &[u8]) -> (&[u8], Option<&[u8]>)
-    ensures first { result.0.now ≡ slice_index_or (parts_of line.now) 0 [] }
-    ensures parts { MatchOption result.1 (parts_of line.now ≡ result.0.now ∷ [])
-        (λ rest. parts_of line.now
-        ≡ result.0.now ∷ parts_of rest.now) }
+    ensures { parts_of line.now ≡ result.0.now ∷ parts_after result.1 }
 {
     match first_space(line) {
         Some(at) => (&line[..at], Some(&line[at + 1..])),
@@ -67,24 +72,44 @@ fn only(word: &[u8]) -> Option<u8>
     if word.len() == 1 { Some(word[0]) } else { None }
 }
 
+/// How many parts there are, if none is empty and there are at most `most`.
+fn count_words(parts: Option<&[u8]>, most: usize) -> Option<usize>
+    requires { most < line_words }
+    ensures { result ≡ counted most (parts_after parts.entry) }
+{
+    let mut rest = parts;
+    'parts: for i in 0..most + 1 {
+        let Some(line) = rest else {
+            return Some(i);
+        };
+        let (part, behind) = first_part(line);
+        if part.is_empty() {
+            return None;
+        }
+        rest = behind;
+    }
+    None
+}
+
 impl<'a> Words<'a> {
     /// Cuts a line at its spaces. The result is `None` exactly if the words are not separated by one space each: if a
     /// word would be empty, also at either end, or if there are more than [`LINE_WORDS`].
     pub fn split(line: &'a [u8]) -> Option<Words<'a>>
         ensures { result ≡ words_of line.now }
     {
-        let mut rest = line;
-        'parts: for i in 0..LINE_WORDS {
-            let (part, after) = first_part(rest);
-            if part.is_empty() {
-                return None;
-            }
-            match after {
-                Some(more) => rest = more,
-                None => return Some(Words { line, count: i + 1 }),
-            }
+        let (first, behind) = first_part(line);
+        if first.is_empty() {
+            return None;
         }
-        None
+        let mut numbers = [0; LINE_WORDS];
+        let (known, rest) = read_numbers(behind, &mut numbers);
+        let others = count_words(rest, LINE_WORDS - 1 - known)?;
+        Some(Words {
+            line,
+            count: 1 + known + others,
+            numbers,
+            known,
+        })
     }
 
     /// The number of words.
@@ -102,11 +127,16 @@ impl<'a> Words<'a> {
         only(first_part(self.line).0)
     }
 
-    /// What follows the first word and its space; nothing if there is one word.
-    pub(crate) fn rest(&self) -> &[u8]
-        ensures { 1 < length self.now → parts_of result.now ≡ drop 1 self.now }
+    /// The numbers that the words after the first say, each cut at one more than the greatest; `None` if a word is no
+    /// number.
+    pub(crate) fn cut_numbers(&self) -> Option<&[u64]>
+        ensures { MatchOption result (list_all is_number (drop 1 self.now)
+            ≡ false) (λ numbers. AreCutNumbers (drop 1 self.now) numbers.now) }
     {
-        behind_first(self.line)
+        if self.known + 1 < self.count {
+            return None;
+        }
+        Some(&self.numbers[..self.known])
     }
 
     /// The word at place `i`, for which the line is gone over up to there.

@@ -1,4 +1,4 @@
-use Rattle.std.proofs.Common.{[], ap, ◌∙◌, sym, ◌∷◌, take, ◌+◌, get_or}
+use Rattle.std.proofs.Common.{ap, ◌∙◌, sym, ◌∷◌, take, ◌+◌}
 use Rattle.std.proofs.lemmas.List.{take_rest}
 use Rattle.event_reader.specs.Words.{is_space, parts_of}
 use Rattle.event_reader.proofs.Pieces.{first_split, no_split}
@@ -6,13 +6,8 @@ use Rattle.event_reader.proofs.words.first_part.Goals as goal
 
 pub returns-in-Some : goal.returns-in-Some
 returns-in-Some c =
-    let parts = first_split is_space c.args.line.now c.in-Some.at (sym c.first_space.ensures ∙ c.in-Some.is) in
-    record {
-      first = sym (ap (λ ps. get_or ps 0 []) parts);
-      parts = parts ∙ ap (λ rest. take c.in-Some.at c.args.line.now ∷ parts_of rest) (sym (take_rest c.args.line.now (c.in-Some.at + 1)));
-    }
+    first_split is_space c.args.line.now c.in-Some.at (sym c.first_space.ensures ∙ c.in-Some.is)
+    ∙ ap (λ rest. take c.in-Some.at c.args.line.now ∷ parts_of rest) (sym (take_rest c.args.line.now (c.in-Some.at + 1)))
 
 pub returns-in-None : goal.returns-in-None
-returns-in-None c =
-    let parts = no_split is_space c.args.line.now (sym c.first_space.ensures ∙ c.in-None.is) in
-    record { first = sym (ap (λ ps. get_or ps 0 []) parts); parts = parts }
+returns-in-None c = no_split is_space c.args.line.now (sym c.first_space.ensures ∙ c.in-None.is)

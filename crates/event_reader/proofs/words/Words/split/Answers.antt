@@ -1,38 +1,45 @@
-use Rattle.std.proofs.Common.{◌≡◌, ◌+◌, true, false, [], sym, ◌∙◌, arith}
+use Rattle.std.proofs.Common.{◌≡◌, ◌-◌, true, sym, ◌∙◌, ap, arith, length}
 use Rattle.std.proofs.lemmas.Bool.Decides.{nat_tests}
-use Rattle.event_reader.specs.Words.{is_word, parts_of}
-use Rattle.event_reader.proofs.Parts.{part_at, part_here, last_at, words_more, words_are, no_word, too_many}
+use Rattle.event_reader.specs.Limits.{line_words}
+use Rattle.event_reader.specs.LineParts.{parts_after, counted}
+use Rattle.event_reader.specs.Words.{is_word}
+use Rattle.event_reader.proofs.Parts.{many, some_counted, none_counted, next_part}
 use Rattle.event_reader.proofs.words.Words.split.Goals as goal
 
-pub returns-then-is_empty : goal.returns-then-is_empty
-returns-then-is_empty c =
-    let here = part_here c.args.line.now c.parts.rest.now c.parts.i c.parts.invariant.rest in
-    let none : is_word c.first_part.result.0.now ≡ false = grind (arith, nat_tests, c.if-is_empty.ensures) in
-    sym (no_word c.args.line.now c.parts.i c.first_part.result.0.now here.0 (here.1 ∙ sym c.first_part.ensures.first) none)
+pub returns-in_err-others : goal.returns-in_err-others
+returns-in_err-others c =
+    let word : is_word c.first_part.result.0.now ≡ true = grind (arith, nat_tests, c.if-is_empty.ensures) in
+    let cut = c.read_numbers-known.ensures in
+    c.from_residual.ensures
+    ∙ sym
+    (none_counted c.args.line.now c.first_part.result.0.now (parts_after c.first_part.result.1) c.read_numbers-known.result.0 c.read_numbers-known.new.numbers
+    c.first_part.ensures word cut.numbers_are cut.few
+    (sym (c.in_err-others.was) ∙ c.count_words.ensures ∙ ap (counted (line_words - 1 - c.read_numbers-known.result.0)) cut.others_are))
 
 pub invariant_of-result : goal.invariant_of-result
 invariant_of-result c =
-    let here = sym c.parts.invariant.rest ∙ rw c.in-None.is at c.first_part.ensures.parts in
-    record { all = sym (last_at (parts_of c.args.line.now) c.parts.i c.first_part.result.0.now here); few = omega arith }
-
-pub returns-in-None : goal.returns-in-None
-returns-in-None c =
-    let part : is_word c.first_part.result.0.now ≡ true = grind (arith, nat_tests, c.if-is_empty.ensures) in
-    let here = sym c.parts.invariant.rest ∙ rw c.in-None.is at c.first_part.ensures.parts in
-    let at = part_at (parts_of c.args.line.now) [] c.parts.i c.first_part.result.0.now here in
-    sym (words_are c.args.line.now (c.parts.i + 1) (last_at (parts_of c.args.line.now) c.parts.i c.first_part.result.0.now here)
-    (words_more (parts_of c.args.line.now) c.parts.i c.first_part.result.0.now at.0 c.parts.invariant.words at.1 part)
-    (omega arith))
-
-pub parts-preserved : goal.parts-preserved
-parts-preserved c =
-    let part : is_word c.first_part.result.0.now ≡ true = grind (arith, nat_tests, c.if-is_empty.ensures) in
-    let here = sym c.parts.invariant.rest ∙ rw c.in-Some.is at c.first_part.ensures.parts in
-    let at = part_at (parts_of c.args.line.now) (parts_of c.in-Some.more.now) c.parts.i c.first_part.result.0.now here in
+    let word : is_word c.first_part.result.0.now ≡ true = grind (arith, nat_tests, c.if-is_empty.ensures) in
+    let cut = c.read_numbers-known.ensures in
+    let told = some_counted c.args.line.now c.first_part.result.0.now (parts_after c.first_part.result.1) c.read_numbers-known.result.0 c.read_numbers-known.new.numbers
+    c.first_part.ensures word cut.numbers_are cut.few c.in_ok-others.others
+    (sym (c.in_ok-others.was) ∙ c.count_words.ensures ∙ ap (counted (line_words - 1 - c.read_numbers-known.result.0)) cut.others_are) in
+    let many = many c.args.line.now c.first_part.result.0.now (parts_after c.first_part.result.1) c.read_numbers-known.result.0 c.read_numbers-known.new.numbers
+    c.first_part.ensures word cut.numbers_are cut.few in
     record {
-      words = words_more (parts_of c.args.line.now) c.parts.i c.first_part.result.0.now at.0 c.parts.invariant.words at.1 part;
-      rest = sym at.2;
+      all = omega (arith, many, told.1);
+      few = told.2;
+      numbers_are = rw c.first_part.ensures cut.numbers_are;
+      stops = λ more. next_part c.args.line.now c.first_part.result.0.now (parts_after c.first_part.result.1) c.read_numbers-known.result.0
+          c.first_part.ensures (parts_after c.read_numbers-known.result.1) cut.others_are
+          (cut.stops (omega (arith, more, told.2))
+          (let left = ap length cut.others_are in omega (arith, more, told.1, left)));
     }
 
 pub returns : goal.returns
-returns c = sym (too_many c.args.line.now c.parts.rest.now c.parts.i c.parts.invariant.rest (omega arith))
+returns c =
+    let word : is_word c.first_part.result.0.now ≡ true = grind (arith, nat_tests, c.if-is_empty.ensures) in
+    let cut = c.read_numbers-known.ensures in
+    sym
+    (some_counted c.args.line.now c.first_part.result.0.now (parts_after c.first_part.result.1) c.read_numbers-known.result.0 c.read_numbers-known.new.numbers
+    c.first_part.ensures word cut.numbers_are cut.few c.in_ok-others.others
+    (sym (c.in_ok-others.was) ∙ c.count_words.ensures ∙ ap (counted (line_words - 1 - c.read_numbers-known.result.0)) cut.others_are)).0

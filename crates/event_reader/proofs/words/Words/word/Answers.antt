@@ -1,4 +1,4 @@
-use Rattle.std.proofs.Common.{◌≡◌, [], ap, ◌∙◌, arith, get_or}
+use Rattle.std.proofs.Common.{◌≡◌, [], ap, sym, ◌∙◌, arith, get_or}
 use Rattle.event_reader.proofs.Parts.{first_here, parts_behind}
 use Rattle.event_reader.proofs.words.Words.word.Goals as goal
 
@@ -11,6 +11,6 @@ places-preserved c =
 pub returns : goal.returns
 returns c =
     let place : c.places.place ≡ c.args.i = omega (arith, c.places-test.false, c.places.auto.place-end) in
-    c.first_part.ensures.first
+    sym (ap (λ ps. get_or ps 0 []) c.first_part.ensures)
     ∙ first_here c.args.self.now c.places.rest.now c.places.place c.places.invariant
     ∙ ap (λ n. get_or c.args.self.now n []) place

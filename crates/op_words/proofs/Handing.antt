@@ -1,6 +1,8 @@
 -- A hand stays one of its board's.
-use Rattle.std.proofs.Common.{◌≡◌, ◌≢◌, ℕ, ◌+◌, ◌-◌, ◌^◌, ◌<◌, ◌≤◌, Bool, false, List, [], ◌∷◌, ◌++◌, refl, sym, ap, ◌∙◌, subst, inl, inr, arith, Some, None, zero-add, take, length}
-use Rattle.std.specs.Prelude.{cond, min, count_by}
+use Rattle.std.proofs.Common.{◌≡◌, ◌≢◌, ℕ, ◌+◌, ◌-◌, ◌^◌, ◌<◌, ◌≤◌, Bool, false, List, [], ◌∷◌, ◌++◌, refl, sym, ap, ◌∙◌, subst, inl, inr, arith, Option, Some, None, zero-add, take, length}
+use Rattle.std.specs.Prelude.{cond, min, count_by, All}
+use Rattle.std.proofs.lemmas.List.Elements.{All-nil}
+use Rattle.morph_base.specs.declared.limits.TheConstants.{MAX}
 use Rattle.std.proofs.lemmas.Option.{none-some, same_Some}
 use Rattle.std.proofs.lemmas.List.{length-append}
 use Rattle.std.proofs.lemmas.List.Sums.{sum_by-append, sum_by-cons}
@@ -30,7 +32,7 @@ use Rattle.op_words.specs.Plays.{Sat, IsTold, Looks, Leaves, Swaps}
 use Rattle.op_words.specs.Stepping.{Looked, Left}
 use Rattle.op_words.specs.Rule.{first_view}
 use Rattle.op_words.specs.Journals.{room_in, steps_in, IsJournal}
-use Rattle.op_words.specs.Hands.{plan_of, cap_of, view_in, view_of, held_of, up_to, counts_of, call_on, HasHeldValues, IsHandOf}
+use Rattle.op_words.specs.Hands.{plan_of, cap_of, view_in, view_of, fetched_of, held_of, up_to, counts_of, call_on, HasHeldValues, IsBegun, IsHandOf}
 use Rattle.op_words.proofs.Journaling.{HasNoted, journal_same, journal_step, journal_other}
 use Rattle.op_words.proofs.Rows.{not_inside}
 use Rattle.op_words.proofs.Trailing.{last-none}
@@ -280,6 +282,24 @@ held_parts h k o a xs is some holds =
 -- so it holds it as it keeps it
 pub holds_kept : (h : Hand) (k : Holding) (o a : ℕ) (xs : List ℕ) → IsKept h (view_of h) → h.held ≡ Some k → Holds (view_of h) o a xs → Holds (view_of h) o k.attempt xs
 holds_kept h k o a xs is some holds = holds ∙ ap (λ (n : ℕ). Some (record { op = o; attempt = n; values = xs })) (sym (held_parts h k o a xs is some holds).1)
+
+-- what was just claimed
+module _ (o a : ℕ) (held : Option Holding) (begun : (k : Holding) × (held ≡ Some k) × IsBegun o a k) where
+  none_yet : fetched_of begun.0 ≡ []
+  none_yet = ap (λ n. take n begun.0.values) begun.2.count
+
+  pub begun_held : held_of held ≡ Some (record { op = o; attempt = a; values = [] })
+  begun_held = ap held_of begun.1
+      ∙ ap (λ (z : ℕ × ℕ × List ℕ). Some (record { op = z.0; attempt = z.1; values = z.2 })) (λ i. (begun.2.op i, begun.2.attempt i, none_yet i))
+
+  pub begun_fits : 1 ≤ a → a ≤ most_attempts → (k : Holding) → held ≡ Some k → HasHeldValues k
+  begun_fits first last k is = subst HasHeldValues (same_Some begun.0 k (sym begun.1 ∙ is)) (record {
+    first = omega (arith, begun.2.attempt, first);
+    last = omega (arith, begun.2.attempt, last);
+    count = omega (arith, begun.2.count);
+    len = begun.2.len;
+    small = subst (All (λ x. x ≤ MAX)) (sym none_yet) (All-nil (λ (x : ℕ). x ≤ MAX));
+  })
 
 -- the end of a claim counts one evaluation more
 pub counts_finish : (k a : Counts) (o t : ℕ) (es : List CoreEvent) → a ≡ counts_of es

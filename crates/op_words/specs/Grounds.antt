@@ -78,7 +78,7 @@ module _ (xs : List Item) (needed : Bool) where
     pub cause : (is_idle stop.word.state ≡ true) ⊎ (needed ≡ true)
 
 module _ (p : Plan) (o j : ℕ) (needed : Bool) (v : View) (xs : List Item) where
-  -- The source at place j has the value x, which is no greater than a value can be, and had it before if the hand saw it
+  -- The source at place j has the value x, which is no greater than a value can be. It had it before if the hand saw it
   -- settled. If it has to be settled, x is the fold's value
   pub record IsValueLoaded (x : ℕ) : Type 0 where
     pub read : IsSourceLoaded xs needed (origin_at p o j) x

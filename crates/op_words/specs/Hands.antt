@@ -1,5 +1,5 @@
 -- The board and its hands, as contracts see them
-use Rattle.std.specs.Prelude.{◌≡◌, ℕ, ◌-◌, ◌^◌, ◌≤◌, ◌<◌, List, [], length, take, min, All, Option, Some, None}
+use Rattle.std.specs.Prelude.{◌≡◌, ℕ, ◌-◌, ◌^◌, ◌≤◌, ◌<◌, List, [], ◌∷◌, ◌++◌, length, take, min, All, Option, Some, None}
 use Rattle.morph_base.specs.declared.limits.TheConstants.{MAX, READS}
 use Rattle.morph_base.specs.Limits.{most_attempts}
 use Rattle.morph_base.specs.declared.plan.Plan.{Plan}
@@ -100,6 +100,20 @@ pub record HasHeldValues (k : Holding) : Type 0 where
   pub count : k.count ≤ READS
   pub len : length k.values ≡ READS
   pub small : All (λ x. x ≤ MAX) (fetched_of k)
+
+-- The operation o was claimed at attempt a, and nothing was fetched for it yet
+pub record IsBegun (o a : ℕ) (k : Holding) : Type 0 where
+  pub op : k.op ≡ o
+  pub attempt : k.attempt ≡ a
+  pub count : k.count ≡ 0
+  pub len : length k.values ≡ READS
+
+-- For the operation that is held the value x was fetched too
+pub record HasOneMore (k : Holding) (x : ℕ) (m : Holding) : Type 0 where
+  pub op : m.op ≡ k.op
+  pub attempt : m.attempt ≡ k.attempt
+  pub values : fetched_of m ≡ fetched_of k ++ x ∷ []
+  pub fits : HasHeldValues m
 
 -- The number n, or the greatest u64 if n is above it
 abbrev pub up_to : ℕ → ℕ

@@ -6,6 +6,7 @@ use crate::journal::Journal;
 use crate::rule::{Known, Rule};
 use crate::trail::View;
 use atomic_table::{Seat, Table};
+use held_op::HeldOp;
 use morph_base::READS;
 use std::alloc::Global;
 
@@ -17,6 +18,7 @@ mod counters;
 mod decide;
 mod grounds;
 mod hands;
+mod held_op;
 mod loads;
 mod roll_back;
 mod settle;
@@ -51,7 +53,7 @@ pub struct Hand {
     tag: u8,
     /// In the root, how many hands were made, the root included.
     made: u8,
-    held: Option<Holding>,
+    held: HeldOp,
     counts: Counts,
     /// The hand's first steps, if it keeps them.
     journal: Option<Journal>,

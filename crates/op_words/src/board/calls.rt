@@ -11,7 +11,7 @@ ghost use Rattle.op_words.specs.Calls.{PeekDoes, MakeDoes, ClaimDoes, FetchDoes,
 ghost use Rattle.op_words.specs.Rule.{first_view};
 ghost use Rattle.op_words.specs.Hands.{plan_of, cap_of, counters_of, view_of, IsHandOf, MayBegin, MayCall};
 
-use super::{Board, Hand};
+use super::{Board, Hand, HeldOp};
 use crate::answers::{Claimed, Counts, Fetched, Outcome, Readied};
 use crate::places::origin_of;
 use crate::rule::{JoinHand, Known, SplitHand};
@@ -52,7 +52,7 @@ impl Board {
             seat,
             tag: 1,
             made: 1,
-            held: None,
+            held: HeldOp::nothing(),
             counts: Counts::none(),
             journal: None,
         };
@@ -89,7 +89,7 @@ impl Board {
             seat,
             tag: root.made,
             made: 0,
-            held: None,
+            held: HeldOp::nothing(),
             counts: Counts::none(),
             journal: None,
         }
@@ -191,7 +191,7 @@ impl Board {
             (view_of hand.new) j result }
     {
         let word = self.look(hand, source);
-        let Some(holding) = hand.held else {
+        let Some(holding) = hand.held.get() else {
             unreachable!()
         };
         if !is_usable(word, self.is_last(holding.attempt)) {
@@ -219,7 +219,7 @@ impl Board {
         ensures answer { FinishDoes plan.now (cap_of self.now) op (view_of hand.old)
             (view_of hand.new) result }
     {
-        let Some(holding) = &hand.held else {
+        let Some(holding) = hand.held.get() else {
             unreachable!()
         };
         let answer = holding.answer(plan);
@@ -237,9 +237,10 @@ impl Board {
         ensures view { GiveBackDoes plan.now (cap_of self.now) op (view_of hand.old)
             (view_of hand.new) }
     {
-        let Some(holding) = hand.held else {
+        let Some(holding) = hand.held.get() else {
             unreachable!()
         };
-        self.give(hand, op, holding.attempt);
+        let attempt = holding.attempt;
+        self.give(hand, op, attempt);
     }
 }

@@ -23,7 +23,7 @@ impl Hand {
     pub fn held(&self) -> Option<u32>
         ensures { (b : B) → IsHandOf b self.now → result ≡ op_held (view_of self.now).claim }
     {
-        match self.held {
+        match self.held.get() {
             Some(holding) => Some(holding.op),
             None => None,
         }

@@ -13,7 +13,7 @@ ghost use Rattle.op_words.specs.Stepping.{IsPlaceKept, Looked, Left, Swapped};
 ghost use Rattle.op_words.specs.Kinds.{IsUsable};
 ghost use Rattle.op_words.specs.Hands.{plan_of, cap_of, view_of, call_on, IsHandOf};
 
-use super::{Board, Hand, Holding};
+use super::{Board, Hand};
 use crate::answers::Counts;
 use crate::note::note;
 use crate::rule::{Claim, End, Give, Keep, LoadUnnoted, LoadWord, Make};
@@ -21,7 +21,7 @@ use crate::trail::View;
 use crate::words::{claimed, pack_record, ready};
 use atomic_table::Seat;
 use interleaving_core::CoreEvent;
-use morph_base::{OpWord, Plan, READS};
+use morph_base::{OpWord, Plan};
 
 impl Board {
     /// Loads an operation's word.
@@ -74,6 +74,7 @@ impl Board {
 
     /// Exchanges ready for claimed, for a hand that holds nothing. Returns the word that was found, if it is another
     /// one.
+    #[inline(always)]
     pub(super) fn hold(&self, hand: &mut Hand, op: u32, attempt: u8) -> Option<OpWord>
         requires hand { IsHandOf self.now hand.old }
         requires in_range { op < op_count (plan_of self.now) }
@@ -89,12 +90,7 @@ impl Board {
             .shared
             .compare_exchange::<Claim>(&mut hand.seat, op as usize, first, new);
         if found == first {
-            hand.held = Some(Holding {
-                op,
-                attempt,
-                count: 0,
-                values: [0; READS],
-            });
+            hand.held.take(op, attempt);
             note(&mut hand.journal, CoreEvent::Claim { op, by: hand.tag });
             return None;
         }
@@ -117,7 +113,7 @@ impl Board {
         self.table
             .shared
             .store::<Give>(&mut hand.seat, op as usize, word);
-        hand.held = None;
+        hand.held.let_go();
         note(&mut hand.journal, CoreEvent::GiveBack { op, by: hand.tag });
     }
 
@@ -134,7 +130,7 @@ impl Board {
         ensures { (o a : ℕ) (xs : List ℕ) → Holds (view_of hand.old) o a xs
             → IsPlaceKept (call_on self.now hand.old hand.new) o a xs value }
     {
-        let Some(holding) = &mut hand.held else {
+        let Some(holding) = hand.held.get() else {
             unreachable!()
         };
         let place = plan.ops.places_before(holding.op as usize) + holding.count as usize;
@@ -145,7 +141,7 @@ impl Board {
             by: hand.tag,
             value,
         };
-        holding.put(value);
+        hand.held.put(value);
         self.table
             .shared
             .store::<Keep>(&mut hand.seat, plan.ops.len() + place, record);
@@ -169,7 +165,7 @@ impl Board {
         self.table
             .shared
             .store::<End>(&mut hand.seat, op as usize, n);
-        hand.held = None;
+        hand.held.let_go();
         hand.counts = hand.counts.and(Counts {
             evaluated: 1,
             spread: 0,

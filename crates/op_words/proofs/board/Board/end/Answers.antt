@@ -42,5 +42,5 @@ returns c = λ a xs holds.
     let counts = c.and-hand.ensures in
     left_hand c.args.self.now c.args.hand.now _ h c.store.ensures.0 (finishing c.args.op c.args.word xs v) (left c.args.op c.args.word)
     (done.0 ∙ ap (λ (z : OpWord × List ℕ). (Some (finishing c.args.op z.0 z.1 v), c.args.hand.now.seat.me.1)) (λ i. (is i, same i))) refl refl
-    (kept_end c.args.hand.now _ c.args.op c.args.word xs (kept h) refl refl refl counts.evaluated counts.spread counts.rolled (record { room = c.note.ensures.room; steps = c.note.ensures.steps ∙ ap (λ (t : ℕ). take (room_in c.args.hand.now.journal) (steps_in c.args.hand.now.journal ++ Finish c.args.op t ∷ [])) h.tag }))
+    (kept_end c.args.hand.now _ c.args.op c.args.word xs (kept h) refl refl c.let_go.ensures counts.evaluated counts.spread counts.rolled (record { room = c.note.ensures.room; steps = c.note.ensures.steps ∙ ap (λ (t : ℕ). take (room_in c.args.hand.now.journal) (steps_in c.args.hand.now.journal ++ Finish c.args.op t ∷ [])) h.tag }))
     (subst (λ (z : OpWord × List ℕ). Leaves v (finishing c.args.op z.0 z.1 v) (left c.args.op z.0)) (λ i. (is i, same i)) done.1)

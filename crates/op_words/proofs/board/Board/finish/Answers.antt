@@ -13,7 +13,7 @@ returns-clause-hand c = let q = c.requires.held in (c.end.ensures q.0 q.1 q.2).h
 pub returns-clause-answer : goal.returns-clause-answer
 returns-clause-answer c =
     let q = c.requires.held in let p = c.args.plan.now in let o = c.args.op in
-    let parts = held_parts c.args.hand.now c.in-Some.holding o q.0 q.1 (kept c.requires.may.0) c.in-Some.is q.2 in
+    let parts = held_parts c.args.hand.now c.in-Some.holding.now o q.0 q.1 (kept c.requires.may.0) c.in-Some.ensures q.2 in
     let answer : c.answer-answer.result ≡ value_of (op_at p o).op q.1 =
     c.answer-answer.ensures.value ∙ ap (λ (z : ℕ × List ℕ). value_of (op_at p z.0).op z.1) (λ i. (parts.0 i, parts.2 i)) in
     let word : c.word-word.result ≡ finished (op_at p o).op q.0 q.1 =

@@ -10,11 +10,9 @@ use Rattle.interleaving_core.specs.Core.{ready, claimed}
 use Rattle.op_words.specs.Plays.{Sat, claims}
 use Rattle.op_words.specs.Rule.{Lawful}
 use Rattle.op_words.specs.Views.{claiming}
-use Rattle.std.proofs.lemmas.Option.{same_Some}
-use Rattle.std.proofs.lemmas.List.Elements.{All-nil}
-use Rattle.op_words.specs.Hands.{HasHeldValues, plan_of, cap_of, counters_of, view_of}
+use Rattle.op_words.specs.Hands.{plan_of, cap_of, counters_of, view_of}
 use Rattle.op_words.proofs.Claiming.{allows_claim}
-use Rattle.op_words.proofs.Handing.{kept, kept_step, swap_left, swap_word, swap_found}
+use Rattle.op_words.proofs.Handing.{kept, kept_step, begun_held, begun_fits, swap_left, swap_word, swap_found}
 use Rattle.op_words.proofs.board.Board.hold.Goals as goal
 
 pub compare_exchange-found-requires : goal.compare_exchange-found-requires
@@ -35,7 +33,8 @@ returns-then-found-first c =
     let h = c.requires.hand in
     let swaps = c.compare_exchange-found.ensures.2 _ (ap (λ (m : Sat). m.0) h.seat) c.args.attempt (c.pack-first.ensures ∙ ap packed c.ready.ensures) in
     swap_left c.args.self.now c.args.hand.now _ h c.compare_exchange-found.ensures.0 _ _ _ (claiming c.args.op c.args.attempt (view_of c.args.hand.now)) (claimed c.args.attempt (view_of c.args.hand.now).tag) swaps c.if-found-first.true refl refl
-    (kept_step c.args.hand.now _ _ _ (kept h) refl refl refl (record { room = c.note.ensures.room; steps = c.note.ensures.steps ∙ ap (λ (t : ℕ). take (room_in c.args.hand.now.journal) (steps_in c.args.hand.now.journal ++ Claim c.args.op t ∷ [])) h.tag }) refl refl refl refl refl refl refl refl refl refl (λ k e. subst HasHeldValues (same_Some _ k e) (record { first = c.requires.word.first; last = c.requires.word.last; count = omega arith; len = refl; small = All-nil _ })))
+    (kept_step c.args.hand.now _ _ _ (kept h) refl refl refl (record { room = c.note.ensures.room; steps = c.note.ensures.steps ∙ ap (λ (t : ℕ). take (room_in c.args.hand.now.journal) (steps_in c.args.hand.now.journal ++ Claim c.args.op t ∷ [])) h.tag }) refl refl refl refl refl refl refl refl refl (begun_held c.args.op c.args.attempt c.take.new.self c.take.ensures)
+    (begun_fits c.args.op c.args.attempt c.take.new.self c.take.ensures c.requires.word.first c.requires.word.last))
 
 pub unreachable-requires : goal.unreachable-requires
 unreachable-requires c =

@@ -19,4 +19,4 @@ pub returns-clause-hand : goal.returns-clause-hand
 returns-clause-hand c =
     let t = c.in_ok-table.ensures in
     first_hand _ _ t.2 (t.4 ∙ ap (λ (k : Known). (Some (first_view k.plan k.cap), [])) (sym t.5))
-    (subst (λ (k : Known). IsPlan k.plan.value) (sym t.5) (subst IsPlan (sym c.of.ensures) c.requires.plan)) (subst (λ (k : Known). k.cap < most_attempts) (sym t.5) c.requires.cap) refl refl refl c.none.ensures refl
+    (subst (λ (k : Known). IsPlan k.plan.value) (sym t.5) (subst IsPlan (sym c.of.ensures) c.requires.plan)) (subst (λ (k : Known). k.cap < most_attempts) (sym t.5) c.requires.cap) refl refl c.nothing.ensures c.none.ensures refl

@@ -14,7 +14,7 @@ returns-then-not-is_usable-clause-answer c =
     let h = c.args.hand.now in let g = c.look-word.new.hand in
     let other = (source_other p o c.args.j c.args.source (subst IsPlan (sym c.requires.may.1) c.requires.may.0.valid) c.requires.may.2 c.requires.in_places is).1 in
     let holds = still_holds b p (cap_of b) o c.args.j h g c.args.source c.look-word.result other is c.look-word.ensures q.0 q.1 q.2 q.0 q.1 q.2 in
-    let attempt = (held_parts g c.in-Some.holding o q.0 q.1 (kept c.look-word.ensures.hand) c.in-Some.is holds).1 in
+    let attempt = (held_parts g c.in-Some.holding.now o q.0 q.1 (kept c.look-word.ensures.hand) c.in-Some.ensures holds).1 in
     let not = c.is_usable.ensures.unusable c.if-not-is_usable.true in
     unfetched_source b p (cap_of b) o c.args.j h g c.args.source c.look-word.result other is c.look-word.ensures q.0 q.1 q.2 c.requires.in_places not.0
     (elim not.1 [ inl idle ↦ inl idle | inr last ↦ inr (sym attempt ∙ c.is_last.ensures.0 last) ])
@@ -25,7 +25,7 @@ keep-requires-clause-held c =
     let h = c.args.hand.now in let g = c.look-word.new.hand in
     let other = (source_other p o c.args.j c.args.source (subst IsPlan (sym c.requires.may.1) c.requires.may.0.valid) c.requires.may.2 c.requires.in_places is).1 in
     let holds = still_holds b p (cap_of b) o c.args.j h g c.args.source c.look-word.result other is c.look-word.ensures q.0 q.1 q.2 q.0 q.1 q.2 in
-    let attempt = (held_parts g c.in-Some.holding o q.0 q.1 (kept c.look-word.ensures.hand) c.in-Some.is holds).1 in
+    let attempt = (held_parts g c.in-Some.holding.now o q.0 q.1 (kept c.look-word.ensures.hand) c.in-Some.ensures holds).1 in
     let ok = c.is_usable.ensures.usable c.if-not-is_usable.false in
     let usable = source_usable b p (cap_of b) o c.args.j h g c.args.source c.look-word.result other is c.look-word.ensures q.0 q.1 q.2 ok.0 (λ at. ok.1 (c.is_last.ensures.1 (attempt ∙ at))) in (
       o,
@@ -49,7 +49,7 @@ returns-clause-answer c =
     let h = c.args.hand.now in let g = c.look-word.new.hand in
     let other = (source_other p o c.args.j c.args.source (subst IsPlan (sym c.requires.may.1) c.requires.may.0.valid) c.requires.may.2 c.requires.in_places is).1 in
     let holds = still_holds b p (cap_of b) o c.args.j h g c.args.source c.look-word.result other is c.look-word.ensures q.0 q.1 q.2 q.0 q.1 q.2 in
-    let attempt = (held_parts g c.in-Some.holding o q.0 q.1 (kept c.look-word.ensures.hand) c.in-Some.is holds).1 in
+    let attempt = (held_parts g c.in-Some.holding.now o q.0 q.1 (kept c.look-word.ensures.hand) c.in-Some.ensures holds).1 in
     let ok = c.is_usable.ensures.usable c.if-not-is_usable.false in
     fetched_source b p (cap_of b) o c.args.j h g c.args.source c.look-word.result other is c.look-word.ensures q.0 q.1 q.2 c.keep.new.hand ok.0 (λ at. ok.1 (c.is_last.ensures.1 (attempt ∙ at)))
     (λ n zs held. c.keep.ensures o n zs held)

@@ -20,4 +20,4 @@ returns-clause-root c =
 pub returns-clause-hand : goal.returns-clause-hand
 returns-clause-hand c =
     let h = c.requires.hand in let s = c.split_seat-seat.ensures in
-    child_hand c.args.self.now c.args.root.now _ h c.requires.root c.requires.few s.3 (s.4 ∙ ap (λ (m : Sat). (going m.0, [])) h.seat) refl refl refl c.none.ensures refl
+    child_hand c.args.self.now c.args.root.now _ h c.requires.root c.requires.few s.3 (s.4 ∙ ap (λ (m : Sat). (going m.0, [])) h.seat) refl refl c.nothing.ensures c.none.ensures refl

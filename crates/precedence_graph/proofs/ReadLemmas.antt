@@ -1,15 +1,18 @@
 -- An item that is linked once to each operation among some sources: one source more.
-use Rattle.std.proofs.Common.{◌≡◌, ℕ, ◌+◌, ◌<◌, Bool, true, false, cond, eqb, List, [], ◌∷◌, ◌++◌, length, get_or, take, refl, sym, ap, subst, ◌∙◌, arith}
+use Rattle.std.proofs.Common.{◌≡◌, ℕ, ◌+◌, ◌<◌, ◌≤◌, Bool, true, false, cond, eqb, List, [], ◌∷◌, ◌++◌, length, get_or, take, refl, sym, ap, subst, ◌∙◌, arith}
 use Rattle.std.specs.Prelude.{◌||◌, All}
 use Rattle.std.specs.List.{list_any}
-use Rattle.std.proofs.lemmas.List.{append-nil}
+use Rattle.std.proofs.lemmas.List.{append-nil, length-take-le, get_or-take}
 use Rattle.std.proofs.lemmas.List.Elements.{All-head, All-tail}
 use Rattle.std.proofs.lemmas.List.Folds.{list_any_more}
 use Rattle.std.proofs.lemmas.Bool.{eqb-true, true≢false}
+use Rattle.morph_base.specs.declared.limits.TheConstants.{READS}
 use Rattle.morph_base.specs.declared.plan.Origin.{Origin}
 use Rattle.morph_base.specs.declared.plan.Origin.TheVariants.{Base, Op as Written}
+use Rattle.morph_base.specs.declared.plan.PlanOp.{PlanOp}
 use Rattle.morph_base.specs.Graphs.{is_written_by}
-use Rattle.precedence_graph.specs.Planned.{IsAmong}
+use Rattle.morph_base.specs.Operations.{reads}
+use Rattle.precedence_graph.specs.Planned.{IsAmong, sources_of}
 
 or_false : (a : Bool) → (a || false) ≡ a
 or_false true = refl
@@ -55,3 +58,10 @@ pub none_read : (o : ℕ) (sources : List Origin) → All (IsAmong 0) sources �
 none_read o [] all = refl
 none_read o (Base v ∷ sources) all = none_read o sources (All-tail (IsAmong 0) (Base v) sources all)
 none_read o (Written s ∷ sources) all = (let below : s < 0 = All-head (IsAmong 0) (Written s) sources all in absurd (omega arith))
+
+-- the source of a place that is read
+pub used_source : (q : PlanOp) (j : ℕ) → length q.origins ≡ READS → length (reads q.op) ≤ READS → j < length (reads q.op)
+    → (j < length (sources_of q)) × (get_or (sources_of q) j (Base 0) ≡ get_or q.origins j (Base 0)) × (length (sources_of q) ≡ length (reads q.op))
+used_source q j whole few inside =
+    let many = length-take-le (length (reads q.op)) q.origins (omega (arith, whole, few)) in
+    (omega (arith, many, inside), get_or-take (length (reads q.op)) q.origins j (Base 0) inside, many)

@@ -1,7 +1,9 @@
 ghost use Rattle.std.specs.Prelude.{◌≡◌, ℕ, ◌^◌, ◌<◌, ◌++◌, [], ◌∷◌, length, map, filter, All, IfOk, OnOk};
-ghost use Rattle.std.specs.Prelude.{if◌then◌else◌};
+ghost use Rattle.std.specs.Prelude.{◌≤◌, take, if◌then◌else◌};
 ghost use Rattle.std.specs.List.{list_any};
+ghost use Rattle.morph_base.specs.declared.limits.TheConstants.{READS};
 ghost use Rattle.morph_base.specs.Graphs.{below, is_written_by};
+ghost use Rattle.morph_base.specs.Operations.{reads};
 ghost use Rattle.precedence_graph.specs.Links.{items_of};
 ghost use Rattle.precedence_graph.specs.Planned.{IsAmong, IsSoundPlanOp, planned, sources_of};
 
@@ -36,37 +38,51 @@ fn read_links(alloc: Global, ops: &PlanOps, reads: usize) -> Result<List<Link>, 
     for t in 0..ops.len() {
         // An operation of level 1 reads from no operation.
         if ops.level(t) > 1 {
-            let origins = ops.origins(t);
-            link_sources(&mut links, &origins[..ops.places(t)], t as u32)?;
+            link_sources(&mut links, ops, t)?;
         }
     }
     Ok(links)
 }
 
-/// Links an item to each operation among its sources, once.
-fn link_sources(links: &mut List<Link>, sources: &[Origin], item: u32) -> Result<(), OutOfMemory>
+/// Makes an operation an item of the group of each operation among its sources, once.
+fn link_sources(links: &mut List<Link>, ops: &PlanOps, t: usize) -> Result<(), OutOfMemory>
+    requires inside { t < length ops.now.items }
+    requires few { length ops.now.items < 2 ^ 32 }
+    requires places { length (planned ops.now.items t).origins ≡ READS }
     ensures items { OnOk result ((o : ℕ) → items_of links.new.items o
         ≡ items_of links.old.items o
-        ++ (if list_any (is_written_by o) sources.now then item ∷ [] else [])) }
-    ensures groups { OnOk result ((n : ℕ) → All (IsAmong n) sources.now
+        ++ (if list_any (is_written_by o) (sources_of (planned ops.now.items t)) then t ∷ [] else [])) }
+    ensures groups { OnOk result ((n : ℕ) → All (IsAmong n) (sources_of (planned ops.now.items t))
         → All (λ link. link.group < n) links.old.items
         → All (λ link. link.group < n) links.new.items) }
 {
-    for (j, origin) in sources.iter().enumerate() {
-        if let Origin::Op(s) = origin {
-            if !has_source(&sources[..j], *s) {
-                links.push(Link { group: *s, item })?;
+    for j in 0..ops.places(t) {
+        if let Origin::Op(s) = ops.origin(t, j) {
+            if !has_source(ops, t, j, s) {
+                links.push(Link {
+                    group: s,
+                    item: t as u32,
+                })?;
             }
         }
     }
     Ok(())
 }
 
-/// Whether operation `s` is one of the sources.
-fn has_source(sources: &[Origin], s: u32) -> bool
-    ensures { result ≡ list_any (is_written_by s) sources.now }
+/// Whether operation `s` is among the first `count` sources of an operation.
+fn has_source(ops: &PlanOps, t: usize, count: usize, s: u32) -> bool
+    requires inside { t < length ops.now.items }
+    requires places { length (planned ops.now.items t).origins ≡ READS }
+    requires few { length (reads (planned ops.now.items t).op) ≤ READS }
+    requires used { count ≤ length (reads (planned ops.now.items t).op) }
+    ensures { result ≡ list_any (is_written_by s) (take count (sources_of (planned ops.now.items t))) }
 {
-    sources.iter().any(|origin| is_written_by(s, *origin))
+    'sources: for j in 0..count {
+        if is_written_by(s, ops.origin(t, j)) {
+            return true;
+        }
+    }
+    false
 }
 
 /// Whether the source is operation `s`.

@@ -1,13 +1,11 @@
-use Rattle.std.proofs.Common.{◌≡◌, ℕ, ◌<◌, ◌≤◌, Bool, false, cond, List, [], ◌∷◌, ◌++◌, length, take, filter, sym, ap, subst, ◌∙◌, arith}
+use Rattle.std.proofs.Common.{◌≡◌, ℕ, ◌<◌, ◌≤◌, Bool, false, cond, [], ◌∷◌, ◌++◌, length, filter, sym, ap, subst, ◌∙◌, arith}
 use Rattle.std.specs.List.{list_any}
 use Rattle.std.proofs.lemmas.List.{append-nil}
 use Rattle.std.proofs.lemmas.List.Elements.{All-same}
-use Rattle.morph_base.specs.declared.plan.Origin.{Origin}
-use Rattle.morph_base.specs.Operations.{reads as reads_of}
 use Rattle.morph_base.specs.Plans.{no_plan_op}
 use Rattle.morph_base.specs.Graphs.{below, is_written_by}
 use Rattle.precedence_graph.specs.Links.{items_of}
-use Rattle.precedence_graph.specs.Planned.{IsAmong, planned, sources_of}
+use Rattle.precedence_graph.specs.Planned.{planned, sources_of}
 use Rattle.precedence_graph.proofs.GreatestLemmas.{filter-below_more}
 use Rattle.precedence_graph.proofs.ReadLemmas.{none_read}
 use Rattle.precedence_graph.proofs.dependents.read_links.Goals as goal
@@ -22,11 +20,9 @@ loop-t-preserved c =
     elim c.if-level-gt1.branch [
       | then-level-gt1+in_ok-link_sources w ↦
           let now = ap (λ links. links.items) w.links-is in
-          let used : List Origin = take w.places.result w.origins-origins.result in
-          let read : used ≡ sources_of (planned ops t) = ap (λ (n : ℕ). take n w.origins-origins.result) w.places.ensures.count ∙ ap (take (length (reads_of (planned ops t).op))) w.origins-origins.ensures in
           record {
-            items = λ o. ap (λ xs. items_of xs o) now ∙ w.in_ok-link_sources.ensures.items o ∙ ap (λ xs. xs ++ cond (list_any (is_written_by o) used) (t ∷ []) []) (c.loop-t.invariant.items o) ∙ ap (λ (sources : List Origin). filter (reads o) (below t) ++ cond (list_any (is_written_by o) sources) (t ∷ []) []) read ∙ sym (filter-below_more (reads o) t);
-            groups = All-same (λ link. link.group < length ops) _ _ now (w.in_ok-link_sources.ensures.groups (length ops) (All-same (IsAmong (length ops)) _ _ read (c.requires.ready t no_plan_op inside).among) c.loop-t.invariant.groups);
+            items = λ o. ap (λ xs. items_of xs o) now ∙ w.in_ok-link_sources.ensures.items o ∙ ap (λ xs. xs ++ cond (reads o t) (t ∷ []) []) (c.loop-t.invariant.items o) ∙ sym (filter-below_more (reads o) t);
+            groups = All-same (λ link. link.group < length ops) _ _ now (w.in_ok-link_sources.ensures.groups (length ops) (c.requires.ready t no_plan_op inside).among c.loop-t.invariant.groups);
           }
       | else-level-gt1 w ↦
           let now = ap (λ links. links.items) w.links-is in

@@ -102,8 +102,8 @@ pub record StopsWithCause (p : Plan) (i : ℕ) (v u : View) (xs : List Item) (r 
   pub not_all : ((o : ℕ) → InEvent p i o → IsSettledSeen u o) → ⊥
   pub lone : IsLone v → ((o : ℕ) → InEvent p i o → AreSourcesSeen p v o) → ⊥
 
--- The standing r fits an operation o that was found with word w: it is settled if w is, and else the call stops, busy if
--- w is claimed, and else not yet
+-- The standing r fits an operation o that was found with word w: it is settled if w is. Otherwise the call stops, busy
+-- if w is claimed, and else not yet
 pub record IsStandingOf (o : ℕ) (w : OpWord) (r : Standing) : Type 0 where
   pub settled : is_settled w.state ≡ true → r ≡ IsSettledNow
   pub claimed : w.state ≡ Claimed → r ≡ Stopped (Busy o w)

@@ -4,7 +4,7 @@ ghost use Rattle.morph_base.specs.declared.limits.TheConstants.{EVENT_OPS};
 ghost use Rattle.abort_lazy.specs.Progress.{no_word, IsStandingOf, HasHeard};
 
 use super::{TxnAnswer, stop};
-use morph_base::{EVENT_OPS, OpWord};
+use morph_base::{EVENT_OPS, OpState, OpWord};
 
 /// How an operation is before the decision on its event.
 #[derive(Clone, Copy, Debug, PartialEq, Eq)]
@@ -49,13 +49,21 @@ pub(super) struct Grounds {
     pub(super) say: Say,
 }
 
+/// A word of zeros, in the places where nothing was judged: to fill an array with it takes few instructions.
+const NO_WORD: OpWord = OpWord {
+    value: 0,
+    attempt: 0,
+    state: OpState::Blocked,
+    by: 0,
+};
+
 impl Grounds {
     /// The grounds before the first operation.
     pub(super) fn new() -> Grounds
         ensures { result.say ≡ Say.Commit }
     {
         Grounds {
-            words: [OpWord::blocked(1); EVENT_OPS],
+            words: [NO_WORD; EVENT_OPS],
             say: Say::Commit,
         }
     }

@@ -69,6 +69,7 @@ impl LineBuf {
     }
 
     /// Appends the decimal digits of `n`, with no zeros in front: at most 20 bytes.
+    #[inline(always)]
     pub fn number(&mut self, n: u64)
         requires { length self.old + 20 ≤ line_bytes }
         ensures digits { self.new ≡ self.old ++ decimal n }

@@ -86,6 +86,7 @@ impl Out {
     ///
     /// The line has its line feed, if it is to have one. `Err` is returned only if the sink's count of faults rose in
     /// this call. The sink then has a part of all that was put, and the buffer is not used again.
+    #[inline(always)]
     pub fn put<K: Sink>(&mut self, sink: &mut K, line: &LineBuf) -> Result<(), WriteFailed>
         ensures puts { OnOk result
             (Puts (K.written sink.old) self.old line.now (K.written sink.new) self.new) }

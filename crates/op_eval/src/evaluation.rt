@@ -155,6 +155,7 @@ fn evaluate_by(board: &Board, hand: &mut Hand, plan: &Plan, op: u32) -> Evaluati
 ///
 /// The runner holds nothing before and after. Its `answers` count the answer. The call takes no memory and waits for
 /// nobody.
+#[inline(always)]
 pub fn evaluate(board: &Board, runner: &mut Runner, plan: &Plan, op: u32) -> Evaluation
     requires may { MayBegin board.now runner.old.hand plan.now op }
     ensures hand { IsHandOf board.now runner.new.hand }

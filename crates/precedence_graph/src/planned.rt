@@ -62,6 +62,7 @@ pub fn plan_transactions(alloc: Global, txns: &Txns<'_>) -> Result<Planned, OutO
 
 /// Plans the operations of event `i`, which read what the events before it wrote, and counts their reads of operations.
 /// Returns the greatest level of the events that they read from, as these were entered, or 0 if there is none.
+#[inline(never)]
 fn plan_event_ops(
     txns: &Txns<'_>,
     i: usize,

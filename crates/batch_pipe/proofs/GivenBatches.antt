@@ -3,9 +3,8 @@ use Rattle.std.proofs.Common.{◌≡◌, ℕ, ◌+◌, ◌<◌, ◌≤◌, false
 use Rattle.std.specs.Prelude.{option_map}
 use Rattle.std.proofs.lemmas.List.Sums.{sum_by-append}
 use Rattle.std.proofs.lemmas.List.Elements.{All-append, All-push}
-use Rattle.std.proofs.Math.ListN.{length-map}
 use Rattle.std.proofs.Math.Path.{fun_ext}
-use Rattle.morph_base.specs.declared.event.Batch.{Batch as TheBatch}
+use Rattle.morph_base.specs.declared.batch.Batch.{Batch as TheBatch}
 use Rattle.morph_base.specs.Transactions.{Transaction, transactions_of}
 use Rattle.morph_io.specs.Told.{ahead, ahead_nil, ahead_ahead}
 use Rattle.event_reader.specs.Lines.{front}
@@ -81,27 +80,25 @@ module _ {App : Type 0} (event_of : App → ℕ → Meaning) where
 
   pub gives_one : (a b : Stand App) (batch : TheBatch) → AnswersNext (accepted_by event_of a.reader a.left) (Ok (Batch batch)) (accepted_by event_of b.reader b.left) →
       TakesBytes a.left b.left (ShowsNext event_of a.reader (Ok (Batch batch)) b.reader) →
-      0 < length batch.events.items → a.reader.lines.number + length batch.events.items ≤ b.reader.lines.number → b.reader.lines.number ≤ b.reader.lines.limit + 1 →
+      0 < length (transactions_of batch) → a.reader.lines.number + length (transactions_of batch) ≤ b.reader.lines.number → b.reader.lines.number ≤ b.reader.lines.limit + 1 →
       (b.reader.lines.ended ≡ false → a.reader.lines.ended ≡ false) →
       SameReader a.reader b.reader →
       GivesBatches event_of a (transactions_of batch ∷ []) b
   gives_one a b batch answers shows some counted bound unended same =
       let es : List Transaction = transactions_of batch in
-      let many : length es ≡ length batch.events.items = simp length-map in
-      let few : 0 < length es = omega (arith, many, some) in
       let meaning_is : event_of b.reader.app b.reader.size ≡ event_of a.reader.app a.reader.size = ap (λ app. event_of app b.reader.size) same.0 ∙ ap (event_of a.reader.app) same.1 in
       record {
-        next = answers ∙ ap (λ f. option_map f (accepted_by event_of b.reader b.left)) (fun_ext (λ all. with_batch-one es all few));
+        next = answers ∙ ap (λ f. option_map f (accepted_by event_of b.reader b.left)) (fun_ext (λ all. with_batch-one es all some));
         shows = record {
           got = shows.got;
           taken = shows.taken;
           shows = λ e more.
               shows.shows e more
               ∙ ap (λ m. with_batch es (accepted_next m b.reader.past b.reader.lines (front (b.reader.lines.kept ++ more)))) (sym meaning_is)
-              ∙ with_batch-one es (accepted_after event_of b.reader (front (b.reader.lines.kept ++ more))) few;
+              ∙ with_batch-one es (accepted_after event_of b.reader (front (b.reader.lines.kept ++ more))) some;
         };
-        some = All-push (λ (batch : List Transaction). 0 < length batch) [] es (λ k d lt. absurd (omega arith)) few;
-        counted = omega (arith, many, counted);
+        some = All-push (λ (batch : List Transaction). 0 < length batch) [] es (λ k d lt. absurd (omega arith)) some;
+        counted = omega (arith, counted);
         bound = λ few. bound;
         unended = unended;
         same = same;

@@ -4,7 +4,7 @@ ghost use Rattle.morph_base.specs.Graphs.{IsValidPlan};
 use crate::four_events::{ACCOUNTS, ASSETS, plan_for};
 use crate::runners::words_of;
 use chain_units::units;
-use morph_base::{Abort, Batch, Event, Func, Key, List, Op, OpState, OutOfMemory, Plan, Unit};
+use morph_base::{Abort, Batch, Func, Key, Op, OpState, OutOfMemory, Plan, Unit};
 use op_eval::{RunEnd, Runners};
 use op_words::Board;
 use std::alloc::Global;
@@ -24,19 +24,16 @@ pub(crate) const IDS: u64 = 2_000;
 /// Makes this many events, each a deposit on the account and on the asset of the next id. After the last id they begin
 /// at 0 again.
 pub(crate) fn batch_of(alloc: Global, count: u64) -> Result<Batch, OutOfMemory> {
-    let mut events = List::new(alloc);
+    let mut batch = Batch::new(alloc);
     for event in 0..count {
         let id = (event % IDS) as u32;
-        let ops = List::from_slice(
-            alloc,
-            &[
-                Op::new(Func::Add, Key::of(ACCOUNTS, id), &[], 1),
-                Op::new(Func::Add, Key::of(ASSETS, id), &[], 1),
-            ],
-        )?;
-        events.push(Event { ts: event + 1, ops })?;
+        let ops = [
+            Op::new(Func::Add, Key::of(ACCOUNTS, id), &[], 1),
+            Op::new(Func::Add, Key::of(ASSETS, id), &[], 1),
+        ];
+        batch.push(event + 1, &ops)?;
     }
-    Ok(Batch { events })
+    Ok(batch)
 }
 
 /// Whether exploring a plan by four workers ends after all levels, with the words of two rounds.

@@ -4,7 +4,7 @@ ghost use Rattle.morph_base.specs.Graphs.{IsValidPlan};
 ghost use Rattle.morph_base.specs.Plans.{HasBases, PlanKeysIn};
 ghost use Rattle.morph_base.specs.States.{opening_state};
 
-use morph_base::{Batch, Event, Func, Key, Layout, List, Op, OutOfMemory, Plan};
+use morph_base::{Batch, Func, Key, Layout, List, Op, OutOfMemory, Plan};
 use morph_engine::Engine;
 use std::alloc::Global;
 use std::process::Abort;
@@ -59,12 +59,11 @@ fn ops_at(alloc: Global, ts: u64) -> Result<List<Op>, OutOfMemory> {
 
 /// The events at these times, in this order of arrival.
 pub(crate) fn batch_of(alloc: Global, times: &[u64]) -> Result<Batch, OutOfMemory> {
-    let mut events = List::new(alloc);
+    let mut batch = Batch::new(alloc);
     for ts in times {
-        let ops = ops_at(alloc, *ts)?;
-        events.push(Event { ts: *ts, ops })?;
+        batch.push(*ts, ops_at(alloc, *ts)?.as_slice())?;
     }
-    Ok(Batch { events })
+    Ok(batch)
 }
 
 /// The plan of a batch.

@@ -5,7 +5,7 @@ ghost use Rattle.morph_base.specs.Limits.{most_attempts};
 
 use crate::four_events::{ACCOUNTS, ASSETS, plan_for, transfer};
 use chain_units::units;
-use morph_base::{Abort, Batch, Event, Func, Key, List, Op, OutOfMemory, Plan, Unit};
+use morph_base::{Abort, Batch, Func, Key, List, Op, OutOfMemory, Plan, Unit};
 use op_eval::{RunEnd, Runners};
 use op_words::{Board, Counts};
 use std::alloc::Global;
@@ -50,15 +50,11 @@ fn ops_at(alloc: Global, ts: u32) -> Result<List<Op>, OutOfMemory> {
 
 /// The events up to a time.
 fn batch(alloc: Global, last: u32) -> Result<Batch, OutOfMemory> {
-    let mut events = List::new(alloc);
+    let mut batch = Batch::new(alloc);
     for ts in 1..=last {
-        let ops = ops_at(alloc, ts)?;
-        events.push(Event {
-            ts: u64::from(ts),
-            ops,
-        })?;
+        batch.push(u64::from(ts), ops_at(alloc, ts)?.as_slice())?;
     }
-    Ok(Batch { events })
+    Ok(batch)
 }
 
 /// Why exploring a plan by one runner ended, after how many passes, and what the runner counted.

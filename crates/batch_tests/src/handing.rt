@@ -7,7 +7,7 @@ use crate::deposits::{IDS, are_two_rounds, batch_of, side_by_side};
 use crate::four_events::{ACCOUNTS, plan, plan_for};
 use crate::runners::words_of;
 use chain_units::units;
-use morph_base::{Abort, Batch, Event, Func, Key, List, Op, OpState, OutOfMemory, Plan, Unit};
+use morph_base::{Abort, Batch, Func, Key, Op, OpState, OutOfMemory, Plan, Unit};
 use op_eval::{RunEnd, Runners};
 use op_words::Board;
 use std::alloc::Global;
@@ -175,18 +175,13 @@ impl Gate for Robbed {
 /// A cell is set, and then this many cells become its sum. Only the set is on level 1.
 fn set_and_sums(alloc: Global, sums: u32) -> Result<Batch, OutOfMemory> {
     let first = Key::of(ACCOUNTS, 0);
-    let mut events = List::new(alloc);
-    let ops = List::from_slice(alloc, &[Op::new(Func::Set, first, &[], 7)])?;
-    events.push(Event { ts: 1, ops })?;
+    let mut batch = Batch::new(alloc);
+    batch.push(1, &[Op::new(Func::Set, first, &[], 7)])?;
     for sum in 1..=sums {
         let op = Op::new(Func::Sum, Key::of(ACCOUNTS, sum), &[first], 1_000);
-        let ops = List::from_slice(alloc, &[op])?;
-        events.push(Event {
-            ts: u64::from(sum) + 1,
-            ops,
-        })?;
+        batch.push(u64::from(sum) + 1, &[op])?;
     }
-    Ok(Batch { events })
+    Ok(batch)
 }
 
 /// Worker 1 has the only operation of level 1, and so gets all others. It goes on once worker 2 has evaluated one,

@@ -4,9 +4,7 @@ ghost use Rattle.morph_base.specs.Limits.{most_workers};
 ghost use Rattle.morph_base.specs.Transactions.{IsBatch, BatchKeysIn};
 
 use decision_model::{Last, choose, profile};
-use morph_base::{
-    Abort, Batch, Event, Explore, Func, Key, Layout, List, Op, OutOfMemory, Strategy, Unit,
-};
+use morph_base::{Abort, Batch, Explore, Func, Key, Layout, Op, OutOfMemory, Strategy, Unit};
 use morph_engine::{BatchEnd, Engine};
 use std::alloc::Global;
 use std::test::Fail;
@@ -34,20 +32,16 @@ const OWN: Strategy = Strategy {
 
 /// An item is stocked, and ordered three times. The last order is for more than is left.
 fn batch(alloc: Global) -> Result<Batch, OutOfMemory> {
-    let mut events = List::new(alloc);
-    let ops = List::from_slice(alloc, &[Op::new(Func::Add, STOCK, &[], 10)])?;
-    events.push(Event { ts: 1, ops })?;
+    let mut batch = Batch::new(alloc);
+    batch.push(1, &[Op::new(Func::Add, STOCK, &[], 10)])?;
     for (ts, pieces) in [(2, 3), (3, 4), (4, 5)] {
-        let ops = List::from_slice(
-            alloc,
-            &[
-                Op::new(Func::Sub, STOCK, &[], pieces),
-                Op::new(Func::Add, BILL, &[], 20 * pieces),
-            ],
-        )?;
-        events.push(Event { ts, ops })?;
+        let ops = [
+            Op::new(Func::Sub, STOCK, &[], pieces),
+            Op::new(Func::Add, BILL, &[], 20 * pieces),
+        ];
+        batch.push(ts, &ops)?;
     }
-    Ok(Batch { events })
+    Ok(batch)
 }
 
 /// The value of a key, if it is one of the state's.

@@ -3,7 +3,7 @@ ghost use Rattle.std.specs.Prelude.{IfOk};
 ghost use Rattle.morph_base.specs.Graphs.{IsValidPlan};
 
 use crate::four_events::{ACCOUNTS, ASSETS, plan_for, transfer};
-use morph_base::{Batch, Event, Func, Key, List, Op, OutOfMemory, Plan};
+use morph_base::{Batch, Func, Key, List, Op, OutOfMemory, Plan};
 use std::alloc::Global;
 use std::process::Abort;
 
@@ -30,10 +30,9 @@ fn ops_of(alloc: Global, event: u64) -> Result<List<Op>, OutOfMemory> {
 pub(crate) fn plan(rt: &impl Abort, alloc: Global) -> Result<Plan, OutOfMemory>
     ensures { IfOk result IsValidPlan }
 {
-    let mut events = List::new(alloc);
+    let mut batch = Batch::new(alloc);
     for event in 0..EVENTS {
-        let ops = ops_of(alloc, event)?;
-        events.push(Event { ts: event + 1, ops })?;
+        batch.push(event + 1, ops_of(alloc, event)?.as_slice())?;
     }
-    plan_for(rt, alloc, &Batch { events })
+    plan_for(rt, alloc, &batch)
 }

@@ -35,10 +35,6 @@ not_all_numbers words i inside none =
     = get_or-drop 1 words i [] ∙ (let same : 1 + i ≡ i + 1 = omega arith in ap (λ n. get_or words n []) same) in
     list_all_at is_number (drop 1 words) i [] (omega (arith, length-drop 1 words)) (ap is_number here ∙ none)
 
--- no part is known
-pub known_none : (parts : List (List ℕ)) (numbers : List ℕ) → AreNumbersUpTo parts 0 numbers
-known_none parts numbers = record { inside = omega arith; all = refl; values = refl }
-
 -- a part more
 pub known_more : (parts others : List (List ℕ)) (i : ℕ) (numbers part : List ℕ) (number : ℕ) → i < length numbers → AreNumbersUpTo parts i numbers
     → drop i parts ≡ part ∷ others → is_number part ≡ true → number ≡ cut_value part → AreNumbersUpTo parts (i + 1) (set numbers i number)

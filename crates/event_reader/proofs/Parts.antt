@@ -112,10 +112,6 @@ module _ (line first : List ℕ) (parts : List (List ℕ)) (known : ℕ) (number
           rw (all_words true all, fails) refl
       by_tests false fits all e is = rw (all_words false all) refl
 
--- the first part is no word
-pub no_first : (line first : List ℕ) (parts : List (List ℕ)) → parts_of line ≡ first ∷ parts → is_word first ≡ false → words_of line ≡ None
-no_first line first parts is none = rw (is, none) refl
-
 -- the part behind those that are known is the first of the others
 pub next_part : (line first : List ℕ) (parts : List (List ℕ)) (known : ℕ) → parts_of line ≡ first ∷ parts
     → (others : List (List ℕ)) → others ≡ drop known parts → is_number (get_or others 0 []) ≡ false → is_number (get_or (parts_of line) (known + 1) []) ≡ false

@@ -15,8 +15,8 @@ parts_after (Some rest) = parts_of rest.now
 abbrev pub HasRest : (line rest : List ℕ) → Type 0
 HasRest line rest = 1 < length (parts_of line) → parts_of rest ≡ drop 1 (parts_of line)
 
--- The first part of the line says `number`, which stands for all greater ones if it is one above the greatest, and these
--- are the others
+-- The first part of the line says `number`, which stands for all greater ones if it is one above the greatest. The
+-- other parts are `others`
 pub record StartsWithNumber (line : List ℕ) (number : ℕ) (others : List (List ℕ)) : Type 0 where
   pub part : List ℕ
   pub parts : parts_of line ≡ part ∷ others
@@ -41,8 +41,8 @@ pub record AreCutUpTo (parts : List (List ℕ)) (known : ℕ) (numbers : List �
   pub others_are : others ≡ drop known parts
   pub stops : known + 1 < line_words → 0 < length others → is_number (slice_index_or others 0 []) ≡ false
 
--- The line has so many parts, no more than words that a line can have. Of those behind the first so many are known as
--- numbers, and the next one is none
+-- The line has so many parts, no more than words that a line can have. Of those behind the first, `known` are known as
+-- numbers; if there is a next one, it is none
 pub record HasParts (line : List ℕ) (count : ℕ) (numbers : List ℕ) (known : ℕ) : Type 0 where
   pub all : count ≡ length (parts_of line)
   pub few : count ≤ line_words

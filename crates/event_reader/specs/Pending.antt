@@ -1,8 +1,8 @@
 -- Inside the crate: the unfinished batch of a reader
-use Rattle.std.specs.Prelude.{◌≡◌, ℕ, ◌+◌, ◌<◌, ◌≤◌, List, [], ◌∷◌, ◌++◌, length, map, Option, Some, None}
+use Rattle.std.specs.Prelude.{◌≡◌, ℕ, ◌+◌, ◌<◌, ◌≤◌, List, [], ◌∷◌, ◌++◌, length, Option, Some, None}
 use Rattle.std.specs.List.{All}
 use Rattle.morph_base.specs.declared.key.Layout.{Layout}
-use Rattle.morph_base.specs.Transactions.{Transaction, IsBatchOf, HasKeysIn, HasHigh, transaction_of}
+use Rattle.morph_base.specs.Transactions.{Transaction, IsBatchOf, HasKeysIn, HasHigh, transactions_of}
 use Rattle.event_reader.specs.declared.cause.Cause.{Cause}
 use Rattle.event_reader.specs.declared.pending.Pending.{Pending}
 use Rattle.event_reader.specs.declared.pending.LineEffect.{LineEffect}
@@ -16,7 +16,7 @@ use Rattle.event_reader.specs.Accepted.{RefusedAt, accepted_from, with_batch}
 
 -- The events of the unfinished batch, as transactions
 abbrev pub batch_of : Pending → List Transaction
-batch_of pending = map transaction_of pending.events.items
+batch_of pending = transactions_of pending.batch
 
 -- What is noted beside the events is right: their timestamps, and the greatest timestamp of all batches once this one
 -- is closed too
@@ -60,7 +60,7 @@ pub record ClosedBy (rules : Rules) (closed : ℕ) (old : Pending) (line : List 
   pub leads : (n : ℕ) (r : Reading)
       → accepted_from rules n closed (batch_of old) (with_line line r) ≡ with_batch (batch_of old) (accepted_from rules (n + 1) old.latest [] r)
   pub same : new ≡ old
-  pub some : 0 < length old.events.items
+  pub some : 0 < length (batch_of old)
 
 -- What a line does to the unfinished batch, whatever lines follow it
 abbrev pub TakesLine : Rules → InputForm → (closed : ℕ) → (old : Pending) → (line : List ℕ) → (new : Pending)

@@ -1,8 +1,8 @@
 -- What contracts see of a reader, and what its answers say
 use Rattle.std.specs.Prelude.{All, ◌≡◌, ℕ, ◌+◌, ◌-◌, ◌<◌, ◌≤◌, Bool, true, false, if◌then◌else◌, List, [], ◌++◌, length, Option, option_map, IfSome, Result, Ok, Err}
 use Rattle.morph_base.specs.declared.key.Layout.{Layout}
-use Rattle.morph_base.specs.Transactions.{Transaction, IsTransaction, HasKeysIn, HasHigh, IsBatch, BatchKeysIn, transactions_of, transaction_of}
-use Rattle.morph_base.specs.declared.event.Event.{Event}
+use Rattle.morph_base.specs.Transactions.{Transaction, IsTransaction, HasKeysIn, HasHigh, IsBatch, BatchKeysIn, transactions_of, transaction}
+use Rattle.morph_base.specs.declared.operation.Op.{Op}
 use Rattle.morph_io.specs.Told.{ahead}
 use Rattle.event_reader.specs.Limits.{longest_line}
 use Rattle.event_reader.specs.declared.cause.Cause.{Cause}
@@ -23,11 +23,12 @@ use Rattle.event_reader.specs.Versions.{greatest_of, version_of}
 use Rattle.event_reader.specs.Steps.{Meaning}
 use Rattle.event_reader.specs.Accepted.{Accepted, Ended, RefusedAt, CutOff, accepted_behind, with_batch}
 
--- An application's answer for the words of a line is what they say, unless it is out of memory
-abbrev pub GivesEvent : Result Transaction Cause → Result Event LineFault → Type 0
-GivesEvent said (Ok e) = said ≡ Ok (transaction_of e)
-GivesEvent said (Err (LineRefused cause)) = said ≡ Err cause
-GivesEvent said (Err NoMemory) = Unit {0}
+-- An application's answer for the words of a line is what they say, an event's time with its operations or a cause,
+-- unless it is out of memory
+abbrev pub GivesEvent : Result Transaction Cause → Result ℕ LineFault → List Op → Type 0
+GivesEvent said (Ok ts) ops = said ≡ Ok (transaction ts ops)
+GivesEvent said (Err (LineRefused cause)) ops = said ≡ Err cause
+GivesEvent said (Err NoMemory) ops = Unit {0}
 
 -- The cause is one that the words of a line can have
 abbrev pub IsOfWords : Cause → Type 0
@@ -176,7 +177,7 @@ ShowsNext event_of before answer after got =
 -- version
 abbrev pub IsValidNext : Version → Layout → Next → Type 0
 IsValidNext version layout (Batch batch) =
-    (0 < length batch.events.items) × IsBatch batch × BatchKeysIn layout batch
+    (0 < length (transactions_of batch)) × IsBatch batch × BatchKeysIn layout batch
     × All (HasHigh (greatest_of version)) (transactions_of batch)
 IsValidNext version layout _ = Unit {0}
 
@@ -199,7 +200,7 @@ SameReader before after =
 
 -- The number of events that an answer gives
 abbrev pub event_count : Next → ℕ
-event_count (Batch batch) = length batch.events.items
+event_count (Batch batch) = length (transactions_of batch)
 event_count _ = 0
 
 -- The test whether an answer gives a batch, so that the reader may be asked again

@@ -1,4 +1,4 @@
-ghost use Rattle.std.specs.Prelude.{◌≡◌, ℕ, ◌<◌, ◌≤◌, List, Result, length};
+ghost use Rattle.std.specs.Prelude.{◌≡◌, ℕ, ◌<◌, ◌≤◌, List, [], Result, length};
 ghost use Rattle.morph_base.specs.Transactions.{Transaction};
 ghost use Rattle.event_reader.specs.Limits.{name_bytes};
 ghost use Rattle.event_reader.specs.declared.cause.Cause.{Cause};
@@ -8,7 +8,7 @@ ghost use Rattle.event_reader.specs.Reader.{GivesEvent, GivesValid, IsOfWords};
 use crate::cause::LineFault;
 use crate::version::Version;
 use crate::words::Words;
-use morph_base::Event;
+use morph_base::EventOps;
 use std::alloc::Global;
 
 /// An application: its tables, and what the words of its event lines say.
@@ -33,15 +33,19 @@ pub trait EventApp {
         ensures name { result.now ≡ name_of self.now table }
         ensures short { length result.now ≤ name_bytes };
 
-    /// Reads the words of an event line of an input of this version. Each table has `size` ids.
+    /// Reads the words of an event line of an input of this version. Each table has `size` ids. Puts the event's
+    /// operations into `ops`, which has none yet, and returns its timestamp. With a fault, what is in `ops` means
+    /// nothing.
     fn read_event(
         &self,
         alloc: Global,
         words: &Words<'_>,
         size: u32,
         version: Version,
-    ) -> Result<Event, LineFault>
-        ensures { GivesEvent (event_of self.now size version words.now) result };
+        ops: &mut EventOps,
+    ) -> Result<u64, LineFault>
+        requires none { ops.old ≡ [] }
+        ensures gives { GivesEvent (event_of self.now size version words.now) result ops.new };
 
     /// Each event is valid, its keys are in the tables, and its greatest value is that of the version.
     ghost gives_valid: { GivesValid table_count event_of };

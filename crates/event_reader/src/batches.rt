@@ -13,7 +13,7 @@ use crate::lines::Lines;
 use crate::past::Past;
 use crate::pending::{LineEffect, Pending};
 use crate::version::{Version, is_version};
-use morph_base::{Batch, OutOfMemory};
+use morph_base::{BatchRoom, OutOfMemory};
 use morph_io::Source;
 use std::alloc::Global;
 use std::marker::Model;
@@ -27,11 +27,12 @@ fn says_version(lines: &Lines) -> bool
 }
 
 /// Reads the next batch of an application whose tables have `size` ids each. The version line, and the timestamps of
-/// the batch if one is returned, are added to what was read before.
+/// the batch if one is returned, are added to what was read before. The batch begins with this room.
 fn read_batch<A: EventApp, S: Source>(
     alloc: Global,
     app: &A,
     size: u32,
+    room: BatchRoom,
     past: &mut Past,
     lines: &mut Lines,
     source: &mut S,
@@ -55,7 +56,7 @@ fn read_batch<A: EventApp, S: Source>(
     ensures done { IsTrue (goes_on result) → lines.new.live ≡ false
         → (lines.new.kept ≡ []) × IsTrue lines.new.ended }
 {
-    let mut pending = Pending::new(alloc, past.closed);
+    let mut pending = Pending::new(alloc, past.closed, room);
     'lines: loop {
         match lines.next_line(source)? {
             LineNext::Long => {
@@ -64,12 +65,10 @@ fn read_batch<A: EventApp, S: Source>(
                     cause: Cause::Long,
                 });
             }
-            LineNext::End if pending.events.is_empty() => return Ok(Next::End),
+            LineNext::End if pending.batch.is_empty() => return Ok(Next::End),
             LineNext::End => {
                 past.closed = pending.latest;
-                return Ok(Next::Batch(Batch {
-                    events: pending.events,
-                }));
+                return Ok(Next::Batch(pending.batch));
             }
             LineNext::Line => {}
         }
@@ -81,9 +80,7 @@ fn read_batch<A: EventApp, S: Source>(
             LineEffect::GoesOn => {}
             LineEffect::Closes => {
                 past.closed = pending.latest;
-                return Ok(Next::Batch(Batch {
-                    events: pending.events,
-                }));
+                return Ok(Next::Batch(pending.batch));
             }
             LineEffect::Refuses(cause) => {
                 return Ok(Next::Refused {
@@ -95,6 +92,14 @@ fn read_batch<A: EventApp, S: Source>(
     }
 }
 
+/// Room for the batch after this one.
+fn room_after(next: &Next) -> BatchRoom {
+    match next {
+        Next::Batch(batch) => batch.room(),
+        _ => BatchRoom::none(),
+    }
+}
+
 /// A reader of the batches of an application.
 #[derive(Drop)]
 pub struct BatchReader<A> {
@@ -103,6 +108,8 @@ pub struct BatchReader<A> {
     past: Past,
     lines: Lines,
     live: bool,
+    /// Room for the next batch, which is likely to be as large as the one before it.
+    room: BatchRoom,
 }
 
 impl<A> Model for BatchReader<A> {
@@ -144,6 +151,7 @@ impl<A: EventApp> BatchReader<A> {
                 closed: 0,
             },
             live: true,
+            room: BatchRoom::none(),
         })
     }
 
@@ -200,11 +208,13 @@ impl<A: EventApp> BatchReader<A> {
             alloc,
             &self.app,
             self.size,
+            self.room,
             &mut self.past,
             &mut self.lines,
             source,
         )?;
         self.live = matches!(next, Next::Batch(_));
+        self.room = room_after(&next);
         Ok(next)
     }
 }

@@ -45,6 +45,7 @@ fn decide_piece(piece: &[u8], used: usize) -> Decision
 }
 
 /// Decides the first line. `ended` says that no bytes follow those kept.
+#[inline(always)]
 pub(crate) fn decide(kept: &[u8], ended: bool) -> Decision
     ensures { Decides kept.now ended result }
 {

@@ -206,6 +206,7 @@ impl Lines {
     /// faults rose in this call, and the count rises with no other answer. [`ReaderFault::TooLong`] is returned exactly
     /// if as many bytes as the limit were taken, none of their lines is too long, and the source gave one more. The
     /// call takes no memory.
+    #[inline(always)]
     pub fn next_line<S: Source>(&mut self, source: &mut S) -> Result<LineNext, ReaderFault>
         requires live { IsTrue self.old.live }
         ensures answers { AnswersLine (reading_of self.old (S.left source.old)) result self.new.line

@@ -63,7 +63,8 @@ pub fn read_number(word: &[u8]) -> Number
     }
 }
 
-/// What follows the first part of a line that begins with `len` digits. `None` if the part has another byte behind them.
+/// What follows the first part of a line that begins with `len` digits, or `None` if the part has another byte behind
+/// them.
 fn behind_digits(line: &[u8], len: usize) -> Option<Option<&[u8]>>
     requires inside { len ≤ length line.now }
     requires digits { list_all is_ascii_digit (take len line.now) ≡ true }

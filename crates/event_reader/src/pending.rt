@@ -1,5 +1,5 @@
 ghost use Rattle.std.specs.Prelude.{◌≡◌, ◌≤◌, [], length, IfOk};
-ghost use Rattle.morph_base.specs.Transactions.{transaction_of};
+ghost use Rattle.morph_base.specs.Transactions.{transaction, transactions_of};
 ghost use Rattle.event_reader.specs.Steps.{is_ignored, is_punctuation, rules_of};
 ghost use Rattle.event_reader.specs.Limits.{longest_line};
 ghost use Rattle.event_reader.specs.Versions.{most_events};
@@ -9,13 +9,15 @@ use crate::cause::{Cause, LineFault};
 use crate::past::Past;
 use crate::times::Times;
 use crate::words::Words;
-use morph_base::{Event, List, OutOfMemory};
+use morph_base::{Batch, BatchRoom, EventOps, OutOfMemory};
 use std::alloc::Global;
 
 /// The unfinished batch of a reader.
 #[derive(Drop)]
 pub(crate) struct Pending {
-    pub(crate) events: List<Event>,
+    pub(crate) batch: Batch,
+    /// The operations of the line that is read.
+    ops: EventOps,
     pub(crate) times: Times,
     /// The greatest timestamp of the closed batches and of this one.
     pub(crate) latest: u64,
@@ -46,38 +48,49 @@ fn is_punctuation_line(line: &[u8]) -> bool
     line == b"P".as_slice()
 }
 
+/// A batch without events: with this room if there is memory for it at once, and else without.
+fn empty_batch(alloc: Global, room: BatchRoom) -> Batch
+    ensures { transactions_of result ≡ [] }
+{
+    match Batch::with_room(alloc, room) {
+        Ok(batch) => batch,
+        Err(OutOfMemory) => Batch::new(alloc),
+    }
+}
+
 impl Pending {
     ghost use Rattle.event_reader.specs.Pending.{batch_of, Notes, IsSoundBatch, Joins, TakesLine};
 
     /// No events, after batches whose greatest timestamp is `closed`.
-    pub(crate) fn new(alloc: Global, closed: u64) -> Self
+    pub(crate) fn new(alloc: Global, closed: u64, room: BatchRoom) -> Self
         ensures events { batch_of result ≡ [] }
         ensures notes { Notes closed result }
     {
         Pending {
-            events: List::new(alloc),
+            batch: empty_batch(alloc, room),
+            ops: EventOps::new(),
             times: Times::new(alloc),
             latest: closed,
         }
     }
 
-    /// Adds an event, or returns the first of the causes late, twice and full that applies.
-    fn join(&mut self, past: Past, event: Event) -> Result<Option<Cause>, OutOfMemory>
+    /// Adds the event of the line that was read, or returns the first of the causes late, twice and full that applies.
+    fn join(&mut self, past: Past, ts: u64) -> Result<Option<Cause>, OutOfMemory>
         requires { Notes past.closed self.old }
         ensures { IfOk result (Joins (most_events past.version) past.closed self.old
-            (transaction_of event) self.new) }
+            (transaction ts self.old.ops) self.new) }
     {
-        if event.ts <= past.closed {
+        if ts <= past.closed {
             return Ok(Some(Cause::Late));
         }
-        if !self.times.add(event.ts)? {
+        if !self.times.add(ts)? {
             return Ok(Some(Cause::Twice));
         }
-        if self.events.len() >= past.version.most_events() {
+        if self.batch.len() >= past.version.most_events() {
             return Ok(Some(Cause::Full));
         }
-        self.latest = self.latest.max(event.ts);
-        self.events.push(event)?;
+        self.latest = self.latest.max(ts);
+        self.batch.push(ts, self.ops.as_slice())?;
         Ok(None)
     }
 
@@ -106,7 +119,7 @@ impl Pending {
             return Ok(LineEffect::GoesOn);
         }
         if is_punctuation_line(line) {
-            if self.events.is_empty() {
+            if self.batch.is_empty() {
                 return Ok(LineEffect::GoesOn);
             }
             return Ok(LineEffect::Closes);
@@ -114,12 +127,13 @@ impl Pending {
         let Some(words) = Words::split(line) else {
             return Ok(LineEffect::Refuses(Cause::Form));
         };
-        let event = match app.read_event(alloc, &words, size, past.version) {
-            Ok(event) => event,
+        self.ops.clear();
+        let ts = match app.read_event(alloc, &words, size, past.version, &mut self.ops) {
+            Ok(ts) => ts,
             Err(LineFault::Refused(cause)) => return Ok(LineEffect::Refuses(cause)),
             Err(LineFault::OutOfMemory) => return Err(OutOfMemory),
         };
-        match self.join(past, event)? {
+        match self.join(past, ts)? {
             None => Ok(LineEffect::GoesOn),
             Some(cause) => Ok(LineEffect::Refuses(cause)),
         }

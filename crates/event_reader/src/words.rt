@@ -94,6 +94,7 @@ fn count_words(parts: Option<&[u8]>, most: usize) -> Option<usize>
 impl<'a> Words<'a> {
     /// Cuts a line at its spaces. The result is `None` exactly if the words are not separated by one space each: if a
     /// word would be empty, also at either end, or if there are more than [`LINE_WORDS`].
+    #[inline(always)]
     pub fn split(line: &'a [u8]) -> Option<Words<'a>>
         ensures { result ≡ words_of line.now }
     {

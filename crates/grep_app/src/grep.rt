@@ -1,4 +1,4 @@
-ghost use Rattle.std.specs.Prelude.{◌≡◌, ◌<◌, ◌≤◌, length, codes};
+ghost use Rattle.std.specs.Prelude.{◌≡◌, ◌<◌, ◌≤◌, [], length, codes};
 ghost use Rattle.morph_base.specs.declared.limits.TheConstants.{PARAMS};
 ghost use Rattle.event_reader.specs.Forms.{said_in};
 ghost use Rattle.event_reader.specs.Reader.{GivesEvent};
@@ -9,7 +9,7 @@ use event_reader::{
     Cause, Draws, EventApp, Form, LineFault, MakesInput, Range, TIMES, Version, Words,
     are_distinct, has_key, key_of, keys_of,
 };
-use morph_base::{Event, Func, Key, List, PARAMS};
+use morph_base::{EventOps, Func, Key, PARAMS};
 use morph_io::LineBuf;
 use std::alloc::Global;
 
@@ -31,43 +31,44 @@ fn most_cells(version: Version) -> usize
 }
 
 /// Reads the words of a line that sets a cell.
-fn set(alloc: Global, words: &Words<'_>, size: u32, version: Version) -> Result<Event, LineFault>
-    ensures { GivesEvent (said_in (settings version size) words.now) result }
+fn set(words: &Words<'_>, size: u32, version: Version, ops: &mut EventOps) -> Result<u64, LineFault>
+    requires { ops.old ≡ [] }
+    ensures { GivesEvent (said_in (settings version size) words.now) result ops.new }
 {
     let places = [TIMES, Range::ids(size), Range::amounts(version)];
     let numbers = words.read(&Form::new(b'W', &places))?;
     let [ts, k, v] = numbers.first();
-    let mut ops = List::with_room(alloc, 1)?;
     ops.add(version.op(Func::Set, key_of(CELLS, k), &[], v));
-    Ok(Event { ts, ops })
+    Ok(ts)
 }
 
-/// The event that puts the sum of some cells into another one if it is at most the limit, and keeps those cells.
+/// Makes the event that puts the sum of some cells into another one if it is at most the limit, and keeps those cells.
 fn gather(
-    alloc: Global,
     version: Version,
     ts: u64,
     limit: u64,
     target: Key,
     cells: &[Key],
-) -> Result<Event, LineFault>
-    requires { length cells.now ≤ PARAMS }
-    ensures { GivesEvent (gather version ts limit target cells.now) result }
+    ops: &mut EventOps,
+) -> Result<u64, LineFault>
+    requires few { length cells.now ≤ PARAMS }
+    requires none { ops.old ≡ [] }
+    ensures { GivesEvent (gather version ts limit target cells.now) result ops.new }
 {
     if has_key(cells, target) || !are_distinct(cells) {
         return Err(LineFault::Refused(Cause::Same));
     }
-    let mut ops = List::with_room(alloc, cells.len() + 1)?;
     ops.add(version.op(Func::Sum, target, cells, limit));
     for cell in cells {
         ops.add(version.op(Func::Keep, *cell, &[], 0));
     }
-    Ok(Event { ts, ops })
+    Ok(ts)
 }
 
 /// Reads the words of a line that sums cells.
-fn sum(alloc: Global, words: &Words<'_>, size: u32, version: Version) -> Result<Event, LineFault>
-    ensures { GivesEvent (said_in (sums version size) words.now) result }
+fn sum(words: &Words<'_>, size: u32, version: Version, ops: &mut EventOps) -> Result<u64, LineFault>
+    requires { ops.old ≡ [] }
+    ensures { GivesEvent (said_in (sums version size) words.now) result ops.new }
 {
     let ids = Range::ids(size);
     let places = [TIMES, ids, Range::amounts(version)];
@@ -77,7 +78,7 @@ fn sum(alloc: Global, words: &Words<'_>, size: u32, version: Version) -> Result<
     let others = numbers.rest();
     let cells: [Key; PARAMS] = keys_of(CELLS, others);
     let target = key_of(CELLS, k);
-    gather(alloc, version, ts, limit, target, &cells[..others.len()])
+    gather(version, ts, limit, target, &cells[..others.len()], ops)
 }
 
 impl EventApp for Grep {
@@ -103,14 +104,15 @@ impl EventApp for Grep {
 
     fn read_event(
         &self,
-        alloc: Global,
+        _alloc: Global,
         words: &Words<'_>,
         size: u32,
         version: Version,
-    ) -> Result<Event, LineFault> {
+        ops: &mut EventOps,
+    ) -> Result<u64, LineFault> {
         match words.letter() {
-            Some(b'W') => set(alloc, words, size, version),
-            Some(b'G') => sum(alloc, words, size, version),
+            Some(b'W') => set(words, size, version, ops),
+            Some(b'G') => sum(words, size, version, ops),
             _ => Err(LineFault::Refused(Cause::Form)),
         }
     }

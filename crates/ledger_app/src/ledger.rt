@@ -1,4 +1,4 @@
-ghost use Rattle.std.specs.Prelude.{◌≡◌, ◌≤◌, length, slice_index, codes, if◌then◌else◌, ◌==◌};
+ghost use Rattle.std.specs.Prelude.{◌≡◌, ◌≤◌, [], length, slice_index, codes, if◌then◌else◌, ◌==◌};
 ghost use Rattle.event_reader.specs.Forms.{said_in};
 ghost use Rattle.event_reader.specs.Reader.{GivesEvent};
 ghost use Rattle.event_reader.specs.Versions.{greatest_of};
@@ -9,7 +9,7 @@ use event_reader::{
     Cause, Draws, EventApp, Form, LineFault, MakesInput, Range, TIMES, Version, Words,
     are_distinct, has_key, key_of, keys_of,
 };
-use morph_base::{EVENT_OPS, Event, Func, Key, List, Op};
+use morph_base::{EVENT_OPS, EventOps, Func, Key, Op};
 use morph_io::LineBuf;
 use std::alloc::Global;
 
@@ -28,20 +28,20 @@ pub struct Ledger;
 
 /// Reads the words of a deposit.
 fn deposit(
-    alloc: Global,
     words: &Words<'_>,
     size: u32,
     version: Version,
-) -> Result<Event, LineFault>
-    ensures { GivesEvent (said_in (deposits version size) words.now) result }
+    ops: &mut EventOps,
+) -> Result<u64, LineFault>
+    requires { ops.old ≡ [] }
+    ensures { GivesEvent (said_in (deposits version size) words.now) result ops.new }
 {
     let (ids, amounts) = (Range::ids(size), Range::amounts(version));
     let numbers = words.read(&Form::new(b'D', &[TIMES, ids, ids, amounts, amounts]))?;
     let [ts, account, asset, a, b] = numbers.first();
-    let mut ops = List::with_room(alloc, 2)?;
     ops.add(version.op(Func::Add, key_of(ACCOUNTS, account), &[], a));
     ops.add(version.op(Func::Add, key_of(ASSETS, asset), &[], b));
-    Ok(Event { ts, ops })
+    Ok(ts)
 }
 
 /// How many numbers a transfer may have behind those that every transfer has: in version 2 one, which says what has to
@@ -67,12 +67,13 @@ fn first_or_none(numbers: &[u64]) -> u64
 
 /// Reads the words of a transfer.
 fn transfer(
-    alloc: Global,
     words: &Words<'_>,
     size: u32,
     version: Version,
-) -> Result<Event, LineFault>
-    ensures { GivesEvent (said_in (transfers version size) words.now) result }
+    ops: &mut EventOps,
+) -> Result<u64, LineFault>
+    requires { ops.old ≡ [] }
+    ensures { GivesEvent (said_in (transfers version size) words.now) result ops.new }
 {
     let (ids, amounts) = (Range::ids(size), Range::amounts(version));
     let places = [TIMES, ids, ids, ids, ids, amounts, amounts];
@@ -85,27 +86,27 @@ fn transfer(
     }
     let (src, dst) = (key_of(ACCOUNTS, src), key_of(ACCOUNTS, dst));
     let (asrc, adst) = (key_of(ASSETS, asrc), key_of(ASSETS, adst));
-    let mut ops = List::with_room(alloc, 4)?;
     let high = version.greatest();
     ops.add(Op::new(Func::Sub, src, &[], a).limited(floor, high));
     ops.add(version.op(Func::Sub, asrc, &[], b));
     ops.add(Op::new(Func::MoveIn, dst, &[src], a).limited(floor, high));
     ops.add(version.op(Func::MoveIn, adst, &[asrc], b));
-    Ok(Event { ts, ops })
+    Ok(ts)
 }
 
-/// The event that takes an amount from an account for each of some others, and moves it to them.
+/// Makes the event that takes an amount from an account for each of some others, and moves it to them.
 fn pay_out(
-    alloc: Global,
     version: Version,
     ts: u64,
     a: u64,
     src: Key,
     accounts: &[Key],
-) -> Result<Event, LineFault>
+    ops: &mut EventOps,
+) -> Result<u64, LineFault>
     requires few { length accounts.now ≤ most_paid }
     requires small { a ≤ greatest_of version }
-    ensures { GivesEvent (payout version ts a src accounts.now) result }
+    requires none { ops.old ≡ [] }
+    ensures { GivesEvent (payout version ts a src accounts.now) result ops.new }
 {
     let whole = accounts.len() as u64 * a;
     if whole > version.greatest() {
@@ -114,17 +115,17 @@ fn pay_out(
     if has_key(accounts, src) || !are_distinct(accounts) {
         return Err(LineFault::Refused(Cause::Same));
     }
-    let mut ops = List::with_room(alloc, accounts.len() + 1)?;
     ops.add(version.op(Func::Sub, src, &[], whole));
     for account in accounts {
         ops.add(version.op(Func::MoveIn, *account, &[src], a));
     }
-    Ok(Event { ts, ops })
+    Ok(ts)
 }
 
 /// Reads the words of a payout.
-fn pay(alloc: Global, words: &Words<'_>, size: u32, version: Version) -> Result<Event, LineFault>
-    ensures { GivesEvent (said_in (payouts version size) words.now) result }
+fn pay(words: &Words<'_>, size: u32, version: Version, ops: &mut EventOps) -> Result<u64, LineFault>
+    requires { ops.old ≡ [] }
+    ensures { GivesEvent (said_in (payouts version size) words.now) result ops.new }
 {
     let ids = Range::ids(size);
     let places = [TIMES, ids, Range::amounts(version)];
@@ -134,7 +135,7 @@ fn pay(alloc: Global, words: &Words<'_>, size: u32, version: Version) -> Result<
     let others = numbers.rest();
     let accounts: [Key; MOST_PAID] = keys_of(ACCOUNTS, others);
     let src = key_of(ACCOUNTS, src);
-    pay_out(alloc, version, ts, a, src, &accounts[..others.len()])
+    pay_out(version, ts, a, src, &accounts[..others.len()], ops)
 }
 
 impl EventApp for Ledger {
@@ -160,15 +161,16 @@ impl EventApp for Ledger {
 
     fn read_event(
         &self,
-        alloc: Global,
+        _alloc: Global,
         words: &Words<'_>,
         size: u32,
         version: Version,
-    ) -> Result<Event, LineFault> {
+        ops: &mut EventOps,
+    ) -> Result<u64, LineFault> {
         match (words.letter(), version) {
-            (Some(b'D'), _) => deposit(alloc, words, size, version),
-            (Some(b'X'), _) => transfer(alloc, words, size, version),
-            (Some(b'M'), Version::Two) => pay(alloc, words, size, version),
+            (Some(b'D'), _) => deposit(words, size, version, ops),
+            (Some(b'X'), _) => transfer(words, size, version, ops),
+            (Some(b'M'), Version::Two) => pay(words, size, version, ops),
             _ => Err(LineFault::Refused(Cause::Form)),
         }
     }

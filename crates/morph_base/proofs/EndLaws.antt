@@ -3,7 +3,7 @@ use Rattle.std.proofs.Common.{◌≡◌, ℕ, zero, suc, ◌<◌, ◌≤◌, ◌
 use Rattle.std.proofs.Math.Path.{fun_ext}
 use Rattle.std.proofs.lemmas.Bool.{cases_eq, cases_lt, cond-true, cond-false}
 use Rattle.morph_base.specs.declared.key.Key.{Key}
-use Rattle.morph_base.specs.declared.event.Batch.{Batch}
+use Rattle.morph_base.specs.declared.batch.Batch.{Batch}
 use Rattle.morph_base.specs.declared.plan.Plan.{Plan}
 use Rattle.morph_base.specs.Operations.{same_key}
 use Rattle.morph_base.specs.States.{State, after_all, fold_batch, overwritten}

@@ -24,6 +24,7 @@ pub mod EndLaws
 pub mod VersionLaws
 -- If some state has the bases of a plan, its opening state has them.
 pub mod BaseLaws
+pub mod BatchLaws
 -- A plan with its bases filled in from a state is valid, and keeps everything else.
 pub mod FillLaws
 -- Filling in the bases keeps a plan's graph.

@@ -5,6 +5,7 @@ pub mod Operations
 pub mod Transactions
 pub mod States
 pub mod Outcomes
+pub mod EventHeads
 pub mod Flat
 pub mod Numbering
 pub mod Sources

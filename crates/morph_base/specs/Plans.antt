@@ -3,7 +3,7 @@ use Rattle.std.specs.Prelude.{◌≡◌, ℕ, ◌+◌, ◌≤◌, ◌<◌, Bool,
 use Rattle.morph_base.specs.declared.limits.TheConstants.{READS}
 use Rattle.morph_base.specs.declared.key.Key.{Key}
 use Rattle.morph_base.specs.declared.key.Layout.{Layout}
-use Rattle.morph_base.specs.declared.event.Batch.{Batch}
+use Rattle.morph_base.specs.declared.batch.Batch.{Batch}
 use Rattle.morph_base.specs.declared.plan.Origin.{Origin}
 use Rattle.morph_base.specs.declared.plan.Origin.TheVariants.{Base, Op as Written}
 use Rattle.morph_base.specs.declared.plan.PlanOp.{PlanOp}

@@ -1,5 +1,5 @@
 -- Events as transactions: plain records, without the room of their lists
-use Rattle.std.specs.Prelude.{◌≡◌, ℕ, ◌≤◌, ◌<◌, nat_le, if◌then◌else◌, List, [], ◌∷◌, length, map, All}
+use Rattle.std.specs.Prelude.{◌≡◌, ℕ, ◌≤◌, ◌<◌, nat_le, if◌then◌else◌, List, [], ◌∷◌, length, map, take, drop, All}
 use Rattle.std.specs.List.{IsDistinct}
 use Rattle.std.specs.Prelude.{nat_eq}
 use Rattle.morph_base.specs.declared.limits.TheConstants.{MAX, EVENT_OPS, EVENTS}
@@ -8,7 +8,8 @@ use Rattle.morph_base.specs.declared.key.Key.{Key}
 use Rattle.morph_base.specs.declared.key.Layout.{Layout}
 use Rattle.morph_base.specs.declared.operation.Op.{Op}
 use Rattle.morph_base.specs.declared.event.Event.{Event}
-use Rattle.morph_base.specs.declared.event.Batch.{Batch}
+use Rattle.morph_base.specs.declared.batch.EventHead.{EventHead}
+use Rattle.morph_base.specs.declared.batch.Batch.{Batch}
 use Rattle.morph_base.specs.Operations.{high_in, IsShaped, InLayout, reads, same_key}
 
 -- A time, and the operations that are done together at that time
@@ -16,13 +17,25 @@ pub record Transaction : Type 0 where
   pub ts : ℕ
   pub ops : List Op
 
+-- The transaction of this time, with these operations
+abbrev pub transaction : ℕ → List Op → Transaction
+transaction ts ops = record { ts = ts; ops = ops }
+
+-- What stands for a transaction past the end of a list
+abbrev pub no_transaction : Transaction
+no_transaction = transaction 0 []
+
 -- The event as a transaction
 abbrev pub transaction_of : Event → Transaction
-transaction_of e = record { ts = e.ts; ops = e.ops.items }
+transaction_of e = transaction e.ts e.ops.now
+
+-- The event that has its operations in a list of all
+abbrev pub transaction_by : List Op → EventHead → Transaction
+transaction_by ops head = transaction head.ts (take head.count (drop head.first ops))
 
 -- The events of a batch as transactions, in order of arrival
 abbrev pub transactions_of : Batch → List Transaction
-transactions_of batch = map transaction_of batch.events.items
+transactions_of batch = map (transaction_by batch.ops.items) batch.heads.items
 
 -- The keys that a transaction changes, in operation order
 abbrev pub targets : Transaction → List Key

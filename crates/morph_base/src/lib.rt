@@ -13,11 +13,10 @@
 //!
 //! ```text
 //! let account = Key { table: 0, id: 7 };
-//! let ops = List::from_slice(alloc, &[Op::new(Func::Add, account, &[], 100)])?;
-//! let mut events = List::new(alloc);
-//! events.push(Event { ts: 1, ops })?;
+//! let mut batch = Batch::new(alloc);
+//! batch.push(1, &[Op::new(Func::Add, account, &[], 100)])?;
 //! let mut values = Values::new(alloc, Layout { tables: 1, size: 10 })?;
-//! let outcomes = plain::fold(alloc, &mut values, &Batch { events })?;
+//! let outcomes = plain::fold(alloc, &mut values, &batch)?;
 //! ```
 //!
 //! [`Op`], [`Event`] and [`Batch`] say when they are valid. Calls ask for valid ones, with their keys in the layout of
@@ -29,7 +28,8 @@
 //! |---|---|
 //! | `key`, `limits` | `Key` and `Layout`; the greatest numbers, such as `MAX` |
 //! | `operation`, `evaluation` | `Func` and `Op`; `eval` and `evaluate` |
-//! | `event`, `validity` | `Event` and `Batch`; whether a batch that was put together by hand is valid |
+//! | `event`, `event_ops` | `Event`, which borrows its operations; `EventOps`, which an application fills |
+//! | `batch`, `validity` | `Batch` and `BatchRoom`; whether a batch that was put together by hand is valid |
 //! | `values` | `Values`: a value for each key |
 //! | `plain`, `outcome` | `fold`, the events one at a time; the `Outcome` of an event |
 //! | `plan`, `plan_ops`, `rows` | `Plan`, `PlanEvent`, `PlanOp`, `Origin`, `Edges` and `Settled`; the operations of a plan in sized lists; `Rows` of numbers in one list |
@@ -39,8 +39,10 @@
 //! | `laws` | what follows from the definitions, in a file for each subject |
 #![tactic(auto)]
 
+mod batch;
 mod evaluation;
 mod event;
+mod event_ops;
 mod key;
 pub mod laws;
 mod limits;
@@ -57,8 +59,10 @@ mod validity;
 mod values;
 mod word;
 
+pub use batch::{Batch, BatchRoom};
 pub use evaluation::{eval, evaluate};
-pub use event::{Batch, Event};
+pub use event::Event;
+pub use event_ops::EventOps;
 pub use key::{Key, Layout};
 pub use limits::{EVENT_OPS, EVENTS, FIRST_MAX, LATEST, MAX, PARAMS, READS, WORKERS};
 pub use list::List;

@@ -154,6 +154,15 @@ impl<T: Copy> List<T> {
         })
     }
 
+    /// Appends copies of some items. If memory is refused, the list stays as it was.
+    pub fn extend_from_slice(&mut self, items: &[T]) -> Result<(), OutOfMemory>
+        ensures items { OnOk result (self.new.items ≡ self.old.items ++ items.now) }
+        ensures refused { OnErr result (self.new.items ≡ self.old.items) }
+    {
+        self.vec.extend_from_slice(items)?;
+        Ok(())
+    }
+
     /// A list of `n` copies of the same item.
     pub fn filled(alloc: Global, n: usize, item: T) -> Result<Self, OutOfMemory>
         ensures { IfOk result (λ list. list.items ≡ replicate n item) }

@@ -10,8 +10,9 @@ ghost use Rattle.morph_base.specs.States.{answer as answer_in, all_answer, commi
 ghost use Rattle.morph_base.specs.Outcomes.{fate, fate_of, fates};
 ghost use Rattle.morph_base.specs.Flat.{contents, put_all};
 
+use crate::batch::Batch;
 use crate::evaluation::eval;
-use crate::event::{Batch, Event};
+use crate::event::Event;
 use crate::limits::{MAX, READS};
 use crate::list::List;
 use crate::memory::OutOfMemory;
@@ -44,7 +45,7 @@ pub fn fold(alloc: Global, values: &mut Values, batch: &Batch) -> Result<List<Ou
 }
 
 /// Does one event. If it aborts or memory is refused, the values stay as they were.
-fn apply(alloc: Global, values: &mut Values, event: &Event) -> Result<Outcome, OutOfMemory>
+fn apply(alloc: Global, values: &mut Values, event: &Event<'_>) -> Result<Outcome, OutOfMemory>
     requires event { IsTransaction (transaction_of event.now) }
     requires keys { HasKeysIn values.old.layout (transaction_of event.now) }
     ensures layout { values.new.layout ≡ values.old.layout }
@@ -54,7 +55,7 @@ fn apply(alloc: Global, values: &mut Values, event: &Event) -> Result<Outcome, O
         (λ outcome. fate_of outcome ≡ fate (contents values.old) (transaction_of event.now)) }
     ensures refused { OnErr result (values.new ≡ values.old) }
 {
-    let ops = event.ops.as_slice();
+    let ops = event.ops;
     let mut after = List::with_room(alloc, ops.len())?;
     let committed = transact(alloc, values, event)?;
     read_targets(values, ops, &mut after);
@@ -66,7 +67,7 @@ fn apply(alloc: Global, values: &mut Values, event: &Event) -> Result<Outcome, O
 }
 
 /// Changes the values by an event, and says whether it committed.
-fn transact(alloc: Global, values: &mut Values, event: &Event) -> Result<bool, OutOfMemory>
+fn transact(alloc: Global, values: &mut Values, event: &Event<'_>) -> Result<bool, OutOfMemory>
     requires event { IsTransaction (transaction_of event.now) }
     requires keys { HasKeysIn values.old.layout (transaction_of event.now) }
     ensures layout { values.new.layout ≡ values.old.layout }
@@ -76,7 +77,7 @@ fn transact(alloc: Global, values: &mut Values, event: &Event) -> Result<bool, O
         (contents values.new ≡ after (contents values.old) (transaction_of event.now)) }
     ensures refused { OnErr result (values.new ≡ values.old) }
 {
-    let ops = event.ops.as_slice();
+    let ops = event.ops;
     match answers(alloc, values, ops)? {
         Some(answers) => {
             write(values, ops, answers.as_slice());

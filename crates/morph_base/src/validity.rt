@@ -3,9 +3,10 @@ ghost use Rattle.std.specs.Prelude.{◌≡◌, ◌<◌, ◌≤◌, ◌↔◌, le
 ghost use Rattle.std.specs.List.{IsDistinct, list_any};
 ghost use Rattle.morph_base.specs.Operations.{IsLimit, IsShaped, InLayout, reads, no_key, same_key};
 ghost use Rattle.morph_base.specs.Transactions.{IsTransaction, IsBatch, HasHigh, high_of_all};
-ghost use Rattle.morph_base.specs.Transactions.{BatchKeysIn, HasKeysIn, transaction_of};
+ghost use Rattle.morph_base.specs.Transactions.{BatchKeysIn, HasKeysIn, time, transaction_of, transactions_of};
 
-use crate::event::{Batch, Event};
+use crate::batch::Batch;
+use crate::event::Event;
 use crate::key::{Key, Layout};
 use crate::limits::{EVENT_OPS, EVENTS, FIRST_MAX, LATEST, MAX, READS};
 use crate::operation::Op;
@@ -17,71 +18,73 @@ impl Batch {
     pub fn is_valid(&self) -> bool
         ensures { IsTrue result ↔ IsBatch self.now }
     {
-        let events = self.events.as_slice();
-        if events.len() > EVENTS {
-            return false;
-        }
-        are_valid(events) && times_differ(events)
+        self.len() <= EVENTS && are_transactions(self) && are_alike(self) && times_differ(self)
     }
 
     /// Whether all keys that its operations read or change are in the layout.
     pub fn has_keys_in(&self, layout: Layout) -> bool
         ensures { IsTrue result ↔ BatchKeysIn layout self.now }
     {
-        all_have_keys_in(self.events.as_slice(), layout)
+        'events: for i in 0..self.len() {
+            if !has_keys_in(&self.event(i), layout) {
+                return false;
+            }
+        }
+        true
     }
 }
 
-/// Whether all events are valid, and their operations have one greatest value.
-fn are_valid(events: &[Event]) -> bool
-    ensures { let high = high_of_all (map transaction_of events.now) in
-        IsTrue result ↔ (All (λ e. IsTransaction (transaction_of e)) events.now
-        × All (λ e. HasHigh high (transaction_of e)) events.now) }
-{
-    are_transactions(events) && are_alike(events)
-}
-
 /// Whether all events are valid.
-fn are_transactions(events: &[Event]) -> bool
-    ensures { IsTrue result ↔ All (λ e. IsTransaction (transaction_of e)) events.now }
+fn are_transactions(batch: &Batch) -> bool
+    ensures { IsTrue result ↔ All IsTransaction (transactions_of batch.now) }
 {
-    events.iter().all(|event| is_transaction(event))
+    'events: for i in 0..batch.len() {
+        if !is_transaction(&batch.event(i)) {
+            return false;
+        }
+    }
+    true
 }
 
 /// Whether the operations of all events have one greatest value.
-fn are_alike(events: &[Event]) -> bool
-    ensures { let high = high_of_all (map transaction_of events.now) in
-        IsTrue result ↔ All (λ e. HasHigh high (transaction_of e)) events.now }
+fn are_alike(batch: &Batch) -> bool
+    ensures { let es = transactions_of batch.now in
+        IsTrue result ↔ All (HasHigh (high_of_all es)) es }
 {
-    let high = high_of(events);
-    events.iter().all(|event| has_high(event, high))
+    let high = high_of(batch);
+    'events: for i in 0..batch.len() {
+        if !has_high(&batch.event(i), high) {
+            return false;
+        }
+    }
+    true
 }
 
 /// The greatest value of the first operation, or [`MAX`](crate::MAX) if there is none.
-fn high_of(events: &[Event]) -> u64
-    ensures { result ≡ high_of_all (map transaction_of events.now) }
+fn high_of(batch: &Batch) -> u64
+    ensures { result ≡ high_of_all (transactions_of batch.now) }
 {
-    match events {
+    if batch.is_empty() {
+        return MAX;
+    }
+    match batch.event(0).ops {
         [] => MAX,
-        [event, ..] => match event.ops.as_slice() {
-            [] => MAX,
-            [op, ..] => op.high,
-        },
+        [op, ..] => op.high,
     }
 }
 
 /// Whether all operations of an event have this greatest value.
-fn has_high(event: &Event, high: u64) -> bool
+fn has_high(event: &Event<'_>, high: u64) -> bool
     ensures { IsTrue result ↔ HasHigh high (transaction_of event.now) }
 {
-    event.ops.as_slice().iter().all(|op| op.high == high)
+    event.ops.iter().all(|op| op.high == high)
 }
 
 /// Whether an event is valid.
-fn is_transaction(event: &Event) -> bool
+fn is_transaction(event: &Event<'_>) -> bool
     ensures { IsTrue result ↔ IsTransaction (transaction_of event.now) }
 {
-    let ops = event.ops.as_slice();
+    let ops = event.ops;
     0 < event.ts
         && event.ts <= LATEST
         && !ops.is_empty()
@@ -144,38 +147,36 @@ fn has_target(ops: &[Op], key: Key) -> bool
     ops.iter().map(|op| op.key).any(|target| key == target)
 }
 
-/// Whether the times of some events differ.
-fn times_differ(events: &[Event]) -> bool
-    ensures { IsTrue result ↔ IsDistinct nat_eq (map (λ e. e.ts) events.now) }
+/// Whether the times of the events differ.
+fn times_differ(batch: &Batch) -> bool
+    ensures { IsTrue result ↔ IsDistinct nat_eq (map time (transactions_of batch.now)) }
 {
-    for (i, event) in events.iter().enumerate() {
-        if has_time(&events[..i], event.ts) {
+    'events: for i in 0..batch.len() {
+        if has_time(batch, i, batch.event(i).ts) {
             return false;
         }
     }
     true
 }
 
-/// Whether one of the events has the time.
-fn has_time(events: &[Event], ts: u64) -> bool
-    ensures { result ≡ list_any (nat_eq ts) (map (λ e. e.ts) events.now) }
+/// Whether one of the first `count` events has the time.
+fn has_time(batch: &Batch, count: usize, ts: u64) -> bool
+    requires { count ≤ length (transactions_of batch.now) }
+    ensures { result ≡ list_any (nat_eq ts) (map time (take count (transactions_of batch.now))) }
 {
-    events.iter().map(|event| event.ts).any(|time| ts == time)
-}
-
-/// Whether all keys of the events are in the layout.
-fn all_have_keys_in(events: &[Event], layout: Layout) -> bool
-    ensures { IsTrue result ↔ All (λ e. HasKeysIn layout (transaction_of e)) events.now }
-{
-    events.iter().all(|event| has_keys_in(event, layout))
+    'events: for i in 0..count {
+        if batch.event(i).ts == ts {
+            return true;
+        }
+    }
+    false
 }
 
 /// Whether all keys of the event are in the layout.
-fn has_keys_in(event: &Event, layout: Layout) -> bool
+fn has_keys_in(event: &Event<'_>, layout: Layout) -> bool
     ensures { IsTrue result ↔ HasKeysIn layout (transaction_of event.now) }
 {
-    let ops = event.ops.as_slice();
-    ops.iter().all(|op| reads_in(op, layout))
+    event.ops.iter().all(|op| reads_in(op, layout))
 }
 
 /// Whether all keys that the operation reads are in the layout.

@@ -1,9 +1,8 @@
 -- The state of a run stays within the greatest value of what its reader gives.
 use Rattle.std.proofs.Common.{◌≡◌, ℕ, ◌<◌, length, All, zero-le, subst, sym}
-use Rattle.std.proofs.lemmas.List.{length-map}
-use Rattle.morph_base.specs.declared.event.Batch.{Batch}
+use Rattle.morph_base.specs.declared.batch.Batch.{Batch}
 use Rattle.morph_base.specs.States.{State, IsUpTo, opening_state}
-use Rattle.morph_base.specs.Transactions.{HasHigh, IsBatch, high_of_all, transaction_of, transactions_of}
+use Rattle.morph_base.specs.Transactions.{HasHigh, IsBatch, high_of_all, transactions_of}
 use Rattle.morph_base.proofs.BoundLaws.{high_of_all-alike}
 
 -- a run opens within each bound
@@ -11,8 +10,8 @@ pub opens_small : (bound : ℕ) (s : State) → s ≡ opening_state → IsUpTo b
 opens_small bound s opening = subst (IsUpTo bound) (sym opening) (λ key. zero-le)
 
 -- a batch that is given has that greatest value
-pub batch_small : (high : ℕ) (b : Batch) (s : State) → 0 < length b.events.items → IsBatch b → All (HasHigh high) (transactions_of b) → IsUpTo high s
+pub batch_small : (high : ℕ) (b : Batch) (s : State) → 0 < length (transactions_of b) → IsBatch b → All (HasHigh high) (transactions_of b) → IsUpTo high s
     → IsUpTo (high_of_all (transactions_of b)) s
 batch_small high b s some valid all small =
     subst (λ n. IsUpTo n s)
-    (sym (high_of_all-alike high (transactions_of b) (subst (λ n. 0 < n) (sym (length-map b.events.items transaction_of)) some) valid.valid all)) small
+    (sym (high_of_all-alike high (transactions_of b) some valid.valid all)) small

@@ -1,11 +1,10 @@
 -- What holds between two batches of a run, over plain values.
 use Rattle.std.proofs.Common.{◌≡◌, ℕ, ◌+◌, ◌*◌, ◌<◌, ◌≤◌, true, false, List, [], ◌++◌, length, Option, Result, Ok, Err, refl, ap, sym, subst, ◌∙◌, arith}
 use Rattle.std.specs.Prelude.{IsTrue, IsErrAnd, IsErrOf}
-use Rattle.std.proofs.Math.ListN.{length-map}
 use Rattle.std.proofs.lemmas.List.Sorted.{length_permutation}
 use Rattle.morph_base.specs.declared.limits.TheConstants.{EVENT_OPS, EVENTS}
 use Rattle.morph_base.specs.declared.key.Layout.{Layout}
-use Rattle.morph_base.specs.declared.event.Batch.{Batch as TheBatch}
+use Rattle.morph_base.specs.declared.batch.Batch.{Batch as TheBatch}
 use Rattle.morph_base.specs.Transactions.{Transaction, transactions_of, by_time}
 use Rattle.morph_base.specs.States.{State, opening_state, fold_batch}
 use Rattle.morph_base.specs.Outcomes.{Fate, fates}
@@ -60,13 +59,12 @@ closing_last s name values kept tally layout same is =
     ap (λ v. closing_of s name v tally) same ∙ ap (λ l. told_values (report_of s) l name (contents kept) ++ counts_line tally.committed tally.aborted) is
 
 -- a transaction has one fate
-pub fates-many : (s : State) (batch : TheBatch) (told : List Fate) → told ≡ fates s (by_time (transactions_of batch)) → length told ≡ length batch.events.items
+pub fates-many : (s : State) (batch : TheBatch) (told : List Fate) → told ≡ fates s (by_time (transactions_of batch)) → length told ≡ length (transactions_of batch)
 fates-many s batch told is =
     let es : List Transaction = transactions_of batch in
-    let events : length es ≡ length batch.events.items = simp length-map in
-    ap length is ∙ length-fates s (by_time es) ∙ length_permutation es (by_time es) (by_time-permutes es) ∙ events
+    ap length is ∙ length-fates s (by_time es) ∙ length_permutation es (by_time es) (by_time-permutes es)
 
-some_fates : (s : State) (batch : TheBatch) (told : List Fate) → told ≡ fates s (by_time (transactions_of batch)) → 0 < length batch.events.items → 0 < length told
+some_fates : (s : State) (batch : TheBatch) (told : List Fate) → told ≡ fates s (by_time (transactions_of batch)) → 0 < length (transactions_of batch) → 0 < length told
 some_fates s batch told is some = let many = fates-many s batch told is in omega (arith, many, some)
 
 -- what is given of a run by its settings, where at most `limit` bytes of the input are read
@@ -168,7 +166,7 @@ module _ {App : Type 0} where
       (batch : TheBatch) (told : List Fate) (a : Account) (audit : Option Total) → Between c left new r values tally out last →
       AnswersNext (accepted_by c.event_of r left) (Ok (Batch batch)) (accepted_by c.event_of r' left') →
       TakesBytes left left' (ShowsNext c.event_of r (Ok (Batch batch)) r') →
-      0 < length batch.events.items → r.lines.number + length batch.events.items ≤ r'.lines.number → r'.lines.number ≤ r'.lines.limit + 1 →
+      0 < length (transactions_of batch) → r.lines.number + length (transactions_of batch) ≤ r'.lines.number → r'.lines.number ≤ r'.lines.limit + 1 →
       (r'.app ≡ r.app) × (r'.size ≡ r.size) × (r'.lines.limit ≡ r.lines.limit) →
       (r'.lines.ended ≡ false → r.lines.ended ≡ false) → r'.live ≡ true → values'.layout ≡ values.layout →
       contents values' ≡ fold_batch batch (contents values) → told ≡ fates (contents values) (by_time (transactions_of batch)) →
@@ -178,9 +176,9 @@ module _ {App : Type 0} where
   unfolding goes_batch
   between_batch {c} {left} {left'} {new} {newer} {r} {r'} {values} {values'} {tally} {tally'} {out} {out'} {last} {last'} batch told a audit b answers shows some counted bound same unended live layout_is
       state fates_are written empty seen adds sound made chosen last_told = record {
-        goes = goes_batch c _ (accepted_by c.event_of r' left') new newer (contents values) (contents values') tally tally' (transactions_of batch) told a audit b.goes (simp length-map some) answers
+        goes = goes_batch c _ (accepted_by c.event_of r' left') new newer (contents values) (contents values') tally tally' (transactions_of batch) told a audit b.goes some answers
             state fates_are written seen adds sound made (chosen ∙ ap (strategy_by c.settings.planning a.plan) b.last_is) (some_fates (contents values) batch told fates_are some);
-        takes = takes_batch (meaning_in c) c.input left left' r.past r'.past r.lines r'.lines b.goes.done batch b.takes (simp length-map some) unended
+        takes = takes_batch (meaning_in c) c.input left left' r.past r'.past r.lines r'.lines b.goes.done batch b.takes some unended
             (subst (λ m. TakesBytes left left' (ShowsBatch m r.past r.lines (Ok (Batch batch)) r'.past r'.lines)) (meaning_is c r b.app_is b.size_is) shows);
         layout = layout_is ∙ b.layout;
         app_is = same.0 ∙ b.app_is;
@@ -222,18 +220,18 @@ module _ {App : Type 0} where
   -- writing failed in a batch
   pub ends_in_batch : {c : Course App} {left : Option (List ℕ)} {new : Outputs} {r : ReaderView App} {values : Kept} {tally : Tally} {out : List ℕ} {last : Last} {x : Result Finish Fault}
       (left' : Option (List ℕ)) (newer : Outputs) (r' : ReaderView App) (batch : TheBatch) (told : List Fate) (note : List ℕ) → x ≡ Err Write → Between c left new r values tally out last →
-      AnswersNext (accepted_by c.event_of r left) (Ok (Batch batch)) (accepted_by c.event_of r' left') → 0 < length batch.events.items →
+      AnswersNext (accepted_by c.event_of r left) (Ok (Batch batch)) (accepted_by c.event_of r' left') → 0 < length (transactions_of batch) →
       told ≡ fates (contents values) (by_time (transactions_of batch)) → IsCutIn new (told_lines c.telling.report told) note newer → Ends c left' x newer
   ends_in_batch {c} {left} {new} {r} {values} {tally} {out} {last} {x} left' newer r' batch told note failed b answers some fates_are cut =
-      ends_batch_cut (accepted_by c.event_of r' left') left' newer (transactions_of batch) told failed b.goes (simp length-map some) answers fates_are
+      ends_batch_cut (accepted_by c.event_of r' left') left' newer (transactions_of batch) told failed b.goes some answers fates_are
       (cut_text new (told_lines c.telling.report told) note newer cut)
 
   pub told_cut_in_batch : {c : Course App} {left : Option (List ℕ)} {new : Outputs} {r : ReaderView App} {values : Kept} {tally tally' : Tally} {out : List ℕ} {last : Last} {x : Result Finish Fault}
       (left' : Option (List ℕ)) (newer : Outputs) (r' : ReaderView App) (batch : TheBatch) (told : List Fate) (a : Account) (audit : Option Total) → x ≡ Err Write → Between c left new r values tally out last →
-      AnswersNext (accepted_by c.event_of r left) (Ok (Batch batch)) (accepted_by c.event_of r' left') → 0 < length batch.events.items →
+      AnswersNext (accepted_by c.event_of r left) (Ok (Batch batch)) (accepted_by c.event_of r' left') → 0 < length (transactions_of batch) →
       told ≡ fates (contents values) (by_time (transactions_of batch)) →
       CountsBatch tally tally' a told → IsSoundAccount c.settings.workers a → IsMadeOf (contents values) (transactions_of batch) a.plan → a.strategy ≡ strategy_by c.settings.planning a.plan last →
       IsAudit c.settings (contents values) tally.batches audit a → IsCutIn new (told_lines c.telling.report told) (told_note c.settings tally'.batches audit a) newer → IsTold c (status_of x) tally' newer
   told_cut_in_batch {c} {left} {new} {r} {values} {tally} {tally'} {out} {last} {x} left' newer r' batch told a audit failed b answers some fates_are adds sound made chosen seen cut =
-      told_in_batch (accepted_by c.event_of r' left') newer (transactions_of batch) audit failed b.goes answers (simp length-map some) fates_are
+      told_in_batch (accepted_by c.event_of r' left') newer (transactions_of batch) audit failed b.goes answers some fates_are
       adds sound made (chosen ∙ ap (strategy_by c.settings.planning a.plan) b.last_is) (some_fates (contents values) batch told fates_are some) seen cut

@@ -1,8 +1,7 @@
 -- A batch that is taken between two others: what holds behind it, and how a run ends in it.
 use Rattle.std.proofs.Common.{◌≡◌, inl, inr, ℕ, ◌+◌, ◌^◌, ◌<◌, ◌≤◌, true, false, List, [], length, Option, Result, Ok, Err, refl, ap, sym, subst, ◌∙◌, arith}
 use Rattle.std.specs.Prelude.{IfSome, IsErrOf, IsSome, IsTrue}
-use Rattle.std.proofs.Math.ListN.{length-map}
-use Rattle.morph_base.specs.declared.event.Batch.{Batch as TheBatch}
+use Rattle.morph_base.specs.declared.batch.Batch.{Batch as TheBatch}
 use Rattle.morph_base.specs.Transactions.{transactions_of}
 use Rattle.morph_base.specs.States.{after_all, fold_batch}
 use Rattle.morph_base.specs.Flat.{Kept, contents}
@@ -77,7 +76,7 @@ never_read s batch before after TooLong is read takes = absurd (let same = sym i
 module _ {App : Type 0} {c : Course App} {left : Option (List ℕ)} {new : Outputs} {r : ReaderView App} {values : Kept} {tally : Tally} {out : List ℕ} {last : Last}
     (left' : Option (List ℕ)) (r' : ReaderView App) (posted : Option Posted) (batch : TheBatch) (b : Between c left new r values tally out last) (report : report_of c.settings ≡ c.telling.report) (size : c.telling.layout.size ≡ c.settings.size)
     (shown : IfSome posted (IsShown values.layout tally.batches (contents values))) (watch : IsSome posted → IsTrue c.settings.watch)
-    (answers : AnswersNext (accepted_by c.event_of r left) (Ok (Batch batch)) (accepted_by c.event_of r' left')) (some : 0 < length batch.events.items) where
+    (answers : AnswersNext (accepted_by c.event_of r left) (Ok (Batch batch)) (accepted_by c.event_of r' left')) (some : 0 < length (transactions_of batch)) where
   abbrev here : RunPoint
   here = run_point last values posted tally new
 
@@ -102,7 +101,7 @@ module _ {App : Type 0} {c : Course App} {left : Option (List ℕ)} {new : Outpu
   goes_taken : {after : RunPoint} → IsTakenWhole c.settings batch here after → Goes c (accepted_by c.event_of r' left') after.outputs (contents after.values) after.tally
   goes_taken {after} w =
       let t = w.taken in
-      goes_batch c _ (accepted_by c.event_of r' left') new after.outputs (contents values) (contents after.values) tally after.tally (transactions_of batch) (settled_fates t.end.plan t.end.settled) (account_of t.end) t.audit b.goes (simp length-map some) answers
+      goes_batch c _ (accepted_by c.event_of r' left') new after.outputs (contents values) (contents after.values) tally after.tally (transactions_of batch) (settled_fates t.end.plan t.end.settled) (account_of t.end) t.audit b.goes some answers
       w.state t.ran.fates_are (written_so w) (audit_taken t) t.adds t.ran.account t.ran.made (t.ran.strategy ∙ ap (strategy_by c.settings.planning t.end.plan) b.last_is) (some_told t)
 
   -- how a run ends in it
@@ -127,7 +126,7 @@ module _ {App : Type 0} {c : Course App} {left : Option (List ℕ)} {new : Outpu
 
   -- and what holds behind it
   pub between_taken : (u : Unit {0}) (after : RunPoint) (out' : List ℕ) → TakesBatch (Ok u) c.settings batch here after →
-      TakesBytes left left' (ShowsNext c.event_of r (Ok (Batch batch)) r') → r.lines.number + length batch.events.items ≤ r'.lines.number → r'.lines.number ≤ r'.lines.limit + 1 →
+      TakesBytes left left' (ShowsNext c.event_of r (Ok (Batch batch)) r') → r.lines.number + length (transactions_of batch) ≤ r'.lines.number → r'.lines.number ≤ r'.lines.limit + 1 →
       (r'.app ≡ r.app) × (r'.size ≡ r.size) × (r'.lines.limit ≡ r.lines.limit) →
       (r'.lines.ended ≡ false → r.lines.ended ≡ false) → r'.live ≡ true → after.values.layout ≡ values.layout → out' ≡ [] →
       Between c left' after.outputs r' after.values after.tally out' after.last

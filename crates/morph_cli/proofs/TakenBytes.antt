@@ -1,6 +1,6 @@
 -- The bytes that a run has taken, and the batches that are closed within them.
 use Rattle.std.proofs.Common.{◌≡◌, ℕ, false, List, [], ◌∷◌, ◌++◌, ◌<◌, length, Ok, Option, Some, None, refl, ap, sym, ◌∙◌, append-nil, append_assoc}
-use Rattle.morph_base.specs.declared.event.Batch.{Batch as TheBatch}
+use Rattle.morph_base.specs.declared.batch.Batch.{Batch as TheBatch}
 use Rattle.morph_base.specs.Transactions.{Transaction, transactions_of}
 use Rattle.morph_io.specs.Told.{ahead, ahead_nil, ahead_ahead, ahead_some, behind}
 use Rattle.event_reader.specs.Lines.{front}

@@ -1,6 +1,6 @@
 -- Inside the crate: the result of a batch that was run, and what was seen of the balances beside it
 use Rattle.std.specs.Prelude.{◌≡◌, ℕ, ◌⊎◌, List, [], ◌∷◌, ◌++◌, length, Option, Some, None, IfSome, IsTrue, Result, Ok, Err}
-use Rattle.morph_base.specs.declared.event.Batch.{Batch}
+use Rattle.morph_base.specs.declared.batch.Batch.{Batch}
 use Rattle.morph_base.specs.declared.key.Layout.{Layout}
 use Rattle.morph_base.specs.declared.plan.Plan.{Plan}
 use Rattle.morph_base.specs.Flat.{Kept, contents}

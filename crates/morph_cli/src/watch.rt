@@ -157,7 +157,7 @@ pub fn run_watched<R: Threads + Sync, G: Gate>(
     let (audit, end) = look_beside(
         host.rt,
         watching,
-        batch.events.len(),
+        batch.len(),
         &mut ||
             requires { IsSync R.row × IsSync G.row × AreInRange settings.now × IsBatch batch.now
                 × BatchKeysIn engine.now.layout batch.now

@@ -8,12 +8,11 @@
 //! No text is needed: the events can be made in code, each with its time and its operations.
 //!
 //! ```text
-//! let ops = List::from_slice(alloc, &[
+//! let mut batch = Batch::new(alloc);
+//! batch.push(ts, &[
 //!     Op::new(Func::Sub, stock, &[], pieces),
 //!     Op::new(Func::Add, bill, &[], 20 * pieces),
 //! ])?;
-//! events.push(Event { ts, ops })?;
-//! let batch = Batch { events };
 //!
 //! let mut engine = Engine::new(alloc, layout)?;
 //! let plan = engine.plan(alloc, &batch)?;

@@ -1,4 +1,4 @@
-ghost use Rattle.std.specs.Prelude.{◌≡◌, ℕ, ◌^◌, ◌<◌, ◌≤◌, All, IfOk, length};
+ghost use Rattle.std.specs.Prelude.{◌≡◌, ℕ, ◌^◌, ◌<◌, ◌≤◌, [], All, length};
 ghost use Rattle.event_reader.specs.Forms.{said_in};
 ghost use Rattle.event_reader.specs.Reader.{GivesEvent};
 ghost use Rattle.event_reader.specs.Versions.{greatest_of};
@@ -9,7 +9,7 @@ use crate::item::{Item, are_offered, cost_of, items_of, keys_of};
 use event_reader::{
     Cause, EventApp, Form, LineFault, Range, TIMES, Version, Words, are_distinct, key_of,
 };
-use morph_base::{Event, Func, List, Op, OutOfMemory};
+use morph_base::{EventOps, Func, Op};
 use std::alloc::Global;
 
 /// The number of the table of stocks.
@@ -33,31 +33,31 @@ pub struct Stock;
 
 /// Reads the words of a line that adds to a stock.
 fn restock(
-    alloc: Global,
     words: &Words<'_>,
     size: u32,
     version: Version,
-) -> Result<Event, LineFault>
-    ensures { GivesEvent (said_in (restocks version size) words.now) result }
+    ops: &mut EventOps,
+) -> Result<u64, LineFault>
+    requires { ops.old ≡ [] }
+    ensures { GivesEvent (said_in (restocks version size) words.now) result ops.new }
 {
     let places = [TIMES, Range::ids(size), Range::amounts(version)];
     let numbers = words.read(&Form::new(b'R', &places))?;
     let [ts, item, quantity] = numbers.first();
-    let mut ops = List::with_room(alloc, 1)?;
     ops.add(version.op(Func::Add, key_of(ITEMS, item), &[], quantity));
-    Ok(Event { ts, ops })
+    Ok(ts)
 }
 
 /// Reads the words of a line that pays a bill.
-fn pay(alloc: Global, words: &Words<'_>, size: u32, version: Version) -> Result<Event, LineFault>
-    ensures { GivesEvent (said_in (payments version size) words.now) result }
+fn pay(words: &Words<'_>, size: u32, version: Version, ops: &mut EventOps) -> Result<u64, LineFault>
+    requires { ops.old ≡ [] }
+    ensures { GivesEvent (said_in (payments version size) words.now) result ops.new }
 {
     let places = [TIMES, Range::ids(size), Range::amounts(version)];
     let numbers = words.read(&Form::new(b'B', &places))?;
     let [ts, customer, amount] = numbers.first();
-    let mut ops = List::with_room(alloc, 1)?;
     ops.add(version.op(Func::Sub, key_of(BILLS, customer), &[], amount));
-    Ok(Event { ts, ops })
+    Ok(ts)
 }
 
 /// The operation that compares the bill before an order with what the limit leaves beside the cost.
@@ -74,28 +74,20 @@ fn limit_check(version: Version, customer: u64, limit: u64, cost: u64) -> Op
 }
 
 /// The operations of an order.
-fn order_ops(
-    alloc: Global,
-    version: Version,
-    customer: u64,
-    limit: u64,
-    items: &[Item],
-) -> Result<List<Op>, OutOfMemory>
+fn order_ops(version: Version, customer: u64, limit: u64, items: &[Item], ops: &mut EventOps)
+    requires none { ops.old ≡ [] }
     requires customer { customer < 2 ^ 32 }
     requires few { length items.now ≤ 5 }
     requires ids { All (λ item. item.id < 2 ^ 32) items.now }
     requires priced { All IsPriced items.now }
-    ensures { (ts : ℕ) → IfOk result (λ ops.
-        record { ts = ts; ops = ops.items } ≡ order version ts customer limit items.now) }
+    ensures { (ts : ℕ) → record { ts = ts; ops = ops.new } ≡ order version ts customer limit items.now }
 {
     let cost = cost_of(items);
-    let mut ops = List::with_room(alloc, items.len() + 2)?;
     ops.add(limit_check(version, customer, limit, cost));
     ops.add(version.op(Func::Add, key_of(BILLS, customer), &[], cost));
     for item in items {
         ops.add(item.taking(version));
     }
-    Ok(ops)
 }
 
 /// The event of the numbers behind an order's limit, three for each item.
@@ -107,11 +99,13 @@ fn order_of(
     customer: u64,
     limit: u64,
     numbers: &[u64],
-) -> Result<Event, LineFault>
+    ops: &mut EventOps,
+) -> Result<u64, LineFault>
+    requires none { ops.old ≡ [] }
     requires customer { customer < 2 ^ 32 }
     requires few { length numbers.now ≤ 15 }
     requires small { All IsItemNumber numbers.now }
-    ensures { GivesEvent (ordered version size ts customer limit numbers.now) result }
+    ensures { GivesEvent (ordered version size ts customer limit numbers.now) result ops.new }
 {
     if numbers.len() % 3 != 0 {
         return Err(LineFault::Refused(Cause::Form));
@@ -124,19 +118,35 @@ fn order_of(
     if !are_distinct(keys.as_slice()) {
         return Err(LineFault::Refused(Cause::Same));
     }
-    let ops = order_ops(alloc, version, customer, limit, items.as_slice())?;
-    Ok(Event { ts, ops })
+    order_ops(version, customer, limit, items.as_slice(), ops);
+    Ok(ts)
 }
 
 /// Reads the words of an order.
-fn order(alloc: Global, words: &Words<'_>, size: u32, version: Version) -> Result<Event, LineFault>
-    ensures { GivesEvent (said_in (orders version size) words.now) result }
+fn order(
+    alloc: Global,
+    words: &Words<'_>,
+    size: u32,
+    version: Version,
+    ops: &mut EventOps,
+) -> Result<u64, LineFault>
+    requires { ops.old ≡ [] }
+    ensures { GivesEvent (said_in (orders version size) words.now) result ops.new }
 {
     let places = [TIMES, Range::ids(size), Range::amounts(version)];
     let form = Form::new(b'O', &places).with_more(ITEM_NUMBERS, 3, 15);
     let numbers = words.read(&form)?;
     let [ts, customer, limit] = numbers.first();
-    order_of(alloc, version, size, ts, customer, limit, numbers.rest())
+    order_of(
+        alloc,
+        version,
+        size,
+        ts,
+        customer,
+        limit,
+        numbers.rest(),
+        ops,
+    )
 }
 
 impl EventApp for Stock {
@@ -171,11 +181,12 @@ impl EventApp for Stock {
         words: &Words<'_>,
         size: u32,
         version: Version,
-    ) -> Result<Event, LineFault> {
+        ops: &mut EventOps,
+    ) -> Result<u64, LineFault> {
         match words.letter() {
-            Some(b'R') => restock(alloc, words, size, version),
-            Some(b'B') => pay(alloc, words, size, version),
-            Some(b'O') => order(alloc, words, size, version),
+            Some(b'R') => restock(words, size, version, ops),
+            Some(b'B') => pay(words, size, version, ops),
+            Some(b'O') => order(alloc, words, size, version, ops),
             _ => Err(LineFault::Refused(Cause::Form)),
         }
     }

@@ -3,7 +3,7 @@ ghost use Rattle.std.specs.Prelude.{◌≤◌};
 ghost use Rattle.event_reader.specs.Limits.{generated_events, generated_ids};
 
 use event_reader::{Cause, Draws, EventApp, LineFault, MakesInput, Version, Words};
-use morph_base::{Event, Op};
+use morph_base::{EventOps, Op};
 use morph_io::LineBuf;
 use std::alloc::Global;
 use std::process::Abort;
@@ -15,11 +15,13 @@ fn said<A: EventApp>(
     line: &[u8],
     size: u32,
     version: Version,
-) -> Result<Event, LineFault> {
-    match Words::split(line) {
-        Some(words) => app.read_event(alloc, &words, size, version),
-        None => Err(LineFault::Refused(Cause::Form)),
-    }
+) -> Result<(u64, EventOps), LineFault> {
+    let Some(words) = Words::split(line) else {
+        return Err(LineFault::Refused(Cause::Form));
+    };
+    let mut ops = EventOps::new();
+    let ts = app.read_event(alloc, &words, size, version, &mut ops)?;
+    Ok((ts, ops))
 }
 
 /// The timestamp of a line's event, the number of its operations, and whether they are the given ones; nothing of a
@@ -33,7 +35,7 @@ pub(crate) fn told<A: EventApp>(
     ops: &[Op],
 ) -> Option<(u64, usize, bool)> {
     match said(alloc, app, line, size, version) {
-        Ok(event) => Some((event.ts, event.ops.len(), event.ops.as_slice() == ops)),
+        Ok((ts, found)) => Some((ts, found.as_slice().len(), found.as_slice() == ops)),
         Err(_) => None,
     }
 }

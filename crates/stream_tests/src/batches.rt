@@ -6,7 +6,7 @@ use crate::readings::{End, Outcome, outcome_of, read_batches, source_of};
 use event_reader::{
     BatchReader, Cause, GenSource, INPUT_BYTES, LineNext, Lines, Next, ReaderFault, Version,
 };
-use morph_base::{List, OutOfMemory};
+use morph_base::{Batch, List, OutOfMemory};
 use morph_io::MemSource;
 use std::alloc::{AllocError, Global};
 use std::test::Fail;
@@ -83,12 +83,17 @@ fn first_version(
     let Ok(Next::Batch(batch)) = reader.next_batch(alloc, &mut source) else {
         return Ok(None);
     };
-    let alike = batch.events.as_slice().iter().all(|event| event
-        .ops
-        .as_slice()
-        .iter()
-        .all(|op| op.high == high));
-    Ok(Some((before, reader.version(), alike)))
+    Ok(Some((before, reader.version(), are_limited_by(&batch, high))))
+}
+
+/// Whether all operations of a batch have this greatest value.
+fn are_limited_by(batch: &Batch, high: u64) -> bool {
+    for i in 0..batch.len() {
+        if batch.event(i).ops.iter().any(|op| op.high != high) {
+            return false;
+        }
+    }
+    true
 }
 
 /// The version is known once the first line was read, and the events have its greatest value.

@@ -1,7 +1,7 @@
 use event_reader::{
     Cause, Draws, EventApp, LineFault, MakesInput, Number, Version, Words, read_number,
 };
-use morph_base::{Event, Func, Key, LATEST, List};
+use morph_base::{EventOps, Func, Key, LATEST};
 use morph_io::LineBuf;
 use std::alloc::Global;
 
@@ -36,11 +36,12 @@ impl EventApp for Counter {
 
     fn read_event(
         &self,
-        alloc: Global,
+        _alloc: Global,
         words: &Words<'_>,
         size: u32,
         version: Version,
-    ) -> Result<Event, LineFault> {
+        ops: &mut EventOps,
+    ) -> Result<u64, LineFault> {
         if words.count() == 2 {
             return Err(LineFault::Refused(Cause::Same));
         }
@@ -50,9 +51,8 @@ impl EventApp for Counter {
         match read_number(words.word(0)) {
             Number::NotNumber => Err(LineFault::Refused(Cause::Form)),
             Number::Value(ts) if ts > 0 && ts <= LATEST && size > 0 => {
-                let mut ops = List::with_room(alloc, 1)?;
                 ops.add(version.op(Func::Add, Key::of(0, 0), &[], 1));
-                Ok(Event { ts, ops })
+                Ok(ts)
             }
             _ => Err(LineFault::Refused(Cause::Range)),
         }

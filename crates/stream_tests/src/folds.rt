@@ -1,9 +1,7 @@
 //! The fold of batches as three applications make them, from all values 0: a ledger of accounts and assets, sums over
 //! cells, and tolls for the vehicles of a segment.
 use morph_base::plain::fold;
-use morph_base::{
-    Batch, Event, FIRST_MAX, Func, Key, Layout, List, Op, OutOfMemory, Outcome, Values,
-};
+use morph_base::{Batch, FIRST_MAX, Func, Key, Layout, List, Op, OutOfMemory, Outcome, Values};
 use std::alloc::Global;
 use std::process::Abort;
 use std::test::Fail;
@@ -80,17 +78,16 @@ fn ops_of(alloc: Global, entry: Entry) -> Result<List<Op>, OutOfMemory> {
 
 /// A batch of entries, each with its time, in the given order of arrival or the reverse of it.
 fn batch_of(alloc: Global, entries: &[(u64, Entry)], reverse: bool) -> Result<Batch, OutOfMemory> {
-    let mut events = List::with_room(alloc, entries.len())?;
+    let mut batch = Batch::new(alloc);
     for (i, entry) in entries.iter().enumerate() {
         let (ts, entry) = if reverse {
             entries[entries.len() - 1 - i]
         } else {
             *entry
         };
-        let ops = ops_of(alloc, entry)?;
-        events.push(Event { ts, ops })?;
+        batch.push(ts, ops_of(alloc, entry)?.as_slice())?;
     }
-    Ok(Batch { events })
+    Ok(batch)
 }
 
 /// Folds the entries into values that are all 0 before, and gives the fates of the events and the values after them.

@@ -68,7 +68,7 @@ pub(crate) fn read_batches<A: EventApp + Drop, S: Source>(
         let end = match reader.next_batch(alloc, source) {
             Ok(Next::Batch(batch)) => {
                 if batches < sizes.len() {
-                    sizes[batches] = batch.events.len();
+                    sizes[batches] = batch.len();
                 }
                 continue;
             }

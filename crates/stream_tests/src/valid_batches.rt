@@ -1,25 +1,23 @@
 //! Batches that are put together by hand: whether they are valid.
-use morph_base::{Batch, Event, FIRST_MAX, Func, Key, LATEST, Layout, List, MAX, Op, OutOfMemory};
+use morph_base::{Batch, FIRST_MAX, Func, Key, LATEST, Layout, List, MAX, Op, OutOfMemory};
 use std::alloc::Global;
 use std::test::Fail;
 
-/// Adds 1 at each of these ids, at this time.
-fn event(alloc: Global, ts: u64, ids: &[u32]) -> Result<Event, OutOfMemory> {
+/// Operations that add 1 at each of these ids.
+fn additions(alloc: Global, ids: &[u32]) -> Result<List<Op>, OutOfMemory> {
     let mut ops = List::new(alloc);
     for id in ids {
         ops.push(Op::new(Func::Add, Key::of(1, *id), &[], 1))?;
     }
-    Ok(Event { ts, ops })
+    Ok(ops)
 }
 
 /// Two events with these times and ids; whether they are a valid batch, and whether its keys are in a layout of two
 /// ids.
 fn told(alloc: Global, events: &[(u64, &[u32])]) -> Result<(bool, bool), OutOfMemory> {
-    let mut batch = Batch {
-        events: List::new(alloc),
-    };
+    let mut batch = Batch::new(alloc);
     for (ts, ids) in events {
-        batch.events.push(event(alloc, *ts, *ids)?)?;
+        batch.push(*ts, additions(alloc, *ids)?.as_slice())?;
     }
     let layout = Layout { tables: 2, size: 2 };
     Ok((batch.is_valid(), batch.has_keys_in(layout)))
@@ -52,16 +50,12 @@ fn batches_put_together_by_hand(rt: HostRuntime) -> Result<(), Fail> {
 
 /// Whether two events, each with one operation of these limits (constant, floor, greatest value), are a valid batch.
 fn valid_within(alloc: Global, limits: [[u64; 3]; 2]) -> Result<bool, OutOfMemory> {
-    let mut events = List::with_room(alloc, 2)?;
+    let mut batch = Batch::new(alloc);
     for (i, [c, low, high]) in limits.into_iter().enumerate() {
         let op = Op::new(Func::Sub, Key::of(0, 0), &[], c).limited(low, high);
-        let ops = List::from_slice(alloc, &[op])?;
-        events.push(Event {
-            ts: i as u64 + 1,
-            ops,
-        })?;
+        batch.push(i as u64 + 1, &[op])?;
     }
-    Ok(Batch { events }.is_valid())
+    Ok(batch.is_valid())
 }
 
 /// Limits as the first version of the input gives them, and as the second does.

@@ -1,4 +1,4 @@
-ghost use Rattle.std.specs.Prelude.{◌≡◌, ◌^◌, ◌<◌};
+ghost use Rattle.std.specs.Prelude.{◌≡◌, ◌^◌, ◌<◌, []};
 ghost use Rattle.event_reader.specs.Forms.{said_in};
 ghost use Rattle.event_reader.specs.Reader.{GivesEvent};
 ghost use Rattle.toll_app.specs.Toll.{key, segments, table_name, reports, toll_event};
@@ -7,7 +7,7 @@ use crate::draws::write_report;
 use event_reader::{
     Cause, Draws, EventApp, Form, LineFault, MakesInput, Range, TIMES, Version, Words,
 };
-use morph_base::{Event, Func, Key, List};
+use morph_base::{EventOps, Func, Key};
 use morph_io::LineBuf;
 use std::alloc::Global;
 
@@ -56,20 +56,25 @@ fn key(table: u8, id: u64) -> Key
 }
 
 /// Reads the words of a report.
-fn report(alloc: Global, words: &Words<'_>, size: u32, version: Version) -> Result<Event, LineFault>
-    ensures { GivesEvent (said_in (reports version size) words.now) result }
+fn report(
+    words: &Words<'_>,
+    size: u32,
+    version: Version,
+    ops: &mut EventOps,
+) -> Result<u64, LineFault>
+    requires { ops.old ≡ [] }
+    ensures { GivesEvent (said_in (reports version size) words.now) result ops.new }
 {
     let places = [TIMES, Range::ids(size), segments(size), MILES];
     let numbers = words.read(&Form::new(b'T', &places))?;
     let [ts, vehicle, segment, speed] = numbers.first();
     let (average, count) = (key(SPEEDS, segment), key(COUNTS, segment));
     let (place, bill) = (key(PLACES, vehicle), key(BILLS, vehicle));
-    let mut ops = List::with_room(alloc, 4)?;
     ops.add(version.op(Func::Blend, average, &[], 100 * speed));
     ops.add(version.op(Func::Set, place, &[], segment + 1));
     ops.add(version.op(Func::Enter, count, &[place], segment + 1));
     ops.add(version.op(Func::Charge, bill, &[average, count], GREATEST_BILL));
-    Ok(Event { ts, ops })
+    Ok(ts)
 }
 
 impl EventApp for Toll {
@@ -100,13 +105,14 @@ impl EventApp for Toll {
 
     fn read_event(
         &self,
-        alloc: Global,
+        _alloc: Global,
         words: &Words<'_>,
         size: u32,
         version: Version,
-    ) -> Result<Event, LineFault> {
+        ops: &mut EventOps,
+    ) -> Result<u64, LineFault> {
         match words.letter() {
-            Some(b'T') => report(alloc, words, size, version),
+            Some(b'T') => report(words, size, version, ops),
             _ => Err(LineFault::Refused(Cause::Form)),
         }
     }

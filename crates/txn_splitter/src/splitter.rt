@@ -19,13 +19,12 @@ pub fn split(alloc: Global, batch: &Batch) -> Result<Txns<'_>, OutOfMemory>
 {
     let order = batch.by_time(alloc)?;
     let mut events = List::with_room(alloc, order.len())?;
-    let arrived = batch.events.as_slice();
-    let count = op_count(arrived);
+    let count = op_count(order.as_slice());
     let mut ops = List::with_room(alloc, count)?;
     let mut event_of = List::with_room(alloc, count)?;
     for event in &order {
         let first = ops.len() as u32;
-        append_ops(&mut ops, &mut event_of, event, events.len() as u32)?;
+        append_ops(&mut ops, &mut event_of, event.ops, events.len() as u32)?;
         events.add(TxnEvent {
             ts: event.ts,
             first,
@@ -40,10 +39,10 @@ pub fn split(alloc: Global, batch: &Batch) -> Result<Txns<'_>, OutOfMemory>
 }
 
 /// How many operations the events have.
-fn op_count(events: &[Event]) -> usize
+fn op_count(events: &[Event<'_>]) -> usize
     requires few { length events.now ≤ EVENTS }
-    requires each { All (λ e. length e.ops.items ≤ EVENT_OPS) events.now }
-    ensures { result ≡ sum_by (λ e. length e.ops.items) events.now }
+    requires each { All (λ e. length e.ops.now ≤ EVENT_OPS) events.now }
+    ensures { result ≡ sum_by (λ e. length e.ops.now) events.now }
 {
     let mut count = 0;
     for event in events {
@@ -56,15 +55,15 @@ fn op_count(events: &[Event]) -> usize
 fn append_ops<'a>(
     ops: &mut List<&'a Op>,
     event_of: &mut List<u32>,
-    event: &'a Event,
+    more: &'a [Op],
     number: u32,
 ) -> Result<(), OutOfMemory>
     ensures ops { OnOk result (map (λ op. op.now) ops.new.items
-        ≡ map (λ op. op.now) ops.old.items ++ event.now.ops.items) }
+        ≡ map (λ op. op.now) ops.old.items ++ more.now) }
     ensures events { OnOk result (event_of.new.items
-        ≡ event_of.old.items ++ replicate (length event.now.ops.items) number) }
+        ≡ event_of.old.items ++ replicate (length more.now) number) }
 {
-    for op in event.ops.as_slice() {
+    for op in more {
         ops.push(op)?;
         event_of.push(number)?;
     }

@@ -3,7 +3,7 @@ ghost use Rattle.std.specs.Prelude.{◌≡◌, ℕ, ◌+◌, ◌*◌, ◌<◌, �
 ghost use Rattle.morph_base.specs.declared.limits.TheConstants.{MAX, EVENT_OPS, EVENTS};
 ghost use Rattle.morph_base.specs.declared.key.Key.{Key};
 ghost use Rattle.morph_base.specs.declared.key.Layout.{Layout};
-ghost use Rattle.morph_base.specs.declared.event.Batch.{Batch};
+ghost use Rattle.morph_base.specs.declared.batch.Batch.{Batch};
 ghost use Rattle.morph_base.specs.declared.operation.Op.{Op};
 ghost use Rattle.morph_base.specs.declared.plan.Origin.TheVariants.{Op as Written};
 ghost use Rattle.morph_base.specs.declared.plan.Plan.{Plan};

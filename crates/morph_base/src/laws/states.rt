@@ -1,7 +1,7 @@
 //! The state after the events of a plan, by the values of its operations.
 ghost use Rattle.std.specs.Prelude.{◌≡◌, ℕ, ◌<◌, ◌≤◌, ◌↔◌, nat_le, count_by};
 ghost use Rattle.morph_base.specs.declared.key.Key.{Key};
-ghost use Rattle.morph_base.specs.declared.event.Batch.{Batch};
+ghost use Rattle.morph_base.specs.declared.batch.Batch.{Batch};
 ghost use Rattle.morph_base.specs.declared.plan.Plan.{Plan};
 ghost use Rattle.morph_base.specs.States.{State, fold_batch, overwritten};
 ghost use Rattle.morph_base.specs.Plans.{IsPlan, IsPlanOf, HasBases, IsLastWriterIn, IsUnwrittenIn, op_count};

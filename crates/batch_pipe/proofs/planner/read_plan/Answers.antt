@@ -1,7 +1,6 @@
-use Rattle.std.proofs.Common.{◌<◌, [], ◌∷◌, ap, refl, sym, subst}
-use Rattle.std.proofs.lemmas.List.{length-map}
+use Rattle.std.proofs.Common.{[], ◌∷◌, ap, refl}
 use Rattle.event_reader.specs.Versions.{greatest_of}
-use Rattle.morph_base.specs.Transactions.{transaction_of, transactions_of}
+use Rattle.morph_base.specs.Transactions.{transactions_of}
 use Rattle.morph_base.proofs.BoundLaws.{high_of-alike}
 use Rattle.batch_pipe.specs.PlannedBatches.{layout_by}
 use Rattle.batch_pipe.specs.GivenBatches.{stand}
@@ -29,5 +28,5 @@ returns-in-Ok-clause-ready g c =
     record {
       valid = c.in-Ok.ensures.valid;
       keys = c.in-Ok.ensures.keys (layout_by g.A.EventApp.table_count c.args.reader.now) valid.2;
-      high_is = high_of-alike (greatest_of c.next_batch.new.self.past.version) c.in-Ok-Batch.batch c.in-Ok.plan c.in-Ok.ensures.valid.plan c.in-Ok.ensures.events valid.3 (subst (λ n. 0 < n) (sym (length-map c.in-Ok-Batch.batch.events.items transaction_of)) valid.0);
+      high_is = high_of-alike (greatest_of c.next_batch.new.self.past.version) c.in-Ok-Batch.batch c.in-Ok.plan c.in-Ok.ensures.valid.plan c.in-Ok.ensures.events valid.3 valid.0;
     }

@@ -1,7 +1,6 @@
-use Rattle.std.proofs.Common.{◌≡◌, [], map, sym, refl, ◌∙◌, ap, arith, Ok}
+use Rattle.std.proofs.Common.{◌≡◌, [], sym, refl, ◌∙◌, ap, arith, Ok}
 use Rattle.std.proofs.lemmas.Bool.{true≢false}
 use Rattle.std.proofs.lemmas.Result.{err_from_is_err_and}
-use Rattle.morph_base.specs.Transactions.{transaction_of}
 use Rattle.morph_io.specs.Told.{IsAtEnd}
 use Rattle.event_reader.specs.Pending.{batch_of}
 use Rattle.event_reader.specs.declared.version.Version.TheVariants.{Two}
@@ -57,7 +56,7 @@ pub returns-in-End-clause-answer : goal.returns-in-End-clause-answer
 returns-in-End-clause-answer g c =
     let ended = rw c.in-End.is at c.in_ok-next_line.ensures.answers in
     record {
-      answers = answers_ended _ _ _ _ _ (batch_of c.lines.pending) c.lines.lines (g.S.Source.left c.lines.source) c.lines.invariant.reads.has_read (ap (map transaction_of) (c.if-is_empty.ensures.0 refl)) ended.1;
+      answers = answers_ended _ _ _ _ _ (batch_of c.lines.pending) c.lines.lines (g.S.Source.left c.lines.source) c.lines.invariant.reads.has_read (c.if-is_empty.ensures.0 refl) ended.1;
       shows = reads_some _ _ _ _ _ _ _ _ _ _ _ c.lines.invariant.reads.has_read c.next_line.ensures.shows (λ got. tt);
       asks = asked_all _ _ _ _ _ _ _ _ _ _ c.lines.invariant.reads _ _ _ c.in_ok-next_line.ensures.asks _ c.in_ok-next_line.ensures.asks.ends.0;
     }

@@ -19,5 +19,5 @@ pub returns : goal.returns
 returns c =
     not_refused c.args.target c.args.cells.now (gathering c.args.version c.args.ts c.args.limit c.args.target c.args.cells.now) c.has_key.result c.has_key.ensures c.are_distinct.result
     c.if-has_key.false c.are_distinct.ensures c.if-not-are_distinct.false
-    ∙ ap Ok (headed_ops c.args.ts (op_in c.args.version Sum c.args.target c.args.cells.now c.args.limit) (keep c.args.version) c.args.cells.now c.loop-cell.cell-index c.loop-cell.ops.items
+    ∙ ap Ok (headed_ops c.args.ts (op_in c.args.version Sum c.args.target c.args.cells.now c.args.limit) (keep c.args.version) c.args.cells.now c.loop-cell.cell-index c.loop-cell.ops
     (omega (arith, c.loop-cell-test.false)) c.loop-cell.invariant.items)

@@ -47,4 +47,4 @@ returns c =
     let says = ap (said (gather_of c.args.version)) found
     ∙ said_by_keys (gather c.args.version) 0 c.in_ok-numbers.numbers c.first.result c.key_of-target.result _ at c.key_of-target.ensures
     (c.keys_of-cells.ensures ∙ ap (map (key_of 0)) c.rest-others.ensures) in
-    subst (λ r. GivesEvent r c.gather.result) (sym says) c.gather.ensures
+    subst (λ r. GivesEvent r c.gather.result c.gather.new.ops) (sym says) c.gather.ensures

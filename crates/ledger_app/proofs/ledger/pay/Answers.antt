@@ -51,4 +51,4 @@ returns c =
     let says = ap (said (payout_of c.args.version)) found
     ∙ said_by_keys (payout c.args.version) 0 c.in_ok-numbers.numbers c.first.result c.key_of-src.result _ at c.key_of-src.ensures
     (c.keys_of-accounts.ensures ∙ ap (map (key_of 0)) c.rest-others.ensures) in
-    subst (λ r. GivesEvent r c.pay_out.result) (sym says) c.pay_out.ensures
+    subst (λ r. GivesEvent r c.pay_out.result c.pay_out.new.ops) (sym says) c.pay_out.ensures

@@ -35,4 +35,4 @@ returns c =
     ∙ not_refused c.args.src c.args.accounts.now (paying c.args.version c.args.ts c.args.a c.args.src c.args.accounts.now) c.has_key.result c.has_key.ensures c.are_distinct.result
     c.if-has_key.false c.are_distinct.ensures c.if-not-are_distinct.false
     ∙ ap Ok (headed_ops c.args.ts (change c.args.version Sub c.args.src (length c.args.accounts.now * c.args.a) 0) (receipt c.args.version c.args.src c.args.a) c.args.accounts.now
-    c.loop-account.account-index c.loop-account.ops.items (omega (arith, c.loop-account-test.false)) c.loop-account.invariant.items)
+    c.loop-account.account-index c.loop-account.ops (omega (arith, c.loop-account-test.false)) c.loop-account.invariant.items)

@@ -1,4 +1,4 @@
-use Rattle.std.proofs.Common.{◌≡◌, ◌∙◌, refl, sym, ap, subst, map, take, ℕ, ◌+◌, ◌<◌, List, [], ◌∷◌, ◌++◌, Bor, All, length, get_or, arith, Result, Ok, Err, OnErr}
+use Rattle.std.proofs.Common.{◌≡◌, ◌∙◌, refl, sym, ap, subst, map, take, ℕ, ◌+◌, ◌<◌, List, [], ◌∷◌, ◌++◌, All, length, get_or, arith, Result, Ok, Err, OnErr}
 use Rattle.std.proofs.Math.ListN.{get_or-map, length-map}
 use Rattle.std.proofs.lemmas.List.{map_more, map-append, take-map}
 use Rattle.std.proofs.lemmas.List.Sorted.{All-permutation}
@@ -13,35 +13,31 @@ use Rattle.morph_base.proofs.StateLaws.{after_all-nil, after_all-push}
 use Rattle.morph_base.proofs.PlainLaws.{fates-nil, fates-push}
 use Rattle.morph_base.proofs.plain.fold.Goals as goal
 
-abbrev seen : Bor Event → Transaction
-seen e = transaction_of e.now
+abbrev seen : Event → Transaction
+seen e = transaction_of e
 
 -- what holds of each transaction of the batch holds of each in order
-holds_at : (P : Transaction → Type 0) (es : List Transaction) (items : List (Bor Event)) (i : ℕ) (x : Bor Event) → map seen items ≡ by_time es →
-    All P es → i < length items → x ≡ get_or items i x → P (seen x)
-holds_at P es items i x same all lt is =
+holds_at : (P : Transaction → Type 0) (es : List Transaction) (items : List Event) (i : ℕ) (x : Event) → map seen items ≡ by_time es →
+    All P es → i < length items → P (seen (get_or items i x))
+holds_at P es items i x same all lt =
     let sorted : All P (map seen items) = subst (All P) (sym same) (All-permutation P es (by_time es) (by_time-permutes es) all) in
     let here = sorted i (seen x) (simp length-map lt) in
-    subst P (get_or-map seen items i x ∙ ap seen (sym is)) here
+    subst P (get_or-map seen items i x) here
 
-front-more : (items : List (Bor Event)) (i : ℕ) (x : Bor Event) → i < length items → x ≡ get_or items i x →
-    map seen (take (i + 1) items) ≡ map seen (take i items) ++ seen x ∷ []
-front-more items i x lt is = map_more seen items i x lt ∙ ap (λ y. map seen (take i items) ++ seen y ∷ []) (sym is)
+state-more : (s t u : State) (items : List Event) (i : ℕ) (x : Event) → i < length items →
+    t ≡ after_all s (map seen (take i items)) → u ≡ after t (seen (get_or items i x)) → u ≡ after_all s (map seen (take (i + 1) items))
+state-more s t u items i x lt so_far one =
+    one ∙ ap (λ r. after r (seen (get_or items i x))) so_far ∙ sym (after_all-push s (map seen (take i items)) (seen (get_or items i x))) ∙ ap (after_all s) (sym (map_more seen items i x lt))
 
-state-more : (s t u : State) (items : List (Bor Event)) (i : ℕ) (x : Bor Event) → i < length items → x ≡ get_or items i x →
-    t ≡ after_all s (map seen (take i items)) → u ≡ after t (seen x) → u ≡ after_all s (map seen (take (i + 1) items))
-state-more s t u items i x lt is so_far one =
-    one ∙ ap (λ r. after r (seen x)) so_far ∙ sym (after_all-push s (map seen (take i items)) (seen x)) ∙ ap (after_all s) (sym (front-more items i x lt is))
-
-told-more : (s t : State) (items : List (Bor Event)) (i : ℕ) (x : Bor Event) (os ps : List Outcome) (o : Outcome) → i < length items →
-    x ≡ get_or items i x → t ≡ after_all s (map seen (take i items)) → map fate_of os ≡ fates s (map seen (take i items)) → fate_of o ≡ fate t (seen x) →
+told-more : (s t : State) (items : List Event) (i : ℕ) (x : Event) (os ps : List Outcome) (o : Outcome) → i < length items →
+    t ≡ after_all s (map seen (take i items)) → map fate_of os ≡ fates s (map seen (take i items)) → fate_of o ≡ fate t (seen (get_or items i x)) →
     ps ≡ os ++ o ∷ [] → map fate_of ps ≡ fates s (map seen (take (i + 1) items))
-told-more s t items i x os ps o lt is state so_far one more =
+told-more s t items i x os ps o lt state so_far one more =
     ap (map fate_of) more ∙ map-append fate_of os (o ∷ [])
     ∙ ap (λ l. l ++ fate_of o ∷ []) so_far
-    ∙ ap (λ f. fates s (map seen (take i items)) ++ f ∷ []) (one ∙ ap (λ r. fate r (seen x)) state)
-    ∙ sym (fates-push s (map seen (take i items)) (seen x))
-    ∙ ap (fates s) (sym (front-more items i x lt is))
+    ∙ ap (λ f. fates s (map seen (take i items)) ++ f ∷ []) (one ∙ ap (λ r. fate r (seen (get_or items i x))) state)
+    ∙ sym (fates-push s (map seen (take i items)) (seen (get_or items i x)))
+    ∙ ap (fates s) (sym (map_more seen items i x lt))
 
 -- what holds in any case holds where there is an error
 on_err : {T E P : Type 0} (r : Result T E) → P → OnErr r P
@@ -49,7 +45,7 @@ on_err (Ok v) p = tt
 on_err (Err e) p = p
 
 -- what was reached after the first i events in order
-reached : (s t : State) (es : List Transaction) (items : List (Bor Event)) (i : ℕ) → map seen items ≡ by_time es →
+reached : (s t : State) (es : List Transaction) (items : List (Event)) (i : ℕ) → map seen items ≡ by_time es →
     t ≡ after_all s (map seen (take i items)) → IsAfterSome s (by_time es) t
 reached s t es items i same so_far =
     record { count = i; reached = so_far ∙ ap (after_all s) (sym (take-map seen i items) ∙ ap (take i) same) }
@@ -82,23 +78,23 @@ loop-event-init c =
 
 pub apply-requires-clause-event : goal.apply-requires-clause-event
 apply-requires-clause-event c =
-    holds_at IsTransaction (transactions_of c.args.batch.now) c.deref-event-items.result.now c.loop-event.event-index c.event-item.result
-    (ap (map seen) c.deref-event-items.ensures.value ∙ c.in_ok-events.ensures) c.requires.batch.valid c.loop-event-test.true c.event-item.is
+    holds_at IsTransaction (transactions_of c.args.batch.now) c.deref-event-items.result.now c.loop-event.event-index _
+    (ap (map seen) c.deref-event-items.ensures.value ∙ c.in_ok-events.ensures) c.requires.batch.valid c.loop-event-test.true
 
 pub apply-requires-clause-keys : goal.apply-requires-clause-keys
 apply-requires-clause-keys c =
     rw c.loop-event.invariant.layout
     (holds_at (HasKeysIn c.args.values.now.layout) (transactions_of c.args.batch.now) c.deref-event-items.result.now c.loop-event.event-index
-    c.event-item.result (ap (map seen) c.deref-event-items.ensures.value ∙ c.in_ok-events.ensures) c.requires.keys c.loop-event-test.true c.event-item.is)
+    _ (ap (map seen) c.deref-event-items.ensures.value ∙ c.in_ok-events.ensures) c.requires.keys c.loop-event-test.true)
 
 pub loop-event-preserved : goal.loop-event-preserved
 loop-event-preserved c =
     let s = contents c.args.values.now in
     record {
       layout = c.in_ok-apply.ensures.layout ∙ c.loop-event.invariant.layout;
-      state = state-more s _ _ c.deref-event-items.result.now c.loop-event.event-index c.event-item.result c.loop-event-test.true c.event-item.is
+      state = state-more s _ _ c.deref-event-items.result.now c.loop-event.event-index _ c.loop-event-test.true
           c.loop-event.invariant.state c.in_ok-apply.ensures.state;
-      told = told-more s _ c.deref-event-items.result.now c.loop-event.event-index c.event-item.result c.loop-event.outcomes.items _ c.in_ok-apply.field-0
-          c.loop-event-test.true c.event-item.is c.loop-event.invariant.state c.loop-event.invariant.told c.in_ok-apply.ensures.fate c.add.ensures.items;
+      told = told-more s _ c.deref-event-items.result.now c.loop-event.event-index _ c.loop-event.outcomes.items _ c.in_ok-apply.field-0
+          c.loop-event-test.true c.loop-event.invariant.state c.loop-event.invariant.told c.in_ok-apply.ensures.fate c.add.ensures.items;
       room = omega arith;
     }

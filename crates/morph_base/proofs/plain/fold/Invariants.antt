@@ -1,4 +1,4 @@
-use Rattle.std.proofs.Common.{◌≡◌, ◌+◌, ◌≤◌, Bor, length, map, take}
+use Rattle.std.proofs.Common.{◌≡◌, ◌+◌, ◌≤◌, length, map, take}
 use Rattle.morph_base.specs.declared.event.Event.{Event}
 use Rattle.morph_base.specs.Transactions.{transaction_of}
 use Rattle.morph_base.specs.States.{after_all}
@@ -8,7 +8,7 @@ use Rattle.morph_base.proofs.plain.fold.Given as goal
 
 abbrev pub invariant-loop-event : goal.invariant-loop-event
 invariant-loop-event l =
-    let done = map (λ (e : Bor Event). transaction_of e.now) (take l.event-index l.event-items) in
+    let done = map (λ (e : Event). transaction_of e) (take l.event-index l.event-items) in
     record {
       layout : l.values.layout ≡ l.initial.values.layout;
       state : contents l.values ≡ after_all (contents l.initial.values) done;

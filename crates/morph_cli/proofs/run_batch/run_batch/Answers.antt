@@ -10,7 +10,7 @@ use Rattle.run_text.specs.Settings.{is_late, is_lazy}
 use Rattle.std.proofs.lemmas.Result.{on_ok_weaker}
 use Rattle.morph_base.specs.declared.plan.Plan.{Plan}
 use Rattle.morph_base.specs.declared.strategy.Strategy.{Strategy}
-use Rattle.morph_base.specs.declared.event.Batch.{Batch}
+use Rattle.morph_base.specs.declared.batch.Batch.{Batch}
 use Rattle.morph_base.specs.Flat.{Kept, contents}
 use Rattle.morph_base.specs.Outcomes.{fates}
 use Rattle.morph_base.specs.Plans.{IsSettledOf, PlanKeysIn, transactions}

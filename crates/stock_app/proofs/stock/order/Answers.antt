@@ -47,4 +47,4 @@ returns c =
     let found = read_by form c.with_more-form.result c.args.words.now c.read.result ns c.first.result same c.read.ensures c.in_ok-numbers.was c.first.ensures in
     let at = first_is form c.with_more-form.result c.args.words.now c.read.result ns c.first.result same c.read.ensures c.in_ok-numbers.was c.first.ensures in
     let says = ap (said (order_by c.args.version c.args.size)) found ∙ order_at c.args.version c.args.size ns c.first.result c.rest.result.now at c.rest.ensures in
-    subst (λ r. GivesEvent r c.order_of.result) (sym says) c.order_of.ensures
+    subst (λ r. GivesEvent r c.order_of.result c.order_of.new.ops) (sym says) c.order_of.ensures

@@ -30,4 +30,4 @@ returns c =
     ∙ sym c.are_distinct.ensures ∙ c.if-not-are_distinct.false in
     is_order c.args.version size c.args.ts c.args.customer c.args.limit numbers whole offered apart
     ∙ ap (λ items. Ok (order c.args.version c.args.ts c.args.customer c.args.limit items)) (sym (c.as_slice-4.ensures ∙ c.in_ok-items.ensures))
-    ∙ ap Ok (sym (c.in_ok-ops.ensures c.args.ts))
+    ∙ ap Ok (sym (c.order_ops.ensures c.args.ts))

@@ -1,4 +1,4 @@
-use Rattle.std.proofs.Common.{◌≡◌, ◌≤◌, length, sym, ◌∙◌, le_refl, arith}
+use Rattle.std.proofs.Common.{sym, ◌∙◌, arith}
 use Rattle.morph_base.proofs.OpViewLaws.{places_are}
 use Rattle.morph_base.proofs.plan_ops.PlanOps.all_places.Goals as goal
 

@@ -1,0 +1,102 @@
+ghost use Rattle.std.specs.Prelude.{◌≡◌, ◌<◌, ◌↔◌, ◌++◌, [], ◌∷◌, length, map, slice_index_or};
+ghost use Rattle.std.specs.Prelude.{IfOk, IsTrue, OnOk, OnErr};
+ghost use Rattle.morph_base.specs.Transactions.{transaction, transaction_of, transactions_of, no_transaction};
+ghost use Rattle.morph_base.specs.Transactions.{by_time, IsBatch};
+
+use super::{Batch, BatchRoom, EventHead};
+use crate::event::Event;
+use crate::list::List;
+use crate::memory::OutOfMemory;
+use crate::operation::Op;
+use std::alloc::Global;
+
+/// A number and a quarter of it.
+fn a_quarter_more(n: usize) -> usize {
+    n.saturating_add(n / 4)
+}
+
+impl Batch {
+    /// A batch without events, which takes no memory.
+    pub fn new(alloc: Global) -> Self
+        ensures { transactions_of result ≡ [] }
+    {
+        Batch {
+            heads: List::new(alloc),
+            ops: List::new(alloc),
+        }
+    }
+
+    /// A batch without events, with memory for as much as another one had.
+    pub fn with_room(alloc: Global, room: BatchRoom) -> Result<Self, OutOfMemory>
+        ensures { IfOk result (λ batch. transactions_of batch ≡ []) }
+    {
+        Ok(Batch {
+            heads: List::with_room(alloc, room.events)?,
+            ops: List::with_room(alloc, room.ops)?,
+        })
+    }
+
+    /// Room for a batch like this one, and a quarter more.
+    pub fn room(&self) -> BatchRoom {
+        BatchRoom {
+            events: a_quarter_more(self.heads.len()),
+            ops: a_quarter_more(self.ops.len()),
+        }
+    }
+
+    /// How many events it has.
+    pub fn len(&self) -> usize
+        ensures { result ≡ length (transactions_of self.now) }
+    {
+        self.heads.len()
+    }
+
+    /// Whether it has no event.
+    pub fn is_empty(&self) -> bool
+        ensures { IsTrue result ↔ (transactions_of self.now ≡ []) }
+    {
+        self.heads.is_empty()
+    }
+
+    /// Appends an event, with a copy of its operations. If memory is refused, the batch has the events that it had.
+    pub fn push(&mut self, ts: u64, ops: &[Op]) -> Result<(), OutOfMemory>
+        ensures events { OnOk result (transactions_of self.new
+            ≡ transactions_of self.old ++ transaction ts ops.now ∷ []) }
+        ensures refused { OnErr result (transactions_of self.new ≡ transactions_of self.old) }
+    {
+        let first = self.ops.len();
+        self.ops.extend_from_slice(ops)?;
+        self.heads.push(EventHead {
+            ts,
+            first,
+            count: ops.len(),
+        })?;
+        Ok(())
+    }
+
+    /// Event `i` in order of arrival, from 0.
+    pub fn event(&self, i: usize) -> Event<'_>
+        requires { i < length (transactions_of self.now) }
+        ensures { transaction_of result ≡ slice_index_or (transactions_of self.now) i no_transaction }
+    {
+        let EventHead { ts, first, count } = *self.heads.get(i);
+        Event {
+            ts,
+            ops: &self.ops.as_slice()[first..first + count],
+        }
+    }
+
+    /// The events by rising timestamp.
+    pub fn by_time(&self, alloc: Global) -> Result<Vec<Event<'_>>, OutOfMemory>
+        requires { IsBatch self.now }
+        ensures { IfOk result (λ events. map transaction_of events.items
+            ≡ by_time (transactions_of self.now)) }
+    {
+        let mut events: Vec<Event<'_>> = Vec::with_capacity(alloc, self.len())?;
+        'arrived: for i in 0..self.len() {
+            events.push(self.event(i))?;
+        }
+        events.sort_by_key(|e| e.ts)?;
+        Ok(events)
+    }
+}

@@ -21,6 +21,7 @@
 //! |---|---|
 //! | `evaluation` | `evaluate`: an operation is made ready, claimed, fetched and finished |
 //! | `answers` | `Evaluation`, `Answers`, and `Left`, why an event was left |
+//! | `patience` | `Patience`, which bounds how long a worker waits for the sources of an operation |
 //! | `runner`, `runners` | `Runner`; `Runners`, with a hand of the board each |
 //! | `explored` | `Explored`, what exploring hands to settling, and `RunEnd` |
 #![tactic(auto)]
@@ -28,11 +29,13 @@
 mod answers;
 mod evaluation;
 mod explored;
+mod patience;
 mod runner;
 mod runners;
 
 pub use answers::{Answers, Evaluation, Left};
 pub use evaluation::evaluate;
 pub use explored::{Explored, RunEnd};
+pub use patience::Patience;
 pub use runner::Runner;
 pub use runners::Runners;

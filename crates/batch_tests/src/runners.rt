@@ -29,9 +29,9 @@ struct Level<'a> {
 impl Job<Runner> for Level<'_> {
     ghost can_run = { λ job runner. (job.plan.now ≡ plan_of job.board.now) × IsFreeRunner job.board.now runner };
 
-    ghost changes = { λ job before after. StaysAtRest job.board.now before after };
+    ghost changes = { λ job _ before after. StaysAtRest job.board.now before after };
 
-    fn run(&self, runner: &mut Runner) {
+    fn run(&self, _number: usize, runner: &mut Runner) {
         if self.level >= self.plan.op_levels.len() {
             return;
         }

@@ -41,13 +41,13 @@ impl<G: Gate> Job<Member> for Working<'_, G> {
     ghost can_run = { λ job member. IsGround job.ground
         × IsWorkerOf job.ground job.thieves.now member };
 
-    ghost changes = { λ job before after. IsWorkerOf job.ground job.thieves.now after
+    ghost changes = { λ job _ before after. IsWorkerOf job.ground job.thieves.now after
         × HasTakenTurns (ground_rules job.ground)
         job.thieves.now before after
         × (job.ground.abort ≡ Lazy → 1 ≤ cap_of job.ground.board.now → length job.thieves.now ≡ 1
         → BeginsAlone job.ground.plan.now before → EndsAlone job.ground.plan.now after.end after) };
 
-    fn run(&self, worker: &mut Member) {
+    fn run(&self, _number: usize, worker: &mut Member) {
         let told = Told {
             gate: self.gate,
             worker: u32::from(worker.runner.hand.tag()),

@@ -38,12 +38,12 @@ impl<G: Gate> Job<Runner> for Pass<'_, G> {
         × (pass.counter < counters_of pass.ground.board.now)
         × IsFreeRunner pass.ground.board.now runner × Unused pass.counter runner };
 
-    ghost changes = { λ pass before after. IsFreeRunner pass.ground.board.now after
+    ghost changes = { λ pass _ before after. IsFreeRunner pass.ground.board.now after
         × Worked (ground_rules pass.ground) pass.counter pass.ops.now before after
         × IsEnough pass.counter (length pass.ops.now) after
         × WalksAll (ground_rules pass.ground) pass.counter pass.ops.now before after };
 
-    fn run(&self, worker: &mut Runner) {
+    fn run(&self, _number: usize, worker: &mut Runner) {
         let told = Told {
             gate: self.gate,
             worker: u32::from(worker.hand.tag()),

@@ -1,4 +1,4 @@
-ghost use Rattle.std.specs.Prelude.{◌≡◌, ◌⊎◌, ℕ, ◌<◌, ◌≤◌, max, length, All, slice_index_or};
+ghost use Rattle.std.specs.Prelude.{◌≡◌, ◌⊎◌, ◌↔◌, ℕ, ◌<◌, ◌≤◌, max, length, All, IsTrue, slice_index_or};
 ghost use Rattle.worker_gate.specs.Sharing.{shared_from};
 
 use crate::gate::Gate;
@@ -12,18 +12,25 @@ const FEW: usize = 8;
 /// lines of memory than they gain by working side by side. docs/PERFORMANCE.md has the measurements.
 const THREAD_PIECES: usize = 262_144;
 
+/// The most numbers that a worker takes from a counter before it does what the first of them names.
+const LONGEST_BURST: usize = 16;
+
+/// How many bursts each worker takes, if all of them get on alike. With fewer, one that comes late has much left to do
+/// when the others have nothing.
+const BURSTS_EACH: usize = 8;
+
 /// What each of several workers is to do, while the job itself is shared by all of them.
 pub trait Job<W>: Sync {
     /// What a worker has to be before it does the job.
     ghost can_run: { Self → W → Type 0 };
 
-    /// What the job makes of a worker: the worker before it and after it.
-    ghost changes: { Self → W → W → Type 0 };
+    /// What the job makes of the worker of a number: the worker before it and after it.
+    ghost changes: { Self → ℕ → W → W → Type 0 };
 
-    /// Does the job as this worker.
-    fn run(&self, worker: &mut W)
+    /// Does the job as this worker. Its number is its place among the workers, from 0 on.
+    fn run(&self, number: usize, worker: &mut W)
         requires { can_run self.now worker.old }
-        ensures { changes self.now worker.old worker.new };
+        ensures { changes self.now number worker.old worker.new };
 }
 
 /// How many threads this many pieces of work are worth, for this many workers: one for each 262,144 pieces, at least
@@ -45,6 +52,23 @@ pub fn pieces_for<G: Gate>(gate: &G, pieces: usize) -> usize {
     }
 }
 
+/// Whether all workers share a level or a pass of this many items. With fewer than 8, the first worker does them alone.
+pub fn is_shared(items: usize) -> bool
+    ensures { IsTrue result ↔ (shared_from ≤ items) }
+{
+    items >= FEW
+}
+
+/// How many numbers a worker takes from a counter at a time, if this many workers share this many items: an eighth of
+/// each worker's share, at least 1 and at most 16. No workers count as one.
+pub fn burst_for(workers: usize, items: usize) -> usize
+    ensures some { 1 ≤ result }
+    ensures most { result ≤ 16 }
+{
+    let share = items / workers.max(1);
+    (share / BURSTS_EACH).clamp(1, LONGEST_BURST)
+}
+
 /// Has each worker do the job, which has this many pieces of work for all of them together.
 ///
 /// It returns when all have done it. There are as many threads as the pieces [are worth](threads_for), and the workers
@@ -58,10 +82,15 @@ pub fn run_all<R: Threads + Sync, W: Send, J: Job<W>>(
 )
     requires { All (J.can_run job.now) workers.old }
     ensures { (i : ℕ) (d : W) → i < length workers.old
-        → J.changes job.now (slice_index_or workers.old i d) (slice_index_or workers.new i d) }
+        → J.changes job.now i (slice_index_or workers.old i d) (slice_index_or workers.new i d) }
 {
     let threads = threads_for(workers.len(), pieces);
-    thread::for_each_mut(rt, workers, threads, &|_, worker| job.run(worker));
+    thread::for_each_mut(
+        rt,
+        workers,
+        threads,
+        &|number, worker| job.run(number, worker),
+    );
 }
 
 /// Has each worker do the job, as [`run_all`] does, or the first worker alone if it is a job of fewer than 8 items.
@@ -75,18 +104,18 @@ pub fn run_few_or_all<R: Threads + Sync, W: Send, J: Job<W>>(
     requires some { 0 < length workers.old }
     requires can { All (J.can_run job.now) workers.old }
     ensures first { (d : W)
-        → J.changes job.now (slice_index_or workers.old 0 d) (slice_index_or workers.new 0 d) }
+        → J.changes job.now 0 (slice_index_or workers.old 0 d) (slice_index_or workers.new 0 d) }
     ensures each { (i : ℕ) (d : W) → i < length workers.old
-        → J.changes job.now (slice_index_or workers.old i d) (slice_index_or workers.new i d)
+        → J.changes job.now i (slice_index_or workers.old i d) (slice_index_or workers.new i d)
         ⊎ (slice_index_or workers.new i d ≡ slice_index_or workers.old i d) }
     ensures few { items < shared_from → (i : ℕ) (d : W) → 0 < i
         → slice_index_or workers.new i d ≡ slice_index_or workers.old i d }
     ensures many { shared_from ≤ items → (i : ℕ) (d : W) → i < length workers.old
-        → J.changes job.now (slice_index_or workers.old i d) (slice_index_or workers.new i d) }
+        → J.changes job.now i (slice_index_or workers.old i d) (slice_index_or workers.new i d) }
 {
-    if items < FEW {
-        job.run(&mut workers[0]);
-    } else {
+    if is_shared(items) {
         run_all(rt, workers, pieces, job);
+    } else {
+        job.run(0, &mut workers[0]);
     }
 }

@@ -17,9 +17,9 @@ struct Adding {
 impl Job<u32> for Adding {
     ghost can_run = { λ job worker. (job.by < 1000) × (worker < 1000) };
 
-    ghost changes = { λ job before after. after ≡ before + job.by };
+    ghost changes = { λ job _ before after. after ≡ before + job.by };
 
-    fn run(&self, worker: &mut u32) {
+    fn run(&self, _number: usize, worker: &mut u32) {
         *worker += self.by;
     }
 }
@@ -51,9 +51,9 @@ struct Turning<'a> {
 impl Job<u32> for Turning<'_> {
     ghost can_run = { λ job worker. worker < 1000 };
 
-    ghost changes = { λ job before after. after ≡ before };
+    ghost changes = { λ job _ before after. after ≡ before };
 
-    fn run(&self, worker: &mut u32) {
+    fn run(&self, _number: usize, worker: &mut u32) {
         for turn in 0..2 {
             self.gate.pass(*worker, turn);
             self.gate.done(*worker, turn);
@@ -164,9 +164,9 @@ impl Passing {
 impl Job<Passer> for Passing {
     ghost can_run = { λ job worker. worker ≡ worker };
 
-    ghost changes = { λ job before after. after.number ≡ before.number };
+    ghost changes = { λ job _ before after. after.number ≡ before.number };
 
-    fn run(&self, worker: &mut Passer) {
+    fn run(&self, _number: usize, worker: &mut Passer) {
         if worker.number == 2 {
             self.go_on();
             return;

@@ -71,9 +71,9 @@ impl Job<Runner> for Sweep<'_> {
     ghost can_run = { λ job runner. FitsBoard job.board.now job.plan.now job.counter job.events.now
         × CanSweep job.board.now job.counter job.events.now runner };
 
-    ghost changes = { λ job before after. HasSwept job before after };
+    ghost changes = { λ job _ before after. HasSwept job before after };
 
-    fn run(&self, worker: &mut Runner) {
+    fn run(&self, _number: usize, worker: &mut Runner) {
         go_over(self, worker)
     }
 }

@@ -6,3 +6,4 @@ pub mod Exploring
 pub mod Further
 pub mod Alone
 pub mod Turns
+pub mod Bursts

@@ -22,16 +22,19 @@
 //! | `evaluation` | `evaluate`: an operation is made ready, claimed, fetched and finished |
 //! | `answers` | `Evaluation`, `Answers`, and `Left`, why an event was left |
 //! | `runner`, `runners` | `Runner`; `Runners`, with a hand of the board each |
+//! | `burst` | `Burst`, numbers of a counter that a runner takes before it tries the first of their places |
 //! | `explored` | `Explored`, what exploring hands to settling, and `RunEnd` |
 #![tactic(auto)]
 
 mod answers;
+mod burst;
 mod evaluation;
 mod explored;
 mod runner;
 mod runners;
 
 pub use answers::{Answers, Evaluation, Left};
+pub use burst::{BURST, Burst};
 pub use evaluation::evaluate;
 pub use explored::{Explored, RunEnd};
 pub use runner::Runner;

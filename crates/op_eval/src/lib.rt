@@ -21,6 +21,7 @@
 //! |---|---|
 //! | `evaluation` | `evaluate`: an operation is made ready, claimed, fetched and finished |
 //! | `answers` | `Evaluation`, `Answers`, and `Left`, why an event was left |
+//! | `patience` | `Patience`, which bounds how long a worker waits for the sources of an operation |
 //! | `runner`, `runners` | `Runner`; `Runners`, with a hand of the board each |
 //! | `burst` | `Burst`, numbers of a counter that a runner takes before it tries the first of their places |
 //! | `explored` | `Explored`, what exploring hands to settling, and `RunEnd` |
@@ -30,6 +31,7 @@ mod answers;
 mod burst;
 mod evaluation;
 mod explored;
+mod patience;
 mod runner;
 mod runners;
 
@@ -37,5 +39,6 @@ pub use answers::{Answers, Evaluation, Left};
 pub use burst::{BURST, Burst};
 pub use evaluation::evaluate;
 pub use explored::{Explored, RunEnd};
+pub use patience::Patience;
 pub use runner::Runner;
 pub use runners::Runners;

@@ -26,6 +26,7 @@ mod sources;
 mod steps;
 mod values;
 mod verdict;
+mod waiting;
 
 /// The words of a plan's operations, their records and decisions, a level word and some counters, which several hands
 /// change at once, each by single atomic steps.

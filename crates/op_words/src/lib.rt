@@ -33,6 +33,7 @@
 //! | `board/verdict`, `board/decide`, `board/settle` | the calls of these names |
 //! | `board/roll_back` | `spread`, `roll_back`, and whether a word is within the cap |
 //! | `board/counters`, `board/hands`, `board/close` | counters and level word; a hand's own calls; the end |
+//! | `board/waiting` | whether an operation's sources are there, for a worker that waits for them |
 //! | `board/steps`, `board/changes`, `board/loads` | the single atomic steps that the calls are made of |
 //! | `board/sources`, `board/grounds`, `board/values` | sources loaded place by place; values that a hand fetched |
 //! | `answers` | what the calls return |

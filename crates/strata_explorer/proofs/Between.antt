@@ -1,11 +1,13 @@
 -- Between passes the first runner empties or loads the level word: what a pass makes of runners does not depend on it.
 use Rattle.std.proofs.lemmas.Bool.{cases_lt}
-use Rattle.std.proofs.Common.{◌≡◌, ℕ, zero, suc, ◌+◌, ◌<◌, ◌≤◌, drop, true, false, Bool, Option, Some, None, List, [], ◌∷◌, length, refl, sym, ap, ◌∙◌, subst, inl, inr, arith}
+use Rattle.std.proofs.Common.{◌≡◌, ℕ, zero, suc, ◌+◌, ◌<◌, ◌≤◌, drop, true, false, Bool, Option, Some, None, List, [], ◌∷◌, ◌++◌, reverse, length, refl, sym, ap, ◌∙◌, subst, inl, inr, arith, zero-lt-suc}
 use Rattle.std.specs.Prelude.{Contains, slice_index_or}
+use Rattle.std.proofs.lemmas.List.{length-reverse}
 use Rattle.op_words.specs.declared.trail.View.{View}
 use Rattle.op_words.specs.Counting.{taking, IsNumberTaken, place, times}
 use Rattle.op_eval.specs.declared.answers.Evaluation.{Evaluation}
 use Rattle.op_eval.specs.declared.runner.Runner.{Runner}
+use Rattle.op_eval.specs.Bursts.{BurstView, TakesNumbers, TakesBurst}
 use Rattle.op_eval.specs.Evaluations.{EvaluationDoes, Tries}
 use Rattle.op_eval.specs.Exploring.{Unused, RunRules}
 use Rattle.op_eval.specs.Running.{hand_view, counted}
@@ -16,7 +18,7 @@ use Rattle.op_eval.specs.Turns.{IsEnough, TakesNumber, TakingCall, Took, Tried}
 use Rattle.strata_explorer.specs.Calls.{MakesPassCall, MakesPassCalls}
 use Rattle.worker_gate.specs.Sharing.{shared_from}
 use Rattle.strata_explorer.specs.Passes.{AreLike, Worked, IsPassed}
-use Rattle.strata_explorer.specs.Walks.{WalksPlaces, WalksAll}
+use Rattle.strata_explorer.specs.Walks.{WalksNumbers, WalksBursts, WalksAll}
 use Rattle.abort_eager.specs.Walks.{has_evaluated, VisitsInTurn, WalksUnit}
 use Rattle.strata_explorer.proofs.Turning.{times_some}
 use Rattle.abort_eager.proofs.UnitWalks.{drop_at}
@@ -143,25 +145,99 @@ module _ (rules : RunRules) where
       next : (n : Runner) × Attempts rules o a n made.1 × VisitsInTurn (Attempts rules) (has_evaluated made.1) (drop (walks.at + 1) ops) n to
       next = ends_to (drop (walks.at + 1) ops) o made.1 a made.0 b to made.2 (has_evaluated made.1) made.3 like
 
+  -- before an attempt, operations of a list
+  pub unit_from : (o : ℕ) (a from b : Runner) → IsLike a from → WalksUnit (Attempts rules) rules.units o from b → WalksUnit (Attempts rules) rules.units o a b
+  unit_from o a from b like walks = record {
+    unit = walks.unit;
+    at = walks.at;
+    stands = walks.stands;
+    visited = subst (λ os. VisitsInTurn (Attempts rules) true os a b) (sym whole) (made.0, made.1, (made.2.0, tries_from o a from made.2.0 made.1 like made.2.1, made.2.2), made.3);
+  }
+    where
+      ops : List ℕ
+      ops = slice_index_or rules.units walks.unit []
+
+      whole : drop walks.at ops ≡ o ∷ drop (walks.at + 1) ops
+      whole = drop_at ops walks.at o walks.stands
+
+      made : VisitsInTurn (Attempts rules) true (o ∷ drop (walks.at + 1) ops) from b
+      made = subst (λ os. VisitsInTurn (Attempts rules) true os from b) whole walks.visited
+
   module _ (c : ℕ) (ops : List ℕ) where
-    places_from : (ns : List ℕ) (a from b : Runner) → 0 < length ns → IsLike a from → WalksPlaces rules c ops ns from b → WalksPlaces rules c ops ns a b
-    places_from [] a from b some like walks = absurd (omega arith)
-    places_from (n ∷ []) a from b some like walks =
-        (a, walks.1, refl, calling_from (Took c n) a from walks.1 like (subst (λ m. TakesNumber c n m walks.1) walks.2 walks.3), walks.4, walks.5)
-    places_from (n ∷ m ∷ ns) a from b some like walks = (walks.0, walks.1, places_from (m ∷ ns) a from walks.0 (omega arith) like walks.2, walks.3, walks.4, walks.5)
+    numbers_to : (ns : List ℕ) (a b to : Runner) → 0 < length ns → WalksNumbers rules ops ns a b → IsLike b to → WalksNumbers rules ops ns a to
+    numbers_to [] a b to some walks like = absurd (omega arith)
+    numbers_to (n ∷ []) a b to some walks like = (to, unit_to (slice_index_or ops n 0) a walks.0 to walks.1 (subst (λ r. IsLike r to) walks.2 like), refl)
+    numbers_to (n ∷ m ∷ ns) a b to some walks like = (walks.0, walks.1, numbers_to (m ∷ ns) walks.0 b to (omega arith) walks.2 like)
 
-    places_to : (ns : List ℕ) (a b to : Runner) → 0 < length ns → WalksPlaces rules c ops ns a b → IsLike b to → WalksPlaces rules c ops ns a to
-    places_to [] a b to some walks like = absurd (omega arith)
-    places_to (n ∷ ns) a b to some walks like =
-        elim (cases_lt n (length ops)) [
-          | inl lt ↦ (walks.0, walks.1, walks.2, walks.3, (λ _. unit_to (slice_index_or ops n 0) walks.1 b to (walks.4 lt) like), (λ past. absurd (omega arith)))
-          | inr past ↦ (walks.0, to, walks.2, calling_to (Took c n) walks.0 walks.1 to walks.3 (subst (λ x. IsLike x to) (walks.5 past) like), (λ lt. absurd (omega arith)), (λ _. refl))
+    takes_from : (ns : List ℕ) (a from b : Runner) → 0 < length ns → IsLike a from → TakesNumbers c ns from b → TakesNumbers c ns a b
+    takes_from [] a from b some like takes = absurd (omega arith)
+    takes_from (n ∷ []) a from b some like takes = (a, refl, calling_from (Took c n) a from b like (subst (λ m. TakesNumber c n m b) takes.1 takes.2))
+    takes_from (n ∷ m ∷ ns) a from b some like takes = (takes.0, takes_from (m ∷ ns) a from takes.0 (omega arith) like takes.1, takes.2)
+
+    takes_to : (ns : List ℕ) (a b to : Runner) → 0 < length ns → TakesNumbers c ns a b → IsLike b to → TakesNumbers c ns a to
+    takes_to [] a b to some takes like = absurd (omega arith)
+    takes_to (n ∷ ns) a b to some takes like = (takes.0, takes.1, calling_to (Took c n) takes.0 b to takes.2 like)
+
+    -- a burst takes some number
+    some_taken : (most : ℕ) (v : BurstView) (a b : Runner) → 1 ≤ most → (takes : TakesBurst c (length ops) most v a b) → 0 < length (takes.past ++ reverse v.numbers)
+    some_taken most v a b some takes = by v.over refl
+      where
+        by : (over : Bool) → v.over ≡ over → 0 < length (takes.past ++ reverse v.numbers)
+        by true is =
+            let end = takes.ended is in
+            subst (λ past. 0 < length (past ++ reverse v.numbers)) (sym end.1) (zero-lt-suc (length (reverse v.numbers)))
+        by false is =
+            let going = takes.going is in
+            let many : length v.numbers ≡ most = going.1 in
+            let same : length (reverse v.numbers) ≡ length v.numbers = length-reverse v.numbers in
+            subst (λ past. 0 < length (past ++ reverse v.numbers)) (sym going.0) (omega arith)
+
+    burst_from : (most : ℕ) (v : BurstView) (a from b : Runner) → 1 ≤ most → IsLike a from → TakesBurst c (length ops) most v from b → TakesBurst c (length ops) most v a b
+    burst_from most v a from b some like takes = record {
+      past = takes.past;
+      takes = takes_from (takes.past ++ reverse v.numbers) a from b (some_taken most v from b some takes) like takes.takes;
+      inside = takes.inside;
+      few = takes.few;
+      ended = takes.ended;
+      going = takes.going;
+    }
+
+    burst_to : (most : ℕ) (v : BurstView) (a b to : Runner) → 1 ≤ most → TakesBurst c (length ops) most v a b → IsLike b to → TakesBurst c (length ops) most v a to
+    burst_to most v a b to some takes like = record {
+      past = takes.past;
+      takes = takes_to (takes.past ++ reverse v.numbers) a b to (some_taken most v a b some takes) takes.takes like;
+      inside = takes.inside;
+      few = takes.few;
+      ended = takes.ended;
+      going = takes.going;
+    }
+
+    bursts_from : (vs : List BurstView) (a from b : Runner) → 0 < length vs → IsLike a from → WalksBursts rules ops c vs from b → WalksBursts rules ops c vs a b
+    bursts_from [] a from b some like walks = absurd (omega arith)
+    bursts_from (v ∷ []) a from b some like walks =
+        (a, walks.1, walks.2, refl, walks.4, walks.5, burst_from walks.2 v a from walks.1 walks.4 like (subst (λ m. TakesBurst c (length ops) walks.2 v m walks.1) walks.3 walks.6), walks.7)
+    bursts_from (v ∷ w ∷ vs) a from b some like walks = (walks.0, walks.1, walks.2, bursts_from (w ∷ vs) a from walks.0 (omega arith) like walks.3, walks.4, walks.5, walks.6, walks.7)
+
+    bursts_to : (vs : List BurstView) (a b to : Runner) → 0 < length vs → WalksBursts rules ops c vs a b → IsLike b to → WalksBursts rules ops c vs a to
+    bursts_to [] a b to some walks like = absurd (omega arith)
+    bursts_to (v ∷ vs) a b to some walks like =
+        elim (cases_lt 0 (length v.numbers)) [
+          | inl lt ↦ (walks.0, walks.1, walks.2, walks.3, walks.4, walks.5, walks.6, numbers_to v.numbers walks.1 b to lt walks.7 like)
+          | inr none ↦ (walks.0, to, walks.2, walks.3, walks.4, walks.5, burst_to walks.2 v walks.0 walks.1 to walks.4 walks.6 (subst (λ r. IsLike r to) (no_walk v.numbers walks.1 b none walks.7) like), none_walked v.numbers to none)
         ]
+      where
+        no_walk : (ns : List ℕ) (x y : Runner) → length ns ≤ 0 → WalksNumbers rules ops ns x y → y ≡ x
+        no_walk [] x y none same = same
+        no_walk (n ∷ ns) x y none all = absurd (omega arith)
 
-    -- a runner that saw the end of a counter that it had not used has taken a number
-    some_numbers : (ns : List ℕ) (a b : Runner) → 0 < length ops → Unused c a → IsEnough c (length ops) b → WalksPlaces rules c ops ns a b → 0 < length ns
-    some_numbers (n ∷ ns) a b some unused enough walks = omega arith
-    some_numbers [] a b some unused enough walks =
+        none_walked : (ns : List ℕ) (x : Runner) → length ns ≤ 0 → WalksNumbers rules ops ns x x
+        none_walked [] x none = refl
+        none_walked (n ∷ ns) x none = absurd (omega arith)
+
+    -- a runner that saw the end of a counter that it had not used has taken a burst
+    some_bursts : (vs : List BurstView) (a b : Runner) → 0 < length ops → Unused c a → IsEnough c (length ops) b → WalksBursts rules ops c vs a b → 0 < length vs
+    some_bursts (v ∷ vs) a b some unused enough walks = omega arith
+    some_bursts [] a b some unused enough walks =
         elim enough [
           | inl none ↦ absurd (omega arith)
           | inr last ↦ (
@@ -170,8 +246,8 @@ module _ (rules : RunRules) where
               absurd (omega (arith, unused)))
         ]
 
-    all_between : (a from b to : Runner) → IsLike a from → IsLike b to → (all : WalksAll rules c ops from b) → 0 < length all.numbers → WalksAll rules c ops a to
-    all_between a from b to first last all some = record { numbers = all.numbers; walks = places_to all.numbers a b to some (places_from all.numbers a from b some first all.walks) last }
+    all_between : (a from b to : Runner) → IsLike a from → IsLike b to → (all : WalksAll rules c ops from b) → 0 < length all.bursts → WalksAll rules c ops a to
+    all_between a from b to first last all some = record { bursts = all.bursts; walks = bursts_to all.bursts a b to some (bursts_from all.bursts a from b some first all.walks) last }
 
   pub passed_between : (c : ℕ) (ops : List ℕ) (before rs qs after : List Runner) → AreLike before rs → AreLike qs after → 0 < length ops → 0 < length before → ((d : Runner) → Unused c (slice_index_or before 0 d))
       → IsPassed rules c ops rs qs → ((d : Runner) → IsEnough c (length ops) (slice_index_or qs 0 d)) → IsPassed rules c ops before after
@@ -210,7 +286,7 @@ module _ (rules : RunRules) where
       walks zero d lt =
           let all = passed.walks 0 d (less lt) in
           all_between c ops (slice_index_or before 0 d) (slice_index_or rs 0 d) (slice_index_or qs 0 d) (slice_index_or after 0 d) (first.first d) (last.first d) all
-          (some_numbers c ops all.numbers (slice_index_or rs 0 d) (slice_index_or qs 0 d) full (unused_now d) (saw d) all.walks)
+          (some_bursts c ops all.bursts (slice_index_or rs 0 d) (slice_index_or qs 0 d) full (unused_now d) (saw d) all.walks)
       walks (suc k) d lt =
           subst (λ b. WalksAll rules c ops (slice_index_or before (suc k) d) b) (sym (last.others (suc k) d (omega arith)))
           (subst (λ a. WalksAll rules c ops a (slice_index_or qs (suc k) d)) (first.others (suc k) d (omega arith)) (passed.walks (suc k) d (less lt)))

@@ -1,5 +1,7 @@
 -- A runner's turns in a pass: each takes a number from the pass's counter and walks a unit.
 pub mod Turning
+-- Bursts of numbers that a runner takes, and the walks behind them.
+pub mod Bursting
 -- What calls in turn keep of a runner: what it reached, its places, and that it is exploring.
 pub mod Running
 -- The calls of a pass are those of one hand, and settle nothing.
@@ -18,3 +20,5 @@ pub mod Counting
 pub mod Between
 -- Passes one after another, each over the level that comes next.
 pub mod Ascending
+-- All levels, gone over by each worker: what all of them together made of a level is a pass.
+pub mod Parting

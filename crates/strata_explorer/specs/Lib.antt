@@ -2,3 +2,4 @@ pub mod Calls
 pub mod Walks
 pub mod Passes
 pub mod Levels
+pub mod Parts

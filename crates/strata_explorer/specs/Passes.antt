@@ -47,11 +47,11 @@ pub record Worked (rules : RunRules) (c : ℕ) (ops : List ℕ) (a b : Runner) :
   pub tried : (n : ℕ) → Contains calls (Took c n) → n < length ops → Contains calls (Tried (slice_index_or ops n 0))
   pub counted : count_by (names (length ops)) calls ≤ count_by is_tried calls
 
--- The runner has taken this many numbers so far
+-- The runner has taken this many numbers so far, and each of them names an operation
 pub record IsWorking (rules : RunRules) (c : ℕ) (ops : List ℕ) (turn : ℕ) (a b : Runner) : Type 0 where
   pub worked : Worked rules c ops a b
   pub turns : times c (hand_view b).places ≡ turn
-  pub last : (turn ≡ 0) ⊎ ((n : ℕ) × Contains (hand_view b).places (place c n) × (turn ≤ n + 1))
+  pub last : (turn ≡ 0) ⊎ ((n : ℕ) × Contains (hand_view b).places (place c n) × (turn ≤ n + 1) × (n < length ops))
 
 -- A pass was made over the operations ops: each runner took numbers and walked the units of the operations that they
 -- name, and one of them saw the counter run out. If the level is shared, each of them did; else only the first took

@@ -10,9 +10,9 @@ ghost use Rattle.op_eval.specs.Running.{IsFreeRunner};
 
 use crate::walk::work;
 use abort_eager::Ground;
-use op_eval::Runner;
+use op_eval::{Patience, Runner};
 use std::thread::Threads;
-use worker_gate::{Gate, Job, Told, pieces_for, run_few_or_all};
+use worker_gate::{Gate, Job, Told, burst_for, pieces_for, run_few_or_all};
 
 /// A pass over the operations of a level, whose places workers take from a counter.
 #[derive(Drop)]
@@ -21,6 +21,8 @@ pub(crate) struct Pass<'a, G> {
     pub(crate) gate: &'a G,
     pub(crate) ops: &'a [u32],
     pub(crate) counter: u32,
+    /// How many workers there are.
+    pub(crate) workers: usize,
 }
 
 impl<G: Gate> Job<Runner> for Pass<'_, G> {
@@ -48,7 +50,18 @@ impl<G: Gate> Job<Runner> for Pass<'_, G> {
             gate: self.gate,
             worker: u32::from(worker.hand.tag()),
         };
-        work(&self.ground, &told, self.ops, self.counter, worker)
+        let most = burst_for(self.workers, self.ops.len());
+        // All levels below were passed, so there is nothing to wait for.
+        let mut patience = Patience::none();
+        work(
+            &self.ground,
+            &told,
+            self.ops,
+            self.counter,
+            most,
+            worker,
+            &mut patience,
+        )
     }
 }
 

@@ -4,7 +4,7 @@ use Rattle.abort_eager.specs.Grounds.{ground_rules}
 use Rattle.strata_explorer.specs.Passes.{Worked}
 use Rattle.strata_explorer.specs.Walks.{WalksAll}
 use Rattle.strata_explorer.proofs.Climbing.{worked_none}
-use Rattle.strata_explorer.proofs.Turning.{all_none}
+use Rattle.strata_explorer.proofs.Bursting.{walks_none}
 use Rattle.strata_explorer.proofs.pass.pass_by.Goals as goal
 
 pub returns : goal.returns
@@ -20,7 +20,7 @@ returns g c =
       passed = record {
         len = c.run_few_or_all.auto.workers;
         each = λ k d lt. elim (ran.each k d lt) [ inl did ↦ did.1 | inr same ↦ subst (Worked rules pass.counter ops _) (sym same) (worked_none rules pass.counter ops _) ];
-        walks = λ k d lt. elim (ran.each k d lt) [ inl did ↦ did.3 | inr same ↦ subst (WalksAll rules pass.counter ops _) (sym same) (all_none rules pass.counter ops _) ];
+        walks = λ k d lt. elim (ran.each k d lt) [ inl did ↦ did.3 | inr same ↦ subst (WalksAll rules pass.counter ops _) (sym same) (walks_none rules pass.counter ops _) ];
         enough = (0, c.requires.some, λ d. (ran.first d).2);
         first = λ few k d above lt. ran.few few k d above;
         shared = λ many k d lt. (ran.many many k d lt).2;

@@ -1,25 +1,37 @@
+use Rattle.std.proofs.Common.{◌+◌, sym, ◌∙◌, subst}
 use Rattle.abort_eager.specs.Grounds.{ground_rules}
-use Rattle.abort_eager.proofs.Noting.{attempts_of}
-use Rattle.abort_eager.proofs.UnitWalks.{walks_as}
-use Rattle.strata_explorer.proofs.Turning.{working_none, ended, went_on, walked_calls, all_none, all_ended, all_more}
+use Rattle.strata_explorer.specs.Passes.{IsWorking}
+use Rattle.strata_explorer.proofs.Bursting.{working_none, walks_none, burst_ended, burst_more, walks_more, takes_claim}
 use Rattle.strata_explorer.proofs.walk.work.Goals as goal
 
-pub returns-then-number-ops-clause-calls : goal.returns-then-number-ops-clause-calls
-returns-then-number-ops-clause-calls g c = (ended _ _ _ _ _ _ _ _ c.loop-turn.invariant.1 c.take-number.ensures.number c.if-number-ops.true).0
+pub walk_burst-requires-clause-seated : goal.walk_burst-requires-clause-seated
+walk_burst-requires-clause-seated g c = record {
+  hand = c.take_burst-burst.ensures.hand;
+  free = takes_claim _ _ _ _ c.take_burst-burst.ensures.burst.takes ∙ c.loop-turn.invariant.0.free;
+}
 
-pub returns-then-number-ops-clause-enough : goal.returns-then-number-ops-clause-enough
-returns-then-number-ops-clause-enough g c = (ended _ _ _ _ _ _ _ _ c.loop-turn.invariant.1 c.take-number.ensures.number c.if-number-ops.true).1
+pub returns-then-is_over-clause-calls : goal.returns-then-is_over-clause-calls
+returns-then-is_over-clause-calls g c =
+    (burst_ended _ _ _ _ _ _ _ _ _ c.take_burst-burst.ensures.burst c.walk_burst.ensures.walks c.loop-turn.invariant.1.worked (sym c.is_over.ensures ∙ c.if-is_over.true)).0
+
+pub returns-then-is_over-clause-enough : goal.returns-then-is_over-clause-enough
+returns-then-is_over-clause-enough g c =
+    (burst_ended _ _ _ _ _ _ _ _ _ c.take_burst-burst.ensures.burst c.walk_burst.ensures.walks c.loop-turn.invariant.1.worked (sym c.is_over.ensures ∙ c.if-is_over.true)).1
+
+pub returns-then-is_over-clause-walks : goal.returns-then-is_over-clause-walks
+returns-then-is_over-clause-walks g c =
+    walks_more _ _ _ _ _ _ _ _ _ c.take_burst-burst.ensures.burst c.walk_burst.ensures.walks c.requires.some c.requires.most c.loop-turn.invariant.2
+
+pub loop-turn-init : goal.loop-turn-init
+loop-turn-init g c = (c.requires.seated, working_none _ _ _ _ c.requires.unused, walks_none _ _ _ _)
 
 pub loop-turn-preserved : goal.loop-turn-preserved
 loop-turn-preserved g c =
-    let unit = walks_as _ _ (attempts_of (ground_rules c.args.ground.now) _) _ _ _ _ c.walk_unit.ensures.walks in (
-      c.walk_unit.ensures.can,
-      went_on _ _ _ _ _ _ _ _ c.loop-turn.invariant.1 c.take-number.ensures.number _ c.if-number-ops.false (walked_calls (ground_rules c.args.ground.now) _ _ _ unit),
-      all_more _ _ _ _ _ _ _ _ c.loop-turn.invariant.2 c.take-number.ensures.number c.if-number-ops.false unit,
+    let rules = ground_rules c.args.ground.now in
+    let going = sym c.is_over.ensures ∙ c.if-is_over.false in
+    let now = c.walk_burst.new.runner in (
+      c.walk_burst.ensures.seated,
+      subst (λ n. IsWorking rules c.args.counter c.args.ops.now (c.loop-turn.turn + n) c.args.runner.now now) (sym c.len-turn.ensures)
+          (burst_more _ _ _ _ _ _ _ _ _ c.take_burst-burst.ensures.burst c.walk_burst.ensures.walks c.loop-turn.turn c.loop-turn.invariant.1 going),
+      walks_more _ _ _ _ _ _ _ _ _ c.take_burst-burst.ensures.burst c.walk_burst.ensures.walks c.requires.some c.requires.most c.loop-turn.invariant.2,
     )
-
-pub returns-then-number-ops-clause-walks : goal.returns-then-number-ops-clause-walks
-returns-then-number-ops-clause-walks g c = all_ended _ _ _ _ _ _ _ c.loop-turn.invariant.2 c.take-number.ensures.number c.if-number-ops.true
-
-pub loop-turn-init : goal.loop-turn-init
-loop-turn-init g c = (c.requires.seated, working_none _ _ _ _ c.requires.unused, all_none _ _ _ _)

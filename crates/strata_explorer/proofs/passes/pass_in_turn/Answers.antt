@@ -3,7 +3,7 @@ use Rattle.strata_explorer.specs.Levels.{ops_of, FollowsPass}
 use Rattle.strata_explorer.specs.Passes.{course_rules, IsPassed}
 use Rattle.strata_explorer.proofs.Ascending.{climbing_none, climbing_more, ends_whole}
 use Rattle.strata_explorer.proofs.Leveling.{levels_of}
-use Rattle.strata_explorer.proofs.exploration.pass_all.Goals as goal
+use Rattle.strata_explorer.proofs.passes.pass_in_turn.Goals as goal
 
 pub loop-level-init : goal.loop-level-init
 loop-level-init g c = (c.requires.seated, refl, refl, refl, omega arith, climbing_none _ c.args.runners.now c.requires.ready)

@@ -4,7 +4,7 @@ use Rattle.strata_explorer.specs.Levels.{counters_for}
 use Rattle.op_eval.specs.Running.{IsFreeRunner}
 use Rattle.strata_explorer.specs.Passes.{course_rules}
 use Rattle.strata_explorer.proofs.Ascending.{IsClimbing}
-use Rattle.strata_explorer.proofs.exploration.pass_all.Given as goal
+use Rattle.strata_explorer.proofs.passes.pass_in_turn.Given as goal
 
 abbrev pub invariant-loop-level : goal.invariant-loop-level
 invariant-loop-level g l =

@@ -2,7 +2,7 @@ use Rattle.std.proofs.Common.{ap, ◌∙◌}
 use Rattle.op_words.specs.declared.trail.View.{View}
 use Rattle.op_eval.specs.Running.{IsFreeRunner}
 use Rattle.strata_explorer.proofs.Climbing.{first_set}
-use Rattle.strata_explorer.proofs.exploration.next_level.Goals as goal
+use Rattle.strata_explorer.proofs.passes.next_level.Goals as goal
 
 pub returns-clause-seated : goal.returns-clause-seated
 returns-clause-seated c =

@@ -8,7 +8,7 @@ use Rattle.strata_explorer.proofs.Between.{passed_between}
 use Rattle.strata_explorer.proofs.Climbing.{level_is}
 use Rattle.strata_explorer.proofs.Counting.{follows_from}
 use Rattle.strata_explorer.proofs.Leveling.{levels_of, small_levels, some_op}
-use Rattle.strata_explorer.proofs.exploration.pass_once.Goals as goal
+use Rattle.strata_explorer.proofs.passes.pass_once.Goals as goal
 
 pub pass_by-requires-clause-fits : goal.pass_by-requires-clause-fits
 pass_by-requires-clause-fits g c κs within =
@@ -32,5 +32,5 @@ returns-clause-passed g c =
 pub returns-clause-next : goal.returns-clause-next
 returns-clause-next g c =
     follows_from (course_rules c.args.board.now c.args.course.now) c.args.level c.next_level.result c.args.runners.now c.empty_level.new.runners c.pass_by.new.runners c.next_level.new.runners c.empty_level.ensures.like c.next_level.ensures.like
-    c.has_risen-risen.result c.count_rolled-rolled.result (c.count_rolled-rolled.ensures c.empty_level.new.board c.empty_level.ensures.seated) c.has_risen-risen.ensures.eager
-    (λ risen. c.has_risen-risen.ensures.more risen c.empty_level.new.board c.pass_by.ensures.seated) c.next_level.ensures.most c.next_level.ensures.above
+    c.has_risen-risen.result c.count_rolled-rolled.result (c.count_rolled-rolled.ensures c.empty_level.new.board c.empty_level.ensures.seated) (λ _. c.requires.eager)
+    (λ risen. c.has_risen-risen.ensures risen c.empty_level.new.board c.pass_by.ensures.seated) c.next_level.ensures.most c.next_level.ensures.above

@@ -1,7 +1,8 @@
-ghost use Rattle.std.specs.Prelude.{◌≡◌, ◌<◌, ◌≤◌, true, false, [], ◌∷◌, length, take};
+ghost use Rattle.std.specs.Prelude.{◌≡◌, ◌+◌, ◌<◌, ◌≤◌, true, false, [], ◌∷◌, length, take};
 ghost use Rattle.std.specs.Prelude.{slice_index, slice_index_or, MatchOption};
 ghost use Rattle.std.specs.Char.{is_ascii_digit};
 ghost use Rattle.std.specs.List.{list_all};
+ghost use Rattle.event_reader.specs.Limits.{greatest_number};
 ghost use Rattle.event_reader.specs.Words.{parts_of};
 ghost use Rattle.event_reader.specs.Numbers.{number_of, is_number, cut_value};
 ghost use Rattle.event_reader.specs.LineParts.{parts_after, StartsWithNumber};
@@ -19,6 +20,25 @@ pub enum Number {
     NotNumber,
 }
 
+/// How many digits a line begins with, if the first `from` of them say a number above the greatest.
+fn digits_behind(line: &[u8], from: usize) -> usize
+    requires inside { from ≤ length line.now }
+    requires digits { list_all is_ascii_digit (take from line.now) ≡ true }
+    requires great { cut_value (take from line.now) ≡ greatest_number + 1 }
+    ensures inside { result ≤ length line.now }
+    ensures digits { list_all is_ascii_digit (take result line.now) ≡ true }
+    ensures ends { result < length line.now → is_ascii_digit (slice_index line.now result) ≡ false }
+    ensures great { cut_value (take result line.now) ≡ greatest_number + 1 }
+{
+    'digits: for i in from..line.len() {
+        let byte = line[i];
+        if byte < b'0' || b'9' < byte {
+            return i;
+        }
+    }
+    line.len()
+}
+
 /// How many digits a line begins with, and the number that they say, or one more than the greatest if it is greater.
 fn leading_digits(line: &[u8]) -> (usize, u64)
     ensures inside { result.0 ≤ length line.now }
@@ -33,7 +53,11 @@ fn leading_digits(line: &[u8]) -> (usize, u64)
         if byte < b'0' || b'9' < byte {
             return (i, value);
         }
-        value = (10 * value + u64::from(byte - b'0')).min(GREATEST_NUMBER + 1);
+        value = 10 * value + u64::from(byte - b'0');
+        // A branch and no `min`: the next digit does not wait for it.
+        if value > GREATEST_NUMBER {
+            return (digits_behind(line, i + 1), GREATEST_NUMBER + 1);
+        }
     }
     (line.len(), value)
 }

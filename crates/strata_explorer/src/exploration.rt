@@ -1,19 +1,16 @@
-ghost use Rattle.std.specs.Prelude.{◌≡◌, ◌≤◌, ◌<◌, ◌+◌, ◌^◌, true, false, [], ◌∷◌, All, length};
+ghost use Rattle.std.specs.Prelude.{◌≡◌, ◌≤◌, ◌<◌, [], All, length};
 ghost use Rattle.chain_units.specs.Places.{IsPartition};
-ghost use Rattle.interleaving_core.specs.Counts.{rolled};
-ghost use Rattle.morph_base.specs.declared.strategy.Abort.TheVariants.{Lazy, Eager};
+ghost use Rattle.morph_base.specs.declared.strategy.Abort.TheVariants.{Lazy};
 ghost use Rattle.morph_base.specs.Graphs.{IsValidPlan};
 ghost use Rattle.morph_base.specs.Plans.{op_count};
-ghost use Rattle.op_words.specs.declared.board.Board.{Board as B};
-ghost use Rattle.op_words.specs.Hands.{plan_of, cap_of, counters_of, up_to, IsHandOf};
+ghost use Rattle.op_words.specs.Hands.{plan_of, cap_of, counters_of};
 ghost use Rattle.op_eval.specs.Alone.{IsNewRoot, HasRunAll};
 ghost use Rattle.op_eval.specs.Further.{HaveGoneOn};
-ghost use Rattle.op_eval.specs.Exploring.{MayExplore, IsExploredBoard, Unused, parts_of, rules_on};
+ghost use Rattle.op_eval.specs.Exploring.{MayExplore, IsExploredBoard, parts_of, rules_on};
 ghost use Rattle.op_eval.specs.Gathering.{runners_of};
-ghost use Rattle.op_eval.specs.Running.{hand_view, IsFreeRunner};
-ghost use Rattle.strata_explorer.specs.Levels.{ops_of, rolled_by, AreStrata, FollowsPass, HasPassed, IsAlone};
-ghost use Rattle.strata_explorer.specs.Levels.{counters_for};
-ghost use Rattle.strata_explorer.specs.Passes.{course_rules, AreLike, IsPassed};
+ghost use Rattle.op_eval.specs.Running.{IsFreeRunner};
+ghost use Rattle.strata_explorer.specs.Levels.{counters_for, AreStrata, HasPassed, IsAlone};
+ghost use Rattle.strata_explorer.specs.Passes.{course_rules};
 
 use crate::course::Course;
 use crate::levels::pass_levels;

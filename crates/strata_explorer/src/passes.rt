@@ -10,8 +10,8 @@ ghost use Rattle.op_words.specs.Hands.{plan_of, cap_of, counters_of, up_to, IsHa
 ghost use Rattle.op_eval.specs.Further.{HaveGoneOn};
 ghost use Rattle.op_eval.specs.Exploring.{Unused};
 ghost use Rattle.op_eval.specs.Running.{hand_view, IsFreeRunner};
-ghost use Rattle.strata_explorer.specs.Levels.{ops_of, rolled_by, AreStrata, FollowsPass, HasPassed};
-ghost use Rattle.strata_explorer.specs.Levels.{counters_for};
+ghost use Rattle.strata_explorer.specs.Levels.{counters_for, ops_of, rolled_by};
+ghost use Rattle.strata_explorer.specs.Levels.{AreStrata, FollowsPass, HasPassed};
 ghost use Rattle.strata_explorer.specs.Passes.{course_rules, AreLike, IsPassed};
 
 use crate::course::Course;

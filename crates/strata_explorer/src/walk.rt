@@ -14,13 +14,13 @@ use op_eval::{Burst, Patience, Runner};
 use worker_gate::Turns;
 
 /// Walks the unit of each place of a burst, in the order in which the places were taken. Before each it waits until the
-/// sources of the place's operation have values, as long as patience lasts. The first of these turns has this number.
+/// sources of the place's operation have values, as long as patience lasts. The turns are numbered from `first` on.
 fn walk_burst<T: Turns>(
     ground: &Ground<'_>,
     told: &T,
     ops: &[u32],
     burst: &Burst,
-    turn: usize,
+    first: usize,
     runner: &mut Runner,
     patience: &mut Patience,
 )
@@ -33,7 +33,7 @@ fn walk_burst<T: Turns>(
         runner.old runner.new }
 {
     for i in 0..burst.len() {
-        let turn = (turn as u64).saturating_add(i as u64);
+        let turn = (first as u64).saturating_add(i as u64);
         let op = ops[burst.number(i)];
         told.pass(turn);
         patience.await_sources(ground.board, runner, ground.plan, op, false);

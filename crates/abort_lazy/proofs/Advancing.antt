@@ -247,16 +247,14 @@ fits_level b p from l plan valid lt counters events same = record {
       omega (arith, len, few, most);
 }
 
-pub can_level : (b : Board) (p : Plan) (from l : ℕ) → IsValidPlan p → l < length p.event_levels.items → (start rs : List Runner) → AreSettling b p from l start rs
-    → (events : List ℕ) → events ≡ events_of p l → All (CanSweep b (from + l) events) rs
-can_level b p from l valid lt start rs settling events same = λ k d less.
-    let ready = settling.each k d less in
-    record {
-      hand = ready.hand;
-      free = ready.free;
-      unused = ready.unused (from + l) (omega arith);
-      room = let room = ready.room in let next = next_room p valid.graph l lt in let len = ap length same in omega (arith, room, next, len);
-    }
+pub can_level : (b : Board) (p : Plan) (from l : ℕ) → IsValidPlan p → l < length p.event_levels.items → (start r : Runner) → IsSettling b p from l start r
+    → CanSweep b (from + l) (events_of p l) r
+can_level b p from l valid lt start r ready = record {
+  hand = ready.hand;
+  free = ready.free;
+  unused = ready.unused (from + l) (omega arith);
+  room = let room = ready.room in let next = next_room p valid.graph l lt in omega (arith, room, next);
+}
 
 pub start_noted : (b : Board) (p : Plan) (from : ℕ) (start : List Runner) → AreSettling b p from 0 start start → (k : ℕ) (d : Runner) → k < length start → IsTrailNoted (hand_view (slice_index_or start k d))
 start_noted b p from start settling k d less = let one-ready = settling.each k d less in one-ready.hand.told.noted

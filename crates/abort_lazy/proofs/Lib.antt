@@ -20,7 +20,7 @@ pub mod Completing
 pub mod Trying
 -- Sums over lists, and over the numbers below n.
 pub mod Summing
--- A runner's turns at one level, each with a number that it took from the level's counter.
+-- A runner's bursts of numbers at one level, and the events that it tries.
 pub mod Sweeping
 -- The events of each level of a plan, and how many are still to come.
 pub mod Levelling
@@ -30,6 +30,8 @@ pub mod Alone
 pub mod Agreeing
 -- One level of events after another, by one runner and by all.
 pub mod Advancing
+-- All levels of events, where each runner goes over them by itself.
+pub mod Staging
 -- What the root's view has after the hands of idle workers were joined into it.
 pub mod Idle
 -- What the root's view has of each runner once they are gathered: its trail, and what it saw settled.

@@ -4,4 +4,5 @@ pub mod Progress
 pub mod Finishing
 pub mod Sweeps
 pub mod Runs
+pub mod Levels
 pub mod Ended

@@ -1,5 +1,5 @@
 -- Events tried in turn, by runners that take their numbers from counters
-use Rattle.std.specs.Prelude.{◌≡◌, ℕ, ◌+◌, ◌<◌, ◌≤◌, ◌⊎◌, ◌^◌, true, false, if◌then◌else◌, nat_lt, ◌==◌, List, [], ◌∷◌, ◌++◌, Contains, None, All, length, slice_index_or, sum_by}
+use Rattle.std.specs.Prelude.{◌≡◌, ℕ, ◌+◌, ◌<◌, ◌≤◌, ◌⊎◌, ◌^◌, true, false, if◌then◌else◌, nat_lt, ◌==◌, List, [], ◌∷◌, ◌++◌, Contains, None, All, length, min, slice_index_or, sum_by}
 use Rattle.morph_base.specs.declared.plan.Plan.{Plan}
 use Rattle.morph_base.specs.Plans.{event_at, event_count}
 use Rattle.op_words.specs.declared.board.Board.{Board}
@@ -111,10 +111,24 @@ pub record AreSwept (b : Board) (p : Plan) (c : ℕ) (events : List ℕ) (before
   pub shared : shared_from ≤ length events → (k : ℕ) (d : Runner) → k < length before
       → IsThrough c events (slice_index_or before k d) (slice_index_or after k d)
 
--- The runner has taken this many numbers so far
-pub record IsSweeping (s : Sweep) (turn : ℕ) (before now : Runner) : Type 0 where
-  pub hand : IsHandOf s.board.now now.hand
-  pub swept : Swept s.plan.now s.counter s.events.now before now
-  pub turns : times s.counter (hand_view now).places ≡ turn
-  pub last : (turn ≡ 0) ⊎ ((n : ℕ) × Contains (hand_view now).places (place s.counter n) × (turn ≤ n + 1))
-  pub room : before.kept.room ≤ now.kept.room + turn
+-- The runner is going over a level. It took this many numbers from the counter, all of them below `next`, and tried the
+-- events of those that name one, but for the numbers in `rest`, which are still to come
+pub record IsSweeping (p : Plan) (c : ℕ) (events : List ℕ) (taken next : ℕ) (rest : List ℕ) (before now : Runner) : Type 0 where
+  pub calls : List TakingCall
+  pub made : MakesCalls p calls before now
+  pub only : (k n : ℕ) → Contains calls (Took k n) → k ≡ c
+  pub tried : (n : ℕ) → Contains calls (Took c n) → n < length events
+      → Contains rest n ⊎ Contains calls (Tried (slice_index_or events n 0))
+  pub inside : (i : ℕ) → Contains calls (Tried i)
+      → (n : ℕ) × (n < length events) × (slice_index_or events n 0 ≡ i) × Contains calls (Took c n)
+  pub pending : (n : ℕ) → Contains rest n → Contains calls (Took c n)
+  pub turns : (weight : ℕ → ℕ)
+      → sum_by (tried_by weight) calls + sum_by (weight_at events weight) rest
+      ≡ sum_by (taken_by c (weight_at events weight)) calls
+  pub count : times c (hand_view now).places ≡ taken
+  pub last : (next ≡ 0) ⊎ ((n : ℕ) × Contains (hand_view now).places (place c n) × (next ≡ n + 1))
+  pub risen : taken ≤ next
+  pub room : before.kept.room + length rest ≤ now.kept.room + min taken (length events)
+  -- A lone root takes the numbers from 0 on
+  pub alone : IsLone (hand_view before) → next ≡ taken
+  pub whole : IsLone (hand_view before) → (n : ℕ) → n < taken → Contains calls (Took c n)

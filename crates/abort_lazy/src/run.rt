@@ -1,4 +1,5 @@
-//! Settles all events of a batch on the shared board, event level by event level, by several runners.
+//! Settles all events of a batch on the shared board, by several runners that are started once and go over the event
+//! levels in order.
 ghost use Rattle.std.specs.Prelude.{◌≡◌, ℕ, ◌+◌, ◌<◌, ◌≤◌, ◌^◌, List as Listed, length, map};
 ghost use Rattle.morph_base.specs.Graphs.{IsValidPlan};
 ghost use Rattle.morph_base.specs.Limits.{most_workers};
@@ -17,8 +18,9 @@ use std::alloc::Global;
 use std::thread::Threads;
 
 mod level;
+mod levels;
 
-use level::{Sweep, sweep_by};
+use levels::{Levels, go_over_by};
 
 /// A board and its runners after each event of a batch was tried, before the board is closed.
 pub struct SettledRun {
@@ -36,7 +38,7 @@ impl Drop for SettledRun {
     }
 }
 
-/// Tries the events of each level, from the lowest on. Each level has a counter of its own.
+/// Tries the events of all levels, by workers that are started once. Each level has a counter of its own.
 fn settle_levels<T: Threads + Sync>(
     rt: &T,
     board: &Board,
@@ -53,23 +55,26 @@ fn settle_levels<T: Threads + Sync>(
     ensures settled { AreSettling board.now plan.now from (length plan.now.event_levels.items)
         runners.old runners.new }
 {
-    for level in 0..plan.event_levels.len() {
-        let sweep = Sweep {
-            board,
-            plan,
-            events: plan.event_levels.get(level).as_slice(),
-            counter: from + level as u32,
-        };
-        sweep_by(rt, runners, &sweep);
-    }
+    let levels = Levels {
+        board,
+        plan,
+        from,
+        workers: runners.len(),
+    };
+    go_over_by(rt, runners, &levels);
 }
 
-/// Settles what exploring left: each event is tried once, event level by event level.
+/// Settles what exploring left: each event is tried once, by a runner that goes over the event levels in order.
 ///
-/// Each level has a counter of its own, the first one being `next_counter` of the run. Runners take numbers from it,
-/// and try the events with these numbers in the level. If a level has fewer than 8 events, the first runner goes over
-/// it alone. Else all go over it, each until it saw the counter run out. The runner that tried an event keeps why it
-/// was not settled. A root that is the only hand ever made settles all.
+/// The runners are started once, and each goes over all levels, without a stop between them. Each level has a counter
+/// of its own, the first one being `next_counter` of the run. A runner takes a burst of numbers from it, up to 16, and
+/// tries the events with these numbers in the level. If a level has fewer than 8 events, the first runner goes over it
+/// alone. Else all go over it, each until it saw the counter run out.
+///
+/// Before a runner tries an event it waits until the event's sources are settled, since other runners may still be at
+/// lower levels. Its patience is bounded, by a number of looks for all levels together. An event whose sources are not
+/// settled when patience ends is left, with its cause. The runner that tried an event keeps why it was not settled. A
+/// root that is the only hand ever made settles all, and never waits.
 pub fn settle_all<T: Threads + Sync>(rt: &T, run: Explored, plan: &Plan) -> SettledRun
     requires explored { IsExploredBoard run }
     requires plan { plan.now ≡ plan_of run.board }

@@ -76,7 +76,7 @@ fn stop(op: u32, word: OpWord) -> Option<TxnAnswer>
 }
 
 /// The first operation of an event.
-fn first_of(plan: &Plan, event: u32) -> u32
+pub(crate) fn first_of(plan: &Plan, event: u32) -> u32
     requires in_range { event < event_count plan.now }
     ensures { result ≡ (event_at plan.now event).first }
 {
@@ -84,7 +84,7 @@ fn first_of(plan: &Plan, event: u32) -> u32
 }
 
 /// The end of an event's operations: one more than the number of its last one.
-fn end_of(plan: &Plan, event: u32) -> u32
+pub(crate) fn end_of(plan: &Plan, event: u32) -> u32
     requires valid { IsPlan plan.now }
     requires in_range { event < event_count plan.now }
     ensures { result ≡ (event_at plan.now event).first + (event_at plan.now event).count }

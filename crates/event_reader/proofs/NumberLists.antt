@@ -6,7 +6,7 @@ use Rattle.event_reader.specs.declared.cause.Cause.TheVariants.{Form}
 use Rattle.std.specs.List.{All, list_all}
 use Rattle.std.proofs.lemmas.Bool.{cases_lt}
 use Rattle.std.proofs.lemmas.Bool.Decides.{nat_tests}
-use Rattle.std.proofs.lemmas.List.{drop_more, get_or-drop, take_more_set, map_more, drop_all, take_all, length-map, length-drop}
+use Rattle.std.proofs.lemmas.List.{drop_more, get_or-drop, take_more_set, map_more, drop_all, take_all, length-map, length-drop, length-take-le}
 use Rattle.std.proofs.lemmas.List.Elements.{All-head, All-tail}
 use Rattle.std.proofs.lemmas.List.Folds.{list_all_at, list_all_more}
 use Rattle.event_reader.specs.Limits.{greatest_number}
@@ -46,6 +46,22 @@ known_more parts others i numbers part number room known here is says =
           ∙ rw (known.values, says) refl
           ∙ sym (map_more cut_value parts i [] at.0 ∙ ap (λ w. map cut_value (take i parts) ++ cut_value w ∷ []) at.1);
     }
+
+-- what is known of a list that begins with the numbers is known of these
+pub known_part : (parts : List (List ℕ)) (known : ℕ) (numbers : List ℕ) → AreNumbersUpTo parts known numbers
+    → (length (take known numbers) ≡ known) × AreNumbersUpTo parts (length (take known numbers)) (take known numbers)
+known_part parts known numbers is =
+    let many : length (take known numbers) ≡ known
+    = ap length is.values ∙ length-map (take known parts) cut_value ∙ length-take-le known parts is.inside in (
+      many,
+      subst (λ k. AreNumbersUpTo parts k (take known numbers)) (sym many) (
+          record {
+            inside = is.inside;
+            all = is.all;
+            values = take_all known (take known numbers) (omega (arith, many)) ∙ is.values;
+          }
+          ),
+    )
 
 -- all parts
 pub known_all : (parts : List (List ℕ)) (known : ℕ) (numbers : List ℕ) → AreNumbersUpTo parts known numbers → length parts ≤ known

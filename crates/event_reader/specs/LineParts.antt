@@ -41,10 +41,10 @@ pub record AreCutUpTo (parts : List (List ℕ)) (known : ℕ) (numbers : List �
   pub others_are : others ≡ drop known parts
   pub stops : known + 1 < line_words → 0 < length others → is_number (slice_index_or others 0 []) ≡ false
 
--- The line has so many parts, no more than words that a line can have. Of those behind the first, `known` are known as
--- numbers; if there is a next one, it is none
-pub record HasParts (line : List ℕ) (count : ℕ) (numbers : List ℕ) (known : ℕ) : Type 0 where
+-- The line has so many parts, no more than words that a line can have. Of those behind the first, as many are known as
+-- numbers as there are `numbers`, which are what they say; if there is a next one, it is none
+pub record HasParts (line : List ℕ) (count : ℕ) (numbers : List ℕ) : Type 0 where
   pub all : count ≡ length (parts_of line)
   pub few : count ≤ line_words
-  pub numbers_are : AreNumbersUpTo (drop 1 (parts_of line)) known numbers
-  pub stops : known + 1 < count → is_number (slice_index_or (parts_of line) (known + 1) []) ≡ false
+  pub numbers_are : AreNumbersUpTo (drop 1 (parts_of line)) (length numbers) numbers
+  pub stops : length numbers + 1 < count → is_number (slice_index_or (parts_of line) (length numbers + 1) []) ≡ false

@@ -38,7 +38,7 @@
 //! | `lines`, `decision` | `Lines`; what the bytes that it keeps decide of the next line |
 //! | `words`, `number` | `Words`, a line cut at its spaces; `Number` and `read_number` |
 //! | `form`, `ranges` | `Form`, a letter and the places of its numbers; `Range`, which numbers a place may have |
-//! | `numbers` | `Words::read`, which reads a line of a form, and its `Numbers` |
+//! | `numbers` | `NumberPlaces` for a line's numbers; `Words::read`, which reads a line of a form, and its `Numbers` |
 //! | `keys` | `key_of`, `keys_of`, `has_key`, `are_distinct`: the keys of ids |
 //! | `makes_input`, `gen_source` | `MakesInput`; `GenSource`, a source of the text that is made |
 //! | `draws`, `plain` | `Draws`, the random numbers; `write_line` |
@@ -85,7 +85,7 @@ pub use limits::{
 pub use lines::Lines;
 pub use makes_input::MakesInput;
 pub use number::{Number, read_number};
-pub use numbers::Numbers;
+pub use numbers::{NumberPlaces, Numbers};
 pub use plain::write_line;
 pub use ranges::{NOTHING, Range, TIMES};
 pub use version::Version;

@@ -10,6 +10,22 @@ use crate::number::first_number;
 use crate::words::Words;
 use std::marker::Model;
 
+/// Places for the numbers of a line, which a caller lends to [`Words::split`](crate::Words::split). What is in them
+/// between two lines does not matter.
+#[derive(Debug, Drop)]
+pub struct NumberPlaces {
+    pub(crate) numbers: [u64; LINE_WORDS],
+}
+
+impl NumberPlaces {
+    /// Places for as many numbers as a line can have.
+    pub fn new() -> Self {
+        NumberPlaces {
+            numbers: [0; LINE_WORDS],
+        }
+    }
+}
+
 /// Reads numbers from parts of a line, up to the first part that is no number, and returns how many there are, and the
 /// parts behind them. Each number is cut at one more than the greatest.
 pub(crate) fn read_numbers<'a>(

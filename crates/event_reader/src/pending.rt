@@ -6,6 +6,7 @@ ghost use Rattle.event_reader.specs.Versions.{most_events};
 
 use crate::app::EventApp;
 use crate::cause::{Cause, LineFault};
+use crate::numbers::NumberPlaces;
 use crate::past::Past;
 use crate::times::Times;
 use crate::words::Words;
@@ -16,6 +17,8 @@ use std::alloc::Global;
 #[derive(Drop)]
 pub(crate) struct Pending {
     pub(crate) batch: Batch,
+    /// The numbers of the line that is read.
+    places: NumberPlaces,
     /// The operations of the line that is read.
     ops: EventOps,
     pub(crate) times: Times,
@@ -68,6 +71,7 @@ impl Pending {
     {
         Pending {
             batch: empty_batch(alloc, room),
+            places: NumberPlaces::new(),
             ops: EventOps::new(),
             times: Times::new(alloc),
             latest: closed,
@@ -124,7 +128,7 @@ impl Pending {
             }
             return Ok(LineEffect::Closes);
         }
-        let Some(words) = Words::split(line) else {
+        let Some(words) = Words::split(line, &mut self.places) else {
             return Ok(LineEffect::Refuses(Cause::Form));
         };
         self.ops.clear();

@@ -8,21 +8,19 @@ ghost use Rattle.event_reader.specs.Limits.{line_words};
 ghost use Rattle.event_reader.specs.Forms.{only, letter_of};
 
 use crate::limits::LINE_WORDS;
-use crate::numbers::read_numbers;
+use crate::numbers::{NumberPlaces, read_numbers};
 use std::marker::Model;
 
 /// The words of a line, which contracts see as a list of lists of bytes: at most [`LINE_WORDS`] words, none empty.
 ///
 /// The line is kept as it is: a word is looked for when it is asked for. The numbers that the words say are kept, since
-/// they are read as the line is cut.
+/// they are read as the line is cut. They lie in places that the caller lends.
 #[derive(Drop)]
 pub struct Words<'a> {
     line: &'a [u8],
     count: usize,
     /// What the words after the first say, up to the first of them that is no number.
-    numbers: [u64; LINE_WORDS],
-    /// How many of these numbers there are.
-    known: usize,
+    numbers: &'a [u64],
 }
 
 impl<'a> Model for Words<'a> {
@@ -34,7 +32,7 @@ impl<'a> Model for Words<'a> {
 
     ghost view = { λ w. parts_of w.line.now };
 
-    ghost invariant = { λ w. HasParts w.line.now w.count w.numbers w.known };
+    ghost invariant = { λ w. HasParts w.line.now w.count w.numbers.now };
 }
 
 /// Where the first space of a line is.
@@ -94,22 +92,23 @@ fn count_words(parts: Option<&[u8]>, most: usize) -> Option<usize>
 impl<'a> Words<'a> {
     /// Cuts a line at its spaces. The result is `None` exactly if the words are not separated by one space each: if a
     /// word would be empty, also at either end, or if there are more than [`LINE_WORDS`].
+    ///
+    /// The numbers of the line go into the places, whatever was there. A caller who reads many lines lends the same ones
+    /// for each of them.
     #[inline(always)]
-    pub fn split(line: &'a [u8]) -> Option<Words<'a>>
+    pub fn split(line: &'a [u8], places: &'a mut NumberPlaces) -> Option<Words<'a>>
         ensures { result ≡ words_of line.now }
     {
         let (first, behind) = first_part(line);
         if first.is_empty() {
             return None;
         }
-        let mut numbers = [0; LINE_WORDS];
-        let (known, rest) = read_numbers(behind, &mut numbers);
+        let (known, rest) = read_numbers(behind, &mut places.numbers);
         let others = count_words(rest, LINE_WORDS - 1 - known)?;
         Some(Words {
             line,
             count: 1 + known + others,
-            numbers,
-            known,
+            numbers: &places.numbers[..known],
         })
     }
 
@@ -134,10 +133,10 @@ impl<'a> Words<'a> {
         ensures { MatchOption result (list_all is_number (drop 1 self.now)
             ≡ false) (λ numbers. AreCutNumbers (drop 1 self.now) numbers.now) }
     {
-        if self.known + 1 < self.count {
+        if self.numbers.len() + 1 < self.count {
             return None;
         }
-        Some(&self.numbers[..self.known])
+        Some(self.numbers)
     }
 
     /// The word at place `i`, for which the line is gone over up to there.

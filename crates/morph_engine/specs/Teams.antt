@@ -5,7 +5,7 @@ use Rattle.morph_base.specs.Plans.{op_count}
 
 -- A plan has work for one worker for each so many operations
 abbrev pub team_ops : ℕ
-team_ops = 32768
+team_ops = 8192
 
 -- How many of so many workers a plan has work for: at least one
 abbrev pub team_of : Plan → (workers : ℕ) → ℕ

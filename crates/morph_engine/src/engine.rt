@@ -147,7 +147,7 @@ impl Engine {
     /// Runs a plan that was made from the present state: the state becomes the fold of its events.
     ///
     /// There are 1 to [`WORKERS`](morph_base::WORKERS) workers. As many take part as the batch has work for: one for
-    /// each 32,768 operations, and at least one. Under a gate that [needs threads](Gate::needs_threads) all of them do.
+    /// each 8,192 operations, and at least one. Under a gate that [needs threads](Gate::needs_threads) all of them do.
     /// The others have a hand on the board that does nothing, and an empty list of causes.
     ///
     /// Those who take part share a board with a word for each operation. First they explore: they evaluate the

@@ -7,7 +7,7 @@ use morph_base::Plan;
 
 /// For how many operations a batch has one worker. Fewer of them are not worth a thread, however they are explored
 /// ([`steal_explorer::pieces`], [`worker_gate::threads_for`]).
-const TEAM_OPS: usize = 32_768;
+const TEAM_OPS: usize = 8_192;
 
 /// How many of the workers take part in a batch: all of them if they are to work side by side, or else as many as it
 /// has work for.

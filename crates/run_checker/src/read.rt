@@ -3,7 +3,7 @@ ghost use Rattle.run_checker.specs.LineEvents.{kinds, said_by, event_said, Begin
 
 use crate::fault::JournalFault;
 use crate::words::{decided, fetched, op, op_and_small, two_ops};
-use event_reader::Words;
+use event_reader::{NumberPlaces, Words};
 use interleaving_core::CoreEvent;
 use memchr::memchr;
 use morph_base::List;
@@ -58,7 +58,8 @@ fn said_by(letter: u8, words: &Words<'_>) -> Option<CoreEvent>
 fn read_event(line: &[u8]) -> Option<CoreEvent>
     ensures { result ≡ event_said line.now }
 {
-    let words = Words::split(line)?;
+    let mut places = NumberPlaces::new();
+    let words = Words::split(line, &mut places)?;
     let letter = words.letter()?;
     said_by(letter, &words)
 }

@@ -2,7 +2,7 @@
 ghost use Rattle.std.specs.Prelude.{◌≤◌};
 ghost use Rattle.event_reader.specs.Limits.{generated_events, generated_ids};
 
-use event_reader::{Cause, Draws, EventApp, LineFault, MakesInput, Version, Words};
+use event_reader::{Cause, Draws, EventApp, LineFault, MakesInput, NumberPlaces, Version, Words};
 use morph_base::{EventOps, Op};
 use morph_io::LineBuf;
 use std::alloc::Global;
@@ -16,7 +16,8 @@ fn said<A: EventApp>(
     size: u32,
     version: Version,
 ) -> Result<(u64, EventOps), LineFault> {
-    let Some(words) = Words::split(line) else {
+    let mut places = NumberPlaces::new();
+    let Some(words) = Words::split(line, &mut places) else {
         return Err(LineFault::Refused(Cause::Form));
     };
     let mut ops = EventOps::new();

@@ -1,5 +1,5 @@
 use crate::readings::source_of;
-use event_reader::{Draws, LineNext, Lines, Number, ReaderFault, Words, read_number};
+use event_reader::{Draws, LineNext, Lines, Number, NumberPlaces, ReaderFault, Words, read_number};
 use std::test::Fail;
 
 /// Words, and what they say as numbers.
@@ -45,7 +45,7 @@ static WORDS: [(&[u8], Option<usize>); 10] = [
 fn lines_are_cut_at_single_spaces(rt: HostRuntime) {
     for &(line, count) in &WORDS {
         assert_eq!(rt;
-            Words::split(line).map(|words| words.count()),
+            Words::split(line, &mut NumberPlaces::new()).map(|words| words.count()),
             count,
             "at {line:?}"
         );

@@ -32,12 +32,38 @@ impl Patience {
         Patience { looks: LOOKS }
     }
 
+    /// Whether a look is left.
+    pub fn lasts(&self) -> bool {
+        self.looks > 0
+    }
+
     /// Looks at the sources of an operation until all are there, or no look is left. A source is there once it has a
     /// value, or once it is settled if that is asked for.
     ///
     /// Without a look left the call returns at once and loads nothing. It says nothing of what it saw: the caller goes
     /// on either way. Of the runner nothing changes that a contract speaks of.
+    #[inline(always)]
     pub fn await_sources(
+        &mut self,
+        board: &Board,
+        runner: &mut Runner,
+        plan: &Plan,
+        op: u32,
+        settled: bool,
+    )
+        requires may { MayBegin board.now runner.old.hand plan.now op }
+        ensures hand { IsHandOf board.now runner.new.hand }
+        ensures view { hand_view runner.new ≡ hand_view runner.old }
+        ensures answers { runner.new.answers ≡ runner.old.answers }
+        ensures kept { runner.new.kept ≡ runner.old.kept }
+    {
+        if self.lasts() {
+            self.look(board, runner, plan, op, settled);
+        }
+    }
+
+    /// Looks at the sources of an operation until all are there, or no look is left.
+    fn look(
         &mut self,
         board: &Board,
         runner: &mut Runner,

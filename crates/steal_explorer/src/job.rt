@@ -19,7 +19,7 @@ use crate::worker::work;
 use abort_eager::Ground;
 use morph_base::Plan;
 use std::thread::Threads;
-use worker_gate::{Gate, Job, Told, pieces_for, run_all};
+use worker_gate::{Gate, Job, Told, pieces_for, run_all, shareable};
 
 /// The turns of a worker, in the form that all workers share.
 #[derive(Drop)]
@@ -60,17 +60,10 @@ impl<G: Gate> Job<Member> for Working<'_, G> {
 /// alone, and that worker is started once for a batch.
 const HANDED_PIECES: usize = 8;
 
-/// How many operations count at most for each operation of an average level. Workers who find little to do side by side
-/// look into each other's deques in vain.
-const WIDTHS: usize = 64;
-
 /// How many pieces of work it is to explore a plan by deques, for the threads that it is
 /// [worth](worker_gate::threads_for).
 pub fn pieces(plan: &Plan) -> usize {
-    let ops = plan.ops.len();
-    let width = ops / plan.op_levels.len().max(1);
-    ops.min(width.saturating_mul(WIDTHS))
-        .saturating_mul(HANDED_PIECES)
+    shareable(plan.ops.len(), plan.op_levels.len()).saturating_mul(HANDED_PIECES)
 }
 
 /// Has all workers take their turns.

@@ -20,7 +20,9 @@ use abort_eager::Ground;
 use op_eval::{Patience, RunEnd, Runner};
 use op_words::Board;
 use std::thread::Threads;
-use worker_gate::{Gate, Job, Told, Turns, burst_for, is_shared, pieces_for, run_all};
+use worker_gate::{
+    Gate, Job, Told, Turns, burst_for, is_shared, pieces_for, run_all, shareable,
+};
 
 /// How many pieces of work an operation is worth if its worker is started once for all levels.
 const OP_PIECES: usize = 128;
@@ -147,7 +149,8 @@ pub(crate) fn pass_levels<R: Threads + Sync, G: Gate>(
         gate: course.gate,
         workers: runners.len(),
     };
-    let pieces = course.plan.ops.len().saturating_mul(OP_PIECES);
+    let depth = course.plan.op_levels.len();
+    let pieces = shareable(course.plan.ops.len(), depth).saturating_mul(OP_PIECES);
     run_all(rt, runners, pieces_for(course.gate, pieces), &levels);
-    (RunEnd::Whole, course.plan.op_levels.len() as u32)
+    (RunEnd::Whole, depth as u32)
 }

@@ -19,6 +19,9 @@ const LONGEST_BURST: usize = 16;
 /// when the others have nothing.
 const BURSTS_EACH: usize = 8;
 
+/// How many items count at most as work that workers can share, for each item of an average level.
+const WIDTHS: usize = 64;
+
 /// What each of several workers is to do, while the job itself is shared by all of them.
 pub trait Job<W>: Sync {
     /// What a worker has to be before it does the job.
@@ -60,13 +63,22 @@ pub fn is_shared(items: usize) -> bool
 }
 
 /// How many numbers a worker takes from a counter at a time, if this many workers share this many items: an eighth of
-/// each worker's share, at least 1 and at most 16. No workers count as one.
+/// each worker's share, at least 1 and at most 16. A worker who is alone takes 16, since nobody waits for what it takes.
 pub fn burst_for(workers: usize, items: usize) -> usize
     ensures some { 1 ≤ result }
     ensures most { result ≤ 16 }
 {
-    let share = items / workers.max(1);
-    (share / BURSTS_EACH).clamp(1, LONGEST_BURST)
+    if workers <= 1 {
+        return LONGEST_BURST;
+    }
+    (items / workers / BURSTS_EACH).clamp(1, LONGEST_BURST)
+}
+
+/// How many of these items, which lie on so many levels, count as work that workers can share: all of them, or 64 for
+/// each item of an average level. Where levels are narrow, workers who share them mostly wait for each other.
+pub fn shareable(items: usize, levels: usize) -> usize {
+    let width = items / levels.max(1);
+    items.min(width.saturating_mul(WIDTHS))
 }
 
 /// Has each worker do the job, which has this many pieces of work for all of them together.

@@ -22,6 +22,8 @@ mod turns;
 
 pub use gate::{FreeGate, Gate};
 pub use hold_gate::HoldGate;
-pub use job::{Job, burst_for, is_shared, pieces_for, run_all, run_few_or_all, threads_for};
+pub use job::{
+    Job, burst_for, is_shared, pieces_for, run_all, run_few_or_all, shareable, threads_for,
+};
 pub use meet_gate::MeetGate;
 pub use turns::{Told, Turns, Untold};

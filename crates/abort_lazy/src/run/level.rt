@@ -31,6 +31,9 @@ fn await_event(board: &Board, runner: &mut Runner, plan: &Plan, event: u32, pati
     ensures answers { runner.new.answers ≡ runner.old.answers }
     ensures kept { runner.new.kept ≡ runner.old.kept }
 {
+    if !patience.lasts() {
+        return;
+    }
     let (first, end) = (first_of(plan, event), end_of(plan, event));
     for op in first..end {
         patience.await_sources(board, runner, plan, op, true);

@@ -13,7 +13,7 @@ use morph_base::Plan;
 use op_eval::{Patience, Runner};
 use op_words::Board;
 use std::thread::Threads;
-use worker_gate::{Job, burst_for, is_shared, run_all};
+use worker_gate::{Job, burst_for, is_shared, run_all, shareable};
 
 /// How many pieces of work trying one event is, by which threads are worth it: one for each 1,024 events.
 const EVENT_PIECES: usize = 256;
@@ -112,6 +112,7 @@ pub fn go_over_by<T: Threads + Sync>(rt: &T, runners: &mut [Runner], levels: &Le
         (length levels.now.plan.now.event_levels.items) (slice_index_or runners.old k d)
         (slice_index_or runners.new k d) }
 {
-    let pieces = EVENT_PIECES * levels.plan.events.len();
-    run_all(rt, runners, pieces, levels);
+    let plan = levels.plan;
+    let events = shareable(plan.events.len(), plan.event_levels.len());
+    run_all(rt, runners, events.saturating_mul(EVENT_PIECES), levels);
 }

@@ -1,7 +1,7 @@
 use Rattle.std.proofs.Common.{◌≡◌}
 use Rattle.op_words.specs.Hands.{IsHandOf}
 use Rattle.op_eval.specs.Running.{hand_view}
-use Rattle.op_eval.proofs.patience.Patience.await_sources.Given as goal
+use Rattle.op_eval.proofs.patience.Patience.look.Given as goal
 
 abbrev pub invariant-loop-self : goal.invariant-loop-self
 invariant-loop-self l =

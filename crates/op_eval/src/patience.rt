@@ -63,14 +63,7 @@ impl Patience {
     }
 
     /// Looks at the sources of an operation until all are there, or no look is left.
-    fn look(
-        &mut self,
-        board: &Board,
-        runner: &mut Runner,
-        plan: &Plan,
-        op: u32,
-        settled: bool,
-    )
+    fn look(&mut self, board: &Board, runner: &mut Runner, plan: &Plan, op: u32, settled: bool)
         requires may { MayBegin board.now runner.old.hand plan.now op }
         ensures hand { IsHandOf board.now runner.new.hand }
         ensures view { hand_view runner.new ≡ hand_view runner.old }

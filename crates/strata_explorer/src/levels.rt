@@ -17,15 +17,19 @@ ghost use Rattle.strata_explorer.specs.Passes.{course_rules};
 use crate::course::Course;
 use crate::walk::work;
 use abort_eager::Ground;
+use morph_base::Plan;
 use op_eval::{Patience, RunEnd, Runner};
 use op_words::Board;
 use std::thread::Threads;
-use worker_gate::{
-    Gate, Job, Told, Turns, burst_for, is_shared, pieces_for, run_all, shareable,
-};
+use worker_gate::{Gate, Job, Told, Turns, burst_for, is_shared, pieces_for, run_all, shareable};
 
 /// How many pieces of work an operation is worth if its worker is started once for all levels.
 const OP_PIECES: usize = 128;
+
+/// How many pieces of work it is to explore a plan, if workers are started once for all levels.
+fn pieces(plan: &Plan) -> usize {
+    shareable(plan.ops.len(), plan.op_levels.len()).saturating_mul(OP_PIECES)
+}
 
 /// What workers share if each of them goes over all levels of the plan.
 #[derive(Drop)]
@@ -149,8 +153,7 @@ pub(crate) fn pass_levels<R: Threads + Sync, G: Gate>(
         gate: course.gate,
         workers: runners.len(),
     };
-    let depth = course.plan.op_levels.len();
-    let pieces = shareable(course.plan.ops.len(), depth).saturating_mul(OP_PIECES);
-    run_all(rt, runners, pieces_for(course.gate, pieces), &levels);
-    (RunEnd::Whole, depth as u32)
+    let pieces = pieces_for(course.gate, pieces(course.plan));
+    run_all(rt, runners, pieces, &levels);
+    (RunEnd::Whole, course.plan.op_levels.len() as u32)
 }

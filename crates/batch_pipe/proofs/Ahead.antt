@@ -1,6 +1,6 @@
 -- Plans that are sent one after another.
-use Rattle.std.proofs.Common.{◌≡◌, ℕ, ◌+◌, ◌<◌, zero-lt-suc, Bool, true, false, List, [], ◌∷◌, ◌++◌, length, Some, None, refl, ap, sym, subst, ◌∙◌, arith, append-nil, append_assoc}
-use Rattle.std.specs.Prelude.{All}
+use Rattle.std.proofs.Common.{◌≡◌, ℕ, ◌+◌, ◌<◌, zero-lt-suc, Bool, true, false, List, [], ◌∷◌, ◌++◌, length, Option, Some, None, refl, ap, sym, subst, ◌∙◌, arith, append-nil, append_assoc}
+use Rattle.std.specs.Prelude.{All, IfSome}
 use Rattle.std.proofs.lemmas.List.{length-append, map-append}
 use Rattle.std.proofs.lemmas.List.Elements.{All-nil, All-push}
 use Rattle.morph_base.specs.declared.key.Layout.{Layout}
@@ -13,8 +13,8 @@ use Rattle.batch_pipe.specs.declared.tail.Tail.{Tail}
 use Rattle.rtrb.specs.declared.producer.Producer.{Producer}
 use Rattle.rtrb.specs.declared.consumer.Consumer.{Consumer}
 use Rattle.rtrb.specs.Ring.{SameProducer, SameConsumer}
-use Rattle.batch_pipe.specs.GivenBatches.{Stand}
 use Rattle.batch_pipe.specs.PlannedBatches.{Bench, IsReadyPlan, AreNumbered, Plans, PlansAhead, StopsWithTail, layout_by, plans_of}
+use Rattle.batch_pipe.specs.PlanRuns.{one_or_none}
 use Rattle.batch_pipe.proofs.GivenBatches.{plans_nothing, plans_both, plans_stop}
 
 pub numbered-append : (n : ℕ) (xs ys : List Sent) → AreNumbered n xs → AreNumbered (n + length xs) ys → AreNumbered n (xs ++ ys)
@@ -23,6 +23,28 @@ numbered-append n [] ys p q = (let z : n + 0 ≡ n = omega arith in subst (λ m.
 numbered-append n (x ∷ xs) ys p q =
     let on : n + length (x ∷ xs) ≡ n + 1 + length xs = omega arith in
     (p.0, numbered-append (n + 1) xs ys p.1 (subst (λ m. AreNumbered m ys) on q))
+
+pub numbered-front : (n : ℕ) (xs ys : List Sent) → AreNumbered n (xs ++ ys) → AreNumbered n xs
+unfolding AreNumbered
+numbered-front n [] ys p = tt
+numbered-front n (x ∷ xs) ys p = (p.0, numbered-front (n + 1) xs ys p.1)
+
+pub numbered-back : (n : ℕ) (xs ys : List Sent) → AreNumbered n (xs ++ ys) → AreNumbered (n + length xs) ys
+unfolding AreNumbered
+numbered-back n [] ys p = (let z : n ≡ n + 0 = omega arith in subst (λ m. AreNumbered m ys) z p)
+numbered-back n (x ∷ xs) ys p =
+    let on : n + 1 + length xs ≡ n + length (x ∷ xs) = omega arith in
+    subst (λ m. AreNumbered m ys) on (numbered-back (n + 1) xs ys p.1)
+
+-- the number of what is behind others
+pub numbered-next : (n : ℕ) (xs : List Sent) (x : Sent) (ys : List Sent) → AreNumbered n (xs ++ x ∷ ys) → x.number ≡ n + length xs + 1
+unfolding AreNumbered
+numbered-next n xs x ys p = (numbered-back n xs (x ∷ ys) p).0
+
+pub numbered-first : (n : ℕ) (first : Option Sent) (ys : List Sent) → AreNumbered n (one_or_none first ++ ys) → IfSome first (λ x. x.number ≡ n + 1)
+unfolding AreNumbered
+numbered-first n None ys p = tt
+numbered-first n (Some x) ys p = p.0
 
 pub numbered-one : (n : ℕ) (x : Sent) → x.number ≡ n + 1 → AreNumbered n (x ∷ [])
 unfolding AreNumbered

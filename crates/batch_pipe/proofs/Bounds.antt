@@ -4,7 +4,7 @@ use Rattle.std.proofs.lemmas.List.Elements.{All-head, All-tail}
 use Rattle.morph_base.specs.declared.key.Layout.{Layout}
 use Rattle.morph_base.specs.declared.plan.Plan.{Plan}
 use Rattle.morph_base.specs.Flat.{Kept, contents}
-use Rattle.morph_base.specs.Plans.{PlanKeysIn, high_of, transactions}
+use Rattle.morph_base.specs.Plans.{PlanKeysIn, transactions}
 use Rattle.morph_base.specs.States.{State, IsUpTo, after_all}
 use Rattle.morph_base.proofs.BoundLaws.{after_all-within, transactions_within}
 use Rattle.batch_pipe.specs.declared.items.Sent.{Sent}

@@ -1,5 +1,5 @@
 -- Rounds one after another, from a new pipe on.
-use Rattle.std.proofs.Common.{◌≡◌, ◌⊎◌, inl, inr, ℕ, ◌+◌, ◌<◌, ◌≤◌, List, [], ◌∷◌, ◌++◌, length, map, Option, Some, None, refl, ap, sym, subst, ◌∙◌, arith, append-nil, append_assoc}
+use Rattle.std.proofs.Common.{◌≡◌, ◌⊎◌, inl, inr, Bool, ℕ, ◌+◌, ◌<◌, ◌≤◌, List, [], ◌∷◌, ◌++◌, length, map, Option, Some, None, refl, ap, sym, subst, ◌∙◌, arith, append-nil, append_assoc}
 use Rattle.std.specs.Prelude.{IsSome, IfSome, option_map, ◌≢◌}
 use Rattle.std.proofs.lemmas.List.{length-append, map-append}
 use Rattle.std.proofs.Math.ListN.{length-map}
@@ -19,17 +19,17 @@ use Rattle.decision_model.specs.declared.counts.Last.{Last}
 use Rattle.batch_pipe.specs.declared.items.Sent.{Sent}
 use Rattle.batch_pipe.specs.declared.items.Ran.{Ran}
 use Rattle.batch_pipe.specs.declared.tail.Tail.{Tail}
-use Rattle.batch_pipe.specs.declared.tail.Tail.TheVariants.{End, Refused, Fault, RunMemory}
+use Rattle.batch_pipe.specs.declared.tail.Tail.TheVariants.{End, Refused, Fault, RunMemory, Untold}
 use Rattle.batch_pipe.specs.GivenBatches.{Stand, stand, with_batches}
 use Rattle.batch_pipe.specs.PlannedBatches.{Plans, StopsWithTail, MayStop, ArePlansOf, AreNumbered, answer_of, plans_of}
 use Rattle.batch_pipe.specs.PlanRuns.{Manner, AreRun, state_after, last_after}
 use Rattle.decision_model.specs.Choices.{no_last}
-use Rattle.batch_pipe.specs.PipeRounds.{PipeView, IsRound, IsGoing, new_pipe, number_before, or_else}
+use Rattle.batch_pipe.specs.PipeRounds.{PipeView, IsRound, IsGoing, IsUncut, new_pipe, number_before, or_else}
 use Rattle.batch_pipe.specs.Courses.{pipe_point, pipe_start, IsCourse, ending_of}
-use Rattle.batch_pipe.proofs.Ahead.{numbered-append}
+use Rattle.batch_pipe.proofs.Ahead.{numbered-append, numbered-back}
 use Rattle.batch_pipe.proofs.GivenBatches.{plans_nothing, plans_both}
 use Rattle.batch_pipe.proofs.Desks.{state_after-append, last_after-append, AreRun-append, empty_is}
-use Rattle.batch_pipe.proofs.Rounds.{by_both, zero_or, numbered-back, takes_going}
+use Rattle.batch_pipe.proofs.Rounds.{by_both, zero_or, not_refused, takes_going}
 
 some_same : {T : Type 0} (x y : T) → Some x ≡ Some y → x ≡ y
 some_same x y e = cc
@@ -69,34 +69,10 @@ module _ {App : Type 0} (event_of : App → ℕ → Meaning) (m : Manner) where
     few_going = λ going. omega arith;
   }
 
-  -- what was taken out changes nothing else
-  pub course_taken : {reader : ReaderView App} {engine : Kept} {left left' : Option (List ℕ)} {rounds : ℕ} {rans : List Ran} {b c : PipeView App} →
-      IsCourse event_of m (pipe_start reader engine left) rounds rans (pipe_point b left') → c ≡ record b { rans = c.rans } → IsCourse event_of m (pipe_start reader engine left) rounds rans (pipe_point c left')
-  course_taken {reader} {engine} {left} {left'} {rounds} {rans} {b} {c} p same =
-      subst (λ (v : PipeView App). IsCourse event_of m (pipe_start reader engine left) rounds rans (pipe_point v left')) (sym same) record {
-        more = p.more;
-        stop = p.stop;
-        plans = p.plans;
-        runs = p.runs;
-        lost = p.lost;
-        parts = p.parts;
-        run = p.run;
-        state_is = p.state_is;
-        last_is = p.last_is;
-        sent_is = p.sent_is;
-        numbered = p.numbered;
-        layout = p.layout;
-        whole = p.whole;
-        met = p.met;
-        tail_is = p.tail_is;
-        few = p.few;
-        few_going = p.few_going;
-      }
-
-  pub course_round : {reader : ReaderView App} {engine : Kept} {left left1 left2 : Option (List ℕ)} {rounds : ℕ} {rans : List Ran} {b c : PipeView App} →
-      IsCourse event_of m (pipe_start reader engine left) rounds rans (pipe_point b left1) → IsGoing b → IsRound event_of m b left1 c left2 →
-      IsCourse event_of m (pipe_start reader engine left) (rounds + 1) (rans ++ c.rans) (pipe_point c left2)
-  course_round {reader} {engine} {left} {left1} {left2} {rounds} {rans} {b} {c} p going q = record {
+  pub course_round : {Teller : Type 0} {takes : Teller → Ran → Bool → Teller → Type 0} {teller teller' : Teller} {reader : ReaderView App} {engine : Kept} {left left1 left2 : Option (List ℕ)} {rounds : ℕ}
+      {rans : List Ran} {b c : PipeView App} → IsCourse event_of m (pipe_start reader engine left) rounds rans (pipe_point b left1) → IsGoing b →
+      (q : IsRound event_of takes m b left1 teller c left2 teller') → IsCourse event_of m (pipe_start reader engine left) (rounds + 1) (rans ++ q.rans) (pipe_point c left2)
+  course_round {Teller} {takes} {teller} {teller'} {reader} {engine} {left} {left1} {left2} {rounds} {rans} {b} {c} p going q = record {
     more = p.more ++ q.more;
     stop = or_else p.stop q.stop;
     plans = plans_are b.tail refl;
@@ -110,27 +86,27 @@ module _ {App : Type 0} (event_of : App → ℕ → Meaning) (m : Manner) where
         ∙ ap (λ l. p.runs ++ l) q.parts
         ∙ sym (append_assoc p.runs (q.runs ++ q.lost) c.waiting)
         ∙ ap (λ l. l ++ c.waiting) (sym (append_assoc p.runs q.runs q.lost));
-    run = AreRun-append m (contents engine) no_last p.runs q.runs rans c.rans p.run
-        (subst (λ (s : State). AreRun m s (last_after no_last rans) q.runs c.rans) p.state_is (subst (λ (l : Last). AreRun m (contents b.engine) l q.runs c.rans) p.last_is q.run));
+    run = AreRun-append m (contents engine) no_last p.runs q.runs rans q.rans p.run
+        (subst (λ (s : State). AreRun m s (last_after no_last rans) q.runs q.rans) p.state_is (subst (λ (l : Last). AreRun m (contents b.engine) l q.runs q.rans) p.last_is q.run));
     state_is = q.state_is ∙ ap (λ s. state_after s q.runs) p.state_is ∙ sym (state_after-append (contents engine) p.runs q.runs);
-    last_is = q.last_is ∙ ap (λ l. last_after l c.rans) p.last_is ∙ sym (last_after-append no_last rans c.rans);
+    last_is = q.last_is ∙ ap (λ l. last_after l q.rans) p.last_is ∙ sym (last_after-append no_last rans q.rans);
     sent_is = (let l = length-append p.more q.more in omega (arith, l, p.sent_is, q.sent_is));
     numbered = numbered-append 0 p.more q.more p.numbered (subst (λ n. AreNumbered n q.more) at (numbered-back (number_before b) b.waiting q.more q.numbered));
     layout = q.layout ∙ p.layout;
     whole = λ fine. lost_none fine (zero_or (length q.lost));
     met = λ no_tail. (let o = open_all no_tail (zero_or (length q.lost)) in ap (λ s. or_else s q.stop) (p.met o.0) ∙ o.1);
-    tail_is = λ fine. q.met (lost_none fine (zero_or (length q.lost))) ∙ ap (λ t. or_else t q.stop) (p.tail_is going.1);
+    tail_is = λ fine. q.met (lost_none fine.0 (zero_or (length q.lost))) fine.1 ∙ ap (λ t. or_else t q.stop) (p.tail_is going.1);
     few = (let l = length-append p.runs q.runs in let f = p.few_going going in omega (arith, l, f));
     few_going = λ after.
         let l = length-append p.runs q.runs in
         let f = p.few_going going in
-        let z = ap length (lost_none after.1 (zero_or (length q.lost))) in
+        let z = ap length (lost_none after.1.0 (zero_or (length q.lost))) in
         let takes = takes_going q going after in
         omega (arith, l, f, z, takes);
   }
     where
       none : p.lost ≡ []
-      none = p.whole going.1
+      none = p.whole going.1.0
 
       at : number_before b + length b.waiting ≡ 0 + length p.more
       at =
@@ -143,7 +119,7 @@ module _ {App : Type 0} (event_of : App → ℕ → Meaning) (m : Manner) where
       lost_none fine (inr lt) = absurd (fine (q.refused (λ nothing. (let l = ap length nothing in omega (arith, l, lt)))).1)
 
       open_all : c.tail ≡ None → (length q.lost ≡ 0) ⊎ (0 < length q.lost) → (b.tail ≡ None) × (q.stop ≡ None)
-      open_all e (inl z) = by_both b.tail q.stop (sym (q.met (empty_is q.lost z)) ∙ e)
+      open_all e (inl z) = by_both b.tail q.stop (sym (q.met (empty_is q.lost z) (not_refused c.tail e)) ∙ e)
       open_all e (inr lt) = absurd (let r = (q.refused (λ nothing. (let l = ap length nothing in omega (arith, l, lt)))).1 in cc)
 
       made : (ps qs : List Sent) → plans_of (ps ++ qs) ≡ plans_of ps ++ plans_of qs
@@ -171,15 +147,15 @@ module _ {App : Type 0} (event_of : App → ℕ → Meaning) (m : Manner) where
 
   module _ {reader : ReaderView App} {engine : Kept} {left left' : Option (List ℕ)} {rounds : ℕ} {rans : List Ran} {b : PipeView App}
       (p : IsCourse event_of m (pipe_start reader engine left) rounds rans (pipe_point b left')) where
-    -- once the pipe isn't going, and no run was refused memory, all plans that were sent were run
-    pub course_whole : (IsGoing b → ⊥) → b.tail ≢ Some RunMemory → (p.runs ≡ p.more) × (b.waiting ≡ [])
+    -- once the pipe isn't going, and the runs were not cut off, all plans that were sent were run
+    pub course_whole : (IsGoing b → ⊥) → IsUncut b.tail → (p.runs ≡ p.more) × (b.waiting ≡ [])
     course_whole done fine = by (zero_or (length b.waiting))
       where
         by : (length b.waiting ≡ 0) ⊎ (0 < length b.waiting) → (p.runs ≡ p.more) × (b.waiting ≡ [])
         by (inr lt) = absurd (done (inr (λ none. (let l = ap length none in omega (arith, l, lt))), fine))
         by (inl z) =
             let none : b.waiting ≡ [] = empty_is b.waiting z in (
-              sym (append-nil p.runs) ∙ ap (λ l. p.runs ++ l) (sym (p.whole fine)) ∙ sym (append-nil (p.runs ++ p.lost)) ∙ ap (λ l. (p.runs ++ p.lost) ++ l) (sym none) ∙ sym p.parts,
+              sym (append-nil p.runs) ∙ ap (λ l. p.runs ++ l) (sym (p.whole fine.0)) ∙ sym (append-nil (p.runs ++ p.lost)) ∙ ap (λ l. (p.runs ++ p.lost) ++ l) (sym none) ∙ sym p.parts,
               none,
             )
 
@@ -216,6 +192,7 @@ module _ {App : Type 0} (event_of : App → ℕ → Meaning) (m : Manner) where
         answered (Fault ReadFault) n after e h = absurd (cc)
         answered (Fault OutOfMemory) n after e h = absurd (cc)
         answered RunMemory n after e h = absurd (cc)
+        answered Untold n after e h = absurd (cc)
 
         at : (o n : Option Accepted) → o ≡ option_map (with_batches p.plans.batches) n → IfSome n (λ all. all ≡ record { batches = []; ending = ending }) →
             IfSome o (λ all. (all.ending ≡ ending) × (all.batches ≡ p.plans.batches))

@@ -1,14 +1,17 @@
--- Plans that are run one after another, and the places for what comes of them.
-use Rattle.std.proofs.Common.{◌≡◌, ℕ, zero, suc, ◌+◌, ◌<◌, List, [], ◌∷◌, ◌++◌, length, take, drop, replicate, Option, Some, None, refl, ap, sym, subst, ◌∙◌, arith, append-nil, append_assoc}
-use Rattle.std.specs.Prelude.{All, slice_set, slice_index_or}
-use Rattle.std.proofs.lemmas.List.{length-append, length-set}
+-- Plans that are run one after another, and what a teller does with the results.
+use Rattle.std.proofs.Common.{◌≡◌, ℕ, ◌+◌, Bool, true, false, List, [], ◌∷◌, ◌++◌, length, refl, ap, sym, subst, ◌∙◌, arith, append-nil, append_assoc}
+use Rattle.std.specs.Prelude.{All}
 use Rattle.std.proofs.lemmas.List.Elements.{All-tail}
 use Rattle.morph_base.specs.States.{State, after_all}
 use Rattle.morph_base.specs.Plans.{transactions}
 use Rattle.decision_model.specs.declared.counts.Last.{Last}
 use Rattle.batch_pipe.specs.declared.items.Sent.{Sent}
 use Rattle.batch_pipe.specs.declared.items.Ran.{Ran}
-use Rattle.batch_pipe.specs.PlanRuns.{Manner, AreRun, IsSentRun, state_after, last_after, came_of, somes, Desk, Runs}
+use Rattle.batch_pipe.specs.declared.runner.RunEnd.{RunEnd}
+use Rattle.batch_pipe.specs.declared.runner.RunEnd.TheVariants.{Whole, NoMemory, Untold}
+use Rattle.batch_pipe.specs.PlannedBatches.{AreNumbered}
+use Rattle.batch_pipe.specs.Results.{IsResult, AreTaken, AreTold}
+use Rattle.batch_pipe.specs.PlanRuns.{Manner, AreRun, IsSentRun, state_after, last_after, came_of, Desk, Runs, RunsPlans, is_told}
 
 pub state_after-append : (s : State) (xs ys : List Sent) → state_after s (xs ++ ys) ≡ state_after (state_after s xs) ys
 unfolding state_after
@@ -28,123 +31,105 @@ AreRun-append m s last [] ys (r ∷ rs) qs p q = absurd p
 AreRun-append m s last (x ∷ xs) ys [] qs p q = absurd p
 AreRun-append m s last (x ∷ xs) ys (r ∷ rs) qs p q = (p.0, AreRun-append m (after_all s (transactions x.plan)) (came_of r) xs ys rs qs p.1 q)
 
-pub somes_set : {T : Type 0} (xs : List (Option T)) (i : ℕ) (x : T) → i < length xs → somes (drop i xs) ≡ [] → somes (slice_set xs i (Some x)) ≡ somes xs ++ x ∷ []
-unfolding somes
-somes_set [] i x lt free = absurd (omega arith)
-somes_set (None ∷ xs) zero x lt free = ap (λ l. x ∷ l) free ∙ ap (λ l. l ++ x ∷ []) (sym free)
-somes_set (Some y ∷ xs) zero x lt free = absurd (cc)
-somes_set (None ∷ xs) (suc i) x lt free = somes_set xs i x (omega arith) free
-somes_set (Some y ∷ xs) (suc i) x lt free = ap (λ l. y ∷ l) (somes_set xs i x (omega arith) free)
+pub empty_is : {T : Type 0} (xs : List T) → length xs ≡ 0 → xs ≡ []
+empty_is [] e = refl
+empty_is (x ∷ xs) e = absurd (omega arith)
 
-pub free_set : {T : Type 0} (xs : List (Option T)) (i : ℕ) (x : T) → i < length xs → somes (drop i xs) ≡ [] → somes (drop (suc i) (slice_set xs i (Some x))) ≡ []
-unfolding somes
-free_set [] i x lt free = absurd (omega arith)
-free_set (None ∷ xs) zero x lt free = free
-free_set (Some y ∷ xs) zero x lt free = absurd (cc)
-free_set (y ∷ xs) (suc i) x lt free = free_set xs i x (omega arith) free
+-- a result that a plan was run to is one by itself
+pub is_result : {m : Manner} {s : State} {last : Last} {x : Sent} {r : Ran} → IsSentRun m s last x r → IsResult r
+is_result {m} run = record { workers = m.workers; valid = run.valid; settled = run.settled; account = run.account }
 
-pub somes_blank : {T : Type 0} (xs : List (Option T)) (i : ℕ) → slice_index_or xs i None ≡ None → somes (slice_set xs i None) ≡ somes xs
-unfolding somes
-somes_blank [] i e = refl
-somes_blank (None ∷ xs) zero e = refl
-somes_blank (Some y ∷ xs) zero e = absurd (cc)
-somes_blank (None ∷ xs) (suc i) e = somes_blank xs i e
-somes_blank (Some y ∷ xs) (suc i) e = ap (λ l. y ∷ l) (somes_blank xs i e)
+module _ {Teller : Type 0} (takes : Teller → Ran → Bool → Teller → Type 0) where
+  pub AreTaken-append : (rs qs : List Ran) (a b c : Teller) → AreTaken takes a rs b → AreTaken takes b qs c → AreTaken takes a (rs ++ qs) c
+  unfolding AreTaken
+  AreTaken-append [] qs a b c p q = subst (λ t. AreTaken takes t qs c) p q
+  AreTaken-append (r ∷ rs) qs a b c p q = (p.0, p.1, AreTaken-append rs qs p.0 b c p.2 q)
 
-pub front_blank : {T : Type 0} (xs : List (Option T)) (i : ℕ) → somes (take i xs) ≡ [] → slice_index_or xs i None ≡ None → somes (take (suc i) (slice_set xs i None)) ≡ []
-unfolding somes
-front_blank [] i none e = refl
-front_blank (None ∷ xs) zero none e = refl
-front_blank (Some y ∷ xs) zero none e = absurd (cc)
-front_blank (None ∷ xs) (suc i) none e = front_blank xs i none e
-front_blank (Some y ∷ xs) (suc i) none e = absurd (cc)
-
-pub first_some : {T : Type 0} (xs : List (Option T)) (i : ℕ) (x : T) → somes (take i xs) ≡ [] → slice_index_or xs i None ≡ Some x → somes xs ≡ x ∷ somes (slice_set xs i None)
-unfolding somes
-first_some [] i x none e = absurd (cc)
-first_some (None ∷ xs) zero x none e = absurd (cc)
-first_some (Some y ∷ xs) zero x none e = cc
-first_some (None ∷ xs) (suc i) x none e = first_some xs i x none e
-first_some (Some y ∷ xs) (suc i) x none e = absurd (cc)
-
-pub somes_none : {T : Type 0} (n : ℕ) → somes {T = T} (replicate n None) ≡ []
-unfolding somes
-somes_none zero = refl
-somes_none (suc n) = somes_none n
-
-module _ (m : Manner) where
-  pub runs_nothing : (a : Desk) → somes (drop a.next a.places) ≡ [] → Runs m a [] a
-  unfolding AreRun state_after last_after
-  runs_nothing a free = record {
-    rans = [];
-    run = tt;
-    state_is = refl;
-    last_is = refl;
-    places_are = sym (append-nil (somes a.places));
-    free = free;
-    next_is = omega arith;
-    many = refl;
+  pub AreTold-append : (rs qs : List Ran) (all : Bool) (a b c : Teller) → AreTaken takes a rs b → AreTold takes b qs all c → AreTold takes a (rs ++ qs) all c
+  AreTold-append rs qs true a b c p q = AreTaken-append rs qs a b c p q
+  AreTold-append rs qs false a b c p q = record {
+    taken = rs ++ q.taken;
+    last = q.last;
+    between = q.between;
+    parts = ap (λ l. rs ++ l) q.parts ∙ sym (append_assoc rs q.taken (q.last ∷ []));
+    before = AreTaken-append rs q.taken a b q.between p q.before;
+    refused = q.refused;
   }
 
-  pub runs_one : (a b : Desk) (x : Sent) (r : Ran) → somes (drop a.next a.places) ≡ [] → a.next < length a.places → IsSentRun m a.state a.last x r →
-      b.state ≡ after_all a.state (transactions x.plan) → b.last ≡ came_of r → b.places ≡ slice_set a.places a.next (Some r) → b.next ≡ a.next + 1 → Runs m a (x ∷ []) b
-  unfolding AreRun state_after last_after
-  runs_one a b x r free lt run state last places next = record {
-    rans = r ∷ [];
-    run = (run, tt);
-    state_is = state;
-    last_is = last;
-    places_are = ap somes places ∙ somes_set a.places a.next r lt free;
-    free = (let on : b.next ≡ suc a.next = omega (arith, next) in ap (λ n. somes (drop n b.places)) on ∙ ap (λ l. somes (drop (suc a.next) l)) places ∙ free_set a.places a.next r lt free);
-    next_is = omega (arith, next);
-    many = ap length places ∙ length-set a.places a.next (Some r);
-  }
+  pub told_one : (a b : Teller) (r : Ran) (all : Bool) → takes a r all b → AreTold takes a (r ∷ []) all b
+  unfolding AreTaken
+  told_one a b r true p = (b, p, refl)
+  told_one a b r false p = record { taken = []; last = r; between = a; parts = refl; before = refl; refused = p }
 
-  pub runs_both : {a b c : Desk} (xs ys : List Sent) → Runs m a xs b → Runs m b ys c → Runs m a (xs ++ ys) c
-  runs_both {a} {b} {c} xs ys p q = record {
-    rans = p.rans ++ q.rans;
-    run = AreRun-append m a.state a.last xs ys p.rans q.rans p.run
-        (subst (λ (s : State). AreRun m s (last_after a.last p.rans) ys q.rans) p.state_is (subst (λ (l : Last). AreRun m b.state l ys q.rans) p.last_is q.run));
-    state_is = q.state_is ∙ ap (λ s. state_after s ys) p.state_is ∙ sym (state_after-append a.state xs ys);
-    last_is = q.last_is ∙ ap (λ l. last_after l q.rans) p.last_is ∙ sym (last_after-append a.last p.rans q.rans);
-    places_are = q.places_are ∙ ap (λ l. l ++ q.rans) p.places_are ∙ append_assoc (somes a.places) p.rans q.rans;
-    free = q.free;
-    next_is = let l = length-append xs ys in let m = p.next_is in let n = q.next_is in omega (arith, l, m, n);
-    many = q.many ∙ p.many;
-  }
+  -- after results were taken, that of the next number can be taken
+  pub can_go_on : (m : Manner) (can_take : Teller → ℕ → Type 0)
+      (goes_on : (old new : Teller) (ran : Ran) → can_take old ran.number → IsResult ran → takes old ran true new → can_take new (ran.number + 1))
+      (s : State) (last : Last) (n : ℕ) (xs : List Sent) (rs : List Ran) (a b : Teller) → AreRun m s last xs rs → AreNumbered n xs → AreTaken takes a rs b →
+      can_take a (n + 1) → can_take b (n + length xs + 1)
+  unfolding AreRun AreNumbered AreTaken
+  can_go_on m can_take goes_on s last n [] [] a b run numbered taken can =
+      let none : List Sent = [] in
+      let same : n + 1 ≡ n + length none + 1 = omega arith in
+      subst (λ t. can_take t (n + length none + 1)) (sym taken) (subst (can_take a) same can)
+  can_go_on m can_take goes_on s last n [] (r ∷ rs) a b run numbered taken can = absurd run
+  can_go_on m can_take goes_on s last n (x ∷ xs) [] a b run numbered taken can = absurd run
+  can_go_on m can_take goes_on s last n (x ∷ xs) (r ∷ rs) a b run numbered taken can =
+      let number : r.number ≡ n + 1 = run.0.number ∙ numbered.0 in
+      let next : can_take taken.0 (r.number + 1) = goes_on a taken.0 r (subst (can_take a) (sym number) can) (is_result run.0) taken.1 in
+      let on : n + 1 + length xs + 1 ≡ n + length (x ∷ xs) + 1 = omega arith in
+      subst (can_take b) on
+      (can_go_on m can_take goes_on (after_all s (transactions x.plan)) (came_of r) (n + 1) xs rs taken.0 b run.1 numbered.1 taken.2
+      (subst (λ k. can_take taken.0 (k + 1)) number next))
 
-  -- nothing was run
-  pub runs_stay : (a b : Desk) → somes (drop a.next a.places) ≡ [] → b.state ≡ a.state → b.last ≡ a.last → b.places ≡ a.places → b.next ≡ a.next → Runs m a [] b
-  unfolding AreRun state_after last_after
-  runs_stay a b free state last places next = record {
-    rans = [];
-    run = tt;
-    state_is = state;
-    last_is = last;
-    places_are = ap somes places ∙ sym (append-nil (somes a.places));
-    free = ap (λ n. somes (drop n b.places)) next ∙ ap (λ l. somes (drop a.next l)) places ∙ free;
-    next_is = omega (arith, next);
-    many = ap length places;
-  }
+  module _ (m : Manner) where
+    pub runs_nothing : (a : Desk Teller) → Runs takes m a [] true a
+    unfolding AreRun AreTaken state_after last_after
+    runs_nothing a = record { rans = []; run = tt; told = refl; state_is = refl; last_is = refl }
 
-  -- what comes after is the same
-  pub runs_as : {a b : Desk} (c : Desk) (xs : List Sent) → Runs m a xs b → c.state ≡ b.state → c.last ≡ b.last → c.places ≡ b.places → c.next ≡ b.next → Runs m a xs c
-  runs_as {a} {b} c xs p state last places next = record {
-    rans = p.rans;
-    run = p.run;
-    state_is = state ∙ p.state_is;
-    last_is = last ∙ p.last_is;
-    places_are = ap somes places ∙ p.places_are;
-    free = ap (λ n. somes (drop n c.places)) next ∙ ap (λ l. somes (drop b.next l)) places ∙ p.free;
-    next_is = omega (arith, next, p.next_is);
-    many = ap length places ∙ p.many;
-  }
+    pub runs_one : (a b : Desk Teller) (x : Sent) (r : Ran) (all : Bool) → IsSentRun m a.state a.last x r → takes a.teller r all b.teller →
+        b.state ≡ after_all a.state (transactions x.plan) → b.last ≡ came_of r → Runs takes m a (x ∷ []) all b
+    unfolding AreRun state_after last_after
+    runs_one a b x r all run told state last = record { rans = r ∷ []; run = (run, tt); told = told_one a.teller b.teller r all told; state_is = state; last_is = last }
+
+    pub runs_both : {a b c : Desk Teller} (xs ys : List Sent) (all : Bool) → Runs takes m a xs true b → Runs takes m b ys all c → Runs takes m a (xs ++ ys) all c
+    runs_both {a} {b} {c} xs ys all p q = record {
+      rans = p.rans ++ q.rans;
+      run = AreRun-append m a.state a.last xs ys p.rans q.rans p.run
+          (subst (λ (s : State). AreRun m s (last_after a.last p.rans) ys q.rans) p.state_is (subst (λ (l : Last). AreRun m b.state l ys q.rans) p.last_is q.run));
+      told = AreTold-append p.rans q.rans all a.teller b.teller c.teller p.told q.told;
+      state_is = q.state_is ∙ ap (λ s. state_after s ys) p.state_is ∙ sym (state_after-append a.state xs ys);
+      last_is = q.last_is ∙ ap (λ l. last_after l q.rans) p.last_is ∙ sym (last_after-append a.last p.rans q.rans);
+    }
+
+    -- all plans were run, and more plans were taken behind them
+    pub plans_both : {a b c : Desk Teller} (xs ys : List Sent) (end : RunEnd) → Runs takes m a xs true b → RunsPlans takes m b ys end c → RunsPlans takes m a (xs ++ ys) end c
+    plans_both xs ys end p q = record {
+      runs = xs ++ q.runs;
+      lost = q.lost;
+      run = runs_both xs q.runs (is_told end) p q.run;
+      parts = ap (λ l. xs ++ l) q.parts ∙ sym (append_assoc xs q.runs q.lost);
+      lost_is = q.lost_is;
+    }
+
+    -- all plans were taken and run
+    pub all_run : {a b : Desk Teller} (xs : List Sent) → RunsPlans takes m a xs Whole b → Runs takes m a xs true b
+    all_run {a} {b} xs p =
+        subst (λ (l : List Sent). Runs takes m a l true b) (sym (p.parts ∙ ap (λ l. p.runs ++ l) (empty_is p.lost p.lost_is) ∙ append-nil p.runs)) p.run
+
+    pub runs_whole : {a b : Desk Teller} (xs : List Sent) → Runs takes m a xs true b → RunsPlans takes m a xs Whole b
+    runs_whole xs p = record { runs = xs; lost = []; run = p; parts = sym (append-nil xs); lost_is = refl }
+
+    -- memory was refused for a plan
+    pub loses_one : (a b : Desk Teller) (x : Sent) → b.state ≡ a.state → b.last ≡ a.last → b.teller ≡ a.teller → RunsPlans takes m a (x ∷ []) NoMemory b
+    unfolding AreRun AreTaken state_after last_after
+    loses_one a b x state last teller =
+        record { runs = []; lost = x ∷ []; run = record { rans = []; run = tt; told = teller; state_is = state; last_is = last }; parts = refl; lost_is = refl }
+
+    -- the result of a plan was refused
+    pub refused_one : {a b : Desk Teller} (x : Sent) → Runs takes m a (x ∷ []) false b → RunsPlans takes m a (x ∷ []) Untold b
+    refused_one x p = record { runs = x ∷ []; lost = []; run = p; parts = refl; lost_is = refl }
 
 -- of what holds of all, the part in the middle
 pub all_middle : {T : Type 0} (P : T → Type 0) (xs ys zs : List T) (x : T) → All P xs → xs ≡ ys ++ x ∷ zs → P x
 all_middle P xs [] zs x h e = (let whole = subst (All P) e h in whole 0 x (omega arith))
 all_middle P xs (y ∷ ys) zs x h e = all_middle P (ys ++ x ∷ zs) ys zs x (All-tail P y (ys ++ x ∷ zs) (subst (All P) e h)) refl
-
-pub empty_is : {T : Type 0} (xs : List T) → length xs ≡ 0 → xs ≡ []
-empty_is [] e = refl
-empty_is (x ∷ xs) e = absurd (omega arith)

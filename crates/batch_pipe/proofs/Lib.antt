@@ -5,3 +5,4 @@ pub mod Rounds
 pub mod Verdicts
 pub mod Courses
 pub mod Bounds
+pub mod Tellers

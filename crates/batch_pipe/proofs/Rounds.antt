@@ -18,15 +18,18 @@ use Rattle.event_reader.specs.Reader.{ReaderView}
 use Rattle.batch_pipe.specs.declared.items.Sent.{Sent}
 use Rattle.batch_pipe.specs.declared.items.Ran.{Ran}
 use Rattle.batch_pipe.specs.declared.tail.Tail.{Tail}
-use Rattle.batch_pipe.specs.declared.tail.Tail.TheVariants.{RunMemory}
+use Rattle.batch_pipe.specs.declared.tail.Tail.TheVariants.{End, Refused, Fault, RunMemory, Untold}
+use Rattle.batch_pipe.specs.declared.runner.RunEnd.{RunEnd}
+use Rattle.batch_pipe.specs.declared.runner.RunEnd.TheVariants.{Whole, NoMemory, Untold as NotTold}
 use Rattle.batch_pipe.specs.GivenBatches.{Stand, stand}
 use Rattle.batch_pipe.specs.PlannedBatches.{AreNumbered, Plans, PlansAhead, StopsWithTail, MayStop, plans_of}
-use Rattle.batch_pipe.specs.PlanRuns.{Manner, AreRun, RunsWaiting, Desk, somes, one_or_none, state_after, last_after, came_of}
+use Rattle.batch_pipe.specs.Results.{IsResult, AreTaken, AreRefused, AreTold}
+use Rattle.batch_pipe.specs.PlanRuns.{Manner, AreRun, RunsWaiting, Desk, one_or_none, is_told, lost_count, state_after, last_after, came_of}
 use Rattle.batch_pipe.specs.Courses.{reads_left, steps_left}
-use Rattle.batch_pipe.specs.PipeRounds.{PipeView, IsRound, IsGoing, number_before, or_else}
+use Rattle.batch_pipe.specs.PipeRounds.{PipeView, IsRound, IsGoing, IsUncut, number_before, or_else}
 use Rattle.batch_pipe.proofs.GivenBatches.{plans_nothing, plans_both, plans_stop}
-use Rattle.batch_pipe.proofs.Ahead.{numbered-append}
-use Rattle.batch_pipe.proofs.Desks.{empty_is}
+use Rattle.batch_pipe.proofs.Ahead.{numbered-append, numbered-front, numbered-back}
+use Rattle.batch_pipe.proofs.Desks.{empty_is, can_go_on}
 
 swap : {T : Type 0} (xs ys zs : List T) → length ys ≡ 1 - length xs → xs ++ (ys ++ zs) ≡ ys ++ (xs ++ zs)
 swap [] ys zs e = refl
@@ -42,13 +45,6 @@ whole_is (x ∷ xs) [] more e =
     sym (append-nil (x ∷ xs)) ∙ ap (λ n. x ∷ (xs ++ take n more)) (sym none)
 whole_is (x ∷ xs) (y ∷ first) more e = absurd (omega arith)
 
-pub numbered-back : (n : ℕ) (xs ys : List Sent) → AreNumbered n (xs ++ ys) → AreNumbered (n + length xs) ys
-unfolding AreNumbered
-numbered-back n [] ys p = (let z : n ≡ n + 0 = omega arith in subst (λ m. AreNumbered m ys) z p)
-numbered-back n (x ∷ xs) ys p =
-    let on : n + 1 + length xs ≡ n + length (x ∷ xs) = omega arith in
-    subst (λ m. AreNumbered m ys) on (numbered-back (n + 1) xs ys p.1)
-
 pub if_none : {T : Type 0} (o : Option T) (P : Type 0) → o ≡ None → IfNone o P → P
 if_none None P e h = h
 if_none (Some x) P e h = absurd (cc)
@@ -61,9 +57,19 @@ pub some_is : (first : Option Sent) (P : Sent → Type 0) → All P (one_or_none
 some_is None P h = tt
 some_is (Some x) P h = h 0 x (omega arith)
 
--- the desk of the runner of a pipe
-abbrev pub desk_at : {App : Type 0} → PipeView App → List (Option Ran) → ℕ → Desk
-desk_at v places next = record { state = contents v.engine; last = v.last; places = places; next = next }
+pub some_then : (first : Option Sent) (P Q : Sent → Type 0) → ((x : Sent) → P x → Q x) → IfSome first P → IfSome first Q
+some_then None P Q then h = tt
+some_then (Some x) P Q then h = then x h
+
+-- the desk of the runner of a pipe, with this teller
+abbrev pub desk_at : {App Teller : Type 0} → PipeView App → Teller → Desk Teller
+desk_at v teller = record { state = contents v.engine; last = v.last; teller = teller }
+
+-- a tail is that a result was refused only where the runs end so
+not_untold : (before stop : Option Tail) → before ≢ Some Untold → IfSome stop (λ tail. (tail ≢ RunMemory) × (tail ≢ Untold)) → or_else before stop ≡ Some Untold → ⊥
+not_untold None None told_before stop_is is = absurd (cc)
+not_untold None (Some tail) told_before stop_is is = stop_is.1 (cc)
+not_untold (Some tail) stop told_before stop_is is = told_before is
 
 module _ {App : Type 0} (event_of : App → ℕ → Meaning) (layout : Layout) (m : Manner) where
   -- what waits after a round: what the runner left, and what the planner sent
@@ -74,18 +80,23 @@ module _ {App : Type 0} (event_of : App → ℕ → Meaning) (layout : Layout) (
       (after ∙ sent ∙ ap (λ l. l ++ more) (sym before ∙ ap (λ l. received0 ++ l) known ∙ sym (append_assoc received0 popped known1) ∙ ap (λ l. l ++ known1) (sym received))
       ∙ append_assoc received1 known1 more)
 
-  pub round_is : {high high' : ℕ} {a b : PipeView App} {left left1 left2 : Option (List ℕ)} {r1 : ReaderView App} {n1 next : ℕ} {stop : Option Tail} {all : Bool}
-      {sent0 sent1 received0 received1 known1 : List Sent} {places0 places1 : List (Option Ran)} (free : ℕ) (first : Option Sent) →
+  -- the tail that a planner met is not one of the runs
+  stop_of_planner : (stop : Option Tail) (middle at : Stand App) → MayStop event_of stop middle at → IfSome stop (λ tail. tail ≢ RunMemory) → IfSome stop (λ tail. (tail ≢ RunMemory) × (tail ≢ Untold))
+  stop_of_planner None middle at stops planner = tt
+  stop_of_planner (Some tail) middle at stops planner = (planner, stops.untold)
+
+  pub round_is : {Teller : Type 0} {takes : Teller → Ran → Bool → Teller → Type 0} {teller teller' : Teller} {high high' : ℕ} {a b : PipeView App} {left left1 left2 : Option (List ℕ)}
+      {r1 : ReaderView App} {n1 : ℕ} {stop : Option Tail} {end : RunEnd} {sent0 sent1 received0 received1 known1 : List Sent} (free : ℕ) (first : Option Sent) →
       PlansAhead event_of layout high (record { at = stand a.reader left; sent = []; number = a.sent }) None (record { at = stand r1 left1; sent = one_or_none first; number = n1 }) →
       PlansAhead event_of layout high' (record { at = stand r1 left1; sent = sent0; number = n1 }) stop (record { at = stand b.reader left2; sent = sent1; number = b.sent }) →
-      RunsWaiting m (record { desk = desk_at a places0 0; received = received0; known = a.waiting }) (one_or_none first) all (record { desk = desk_at b places1 next; received = received1; known = known1 }) →
-      somes places0 ≡ [] → b.rans ≡ somes places1 → received0 ++ a.waiting ≡ sent0 → received1 ++ b.waiting ≡ sent1 →
+      RunsWaiting takes m (record { desk = desk_at a teller; received = received0; known = a.waiting }) (one_or_none first) end (record { desk = desk_at b teller'; received = received1; known = known1 }) →
+      received0 ++ a.waiting ≡ sent0 → received1 ++ b.waiting ≡ sent1 →
       AreNumbered (number_before a) a.waiting → length a.waiting ≤ a.sent → a.ahead ≤ free + length a.waiting → length (one_or_none first) ≡ 1 - length a.waiting →
       (IsSome a.tail → (stop ≡ None) × (sent1 ≡ sent0) × (b.reader ≡ a.reader) × (left2 ≡ left)) → IfSome stop (λ tail. tail ≢ RunMemory) → (a.tail ≡ None → IfNone stop (length sent0 + free ≤ length sent1)) → (IsSome a.tail → 0 < length a.waiting) →
-      (all ≡ true → b.tail ≡ or_else a.tail stop) → (all ≡ false → b.tail ≡ Some RunMemory) → b.engine.layout ≡ a.engine.layout → b.ahead ≡ a.ahead →
-      IsRound event_of m a left b left2
-  round_is {a} {b} {left} {left1} {left2} {r1} {n1} {next} {stop} {all} {sent0} {sent1} {received0} {received1} {known1} {places0} {places1} free first f h r
-      blank rans before after numbers count room one idle planner enough going met refused layout_is ahead_is =
+      a.tail ≢ Some Untold → (end ≡ Whole → b.tail ≡ or_else a.tail stop) → (end ≡ NoMemory → b.tail ≡ Some RunMemory) → (end ≡ NotTold → b.tail ≡ Some Untold) → b.engine.layout ≡ a.engine.layout → b.ahead ≡ a.ahead →
+      IsRound event_of takes m a left teller b left2 teller'
+  round_is {Teller} {takes} {teller} {teller'} {high} {high'} {a} {b} {left} {left1} {left2} {r1} {n1} {stop} {end} {sent0} {sent1} {received0} {received1} {known1} free first f h r
+      before after numbers count room one idle planner enough going told_before met memory untold layout_is ahead_is =
       let more : List Sent = f.more ++ h.more in
       let first_is : one_or_none first ≡ f.more = f.sent_is in
       let lf = ap length first_is in
@@ -93,25 +104,27 @@ module _ {App : Type 0} (event_of : App → ℕ → Meaning) (layout : Layout) (
       let ls = ap length h.sent_is in
       let ls2 = length-append sent0 h.more in
       let waits : b.waiting ≡ known1 ++ h.more = waiting_is received0 received1 a.waiting b.waiting known1 sent0 sent1 r.popped h.more before after h.sent_is r.known_is r.received_is in
-      let rans_are : b.rans ≡ r.run.rans = rans ∙ r.run.places_are ∙ ap (λ l. l ++ r.run.rans) blank in
       record {
         more = more;
         stop = stop;
         plans = subst (λ (l : List Plan). Plans event_of (stand a.reader left) l stop (stand b.reader left2)) (sym (map-append (λ (x : Sent). x.plan) f.more h.more))
             (plans_both event_of (plans_of f.more) (plans_of h.more) f.plans h.plans);
-        runs = r.runs;
-        lost = r.lost;
+        runs = r.plans.runs;
+        lost = r.plans.lost;
         parts =
             ap (λ l. a.waiting ++ (l ++ h.more)) (sym first_is)
             ∙ swap a.waiting (one_or_none first) h.more one
             ∙ ap (λ l. one_or_none first ++ (l ++ h.more)) r.known_is
             ∙ ap (λ l. one_or_none first ++ l) (append_assoc r.popped known1 h.more)
             ∙ sym (append_assoc (one_or_none first) r.popped (known1 ++ h.more))
-            ∙ ap (λ l. l ++ (known1 ++ h.more)) r.parts
-            ∙ ap (λ l. (r.runs ++ r.lost) ++ l) (sym waits);
-        run = subst (AreRun m (contents a.engine) a.last r.runs) (sym rans_are) r.run.run;
-        state_is = r.run.state_is;
-        last_is = r.run.last_is ∙ ap (last_after a.last) (sym rans_are);
+            ∙ ap (λ l. l ++ (known1 ++ h.more)) r.plans.parts
+            ∙ ap (λ l. (r.plans.runs ++ r.plans.lost) ++ l) (sym waits);
+        rans = r.plans.run.rans;
+        run = r.plans.run.run;
+        state_is = r.plans.run.state_is;
+        last_is = r.plans.run.last_is;
+        told = taken end refl;
+        untold = not_taken end refl;
         sent_is = omega (arith, f.number_is, h.number_is, lm);
         numbered =
             let at : a.sent ≡ number_before a + length a.waiting = omega (arith, count) in
@@ -122,63 +135,88 @@ module _ {App : Type 0} (event_of : App → ℕ → Meaning) (layout : Layout) (
             let g = going some in
             let l1 = ap length i.1 in
             (empty_is more (omega (arith, lm, lf, one, g, l1, ls, ls2)), i.0, i.2, i.3);
-        stop_is = planner;
+        stop_is = stop_is;
         enough = λ none no_stop.
             let e = if_none stop (length sent0 + free ≤ length sent1) no_stop (enough none) in
             omega (arith, e, room, one, lf, lm, ls, ls2);
-        whole = λ nothing. whole nothing (bool_cases all);
-        met = λ nothing. by_all nothing (bool_cases all);
-        refused = λ some. by_refused some (bool_cases all);
+        whole = whole end refl;
+        met = meets end refl;
+        refused = refused end refl;
         layout = layout_is;
         ahead_is = ahead_is;
       }
     where
-      by_all : r.lost ≡ [] → (all ≡ true) ⊎ (all ≡ false) → b.tail ≡ or_else a.tail stop
-      by_all nothing (inl e) = met e
-      by_all nothing (inr e) = absurd (let l = ap length nothing in let one_lost = r.refused e in omega (arith, l, one_lost))
+      stop_is : IfSome stop (λ tail. (tail ≢ RunMemory) × (tail ≢ Untold))
+      stop_is = stop_of_planner stop h.plans.middle (stand b.reader left2) h.plans.stops planner
 
-      by_refused : r.lost ≢ [] → (all ≡ true) ⊎ (all ≡ false) → (length r.lost ≡ 1) × (b.tail ≡ Some RunMemory)
-      by_refused some (inl e) = absurd (some (r.whole e).0)
-      by_refused some (inr e) = (r.refused e, refused e)
+      told_so : (e : RunEnd) → end ≡ e → AreTold takes teller r.plans.run.rans (is_told e) teller'
+      told_so e is = subst (λ x. AreTold takes teller r.plans.run.rans (is_told x) teller') is r.plans.run.told
 
-      whole : r.lost ≡ [] → (all ≡ true) ⊎ (all ≡ false) → r.runs ≡ a.waiting ++ take (1 - length a.waiting) (f.more ++ h.more)
-      whole nothing (inl e) =
-          let popped_is : a.waiting ≡ r.popped = r.known_is ∙ ap (λ l. r.popped ++ l) (r.whole e).1 ∙ append-nil r.popped in
-          sym (append-nil r.runs) ∙ ap (λ l. r.runs ++ l) (sym nothing) ∙ sym r.parts ∙ ap (λ l. one_or_none first ++ l) (sym popped_is)
+      lost_so : (e : RunEnd) → end ≡ e → length r.plans.lost ≡ lost_count e
+      lost_so e is = r.plans.lost_is ∙ ap lost_count is
+
+      taken : (e : RunEnd) → end ≡ e → b.tail ≢ Some Untold → AreTaken takes teller r.plans.run.rans teller'
+      taken Whole is other = told_so Whole is
+      taken NoMemory is other = told_so NoMemory is
+      taken NotTold is other = absurd (other (untold is))
+
+      not_taken : (e : RunEnd) → end ≡ e → b.tail ≡ Some Untold → AreRefused takes teller r.plans.run.rans teller'
+      not_taken Whole is tail = absurd (not_untold a.tail stop told_before stop_is (sym (met is) ∙ tail))
+      not_taken NoMemory is tail = absurd (let both = sym (memory is) ∙ tail in cc)
+      not_taken NotTold is tail = told_so NotTold is
+
+      meets : (e : RunEnd) → end ≡ e → r.plans.lost ≡ [] → b.tail ≢ Some Untold → b.tail ≡ or_else a.tail stop
+      meets Whole is nothing other = met is
+      meets NoMemory is nothing other = absurd (let l = ap length nothing in let one_lost = lost_so NoMemory is in omega (arith, l, one_lost))
+      meets NotTold is nothing other = absurd (other (untold is))
+
+      refused : (e : RunEnd) → end ≡ e → r.plans.lost ≢ [] → (length r.plans.lost ≡ 1) × (b.tail ≡ Some RunMemory)
+      refused Whole is some = absurd (some (empty_is r.plans.lost (lost_so Whole is)))
+      refused NoMemory is some = (lost_so NoMemory is, memory is)
+      refused NotTold is some = absurd (some (empty_is r.plans.lost (lost_so NotTold is)))
+
+      whole : (e : RunEnd) → end ≡ e → r.plans.lost ≡ [] → b.tail ≢ Some Untold → r.plans.runs ≡ a.waiting ++ take (1 - length a.waiting) (f.more ++ h.more)
+      whole Whole is nothing other =
+          let popped_is : a.waiting ≡ r.popped = r.known_is ∙ ap (λ l. r.popped ++ l) (r.whole is) ∙ append-nil r.popped in
+          sym (append-nil r.plans.runs) ∙ ap (λ l. r.plans.runs ++ l) (sym nothing) ∙ sym r.plans.parts ∙ ap (λ l. one_or_none first ++ l) (sym popped_is)
           ∙ whole_is a.waiting (one_or_none first) h.more one ∙ ap (λ l. a.waiting ++ take (1 - length a.waiting) (l ++ h.more)) f.sent_is
-      whole nothing (inr e) = absurd (let l = ap length nothing in let one_lost = r.refused e in omega (arith, l, one_lost))
+      whole NoMemory is nothing other = absurd (let l = ap length nothing in let one_lost = lost_so NoMemory is in omega (arith, l, one_lost))
+      whole NotTold is nothing other = absurd (other (untold is))
 
   -- where the first batch is not planned, nothing runs
-  pub round_stopped : {a b : PipeView App} {left left' : Option (List ℕ)} (tail : Tail) → StopsWithTail event_of tail (stand a.reader left) (stand b.reader left') →
-      a.tail ≡ None → a.waiting ≡ [] → a.rans ≡ [] → b.waiting ≡ a.waiting → b.rans ≡ a.rans → b.engine ≡ a.engine → b.last ≡ a.last → b.sent ≡ a.sent → b.tail ≡ Some tail → b.ahead ≡ a.ahead → tail ≢ RunMemory →
-      AreNumbered (number_before a) a.waiting → IsRound event_of m a left b left'
-  unfolding AreRun state_after last_after
-  round_stopped {a} {b} {left} {left'} tail stops untold waits none waits' rans engine last sent tail' ahead planner numbers = record {
+  pub round_stopped : {Teller : Type 0} {takes : Teller → Ran → Bool → Teller → Type 0} {a b : PipeView App} {left left' : Option (List ℕ)} (teller : Teller) (tail : Tail) →
+      StopsWithTail event_of tail (stand a.reader left) (stand b.reader left') → a.tail ≡ None → a.waiting ≡ [] → b.waiting ≡ a.waiting → b.engine ≡ a.engine → b.last ≡ a.last → b.sent ≡ a.sent → b.tail ≡ Some tail →
+      b.ahead ≡ a.ahead → tail ≢ RunMemory → AreNumbered (number_before a) a.waiting → IsRound event_of takes m a left teller b left' teller
+  unfolding AreRun AreTaken state_after last_after
+  round_stopped {Teller} {takes} {a} {b} {left} {left'} teller tail stops told_before waits waits' engine last sent tail' ahead planner numbers = record {
     more = [];
     stop = Some tail;
     plans = plans_stop event_of [] tail (plans_nothing event_of (stand a.reader left)) stops;
     runs = [];
     lost = [];
     parts = append-nil a.waiting ∙ sym waits';
-    run = subst (AreRun m (contents a.engine) a.last []) (sym (rans ∙ none)) tt;
+    rans = [];
+    run = tt;
     state_is = ap contents engine;
-    last_is = last ∙ ap (last_after a.last) (sym (rans ∙ none));
+    last_is = last;
+    told = λ other. refl;
+    untold = λ is. absurd (stops.untold (let same : Some tail ≡ Some Untold = sym tail' ∙ is in cc));
     sent_is = omega (arith, sent);
     numbered = subst (AreNumbered (number_before a)) (sym (append-nil a.waiting)) numbers;
-    idle = λ some. absurd (let no = subst IsSome untold some in cc);
-    stop_is = planner;
+    idle = λ some. absurd (let no = subst IsSome told_before some in cc);
+    stop_is = (planner, stops.untold);
     enough = λ no_tail no_stop. absurd (cc);
-    whole = λ nothing. ap (λ (l : List Sent). l ++ take (1 - length l) []) (sym waits);
-    met = λ nothing. tail' ∙ ap (λ t. or_else t (Some tail)) (sym untold);
+    whole = λ nothing other. ap (λ (l : List Sent). l ++ take (1 - length l) []) (sym waits);
+    met = λ nothing other. tail' ∙ ap (λ t. or_else t (Some tail)) (sym told_before);
     refused = λ some. absurd (some refl);
     layout = ap (λ (k : Kept). k.layout) engine;
     ahead_is = ahead;
   }
 
   -- the numbers of what waits after a round
-  pub next_numbered : {a b : PipeView App} {left left' : Option (List ℕ)} → IsRound event_of m a left b left' → length a.waiting ≤ a.sent →
-      AreNumbered (number_before b) b.waiting × (length b.waiting ≤ b.sent)
-  next_numbered {a} {b} {left} {left'} q few =
+  pub next_numbered : {Teller : Type 0} {takes : Teller → Ran → Bool → Teller → Type 0} {teller teller' : Teller} {a b : PipeView App} {left left' : Option (List ℕ)} →
+      IsRound event_of takes m a left teller b left' teller' → length a.waiting ≤ a.sent → AreNumbered (number_before b) b.waiting × (length b.waiting ≤ b.sent)
+  next_numbered {a = a} {b = b} q few =
       let back = numbered-back (number_before a) (q.runs ++ q.lost) b.waiting (subst (AreNumbered (number_before a)) q.parts q.numbered) in
       let l0 = ap length q.parts in
       let l1 = length-append a.waiting q.more in
@@ -241,9 +279,10 @@ by_both None stop e = (refl, e)
 by_both (Some x) stop e = absurd (cc)
 
 -- where there is no tail after a round, there was none before it, and it met none
-pub open_after : (t before stop : Option Tail) (all : Bool) → (all ≡ true → t ≡ or_else before stop) → (all ≡ false → t ≡ Some RunMemory) → t ≡ None → (before ≡ None) × (stop ≡ None)
-open_after t before stop true met refused none = by_both before stop (sym (met refl) ∙ none)
-open_after t before stop false met refused none = absurd (let e = sym (refused refl) ∙ none in cc)
+pub open_after : (t before stop : Option Tail) (end : RunEnd) → (end ≡ Whole → t ≡ or_else before stop) → (end ≡ NoMemory → t ≡ Some RunMemory) → (end ≡ NotTold → t ≡ Some Untold) → t ≡ None → (before ≡ None) × (stop ≡ None)
+open_after t before stop Whole met memory untold none = by_both before stop (sym (met refl) ∙ none)
+open_after t before stop NoMemory met memory untold none = absurd (let e = sym (memory refl) ∙ none in cc)
+open_after t before stop NotTold met memory untold none = absurd (let e = sym (untold refl) ∙ none in cc)
 
 -- what an answer gives, if it gives it
 abbrev pub given : {T E : Type 0} → Result (Option T) E → Option T
@@ -273,16 +312,42 @@ run_length m s last [] (r ∷ rs) run = absurd run
 run_length m s last (x ∷ xs) [] run = absurd run
 run_length m s last (x ∷ xs) (r ∷ rs) run = let rest = run_length m (after_all s (transactions x.plan)) (came_of r) xs rs run.1 in omega (arith, rest)
 
-module _ {App : Type 0} {event_of : App → ℕ → Meaning} {m : Manner} {a b : PipeView App} {left left' : Option (List ℕ)} (q : IsRound event_of m a left b left') (going : IsGoing a) where
+module _ {App : Type 0} {event_of : App → ℕ → Meaning} {a b : Stand App} {stop : Option Tail} (more : List Sent) (p : Plans event_of a (plans_of more) stop b) where
   -- as many batches were read as plans were made of them, and each has an event
-  many_more : length q.more ≤ sum_by (λ (batch : List Transaction). length batch) q.plans.batches
-  many_more =
-      let made = ap length q.plans.plans_are in
-      let l0 : length (plans_of q.more) ≡ length q.more = simp length-map in
-      let l1 : length (map transactions (plans_of q.more)) ≡ length (plans_of q.more) = simp length-map in
-      let l2 : length (map by_time q.plans.batches) ≡ length q.plans.batches = simp length-map in
-      let s = all_sum q.plans.batches q.plans.gives.some in
+  plans_many : length more ≤ sum_by (λ (batch : List Transaction). length batch) p.batches
+  plans_many =
+      let made = ap length p.plans_are in
+      let l0 : length (plans_of more) ≡ length more = simp length-map in
+      let l1 : length (map transactions (plans_of more)) ≡ length (plans_of more) = simp length-map in
+      let l2 : length (map by_time p.batches) ≡ length p.batches = simp length-map in
+      let s = all_sum p.batches p.gives.some in
       omega (arith, made, l0, l1, l2, s)
+
+  -- each plan took a line at least
+  pub plans_counted : a.reader.lines.number + length more ≤ b.reader.lines.number
+  plans_counted = by stop p.stops
+    where
+      by : (o : Option Tail) → MayStop event_of o p.middle b → a.reader.lines.number + length more ≤ b.reader.lines.number
+      by None stops = (let same = ap (λ (s : Stand App). s.reader.lines.number) stops in let many = plans_many in let counted = p.gives.counted in omega (arith, same, many, counted))
+      by (Some tail) stops = (let rises = stops.same.3.numbered in let many = plans_many in let counted = p.gives.counted in omega (arith, rises, many, counted))
+
+-- whether a result was refused
+pub told_or : (t : Option Tail) → (t ≡ Some Untold) ⊎ (t ≢ Some Untold)
+told_or None = inr (λ is. (cc))
+told_or (Some Untold) = inl refl
+told_or (Some End) = inr (λ is. (cc))
+told_or (Some (Refused line cause)) = inr (λ is. (cc))
+told_or (Some (Fault fault)) = inr (λ is. (cc))
+told_or (Some RunMemory) = inr (λ is. (cc))
+
+-- where there is no tail, no result was refused
+pub not_refused : (t : Option Tail) → t ≡ None → t ≢ Some Untold
+not_refused t none is = absurd (let both = sym none ∙ is in cc)
+
+module _ {App Teller : Type 0} {event_of : App → ℕ → Meaning} {takes : Teller → Ran → Bool → Teller → Type 0} {m : Manner} {a b : PipeView App} {left left' : Option (List ℕ)} {teller teller' : Teller}
+    (q : IsRound event_of takes m a left teller b left' teller') (going : IsGoing a) where
+  many_more : length q.more ≤ sum_by (λ (batch : List Transaction). length batch) q.plans.batches
+  many_more = plans_many q.more q.plans
 
   lengths : length a.waiting + length q.more ≡ length q.runs + length q.lost + length b.waiting
   lengths =
@@ -292,36 +357,44 @@ module _ {App : Type 0} {event_of : App → ℕ → Meaning} {m : Manner} {a b :
       let l3 = length-append q.runs q.lost in
       omega (arith, l0, l1, l2, l3)
 
+  rans_many : length q.rans ≡ length q.runs
+  rans_many = run_length m (contents a.engine) a.last q.runs q.rans q.run
+
   -- where a plan waits, one at least is taken
   takes_one : 0 < length a.waiting → 0 < length q.runs + length q.lost
   takes_one some = by (zero_or (length q.lost))
     where
       by : (length q.lost ≡ 0) ⊎ (0 < length q.lost) → 0 < length q.runs + length q.lost
       by (inr lt) = omega (arith, lt)
-      by (inl z) =
-          let l0 = ap length (q.whole (empty_is q.lost z)) in
-          let l1 = length-append a.waiting (take (1 - length a.waiting) q.more) in
-          omega (arith, l0, l1, some)
+      by (inl z) = by_told z (told_or b.tail)
+        where
+          by_told : length q.lost ≡ 0 → (b.tail ≡ Some Untold) ⊎ (b.tail ≢ Some Untold) → 0 < length q.runs + length q.lost
+          by_told z (inl untold) =
+              let refused = q.untold untold in
+              let l0 = ap length refused.parts in
+              let l1 = length-append refused.taken (refused.last ∷ []) in
+              omega (arith, l0, l1, rans_many)
+          by_told z (inr told) =
+              let l0 = ap length (q.whole (empty_is q.lost z) told) in
+              let l1 = length-append a.waiting (take (1 - length a.waiting) q.more) in
+              omega (arith, l0, l1, some)
 
   no_stop : a.tail ≡ None → b.tail ≡ None → (length q.lost ≡ 0) ⊎ (0 < length q.lost) → q.stop ≡ None
-  no_stop e f (inl z) = (by_both a.tail q.stop (sym (q.met (empty_is q.lost z)) ∙ f)).1
+  no_stop e f (inl z) = (by_both a.tail q.stop (sym (q.met (empty_is q.lost z) (not_refused b.tail f)) ∙ f)).1
   no_stop e f (inr lt) = absurd (let r = (q.refused (λ nothing. (let l = ap length nothing in omega (arith, l, lt)))).1 in cc)
 
-  rans_many : length b.rans ≡ length q.runs
-  rans_many = run_length m (contents a.engine) a.last q.runs b.rans q.run
-
   -- a round leaves fewer that there can be, also where what came of each of its batches counts half a one
-  pub turns_fall : a.reader.lines.number ≤ a.reader.lines.limit + 1 → length b.rans + 2 * steps_left b < 2 * steps_left a
+  pub turns_fall : a.reader.lines.number ≤ a.reader.lines.limit + 1 → length q.rans + 2 * steps_left b < 2 * steps_left a
   turns_fall few = by a.tail b.tail refl refl
     where
       ends : (t : Tail) → a.tail ≡ Some t → b.tail ≡ None → ⊥
       ends t e f = by_lost (zero_or (length q.lost))
         where
           by_lost : (length q.lost ≡ 0) ⊎ (0 < length q.lost) → ⊥
-          by_lost (inl z) = (let m = sym (q.met (empty_is q.lost z)) ∙ f in let o = ap (λ (x : Option Tail). or_else x q.stop) (sym e) ∙ m in cc)
+          by_lost (inl z) = (let m = sym (q.met (empty_is q.lost z) (not_refused b.tail f)) ∙ f in let o = ap (λ (x : Option Tail). or_else x q.stop) (sym e) ∙ m in cc)
           by_lost (inr lt) = (let r = (q.refused (λ nothing. (let l = ap length nothing in omega (arith, l, lt)))).1 in cc)
 
-      by : (t u : Option Tail) → a.tail ≡ t → b.tail ≡ u → length b.rans + 2 * (length b.waiting + reads_left u (b.reader.lines.limit + 1 - b.reader.lines.number)) < 2 * (length a.waiting + reads_left t (a.reader.lines.limit + 1 - a.reader.lines.number))
+      by : (t u : Option Tail) → a.tail ≡ t → b.tail ≡ u → length q.rans + 2 * (length b.waiting + reads_left u (b.reader.lines.limit + 1 - b.reader.lines.number)) < 2 * (length a.waiting + reads_left t (a.reader.lines.limit + 1 - a.reader.lines.number))
       by (Some t) None e f = absurd (ends t e f)
       by (Some t) (Some u) e f =
           let some : IsSome a.tail = subst IsSome (sym e) refl in
@@ -348,7 +421,7 @@ module _ {App : Type 0} {event_of : App → ℕ → Meaning} {m : Manner} {a b :
               q.plans.middle.reader.lines.number ≤ q.plans.middle.reader.lines.limit + 1 → q.plans.middle.reader.lines.limit ≡ a.reader.lines.limit →
               a.reader.lines.number + sum_by (λ (batch : List Transaction). length batch) q.plans.batches ≤ q.plans.middle.reader.lines.number →
               a.ahead + (1 - length a.waiting) ≤ length a.waiting + length q.more →
-              length b.rans + 2 * (length b.waiting + (1 + 2 * (b.reader.lines.limit + 1 - b.reader.lines.number))) < 2 * (length a.waiting + (1 + 2 * (a.reader.lines.limit + 1 - a.reader.lines.number)))
+              length q.rans + 2 * (length b.waiting + (1 + 2 * (b.reader.lines.limit + 1 - b.reader.lines.number))) < 2 * (length a.waiting + (1 + 2 * (a.reader.lines.limit + 1 - a.reader.lines.number)))
           at (inl z) number limit top same counted enough = omega (arith, z, number, limit, top, same, counted, enough, rans_many, lengths, many_more)
           at (inr lt) number limit top same counted enough = let one = takes_one lt in omega (arith, one, number, limit, top, same, counted, rans_many, lengths, many_more)
 
@@ -362,7 +435,7 @@ module _ {App : Type 0} {event_of : App → ℕ → Meaning} {m : Manner} {a b :
       by (inl z) m (inr lost) r = omega (arith, lost)
       by (inl z) m (inl lost) (inr runs) = omega (arith, runs)
       by (inl z) (inr more) (inl lost) (inl runs) =
-          let w = ap length (q.whole (empty_is q.lost lost)) in
+          let w = ap length (q.whole (empty_is q.lost lost) after.1.1) in
           let l1 = length-append a.waiting (take (1 - length a.waiting) q.more) in
           let one : 1 - length a.waiting ≡ 1 = omega (arith, z) in
           let l2 = ap (λ n. length (take n q.more)) one in
@@ -374,7 +447,7 @@ module _ {App : Type 0} {event_of : App → ℕ → Meaning} {m : Manner} {a b :
           ended = omega (arith, lengths, z, more, lost, runs)
 
           told : b.tail ≡ or_else a.tail q.stop
-          told = q.met (empty_is q.lost lost)
+          told = q.met (empty_is q.lost lost) after.1.1
 
           tails : (t s : Option Tail) → a.tail ≡ t → q.stop ≡ s → b.tail ≡ or_else t s
           tails t s e f = told ∙ ap (λ x. or_else x q.stop) e ∙ ap (or_else t) f
@@ -385,3 +458,20 @@ module _ {App : Type 0} {event_of : App → ℕ → Meaning} {m : Manner} {a b :
           stuck (Some t) s e f (inl none) (inl open_later) = (let n = sym e ∙ none in cc)
           stuck None None e f (inl none) (inl open_later) = (let enough = q.enough none f in omega (arith, enough, z, more))
           stuck None (Some s) e f (inl none) (inl open_later) = (let n = sym (tails None (Some s) e f) ∙ open_later in cc)
+
+  -- no more plans were sent than lines were read
+  pub counted_on : a.sent ≤ a.reader.lines.number → b.sent ≤ b.reader.lines.number
+  counted_on few = let counted = plans_counted q.more q.plans in omega (arith, few, counted, q.sent_is)
+
+  -- where the runs were not cut off, the teller can take the result that comes next
+  pub can_after : (can_take : Teller → ℕ → Type 0) → ((old new : Teller) (ran : Ran) → can_take old ran.number → IsResult ran → takes old ran true new → can_take new (ran.number + 1)) →
+      length a.waiting ≤ a.sent → can_take teller (number_before a + 1) → IsUncut b.tail → can_take teller' (number_before b + 1)
+  can_after can_take goes_on few can uncut =
+      let numbers = numbered-front (number_before a) q.runs q.lost (numbered-front (number_before a) (q.runs ++ q.lost) b.waiting (subst (AreNumbered (number_before a)) q.parts q.numbered)) in
+      let none = none_lost (zero_or (length q.lost)) in
+      let at : number_before a + length q.runs + 1 ≡ number_before b + 1 = omega (arith, none, lengths, few, q.sent_is) in
+      subst (can_take teller') at (can_go_on takes m can_take goes_on (contents a.engine) a.last (number_before a) q.runs q.rans teller teller' q.run numbers (q.told uncut.1) can)
+    where
+      none_lost : (length q.lost ≡ 0) ⊎ (0 < length q.lost) → length q.lost ≡ 0
+      none_lost (inl z) = z
+      none_lost (inr lt) = absurd (uncut.0 (q.refused (λ nothing. (let l = ap length nothing in omega (arith, l, lt)))).1)

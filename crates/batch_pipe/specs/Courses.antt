@@ -13,7 +13,7 @@ use Rattle.batch_pipe.specs.GivenBatches.{stand}
 use Rattle.batch_pipe.specs.PlannedBatches.{Plans, AreNumbered, plans_of}
 use Rattle.batch_pipe.specs.PlanRuns.{Manner, AreRun, state_after, last_after}
 use Rattle.decision_model.specs.Choices.{no_last}
-use Rattle.batch_pipe.specs.PipeRounds.{PipeView, IsGoing}
+use Rattle.batch_pipe.specs.PipeRounds.{PipeView, IsGoing, IsUncut}
 
 -- How a pipe begins: with this reader and this engine, while the source has these bytes left
 pub record PipeStart (App : Type 0) : Type 0 where
@@ -36,7 +36,7 @@ pipe_point pipe left = record { pipe = pipe; left = left }
 
 -- This many rounds of a new pipe, with this reader and engine, led to the pipe b. The plans that were sent, numbered
 -- from 1, are those of the first batches that the reader gave, in order and each once. Those that were run are the
--- first of these, and `rans` are their results in order, whether they were taken out of the pipe or not
+-- first of these, and `rans` are their results in order
 pub record IsCourse {App : Type 0} (event_of : App → ℕ → Meaning) (m : Manner) (start : PipeStart App) (rounds : ℕ)
     (rans : List Ran) (now : PipePoint App) : Type 0 where
   pub more : List Sent
@@ -52,10 +52,11 @@ pub record IsCourse {App : Type 0} (event_of : App → ℕ → Meaning) (m : Man
   pub sent_is : now.pipe.sent ≡ length more
   pub numbered : AreNumbered 0 more
   pub layout : now.pipe.engine.layout ≡ start.engine.layout
-  -- If no memory was refused in running, the tail is that of the planner
+  -- If no memory was refused in running, no plan is lost. If no result was refused either, the tail is that of the
+  -- planner
   pub whole : now.pipe.tail ≢ Some RunMemory → lost ≡ []
   pub met : now.pipe.tail ≡ None → stop ≡ None
-  pub tail_is : now.pipe.tail ≢ Some RunMemory → now.pipe.tail ≡ stop
+  pub tail_is : IsUncut now.pipe.tail → now.pipe.tail ≡ stop
   -- Each round but the last took a plan
   pub few : rounds ≤ length runs + length lost + 1
   pub few_going : IsGoing now.pipe → rounds ≤ length runs

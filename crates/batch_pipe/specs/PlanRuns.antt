@@ -1,5 +1,5 @@
 -- Plans that are run, one after another, and their results
-use Rattle.std.specs.Prelude.{◌≡◌, ℕ, ◌+◌, ◌<◌, ◌≤◌, Bool, true, false, if◌then◌else◌, List, [], ◌∷◌, ◌++◌, length, drop, All, Option, Some, None}
+use Rattle.std.specs.Prelude.{◌≡◌, ℕ, ◌+◌, ◌≤◌, Bool, true, false, if◌then◌else◌, List, [], ◌∷◌, ◌++◌, length, All, Option, Some, None}
 use Rattle.morph_base.specs.declared.plan.Plan.{Plan}
 use Rattle.morph_base.specs.declared.strategy.Strategy.{Strategy}
 use Rattle.morph_base.specs.Flat.{Kept, contents}
@@ -10,6 +10,7 @@ use Rattle.morph_base.specs.Graphs.{IsValidPlan}
 use Rattle.morph_engine.specs.Accounts.{IsAccount, account_of}
 use Rattle.morph_engine.specs.Ends.{IsEnd}
 use Rattle.morph_engine.specs.Fates.{settled_fates}
+use Rattle.event_reader.specs.Limits.{input_bytes}
 use Rattle.decision_model.specs.declared.counts.Last.{Last}
 use Rattle.decision_model.specs.Choices.{last_of, profile_of, strategy_for}
 use Rattle.rtrb.specs.Ring.{received, known_items, SameConsumer}
@@ -17,7 +18,10 @@ use Rattle.batch_pipe.specs.declared.items.Sent.{Sent}
 use Rattle.batch_pipe.specs.declared.items.Ran.{Ran}
 use Rattle.batch_pipe.specs.declared.items.Picker.{Picker}
 use Rattle.batch_pipe.specs.declared.runner.Runner.{Runner}
-use Rattle.batch_pipe.specs.PlannedBatches.{IsReadyPlan}
+use Rattle.batch_pipe.specs.declared.runner.RunEnd.{RunEnd}
+use Rattle.batch_pipe.specs.declared.runner.RunEnd.TheVariants.{Whole, NoMemory, Untold}
+use Rattle.batch_pipe.specs.Results.{AreTold}
+use Rattle.batch_pipe.specs.PlannedBatches.{IsReadyPlan, AreNumbered}
 
 -- How plans are run: how the strategy of each is picked, and by how many workers
 pub record Manner : Type 0 where
@@ -68,69 +72,69 @@ AreRun m s last (x ∷ xs) [] = ⊥
 AreRun m s last (x ∷ xs) (r ∷ rs) =
     IsSentRun m s last x r × AreRun m (after_all s (transactions x.plan)) (came_of r) xs rs
 
--- The items that are there, in order
-unfoldable pub somes : {T : Type 0} → List (Option T) → List T
-somes [] = []
-somes (None ∷ xs) = somes xs
-somes (Some x ∷ xs) = x ∷ somes xs
-
 -- The item, if it is there
 abbrev pub one_or_none : {T : Type 0} → Option T → List T
 one_or_none None = []
 one_or_none (Some x) = x ∷ []
 
--- A runner between two plans: the state, the outcome of the batch before, the places for results, and the next free
--- place
-pub record Desk : Type 0 where
+-- A runner between two plans, and its teller: the state, the outcome of the batch before, and the teller
+pub record Desk (Teller : Type 0) : Type 0 where
   pub state : State
   pub last : Last
-  pub places : List (Option Ran)
-  pub next : ℕ
+  pub teller : Teller
 
--- The desk of a runner whose next free place is `next`
-abbrev pub desk : Runner → (next : ℕ) → Desk
-desk r next = record { state = contents r.engine; last = r.last; places = r.rans.items; next = next }
+-- The desk of a runner with this teller
+abbrev pub desk : {Teller : Type 0} → Runner → Teller → Desk Teller
+desk r teller = record { state = contents r.engine; last = r.last; teller = teller }
 
--- There is a free place, and all places behind it are free
-pub record HasPlace (r : Runner) (next : ℕ) : Type 0 where
-  pub free : somes (drop next r.rans.items) ≡ []
-  pub room : next < length r.rans.items
-  pub few : length r.rans.items ≤ 2
+-- The test whether all results were taken, by the end of the runs
+abbrev pub is_told : RunEnd → Bool
+is_told Untold = false
+is_told end = true
 
--- From desk a to desk b the runner ran these plans, in order, and put the results behind those that were there
-pub record Runs (m : Manner) (a : Desk) (runs : List Sent) (b : Desk) : Type 0 where
-  pub rans : List Ran
-  pub run : AreRun m a.state a.last runs rans
-  pub state_is : b.state ≡ state_after a.state runs
-  pub last_is : b.last ≡ last_after a.last rans
-  pub places_are : somes b.places ≡ somes a.places ++ rans
-  pub free : somes (drop b.next b.places) ≡ []
-  pub next_is : b.next ≡ a.next + length runs
-  pub many : length b.places ≡ length a.places
+-- How many plans are lost, by the end of the runs
+abbrev pub lost_count : RunEnd → ℕ
+lost_count NoMemory = 1
+lost_count end = 0
+
+module _ {Teller : Type 0} (takes : Teller → Ran → Bool → Teller → Type 0) where
+  -- From desk a to desk b the runner ran these plans, in order, and the teller took the results, in order. If not
+  -- `all`, it refused the last one
+  pub record Runs (m : Manner) (a : Desk Teller) (runs : List Sent) (all : Bool) (b : Desk Teller) : Type 0 where
+    pub rans : List Ran
+    pub run : AreRun m a.state a.last runs rans
+    pub told : AreTold takes a.teller rans all b.teller
+    pub state_is : b.state ≡ state_after a.state runs
+    pub last_is : b.last ≡ last_after a.last rans
+
+  -- From desk a to desk b the runner took these plans, in order, and its runs ended so. It ran all of them, but for the
+  -- last one if memory was refused for that. The teller took all results, but for the last one if it refused that
+  pub record RunsPlans (m : Manner) (a : Desk Teller) (plans : List Sent) (end : RunEnd) (b : Desk Teller) : Type 0 where
+    pub runs : List Sent
+    pub lost : List Sent
+    pub run : Runs m a runs (is_told end) b
+    pub parts : plans ≡ runs ++ lost
+    pub lost_is : length lost ≡ lost_count end
 
 -- A runner between two plans: its desk, what it received over its ring, and what it knows to be in the ring
-pub record Post : Type 0 where
-  pub desk : Desk
+pub record Post (Teller : Type 0) : Type 0 where
+  pub desk : Desk Teller
   pub received : List Sent
   pub known : List Sent
 
--- The post of a runner whose next free place is `next`
-abbrev pub post : Runner → (next : ℕ) → Post
-post r next = record { desk = desk r next; received = received r.ring; known = known_items r.ring }
+-- The post of a runner with this teller
+abbrev pub post : {Teller : Type 0} → Runner → Teller → Post Teller
+post r teller = record { desk = desk r teller; received = received r.ring; known = known_items r.ring }
 
 -- What a runner did with the plans that waited: the `first`, which do not go through the ring, and those known to be in
--- the ring. It ran the first few of them in order. If `all`, it ran all of them; if not, it took one more, for which
--- memory was refused, and left the others
-pub record RunsWaiting (m : Manner) (a : Post) (first : List Sent) (all : Bool) (b : Post) : Type 0 where
-  pub runs : List Sent
-  pub lost : List Sent
+-- the ring. It took the first few of them in order, and all if its runs ended as a whole. It left the others
+pub record RunsWaiting {Teller : Type 0} (takes : Teller → Ran → Bool → Teller → Type 0) (m : Manner) (a : Post Teller)
+    (first : List Sent) (end : RunEnd) (b : Post Teller) : Type 0 where
   pub popped : List Sent
-  pub run : Runs m a.desk runs b.desk
-  pub parts : first ++ popped ≡ runs ++ lost
+  pub plans : RunsPlans takes m a.desk (first ++ popped) end b.desk
   pub known_is : a.known ≡ popped ++ b.known
   pub received_is : b.received ≡ a.received ++ popped
-  pub whole : all ≡ true → (lost ≡ []) × (b.known ≡ [])
-  pub refused : all ≡ false → length lost ≡ 1
+  pub whole : end ≡ Whole → b.known ≡ []
 
 -- The plan can be run by the engine once its bases are filled in: it is valid, its keys are in the layout, and no value
 -- of the state is above its greatest one
@@ -139,28 +143,23 @@ pub record IsRunnable (engine : Kept) (p : Plan) : Type 0 where
   pub keys : PlanKeysIn p engine.layout
   pub small : IsUpTo (high_of p) (contents engine)
 
--- The runner may run what waits. The plans have one greatest value, which no value of the state is above. No place is
--- taken, and there is one for each plan
-pub record CanRun (first : List Sent) (r : Runner) : Type 0 where
+-- The runner may run what waits, and hand the results to the teller. The plans have one greatest value, which no value
+-- of the state is above. They are numbered on behind `before`, and no number is above that of the last possible line.
+-- The teller can take the result of the first of them
+pub record CanRun {Teller : Type 0} (can_take : Teller → ℕ → Type 0) (first : List Sent) (r : Runner)
+    (teller : Teller) : Type 0 where
   pub high : ℕ
   pub small : IsUpTo high (contents r.engine)
   pub first_ready : All (λ (x : Sent). IsReadyPlan r.engine.layout high x.plan) first
   pub ready : All (λ (x : Sent). IsReadyPlan r.engine.layout high x.plan) (known_items r.ring)
-  pub empty : somes r.rans.items ≡ []
-  pub some : 1 ≤ length r.rans.items
-  pub few : length r.rans.items ≤ 2
-  pub room : length first + length (known_items r.ring) ≤ length r.rans.items
+  pub before : ℕ
+  pub numbered : AreNumbered before (first ++ known_items r.ring)
+  pub few : before + length first + length (known_items r.ring) ≤ input_bytes + 1
+  pub can : can_take teller (before + 1)
 
--- The runner ran what waited, by `RunsWaiting`, from no taken place on
-pub record HasRunWaiting (m : Manner) (first : List Sent) (a : Runner) (all : Bool) (b : Runner) : Type 0 where
-  pub next : ℕ
-  pub runs : RunsWaiting m (post a 0) first all (post b next)
+-- The runner ran what waited, by `RunsWaiting`, and handed the results to the teller
+pub record HasRunWaiting {Teller : Type 0} (takes : Teller → Ran → Bool → Teller → Type 0) (m : Manner)
+    (first : List Sent) (a : Runner) (teller : Teller) (end : RunEnd) (b : Runner) (teller' : Teller) : Type 0 where
+  pub runs : RunsWaiting takes m (post a teller) first end (post b teller')
   pub ring : SameConsumer a.ring b.ring
   pub layout : b.engine.layout ≡ a.engine.layout
-
--- The runner took no plan, since memory was refused
-pub record IsPlanRefused (a : Runner) (next : ℕ) (b : Runner) (next' : ℕ) : Type 0 where
-  pub engine : b.engine ≡ a.engine
-  pub last : b.last ≡ a.last
-  pub places : b.rans.items ≡ a.rans.items
-  pub next_is : next' ≡ next

@@ -1,5 +1,5 @@
 -- Plans that are made of the batches that a reader gives
-use Rattle.std.specs.Prelude.{false, ◌≡◌, ℕ, ◌+◌, ◌≤◌, List, [], ◌∷◌, ◌++◌, length, map, All, Option, Some, None, Result, Ok, Err, IsTrue}
+use Rattle.std.specs.Prelude.{false, ◌≡◌, ◌≢◌, ℕ, ◌+◌, ◌≤◌, List, [], ◌∷◌, ◌++◌, length, map, All, Option, Some, None, Result, Ok, Err, IsTrue}
 use Rattle.morph_base.specs.declared.key.Layout.{Layout}
 use Rattle.morph_base.specs.declared.plan.Plan.{Plan}
 use Rattle.morph_base.specs.Transactions.{Transaction, by_time}
@@ -16,15 +16,16 @@ use Rattle.rtrb.specs.Ring.{sent, known_free}
 use Rattle.batch_pipe.specs.declared.items.Sent.{Sent}
 use Rattle.batch_pipe.specs.declared.planner.Planner.{Planner}
 use Rattle.batch_pipe.specs.declared.tail.Tail.{Tail}
-use Rattle.batch_pipe.specs.declared.tail.Tail.TheVariants.{End, Refused, Fault, RunMemory}
+use Rattle.batch_pipe.specs.declared.tail.Tail.TheVariants.{End, Refused, Fault, RunMemory, Untold}
 use Rattle.batch_pipe.specs.GivenBatches.{Stand, stand, GivesBatches}
 
--- The answer of a reader that a tail stands for. For `RunMemory` it is `OutOfMemory`, which says nothing
+-- The answer of a reader that a tail stands for. For a tail that no reader meets it is `OutOfMemory`, which says nothing
 abbrev pub answer_of : Tail → Result Next ReaderFault
 answer_of End = Ok NoBatch
 answer_of (Refused line cause) = Ok (RefusedLine line cause)
 answer_of (Fault fault) = Err fault
 answer_of RunMemory = Err OutOfMemory
+answer_of Untold = Err OutOfMemory
 
 -- The plan is valid, has the greatest value `high`, and its keys are in the layout. Once its bases are filled in, it
 -- can be run on a state of the layout with no value above `high`
@@ -66,6 +67,7 @@ module _ {App : Type 0} (event_of : App → ℕ → Meaning) where
     pub answers : AnswersNext (accepted_by event_of a.reader a.left) (answer_of tail) (accepted_by event_of b.reader b.left)
     pub shows : TakesBytes a.left b.left (ShowsNext event_of a.reader (answer_of tail) b.reader)
     pub asked : tail ≡ Fault ReadFault → a.reader.lines.ended ≡ false
+    pub untold : tail ≢ Untold
     pub same : SameReader a.reader b.reader
 
   -- The reader met this tail, or there is no tail and it was not asked

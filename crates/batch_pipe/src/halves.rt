@@ -10,8 +10,9 @@ ghost use Rattle.batch_pipe.specs.PlanRuns.{CanRun, HasRunWaiting, manner, one_o
 
 use crate::items::Sent;
 use crate::planner::{Planner, plan_half};
-use crate::runner::{Host, Runner, run_waiting};
+use crate::runner::{Host, RunEnd, Runner, run_waiting};
 use crate::tail::Tail;
+use crate::teller::Teller;
 use event_reader::EventApp;
 use morph_io::Source;
 use std::thread::{Threads, join_mut};
@@ -21,20 +22,21 @@ use worker_gate::Gate;
 /// start of a thread would cost more than it saves: docs/PERFORMANCE.md.
 const SHARED_OPS: usize = 16_384;
 
-/// The runner's half of a round.
-fn run_half<R: Threads + Sync, G: Gate>(
+/// The runner's half of a round: it runs the plans that wait, and hands each result to the teller at once.
+fn run_half<R: Threads + Sync, G: Gate, T: Teller>(
     host: &Host<'_, R, G>,
     runner: &mut Runner,
+    teller: &mut T,
     first: &mut Option<Sent>,
-) -> bool
-    requires waiting { CanRun (one_or_none first.old) runner.old }
+) -> RunEnd
+    requires waiting { CanRun T.can_take (one_or_none first.old) runner.old teller.old }
     requires some { 1 ≤ host.now.workers }
     requires few { host.now.workers ≤ most_workers }
-    ensures { HasRunWaiting (manner host.now.pick host.now.workers)
-        (one_or_none first.old) runner.old result runner.new }
+    ensures { HasRunWaiting T.takes (manner host.now.pick host.now.workers)
+        (one_or_none first.old) runner.old teller.old result runner.new teller.new }
 {
     let first = first.take();
-    run_waiting(host, runner, first)
+    run_waiting(host, runner, teller, first)
 }
 
 /// How many operations the first plan has that is to be run, or 0 if none waits.
@@ -47,17 +49,24 @@ fn first_ops(runner: &Runner, first: &Option<Sent>) -> usize {
 }
 
 /// The two halves of a round: side by side, and neither waits for the other; or, if the first plan has fewer than
-/// 16,384 operations, one after the other.
-pub(crate) fn run_halves<R: Threads + Sync, A: EventApp + Send, S: Source + Send, G: Gate>(
+/// 16,384 operations, one after the other. The plans that wait are run in the caller's thread.
+pub(crate) fn run_halves<
+    R: Threads + Sync,
+    A: EventApp + Send,
+    S: Source + Send,
+    G: Gate,
+    T: Teller,
+>(
     host: &Host<'_, R, G>,
     planning: bool,
     planner: &mut Planner<A>,
     source: &mut S,
     runner: &mut Runner,
+    teller: &mut T,
     first: Option<Sent>,
-) -> (Option<Tail>, bool)
+) -> (Option<Tail>, RunEnd)
     requires able { IsTrue planning → CanPlan planner.old }
-    requires waiting { CanRun (one_or_none first) runner.old }
+    requires waiting { CanRun T.can_take (one_or_none first) runner.old teller.old }
     requires some { 1 ≤ host.now.workers }
     requires few { host.now.workers ≤ most_workers }
     ensures plans { HasPlanned A.event_of A.table_count
@@ -72,23 +81,24 @@ pub(crate) fn run_halves<R: Threads + Sync, A: EventApp + Send, S: Source + Send
     ensures never_falls { S.faults source.old ≤ S.faults source.new }
     ensures cause { IfSome result.0 (λ tail. tail ≡ Tail.Fault ReadFault
         → HasRisen (S.faults source.old) (S.faults source.new)) }
-    ensures runs { HasRunWaiting (manner host.now.pick host.now.workers)
-        (one_or_none first) runner.old result.1 runner.new }
+    ensures runs { HasRunWaiting T.takes (manner host.now.pick host.now.workers)
+        (one_or_none first) runner.old teller.old result.1 runner.new teller.new }
 {
     let mut first = first;
     let alloc = host.alloc;
     if first_ops(runner, &first) < SHARED_OPS {
-        let all = run_half(host, runner, &mut first);
-        return (plan_half(alloc, planning, planner, source), all);
+        let end = run_half(host, runner, teller, &mut first);
+        return (plan_half(alloc, planning, planner, source), end);
     }
     join_mut(
         host.rt,
         &mut || plan_half(alloc, planning, planner, source),
-        &mut || -> bool
-            requires { IsSync R.row × CanRun (one_or_none first) runner.now
+        &mut || -> RunEnd
+            requires { IsSync R.row × CanRun T.can_take (one_or_none first) runner.now teller.now
                 × (1 ≤ host.now.workers) × (host.now.workers ≤ most_workers) }
-            ensures { HasRunWaiting (manner host.entry.now.pick host.entry.now.workers)
-                (one_or_none first.entry) runner.entry.now result runner.exit.now }
-        { run_half(host, runner, &mut first) },
+            ensures { HasRunWaiting T.takes (manner host.entry.now.pick host.entry.now.workers)
+                (one_or_none first.entry) runner.entry.now teller.entry.now
+                result runner.exit.now teller.exit.now }
+        { run_half(host, runner, teller, &mut first) },
     )
 }

@@ -1,5 +1,4 @@
-ghost use Rattle.std.specs.Prelude.{◌≡◌, ◌+◌, ◌<◌, ◌≤◌, ◌↔◌, [], ◌∷◌, ◌++◌, length, replicate, slice_set};
-ghost use Rattle.std.specs.Prelude.{slice_index_or, Option, None, Some, IfOk, IfNone, IfSome, IsTrue};
+ghost use Rattle.std.specs.Prelude.{◌≡◌, ◌+◌, ◌≤◌, ◌↔◌, ◌++◌, length, Some, None, IfOk, IsTrue};
 ghost use Rattle.morph_base.specs.Limits.{most_workers};
 ghost use Rattle.morph_base.specs.Flat.{contents};
 ghost use Rattle.morph_base.specs.States.{IsUpTo};
@@ -9,19 +8,19 @@ ghost use Rattle.event_reader.specs.Versions.{greatest_of};
 ghost use Rattle.event_reader.specs.declared.fault.ReaderFault.TheVariants.{ReadFault};
 ghost use Rattle.rtrb.specs.Ring.{sent, received, known_items, known_free, producer_capacity, IsPair};
 ghost use Rattle.rtrb.specs.Ring.{SameProducer, SameConsumer};
-ghost use Rattle.batch_pipe.specs.declared.items.Ran.{Ran};
 ghost use Rattle.batch_pipe.specs.PlannedBatches.{layout_by};
-ghost use Rattle.batch_pipe.specs.PlanRuns.{manner, somes};
-ghost use Rattle.batch_pipe.specs.PipeRounds.{IsGoing, IsRound, new_pipe};
+ghost use Rattle.batch_pipe.specs.PlanRuns.{manner};
+ghost use Rattle.batch_pipe.specs.PipeRounds.{IsGoing, IsRound, IsUncut, new_pipe, number_before};
 
 use crate::halves::run_halves;
-use crate::items::{Picker, Ran, Sent};
+use crate::items::{Picker, Sent};
 use crate::planner::{Planner, read_first};
 use crate::runner::{Host, Runner};
 use crate::tail::{Tail, tail_after};
+use crate::teller::Teller;
 use decision_model::Last;
 use event_reader::{BatchReader, EventApp};
-use morph_base::{List, OutOfMemory};
+use morph_base::OutOfMemory;
 use morph_engine::Engine;
 use morph_io::Source;
 use rtrb::{Consumer, Producer, RingBuffer};
@@ -32,9 +31,8 @@ use worker_gate::Gate;
 
 /// Batches that are read and planned ahead of the one that is run.
 ///
-/// Contracts see its reader, its engine, the plans that wait in its ring, the results of those that were run and not
-/// yet taken out, how many plans were sent, the outcome of the batch that was run last, the tail, and how many plans
-/// can wait.
+/// Contracts see its reader, its engine, the plans that wait in its ring, how many plans were sent, the outcome of the
+/// batch that was run last, the tail, and how many plans can wait.
 #[derive(Drop)]
 pub struct Pipe<A: EventApp> {
     planner: Planner<A>,
@@ -52,40 +50,6 @@ impl<A: EventApp> Model for Pipe<A> {
     ghost view = { view_of };
 
     ghost invariant = { λ pipe. IsPipe A.table_count pipe };
-}
-
-/// Places for results, all free.
-fn free_places(alloc: Global, ahead: usize) -> Result<List<Option<Ran>>, OutOfMemory>
-    ensures { IfOk result (λ rans. rans.items ≡ replicate ahead None) }
-{
-    let mut rans = List::with_room(alloc, ahead)?;
-    for _ in 0..ahead {
-        rans.add(None);
-    }
-    Ok(rans)
-}
-
-/// Takes out the result at a place.
-fn take_at(rans: &mut List<Option<Ran>>, i: usize) -> Option<Ran>
-    requires { i < length rans.old.items }
-    ensures taken { (d : Option Ran) → result ≡ slice_index_or rans.old.items i d }
-    ensures rest { rans.new.items ≡ slice_set rans.old.items i None }
-{
-    rans.as_mut_slice()[i].take()
-}
-
-/// Takes out the first result that is there.
-fn take_first(rans: &mut List<Option<Ran>>) -> Option<Ran>
-    ensures some { IfSome result (λ ran. somes rans.old.items ≡ ran ∷ somes rans.new.items) }
-    ensures none { IfNone result ((somes rans.old.items ≡ []) × (somes rans.new.items ≡ [])) }
-    ensures many { length rans.new.items ≡ length rans.old.items }
-{
-    for i in 0..rans.len() {
-        if let Some(ran) = take_at(rans, i) {
-            return Some(ran);
-        }
-    }
-    None
 }
 
 /// Brings the two ends of the ring together: the one that pops then knows all that was pushed, and the one that pushes
@@ -133,7 +97,6 @@ impl<A: EventApp> Pipe<A> {
         ensures { IfOk result (λ pipe. pipe ≡ new_pipe reader engine ahead) }
     {
         let (producer, consumer) = RingBuffer::new(alloc, ahead as usize)?;
-        let rans = free_places(alloc, ahead as usize)?;
         Ok(Pipe {
             planner: Planner {
                 reader,
@@ -143,7 +106,6 @@ impl<A: EventApp> Pipe<A> {
             runner: Runner {
                 engine,
                 ring: consumer,
-                rans,
                 last: Last {
                     events: 0,
                     aborted: 0,
@@ -167,23 +129,17 @@ impl<A: EventApp> Pipe<A> {
         &self.runner.engine
     }
 
-    /// Whether there is more to do: a plan waits or there is no tail, and no run was refused memory.
+    /// Whether there is more to do: a plan waits or there is no tail, no run was refused memory, and the teller refused
+    /// no result.
     pub fn going(&self) -> bool
         ensures going { IsTrue result ↔ IsGoing self.now }
         ensures bound { self.now.reader.lines.number ≤ self.now.reader.lines.limit + 1 }
         ensures limit { self.now.reader.lines.limit ≤ input_bytes }
     {
         let reads = self.planner.reader.live() && self.tail.is_none();
-        (reads || self.runner.ring.cached_slots() > 0) && self.tail != Some(Tail::RunMemory)
-    }
-
-    /// Takes out the next result, in the order of the plans. There is none exactly if no result waits.
-    pub fn next(&mut self) -> Option<Ran>
-        ensures some { IfSome result (λ ran. (self.new ≡ record self.old { rans = self.new.rans })
-            × (self.old.rans ≡ ran ∷ self.new.rans)) }
-        ensures none { IfNone result ((self.new ≡ self.old) × (self.old.rans ≡ [])) }
-    {
-        take_first(&mut self.runner.rans)
+        (reads || self.runner.ring.cached_slots() > 0)
+            && self.tail != Some(Tail::RunMemory)
+            && self.tail != Some(Tail::Untold)
     }
 
     /// One round: the next batches are read and planned while the plans that wait are run, from 1 to 16 workers each.
@@ -191,12 +147,14 @@ impl<A: EventApp> Pipe<A> {
     /// If no plan waits and there is no tail, one batch is read and planned first, and its plan goes to the runner
     /// without the ring. Then two halves run side by side; neither waits for the other. The planner reads, plans and
     /// sends until it sees no free place or meets a tail; it fills at least the places that were free when the halves
-    /// began. The runner takes the plans that waited then, in order, and picks the strategy of each.
+    /// began. The runner takes the plans that waited then, in order, and picks the strategy of each. It hands each
+    /// result to the teller, in the caller's thread, before it runs the next plan.
     ///
     /// If memory to run a plan is refused, the tail is [`Tail::RunMemory`], whatever tail the planner met. That plan is
-    /// dropped, and the engine stays as it was before it. If memory for planning is refused, the tail is that of the
-    /// reader, and the batch is not sent.
-    pub fn round<R: Threads + Sync, S: Source + Send, G: Gate>(
+    /// dropped, and the engine stays as it was before it. If the teller refuses a result, the tail is [`Tail::Untold`].
+    /// That plan was run, and those behind it stay. If memory for planning is refused, the tail is that of the reader,
+    /// and the batch is not sent.
+    pub fn round<R: Threads + Sync, S: Source + Send, G: Gate, T: Teller>(
         &mut self,
         rt: &R,
         alloc: Global,
@@ -204,15 +162,17 @@ impl<A: EventApp> Pipe<A> {
         pick: &Picker,
         workers: u32,
         gate: &G,
+        teller: &mut T,
     )
     where
         A: Send,
         requires going { IsGoing self.old }
-        requires none { self.old.rans ≡ [] }
+        requires next { T.can_take teller.old (number_before self.old + 1) }
         requires some { 1 ≤ workers }
         requires few { workers ≤ most_workers }
-        ensures round { IsRound A.event_of (manner pick.now workers)
-            self.old (S.left source.old) self.new (S.left source.new) }
+        ensures round { IsRound A.event_of T.takes (manner pick.now workers)
+            self.old (S.left source.old) teller.old self.new (S.left source.new) teller.new }
+        ensures next { IsUncut self.new.tail → T.can_take teller.new (number_before self.new + 1) }
         ensures never_falls { S.faults source.old ≤ S.faults source.new }
         ensures cause { self.old.tail ≡ None → self.new.tail ≡ Some (Tail.Fault ReadFault)
             → HasRisen (S.faults source.old) (S.faults source.new) }
@@ -226,6 +186,8 @@ impl<A: EventApp> Pipe<A> {
                 return;
             }
         };
+        let reads = self.planner.reader.live();
+        prove!(reads || !planning);
         let host = Host {
             rt,
             alloc,
@@ -233,15 +195,16 @@ impl<A: EventApp> Pipe<A> {
             pick: *pick,
             workers,
         };
-        let (stop, all) = run_halves(
+        let (stop, end) = run_halves(
             &host,
             planning,
             &mut self.planner,
             source,
             &mut self.runner,
+            teller,
             first,
         );
         bring_together(&mut self.planner.ring, &mut self.runner.ring);
-        self.tail = tail_after(self.tail, stop, all);
+        self.tail = tail_after(self.tail, stop, end);
     }
 }

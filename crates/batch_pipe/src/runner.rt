@@ -1,17 +1,19 @@
-ghost use Rattle.std.specs.Prelude.{◌≡◌, ◌∷◌, ◌≤◌, [], not, count_by, IfOk, IfSome, OnOk, OnErr, IsTrue};
-ghost use Rattle.std.specs.Prelude.{IsFalse, length};
+ghost use Rattle.std.specs.Prelude.{◌≡◌, ◌+◌, ◌∷◌, ◌≤◌, ◌↔◌, [], not, count_by, IfOk, IfSome, IsTrue};
+ghost use Rattle.std.specs.Prelude.{OnOk, OnErr};
 ghost use Rattle.morph_base.specs.Limits.{most_workers};
 ghost use Rattle.morph_base.specs.Flat.{contents};
 ghost use Rattle.morph_base.specs.States.{after_all};
 ghost use Rattle.morph_base.specs.Plans.{IsPlan, IsSettledOf, transactions};
+ghost use Rattle.event_reader.specs.Limits.{input_bytes};
 ghost use Rattle.morph_engine.specs.Fates.{settled_fates};
-ghost use Rattle.batch_pipe.specs.PlanRuns.{IsSentRun, Runs, HasRunWaiting, HasPlace, IsRunnable};
-ghost use Rattle.batch_pipe.specs.PlanRuns.{CanRun, IsPlanRefused, came_of, desk, manner, one_or_none};
+ghost use Rattle.batch_pipe.specs.PlanRuns.{IsSentRun, RunsPlans, HasRunWaiting, IsRunnable};
+ghost use Rattle.batch_pipe.specs.PlanRuns.{CanRun, came_of, desk, manner, one_or_none};
 ghost use Rattle.decision_model.specs.Choices.{last_of};
 
 use crate::items::{Picker, Ran, Sent};
+use crate::teller::Teller;
 use decision_model::Last;
-use morph_base::{List, OutOfMemory};
+use morph_base::OutOfMemory;
 use morph_engine::{BatchEnd, Engine};
 use rtrb::Consumer;
 use std::alloc::Global;
@@ -34,10 +36,28 @@ pub(crate) struct Host<'a, R, G> {
 pub(crate) struct Runner {
     pub(crate) engine: Engine,
     pub(crate) ring: Consumer<Sent>,
-    /// A place for the result of each plan that can wait.
-    pub(crate) rans: List<Option<Ran>>,
     /// The outcome of the batch that was run last.
     pub(crate) last: Last,
+}
+
+/// How the runs of a round ended.
+#[derive(Clone, Copy, Debug, PartialEq, Eq)]
+pub(crate) enum RunEnd {
+    /// All plans that were to be run were run, and all results were taken.
+    Whole,
+    /// Memory to run a plan was refused.
+    NoMemory,
+    /// The teller refused a result.
+    Untold,
+}
+
+impl RunEnd {
+    /// Whether all plans were run, and all results were taken.
+    fn is_whole(self) -> bool
+        ensures { IsTrue result ↔ (self ≡ RunEnd.Whole) }
+    {
+        matches!(self, RunEnd::Whole)
+    }
 }
 
 /// How many of some verdicts abort.
@@ -89,81 +109,85 @@ fn run_one<R: Threads + Sync, G: Gate>(
     })
 }
 
-/// Runs a plan, and puts the result into the next place. Returns whether memory was there.
-fn run_into<R: Threads + Sync, G: Gate>(
+/// Runs a plan, and hands its result to the teller.
+fn run_into<R: Threads + Sync, G: Gate, T: Teller>(
     host: &Host<'_, R, G>,
     runner: &mut Runner,
-    place: &mut usize,
+    teller: &mut T,
     sent: Sent,
-) -> bool
+) -> RunEnd
     requires ready { IsRunnable runner.old.engine sent.plan }
-    requires place { HasPlace runner.old place.old }
+    requires number { T.can_take teller.old sent.number }
+    requires last { sent.number ≤ input_bytes + 1 }
     requires some { 1 ≤ host.now.workers }
     requires few { host.now.workers ≤ most_workers }
-    ensures run { IsTrue result → Runs (manner host.now.pick host.now.workers)
-        (desk runner.old place.old) (sent ∷ []) (desk runner.new place.new) }
-    ensures refused { IsFalse result → IsPlanRefused runner.old place.old runner.new place.new }
+    ensures runs { RunsPlans T.takes (manner host.now.pick host.now.workers)
+        (desk runner.old teller.old) (sent ∷ []) result (desk runner.new teller.new) }
     ensures ring { runner.new.ring ≡ runner.old.ring }
     ensures layout { runner.new.engine.layout ≡ runner.old.engine.layout }
 {
     match run_one(host, &mut runner.engine, &mut runner.last, sent) {
         Ok(ran) => {
-            runner.rans.set(*place, Some(ran));
-            *place += 1;
-            true
+            if teller.take(ran) {
+                RunEnd::Whole
+            } else {
+                RunEnd::Untold
+            }
         }
-        Err(_) => false,
+        Err(_) => RunEnd::NoMemory,
     }
 }
 
-/// Runs the plan that does not go through the ring, if there is one.
-fn run_first<R: Threads + Sync, G: Gate>(
+/// Runs the plan that does not go through the ring, if there is one, and hands its result to the teller.
+fn run_first<R: Threads + Sync, G: Gate, T: Teller>(
     host: &Host<'_, R, G>,
     runner: &mut Runner,
-    place: &mut usize,
+    teller: &mut T,
     first: Option<Sent>,
-) -> bool
+) -> RunEnd
     requires ready { IfSome first (λ sent. IsRunnable runner.old.engine sent.plan) }
-    requires place { HasPlace runner.old place.old }
+    requires number { IfSome first (λ sent. T.can_take teller.old sent.number) }
+    requires last { IfSome first (λ sent. sent.number ≤ input_bytes + 1) }
     requires some { 1 ≤ host.now.workers }
     requires few { host.now.workers ≤ most_workers }
-    ensures run { IsTrue result → Runs (manner host.now.pick host.now.workers)
-        (desk runner.old place.old) (one_or_none first) (desk runner.new place.new) }
-    ensures refused { IsFalse result → (length (one_or_none first) ≡ 1)
-        × IsPlanRefused runner.old place.old runner.new place.new }
+    ensures runs { RunsPlans T.takes (manner host.now.pick host.now.workers)
+        (desk runner.old teller.old) (one_or_none first) result (desk runner.new teller.new) }
     ensures ring { runner.new.ring ≡ runner.old.ring }
     ensures layout { runner.new.engine.layout ≡ runner.old.engine.layout }
 {
     match first {
-        None => true,
-        Some(sent) => run_into(host, runner, place, sent),
+        None => RunEnd::Whole,
+        Some(sent) => run_into(host, runner, teller, sent),
     }
 }
 
 /// Runs the plans that wait: the one that does not go through the ring, if there is one, and those that are known to be
-/// in the ring. It pops no other.
+/// in the ring. It pops no other. Each result goes to the teller before the next plan is run.
 ///
-/// Returns whether all of them were run. A plan for which memory was refused is dropped, and those behind it stay.
-pub(crate) fn run_waiting<R: Threads + Sync, G: Gate>(
+/// Returns how the runs ended. A plan for which memory was refused is dropped, and those behind it stay. If the teller
+/// refuses a result, the plans behind it stay too.
+pub(crate) fn run_waiting<R: Threads + Sync, G: Gate, T: Teller>(
     host: &Host<'_, R, G>,
     runner: &mut Runner,
+    teller: &mut T,
     first: Option<Sent>,
-) -> bool
-    requires waiting { CanRun (one_or_none first) runner.old }
+) -> RunEnd
+    requires waiting { CanRun T.can_take (one_or_none first) runner.old teller.old }
     requires some { 1 ≤ host.now.workers }
     requires few { host.now.workers ≤ most_workers }
-    ensures { HasRunWaiting (manner host.now.pick host.now.workers)
-        (one_or_none first) runner.old result runner.new }
+    ensures { HasRunWaiting T.takes (manner host.now.pick host.now.workers)
+        (one_or_none first) runner.old teller.old result runner.new teller.new }
 {
-    let mut place = 0;
-    if !run_first(host, runner, &mut place, first) {
-        return false;
+    let end = run_first(host, runner, teller, first);
+    if !end.is_whole() {
+        return end;
     }
     for _ in 0..runner.ring.cached_slots() {
         let sent = runner.ring.pop_known();
-        if !run_into(host, runner, &mut place, sent) {
-            return false;
+        let end = run_into(host, runner, teller, sent);
+        if !end.is_whole() {
+            return end;
         }
     }
-    true
+    RunEnd::Whole
 }

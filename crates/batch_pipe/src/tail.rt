@@ -1,6 +1,7 @@
-ghost use Rattle.std.specs.Prelude.{◌≡◌, Some, false, IsTrue};
+ghost use Rattle.std.specs.Prelude.{◌≡◌, Some};
 ghost use Rattle.batch_pipe.specs.PipeRounds.{or_else};
 
+use crate::runner::RunEnd;
 use event_reader::{Cause, ReaderFault};
 
 /// Why no further batch comes.
@@ -14,19 +15,21 @@ pub enum Tail {
     Fault(ReaderFault),
     /// Memory to run a batch was refused.
     RunMemory,
+    /// The teller refused the result of a batch that was run.
+    Untold,
 }
 
-/// The tail after a round: the earlier one, or the one that its planner met, or [`Tail::RunMemory`] if its runner did
-/// not run all that it was to.
-pub(crate) fn tail_after(before: Option<Tail>, stop: Option<Tail>, all: bool) -> Option<Tail>
-    ensures whole { IsTrue all → result ≡ or_else before stop }
-    ensures refused { all ≡ false → result ≡ Some Tail.RunMemory }
+/// The tail after a round: the one by which its runs ended early, or else the earlier one, or else the one that its
+/// planner met.
+pub(crate) fn tail_after(before: Option<Tail>, stop: Option<Tail>, end: RunEnd) -> Option<Tail>
+    ensures whole { end ≡ RunEnd.Whole → result ≡ or_else before stop }
+    ensures memory { end ≡ RunEnd.NoMemory → result ≡ Some Tail.RunMemory }
+    ensures untold { end ≡ RunEnd.Untold → result ≡ Some Tail.Untold }
 {
-    if !all {
-        return Some(Tail::RunMemory);
-    }
-    match before {
-        Some(tail) => Some(tail),
-        None => stop,
+    match (end, before) {
+        (RunEnd::Whole, None) => stop,
+        (RunEnd::Whole, Some(tail)) => Some(tail),
+        (RunEnd::NoMemory, _) => Some(Tail::RunMemory),
+        (RunEnd::Untold, _) => Some(Tail::Untold),
     }
 }

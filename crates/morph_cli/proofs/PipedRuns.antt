@@ -1,7 +1,7 @@
 -- What holds of a run that reads ahead, between what is told of one batch and of the next, over plain values.
 use Rattle.run_text.specs.Checks.{is_checked}
-use Rattle.std.proofs.Common.{◌≡◌, ℕ, ◌+◌, ◌<◌, ◌≤◌, ◌⊎◌, inl, inr, List, [], ◌∷◌, ◌++◌, length, map, sum_by, Option, Some, None, Result, Err, refl, ap, sym, subst, ◌∙◌, arith, append-nil, append_assoc, false}
-use Rattle.std.specs.Prelude.{IsSome, option_map, ◌≢◌}
+use Rattle.std.proofs.Common.{◌≡◌, ℕ, ◌+◌, ◌<◌, ◌≤◌, ◌⊎◌, inl, inr, Bool, true, List, [], ◌∷◌, ◌++◌, length, map, sum_by, Option, Some, None, Result, Err, refl, ap, sym, subst, ◌∙◌, arith, append-nil, append_assoc, false}
+use Rattle.std.specs.Prelude.{IsSome, IsTrue, option_map, ◌≢◌}
 use Rattle.std.proofs.lemmas.List.{map-append}
 use Rattle.std.proofs.lemmas.List.Sorted.{length_permutation}
 use Rattle.std.proofs.lemmas.List.Sums.{sum_by-append, sum_by-cons}
@@ -21,7 +21,7 @@ use Rattle.event_reader.specs.Reader.{new_reader, accepted_by, accepted_after, a
 use Rattle.batch_pipe.specs.declared.items.Sent.{Sent}
 use Rattle.batch_pipe.specs.declared.items.Ran.{Ran}
 use Rattle.batch_pipe.specs.declared.tail.Tail.{Tail}
-use Rattle.batch_pipe.specs.declared.tail.Tail.TheVariants.{RunMemory, Fault as Unread}
+use Rattle.batch_pipe.specs.declared.tail.Tail.TheVariants.{RunMemory, Untold, Fault as Unread}
 use Rattle.event_reader.specs.declared.fault.ReaderFault.{ReaderFault}
 use Rattle.event_reader.specs.declared.fault.ReaderFault.TheVariants.{ReadFault, TooLong as LongInput, OutOfMemory as NoMemory}
 use Rattle.event_reader.specs.Steps.{Meaning}
@@ -32,12 +32,15 @@ use Rattle.event_reader.specs.Lines.{front as front_lines}
 use Rattle.batch_pipe.specs.GivenBatches.{Stand, stand, GivesBatches, with_batches}
 use Rattle.batch_pipe.specs.PlannedBatches.{StopsWithTail, MayStop, ArePlansOf, plans_of}
 use Rattle.batch_pipe.specs.PlanRuns.{Manner, IsSentRun, AreRun, picked, state_after, came_of, last_after as pipe_last}
-use Rattle.batch_pipe.specs.PipeRounds.{PipeView, IsGoing, IsRound, new_pipe, or_else}
+use Rattle.batch_pipe.specs.PipeRounds.{PipeView, IsGoing, IsRound, IsUncut, new_pipe, or_else}
 use Rattle.batch_pipe.proofs.Desks.{empty_is, all_middle}
 use Rattle.batch_pipe.proofs.GivenBatches.{gives_nothing, gives_both}
-use Rattle.batch_pipe.proofs.Rounds.{zero_or}
+use Rattle.batch_pipe.proofs.Rounds.{zero_or, told_or}
+use Rattle.batch_pipe.specs.Results.{AreTaken, AreRefused}
+use Rattle.run_text.specs.declared.choices.Settings.{Settings}
 use Rattle.run_text.specs.declared.tally.Tally.{Tally}
-use Rattle.run_text.specs.Counts.{CountsBatch, HasRoom, no_tally}
+use Rattle.run_text.specs.Reports.{report_of}
+use Rattle.run_text.specs.Counts.{CountsBatch, no_tally}
 use Rattle.run_text.specs.Text.{told_lines}
 use Rattle.morph_cli.specs.declared.fault.Fault.{Fault}
 use Rattle.morph_cli.specs.declared.fault.Fault.TheVariants.{Read, Write}
@@ -46,7 +49,9 @@ use Rattle.morph_cli.specs.Outputs.{Outputs, with_both, IsCutIn}
 use Rattle.morph_cli.specs.Status.{status_of}
 use Rattle.morph_cli.specs.Strategies.{strategy_by}
 use Rattle.morph_cli.specs.Tallies.{IsMadeOf, IsSoundAccount}
-use Rattle.morph_cli.proofs.RunPoints.{room_for, meaning_is}
+use Rattle.morph_cli.specs.Batches.{lines_of_batch, note_of_batch}
+use Rattle.morph_cli.specs.Tellers.{TellerView, teller_view, IsTallyBefore, CanTell, TellsRan}
+use Rattle.morph_cli.proofs.RunPoints.{meaning_is}
 use Rattle.morph_cli.proofs.TakenBytes.{TakesOn}
 use Rattle.morph_cli.proofs.OutputLaws.{cut_text}
 use Rattle.morph_cli.proofs.RunEnds.{Course, Goes, Ends, IsTold, meaning_in, accepted_in, ends_read, ends_long, ends_memory, given_at_start, goes_start, goes_batch, ends_batch_cut, told_in_batch, IsChosen}
@@ -94,6 +99,24 @@ risen_after old mid now first later risen few = elim (cases_lt mid 1844674407370
   | inr ge ↦ omega (arith, few, ge, later)
 ]
 
+-- the first batch can be told, where nothing is counted
+pub can_tell_first : (s : Settings) (out : List ℕ) (tally : Tally) (outputs : Outputs) (sink_faults notes_faults number : ℕ) → 1 ≤ number → out ≡ [] → is_checked s.check ≡ false → tally ≡ no_tally →
+    CanTell number (teller_view s out tally outputs sink_faults notes_faults)
+can_tell_first s out tally outputs sink_faults notes_faults number some empty off none = record {
+  empty = empty;
+  unchecked = off;
+  few = subst (IsTallyBefore number) (sym none) record {
+    batches = omega (arith, some);
+    events = omega arith;
+    both = refl;
+    ops = omega arith;
+    evaluated = omega arith;
+    rolled = omega arith;
+    settled = refl;
+    workers = refl;
+  };
+}
+
 module _ {App : Type 0} where
   -- the batches that are still to be told: these, and those that the reader gives from where it stands
   abbrev pub from_there : Course App → List (List Transaction) → Stand App → Option Accepted
@@ -102,12 +125,13 @@ module _ {App : Type 0} where
   -- the pipe stands where its last batch ended, or met its tail behind that
   abbrev pub HasStopped : Course App → Option Tail → (middle at : Stand App) → Type 0
   HasStopped c None middle at = at ≡ middle
-  HasStopped c (Some tail) middle at = tail ≢ RunMemory → StopsWithTail c.event_of tail middle at
+  HasStopped c (Some tail) middle at = tail ≢ RunMemory → tail ≢ Untold → StopsWithTail c.event_of tail middle at
 
   abbrev pub start_of : Course App → Stand App
   start_of c = stand (new_reader c.app c.size c.limit) c.input
 
-  pub record Piped (c : Course App) (m : Manner) (b : PipeView App) (left : Option (List ℕ)) (new : Outputs) (tally : Tally) (out : List ℕ) : Type 0 where
+  -- `rans` are the results of batches that were run and not yet told
+  pub record Piped (c : Course App) (m : Manner) (b : PipeView App) (rans : List Ran) (left : Option (List ℕ)) (new : Outputs) (tally : Tally) (out : List ℕ) : Type 0 where
     pub middle : Stand App
     -- the batches that were run and not told, and those that were sent and not run
     pub front : List (List Transaction)
@@ -120,12 +144,12 @@ module _ {App : Type 0} where
     pub stops : HasStopped c b.tail middle (stand b.reader left)
     pub runs : List Sent
     pub front_are : ArePlansOf front (plans_of runs)
-    pub run : AreRun m state last runs b.rans
+    pub run : AreRun m state last runs rans
     pub others : List Sent
     pub behind_are : ArePlansOf behind (plans_of others)
     pub others_wait : b.tail ≢ Some RunMemory → others ≡ b.waiting
     pub state_is : contents b.engine ≡ state_after state runs
-    pub last_is : b.last ≡ pipe_last last b.rans
+    pub last_is : b.last ≡ pipe_last last rans
     pub last_told : last ≡ last_after goes.done
     pub layout : b.engine.layout ≡ c.telling.layout
     pub kept : out ≡ []
@@ -137,10 +161,10 @@ module _ {App : Type 0} where
   from_start c = given_at_start c.event_of c.app c.size c.limit c.input ∙ sym (option_map-same (fronts []) (λ all. refl) (accepted_by c.event_of (new_reader c.app c.size c.limit) c.input))
 
   pub piped_start : (c : Course App) (m : Manner) (b : PipeView App) (ahead : ℕ) (tally : Tally) (out : List ℕ) → b ≡ new_pipe (new_reader c.app c.size c.limit) b.engine ahead →
-      contents b.engine ≡ opening_state → b.engine.layout ≡ c.telling.layout → tally ≡ no_tally → out ≡ [] → Piped c m b c.input c.old tally out
+      contents b.engine ≡ opening_state → b.engine.layout ≡ c.telling.layout → tally ≡ no_tally → out ≡ [] → Piped c m b [] c.input c.old tally out
   unfolding goes_start AreRun state_after pipe_last
   piped_start c m b ahead tally out new opening layout none empty =
-      subst (λ (v : PipeView App). Piped c m v c.input c.old tally out) (sym new) record {
+      subst (λ (v : PipeView App). Piped c m v [] c.input c.old tally out) (sym new) record {
         middle = start_of c;
         front = [];
         behind = [];
@@ -166,10 +190,10 @@ module _ {App : Type 0} where
 
   -- ---- a round
 
-  module _ {c : Course App} {m : Manner} {b b' : PipeView App} {left left' : Option (List ℕ)} {new : Outputs} {tally : Tally} {out : List ℕ}
-      (p : Piped c m b left new tally out) (none : b.rans ≡ []) (going : IsGoing b) (q : IsRound c.event_of m b left b' left') where
+  module _ {Teller : Type 0} {takes : Teller → Ran → Bool → Teller → Type 0} {teller teller' : Teller} {c : Course App} {m : Manner} {b b' : PipeView App} {left left' : Option (List ℕ)} {new : Outputs}
+      {tally : Tally} {out : List ℕ} (p : Piped c m b [] left new tally out) (going : IsGoing b) (q : IsRound c.event_of takes m b left teller b' left' teller') where
     runs_are : p.runs ≡ []
-    runs_are = runs_none m p.state p.last p.runs b.rans p.run none
+    runs_are = runs_none m p.state p.last p.runs [] p.run refl
 
     front_is : p.front ≡ []
     front_is = of_none p.front (plans_of p.runs) p.front_are (ap plans_of runs_are)
@@ -182,7 +206,7 @@ module _ {App : Type 0} where
     all_are =
         ap (map transactions) (sym (made q.runs (q.lost ++ b'.waiting)) ∙ ap plans_of (sym (append_assoc q.runs q.lost b'.waiting) ∙ sym q.parts) ∙ made b.waiting q.more)
         ∙ map-append transactions (plans_of b.waiting) (plans_of q.more)
-        ∙ ap (λ l. map transactions (plans_of l) ++ map transactions (plans_of q.more)) (sym (p.others_wait going.1))
+        ∙ ap (λ l. map transactions (plans_of l) ++ map transactions (plans_of q.more)) (sym (p.others_wait going.1.0))
         ∙ ap (λ l. l ++ map transactions (plans_of q.more)) p.behind_are
         ∙ ap (λ l. map by_time p.behind ++ l) q.plans.plans_are
         ∙ sym (map-append by_time p.behind q.plans.batches)
@@ -194,6 +218,15 @@ module _ {App : Type 0} where
     lost_or : (length q.lost ≡ 0) ⊎ (0 < length q.lost) → (q.lost ≡ []) ⊎ (b'.tail ≡ Some RunMemory)
     lost_or (inl z) = inl (empty_is q.lost z)
     lost_or (inr lt) = inr (q.refused (λ is. (let l = ap length is in omega (arith, l, lt)))).1
+
+    -- what the pipe met in the round, or that its runs were cut off
+    met_or : (tail : Option Tail) → (q.lost ≡ [] → b'.tail ≢ Some Untold → b'.tail ≡ tail) → (b'.tail ≡ tail) ⊎ (b'.tail ≡ Some RunMemory) ⊎ (b'.tail ≡ Some Untold)
+    met_or tail met = by_lost (told_or b'.tail) (lost_or (zero_or (length q.lost)))
+      where
+        by_lost : (b'.tail ≡ Some Untold) ⊎ (b'.tail ≢ Some Untold) → (q.lost ≡ []) ⊎ (b'.tail ≡ Some RunMemory) → (b'.tail ≡ tail) ⊎ (b'.tail ≡ Some RunMemory) ⊎ (b'.tail ≡ Some Untold)
+        by_lost (inl untold) lost = inr (inr untold)
+        by_lost (inr told) (inl none) = inl (met none told)
+        by_lost (inr told) (inr memory) = inr (inl memory)
 
     others_are : b'.tail ≢ Some RunMemory → q.lost ++ b'.waiting ≡ b'.waiting
     others_are fine = by_lost (lost_or (zero_or (length q.lost)))
@@ -213,11 +246,22 @@ module _ {App : Type 0} where
     stopped_by tail middle at is stops = subst (λ (t : Option Tail). HasStopped c t middle at) (sym is) stops
 
     no_matter : (middle at : Stand App) → HasStopped c (Some RunMemory) middle at
-    no_matter middle at = λ other. absurd (other refl)
+    no_matter middle at = λ other told. absurd (other refl)
+
+    untold_so : (middle at : Stand App) → HasStopped c (Some Untold) middle at
+    untold_so middle at = λ other told. absurd (told refl)
 
     may : (tail : Option Tail) (middle at : Stand App) → MayStop c.event_of tail middle at → HasStopped c tail middle at
     may None middle at stops = stops
-    may (Some tail) middle at stops = λ other. stops
+    may (Some tail) middle at stops = λ other told. stops
+
+    stops_so : (tail : Option Tail) (middle : Stand App) → (q.lost ≡ [] → b'.tail ≢ Some Untold → b'.tail ≡ tail) → HasStopped c tail middle (stand b'.reader left') → HasStopped c b'.tail middle (stand b'.reader left')
+    stops_so tail middle met there = by (met_or tail met)
+      where
+        by : (b'.tail ≡ tail) ⊎ (b'.tail ≡ Some RunMemory) ⊎ (b'.tail ≡ Some Untold) → HasStopped c b'.tail middle (stand b'.reader left')
+        by (inl is) = stopped_by tail middle (stand b'.reader left') is there
+        by (inr (inl memory)) = stopped_by (Some RunMemory) middle (stand b'.reader left') memory (no_matter middle (stand b'.reader left'))
+        by (inr (inr untold)) = stopped_by (Some Untold) middle (stand b'.reader left') untold (untold_so middle (stand b'.reader left'))
 
     onward : (t : Option Tail) → b.tail ≡ t → Onward
     onward None is =
@@ -227,13 +271,8 @@ module _ {App : Type 0} where
           middle = q.plans.middle;
           read = gives_both c.event_of ((p.goes.done ++ p.front) ++ p.behind) q.plans.batches p.read next;
           next = next;
-          stops = by_lost (lost_or (zero_or (length q.lost)));
+          stops = stops_so q.stop q.plans.middle (λ none_lost told. q.met none_lost told ∙ ap (λ t. or_else t q.stop) is) (may q.stop q.plans.middle (stand b'.reader left') q.plans.stops);
         }
-      where
-        by_lost : (q.lost ≡ []) ⊎ (b'.tail ≡ Some RunMemory) → HasStopped c b'.tail q.plans.middle (stand b'.reader left')
-        by_lost (inl none_lost) =
-            stopped_by q.stop q.plans.middle (stand b'.reader left') (q.met none_lost ∙ ap (λ t. or_else t q.stop) is) (may q.stop q.plans.middle (stand b'.reader left') q.plans.stops)
-        by_lost (inr memory) = stopped_by (Some RunMemory) q.plans.middle (stand b'.reader left') memory (no_matter q.plans.middle (stand b'.reader left'))
     onward (Some tail) is =
         let some : IsSome b.tail = subst IsSome (sym is) refl in
         let idle = q.idle some in
@@ -245,12 +284,8 @@ module _ {App : Type 0} where
           middle = p.middle;
           read = subst (λ l. GivesBatches c.event_of (start_of c) l p.middle) (sym (append-nil ((p.goes.done ++ p.front) ++ p.behind)) ∙ ap (λ l. ((p.goes.done ++ p.front) ++ p.behind) ++ l) (sym nothing)) p.read;
           next = subst (λ l. GivesBatches c.event_of p.middle l p.middle) (sym nothing) (gives_nothing c.event_of p.middle);
-          stops = by_lost there (lost_or (zero_or (length q.lost)));
+          stops = stops_so (Some tail) p.middle (λ none_lost told. q.met none_lost told ∙ ap (λ t. or_else t q.stop) is) there;
         }
-      where
-        by_lost : HasStopped c (Some tail) p.middle (stand b'.reader left') → (q.lost ≡ []) ⊎ (b'.tail ≡ Some RunMemory) → HasStopped c b'.tail p.middle (stand b'.reader left')
-        by_lost there (inl none_lost) = stopped_by (Some tail) p.middle (stand b'.reader left') (q.met none_lost ∙ ap (λ t. or_else t q.stop) is) there
-        by_lost there (inr memory) = stopped_by (Some RunMemory) p.middle (stand b'.reader left') memory (no_matter p.middle (stand b'.reader left'))
 
     -- the batches that are to be told, in other words
     parts_are : (done : List (List Transaction)) → ((done ++ p.front) ++ p.behind) ++ q.plans.batches ≡ (done ++ cut.0) ++ cut.1
@@ -268,12 +303,12 @@ module _ {App : Type 0} where
         ∙ option_map-twice (fronts (p.front ++ p.behind)) (with_batches q.plans.batches) (fronts ((p.front ++ p.behind) ++ q.plans.batches)) (λ all. fronts_both (p.front ++ p.behind) q.plans.batches all) given
         ∙ ap (λ l. option_map (fronts l) given) (parts_are [])
 
-    pub piped_round : Piped c m b' left' new tally out
+    pub piped_round : Piped c m b' q.rans left' new tally out
     unfolding state_after pipe_last
     piped_round =
         let o = onward b.tail refl in
         let state : contents b.engine ≡ p.state = p.state_is ∙ ap (state_after p.state) runs_are in
-        let last : b.last ≡ p.last = p.last_is ∙ ap (pipe_last p.last) none in
+        let last : b.last ≡ p.last = p.last_is in
         record {
           middle = o.middle;
           front = cut.0;
@@ -294,12 +329,12 @@ module _ {App : Type 0} where
           stops = o.stops;
           runs = q.runs;
           front_are = cut.3;
-          run = subst (λ (s : State). AreRun m s p.last q.runs b'.rans) state (subst (λ (l : Last). AreRun m (contents b.engine) l q.runs b'.rans) last q.run);
+          run = subst (λ (s : State). AreRun m s p.last q.runs q.rans) state (subst (λ (l : Last). AreRun m (contents b.engine) l q.runs q.rans) last q.run);
           others = q.lost ++ b'.waiting;
           behind_are = cut.4;
           others_wait = others_are;
           state_is = q.state_is ∙ ap (λ s. state_after s q.runs) state;
-          last_is = q.last_is ∙ ap (λ l. pipe_last l b'.rans) last;
+          last_is = q.last_is ∙ ap (λ l. pipe_last l q.rans) last;
           last_told = p.last_told;
           layout = q.layout ∙ p.layout;
           kept = p.kept;
@@ -351,9 +386,9 @@ module _ {App : Type 0} where
 
   module _ {c : Course App} {m : Manner} {b : PipeView App} {left : Option (List ℕ)} {new : Outputs} {tally : Tally} {out : List ℕ}
       (picks : (last : Last) (plan : Plan) → picked m.pick last plan ≡ strategy_by c.settings.planning plan last) (workers : m.workers ≡ c.settings.workers)
-      (p : Piped c m b left new tally out) (r : Ran) (rs : List Ran) (rans : b.rans ≡ r ∷ rs) where
+      {r : Ran} {rs : List Ran} (p : Piped c m b (r ∷ rs) left new tally out) where
     pub next : IsNext c m p.front p.runs p.state p.last r rs
-    next = next_of c m p.front p.runs p.state p.last r rs p.front_are (subst (λ l. AreRun m p.state p.last p.runs l) rans p.run)
+    next = next_of c m p.front p.runs p.state p.last r rs p.front_are p.run
 
     abbrev pub told : List Fate
     told = settled_fates r.end.plan r.end.settled
@@ -394,12 +429,6 @@ module _ {App : Type 0} where
         ∙ sym (option_map-twice (with_batch next.batch) (fronts (next.rest ++ p.behind)) (fronts ((next.batch ∷ next.rest) ++ p.behind))
         (λ all. fronts_one next.batch (next.rest ++ p.behind) all some_events) given)
 
-    pub few_told : tally.committed + tally.aborted ≤ c.limit + 1
-    few_told = let counted = p.counted in let bound = p.bound in omega (arith, counted, bound)
-
-    pub room_told : c.limit ≤ 1073741824 → HasRoom tally (account_of r.end)
-    room_told short = room_for (account_of r.end) p.goes few_told short next.run.valid.plan is_sound
-
     -- a write failed in it
     pub ends_in_run : {x : Result Finish Fault} (left' : Option (List ℕ)) (newer : Outputs) (note : List ℕ) → x ≡ Err Write → IsCutIn new (told_lines c.telling.report told) note newer → Ends c left' x newer
     ends_in_run left' newer note failed cut_there =
@@ -411,12 +440,12 @@ module _ {App : Type 0} where
         told_in_batch after newer next.batch None failed p.goes was some_events told_is adds is_sound is_made is_chosen some_told (unseen c.settings p.state tally.batches (account_of r.end) off) cut_there
 
     -- it was written
-    pub piped_told : (b' : PipeView App) (newer : Outputs) (tally' : Tally) (out' : List ℕ) → is_checked c.settings.check ≡ false → b' ≡ record b { rans = rs } →
+    pub piped_told : (newer : Outputs) (tally' : Tally) (out' : List ℕ) → is_checked c.settings.check ≡ false →
         newer ≡ with_both new (told_lines c.telling.report told) (told_note c.settings tally'.batches None (account_of r.end)) → out' ≡ [] →
-        CountsBatch tally tally' (account_of r.end) told → Piped c m b' left newer tally' out'
+        CountsBatch tally tally' (account_of r.end) told → Piped c m b rs left newer tally' out'
     unfolding goes_batch state_after pipe_last
-    piped_told b' newer tally' out' off same written empty adds =
-        subst (λ (v : PipeView App). Piped c m v left newer tally' out') (sym same) record {
+    piped_told newer tally' out' off written empty adds =
+        record {
           middle = p.middle;
           front = next.rest;
           behind = p.behind;
@@ -434,7 +463,7 @@ module _ {App : Type 0} where
           behind_are = p.behind_are;
           others_wait = p.others_wait;
           state_is = p.state_is ∙ ap (state_after p.state) next.runs_is;
-          last_is = p.last_is ∙ ap (pipe_last p.last) rans;
+          last_is = p.last_is;
           last_told = last_is p.goes.done next.batch told (told_is ∙ ap (λ s. fates s (by_time next.batch)) p.goes.runs.state);
           layout = p.layout;
           kept = empty;
@@ -448,6 +477,66 @@ module _ {App : Type 0} where
           bound = p.bound;
         }
 
+  -- ---- what came of the batches of a round
+
+  -- the results before these were told: where the teller stands then, from where it stood
+  pub record ToldTo (c : Course App) (m : Manner) (b : PipeView App) (left : Option (List ℕ)) (v : TellerView) (rest : List Ran) (v' : TellerView) : Type 0 where
+    pub run : Piped c m b rest left v'.outputs v'.tally v'.out
+    pub settings : v'.settings ≡ c.settings
+    pub sink_steady : v'.sink_faults ≡ v.sink_faults
+    pub notes_steady : v'.notes_faults ≡ v.notes_faults
+
+  -- a write failed in the last one that was told
+  pub record IsToldShort (c : Course App) (x : Result Finish Fault) (v v' : TellerView) : Type 0 where
+    pub ends : (left : Option (List ℕ)) → Ends c left x v'.outputs
+    pub told : IsTold c (status_of x) v'.tally v'.outputs
+    pub sink_faults : v.sink_faults ≤ v'.sink_faults
+    pub notes_faults : v.notes_faults ≤ v'.notes_faults
+    pub cause : HasRisen v.sink_faults v'.sink_faults ⊎ (IsTrue c.settings.notes × HasRisen v.notes_faults v'.notes_faults)
+
+  lines_are : (c : Course App) (s : Settings) (r : Ran) → c.telling.report ≡ report_of c.settings → s ≡ c.settings → lines_of_batch s r.end ≡ told_lines c.telling.report (settled_fates r.end.plan r.end.settled)
+  lines_are c s r report same = ap (λ x. lines_of_batch x r.end) same ∙ ap (λ l. told_lines l (settled_fates r.end.plan r.end.settled)) (sym report)
+
+  note_is : (c : Course App) (s : Settings) (number : ℕ) (r : Ran) → s ≡ c.settings → note_of_batch s number None r.end ≡ told_note c.settings number None (account_of r.end)
+  note_is c s number r same = ap (λ x. note_of_batch x number None r.end) same
+
+  module _ {c : Course App} {m : Manner} {b : PipeView App} {left : Option (List ℕ)} (picks : (last : Last) (plan : Plan) → picked m.pick last plan ≡ strategy_by c.settings.planning plan last)
+      (workers : m.workers ≡ c.settings.workers) (report : c.telling.report ≡ report_of c.settings) (off : is_checked c.settings.check ≡ false) where
+    told_to : (rs rest : List Ran) (v v' : TellerView) → v.settings ≡ c.settings → Piped c m b (rs ++ rest) left v.outputs v.tally v.out → AreTaken TellsRan v rs v' → ToldTo c m b left v rest v'
+    unfolding AreTaken
+    told_to [] rest v v' same p taken = subst (λ w. ToldTo c m b left v rest w) (sym taken) record { run = p; settings = same; sink_steady = refl; notes_steady = refl }
+    told_to (r ∷ rs) rest v v' same p taken =
+        let u : TellerView = taken.0 in
+        let t : TellsRan v r true u = taken.1 in
+        let steady = t.steady refl in
+        let written = t.written ∙ ap (λ l. with_both v.outputs l (note_of_batch v.settings u.tally.batches None r.end)) (lines_are c v.settings r report same)
+        ∙ ap (with_both v.outputs (told_lines c.telling.report (settled_fates r.end.plan r.end.settled))) (note_is c v.settings u.tally.batches r same) in
+        let next = piped_told picks workers p u.outputs u.tally u.out off written (t.empty refl) t.adds in
+        let on = told_to rs rest u v' (t.settings ∙ same) next taken.2 in
+        record { run = on.run; settings = on.settings; sink_steady = on.sink_steady ∙ steady.0; notes_steady = on.notes_steady ∙ steady.1 }
+
+    pub told_whole : (rs : List Ran) (v v' : TellerView) → v.settings ≡ c.settings → Piped c m b rs left v.outputs v.tally v.out → AreTaken TellsRan v rs v' → ToldTo c m b left v [] v'
+    told_whole rs v v' same p taken = told_to rs [] v v' same (subst (λ l. Piped c m b l left v.outputs v.tally v.out) (sym (append-nil rs)) p) taken
+
+    pub told_short : {x : Result Finish Fault} (rs : List Ran) (v v' : TellerView) → x ≡ Err Write → v.settings ≡ c.settings → Piped c m b rs left v.outputs v.tally v.out → AreRefused TellsRan v rs v' →
+        IsToldShort c x v v'
+    told_short rs v v' failed same p q =
+        let r = q.last in
+        let u : TellerView = q.between in
+        let on = told_to q.taken (r ∷ []) v u same (subst (λ l. Piped c m b l left v.outputs v.tally v.out) q.parts p) q.before in
+        let t : TellsRan u r false v' = q.refused in
+        let cut = subst (λ l. IsCutIn u.outputs l (told_note c.settings v'.tally.batches None (account_of r.end)) v'.outputs) (lines_are c u.settings r report on.settings)
+        (subst (λ l. IsCutIn u.outputs (lines_of_batch u.settings r.end) l v'.outputs) (note_is c u.settings v'.tally.batches r on.settings) t.written) in
+        record {
+          ends = λ left'. ends_in_run picks workers on.run left' v'.outputs (told_note c.settings v'.tally.batches None (account_of r.end)) failed cut;
+          told = told_in_run picks workers on.run v'.outputs v'.tally off failed t.adds cut;
+          sink_faults = subst (λ n. n ≤ v'.sink_faults) on.sink_steady t.sink_faults;
+          notes_faults = subst (λ n. n ≤ v'.notes_faults) on.notes_steady t.notes_faults;
+          cause = subst (λ n. HasRisen n v'.sink_faults ⊎ (IsTrue c.settings.notes × HasRisen v.notes_faults v'.notes_faults)) on.sink_steady
+              (subst (λ n. HasRisen u.sink_faults v'.sink_faults ⊎ (IsTrue c.settings.notes × HasRisen n v'.notes_faults)) on.notes_steady
+              (subst (λ (s : Settings). HasRisen u.sink_faults v'.sink_faults ⊎ (IsTrue s.notes × HasRisen u.notes_faults v'.notes_faults)) on.settings (t.cause refl)));
+        }
+
   -- ---- the end
 
   -- the run is over: no batch is left to tell, and this is where the reader stopped
@@ -457,9 +546,9 @@ module _ {App : Type 0} where
     pub stops : StopsWithTail c.event_of tail middle at
 
   module _ {c : Course App} {m : Manner} {b : PipeView App} {left : Option (List ℕ)} {new : Outputs} {tally : Tally} {out : List ℕ}
-      (p : Piped c m b left new tally out) (none : b.rans ≡ []) where
+      (p : Piped c m b [] left new tally out) where
     no_runs : p.runs ≡ []
-    no_runs = runs_none m p.state p.last p.runs b.rans p.run none
+    no_runs = runs_none m p.state p.last p.runs [] p.run refl
 
     no_front : p.front ≡ []
     no_front = of_none p.front (plans_of p.runs) p.front_are (ap plans_of no_runs)
@@ -468,17 +557,18 @@ module _ {App : Type 0} where
     unfolding state_after
     state_there = p.state_is ∙ ap (state_after p.state) no_runs
 
-    no_waiting : (IsGoing b → ⊥) → b.tail ≢ Some RunMemory → (length b.waiting ≡ 0) ⊎ (0 < length b.waiting) → b.waiting ≡ []
+    no_waiting : (IsGoing b → ⊥) → IsUncut b.tail → (length b.waiting ≡ 0) ⊎ (0 < length b.waiting) → b.waiting ≡ []
     no_waiting over fine (inl z) = empty_is b.waiting z
     no_waiting over fine (inr lt) = absurd (over (inr (λ is. (let l = ap length is in omega (arith, l, lt))), fine))
 
-    some_fine : (tail : Tail) → b.tail ≡ Some tail → tail ≢ RunMemory → b.tail ≢ Some RunMemory
-    some_fine tail is other memory = other (let same : Some tail ≡ Some RunMemory = sym is ∙ memory in cc)
+    some_fine : (tail : Tail) → b.tail ≡ Some tail → tail ≢ RunMemory → tail ≢ Untold → IsUncut b.tail
+    some_fine tail is other told =
+        (λ memory. other (let same : Some tail ≡ Some RunMemory = sym is ∙ memory in cc), λ untold. told (let same : Some tail ≡ Some Untold = sym is ∙ untold in cc))
 
-    pub piped_over : (tail : Tail) → (IsGoing b → ⊥) → b.tail ≡ Some tail → tail ≢ RunMemory → IsOverAt c tail p.middle (stand b.reader left) new p.state tally
-    piped_over tail over is other =
-        let fine = some_fine tail is other in
-        let others : p.others ≡ [] = p.others_wait fine ∙ no_waiting over fine (zero_or (length b.waiting)) in
+    pub piped_over : (tail : Tail) → (IsGoing b → ⊥) → b.tail ≡ Some tail → tail ≢ RunMemory → tail ≢ Untold → IsOverAt c tail p.middle (stand b.reader left) new p.state tally
+    piped_over tail over is other told =
+        let fine = some_fine tail is other told in
+        let others : p.others ≡ [] = p.others_wait fine.0 ∙ no_waiting over fine (zero_or (length b.waiting)) in
         let behind : p.behind ≡ [] = of_none p.behind (plans_of p.others) p.behind_are (ap plans_of others) in
         let all : p.front ++ p.behind ≡ [] = ap (λ l. l ++ p.behind) no_front ∙ behind in
         let given = accepted_by c.event_of p.middle.reader p.middle.left in
@@ -496,7 +586,7 @@ module _ {App : Type 0} where
             noted = p.goes.noted;
           };
           read = subst (λ l. GivesBatches c.event_of (start_of c) l p.middle) done p.read;
-          stops = (subst (λ (t : Option Tail). HasStopped c t p.middle (stand b.reader left)) is p.stops) other;
+          stops = (subst (λ (t : Option Tail). HasStopped c t p.middle (stand b.reader left)) is p.stops) other told;
         }
 
   -- the source failed behind the batches that were told
@@ -525,31 +615,26 @@ module _ {App : Type 0} where
 
   -- ---- the ends of a run
 
-  -- the same of a pipe that is the same
-  pub piped_as : {c : Course App} {m : Manner} {b b' : PipeView App} {left : Option (List ℕ)} {new : Outputs} {tally : Tally} {out : List ℕ} →
-      b' ≡ b → Piped c m b left new tally out → Piped c m b' left new tally out
-  piped_as {c} {m} {b} {b'} {left} {new} {tally} {out} same p = subst (λ (v : PipeView App). Piped c m v left new tally out) (sym same) p
-
   -- the reader failed
   pub ends_by : {c : Course App} {m : Manner} {b : PipeView App} {left : Option (List ℕ)} {new : Outputs} {tally : Tally} {out : List ℕ} {x : Result Finish Fault}
-      (fault : ReaderFault) → x ≡ Err (fault_of fault) → Piped c m b left new tally out → b.rans ≡ [] → (IsGoing b → ⊥) → b.tail ≡ Some (Unread fault) → Ends c left x new
-  ends_by {c} {m} {b} {left} {new} {tally} {out} {x} ReadFault failed p none over is =
-      ends_unread c p.middle (stand b.reader left) new p.state tally failed (piped_over p none (Unread ReadFault) over is (λ e. absurd (cc)))
-  ends_by {c} {m} {b} {left} {new} {tally} {out} {x} LongInput failed p none over is =
-      let o = piped_over p none (Unread LongInput) over is (λ e. absurd (cc)) in
+      (fault : ReaderFault) → x ≡ Err (fault_of fault) → Piped c m b [] left new tally out → (IsGoing b → ⊥) → b.tail ≡ Some (Unread fault) → Ends c left x new
+  ends_by {c} {m} {b} {left} {new} {tally} {out} {x} ReadFault failed p over is =
+      ends_unread c p.middle (stand b.reader left) new p.state tally failed (piped_over p (Unread ReadFault) over is (λ e. absurd (cc)) (λ e. absurd (cc)))
+  ends_by {c} {m} {b} {left} {new} {tally} {out} {x} LongInput failed p over is =
+      let o = piped_over p (Unread LongInput) over is (λ e. absurd (cc)) (λ e. absurd (cc)) in
       subst (λ y. Ends c left y new) (sym failed) (ends_long c (accepted_by c.event_of p.middle.reader p.middle.left) new p.state tally left o.goes o.stops.answers)
-  ends_by {c} {m} {b} {left} {new} {tally} {out} {x} NoMemory failed p none over is = ends_memory left failed p.goes
+  ends_by {c} {m} {b} {left} {new} {tally} {out} {x} NoMemory failed p over is = ends_memory left failed p.goes
 
   -- where the source failed in a round, or before it
-  pub read_in_round : {event_of : App → ℕ → Meaning} {m : Manner} {b b' : PipeView App} {left left' : Option (List ℕ)} (old mid now : ℕ) → IsRound event_of m b left b' left' →
-      old ≤ mid → mid ≤ now → (b.tail ≡ Some (Unread ReadFault) → HasRisen old mid) → (b.tail ≡ None → b'.tail ≡ Some (Unread ReadFault) → HasRisen mid now) →
+  pub read_in_round : {Teller : Type 0} {takes : Teller → Ran → Bool → Teller → Type 0} {teller teller' : Teller} {event_of : App → ℕ → Meaning} {m : Manner} {b b' : PipeView App} {left left' : Option (List ℕ)}
+      (old mid now : ℕ) → IsRound event_of takes m b left teller b' left' teller' → old ≤ mid → mid ≤ now → (b.tail ≡ Some (Unread ReadFault) → HasRisen old mid) → (b.tail ≡ None → b'.tail ≡ Some (Unread ReadFault) → HasRisen mid now) →
       b'.tail ≡ Some (Unread ReadFault) → HasRisen old now
-  read_in_round {event_of} {m} {b} {b'} {left} {left'} old mid now q first later before in_round is = by_tail b.tail refl
+  read_in_round {event_of = event_of} {m = m} {b = b} {b' = b'} {left = left} {left' = left'} old mid now q first later before in_round is = by_tail b.tail refl
     where
       by_lost : (tail : Tail) → b.tail ≡ Some tail → (length q.lost ≡ 0) ⊎ (0 < length q.lost) → HasRisen old now
       by_lost tail e (inr lt) = absurd (let memory = (q.refused (λ nothing. (let l = ap length nothing in omega (arith, l, lt)))).1 in cc)
       by_lost tail e (inl z) =
-          let met : b'.tail ≡ Some tail = q.met (empty_is q.lost z) ∙ ap (λ t. or_else t q.stop) e in
+          let met : b'.tail ≡ Some tail = q.met (empty_is q.lost z) (λ untold. (let both = sym is ∙ untold in cc)) ∙ ap (λ t. or_else t q.stop) e in
           let same : Some tail ≡ Some (Unread ReadFault) = sym met ∙ is in
           let risen = before (e ∙ same) in
           λ few. (let r = risen few in omega (arith, r, later))

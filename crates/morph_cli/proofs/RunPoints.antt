@@ -39,7 +39,8 @@ use Rattle.morph_cli.specs.Apps.{telling_by}
 use Rattle.run_text.specs.declared.choices.Settings.{Settings}
 use Rattle.snapshot_reader.specs.declared.viewer.Total.{Total}
 use Rattle.morph_cli.proofs.NoteLaws.{IsAudit, told_note}
-use Rattle.morph_cli.proofs.TallyLaws.{last_after, last_is, last_start, at_any}
+use Rattle.morph_cli.proofs.TallyLaws.{last_after, last_is, last_start}
+use Rattle.morph_cli.specs.TellerLaws.{at_any}
 use Rattle.morph_cli.proofs.TakenBytes.{TakesOn, takes_start, takes_batch}
 use Rattle.morph_cli.proofs.OutputLaws.{cut_text}
 use Rattle.morph_cli.proofs.RunEnds.{Course, Goes, Ends, IsTold, meaning_in, accepted_in, given_at_start, goes_start, goes_batch, ends_read, ends_long, ends_memory, ends_batch_cut, told_short, told_in_batch}

@@ -1,13 +1,13 @@
 -- How a run that reads ahead ends, by the tail that its pipe met.
 use Rattle.std.proofs.Common.{◌≡◌, ℕ, ◌++◌, inl, inr, List, [], Option, Some, None, Result, Ok, Err, refl, ap, sym, subst, ◌∙◌}
-use Rattle.std.specs.Prelude.{IfSome, IsErrOf}
+use Rattle.std.specs.Prelude.{IfSome, IsErrOf, ◌≢◌}
 use Rattle.morph_base.specs.Flat.{contents}
 use Rattle.morph_base.specs.States.{State}
 use Rattle.event_reader.specs.declared.cause.Cause.{Cause}
 use Rattle.event_reader.specs.declared.fault.ReaderFault.TheVariants.{ReadFault, TooLong as LongInput, OutOfMemory as NoMemory}
 use Rattle.event_reader.specs.Accepted.{Accepted, Ended, RefusedAt, CutOff}
 use Rattle.batch_pipe.specs.declared.tail.Tail.{Tail}
-use Rattle.batch_pipe.specs.declared.tail.Tail.TheVariants.{End, Refused as RefusedLine, Fault as Unread, RunMemory}
+use Rattle.batch_pipe.specs.declared.tail.Tail.TheVariants.{End, Refused as RefusedLine, Fault as Unread, RunMemory, Untold}
 use Rattle.batch_pipe.specs.PlanRuns.{Manner}
 use Rattle.batch_pipe.specs.PipeRounds.{PipeView, IsGoing}
 use Rattle.run_text.specs.declared.tally.Tally.{Tally}
@@ -37,6 +37,7 @@ pub read_by_tail : (tail : Option Tail) (x : Result Finish Fault) (old : Outputs
 read_by_tail tail (Ok answer) old closing note new ends is = absurd (cc)
 read_by_tail None (Err e) old closing note new ends is = absurd (let failed = ends.0 in cc)
 read_by_tail (Some RunMemory) (Err e) old closing note new ends is = absurd (let failed = ends.0 in cc)
+read_by_tail (Some Untold) (Err e) old closing note new ends is = absurd (let failed = ends.0 in cc)
 read_by_tail (Some (Unread ReadFault)) (Err e) old closing note new ends is = refl
 read_by_tail (Some (Unread LongInput)) (Err e) old closing note new ends is = absurd (let failed = ends.0 in cc)
 read_by_tail (Some (Unread NoMemory)) (Err e) old closing note new ends is = absurd (let failed = ends.0 in cc)
@@ -71,13 +72,13 @@ module _ {App : Type 0} {c : Course App} {now : Option Accepted} {new : Outputs}
 
 -- the closing text is that of the run
 last_of_run : {App : Type 0} {c : Course App} {m : Manner} {b : PipeView App} {left : Option (List ℕ)} {new : Outputs} {tally : Tally} {out : List ℕ}
-    (closing : List ℕ) (p : Piped c m b left new tally out) → b.rans ≡ [] →
+    (closing : List ℕ) (p : Piped c m b [] left new tally out) →
     closing ≡ told_values c.telling.report c.telling.layout c.telling.name (contents b.engine) ++ counts_line tally.committed tally.aborted → IsLast c.telling p.state tally Ended closing
-last_of_run {App} {c} {m} {b} {left} {new} {tally} {out} closing p none closing_is =
-    closing_is ∙ ap (λ (s : State). told_values c.telling.report c.telling.layout c.telling.name s ++ counts_line tally.committed tally.aborted) (state_there p none)
+last_of_run {App} {c} {m} {b} {left} {new} {tally} {out} closing p closing_is =
+    closing_is ∙ ap (λ (s : State). told_values c.telling.report c.telling.layout c.telling.name s ++ counts_line tally.committed tally.aborted) (state_there p)
 
 module _ {App : Type 0} {c : Course App} {m : Manner} {b : PipeView App} {left : Option (List ℕ)} {new : Outputs} {tally : Tally} {out : List ℕ}
-    (x : Result Finish Fault) (newer : Outputs) (closing : List ℕ) (p : Piped c m b left new tally out) (none : b.rans ≡ []) (over : IsGoing b → ⊥)
+    (x : Result Finish Fault) (newer : Outputs) (closing : List ℕ) (p : Piped c m b [] left new tally out) (told : b.tail ≢ Some Untold) (over : IsGoing b → ⊥)
     (closing_is : closing ≡ told_values c.telling.report c.telling.layout c.telling.name (contents b.engine) ++ counts_line tally.committed tally.aborted) where
   pub ends_by_tail : EndsBy b.tail x new closing (closing_note c.settings tally) newer → Ends c left x newer
   ends_by_tail ends = by_tail b.tail refl ends
@@ -85,11 +86,12 @@ module _ {App : Type 0} {c : Course App} {m : Manner} {b : PipeView App} {left :
       by_tail : (t : Option Tail) → b.tail ≡ t → EndsBy t x new closing (closing_note c.settings tally) newer → Ends c left x newer
       by_tail None e ends = subst (Ends c left x) (sym ends.1) (ends_memory left ends.0 p.goes)
       by_tail (Some RunMemory) e ends = subst (Ends c left x) (sym ends.1) (ends_memory left ends.0 p.goes)
-      by_tail (Some (Unread fault)) e ends = subst (Ends c left x) (sym ends.1) (ends_by fault ends.0 p none over e)
+      by_tail (Some Untold) e ends = absurd (told e)
+      by_tail (Some (Unread fault)) e ends = subst (Ends c left x) (sym ends.1) (ends_by fault ends.0 p over e)
       by_tail (Some End) e ends =
-          let o = piped_over p none End over e (λ y. absurd (cc)) in ends_whole newer left o.goes x closing o.stops.answers (last_of_run closing p none closing_is) ends
+          let o = piped_over p End over e (λ y. absurd (cc)) (λ y. absurd (cc)) in ends_whole newer left o.goes x closing o.stops.answers (last_of_run closing p closing_is) ends
       by_tail (Some (RefusedLine line cause)) e ends =
-          let o = piped_over p none (RefusedLine line cause) over e (λ y. absurd (cc)) in ends_front newer left o.goes x line cause o.stops.answers ends
+          let o = piped_over p (RefusedLine line cause) over e (λ y. absurd (cc)) (λ y. absurd (cc)) in ends_front newer left o.goes x line cause o.stops.answers ends
 
   pub told_by_tail : EndsBy b.tail x new closing (closing_note c.settings tally) newer → IsTold c (status_of x) tally newer
   told_by_tail ends = by_tail b.tail refl ends
@@ -97,8 +99,9 @@ module _ {App : Type 0} {c : Course App} {m : Manner} {b : PipeView App} {left :
       by_tail : (t : Option Tail) → b.tail ≡ t → EndsBy t x new closing (closing_note c.settings tally) newer → IsTold c (status_of x) tally newer
       by_tail None e ends = subst (IsTold c (status_of x) tally) (sym ends.1) (told_short OutOfMemory ends.0 (λ y. absurd (cc)) p.goes)
       by_tail (Some RunMemory) e ends = subst (IsTold c (status_of x) tally) (sym ends.1) (told_short OutOfMemory ends.0 (λ y. absurd (cc)) p.goes)
+      by_tail (Some Untold) e ends = absurd (told e)
       by_tail (Some (Unread fault)) e ends = subst (IsTold c (status_of x) tally) (sym ends.1) (told_short (fault_of fault) ends.0 (reads_only fault) p.goes)
       by_tail (Some End) e ends =
-          let o = piped_over p none End over e (λ y. absurd (cc)) in told_whole newer left o.goes x closing o.stops.answers (last_of_run closing p none closing_is) ends
+          let o = piped_over p End over e (λ y. absurd (cc)) (λ y. absurd (cc)) in told_whole newer left o.goes x closing o.stops.answers (last_of_run closing p closing_is) ends
       by_tail (Some (RefusedLine line cause)) e ends =
-          let o = piped_over p none (RefusedLine line cause) over e (λ y. absurd (cc)) in told_front newer left o.goes x line cause o.stops.answers ends
+          let o = piped_over p (RefusedLine line cause) over e (λ y. absurd (cc)) (λ y. absurd (cc)) in told_front newer left o.goes x line cause o.stops.answers ends

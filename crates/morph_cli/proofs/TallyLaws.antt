@@ -1,12 +1,11 @@
 -- The tally of the batches that were run: one batch more, and at each end of a run.
-use Rattle.std.proofs.Common.{◌≡◌, ℕ, ◌+◌, ◌*◌, ◌<◌, ◌≤◌, All, List, [], ◌∷◌, ◌++◌, length, sum, sum_by, get_or, refl, ap, sym, subst, ◌∙◌, arith, cond, mul-le-mul_right}
+use Rattle.std.proofs.Common.{◌≡◌, ℕ, ◌+◌, ◌*◌, ◌<◌, ◌≤◌, All, List, [], ◌∷◌, ◌++◌, length, sum, sum_by, get_or, refl, ap, sym, subst, ◌∙◌, arith, cond}
 use Rattle.std.specs.Prelude.{not}
 use Rattle.std.proofs.lemmas.List.{length-append}
 use Rattle.std.proofs.lemmas.List.Elements.{All-nil, All-cons, All-append, All-tail}
 use Rattle.std.proofs.lemmas.List.Sums.{sum_by-append, sum_by-cons, sum_by_push}
 use Rattle.morph_base.specs.declared.limits.TheConstants.{EVENT_OPS, EVENTS}
-use Rattle.morph_base.specs.declared.strategy.Abort.{Abort}
-use Rattle.morph_base.specs.declared.strategy.Abort.TheVariants.{Lazy, Eager}
+use Rattle.morph_base.specs.declared.strategy.Abort.TheVariants.{Lazy}
 use Rattle.morph_base.specs.declared.strategy.Explore.{Explore}
 use Rattle.morph_base.specs.declared.strategy.Explore.TheVariants.{Strata, Steal}
 use Rattle.morph_base.specs.declared.strategy.Strategy.{Strategy}
@@ -30,6 +29,7 @@ use Rattle.run_text.proofs.Workers.{counted_more, counts_of_none, settled_beyond
 use Rattle.steal_explorer.specs.Dealing.{level_one}
 use Rattle.morph_cli.specs.Strategies.{last_from, strategy_by}
 use Rattle.decision_model.specs.Choices.{last_of, no_last}
+use Rattle.morph_cli.specs.TellerLaws.{at_any}
 use Rattle.morph_cli.specs.Tallies.{IsMadeOf, AreRunFrom, IsSoundAccount, AreLazy, AreExploredBy, IsTallyOf, IsLazyTally, FollowsAccounts, IsBalancedBy, IsBalanced, committed_by_workers, dealt_by, dealt_count}
 
 -- between two batches: the accounts of those that were done, and their tally with the bounds of its numbers
@@ -162,11 +162,6 @@ counts_one : (f : Account → ℕ) (accounts : List Account) (a : Account) (old 
     new ≡ counted_to (sum_by f (accounts ++ a ∷ []))
 counts_one f accounts a old new adds so_far = adds ∙ ap (λ k. counted_to (k + f a)) so_far ∙ counted_more (sum_by f accounts) (f a) ∙ ap counted_to (sym (sum_by_push f accounts a))
 
--- an abort mode has at most 7 attempts on guesses; and of all accounts, one more
-cap_most : (abort : Abort) → cap_for abort ≤ 7
-cap_most Lazy = omega arith
-cap_most Eager = omega arith
-
 all_front : {X : Type 0} (P : X → Type 0) (xs : List X) (x : X) → All P (xs ++ x ∷ []) → All P xs
 all_front P [] x all = All-nil P
 all_front P (y ∷ ys) x all = All-cons P y ys (all 0 y (omega arith)) (all_front P ys x (All-tail P y (ys ++ x ∷ []) all))
@@ -182,15 +177,6 @@ at_lazy workers a sound is =
     let evaluated : a.counts.evaluated + a.counts.spread ≤ (1 + 1) * op_count a.plan = subst (λ n. a.counts.evaluated + a.counts.spread ≤ (n + 1) * op_count a.plan) cap sound.evaluated in
     let rolled : a.counts.spread + a.counts.rolled ≤ 1 * op_count a.plan = subst (λ n. a.counts.spread + a.counts.rolled ≤ n * op_count a.plan) cap sound.rolled in
     (omega (arith, evaluated), omega (arith, rolled))
-
-pub at_any : (workers : ℕ) (a : Account) → IsSoundAccount workers a → (a.counts.evaluated + a.counts.spread ≤ 8 * op_count a.plan) × (a.counts.spread + a.counts.rolled ≤ 7 * op_count a.plan)
-at_any workers a sound =
-    let cap = cap_most a.strategy.abort in
-    let evaluated = sound.evaluated in
-    let rolled = sound.rolled in
-    let more : (cap_for a.strategy.abort + 1) * op_count a.plan ≤ 8 * op_count a.plan = mul-le-mul_right (op_count a.plan) (omega (arith, cap)) in
-    let some : cap_for a.strategy.abort * op_count a.plan ≤ 7 * op_count a.plan = mul-le-mul_right (op_count a.plan) cap in
-    (omega (arith, evaluated, more), omega (arith, rolled, some))
 
 dealt_few : (workers : ℕ) (a : Account) → IsSoundAccount workers a → dealt_count a ≤ a.handed
 dealt_few workers a sound = by_explore a.strategy.explore sound.dealt

@@ -1,7 +1,7 @@
 -- Inside the crate: how a run that reads ahead ends, by the tail that its pipe met
 use Rattle.std.specs.Prelude.{◌≡◌, ℕ, List, Option, Some, None, Result, Ok, Err}
 use Rattle.batch_pipe.specs.declared.tail.Tail.{Tail}
-use Rattle.batch_pipe.specs.declared.tail.Tail.TheVariants.{End, Refused as RefusedLine, Fault as Unread, RunMemory}
+use Rattle.batch_pipe.specs.declared.tail.Tail.TheVariants.{End, Refused as RefusedLine, Fault as Unread, RunMemory, Untold}
 use Rattle.run_text.specs.Text.{refused_text}
 use Rattle.morph_cli.specs.declared.fault.Fault.{Fault}
 use Rattle.morph_cli.specs.declared.fault.Fault.TheVariants.{Write, OutOfMemory}
@@ -20,6 +20,7 @@ FinishesWith finish (Err fault) old text note new = (fault ≡ Write) × IsCutIn
 abbrev pub EndsBy : Option Tail → Result Finish Fault → Outputs → (closing note : List ℕ) → Outputs → Type 0
 EndsBy None answer old closing note new = (answer ≡ Err OutOfMemory) × (new ≡ old)
 EndsBy (Some RunMemory) answer old closing note new = (answer ≡ Err OutOfMemory) × (new ≡ old)
+EndsBy (Some Untold) answer old closing note new = (answer ≡ Err Write) × (new ≡ old)
 EndsBy (Some (Unread fault)) answer old closing note new = (answer ≡ Err (fault_of fault)) × (new ≡ old)
 EndsBy (Some End) answer old closing note new = FinishesWith Complete answer old closing note new
 EndsBy (Some (RefusedLine line cause)) answer old closing note new =

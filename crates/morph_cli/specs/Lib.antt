@@ -12,4 +12,6 @@ pub mod Outputs
 pub mod Streams
 pub mod Batches
 pub mod Endings
+pub mod Tellers
+pub mod TellerLaws
 pub mod Calls

@@ -1,44 +1,40 @@
 //! Runs that read and plan batches ahead.
-ghost use Rattle.std.specs.Prelude.{◌≡◌, false, ◌<◌, ◌≤◌, ◌⊎◌, [], ◌++◌, length};
-ghost use Rattle.std.specs.Prelude.{None, IfOk, IsErrOf, IsTrue, OnOk, OnErr};
+ghost use Rattle.std.specs.Prelude.{◌≡◌, ◌≢◌, ◌+◌, ◌<◌, ◌≤◌, ◌⊎◌, ◌↔◌, [], ◌++◌, length};
+ghost use Rattle.std.specs.Prelude.{Some, IfOk, IsErrOf, IsTrue};
+ghost use Rattle.event_reader.specs.declared.fault.ReaderFault.TheVariants.{ReadFault};
 ghost use Rattle.event_reader.specs.declared.limits.TheConstants.{INPUT_BYTES};
 ghost use Rattle.event_reader.specs.Reader.{new_reader};
 ghost use Rattle.morph_base.specs.declared.plan.Plan.{Plan};
 ghost use Rattle.morph_base.specs.Flat.{contents};
-ghost use Rattle.morph_base.specs.Plans.{IsPlan, IsSettledOf};
-ghost use Rattle.morph_engine.specs.Accounts.{account_of};
-ghost use Rattle.morph_engine.specs.Fates.{settled_fates};
 ghost use Rattle.morph_base.specs.States.{opening_state};
 ghost use Rattle.morph_io.specs.Told.{HasRisen};
 ghost use Rattle.decision_model.specs.declared.counts.Last.{Last as Came};
-ghost use Rattle.batch_pipe.specs.PlanRuns.{picked};
-ghost use Rattle.batch_pipe.specs.PipeRounds.{new_pipe};
-ghost use Rattle.run_text.specs.Checks.{is_checked};
+ghost use Rattle.batch_pipe.specs.PlanRuns.{manner, picked};
+ghost use Rattle.batch_pipe.specs.PipeRounds.{IsGoing, IsRound, IsUncut, new_pipe, number_before};
 ghost use Rattle.run_text.specs.Settings.{AreInRange};
-ghost use Rattle.run_text.specs.Counts.{CountsBatch, HasRoom, no_tally};
+ghost use Rattle.run_text.specs.Counts.{no_tally};
 ghost use Rattle.run_text.specs.Reports.{report_of};
 ghost use Rattle.run_text.specs.Text.{told_values, counts_line};
-ghost use Rattle.morph_cli.specs.Batches.{lines_of_batch, note_of_batch};
-ghost use Rattle.morph_cli.specs.Outputs.{closing_note, outputs_of, WritesBoth};
+ghost use Rattle.morph_cli.specs.Outputs.{closing_note, outputs_of};
 ghost use Rattle.morph_cli.specs.Endings.{EndsBy};
 ghost use Rattle.morph_cli.specs.Requests.{request_of};
 ghost use Rattle.morph_cli.specs.RunContract.{RunDoes};
 ghost use Rattle.morph_cli.specs.Runs.{layout_of};
 ghost use Rattle.morph_cli.specs.Streams.{fault_counts, streams_of};
 ghost use Rattle.morph_cli.specs.Strategies.{strategy_by};
+ghost use Rattle.morph_cli.specs.Tellers.{teller_view, CanTell, TellsRan};
 
+use crate::batch_teller::BatchTeller;
 use crate::fault::Fault;
 use crate::job::Job;
 use crate::progress::Opening;
 use crate::run::Finish;
-use crate::tell::{Refusal, tell_closing, tell_counted, tell_refused};
-use crate::watch::Watched;
-use batch_pipe::{Picker, Pipe, Ran, Tail};
-use decision_model::Last;
+use crate::tell::{Refusal, tell_closing, tell_refused};
+use batch_pipe::{Picker, Pipe, Tail};
 use event_reader::EventApp;
 use morph_base::{Abort, Explore, OutOfMemory, Strategy, Unit};
-use morph_io::{Out, Sink, Source, WriteFailed};
-use run_text::{Planning, Settings, Tally};
+use morph_io::{Out, Sink, Source};
+use run_text::{Planning, Tally};
 use std::thread::Threads;
 use worker_gate::Gate;
 
@@ -95,43 +91,76 @@ fn picker(planning: Planning) -> Picker
     }
 }
 
-/// Counts and writes the next batch that was run, and returns its outcome.
-fn tell_next<K: Sink, N: Sink>(
-    out: &mut Out,
-    sink: &mut K,
-    notes: &mut N,
-    settings: &Settings,
-    tally: &mut Tally,
-    ran: Ran,
-) -> Result<Last, WriteFailed>
-    requires empty { out.old ≡ [] }
-    requires plan { IsPlan ran.end.plan }
-    requires settled { IsSettledOf ran.end.plan ran.end.settled }
-    requires unchecked { is_checked settings.now.check ≡ false }
-    requires room { HasRoom tally.old (account_of ran.end) }
-    ensures adds { CountsBatch tally.old tally.new (account_of ran.end)
-        (settled_fates ran.end.plan ran.end.settled) }
-    ensures written { WritesBoth result (outputs_of (K.written sink.old) (N.written notes.old))
-        (lines_of_batch settings.now ran.end)
-        (note_of_batch settings.now tally.new.batches None ran.end)
-        (outputs_of (K.written sink.new) (N.written notes.new)) }
-    ensures empty { OnOk result (out.new ≡ []) }
-    ensures sink_faults { K.faults sink.old ≤ K.faults sink.new }
-    ensures notes_faults { N.faults notes.old ≤ N.faults notes.new }
-    ensures steady { OnOk result ((K.faults sink.new ≡ K.faults sink.old)
-        × (N.faults notes.new ≡ N.faults notes.old)) }
-    ensures cause { OnErr result (HasRisen (K.faults sink.old) (K.faults sink.new)
-        ⊎ (IsTrue settings.now.notes × HasRisen (N.faults notes.old) (N.faults notes.new))) }
+/// Whether a result was refused, since a write of it failed.
+fn is_untold<A: EventApp>(pipe: &Pipe<A>) -> bool
+    ensures { IsTrue result ↔ (pipe.now.tail ≡ Some Tail.Untold) }
 {
-    let ran = Watched {
-        end: ran.end,
-        audit: None,
-    };
-    tell_counted(out, sink, notes, settings, tally, &ran)
+    matches!(pipe.tail(), Some(Tail::Untold))
 }
 
-/// Ends a run that reads ahead, by the tail that its pipe met: writes the end or the refused line, or returns the
-/// fault.
+/// Makes one round, and counts and writes the result of each batch that it runs, at once. If a write fails, the tail of
+/// the pipe is [`Tail::Untold`].
+fn tell_round<
+    R: Threads + Sync,
+    A: EventApp + Copy + Send,
+    S: Source + Send,
+    K: Sink,
+    N: Sink,
+    G: Gate,
+>(
+    job: &Job<'_, A, R, G>,
+    pick: &Picker,
+    ahead: &mut Ahead<A>,
+    source: &mut S,
+    sink: &mut K,
+    notes: &mut N,
+    tally: &mut Tally,
+)
+    requires settings { AreInRange job.now.settings }
+    requires going { IsGoing ahead.old.pipe }
+    requires next { CanTell (number_before ahead.old.pipe + 1)
+        (teller_view job.now.settings ahead.old.out tally.old
+        (outputs_of (K.written sink.old) (N.written notes.old))
+        (K.faults sink.old) (N.faults notes.old)) }
+    ensures round { IsRound A.event_of TellsRan (manner pick.now job.now.settings.workers)
+        ahead.old.pipe (S.left source.old)
+        (teller_view job.now.settings ahead.old.out tally.old
+        (outputs_of (K.written sink.old) (N.written notes.old))
+        (K.faults sink.old) (N.faults notes.old))
+        ahead.new.pipe (S.left source.new)
+        (teller_view job.now.settings ahead.new.out tally.new
+        (outputs_of (K.written sink.new) (N.written notes.new))
+        (K.faults sink.new) (N.faults notes.new)) }
+    ensures next { IsUncut ahead.new.pipe.tail → CanTell (number_before ahead.new.pipe + 1)
+        (teller_view job.now.settings ahead.new.out tally.new
+        (outputs_of (K.written sink.new) (N.written notes.new))
+        (K.faults sink.new) (N.faults notes.new)) }
+    ensures never_falls { S.faults source.old ≤ S.faults source.new }
+    ensures cause { ahead.old.pipe.tail ≡ None
+        → ahead.new.pipe.tail ≡ Some (Tail.Fault ReadFault)
+        → HasRisen (S.faults source.old) (S.faults source.new) }
+{
+    let (host, settings) = (job.host, &job.settings);
+    let mut teller = BatchTeller {
+        settings,
+        out: &mut ahead.out,
+        sink,
+        notes,
+        tally,
+    };
+    ahead.pipe.round(
+        host.rt,
+        host.alloc,
+        source,
+        pick,
+        settings.workers,
+        host.gate,
+        &mut teller,
+    );
+}
+
+/// Ends a run that reads ahead, by the tail that its pipe met, which is not that a result was refused: writes the end
+/// or the refused line, or returns the fault.
 fn end_ahead<R, A: EventApp + Copy, K: Sink, N: Sink, G>(
     job: &Job<'_, A, R, G>,
     ahead: &mut Ahead<A>,
@@ -144,6 +173,7 @@ fn end_ahead<R, A: EventApp + Copy, K: Sink, N: Sink, G>(
         ≡ layout_of (A.table_count job.now.app) job.now.settings.size }
     requires all { length tally.now.settled_by ≡ 17 }
     requires empty { ahead.old.out ≡ [] }
+    requires told { ahead.old.pipe.tail ≢ Some Tail.Untold }
     ensures ends { let settings = job.now.settings in let kept = ahead.old.pipe.engine in
         EndsBy ahead.old.pipe.tail result
         (outputs_of (K.written sink.old) (N.written notes.old))
@@ -170,14 +200,15 @@ fn end_ahead<R, A: EventApp + Copy, K: Sink, N: Sink, G>(
             Ok(Finish::Refused)
         }
         Some(Tail::Fault(fault)) => Err(fault.into()),
+        Some(Tail::Untold) => Err(Fault::Write),
         Some(Tail::RunMemory) | None => Err(Fault::OutOfMemory),
     }
 }
 
 /// Runs an application from the opening state over what the pipe's reader reads, in rounds. Each round reads and plans
-/// batches while those that were planned before are run. The result of each batch is written before the next round
-/// begins. If a read fails or the limit is met, the batches before are therefore written first, and if a write fails,
-/// the run ends, whatever the pipe met.
+/// batches while those that were planned before are run. Each result is written as soon as its batch was run, before the
+/// next one is run. If a read fails or the limit is met, the batches before are therefore written first, and if a write
+/// fails, the run ends, whatever the pipe met.
 pub fn run_ahead<
     R: Threads + Sync,
     A: EventApp + Copy + Send,
@@ -211,21 +242,11 @@ pub fn run_ahead<
         (streams_of (S.left source.new) (K.written sink.new) (N.written notes.new)
         (fault_counts (S.faults source.new) (K.faults sink.new) (N.faults notes.new))) }
 {
-    let (host, settings) = (job.host, &job.settings);
-    let pick = picker(settings.planning);
-    'turns: loop {
-        match ahead.pipe.next() {
-            Some(ran) => {
-                tell_next(&mut ahead.out, sink, notes, settings, tally, ran)?;
-                continue 'turns;
-            }
-            None if ahead.pipe.going() => {
-                let workers = settings.workers;
-                ahead
-                    .pipe
-                    .round(host.rt, host.alloc, source, &pick, workers, host.gate);
-            }
-            None => break 'turns,
+    let pick = picker(job.settings.planning);
+    'rounds: while ahead.pipe.going() {
+        tell_round(job, &pick, ahead, source, sink, notes, tally);
+        if is_untold(&ahead.pipe) {
+            return Err(Fault::Write);
         }
     }
     end_ahead(job, ahead, sink, notes, tally)

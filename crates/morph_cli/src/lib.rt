@@ -35,13 +35,14 @@
 //! | `take_batch`, `run_batch` | a batch run, written and published; its plan made and run |
 //! | `strategies`, `tell` | the strategy of a batch, and how it is counted; what is written of it, and at the end |
 //! | `watch`, `checked` | balances that are watched; journals that are checked |
-//! | `ahead` | runs that read and plan batches ahead |
+//! | `ahead`, `batch_teller` | runs that read and plan batches ahead; how each result is written meanwhile |
 //! | `laws` | which lines the notes have if nothing is watched or checked |
 #![tactic(auto)]
 
 mod ahead;
 mod application;
 mod arguments;
+mod batch_teller;
 mod checked;
 mod ended;
 mod fault;

@@ -1,11 +1,8 @@
-use Rattle.batch_pipe.proofs.Courses.{course_start, course_round, course_taken}
+use Rattle.batch_pipe.proofs.Courses.{course_start, course_round}
 use Rattle.batch_pipe.proofs.laws.courses_go_on.Goals as goal
 
 pub returns-clause-begins : goal.returns-clause-begins
 returns-clause-begins g c = λ m reader engine ahead left. course_start g.A.EventApp.event_of m reader engine ahead left
 
 pub returns-clause-round : goal.returns-clause-round
-returns-clause-round g c = λ m reader engine left before after rounds rans old new course going round. course_round g.A.EventApp.event_of m course going round
-
-pub returns-clause-taken : goal.returns-clause-taken
-returns-clause-taken g c = λ m reader engine left after rounds rans old new course same. course_taken g.A.EventApp.event_of m course same
+returns-clause-round g c = λ m reader engine left before after rounds rans old new teller teller' course going round. course_round g.A.EventApp.event_of m course going round

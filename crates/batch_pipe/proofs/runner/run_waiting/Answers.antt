@@ -1,66 +1,81 @@
-use Rattle.std.proofs.Common.{◌≡◌, ◌++◌, [], ◌∷◌, List, length, refl, ap, sym, subst, ◌∙◌, arith, append-nil, append_assoc}
-use Rattle.std.specs.Prelude.{All}
+use Rattle.std.proofs.Common.{◌≡◌, ℕ, ◌+◌, ◌≤◌, ◌++◌, [], ◌∷◌, List, length, Option, None, Some, true, refl, ap, sym, subst, ◌∙◌, arith, append-nil, append_assoc}
+use Rattle.std.specs.Prelude.{All, IfSome}
+use Rattle.std.proofs.lemmas.Bool.{true≢false}
 use Rattle.std.proofs.lemmas.List.{length-append}
 use Rattle.std.proofs.lemmas.List.Elements.{All-append, All-weaker}
 use Rattle.morph_base.specs.declared.key.Layout.{Layout}
 use Rattle.morph_base.specs.Flat.{contents}
 use Rattle.morph_base.specs.States.{IsUpTo}
+use Rattle.event_reader.specs.Limits.{input_bytes}
 use Rattle.rtrb.specs.Ring.{known_items, received}
 use Rattle.batch_pipe.specs.declared.items.Sent.{Sent}
-use Rattle.batch_pipe.specs.PlannedBatches.{IsReadyPlan}
-use Rattle.batch_pipe.specs.PlanRuns.{IsRunnable, Runs, Desk, Manner, desk, manner, one_or_none}
-use Rattle.batch_pipe.proofs.Desks.{runs_stay, runs_as, runs_both, all_middle, empty_is}
-use Rattle.batch_pipe.proofs.Ahead.{same_consumer, same_ring}
+use Rattle.batch_pipe.specs.PlannedBatches.{IsReadyPlan, AreNumbered}
+use Rattle.batch_pipe.specs.PlanRuns.{IsRunnable, Runs, RunsPlans, Desk, Manner, desk, manner, one_or_none}
+use Rattle.batch_pipe.proofs.Desks.{runs_both, plans_both, all_run, runs_whole, can_go_on, all_middle, empty_is}
+use Rattle.batch_pipe.proofs.Ahead.{same_consumer, same_ring, numbered-front, numbered-next, numbered-first}
 use Rattle.batch_pipe.proofs.Bounds.{runnable, state_after-within}
-use Rattle.batch_pipe.proofs.Rounds.{all_front, some_is}
+use Rattle.batch_pipe.proofs.Rounds.{all_front, some_is, some_then}
 use Rattle.batch_pipe.proofs.runner.run_waiting.Goals as goal
 
-pub run_first-requires-clause-ready : goal.run_first-requires-clause-ready
-run_first-requires-clause-ready g c κs within =
+-- the numbers of what waited, with one in the middle
+numbers_are : (n : ℕ) (first known popped : List Sent) (x : Sent) (rest : List Sent) → known ≡ popped ++ x ∷ rest → AreNumbered n (first ++ known) → AreNumbered n ((first ++ popped) ++ x ∷ rest)
+numbers_are n first known popped x rest is numbered = subst (AreNumbered n) (ap (λ l. first ++ l) is ∙ sym (append_assoc first popped (x ∷ rest))) numbered
+
+-- the first plan has no number above the last possible one
+last_first : (n : ℕ) (first : Option Sent) (known : List Sent) → IfSome first (λ x. x.number ≡ n + 1) → n + length (one_or_none first) + length known ≤ input_bytes + 1 → IfSome first (λ x. x.number ≤ input_bytes + 1)
+last_first n None known is few = tt
+last_first n (Some x) known is few = omega (arith, is, few)
+
+pub run_first-end-requires-clause-ready : goal.run_first-end-requires-clause-ready
+run_first-end-requires-clause-ready g c κs within =
     let w = c.requires.waiting in
     let engine = c.args.runner.now.engine in
     some_is c.args.first (λ (x : Sent). IsRunnable engine x.plan)
     (All-weaker (λ (x : Sent). IsReadyPlan engine.layout w.high x.plan) (λ (x : Sent). IsRunnable engine x.plan) (λ x ready. runnable engine.layout w.high engine x.plan refl ready w.small)
     (one_or_none c.args.first) w.first_ready)
 
-pub returns-then-not-run_first : goal.returns-then-not-run_first
-returns-then-not-run_first g c =
-    let m : Manner = manner c.args.host.now.pick c.args.host.now.workers in
+pub run_first-end-requires-clause-number : goal.run_first-end-requires-clause-number
+run_first-end-requires-clause-number g c κs within =
+    let w = c.requires.waiting in
+    some_then c.args.first (λ x. x.number ≡ w.before + 1) (λ x. g.T.Teller.can_take c.args.teller.now x.number)
+    (λ x is. subst (g.T.Teller.can_take c.args.teller.now) (sym is) w.can) (numbered-first w.before c.args.first (known_items c.args.runner.now.ring) w.numbered)
+
+pub run_first-end-requires-clause-last : goal.run_first-end-requires-clause-last
+run_first-end-requires-clause-last g c κs within =
+    let w = c.requires.waiting in
+    last_first w.before c.args.first (known_items c.args.runner.now.ring) (numbered-first w.before c.args.first (known_items c.args.runner.now.ring) w.numbered) w.few
+
+pub returns-then-not-is_whole : goal.returns-then-not-is_whole
+returns-then-not-is_whole g c =
     let first : List Sent = one_or_none c.args.first in
-    let a : Desk = desk c.args.runner.now 0 in
-    let b : Desk = desk c.run_first.new.runner 0 in
-    let refused = c.if-not-run_first.ensures.refused refl in
     record {
-      next = 0;
       runs = record {
-        runs = [];
-        lost = first;
         popped = [];
-        run = runs_stay m a b c.requires.waiting.empty (ap contents refused.1.engine) refused.1.last refused.1.places refl;
-        parts = append-nil first;
-        known_is = ap (λ r. known_items r) (sym c.run_first.ensures.ring);
-        received_is = ap (λ r. received r) c.run_first.ensures.ring ∙ sym (append-nil (received c.args.runner.now.ring));
-        whole = λ e. absurd (cc);
-        refused = λ e. refused.0;
+        plans = subst (λ (l : List Sent). RunsPlans g.T.Teller.takes (manner c.args.host.now.pick c.args.host.now.workers) (desk c.args.runner.now c.args.teller.now) l c.run_first-end.result
+            (desk c.run_first-end.new.runner c.run_first-end.new.teller)) (sym (append-nil first)) c.run_first-end.ensures.runs;
+        known_is = ap (λ r. known_items r) (sym c.run_first-end.ensures.ring);
+        received_is = ap (λ r. received r) c.run_first-end.ensures.ring ∙ sym (append-nil (received c.args.runner.now.ring));
+        whole = λ e. absurd (true≢false (sym (c.if-not-is_whole.ensures.1 e)));
       };
-      ring = same_ring c.args.runner.now.ring c.run_first.new.runner.ring c.run_first.ensures.ring;
-      layout = c.run_first.ensures.layout;
+      ring = same_ring c.args.runner.now.ring c.run_first-end.new.runner.ring c.run_first-end.ensures.ring;
+      layout = c.run_first-end.ensures.layout;
     }
 
 pub loop-init : goal.loop-init
 loop-init g c =
     let m : Manner = manner c.args.host.now.pick c.args.host.now.workers in
+    let takes = g.T.Teller.takes in
     let first : List Sent = one_or_none c.args.first in
-    let a : Desk = desk c.args.runner.now 0 in
-    let b : Desk = desk c.run_first.new.runner c.run_first.new.place in
+    let a : Desk _ = desk c.args.runner.now c.args.teller.now in
+    let b : Desk _ = desk c.run_first-end.new.runner c.run_first-end.new.teller in
     record {
       popped = [];
-      run = subst (λ (l : List Sent). Runs m a l b) (sym (append-nil first)) (c.if-not-run_first.ensures.run refl);
-      known_is = ap (λ r. known_items r) (sym c.run_first.ensures.ring);
-      received_is = ap (λ r. received r) c.run_first.ensures.ring ∙ sym (append-nil (received c.args.runner.now.ring));
+      run = subst (λ (l : List Sent). Runs takes m a l true b) (sym (append-nil first)) (all_run takes m first (subst (λ e. RunsPlans takes m a first e b) (c.if-not-is_whole.ensures.0 refl) c.run_first-end.ensures.runs));
+      known_is = ap (λ r. known_items r) (sym c.run_first-end.ensures.ring);
+      received_is = ap (λ r. received r) c.run_first-end.ensures.ring ∙ sym (append-nil (received c.args.runner.now.ring));
       many = refl;
-      ring = same_ring c.args.runner.now.ring c.run_first.new.runner.ring c.run_first.ensures.ring;
-      layout = c.run_first.ensures.layout;
+      ring = same_ring c.args.runner.now.ring c.run_first-end.new.runner.ring c.run_first-end.ensures.ring;
+      layout = c.run_first-end.ensures.layout;
     }
 
 pub pop_known-sent-requires : goal.pop_known-sent-requires
@@ -69,11 +84,11 @@ pop_known-sent-requires g c =
     let whole = ap length i.known_is in
     let both = length-append i.popped (known_items c.loop.runner.ring) in
     let slots = c.cached_slots-end.ensures in
-    let same = ap (λ r. length (known_items r)) c.run_first.ensures.ring in
+    let same = ap (λ r. length (known_items r)) c.run_first-end.ensures.ring in
     omega (arith, whole, both, i.many, slots, same, c.loop-test.true)
 
-pub run_into-requires-clause-ready : goal.run_into-requires-clause-ready
-run_into-requires-clause-ready g c κs within =
+pub run_into-end-requires-clause-ready : goal.run_into-end-requires-clause-ready
+run_into-end-requires-clause-ready g c κs within =
     let i = c.loop.invariant in
     let w = c.requires.waiting in
     let old = c.args.runner.now in
@@ -86,91 +101,97 @@ run_into-requires-clause-ready g c κs within =
     w.ready (i.known_is ∙ ap (λ l. i.popped ++ l) c.pop_known-sent.ensures.received.1))
     small
 
-pub run_into-requires-clause-place : goal.run_into-requires-clause-place
-run_into-requires-clause-place g c κs within =
+pub run_into-end-requires-clause-number : goal.run_into-end-requires-clause-number
+run_into-end-requires-clause-number g c κs within =
     let i = c.loop.invariant in
     let w = c.requires.waiting in
-    let both = length-append (one_or_none c.args.first) i.popped in
-    let slots = c.cached_slots-end.ensures in
-    let same = ap (λ r. length (known_items r)) c.run_first.ensures.ring in
-    record {
-      free = i.run.free;
-      room = omega (arith, both, i.many, i.run.next_is, i.run.many, w.room, slots, same, c.loop-test.true);
-      few = omega (arith, i.run.many, w.few);
-    }
+    let first : List Sent = one_or_none c.args.first in
+    let x : Sent = c.pop_known-sent.result in
+    let rest : List Sent = known_items c.pop_known-sent.new.self in
+    let numbers = numbers_are w.before first (known_items c.args.runner.now.ring) i.popped x rest (i.known_is ∙ ap (λ l. i.popped ++ l) c.pop_known-sent.ensures.received.1) w.numbered in
+    subst (g.T.Teller.can_take c.loop.teller) (sym (numbered-next w.before (first ++ i.popped) x rest numbers))
+    (can_go_on g.T.Teller.takes (manner c.args.host.now.pick c.args.host.now.workers) g.T.Teller.can_take g.met.T.Teller.goes_on (contents c.args.runner.now.engine) c.args.runner.now.last w.before (first ++ i.popped) i.run.rans c.args.teller.now c.loop.teller i.run.run
+    (numbered-front w.before (first ++ i.popped) (x ∷ rest) numbers) i.run.told w.can)
 
-pub returns-then-not-run_into : goal.returns-then-not-run_into
-returns-then-not-run_into g c =
+pub run_into-end-requires-clause-last : goal.run_into-end-requires-clause-last
+run_into-end-requires-clause-last g c κs within =
+    let i = c.loop.invariant in
+    let w = c.requires.waiting in
+    let first : List Sent = one_or_none c.args.first in
+    let x : Sent = c.pop_known-sent.result in
+    let rest : List Sent = known_items c.pop_known-sent.new.self in
+    let known_is = i.known_is ∙ ap (λ l. i.popped ++ l) c.pop_known-sent.ensures.received.1 in
+    let number = numbered-next w.before (first ++ i.popped) x rest (numbers_are w.before first (known_items c.args.runner.now.ring) i.popped x rest known_is w.numbered) in
+    let whole = ap length known_is in
+    let l0 = length-append i.popped (x ∷ rest) in
+    let l1 = length-append first i.popped in
+    omega (arith, number, whole, l0, l1, w.few)
+
+pub returns-then-not-is_whole-2 : goal.returns-then-not-is_whole-2
+returns-then-not-is_whole-2 g c =
     let m : Manner = manner c.args.host.now.pick c.args.host.now.workers in
     let i = c.loop.invariant in
     let pop = c.pop_known-sent.ensures in
     let x : Sent = c.pop_known-sent.result in
     let first : List Sent = one_or_none c.args.first in
-    let refused = c.if-not-run_into.ensures.refused refl in
-    let n = c.run_into.new.runner in
+    let n = c.run_into-end.new.runner in
     let popped_ring = c.pop_known-sent.new.self in
-    let known' = ap (λ r. known_items r) (sym c.run_into.ensures.ring) in
+    let known' = ap (λ r. known_items r) (sym c.run_into-end.ensures.ring) in
     record {
-      next = c.loop.place;
       runs = record {
-        runs = first ++ i.popped;
-        lost = x ∷ [];
         popped = i.popped ++ x ∷ [];
-        run = runs_as m (desk n c.loop.place) (first ++ i.popped) i.run (ap contents refused.engine) refused.last refused.places refl;
-        parts = sym (append_assoc first i.popped (x ∷ []));
+        plans = subst (λ (l : List Sent). RunsPlans g.T.Teller.takes m (desk c.args.runner.now c.args.teller.now) l c.run_into-end.result (desk n c.run_into-end.new.teller)) (append_assoc first i.popped (x ∷ []))
+            (plans_both g.T.Teller.takes m (first ++ i.popped) (x ∷ []) c.run_into-end.result i.run c.run_into-end.ensures.runs);
         known_is = i.known_is ∙ ap (λ l. i.popped ++ l) pop.received.1 ∙ sym (append_assoc i.popped (x ∷ []) (known_items popped_ring)) ∙ ap (λ l. (i.popped ++ x ∷ []) ++ l) known';
-        received_is = ap (λ r. received r) c.run_into.ensures.ring ∙ pop.received.0 ∙ ap (λ l. l ++ x ∷ []) i.received_is ∙ append_assoc (received c.args.runner.now.ring) i.popped (x ∷ []);
-        whole = λ e. absurd (cc);
-        refused = λ e. refl;
+        received_is = ap (λ r. received r) c.run_into-end.ensures.ring ∙ pop.received.0 ∙ ap (λ l. l ++ x ∷ []) i.received_is ∙ append_assoc (received c.args.runner.now.ring) i.popped (x ∷ []);
+        whole = λ e. absurd (true≢false (sym (c.if-not-is_whole-2.ensures.1 e)));
       };
-      ring = same_consumer c.args.runner.now.ring popped_ring n.ring (same_consumer c.args.runner.now.ring c.loop.runner.ring popped_ring i.ring pop.ring) (same_ring popped_ring n.ring c.run_into.ensures.ring);
-      layout = c.run_into.ensures.layout ∙ i.layout;
+      ring = same_consumer c.args.runner.now.ring popped_ring n.ring (same_consumer c.args.runner.now.ring c.loop.runner.ring popped_ring i.ring pop.ring) (same_ring popped_ring n.ring c.run_into-end.ensures.ring);
+      layout = c.run_into-end.ensures.layout ∙ i.layout;
     }
 
 pub loop-preserved : goal.loop-preserved
 loop-preserved g c =
     let m : Manner = manner c.args.host.now.pick c.args.host.now.workers in
+    let takes = g.T.Teller.takes in
     let i = c.loop.invariant in
     let pop = c.pop_known-sent.ensures in
     let x : Sent = c.pop_known-sent.result in
     let first : List Sent = one_or_none c.args.first in
-    let a : Desk = desk c.args.runner.now 0 in
-    let n = c.run_into.new.runner in
-    let b : Desk = desk n c.run_into.new.place in
+    let a : Desk _ = desk c.args.runner.now c.args.teller.now in
+    let n = c.run_into-end.new.runner in
+    let before : Desk _ = desk c.loop.runner c.loop.teller in
+    let b : Desk _ = desk n c.run_into-end.new.teller in
     let popped_ring = c.pop_known-sent.new.self in
-    let known' = ap (λ r. known_items r) (sym c.run_into.ensures.ring) in
+    let known' = ap (λ r. known_items r) (sym c.run_into-end.ensures.ring) in
     record {
       popped = i.popped ++ x ∷ [];
-      run = subst (λ (l : List Sent). Runs m a l b) (append_assoc first i.popped (x ∷ []))
-          (runs_both m (first ++ i.popped) (x ∷ []) i.run (c.if-not-run_into.ensures.run refl));
+      run = subst (λ (l : List Sent). Runs takes m a l true b) (append_assoc first i.popped (x ∷ []))
+          (runs_both takes m (first ++ i.popped) (x ∷ []) true i.run (all_run takes m (x ∷ []) (subst (λ e. RunsPlans takes m before (x ∷ []) e b) (c.if-not-is_whole-2.ensures.0 refl) c.run_into-end.ensures.runs)));
       known_is = i.known_is ∙ ap (λ l. i.popped ++ l) pop.received.1 ∙ sym (append_assoc i.popped (x ∷ []) (known_items popped_ring)) ∙ ap (λ l. (i.popped ++ x ∷ []) ++ l) known';
-      received_is = ap (λ r. received r) c.run_into.ensures.ring ∙ pop.received.0 ∙ ap (λ l. l ++ x ∷ []) i.received_is ∙ append_assoc (received c.args.runner.now.ring) i.popped (x ∷ []);
+      received_is = ap (λ r. received r) c.run_into-end.ensures.ring ∙ pop.received.0 ∙ ap (λ l. l ++ x ∷ []) i.received_is ∙ append_assoc (received c.args.runner.now.ring) i.popped (x ∷ []);
       many = (let l = length-append i.popped (x ∷ []) in omega (arith, l, i.many));
-      ring = same_consumer c.args.runner.now.ring popped_ring n.ring (same_consumer c.args.runner.now.ring c.loop.runner.ring popped_ring i.ring pop.ring) (same_ring popped_ring n.ring c.run_into.ensures.ring);
-      layout = c.run_into.ensures.layout ∙ i.layout;
+      ring = same_consumer c.args.runner.now.ring popped_ring n.ring (same_consumer c.args.runner.now.ring c.loop.runner.ring popped_ring i.ring pop.ring) (same_ring popped_ring n.ring c.run_into-end.ensures.ring);
+      layout = c.run_into-end.ensures.layout ∙ i.layout;
     }
 
 pub returns : goal.returns
 returns g c =
+    let m : Manner = manner c.args.host.now.pick c.args.host.now.workers in
     let i = c.loop.invariant in
     let first : List Sent = one_or_none c.args.first in
     let whole = ap length i.known_is in
     let both = length-append i.popped (known_items c.loop.runner.ring) in
     let slots = c.cached_slots-end.ensures in
-    let same = ap (λ r. length (known_items r)) c.run_first.ensures.ring in
+    let same = ap (λ r. length (known_items r)) c.run_first-end.ensures.ring in
     let none : length (known_items c.loop.runner.ring) ≡ 0 = omega (arith, whole, both, i.many, slots, same, c.loop-test.false) in
     record {
-      next = c.loop.place;
       runs = record {
-        runs = first ++ i.popped;
-        lost = [];
         popped = i.popped;
-        run = i.run;
-        parts = sym (append-nil (first ++ i.popped));
+        plans = runs_whole g.T.Teller.takes m (first ++ i.popped) i.run;
         known_is = i.known_is;
         received_is = i.received_is;
-        whole = λ e. (refl, empty_is (known_items c.loop.runner.ring) none);
-        refused = λ e. absurd (cc);
+        whole = λ e. empty_is (known_items c.loop.runner.ring) none;
       };
       ring = i.ring;
       layout = i.layout;

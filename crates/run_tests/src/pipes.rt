@@ -1,10 +1,9 @@
 //! Pipes over bytes in memory.
 mod meeting;
 
-ghost use Rattle.std.specs.Prelude.{◌≡◌, [], ◌≤◌, None, IfOk, OnOk};
-ghost use Rattle.batch_pipe.specs.PipeRounds.{IsGoing};
+ghost use Rattle.std.specs.Prelude.{ℕ, ◌≤◌};
 
-use batch_pipe::{Picker, Pipe, Ran, Tail};
+use batch_pipe::{Picker, Pipe, Ran, Tail, Teller};
 use event_reader::{BatchReader, EventApp, INPUT_BYTES};
 use ledger_app::Ledger;
 use morph_base::{Abort as AbortKind, Explore, Key, Layout, List, OutOfMemory, Strategy, Unit};
@@ -30,29 +29,33 @@ const PICKER: Picker = Picker {
     },
 };
 
+/// Keeps the numbers of each batch that was run, and refuses the result behind the first `most`.
+#[derive(Drop)]
+struct NumberTeller {
+    told: List<[u64; 2]>,
+    most: usize,
+}
+
+impl Teller for NumberTeller {
+    ghost can_take = { λ _ _. Unit {0} };
+
+    ghost takes = { λ _ _ _ _. Unit {0} };
+
+    ghost goes_on = { λ _ _ _ _ _ _. tt };
+
+    fn take(&mut self, ran: Ran) -> bool {
+        self.told.len() < self.most && self.told.push(numbers_of(&ran)).is_ok()
+    }
+}
+
 /// A new pipe of a ledger.
 fn ledger_pipe(alloc: Global, ahead: u32) -> Result<Pipe<Ledger>, OutOfMemory>
     requires some { 1 ≤ ahead }
     requires few { ahead ≤ 2 }
-    ensures none { IfOk result (λ pipe. pipe.rans ≡ []) }
 {
     let reader = BatchReader::new(alloc, Ledger, LAYOUT.size, INPUT_BYTES)?;
     let engine = Engine::new(alloc, LAYOUT)?;
     Pipe::new(alloc, reader, engine, ahead)
-}
-
-/// Makes a round with two workers.
-fn make_round<R: Threads + Sync + Abort, A: EventApp + Send, S: Source + Send, G: Gate>(
-    rt: &R,
-    alloc: Global,
-    pipe: &mut Pipe<A>,
-    source: &mut S,
-    gate: &G,
-)
-    requires going { IsGoing pipe.old }
-    requires none { pipe.old.rans ≡ [] }
-{
-    pipe.round(rt, alloc, source, &PICKER, 2, gate);
 }
 
 /// The number of a batch that was run, and how many of its events committed.
@@ -62,59 +65,49 @@ fn numbers_of(ran: &Ran) -> [u64; 2] {
     [ran.number, committed as u64]
 }
 
-/// The numbers of the next batch that was run, if there is one.
-fn next_numbers<A: EventApp>(pipe: &mut Pipe<A>) -> Option<[u64; 2]>
-    ensures none { result ≡ None → pipe.new.rans ≡ [] }
-{
-    let ran = pipe.next()?;
-    Some(numbers_of(&ran))
-}
-
-/// Makes a round, if the pipe is going, and returns the numbers of each batch that was run.
-fn tell_round<R: Threads + Sync + Abort, A: EventApp + Send, S: Source + Send, G: Gate>(
+/// Makes a round with two workers, if the pipe is going.
+fn make_round<
+    R: Threads + Sync + Abort,
+    A: EventApp + Send,
+    S: Source + Send,
+    G: Gate,
+    T: Teller,
+>(
     rt: &R,
     alloc: Global,
     pipe: &mut Pipe<A>,
     source: &mut S,
     gate: &G,
-    told: &mut List<[u64; 2]>,
-) -> Result<(), OutOfMemory>
-    requires none { pipe.old.rans ≡ [] }
-    ensures none { OnOk result (pipe.new.rans ≡ []) }
+    teller: &mut T,
+)
+    requires { (number : ℕ) → T.can_take teller.old number }
 {
-    if !pipe.going() {
-        return Ok(());
+    if pipe.going() {
+        pipe.round(rt, alloc, source, &PICKER, 2, gate, teller);
     }
-    make_round(rt, alloc, pipe, source, gate);
-    'rans: for _ in 0..2 {
-        let Some(numbers) = next_numbers(pipe) else {
-            return Ok(());
-        };
-        told.push(numbers)?;
-    }
-    assert!(rt; next_numbers(pipe).is_none());
-    Ok(())
 }
 
 /// Four events, one of which aborts, and a batch of one more.
 const FIVE_EVENTS: &[u8] =
     b"D 1 0 0 100 5\nX 2 0 1 0 1 60 6\nX 3 0 1 0 1 60 5\nX 4 1 2 1 2 60 5\nP\nD 5 2 2 1 1\n";
 
-/// Makes three rounds over them, and returns the numbers of each batch that was run.
+/// Makes three rounds over them, and returns the numbers of each batch that was told, at most `most`.
 fn five_events_told<R: Threads + Sync + Abort>(
     rt: &R,
     alloc: Global,
     pipe: &mut Pipe<Ledger>,
-) -> Result<List<[u64; 2]>, OutOfMemory>
-    requires none { pipe.old.rans ≡ [] }
-{
+    most: usize,
+) -> Result<List<[u64; 2]>, OutOfMemory> {
     let bytes = List::from_slice(alloc, FIVE_EVENTS)?;
     let mut source = MemSource::new(bytes, 14, List::new(alloc));
-    let mut told = List::new(alloc);
-    tell_round(rt, alloc, pipe, &mut source, &FreeGate, &mut told)?;
-    tell_round(rt, alloc, pipe, &mut source, &FreeGate, &mut told)?;
-    tell_round(rt, alloc, pipe, &mut source, &FreeGate, &mut told)?;
-    Ok(told)
+    let mut teller = NumberTeller {
+        told: List::new(alloc),
+        most,
+    };
+    make_round(rt, alloc, pipe, &mut source, &FreeGate, &mut teller);
+    make_round(rt, alloc, pipe, &mut source, &FreeGate, &mut teller);
+    make_round(rt, alloc, pipe, &mut source, &FreeGate, &mut teller);
+    Ok(teller.told)
 }
 
 /// The values of account 2 and of asset 2, if the layout has both.
@@ -137,7 +130,7 @@ fn run_five_events<R: Threads + Sync + Abort>(
     requires few { ahead ≤ 2 }
 {
     let mut pipe = ledger_pipe(alloc, ahead)?;
-    let told = five_events_told(rt, alloc, &mut pipe)?;
+    let told = five_events_told(rt, alloc, &mut pipe, 2)?;
     let end = (pipe.going(), pipe.tail(), second_values(&pipe));
     let want = (false, Some(Tail::End), Some([61, 6]));
     assert_eq!(rt; (told.as_slice(), end), ([[1, 3], [2, 1]].as_slice(), want));
@@ -148,5 +141,16 @@ fn run_five_events<R: Threads + Sync + Abort>(
 fn five_events_are_run(rt: HostRuntime) -> Result<(), Fail> {
     run_five_events(&rt, rt.alloc(), 1)?;
     run_five_events(&rt, rt.alloc(), 2)?;
+    Ok(())
+}
+
+/// The result of the second batch is refused: the batch was run, and the pipe goes on no more.
+#[test]
+fn a_refused_result_ends_the_rounds(rt: HostRuntime) -> Result<(), Fail> {
+    let mut pipe = ledger_pipe(rt.alloc(), 1)?;
+    let told = five_events_told(&rt, rt.alloc(), &mut pipe, 1)?;
+    let end = (pipe.going(), pipe.tail(), second_values(&pipe));
+    let want = (false, Some(Tail::Untold), Some([61, 6]));
+    assert_eq!(rt; (told.as_slice(), end), ([[1, 3]].as_slice(), want));
     Ok(())
 }

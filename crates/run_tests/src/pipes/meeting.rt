@@ -1,6 +1,7 @@
-//! The two halves of a round side by side: reading and running wait for each other.
-use super::{ledger_pipe, tell_round};
+//! The two halves of a round side by side: reading waits for the result of the batch before, and running for reading.
+use super::{NumberTeller, ledger_pipe, make_round};
 use crate::runs::lines::{append, append_number};
+use batch_pipe::{Ran, Teller};
 use morph_base::{List, OutOfMemory};
 use morph_io::{MemSource, ReadFailed, Source};
 use std::hint::spin_loop;
@@ -16,8 +17,8 @@ const LOADS: u64 = 200_000_000;
 struct Meeting {
     /// The read that is held was entered.
     entered: AtomicBool,
-    /// A worker has evaluated something.
-    done: AtomicBool,
+    /// A result was told.
+    told: AtomicBool,
     /// A hold reached its limit.
     missed: AtomicBool,
 }
@@ -26,7 +27,7 @@ impl Meeting {
     fn new() -> Meeting {
         Meeting {
             entered: AtomicBool::new(false),
-            done: AtomicBool::new(false),
+            told: AtomicBool::new(false),
             missed: AtomicBool::new(false),
         }
     }
@@ -51,16 +52,14 @@ impl Gate for Meeting {
         }
     }
 
-    fn done(&self, _worker: u32, _turn: u64) {
-        self.done.store(true, Ordering::SeqCst);
-    }
+    fn done(&self, _worker: u32, _turn: u64) {}
 
     fn needs_threads(&self) -> bool {
         false
     }
 }
 
-/// A source that, at the read of one number, counted from 1, holds until a worker has evaluated something.
+/// A source that, at the read of one number, counted from 1, holds until a result was told.
 #[derive(Drop)]
 struct Held<'a, S> {
     source: S,
@@ -80,9 +79,30 @@ impl<S: Source> Source for Held<'_, S> {
         self.reads = self.reads.saturating_add(1);
         if self.reads == self.held {
             self.meeting.entered.store(true, Ordering::SeqCst);
-            self.meeting.hold_until(&self.meeting.done);
+            self.meeting.hold_until(&self.meeting.told);
         }
         self.source.read(buf)
+    }
+}
+
+/// A teller that says when a result was told.
+#[derive(Drop)]
+struct MeetingTeller<'a> {
+    numbers: NumberTeller,
+    meeting: &'a Meeting,
+}
+
+impl Teller for MeetingTeller<'_> {
+    ghost can_take = { λ _ _. Unit {0} };
+
+    ghost takes = { λ _ _ _ _. Unit {0} };
+
+    ghost goes_on = { λ _ _ _ _ _ _. tt };
+
+    fn take(&mut self, ran: Ran) -> bool {
+        let taken = self.numbers.take(ran);
+        self.meeting.told.store(true, Ordering::SeqCst);
+        taken
     }
 }
 
@@ -102,7 +122,7 @@ fn append_payouts(list: &mut List<u8>, from: u64, count: u64) -> Result<(), OutO
 }
 
 /// A batch with as many operations as two halves are worth, and what comes behind it. Halves that ran one after the
-/// other would wait in vain.
+/// other would wait in vain, and so would a result that was told only once the next batch was read.
 #[test]
 fn pipe_meets(rt: HostRuntime) -> Result<(), Fail> {
     let alloc = rt.alloc();
@@ -119,9 +139,16 @@ fn pipe_meets(rt: HostRuntime) -> Result<(), Fail> {
         meeting: &meeting,
     };
     let mut pipe = ledger_pipe(alloc, 1)?;
-    let mut told = List::new(alloc);
-    tell_round(&rt, alloc, &mut pipe, &mut source, &meeting, &mut told)?;
-    assert_eq!(rt; told.as_slice(), [[1, PAYOUTS]].as_slice());
+    let numbers = NumberTeller {
+        told: List::new(alloc),
+        most: 1,
+    };
+    let mut teller = MeetingTeller {
+        numbers,
+        meeting: &meeting,
+    };
+    make_round(&rt, alloc, &mut pipe, &mut source, &meeting, &mut teller);
+    assert_eq!(rt; teller.numbers.told.as_slice(), [[1, PAYOUTS]].as_slice());
     assert!(rt; !meeting.missed.load(Ordering::SeqCst));
     Ok(())
 }

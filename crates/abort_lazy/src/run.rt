@@ -16,11 +16,12 @@ use op_eval::{Explored, Left, Runner, Runners};
 use op_words::{Board, Closed, Hand};
 use std::alloc::Global;
 use std::thread::Threads;
+use worker_gate::threads_for;
 
 mod level;
 mod levels;
 
-use levels::{Levels, go_over_by};
+use levels::{Levels, go_over_by, pieces};
 
 /// A board and its runners after each event of a batch was tried, before the board is closed.
 pub struct SettledRun {
@@ -59,7 +60,7 @@ fn settle_levels<T: Threads + Sync>(
         board,
         plan,
         from,
-        workers: runners.len(),
+        threads: threads_for(runners.len(), pieces(plan)),
     };
     go_over_by(rt, runners, &levels);
 }

@@ -66,13 +66,7 @@ fn numbers_of(ran: &Ran) -> [u64; 2] {
 }
 
 /// Makes a round with two workers, if the pipe is going.
-fn make_round<
-    R: Threads + Sync + Abort,
-    A: EventApp + Send,
-    S: Source + Send,
-    G: Gate,
-    T: Teller,
->(
+fn make_round<R: Threads + Sync + Abort, A: EventApp + Send, S: Source + Send, G: Gate, T: Teller>(
     rt: &R,
     alloc: Global,
     pipe: &mut Pipe<A>,

@@ -75,7 +75,7 @@ fn pass_all<R: Threads + Sync, G: Gate>(
 /// have run at attempt 1. Workers are started once for all levels, in as many threads as the operations of the plan are
 /// [worth](worker_gate::threads_for) at 128 pieces of work each. A worker goes on to the next level as soon as no place
 /// of a level is left. So before each place it waits until the sources of the operation have values. It does so with a
-/// bounded [`Patience`](op_eval::Patience) for all levels, and one worker alone does not wait. A place whose sources
+/// bounded [`Patience`](op_eval::Patience) for all levels, and in one thread nobody waits. A place whose sources
 /// have no values when the patience ends is left blocked, and settling evaluates it.
 ///
 /// Under eager abort workers are started for each pass, and a worker runs the cascade of an operation to its end after

@@ -21,7 +21,9 @@ use morph_base::Plan;
 use op_eval::{Patience, RunEnd, Runner};
 use op_words::Board;
 use std::thread::Threads;
-use worker_gate::{Gate, Job, Told, Turns, burst_for, is_shared, pieces_for, run_all, shareable};
+use worker_gate::{
+    Gate, Job, Told, Turns, burst_for, is_shared, pieces_for, run_all, shareable, threads_for,
+};
 
 /// How many pieces of work an operation is worth if its worker is started once for all levels.
 const OP_PIECES: usize = 128;
@@ -36,8 +38,8 @@ fn pieces(plan: &Plan) -> usize {
 pub(crate) struct Levels<'a, G> {
     pub(crate) ground: Ground<'a>,
     pub(crate) gate: &'a G,
-    /// How many workers there are.
-    pub(crate) workers: usize,
+    /// How many threads the workers have. Workers of one thread work one after the other.
+    pub(crate) threads: usize,
 }
 
 /// Does a worker's part of a level, by the counter of the level's number. The first worker, of number 0, takes part in
@@ -45,7 +47,7 @@ pub(crate) struct Levels<'a, G> {
 fn do_part<T: Turns>(
     ground: &Ground<'_>,
     told: &T,
-    workers: usize,
+    threads: usize,
     number: usize,
     level: usize,
     runner: &mut Runner,
@@ -62,16 +64,17 @@ fn do_part<T: Turns>(
 {
     let ops = ground.plan.op_levels.get(level).as_slice();
     if number == 0 || is_shared(ops.len()) {
-        let most = burst_for(workers, ops.len());
+        let most = burst_for(threads, ops.len());
         work(ground, told, ops, level as u32, most, runner, patience);
     }
 }
 
-/// Goes over all levels, from the lowest on, as the worker of this number. A worker who is alone waits for nobody.
+/// Goes over all levels, from the lowest on, as the worker of this number. In one thread nobody waits, since the first
+/// worker has done all before the next begins.
 fn go_over<T: Turns>(
     ground: &Ground<'_>,
     told: &T,
-    workers: usize,
+    threads: usize,
     number: usize,
     runner: &mut Runner,
 )
@@ -83,13 +86,13 @@ fn go_over<T: Turns>(
     ensures goes_over { GoesOver (ground_rules ground.now) number
         (length ground.now.plan.now.op_levels.items) runner.old runner.new }
 {
-    let mut patience = if workers <= 1 {
+    let mut patience = if threads <= 1 {
         Patience::none()
     } else {
         Patience::full()
     };
     for level in 0..ground.plan.op_levels.len() {
-        do_part(ground, told, workers, number, level, runner, &mut patience);
+        do_part(ground, told, threads, number, level, runner, &mut patience);
     }
 }
 
@@ -115,7 +118,7 @@ impl<G: Gate> Job<Runner> for Levels<'_, G> {
             gate: self.gate,
             worker: u32::from(worker.hand.tag()),
         };
-        go_over(&self.ground, &told, self.workers, number, worker)
+        go_over(&self.ground, &told, self.threads, number, worker)
     }
 }
 
@@ -143,6 +146,7 @@ pub(crate) fn pass_levels<R: Threads + Sync, G: Gate>(
         → IsAlone course.now.plan.now (length course.now.plan.now.op_levels.items)
         runners.old runners.new }
 {
+    let pieces = pieces_for(course.gate, pieces(course.plan));
     let levels = Levels {
         ground: Ground {
             board,
@@ -151,9 +155,8 @@ pub(crate) fn pass_levels<R: Threads + Sync, G: Gate>(
             abort: course.abort,
         },
         gate: course.gate,
-        workers: runners.len(),
+        threads: threads_for(runners.len(), pieces),
     };
-    let pieces = pieces_for(course.gate, pieces(course.plan));
     run_all(rt, runners, pieces, &levels);
     (RunEnd::Whole, course.plan.op_levels.len() as u32)
 }

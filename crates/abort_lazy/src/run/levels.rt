@@ -18,19 +18,24 @@ use worker_gate::{Job, burst_for, is_shared, run_all, shareable};
 /// How many pieces of work trying one event is, by which threads are worth it: one for each 1,024 events.
 const EVENT_PIECES: usize = 256;
 
+/// How many pieces of work it is to settle the events of a plan.
+pub fn pieces(plan: &Plan) -> usize {
+    shareable(plan.events.len(), plan.event_levels.len()).saturating_mul(EVENT_PIECES)
+}
+
 /// The levels of a plan's events. The numbers of level l come from counter `from` + l.
 #[derive(Drop)]
 pub struct Levels<'a> {
     pub board: &'a Board,
     pub plan: &'a Plan,
     pub from: u32,
-    /// How many workers go over the levels.
-    pub workers: usize,
+    /// How many threads the workers have. Workers of one thread work one after the other.
+    pub threads: usize,
 }
 
-/// The patience of each of so many workers. A worker who is alone has nobody to wait for.
-fn patience_for(workers: usize) -> Patience {
-    if workers > 1 {
+/// The patience of a worker in one of so many threads. In one thread there is nobody to wait for.
+fn patience_for(threads: usize) -> Patience {
+    if threads > 1 {
         Patience::full()
     } else {
         Patience::none()
@@ -66,7 +71,7 @@ fn go_over_level(
             plan: levels.plan,
             events,
             counter: levels.from + level as u32,
-            burst: burst_for(levels.workers, events.len()),
+            burst: burst_for(levels.threads, events.len()),
         };
         go_over(&sweep, runner, patience);
     }
@@ -80,7 +85,7 @@ fn go_over_all(levels: &Levels<'_>, number: usize, runner: &mut Runner)
     ensures { InStages (WasAtLevel levels.now.board.now levels.now.plan.now levels.now.from number)
         (length levels.now.plan.now.event_levels.items) runner.old runner.new }
 {
-    let mut patience = patience_for(levels.workers);
+    let mut patience = patience_for(levels.threads);
     for level in 0..levels.plan.event_levels.len() {
         go_over_level(levels, number, level, runner, &mut patience);
     }
@@ -112,7 +117,5 @@ pub fn go_over_by<T: Threads + Sync>(rt: &T, runners: &mut [Runner], levels: &Le
         (length levels.now.plan.now.event_levels.items) (slice_index_or runners.old k d)
         (slice_index_or runners.new k d) }
 {
-    let plan = levels.plan;
-    let events = shareable(plan.events.len(), plan.event_levels.len());
-    run_all(rt, runners, events.saturating_mul(EVENT_PIECES), levels);
+    run_all(rt, runners, pieces(levels.plan), levels);
 }

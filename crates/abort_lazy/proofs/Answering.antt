@@ -2,11 +2,13 @@
 use Rattle.std.proofs.Common.{◌≡◌, ℕ, ◌+◌, ◌≤◌, List, [], ◌∷◌, ◌++◌, refl, sym, ap, ◌∙◌, arith}
 use Rattle.std.proofs.lemmas.List.{length-append}
 use Rattle.morph_base.specs.declared.plan.Plan.{Plan}
+use Rattle.morph_base.specs.declared.word.OpWord.{OpWord}
+use Rattle.op_words.specs.declared.answers.Redone.{Redone}
 use Rattle.op_eval.specs.declared.answers.Answers.{Answers}
 use Rattle.op_eval.specs.declared.answers.Evaluation.{Evaluation}
 use Rattle.op_eval.specs.declared.runner.Runner.{Runner}
 use Rattle.op_eval.specs.Running.{counted}
-use Rattle.op_eval.specs.Evaluations.{Tries}
+use Rattle.op_eval.specs.Evaluations.{Tries, Redoes, evaluation_of}
 use Rattle.abort_lazy.specs.Transactions.{counted_all, IsAnswered}
 
 counted-append : (xs ys : List Evaluation) (n : Answers) → counted_all (xs ++ ys) n ≡ counted_all ys (counted_all xs n)
@@ -24,6 +26,11 @@ pub answered_one : (p : Plan) (cap o : ℕ) {before middle : Runner} {r : Evalua
     → IsAnswered 1 before after
 unfolding counted_all
 answered_one p cap o {before} {middle} {r} after tries answers kept = record { answers = r ∷ []; few = omega arith; counts = answers ∙ tries.counts; kept = kept ∙ tries.kept }
+
+-- one of an operation that was taken back and evaluated again
+pub answered_again : (p : Plan) (o j : ℕ) (w : OpWord) {before after : Runner} {r : Redone} → Redoes p o w j before after r → IsAnswered 1 before after
+unfolding counted_all
+answered_again p o j w {before} {after} {r} does = record { answers = evaluation_of r ∷ []; few = omega arith; counts = does.counts; kept = does.kept }
 
 -- of two parts
 pub answered_then : {m n : ℕ} (before middle after : Runner) → IsAnswered m before middle → IsAnswered n middle after → IsAnswered (m + n) before after

@@ -1,5 +1,5 @@
 -- What a call of the board leaves true of what its hand saw before, and what it shows of what it loaded.
-use Rattle.std.proofs.Common.{◌≡◌, ◌≢◌, ◌⊎◌, ℕ, ◌≤◌, true, false, List, ◌++◌, refl, sym, ap, ◌∙◌, subst, inl, inr, arith}
+use Rattle.std.proofs.Common.{◌≡◌, ℕ, ◌≤◌, true, false, List, ◌++◌, refl, sym, ap, ◌∙◌, subst, inl, inr, arith}
 use Rattle.std.specs.Prelude.{Contains, Option, slice_index}
 use Rattle.std.proofs.lemmas.Bool.{false≢true}
 use Rattle.std.proofs.lemmas.List.Elements.{Contains-append_left, Contains-append_right}
@@ -14,7 +14,7 @@ use Rattle.morph_base.specs.Words.{is_settled, is_idle, is_evaluated}
 use Rattle.op_words.specs.declared.trail.Item.{Item}
 use Rattle.op_words.specs.declared.trail.View.{View}
 use Rattle.op_words.specs.Trails.{loaded, HasLast, IsDisturbed, IsShaken, IsSteadyAt, IsCalmAt, NoneOwn}
-use Rattle.op_words.specs.Views.{IsSettledSeen, IsSourceSeen, IsRecordSeen, IsJudged, IsLone, AddsAndFrees}
+use Rattle.op_words.specs.Views.{IsSettledSeen, IsSourceSeen, IsJudged, IsLone, AddsAndFrees}
 use Rattle.op_words.specs.Calls.{IsSettledRead, IsSourceOpen}
 use Rattle.op_words.specs.Judging.{IsAnswerSeen, IsGoodAt, IsStaleAt}
 use Rattle.op_words.specs.Retrying.{IsOwnUnrolled, IsUpToDate}
@@ -118,7 +118,7 @@ module _ {v u : View} {xs : List Item} (goes : AddsAndFrees v u xs) where
       ∙ ap (λ (w : OpWord). w.value) (goes.adds.agree one.seen.note other.seen.note one.seen.inside other.seen.inside (one.seen.op_is ∙ sym other.seen.op_is) one.seen.settled other.seen.settled)
       ∙ other.value_is
 
-  pub settled_read_seen : (q : Origin) (x : ℕ) → IsSettledRead xs q x → IsSourceSeen u q x
+  settled_read_seen : (q : Origin) (x : ℕ) → IsSettledRead xs q x → IsSourceSeen u q x
   settled_read_seen (Base b) x is = is
   settled_read_seen (Written s) x is =
       record { seen = record { note = loaded s is.0; inside = item_seen (loaded s is.0) is.1; op_is = refl; settled = is.2 }; value_is = is.3 }
@@ -151,19 +151,8 @@ module _ (p : Plan) (cap o : ℕ) {v u : View} {xs : List Item} {a : OpWord} (ys
             ]
       ]
 
-  pub fresh_other : {j x : ℕ} → (a.state ≡ Spread) ⊎ ((kept : ℕ) × (value : ℕ) × IsRecordSeen v o j a kept × IsSourceSeen v (origin_at p o j) value × (kept ≢ value))
-      → IsUpToDate p cap o v u xs j x → IsDisturbed o (ys ++ xs)
-  fresh_other {j} {x} cause is =
-      found_other ys xs known is.last
-      (λ same.
-      elim cause [
-        | inl spread ↦ is.not_spread (sym (ap (λ (w : OpWord). w.state) same) ∙ spread)
-        | inr stale ↦
-            let kept : stale.0 ≡ x = is.record_is stale.0 (subst (λ w. IsRecordSeen v o j w stale.0) same stale.2) in
-            let value : stale.1 ≡ x = is.source_is stale.1 stale.3 in
-            stale.4 (kept ∙ sym value)
-      ])
-      is.none
+  pub fresh_other : {j x : ℕ} → a.state ≡ Spread → IsUpToDate p cap o v u xs j x → IsDisturbed o (ys ++ xs)
+  fresh_other {j} {x} spread is = found_other ys xs known is.last (λ same. is.not_spread (sym (ap (λ (w : OpWord). w.state) same) ∙ spread)) is.none
 
 pub already_last : (p : Plan) (cap o : ℕ) {v u : View} {xs : List Item} {w : OpWord} → IsAlready p cap o v u xs w → HasLast o xs w
 already_last p cap o {v} {u} {xs} {w} is = subst (λ zs. HasLast o zs w) (sym is.only) (one_is_last (loaded o w))

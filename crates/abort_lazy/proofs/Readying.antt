@@ -1,5 +1,5 @@
 -- How one operation is made ready for the decision.
-use Rattle.std.proofs.Common.{◌≡◌, ◌≢◌, ◌⊎◌, ℕ, ◌+◌, Bool, true, false, List, [], ◌++◌, refl, sym, ap, ◌∙◌, subst, inl, inr, append_assoc}
+use Rattle.std.proofs.Common.{◌≡◌, ◌≢◌, ◌⊎◌, ℕ, ◌+◌, Bool, true, false, List, [], ◌∷◌, ◌++◌, refl, sym, ap, ◌∙◌, subst, inl, inr, append_assoc, arith}
 use Rattle.std.specs.Prelude.{Contains}
 use Rattle.std.proofs.lemmas.Bool.{false≢true, cases_Bool}
 use Rattle.std.proofs.lemmas.List.Elements.{Contains-append_right}
@@ -7,31 +7,36 @@ use Rattle.morph_base.specs.declared.plan.Plan.{Plan}
 use Rattle.morph_base.specs.declared.word.OpState.{OpState}
 use Rattle.morph_base.specs.declared.word.OpState.TheVariants.{Blocked, Ready, Claimed, Executed, Failed, Spread, Settled, SettledAborted}
 use Rattle.morph_base.specs.declared.word.OpWord.{OpWord}
-use Rattle.morph_base.specs.Plans.{InEvent, origin_at}
+use Rattle.morph_base.specs.Plans.{InEvent}
 use Rattle.morph_base.specs.Words.{is_settled, is_idle, is_evaluated}
-use Rattle.interleaving_core.specs.Core.{blocked, has_run}
+use Rattle.interleaving_core.specs.Core.{blocked, ready, claimed, has_run}
 use Rattle.op_words.specs.declared.answers.Outcome.{Outcome}
 use Rattle.op_words.specs.declared.answers.Verdict.{Verdict}
 use Rattle.op_words.specs.declared.answers.Verdict.TheVariants.{Good, Bad, Stale, Unready}
 use Rattle.op_words.specs.declared.answers.Rolled.TheVariants.{Done as HasRolled, Fresh, Not as Unrolled}
+use Rattle.op_words.specs.declared.answers.Redone.{Redone}
+use Rattle.op_words.specs.declared.answers.Redone.TheVariants.{Good as GoodAgain, Bad as BadAgain, Open, Busy as BusyAgain}
 use Rattle.op_words.specs.declared.trail.Item.{Item}
 use Rattle.op_words.specs.declared.trail.View.{View}
-use Rattle.op_words.specs.Trails.{loaded, HasLast, IsDisturbed, IsShaken, OwnOn, OwnOpen, ComeFirst}
+use Rattle.op_words.specs.Trails.{loaded, left, HasLast, IsDisturbed, IsShaken, OwnOn, OwnOpen, ComeFirst}
 use Rattle.op_words.specs.Views.{IsSettledSeen, AddsAndFrees}
 use Rattle.op_words.specs.Calls.{IsSourceOpen, PeekDoes}
-use Rattle.op_words.specs.Judging.{IsGood, IsGoodAt, IsBad, VerdictDoes, VerdictAtDoes}
+use Rattle.op_words.specs.Judging.{IsGood, IsGoodAt, IsBad, IsStaleSeen, VerdictDoes, VerdictAtDoes}
+use Rattle.op_words.specs.Redoing.{RedoDoes, IsRedone, IsInterrupted}
 use Rattle.op_words.specs.Retrying.{RollDoes}
-use Rattle.op_words.proofs.Trailing.{last_later, disturbed_later, disturbed_more}
+use Rattle.op_words.proofs.Judging.{run_unsettled}
+use Rattle.op_words.proofs.Making.{last_else, found_disturbed}
+use Rattle.op_words.proofs.Trailing.{append_none, last_later, disturbed_later, disturbed_more}
 use Rattle.op_words.proofs.Adding.{goes_then}
 use Rattle.op_eval.specs.declared.answers.Evaluation.TheVariants.{Evaluated, Blocked as BlockedOn, Busy as BusyAt, Already}
 use Rattle.op_eval.specs.Evaluations.{EvaluationDoes, SoFar}
-use Rattle.op_eval.proofs.Following.{found_other, none_own, none_open, far_then}
+use Rattle.op_eval.proofs.Following.{one_is_last, found_other, none_own, none_open, far_then}
 use Rattle.abort_lazy.specs.declared.transaction.standing.Standing.{Standing}
 use Rattle.abort_lazy.specs.declared.transaction.standing.Standing.TheVariants.{Good as StandsGood, Bad as StandsBad, Settled as IsSettledNow, Stopped}
 use Rattle.abort_lazy.specs.declared.transaction.TxnAnswer.{TxnAnswer}
 use Rattle.abort_lazy.specs.declared.transaction.TxnAnswer.TheVariants.{NotYet}
-use Rattle.abort_lazy.specs.Progress.{so_far, IsStandingOf, StopsWithCause, ReadyDoes, IsIdleSoFar, IsOutdatedSoFar, IsMadeSoFar, IsFoundSoFar}
-use Rattle.abort_lazy.proofs.Carrying.{settled_read_seen, found_seen, already_other, already_last, already_seen, unrolled_other, fresh_other}
+use Rattle.abort_lazy.specs.Progress.{so_far, IsStandingOf, StopsWithCause, ReadyDoes, IsIdleSoFar, IsStaleSoFar, IsSpreadSoFar, IsMadeSoFar, IsFoundSoFar}
+use Rattle.abort_lazy.proofs.Carrying.{found_seen, already_other, already_last, already_seen, unrolled_other, fresh_other}
 use Rattle.abort_lazy.proofs.Stopping.{source_open_later, stop_source, stop_busy, stop_shaken, stale_again}
 
 pub cases_claimed : (s : OpState) → (s ≡ Claimed) ⊎ (s ≢ Claimed)
@@ -56,16 +61,6 @@ can_stop SettledAborted = true
 
 executed_failed : Executed ≡ Failed → ⊥
 executed_failed e = cc
-
-run_evaluated : (s : OpState) → has_run s ≡ true → is_evaluated s ≡ true
-run_evaluated Blocked ran = ran
-run_evaluated Ready ran = ran
-run_evaluated Claimed ran = ran
-run_evaluated Executed ran = ran
-run_evaluated Failed ran = ran
-run_evaluated Spread ran = absurd (false≢true ran)
-run_evaluated Settled ran = ran
-run_evaluated SettledAborted ran = ran
 
 pub shaken_more : {p : Plan} {o : ℕ} {xs : List Item} (ys : List Item) → IsShaken p o xs → IsShaken p o (xs ++ ys)
 shaken_more ys is = elim is [ inl own ↦ inl (disturbed_more ys own) | inr source ↦ inr (source.0, source.1, disturbed_more ys source.2) ]
@@ -197,36 +192,108 @@ module _ (p : Plan) (cap i o : ℕ) (inside : InEvent p i o) (first : ComeFirst 
   run_already {w} does idle stops =
       ready_stop p i o inside idle.far does.goes does.own does.open_own (already_last p cap o does.tells) (already_seen p cap o does.tells) (inr (inl (already_other p cap o xs idle.last idle.idle does.tells))) stops
 
-  -- a rollback of an operation that was found stale or spread
-  pub idle_so_far : {j : ℕ} → RollDoes p cap o v u j HasRolled → IsOutdatedSoFar p cap o j (so_far start v xs) → (ys : List Item) × IsIdleSoFar o (so_far start u ys)
+  -- a rollback of an operation that was found spread
+  pub idle_so_far : {j : ℕ} → RollDoes p cap o v u j HasRolled → IsSpreadSoFar cap o (so_far start v xs) → (ys : List Item) × IsIdleSoFar o (so_far start u ys)
   idle_so_far {j} does old = (xs ++ does.words, record { far = far_then old.far does.goes does.own does.open_own; word = blocked (does.tells.first.attempt + 1); last = last_later xs does.tells.last; idle = refl })
 
-  pub redo_source : {j at : ℕ} {w : OpWord} → at ≢ o → RollDoes p cap o v u j (Unrolled at w) → IsOutdatedSoFar p cap o j (so_far start v xs) → ReadyDoes p i o start u (Stopped (NotYet at w))
-  redo_source {j} {at} {w} other does old =
+  pub spread_source : {j at : ℕ} {w : OpWord} → at ≢ o → RollDoes p cap o v u j (Unrolled at w) → IsSpreadSoFar cap o (so_far start v xs) → ReadyDoes p i o start u (Stopped (NotYet at w))
+  spread_source {j} {at} {w} other does old =
       elim does.tells [ inl own ↦ absurd (other own.0) | inr source ↦ ready_source p i o inside old.far does.goes does.own does.open_own source.1.source_open ]
 
-  pub redo_own : {j at : ℕ} {w : OpWord} {r : Standing} → at ≡ o → RollDoes p cap o v u j (Unrolled at w) → IsOutdatedSoFar p cap o j (so_far start v xs) → IsStandingOf o w r → ReadyDoes p i o start u r
-  redo_own {j} {at} {w} {r} same does old stops =
+  pub spread_own : {j at : ℕ} {w : OpWord} {r : Standing} → at ≡ o → RollDoes p cap o v u j (Unrolled at w) → IsSpreadSoFar cap o (so_far start v xs) → IsStandingOf o w r → ReadyDoes p i o start u r
+  spread_own {j} {at} {w} {r} same does old stops =
       elim does.tells [
         | inr source ↦ absurd (source.0 same)
         | inl own ↦
             ready_stop p i o inside old.far does.goes does.own does.open_own own.1.last own.1.seen
-            (inr (inl (unrolled_other p cap o xs old.last old.evaluated old.below own.1))) stops
+            (inr (inl (unrolled_other p cap o xs old.last (ap is_evaluated old.spread) old.below own.1))) stops
       ]
 
-  pub redo_fresh : {j x : ℕ} {w : OpWord} {m : View} {r : Standing} → RollDoes p cap o v m j (Fresh x) → PeekDoes p cap o m u w → IsOutdatedSoFar p cap o j (so_far start v xs) → IsStandingOf o w r
-      → ReadyDoes p i o start u r
-  redo_fresh {j} {x} {w} {m} {r} does peek old stops =
+  pub spread_fresh : {j x : ℕ} {w : OpWord} {m : View} {r : Standing} → RollDoes p cap o v m j (Fresh x) → PeekDoes p cap o m u w → IsSpreadSoFar cap o (so_far start v xs) → IsStandingOf o w r → ReadyDoes p i o start u r
+  spread_fresh {j} {x} {w} {m} {r} does peek old stops =
       ready_stop p i o inside (far_then old.far does.goes does.own does.open_own) peek.goes (none_own peek.words peek.none) (none_open peek.words peek.none) peek.last peek.seen
-      (inr (inl (disturbed_more peek.words (fresh_other p cap o xs old.last old.cause does.tells)))) stops
+      (inr (inl (disturbed_more peek.words (fresh_other p cap o xs old.last old.spread does.tells)))) stops
+
+-- an operation that was judged stale was taken back and evaluated again
+module _ (p : Plan) (i o j : ℕ) (inside : InEvent p i o) {start v u : View} {xs : List Item} {w : OpWord} (old : IsStaleSoFar o w (so_far start v xs)) where
+  far_redone : {r : Redone} → (does : RedoDoes p o w j v u r) → SoFar o start u (xs ++ does.words)
+  far_redone does = far_then old.far does.goes does.own does.open_own
+
+  redone_last : {ys : List Item} {z : OpWord} → IsRedone p o w j v u ys z → HasLast o (xs ++ ys) z
+  redone_last {ys} {z} is =
+      let steps : List Item = left o (blocked (w.attempt + 1)) ∷ left o (ready (w.attempt + 1)) ∷ left o (claimed (w.attempt + 1) v.tag) ∷ [] in
+      last_later xs (subst (λ zs. HasLast o zs z) (sym is.words_are) (last_later is.row (last_later steps (one_is_last (left o z)))))
+
+  pub again_good : {z : OpWord} → RedoDoes p o w j v u (GoodAgain z) → ReadyDoes p i o start u (StandsGood z)
+  again_good {z} does =
+      let is = does.tells in
+      let last = redone_last is.redone in
+      record {
+        words = xs ++ does.words;
+        far = far_redone does;
+        tells = record { last = inl last; good = is.good; answers = (z.value, is.answer) };
+        dealt = λ goes_on. inr (inl (record { word = z; last = last; judged = is.redone.judged; fails = λ failed. absurd (executed_failed (sym is.good.executed ∙ failed)) }));
+      }
+
+  pub again_bad : {z : OpWord} → RedoDoes p o w j v u (BadAgain z) → ReadyDoes p i o start u StandsBad
+  again_bad {z} does =
+      let is = does.tells in
+      record {
+        words = xs ++ does.words;
+        far = far_redone does;
+        tells = is.answer;
+        dealt = λ goes_on. inr (inl (record { word = z; last = redone_last is.redone; judged = is.redone.judged; fails = λ failed. is.answer.answer_is }));
+      }
+
+  -- its own word is still the one that was judged
+  pub again_source : {cap at : ℕ} {z : OpWord} → IsStaleSeen p cap v o w j → RedoDoes p o w j v u (Open at z) → ReadyDoes p i o start u (Stopped (NotYet at z))
+  again_source {cap} {at} {z} stale does =
+      let is = does.tells in
+      let far = far_redone does in
+      let open' : IsSourceOpen p cap o start u (xs ++ does.words) at z = record {
+        source = is.source;
+        inside = Contains-append_right xs does.words (loaded at z) is.inside;
+        settled = is.settled;
+        own = w;
+        last = last_else o xs does.words w old.last is.elsewhere;
+        open_own = run_unsettled w.state stale.ran;
+      } in
+      ready_stopped far (stop_source p i far.goes inside open')
+
+  -- the word that this hand knew last, where another one was found
+  known_last : {ys : List Item} {z : OpWord} → (is : IsInterrupted p o w j v u ys z) → HasLast o (xs ++ (is.row ++ is.own)) is.known
+  known_last {ys} {z} is =
+      elim is.way [
+        | inl none ↦
+            subst (λ y. HasLast o (xs ++ (is.row ++ is.own)) y) (sym none.2)
+            (subst (λ zs. HasLast o (xs ++ zs) w) (sym (ap (λ (zs : List Item). is.row ++ zs) none.0 ∙ append_none is.row)) (last_else o xs is.row w old.last is.elsewhere))
+        | inr more ↦ last_later xs (last_later is.row (elim more [ inl back ↦ known_is (blocked (w.attempt + 1)) [] back.0 back.2 | inr made ↦ known_is (ready (w.attempt + 1)) (left o (blocked (w.attempt + 1)) ∷ []) made.0 made.2 ]))
+      ]
+    where
+      known_is : (y : OpWord) (front : List Item) → is.own ≡ front ++ left o y ∷ [] → is.known ≡ y → HasLast o is.own is.known
+      known_is y front own known = subst (λ k. HasLast o is.own k) (sym known) (subst (λ zs. HasLast o zs y) (sym own) (last_later front (one_is_last (left o y))))
+
+  pub again_busy : {z : OpWord} {r : Standing} → RedoDoes p o w j v u (BusyAgain z) → IsStandingOf o z r → ReadyDoes p i o start u r
+  again_busy {z} {r} does stops =
+      let is = does.tells in
+      let tail : List Item = loaded o z ∷ [] in
+      let there : Contains (xs ++ does.words) (loaded o z) =
+      Contains-append_right xs does.words (loaded o z)
+      (subst (λ zs. Contains zs (loaded o z)) (sym is.words_are) (Contains-append_right is.row (is.own ++ tail) (loaded o z) (Contains-append_right is.own tail (loaded o z) (0, omega arith, refl)))) in
+      let last : HasLast o (xs ++ does.words) z = last_later xs (subst (λ zs. HasLast o zs z) (sym is.words_are) (last_later is.row (last_later is.own (one_is_last (loaded o z))))) in
+      let whole : xs ++ does.words ≡ (xs ++ (is.row ++ is.own)) ++ tail =
+      ap (λ (zs : List Item). xs ++ zs) (is.words_are ∙ sym (append_assoc is.row is.own tail)) ∙ sym (append_assoc xs (is.row ++ is.own) tail) in
+      let shaken : IsDisturbed o (xs ++ does.words) =
+      subst (IsDisturbed o) (sym whole) (found_disturbed o (xs ++ (is.row ++ is.own)) is.known z (known_last is) is.differs) in
+      ready_here p i o inside (far_redone does) last there (inr (inl shaken)) stops
 
 module _ (p : Plan) (cap i o : ℕ) (inside : InEvent p i o) {start v : View} {xs : List Item} where
   -- what was found not run, at its last word
   pub found_idle : {w : OpWord} → IsFoundSoFar p cap o (so_far start v xs) w → is_idle w.state ≡ true → IsIdleSoFar o (so_far start v xs)
   found_idle {w} found idle = record { far = found.far; word = w; last = found.last; idle = idle }
 
-  pub found_spread : {w : OpWord} → IsFoundSoFar p cap o (so_far start v xs) w → w.state ≡ Spread → IsOutdatedSoFar p cap o 0 (so_far start v xs)
-  found_spread {w} found spread = record { far = found.far; word = w; last = found.last; evaluated = ap is_evaluated spread; below = found.spread spread; cause = inl spread }
+  pub found_spread : {w : OpWord} → IsFoundSoFar p cap o (so_far start v xs) w → w.state ≡ Spread → IsSpreadSoFar cap o (so_far start v xs)
+  found_spread {w} found spread = record { far = found.far; word = w; last = found.last; spread = spread; below = found.spread spread }
 
   found_run : {w : OpWord} {s : OpState} → w.state ≡ s → has_run s ≡ true → IsFoundSoFar p cap o (so_far start v xs) w → IsDisturbed o xs
   found_run is ran found = elim found.cause [ inr there ↦ there | inl unrun ↦ absurd (false≢true (sym unrun ∙ ap has_run is ∙ ran)) ]
@@ -255,19 +322,8 @@ module _ (p : Plan) (cap i o : ℕ) (inside : InEvent p i o) {v u : View} where
   pub first_bad : VerdictDoes p cap o v u Bad → ReadyDoes p i o v u StandsBad
   first_bad does = ready_judged_bad [] (first_far does) does.tells
 
-  pub first_stale : {j kept value : ℕ} → VerdictDoes p cap o v u (Stale j kept value) → (xs : List Item) × IsOutdatedSoFar p cap o j (so_far v u xs)
-  first_stale {j} {kept} {value} does =
-      let stale = does.tells.stale in (
-        does.words,
-        record {
-          far = first_far does;
-          word = does.tells.word;
-          last = stale.last;
-          evaluated = run_evaluated does.tells.word.state stale.ran;
-          below = stale.below;
-          cause = inr (kept, value, stale.kept_is, settled_read_seen does.goes (origin_at p o j) value stale.source, stale.differs);
-        },
-      )
+  pub first_stale : {j kept value : ℕ} {w : OpWord} → VerdictAtDoes p cap o v u w (Stale j kept value) → (xs : List Item) × IsStaleSoFar o w (so_far v u xs)
+  first_stale {j} {kept} {value} does = (does.answer.words, record { far = first_far does.answer; last = (does.stale j kept value refl).0 })
 
   pub first_own : {at : ℕ} {w : OpWord} → at ≡ o → VerdictDoes p cap o v u (Unready at w) → (xs : List Item) × IsFoundSoFar p cap o (so_far v u xs) w
   first_own {at} {w} same does =

@@ -3,15 +3,15 @@ use Rattle.std.specs.Prelude.{◌≡◌, ◌≢◌, ℕ, ◌-◌, ◌≤◌, ◌
 use Rattle.morph_base.specs.declared.plan.Plan.{Plan}
 use Rattle.morph_base.specs.declared.word.OpState.TheVariants.{Claimed, Failed, Spread}
 use Rattle.morph_base.specs.declared.word.OpWord.{OpWord}
-use Rattle.morph_base.specs.Plans.{InEvent, event_at, origin_at, final, verdict}
+use Rattle.morph_base.specs.Plans.{InEvent, event_at, final, verdict}
 use Rattle.morph_base.specs.Clean.{outcome}
-use Rattle.morph_base.specs.Words.{is_evaluated, is_idle, is_settled}
+use Rattle.morph_base.specs.Words.{is_idle, is_settled}
 use Rattle.interleaving_core.specs.Core.{blocked, has_run}
 use Rattle.op_words.specs.declared.answers.Outcome.{Outcome}
 use Rattle.op_words.specs.declared.trail.Item.{Item}
 use Rattle.op_words.specs.declared.trail.View.{View}
 use Rattle.op_words.specs.Trails.{loaded, HasLast, IsDisturbed, OwnOn, OwnIn, OwnOpen, NoneOwn}
-use Rattle.op_words.specs.Views.{IsDecisionSeen, IsJudged, IsLone, IsRecordSeen, IsSettledSeen, IsSourceSeen, AddsAndFrees}
+use Rattle.op_words.specs.Views.{IsDecisionSeen, IsJudged, IsLone, IsSettledSeen, AddsAndFrees}
 use Rattle.op_words.specs.Judging.{IsAnswerSeen, IsGoodAt, IsGoodSeen, MaySayOf}
 use Rattle.op_eval.specs.Evaluations.{IsEvaluated, SoFar}
 use Rattle.abort_lazy.specs.declared.transaction.TxnAnswer.{TxnAnswer}
@@ -42,17 +42,18 @@ pub record IsIdleSoFar (o : ℕ) (c : CallSoFar) : Type 0 where
   pub last : HasLast o c.words word
   pub idle : is_idle word.state ≡ true
 
--- The last word of operation o in the call so far has a value, below the last attempt. It is spread, or its record at
--- place j differs from the settled source
-pub record IsOutdatedSoFar (p : Plan) (cap o j : ℕ) (c : CallSoFar) : Type 0 where
+-- The word w of operation o is its last one in the call so far
+pub record IsStaleSoFar (o : ℕ) (w : OpWord) (c : CallSoFar) : Type 0 where
+  pub far : SoFar o c.start c.now c.words
+  pub last : HasLast o c.words w
+
+-- The last word of operation o in the call so far is spread, below the last attempt
+pub record IsSpreadSoFar (cap o : ℕ) (c : CallSoFar) : Type 0 where
   pub far : SoFar o c.start c.now c.words
   pub word : OpWord
   pub last : HasLast o c.words word
-  pub evaluated : is_evaluated word.state ≡ true
+  pub spread : word.state ≡ Spread
   pub below : word.attempt ≤ cap
-  pub cause : (word.state ≡ Spread)
-      ⊎ ((kept : ℕ) × (value : ℕ) × IsRecordSeen c.now o j word kept
-      × IsSourceSeen c.now (origin_at p o j) value × (kept ≢ value))
 
 -- The back part of the call so far evaluated operation o
 pub record IsMadeSoFar (p : Plan) (cap o : ℕ) (c : CallSoFar) : Type 0 where

@@ -24,8 +24,8 @@ left_of i (AllSettled committed) = []
 left_of i (NotYet at w) = record { event = i; at = at; word = w; busy = false } ∷ []
 left_of i (Busy at w) = record { event = i; at = at; word = w; busy = true } ∷ []
 
--- The runner tried event i. It keeps the cause if the event was not settled, and counted what `evaluate` answered on
--- the way
+-- The runner tried event i. It keeps the cause if the event was not settled, and counted what `evaluate` and `redo`
+-- answered on the way
 pub record HasTriedOne (p : Plan) (i : ℕ) (a b : Runner) : Type 0 where
   pub answer : TxnAnswer
   pub does : TxnDoes p i (hand_view a) (hand_view b) answer
@@ -113,7 +113,8 @@ pub record AreSwept (b : Board) (p : Plan) (c : ℕ) (events : List ℕ) (before
 
 -- The runner is going over a level. It took this many numbers from the counter, all of them below `next`, and tried the
 -- events of those that name one, but for the numbers in `rest`, which are still to come
-pub record IsSweeping (p : Plan) (c : ℕ) (events : List ℕ) (taken next : ℕ) (rest : List ℕ) (before now : Runner) : Type 0 where
+pub record IsSweeping (p : Plan) (c : ℕ) (events : List ℕ) (taken next : ℕ) (rest : List ℕ) (before now : Runner)
+    : Type 0 where
   pub calls : List TakingCall
   pub made : MakesCalls p calls before now
   pub only : (k n : ℕ) → Contains calls (Took k n) → k ≡ c

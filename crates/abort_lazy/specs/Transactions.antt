@@ -99,7 +99,7 @@ pub record TxnDoes (p : Plan) (i : ℕ) (v u : View) (r : TxnAnswer) : Type 0 wh
 
 -- ---- what a runner counts
 
--- The counts after these answers of `evaluate`, one after another
+-- The counts after these answers of `evaluate`, or those of `redo` that say the same, one after another
 unfoldable pub counted_all : List Evaluation → Answers → Answers
 counted_all [] n = n
 counted_all (r ∷ rs) n = counted_all rs (counted r n)

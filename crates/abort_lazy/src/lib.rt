@@ -1,13 +1,14 @@
 //! Speculation with lazy abort: settles the events of a batch on the board that workers share, after the batch was
 //! explored in whatever way, and completes the rest.
 //!
-//! [`settle_txn`] settles one transaction, by any runner: it rolls back what rested on an aborted version and evaluates
-//! that again; then it decides the event and settles the event's operations. [`settle_all`] tries each event of a batch
-//! once, by several workers, and keeps why an event was left. The workers are started once, and go over all levels of
-//! events. They take the events of a level in bursts, from the level's counter. A worker waits for the sources of an
-//! event, but not without end: an event whose sources are not settled by then is left. [`SettledRun::close`] ends the
-//! board. Its contract says that each event was tried once, and why some were left ([`laws`] bounds how much that is).
-//! [`finish`] completes what was left, on plain data. The result is the fold's, however far workers got.
+//! [`settle_txn`] settles one transaction, by any runner: it takes back what rested on an aborted version and evaluates
+//! that again, on settled sources; then it decides the event and settles the event's operations. [`settle_all`] tries
+//! each event of a batch once, by several workers, and keeps why an event was left. The workers are started once, and
+//! go over all levels of events. They take the events of a level in bursts, from the level's counter. A worker waits
+//! for the sources of an event, but not without end: an event whose sources are not settled by then is left.
+//! [`SettledRun::close`] ends the board. Its contract says that each event was tried once, and why some were left
+//! ([`laws`] bounds how much that is). [`finish`] completes what was left, on plain data. The result is the fold's,
+//! however far workers got.
 //!
 //! ```text
 //! let room = Room::new(alloc, &plan)?;                  // all memory is taken before
@@ -23,11 +24,11 @@
 //! | File | What it has |
 //! |---|---|
 //! | `transaction` | `settle_txn`, `TxnAnswer`, and how a word that stops the call becomes its answer |
-//! | `transaction/prepare`, `transaction/decide`, `transaction/settle` | the stages of `settle_txn` for an event's operations |
+//! | `transaction/prepare`, `transaction/decide`, `transaction/settle` | the stages of `settle_txn` |
 //! | `transaction/standing` | how an operation is before the decision, and what those of an event say of it together |
 //! | `run` | `settle_all` and `SettledRun` |
-//! | `run/levels`, `run/level` | all levels of events in one start of the workers; one level, each event tried by the worker that takes its number |
-//! | `plain_finish`, `sources`, `room` | `finish`; the settled values of an operation's sources; the memory that it needs |
+//! | `run/levels`, `run/level` | all levels of events in one start of the workers; one level, by bursts of numbers |
+//! | `plain_finish`, `sources`, `room` | `finish`; the settled values of sources; the memory that it needs |
 //! | `laws` | how many evaluations and rollbacks there are at most |
 #![tactic(auto)]
 

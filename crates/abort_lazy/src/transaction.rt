@@ -36,14 +36,15 @@ pub enum TxnAnswer {
 /// each operation. If all of them were judged, the event is decided by that, with one exchange; and if all were good,
 /// each is settled from the word at which it was judged, with one exchange. Else the call judges them once more.
 ///
-/// To make an operation ready, the call judges it. If a record differs from its settled source, or a failure took its
-/// value back, the operation is rolled back and evaluated again. If it was not evaluated yet, it is evaluated. Then it
-/// is judged once more. Each operation is mended at most once: what stands in the way then is another hand's change.
+/// To make an operation ready, the call judges it. If a record differs from its settled source, the operation is taken
+/// back and evaluated again on settled sources ([`redo`](op_eval::redo)), which is a verdict already. If a failure took
+/// its value back, it is rolled back and evaluated again. If it was not evaluated yet, it is evaluated. After these two
+/// it is judged. Each operation is mended at most once: what stands in the way then is another hand's change.
 ///
 /// The answer is [`TxnAnswer::Settled`] exactly if at the return the hand has seen each operation settled. The other
 /// answers name what stands in the way, and the call may be made again. If a root is the only hand ever made and has
 /// seen all sources settled, the answer is `Settled`. The runner holds nothing before and after. Its `answers` count
-/// what `evaluate` answered on the way. The call takes no memory and waits for nobody.
+/// what `evaluate` and `redo` answered on the way. The call takes no memory and waits for nobody.
 pub fn settle_txn(board: &Board, runner: &mut Runner, plan: &Plan, event: u32) -> TxnAnswer
     requires may { MaySettleEvent board.now runner.old.hand plan.now event }
     ensures hand { IsHandOf board.now runner.new.hand }

@@ -109,7 +109,8 @@ module _ {Teller : Type 0} (takes : Teller → Ran → Bool → Teller → Type 
 
   -- From desk a to desk b the runner took these plans, in order, and its runs ended so. It ran all of them, but for the
   -- last one if memory was refused for that. The teller took all results, but for the last one if it refused that
-  pub record RunsPlans (m : Manner) (a : Desk Teller) (plans : List Sent) (end : RunEnd) (b : Desk Teller) : Type 0 where
+  pub record RunsPlans (m : Manner) (a : Desk Teller) (plans : List Sent) (end : RunEnd) (b : Desk Teller)
+      : Type 0 where
     pub runs : List Sent
     pub lost : List Sent
     pub run : Runs m a runs (is_told end) b

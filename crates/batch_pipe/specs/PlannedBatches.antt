@@ -19,7 +19,8 @@ use Rattle.batch_pipe.specs.declared.tail.Tail.{Tail}
 use Rattle.batch_pipe.specs.declared.tail.Tail.TheVariants.{End, Refused, Fault, RunMemory, Untold}
 use Rattle.batch_pipe.specs.GivenBatches.{Stand, stand, GivesBatches}
 
--- The answer of a reader that a tail stands for. For a tail that no reader meets it is `OutOfMemory`, which says nothing
+-- The answer of a reader that a tail stands for. For a tail that no reader meets it is `OutOfMemory`, which says
+-- nothing
 abbrev pub answer_of : Tail → Result Next ReaderFault
 answer_of End = Ok NoBatch
 answer_of (Refused line cause) = Ok (RefusedLine line cause)

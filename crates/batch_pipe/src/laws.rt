@@ -19,7 +19,8 @@ use crate::teller::Teller;
 use event_reader::EventApp;
 
 /// Over a whole run, the plans that are run are the first of those that are sent, in order, and these are the plans of
-/// the first accepted batches, each once, numbered from 1. A new pipe has such a course, and each round goes on with it.
+/// the first accepted batches, each once, numbered from 1. A new pipe has such a course, and each round goes on with
+/// it.
 pub fn courses_go_on<A: EventApp, T: Teller>()
     ensures begins { (m : Manner) (reader : ReaderView A) (engine : Kept) (ahead : ℕ)
         (left : Option (List ℕ))
@@ -29,7 +30,8 @@ pub fn courses_go_on<A: EventApp, T: Teller>()
         (teller teller' : T)
         → IsCourse A.event_of m (pipe_start reader engine left) rounds rans (pipe_point old before)
         → IsGoing old → (round : IsRound A.event_of T.takes m old before teller new after teller')
-        → IsCourse A.event_of m (pipe_start reader engine left) (rounds + 1) (rans ++ round.rans) (pipe_point new after) }
+        → IsCourse A.event_of m (pipe_start reader engine left) (rounds + 1) (rans ++ round.rans)
+        (pipe_point new after) }
 {}
 
 /// A run ends: each round lowers the number of rounds that there can still be, even if each result counts half a round.

@@ -14,6 +14,7 @@
 //! | `unit_cuts`, `choices` | `chain_units`; `decision_model` |
 //! | `machine` | `interleaving_core`, step by step |
 //! | `board`, `settling` | `op_words`: a hand's way through an operation; decisions and settling |
+//! | `stale` | `op_words`: an operation taken back and evaluated again in one call |
 //! | `evaluations`, `runners` | `op_eval`: one runner; four side by side |
 //! | `strata`, `deposits`, `going_back` | `strata_explorer`: one runner; four runners; levels passed again |
 //! | `handing` | `steal_explorer`: one worker; four workers; one that has to steal |
@@ -67,6 +68,8 @@ mod settled_runs;
 mod settling;
 #[cfg(test)]
 mod splitting;
+#[cfg(test)]
+mod stale;
 #[cfg(test)]
 mod states;
 #[cfg(test)]

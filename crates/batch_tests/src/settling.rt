@@ -11,7 +11,12 @@ use std::test::Fail;
 
 /// What the hand decides on the event of an operation, and how it then settles the operation. The second is `None` if
 /// nothing is decided.
-fn settle(board: &Board, hand: &mut Hand, plan: &Plan, op: u32) -> (Decided, Option<SettleAnswer>)
+pub(crate) fn settle(
+    board: &Board,
+    hand: &mut Hand,
+    plan: &Plan,
+    op: u32,
+) -> (Decided, Option<SettleAnswer>)
     requires may { MayBegin board.now hand.old plan.now op }
     ensures hand { IsHandOf board.now hand.new }
     ensures free { (view_of hand.new).claim ≡ None }

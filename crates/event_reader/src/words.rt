@@ -93,8 +93,8 @@ impl<'a> Words<'a> {
     /// Cuts a line at its spaces. The result is `None` exactly if the words are not separated by one space each: if a
     /// word would be empty, also at either end, or if there are more than [`LINE_WORDS`].
     ///
-    /// The numbers of the line go into the places, whatever was there. A caller who reads many lines lends the same ones
-    /// for each of them.
+    /// The numbers of the line go into the places, whatever was there. A caller who reads many lines lends the same
+    /// places for each of them.
     #[inline(always)]
     pub fn split(line: &'a [u8], places: &'a mut NumberPlaces) -> Option<Words<'a>>
         ensures { result ≡ words_of line.now }

@@ -1,4 +1,4 @@
--- Inside the crate: the tally of a teller has room for each batch that it can take, and it can take the next one after it
+-- Inside the crate: the tally of a teller has room for each batch that it can take, and after it for the next one
 use Rattle.std.proofs.Common.{◌≡◌, ℕ, ◌+◌, ◌*◌, ◌≤◌, true, length, refl, ap, ◌∙◌, arith, mul-le-mul_right}
 use Rattle.std.proofs.lemmas.List.FromFn.{length-map-range_with_len}
 use Rattle.morph_base.specs.declared.limits.TheConstants.{EVENT_OPS, EVENTS}
@@ -23,17 +23,21 @@ cap_most : (abort : Abort) → cap_for abort ≤ 7
 cap_most Lazy = omega arith
 cap_most Eager = omega arith
 
-pub at_any : (workers : ℕ) (a : Account) → IsSoundAccount workers a → (a.counts.evaluated + a.counts.spread ≤ 8 * op_count a.plan) × (a.counts.spread + a.counts.rolled ≤ 7 * op_count a.plan)
+pub at_any : (workers : ℕ) (a : Account) → IsSoundAccount workers a
+    → (a.counts.evaluated + a.counts.spread ≤ 8 * op_count a.plan) × (a.counts.spread + a.counts.rolled ≤ 7 * op_count a.plan)
 at_any workers a sound =
     let cap = cap_most a.strategy.abort in
     let evaluated = sound.evaluated in
     let rolled = sound.rolled in
-    let more : (cap_for a.strategy.abort + 1) * op_count a.plan ≤ 8 * op_count a.plan = mul-le-mul_right (op_count a.plan) (omega (arith, cap)) in
-    let some : cap_for a.strategy.abort * op_count a.plan ≤ 7 * op_count a.plan = mul-le-mul_right (op_count a.plan) cap in
+    let more : (cap_for a.strategy.abort + 1) * op_count a.plan ≤ 8 * op_count a.plan
+    = mul-le-mul_right (op_count a.plan) (omega (arith, cap)) in
+    let some : cap_for a.strategy.abort * op_count a.plan ≤ 7 * op_count a.plan
+    = mul-le-mul_right (op_count a.plan) cap in
     (omega (arith, evaluated, more), omega (arith, rolled, some))
 
 -- There is room for the batch with this number
-pub room_before : (number : ℕ) (t : Tally) (r : Ran) → IsTallyBefore number t → number ≤ input_bytes + 1 → IsResult r → HasRoom t (account_of r.end)
+pub room_before : (number : ℕ) (t : Tally) (r : Ran) → IsTallyBefore number t → number ≤ input_bytes + 1
+    → IsResult r → HasRoom t (account_of r.end)
 room_before number t r before few result =
     let batches = before.batches in
     let few_batches : t.batches ≤ 1073741824 = omega (arith, batches, few) in
@@ -59,9 +63,11 @@ room_before number t r before few result =
     }
 
 -- A batch more is counted
-tally_on : (number : ℕ) (t t' : Tally) (r : Ran) → IsTallyBefore number t → IsResult r → CountsBatch t t' (account_of r.end) (settled_fates r.end.plan r.end.settled) → IsTallyBefore (number + 1) t'
+tally_on : (number : ℕ) (t t' : Tally) (r : Ran) → IsTallyBefore number t → IsResult r
+    → CountsBatch t t' (account_of r.end) (settled_fates r.end.plan r.end.settled) → IsTallyBefore (number + 1) t'
 tally_on number t t' r before result adds =
-    let many : length (settled_fates r.end.plan r.end.settled) ≡ event_count r.end.plan = length-map-range_with_len (settled_fate r.end.plan r.end.settled) 0 (event_count r.end.plan) in
+    let many : length (settled_fates r.end.plan r.end.settled) ≡ event_count r.end.plan
+    = length-map-range_with_len (settled_fate r.end.plan r.end.settled) 0 (event_count r.end.plan) in
     let more : op_count r.end.plan ≤ EVENT_OPS * EVENTS = op_count-small r.end.plan result.valid.plan in
     let more_events : event_count r.end.plan ≤ EVENTS = result.valid.plan.numbering.few in
     let caps = at_any result.workers (account_of r.end) result.account in
@@ -83,7 +89,8 @@ tally_on number t t' r before result adds =
     }
 
 -- After a batch was told, the next one can be
-pub tells_on : (number : ℕ) (old new : TellerView) (r : Ran) → CanTell number old → IsResult r → TellsRan old r true new → CanTell (number + 1) new
+pub tells_on : (number : ℕ) (old new : TellerView) (r : Ran) → CanTell number old → IsResult r
+    → TellsRan old r true new → CanTell (number + 1) new
 tells_on number old new r can result told = record {
   empty = told.empty refl;
   unchecked = ap (λ s. is_checked s.check) told.settings ∙ can.unchecked;

@@ -62,7 +62,8 @@ WritesRan false old text note new = IsCutIn old text note new
 pub record TellsRan (old : TellerView) (ran : Ran) (all : Bool) (new : TellerView) : Type 0 where
   pub settings : new.settings ≡ old.settings
   pub adds : CountsBatch old.tally new.tally (account_of ran.end) (settled_fates ran.end.plan ran.end.settled)
-  pub written : WritesRan all old.outputs (lines_of_batch old.settings ran.end) (note_of_batch old.settings new.tally.batches None ran.end) new.outputs
+  pub written : WritesRan all old.outputs (lines_of_batch old.settings ran.end)
+      (note_of_batch old.settings new.tally.batches None ran.end) new.outputs
   pub empty : all ≡ true → new.out ≡ []
   pub sink_faults : old.sink_faults ≤ new.sink_faults
   pub notes_faults : old.notes_faults ≤ new.notes_faults

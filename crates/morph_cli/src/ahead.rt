@@ -206,9 +206,9 @@ fn end_ahead<R, A: EventApp + Copy, K: Sink, N: Sink, G>(
 }
 
 /// Runs an application from the opening state over what the pipe's reader reads, in rounds. Each round reads and plans
-/// batches while those that were planned before are run. Each result is written as soon as its batch was run, before the
-/// next one is run. If a read fails or the limit is met, the batches before are therefore written first, and if a write
-/// fails, the run ends, whatever the pipe met.
+/// batches while those that were planned before are run. Each result is written as soon as its batch was run, before
+/// the next one is run. If a read fails or the limit is met, the batches before are therefore written first, and if a
+/// write fails, the run ends, whatever the pipe met.
 pub fn run_ahead<
     R: Threads + Sync,
     A: EventApp + Copy + Send,

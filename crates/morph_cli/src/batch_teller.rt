@@ -24,14 +24,17 @@ impl<K: Sink, N: Sink> Teller for BatchTeller<'_, '_, '_, K, N> {
     ghost use Rattle.morph_cli.specs.TellerLaws.{tells_on};
 
     ghost can_take = { λ it number. CanTell number (teller_view it.settings.now it.out.now it.tally.now
-        (outputs_of (K.written it.sink.now) (N.written it.notes.now)) (K.faults it.sink.now) (N.faults it.notes.now)) };
+        (outputs_of (K.written it.sink.now) (N.written it.notes.now))
+        (K.faults it.sink.now) (N.faults it.notes.now)) };
 
     ghost takes = { λ old ran all new. TellsRan
         (teller_view old.settings.now old.out.now old.tally.now
-        (outputs_of (K.written old.sink.now) (N.written old.notes.now)) (K.faults old.sink.now) (N.faults old.notes.now))
+        (outputs_of (K.written old.sink.now) (N.written old.notes.now))
+        (K.faults old.sink.now) (N.faults old.notes.now))
         ran all
         (teller_view new.settings.now new.out.now new.tally.now
-        (outputs_of (K.written new.sink.now) (N.written new.notes.now)) (K.faults new.sink.now) (N.faults new.notes.now))
+        (outputs_of (K.written new.sink.now) (N.written new.notes.now))
+        (K.faults new.sink.now) (N.faults new.notes.now))
         × (new.out.ghost_name ≡ old.out.ghost_name) × (new.sink.ghost_name ≡ old.sink.ghost_name)
         × (new.notes.ghost_name ≡ old.notes.ghost_name) × (new.tally.ghost_name ≡ old.tally.ghost_name) };
 

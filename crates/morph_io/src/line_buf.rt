@@ -60,7 +60,6 @@ impl LineBuf {
     }
 
     /// Appends `word`.
-    #[inline(always)]
     pub fn word(&mut self, word: &[u8])
         requires { length self.old + length word.now ≤ line_bytes }
         ensures { self.new ≡ self.old ++ word.now }

@@ -13,8 +13,8 @@ pub record BurstView : Type 0 where
 abbrev pub TakesNumbers : ℕ → List ℕ → Runner → Runner → Type 0
 TakesNumbers c = CallsInOrder (TakesNumber c)
 
--- The burst v was taken from counter c, for this many places: as many numbers as it may have at most, or fewer, and then
--- one that is past the last place
+-- The burst v was taken from counter c, for this many places: as many numbers as it may have at most, or fewer, and
+-- then one that is past the last place
 pub record TakesBurst (c many most : ℕ) (v : BurstView) (a b : Runner) : Type 0 where
   -- The number past the last place, if one was taken
   pub past : List ℕ

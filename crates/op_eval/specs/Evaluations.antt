@@ -12,12 +12,16 @@ use Rattle.interleaving_core.specs.declared.event.CoreEvent.{CoreEvent}
 use Rattle.interleaving_core.specs.declared.event.CoreEvent.TheVariants.{Ready as ReadyStep, Claim, Finish, GiveBack}
 use Rattle.interleaving_core.specs.Counts.{evaluated, spreads, rolled}
 use Rattle.op_words.specs.declared.answers.Outcome.{Outcome}
+use Rattle.op_words.specs.declared.answers.Outcome.TheVariants.{Executed, Failed}
+use Rattle.op_words.specs.declared.answers.Redone.{Redone}
+use Rattle.op_words.specs.declared.answers.Redone.TheVariants.{Good, Bad, Open, Busy as BusyAgain}
 use Rattle.op_words.specs.declared.trail.Item.{Item}
 use Rattle.op_words.specs.declared.trail.View.{View}
 use Rattle.op_words.specs.Trails.{loaded, left, HasLast, IsDisturbed, IsReached, IsSourceOf, OwnOn, OwnOpen}
 use Rattle.op_words.specs.Views.{Adds, AddsAndFrees, Holds, HasRecordsSeen}
 use Rattle.op_words.specs.Attempts.{fetches}
 use Rattle.op_words.specs.Calls.{answer_of, Elsewhere, IsReadValue, IsSourceOpen}
+use Rattle.op_words.specs.Redoing.{RedoDoes}
 use Rattle.op_eval.specs.declared.answers.Evaluation.{Evaluation}
 use Rattle.op_eval.specs.declared.answers.Evaluation.TheVariants.{Evaluated, Blocked as BlockedOn, Busy as BusyAt, Already}
 use Rattle.op_eval.specs.declared.evaluation.Stopped.{Stopped}
@@ -124,6 +128,20 @@ pub record Tries (p : Plan) (cap o : ℕ) (before after : Runner) (r : Evaluatio
   pub in_range : o < op_count p
   pub does : EvaluationDoes p cap o (hand_view before) (hand_view after) r
   pub counts : after.answers ≡ counted r before.answers
+  pub kept : after.kept ≡ before.kept
+
+-- The answer of `evaluate` that says the same as this one of `redo`
+abbrev pub evaluation_of : Redone → Evaluation
+evaluation_of (Good w) = Evaluated w.attempt (Executed w.value)
+evaluation_of (Bad w) = Evaluated w.attempt Failed
+evaluation_of (Open s w) = BlockedOn s w
+evaluation_of (BusyAgain w) = BusyAt w
+
+-- The call `redo` led from runner `before` to runner `after`: its view and the count of its answers changed, and
+-- nothing else
+pub record Redoes (p : Plan) (o : ℕ) (w : OpWord) (j : ℕ) (before after : Runner) (r : Redone) : Type 0 where
+  pub does : RedoDoes p o w j (hand_view before) (hand_view after) r
+  pub counts : after.answers ≡ counted (evaluation_of r) before.answers
   pub kept : after.kept ≡ before.kept
 
 -- ---- on the way

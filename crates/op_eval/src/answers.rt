@@ -14,7 +14,8 @@ pub enum Evaluation {
     Already { word: OpWord },
 }
 
-/// How often `evaluate` gave a runner each answer. Each number stops at the greatest u64.
+/// How often a runner was given each answer, by `evaluate`, or by `redo` in its own words. Each number stops at the
+/// greatest u64.
 #[derive(Clone, Copy, Debug, PartialEq, Eq)]
 pub struct Answers {
     /// [`Evaluation::Evaluated`].

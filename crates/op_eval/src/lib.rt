@@ -3,8 +3,9 @@
 //! [`evaluate`] takes a runner through one operation: it makes the operation ready if it is blocked, claims it, fetches
 //! its places in order, and finishes it. If a source stops this, the operation is given back. A blocked operation
 //! before its last attempt takes one call of the board, [`attempt`](op_words::Board::attempt). The answer names the
-//! cause, with the word that shows it, and the runner counts it. [`Runners`] are the runners of a board: one for the
-//! root, and one for each hand that is split off for a worker.
+//! cause, with the word that shows it, and the runner counts it. [`redo`] does the same for an operation that the hand
+//! judged stale: it is taken back and evaluated again, on settled sources. [`Runners`] are the runners of a board: one
+//! for the root, and one for each hand that is split off for a worker.
 //!
 //! ```text
 //! let (board, root) = Board::new(alloc, &plan, 1, 0)?;
@@ -20,6 +21,7 @@
 //! | File | What it has |
 //! |---|---|
 //! | `evaluation` | `evaluate`: an operation is made ready, claimed, fetched and finished |
+//! | `stale` | `redo`: a stale operation is taken back and evaluated again |
 //! | `answers` | `Evaluation`, `Answers`, and `Left`, why an event was left |
 //! | `patience` | `Patience`, which bounds how long a worker waits for the sources of an operation |
 //! | `runner`, `runners` | `Runner`; `Runners`, with a hand of the board each |
@@ -34,6 +36,7 @@ mod explored;
 mod patience;
 mod runner;
 mod runners;
+mod stale;
 
 pub use answers::{Answers, Evaluation, Left};
 pub use burst::{BURST, Burst};
@@ -42,3 +45,4 @@ pub use explored::{Explored, RunEnd};
 pub use patience::Patience;
 pub use runner::Runner;
 pub use runners::Runners;
+pub use stale::redo;

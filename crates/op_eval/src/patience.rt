@@ -27,9 +27,14 @@ impl Patience {
         Patience { looks: 0 }
     }
 
-    /// For a worker among several: enough looks to outlast other workers' turns, and few enough that waiting ends.
-    pub fn full() -> Patience {
-        Patience { looks: LOOKS }
+    /// For a worker in one of so many threads: enough looks to outlast the turns of the others, and few enough that
+    /// waiting ends. In one thread there is nobody to wait for.
+    pub fn among(threads: usize) -> Patience {
+        if threads > 1 {
+            Patience { looks: LOOKS }
+        } else {
+            Patience::none()
+        }
     }
 
     /// Whether a look is left.

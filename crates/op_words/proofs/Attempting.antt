@@ -1,6 +1,6 @@
 -- What evaluating a blocked operation in one call answers, from what its loads and steps showed.
-use Rattle.std.proofs.Common.{◌≡◌, ◌≢◌, ℕ, zero, suc, ◌+◌, ◌<◌, ◌≤◌, true, false, List, [], ◌∷◌, ◌++◌, take, length, refl, sym, ap, ◌∙◌, subst, inl, inr, arith, append_assoc, zero-add, Some, None}
-use Rattle.std.specs.Prelude.{Contains, Ok, Err, slice_index}
+use Rattle.std.proofs.Common.{◌≡◌, ◌≢◌, ℕ, zero, suc, ◌+◌, ◌<◌, Bool, true, false, List, [], ◌∷◌, ◌++◌, take, length, refl, sym, ap, ◌∙◌, subst, inl, inr, arith, append_assoc, zero-add, Some, None}
+use Rattle.std.specs.Prelude.{Contains, Result, Ok, Err, slice_index}
 use Rattle.std.proofs.Math.ListN.{get_or-append}
 use Rattle.std.proofs.Math.Seq.{get_or-append_seam}
 use Rattle.std.proofs.lemmas.Bool.{cases_lt, false≢true}
@@ -26,8 +26,8 @@ use Rattle.op_words.specs.declared.trail.Item.{Item}
 use Rattle.op_words.specs.declared.trail.View.{View}
 use Rattle.op_words.specs.Trails.{loaded, left, IsSourceOf, NoneOwn, OwnOn, OwnOpen, IsSteadyAt, IsCalmAt}
 use Rattle.op_words.specs.Views.{Agrees, Adds, Holds, making, claiming, fetching}
-use Rattle.op_words.specs.Attempts.{fetches, AttemptDoes}
-use Rattle.op_words.specs.Values.{holding, AreLoaded, IsLoadedUpTo, IsAllLoaded, AreUsable, IsKeptUpTo, CarryDoes}
+use Rattle.op_words.specs.Attempts.{fetches, ran_steps, AttemptTells, AttemptDoes}
+use Rattle.op_words.specs.Values.{holding, IsPlaceLoaded, AreLoaded, IsLoadedUpTo, IsAllLoaded, AreUsable, IsKeptUpTo, CarryDoes, TakeUpDoes}
 use Rattle.op_words.specs.Calls.{FinishDoes, IsReadValue}
 use Rattle.op_words.specs.Hands.{view_of, call_on, fetched_of, HasHeldValues, IsHandOf}
 use Rattle.op_words.specs.Kinds.{IsUsable}
@@ -37,7 +37,7 @@ use Rattle.op_words.proofs.Rows.{no_more, not_inside, one_inside}
 use Rattle.op_words.proofs.Trailing.{along_none}
 use Rattle.op_words.proofs.Seeking.{row_none, row_then, row_claim}
 use Rattle.op_words.proofs.Adding.{adds_then, adds_look, free_apart, none_one}
-use Rattle.op_words.proofs.Making.{adds_leave, adds_claiming, none_elsewhere, none_then, own_none, open_none}
+use Rattle.op_words.proofs.Making.{adds_leave, adds_claiming, none_elsewhere, own_none, open_none}
 use Rattle.op_words.proofs.Judging.{run_unsettled}
 
 -- ---- the steps of fetches
@@ -100,68 +100,73 @@ fetched_len k fits = let few = fits.count in let len = fits.len in length-take-l
 
 -- ---- all sources
 
-loaded_left : (xs ys : List Item) (q : Origin) (x : ℕ) → IsSourceLoaded xs false q x → IsSourceLoaded (xs ++ ys) false q x
-loaded_left xs ys (Base c) x is = is
-loaded_left xs ys (Written s) x is = record { word = is.word; inside = Contains-append_left xs ys (loaded s is.word) is.inside; shown = is.shown; settled = is.settled; value_is = is.value_is }
+loaded_left : (needed : Bool) (xs ys : List Item) (q : Origin) (x : ℕ) → IsSourceLoaded xs needed q x → IsSourceLoaded (xs ++ ys) needed q x
+loaded_left needed xs ys (Base c) x is = is
+loaded_left needed xs ys (Written s) x is = record { word = is.word; inside = Contains-append_left xs ys (loaded s is.word) is.inside; shown = is.shown; settled = is.settled; value_is = is.value_is }
 
-loaded_right : (xs ys : List Item) (q : Origin) (x : ℕ) → IsSourceLoaded ys false q x → IsSourceLoaded (xs ++ ys) false q x
-loaded_right xs ys (Base c) x is = is
-loaded_right xs ys (Written s) x is = record { word = is.word; inside = Contains-append_right xs ys (loaded s is.word) is.inside; shown = is.shown; settled = is.settled; value_is = is.value_is }
+loaded_right : (needed : Bool) (xs ys : List Item) (q : Origin) (x : ℕ) → IsSourceLoaded ys needed q x → IsSourceLoaded (xs ++ ys) needed q x
+loaded_right needed xs ys (Base c) x is = is
+loaded_right needed xs ys (Written s) x is = record { word = is.word; inside = Contains-append_right xs ys (loaded s is.word) is.inside; shown = is.shown; settled = is.settled; value_is = is.value_is }
 
-module _ (b : Board) (p : Plan) (o : ℕ) where
-  pub loaded_none : (h : Hand) (found : Holding) → IsHandOf b h → HasHeldValues found → found.count ≡ 0 → IsLoadedUpTo (call_on b h h) p o 0 found
-  loaded_none h found is fits none = record { words = []; row = row_none b o h is; fits = fits; count = none; read = λ k lt. absurd (omega (arith, lt)) }
+module _ (b : Board) (p : Plan) (o : ℕ) (needed : Bool) (a : ℕ) where
+  pub loaded_none : (h : Hand) (found : Holding) → IsHandOf b h → HasHeldValues found → found.attempt ≡ a → found.count ≡ 0 → IsLoadedUpTo (call_on b h h) p o needed a 0 found
+  loaded_none h found is fits attempt none = record { words = []; row = row_none b o h is; fits = fits; attempt = attempt; count = none; read = λ k lt. absurd (omega (arith, lt)) }
 
-  pub loaded_more : {h g k : Hand} (found more : Holding) (x j : ℕ) → IsLoadedUpTo (call_on b h g) p o j found → SourceDoes (call_on b g k) p o j false (Ok x) → fetched_of more ≡ fetched_of found ++ x ∷ [] → HasHeldValues more
-      → IsLoadedUpTo (call_on b h k) p o (j + 1) more
-  loaded_more found more x j far here values fits = record {
+  pub loaded_more : {h g k : Hand} (found more : Holding) (x j : ℕ) → IsLoadedUpTo (call_on b h g) p o needed a j found → SourceDoes (call_on b g k) p o j needed (Ok x) → more.attempt ≡ found.attempt → fetched_of more ≡ fetched_of found ++ x ∷ []
+      → HasHeldValues more → IsLoadedUpTo (call_on b h k) p o needed a (j + 1) more
+  loaded_more found more x j far here attempt values fits = record {
     words = far.words ++ here.words;
     row = row_then b o far.row here.row;
     fits = fits;
+    attempt = attempt ∙ far.attempt;
     count =
         let all = fetched_len more fits in let both = length-append (fetched_of found) (x ∷ []) in let same = ap length values in
         omega (arith, all, both, same, len);
-    read = λ n lt. subst (λ ys. IsSourceLoaded (far.words ++ here.words) false (origin_at p o n) (slice_index ys n)) (sym values)
+    read = λ n lt. subst (λ ys. IsPlaceLoaded p o needed (far.words ++ here.words) n (slice_index ys n)) (sym values)
         (elim (cases_lt n j) [
           | inl before ↦
-              subst (IsSourceLoaded (far.words ++ here.words) false (origin_at p o n)) (sym (get_or-append (fetched_of found) (x ∷ []) 0 n (omega (arith, before, len))))
-              (loaded_left far.words here.words (origin_at p o n) (slice_index (fetched_of found) n) (far.read n before))
+              let there = far.read n before in
+              subst (IsPlaceLoaded p o needed (far.words ++ here.words) n) (sym (get_or-append (fetched_of found) (x ∷ []) 0 n (omega (arith, before, len))))
+              (record { read = loaded_left needed far.words here.words (origin_at p o n) (slice_index (fetched_of found) n) there.read; fold = there.fold })
           | inr after ↦
               let same : n ≡ j = omega (arith, lt, after) in
               let at : slice_index (fetched_of found ++ x ∷ []) n ≡ x = ap (slice_index (fetched_of found ++ x ∷ [])) (same ∙ sym len) ∙ get_or-append_seam (fetched_of found) x [] 0 in
-              subst (λ (z : ℕ × ℕ). IsSourceLoaded (far.words ++ here.words) false (origin_at p o z.0) z.1) (λ i. (sym same i, sym at i))
-              (loaded_right far.words here.words (origin_at p o j) x here.tells.read)
+              subst (λ (z : ℕ × ℕ). IsPlaceLoaded p o needed (far.words ++ here.words) z.0 z.1) (λ i. (sym same i, sym at i))
+              (record { read = loaded_right needed far.words here.words (origin_at p o j) x here.tells.read; fold = here.tells.fold })
         ]);
   }
     where
       len : length (fetched_of found) ≡ j
       len = fetched_len found far.fits ∙ far.count
 
-  pub loaded_stop : {h g k : Hand} (found : Holding) (stop : Stop) (j : ℕ) → j < places p o → IsLoadedUpTo (call_on b h g) p o j found → SourceDoes (call_on b g k) p o j false (Err stop) → IsAllLoaded (call_on b h k) p o found (Some stop)
+  pub loaded_stop : {h g k : Hand} (found : Holding) (stop : Stop) (j : ℕ) → j < places p o → IsLoadedUpTo (call_on b h g) p o needed a j found → SourceDoes (call_on b g k) p o j needed (Err stop)
+      → IsAllLoaded (call_on b h k) p o needed a found (Some stop)
   loaded_stop found stop j lt far here = record {
     words = far.words ++ here.words;
     row = row_then b o far.row here.row;
     fits = far.fits;
+    attempt = far.attempt;
     tells = (
       record { place = j; in_places = lt; source_is = here.tells.source_is },
       record { inside = Contains-append_right far.words here.words (loaded stop.source stop.word) here.tells.unready.inside; settled = here.tells.unready.settled; cause = here.tells.unready.cause },
     );
   }
 
-  pub loaded_all : {h g : Hand} (found : Holding) → IsLoadedUpTo (call_on b h g) p o (places p o) found → IsAllLoaded (call_on b h g) p o found None
-  loaded_all found far = record { words = far.words; row = far.row; fits = far.fits; tells = (far.count, far.read) }
+  pub loaded_all : {h g : Hand} (found : Holding) → IsLoadedUpTo (call_on b h g) p o needed a (places p o) found → IsAllLoaded (call_on b h g) p o needed a found None
+  loaded_all found far = record { words = far.words; row = far.row; fits = far.fits; attempt = far.attempt; tells = (far.count, far.read) }
 
--- what was loaded may be recorded below the last attempt
-pub usable_loaded : (b : Board) (p : Plan) (cap o a : ℕ) (h k : Hand) (row : List Item) (values : List ℕ) → IsRow (call_on b h k) o row → a ≤ cap → AreLoaded p o (places p o) row values → AreUsable p cap o a (view_of k) values
-usable_loaded b p cap o a h k row values did below read j lt = at (origin_at p o j) (read j lt)
+-- what was loaded may be recorded, at the last attempt if it had to be settled
+pub usable_loaded : (b : Board) (p : Plan) (cap o a : ℕ) (needed : Bool) (h k : Hand) (row : List Item) (values : List ℕ) → IsRow (call_on b h k) o row → (a ≡ cap + 1 → needed ≡ true) → AreLoaded p o needed (places p o) row values
+    → AreUsable p cap o a (view_of k) values
+usable_loaded b p cap o a needed h k row values did asked read j lt = at (origin_at p o j) (read j lt).read
   where
-    at : (q : Origin) → IsSourceLoaded row false q (slice_index values j) → IsUsable (view_of k) cap a q (slice_index values j)
+    at : (q : Origin) → IsSourceLoaded row needed q (slice_index values j) → IsUsable (view_of k) cap a q (slice_index values j)
     at (Base c) is = is
     at (Written s) is = record {
       word = is.word;
       inside = subst (λ ts. Contains ts (loaded s is.word)) (sym did.adds.notes) (Contains-append_right (view_of h).notes row (loaded s is.word) is.inside);
       shown = is.shown;
-      at_last = λ last. absurd (omega (arith, last, below));
+      at_last = λ last. is.settled (asked last);
       value_is = is.value_is;
     }
 
@@ -238,7 +243,7 @@ module _ (b : Board) (p : Plan) (cap o a : ℕ) (from : Holding) (fits : HasHeld
   whole : take (places p o) (fetched_of from) ≡ fetched_of from
   whole = let n = values_len in take_all (places p o) (fetched_of from) (omega (arith, n))
 
-  pub taken_away : (g : Hand) (w : OpWord) → w ≢ ready a → Looked (call_on b h g) o w → CarryDoes p o a (fetched_of from) (view_of h) (view_of g) (Busy w)
+  pub taken_away : (g : Hand) (w : OpWord) → w ≢ ready a → Looked (call_on b h g) o w → CarryDoes p o a (fetched_of from) (view_of h) (view_of g) (Err w)
   taken_away g w other did = record {
     words = loaded o w ∷ [];
     adds = subst (λ (u : View). Adds (view_of h) u (loaded o w ∷ [])) (sym did.view) (adds_look o _ (view_of h) w (free_apart (view_of h) o free) did.tells);
@@ -259,7 +264,7 @@ module _ (b : Board) (p : Plan) (cap o a : ℕ) (from : Holding) (fits : HasHeld
       pub all_held : length (fetched_of from) ≡ places p o
       all_held = values_len
 
-      pub carried_out : (m : Hand) (r : Outcome) → FinishDoes p cap o (view_of k) (view_of m) r → CarryDoes p o a (fetched_of from) (view_of h) (view_of m) (Ran r)
+      pub carried_out : (m : Hand) (r : Outcome) → FinishDoes p cap o (view_of k) (view_of m) r → CarryDoes p o a (fetched_of from) (view_of h) (view_of m) (Ok r)
       carried_out m r does =
           let tells = does.tells a (fetched_of from) holds_all in
           record {
@@ -267,13 +272,8 @@ module _ (b : Board) (p : Plan) (cap o a : ℕ) (from : Holding) (fits : HasHeld
             adds = adds_then adds_claimed (adds_then adds_kept (subst (Adds (view_of k) (view_of m)) tells.words does.adds));
             tells = record {
               word = tells.word;
-              word_is = tells.word_is;
+              evaluated = record { word_is = tells.word_is; ran = tells.ran; attempt_is = tells.attempt_is; records = tells.records; shown = tells.shown; answer = tells.answer };
               words_are = refl;
-              ran = tells.ran;
-              attempt_is = tells.attempt_is;
-              records = tells.records;
-              shown = tells.shown;
-              answer = tells.answer;
               steps =
                   ap (λ (u : View). u.events) tells.view_is
                   ∙ ap (λ (u : View). Finish o u.tag ∷ u.events) kept_view;
@@ -289,25 +289,99 @@ module _ (b : Board) (p : Plan) (cap o a : ℕ) (from : Holding) (fits : HasHeld
           adds_kept : Adds (view_of g) (view_of k) []
           adds_kept = subst (λ (u : View). Adds (view_of g) u []) (sym kept.view) (adds_holding (view_of g) o a (take (places p o) (fetched_of from)) (subst Agrees kept.view kept.hand.told.agree))
 
--- ---- the whole call
+-- ---- from blocked on
 
-own_one : (o : ℕ) (w : OpWord) (ts : List Item) → OwnOn o ts → OwnOn o (left o w ∷ ts)
-own_one o w ts own t inside mine = elim (Contains-append_cases (left o w ∷ []) ts t inside) [
+module _ (b : Board) (p : Plan) (o a : ℕ) (h : Hand) (free : (view_of h).claim ≡ None) where
+  -- another word was found than the blocked one
+  pub passed_by : (values : List ℕ) (g : Hand) (w : OpWord) → w ≢ blocked a → Looked (call_on b h g) o w → TakeUpDoes p o a values (view_of h) (view_of g) (Err w)
+  passed_by values g w other did = record {
+    words = loaded o w ∷ [];
+    adds = subst (λ (u : View). Adds (view_of h) u (loaded o w ∷ [])) (sym did.view) (adds_look o _ (view_of h) w (free_apart (view_of h) o free) did.tells);
+    tells = inl (record { differs = other; words_are = refl; stays = ap (λ (u : View). u.events) did.view });
+  }
+
+  -- it was made ready
+  module _ (g : Hand) (made : Left (call_on b h g) (making o a (view_of h)) (left o (ready a))) where
+    pub free_made : (view_of g).claim ≡ None
+    free_made = ap (λ (u : View). u.claim) made.view ∙ free
+
+    pub usable_made : (cap : ℕ) (values : List ℕ) → AreUsable p cap o a (view_of h) values → AreUsable p cap o a (view_of g) values
+    usable_made cap values are = usable_more p cap o a (view_of h) (view_of g) _ values (ap (λ (u : View). u.notes) made.view) are
+
+    tag_made : (view_of g).tag ≡ (view_of h).tag
+    tag_made = ap (λ (u : View). u.tag) made.view
+
+    events_made : (view_of g).events ≡ ReadyStep o ∷ (view_of h).events
+    events_made = ap (λ (u : View). u.events) made.view
+
+    adds_made : Adds (view_of h) (view_of g) (left o (ready a) ∷ [])
+    adds_made = subst (λ (u : View). Adds (view_of h) u (left o (ready a) ∷ [])) (sym made.view) (adds_leave (view_of h) o (ready a) _ made.tells)
+
+    pub went_on : (values : List ℕ) (m : Hand) (r : Result Outcome OpWord) → CarryDoes p o a values (view_of g) (view_of m) r → TakeUpDoes p o a values (view_of h) (view_of m) r
+    went_on values m (Ok r) does =
+        let tells = does.tells in
+        record {
+          words = left o (ready a) ∷ does.words;
+          adds = adds_then adds_made does.adds;
+          tells = record {
+            word = tells.word;
+            evaluated = tells.evaluated;
+            words_are = ap (λ zs. left o (ready a) ∷ zs) (tells.words_are ∙ ap (λ t. left o (claimed a t) ∷ left o tells.word ∷ []) tag_made);
+            steps =
+                tells.steps
+                ∙ ap (λ t. Finish o t ∷ fetches o t 0 values (Claim o t ∷ (view_of g).events)) tag_made
+                ∙ ap (λ es. Finish o (view_of h).tag ∷ fetches o (view_of h).tag 0 values (Claim o (view_of h).tag ∷ es)) events_made;
+          };
+        }
+    went_on values m (Err w) does = record {
+      words = left o (ready a) ∷ does.words;
+      adds = adds_then adds_made does.adds;
+      tells = inr (record { differs = does.tells.differs; words_are = ap (λ zs. left o (ready a) ∷ zs) does.tells.words_are; readied = does.tells.stays ∙ events_made });
+    }
+
+-- ---- own steps
+
+pub own_first : (o : ℕ) (w : OpWord) (ts : List Item) → OwnOn o ts → OwnOn o (left o w ∷ ts)
+own_first o w ts own t inside mine = elim (Contains-append_cases (left o w ∷ []) ts t inside) [
   | inl here ↦ sym (ap (λ (x : Item). x.op) (one_inside (left o w) t here))
   | inr there ↦ own t there mine
 ]
 
-open_one : (o : ℕ) (w : OpWord) (ts : List Item) → is_settled w.state ≡ false → OwnOpen ts → OwnOpen (left o w ∷ ts)
-open_one o w ts open_word own t inside mine = elim (Contains-append_cases (left o w ∷ []) ts t inside) [
+pub open_first : (o : ℕ) (w : OpWord) (ts : List Item) → is_settled w.state ≡ false → OwnOpen ts → OwnOpen (left o w ∷ ts)
+open_first o w ts open_word own t inside mine = elim (Contains-append_cases (left o w ∷ []) ts t inside) [
   | inl here ↦ sym (ap (λ (x : Item). is_settled x.word.state) (one_inside (left o w) t here)) ∙ open_word
   | inr there ↦ own t there mine
 ]
 
-own_behind : (o : ℕ) (xs ts : List Item) → NoneOwn xs → OwnOn o ts → OwnOn o (xs ++ ts)
+pub own_behind : (o : ℕ) (xs ts : List Item) → NoneOwn xs → OwnOn o ts → OwnOn o (xs ++ ts)
 own_behind o xs ts none own t inside mine = elim (Contains-append_cases xs ts t inside) [ inl here ↦ absurd (false≢true (sym (none t here) ∙ mine)) | inr there ↦ own t there mine ]
 
-open_behind : (xs ts : List Item) → NoneOwn xs → OwnOpen ts → OwnOpen (xs ++ ts)
+pub open_behind : (xs ts : List Item) → NoneOwn xs → OwnOpen ts → OwnOpen (xs ++ ts)
 open_behind xs ts none own t inside mine = elim (Contains-append_cases xs ts t inside) [ inl here ↦ absurd (false≢true (sym (none t here) ∙ mine)) | inr there ↦ own t there mine ]
+
+-- the words that `take_up` left
+module _ (p : Plan) (o a : ℕ) (values : List ℕ) (v u : View) where
+  pub own_taken_up : (r : Result Outcome OpWord) (does : TakeUpDoes p o a values v u r) → OwnOn o does.words
+  own_taken_up (Ok r) does =
+      let done : List Item = left o does.tells.word ∷ [] in
+      subst (OwnOn o) (sym does.tells.words_are)
+      (own_first o (ready a) (left o (claimed a v.tag) ∷ done) (own_first o (claimed a v.tag) done (own_first o does.tells.word [] (λ t inside mine. absurd (not_inside t inside)))))
+  own_taken_up (Err w) does = elim does.tells [
+    | inl other ↦ subst (OwnOn o) (sym other.words_are) (own_none o (loaded o w ∷ []) (none_one o w))
+    | inr taken ↦ subst (OwnOn o) (sym taken.words_are) (own_first o (ready a) (loaded o w ∷ []) (own_none o (loaded o w ∷ []) (none_one o w)))
+  ]
+
+  pub open_taken_up : (r : Result Outcome OpWord) (does : TakeUpDoes p o a values v u r) → OwnOpen does.words
+  open_taken_up (Ok r) does =
+      let done : List Item = left o does.tells.word ∷ [] in
+      let open_done : OwnOpen done = open_first o does.tells.word [] (run_unsettled does.tells.word.state does.tells.evaluated.ran) (λ t inside mine. absurd (not_inside t inside)) in
+      subst OwnOpen (sym does.tells.words_are) (open_first o (ready a) (left o (claimed a v.tag) ∷ done) refl (open_first o (claimed a v.tag) done refl open_done))
+  open_taken_up (Err w) does = elim does.tells [
+    | inl other ↦ subst OwnOpen (sym other.words_are) (open_none (loaded o w ∷ []) (none_one o w))
+    | inr taken ↦ subst OwnOpen (sym taken.words_are) (open_first o (ready a) (loaded o w ∷ []) refl (open_none (loaded o w ∷ []) (none_one o w)))
+  ]
+
+-- ---- the whole call
 
 module _ (b : Board) (p : Plan) (o a : ℕ) (h k : Hand) (free : (view_of h).claim ≡ None) (row : List Item) (did : IsRow (call_on b h k) o row) where
   none_row : NoneOwn row
@@ -329,95 +403,57 @@ module _ (b : Board) (p : Plan) (o a : ℕ) (h k : Hand) (free : (view_of h).cla
     tells = record { elsewhere = did.elsewhere; source = source; inside = inside; idle = idle; stays = stays_row };
   }
 
-  -- another word was found than the blocked one
-  pub passed_by : (g : Hand) (w : OpWord) → w ≢ blocked a → Looked (call_on b k g) o w → AttemptDoes p o a (view_of h) (view_of g) (Busy w)
-  passed_by g w other looked_at =
-      let none_all = none_then row (loaded o w ∷ []) none_row (none_one o w) in
-      record {
-        words = row ++ loaded o w ∷ [];
-        goes = record {
-          adds = adds_then did.adds (subst (λ (u : View). Adds (view_of k) u (loaded o w ∷ [])) (sym looked_at.view) (adds_look o _ (view_of k) w (free_apart (view_of k) o free_row) looked_at.tells));
-          free = ap (λ (u : View). u.claim) looked_at.view ∙ free_row;
-        };
-        own = own_none o (row ++ loaded o w ∷ []) none_all;
-        open_own = open_none (row ++ loaded o w ∷ []) none_all;
-        tells = record {
+  value_read : (xs : List Item) (q : Origin) (x : ℕ) → IsSourceLoaded xs false q x → IsReadValue xs q x
+  value_read xs (Base c) x is = is
+  value_read xs (Written s) x is = (is.word, is.inside, is.value_is)
+
+  source_valued : (xs : List Item) (q : Origin) (s x : ℕ) → q ≡ Written s → IsSourceLoaded xs false q x → (w : OpWord) × Contains xs (loaded s w) × (is_idle w.state ≡ false)
+  source_valued xs q s x same is = let there = subst (λ (z : Origin). IsSourceLoaded xs false z x) same is in (there.word, there.inside, there.shown)
+
+  module _ (values : List ℕ) (m : Hand) (free_now : (view_of m).claim ≡ None) where
+    attempted : (r : Attempt) (words : List Item) → Adds (view_of k) (view_of m) words → OwnOn o words → OwnOpen words → AttemptTells p o a (view_of h) (view_of m) (row ++ words) r → AttemptDoes p o a (view_of h) (view_of m) r
+    attempted r words adds own open_own tells = record {
+      words = row ++ words;
+      goes = record { adds = adds_then did.adds adds; free = free_now };
+      own = own_behind o row words none_row own;
+      open_own = open_behind row words none_row open_own;
+      tells = tells;
+    }
+
+    pub attempt_ran : (r : Outcome) → AreLoaded p o false (places p o) row values → TakeUpDoes p o a values (view_of k) (view_of m) (Ok r) → AttemptDoes p o a (view_of h) (view_of m) (Ran r)
+    attempt_ran r read does =
+        let tells = does.tells in
+        let evaluated = tells.evaluated in
+        attempted (Ran r) does.words does.adds (own_taken_up p o a values (view_of k) (view_of m) (Ok r) does) (open_taken_up p o a values (view_of k) (view_of m) (Ok r) does) (record {
           row = row;
           elsewhere = did.elsewhere;
-          cause = inl (record { differs = other; words_are = refl; stays = ap (λ (u : View). u.events) looked_at.view ∙ stays_row });
-        };
-      }
+          values = values;
+          read = λ j lt. value_read row (origin_at p o j) (slice_index values j) (read j lt).read;
+          valued = λ s source. source_valued row (origin_at p o source.place) s (slice_index values source.place) source.source_is (read source.place source.in_places).read;
+          word = tells.word;
+          word_is = evaluated.word_is;
+          words_are = ap (λ zs. row ++ zs) (tells.words_are ∙ ap (λ t. left o (ready a) ∷ left o (claimed a t) ∷ left o tells.word ∷ []) did.adds.tag);
+          ran = evaluated.ran;
+          attempt_is = evaluated.attempt_is;
+          records = evaluated.records;
+          shown = evaluated.shown;
+          answer = evaluated.answer;
+          steps =
+              tells.steps ∙ ap (λ t. ran_steps o t values (view_of k).events) did.adds.tag
+              ∙ ap (ran_steps o (view_of h).tag values) stays_row;
+        })
 
-  -- it was made ready
-  module _ (g : Hand) (made : Left (call_on b k g) (making o a (view_of k)) (left o (ready a))) where
-    pub free_made : (view_of g).claim ≡ None
-    free_made = ap (λ (u : View). u.claim) made.view ∙ free_row
-
-    pub usable_made : (cap : ℕ) (values : List ℕ) → AreUsable p cap o a (view_of k) values → AreUsable p cap o a (view_of g) values
-    usable_made cap values are = usable_more p cap o a (view_of k) (view_of g) _ values (ap (λ (u : View). u.notes) made.view) are
-
-    tag_made : (view_of g).tag ≡ (view_of h).tag
-    tag_made = ap (λ (u : View). u.tag) made.view ∙ did.adds.tag
-
-    events_made : (view_of g).events ≡ ReadyStep o ∷ (view_of h).events
-    events_made = ap (λ (u : View). u.events) made.view ∙ ap (λ (es : List CoreEvent). ReadyStep o ∷ es) stays_row
-
-    adds_made : Adds (view_of k) (view_of g) (left o (ready a) ∷ [])
-    adds_made = subst (λ (u : View). Adds (view_of k) u (left o (ready a) ∷ [])) (sym made.view) (adds_leave (view_of k) o (ready a) _ made.tells)
-
-    value_read : (xs : List Item) (q : Origin) (x : ℕ) → IsSourceLoaded xs false q x → IsReadValue xs q x
-    value_read xs (Base c) x is = is
-    value_read xs (Written s) x is = (is.word, is.inside, is.value_is)
-
-    source_valued : (xs : List Item) (q : Origin) (s x : ℕ) → q ≡ Written s → IsSourceLoaded xs false q x → (w : OpWord) × Contains xs (loaded s w) × (is_idle w.state ≡ false)
-    source_valued xs q s x same is = let there = subst (λ (z : Origin). IsSourceLoaded xs false z x) same is in (there.word, there.inside, there.shown)
-
-    pub went_on : (values : List ℕ) → AreLoaded p o (places p o) row values → (m : Hand) (r : Attempt) → (view_of m).claim ≡ None → CarryDoes p o a values (view_of g) (view_of m) r → AttemptDoes p o a (view_of h) (view_of m) r
-    went_on values read m (Ran r) free_now does =
-        let tells = does.tells in
-        let done : List Item = left o tells.word ∷ [] in
-        let held : List Item = left o (claimed a (view_of h).tag) ∷ done in
-        let words : does.words ≡ left o (claimed a (view_of h).tag) ∷ left o tells.word ∷ [] =
-        tells.words_are ∙ ap (λ t. left o (claimed a t) ∷ left o tells.word ∷ []) tag_made in
-        let all : left o (ready a) ∷ does.words ≡ left o (ready a) ∷ left o (claimed a (view_of h).tag) ∷ left o tells.word ∷ [] = ap (λ zs. left o (ready a) ∷ zs) words in
-        record {
-          words = row ++ (left o (ready a) ∷ does.words);
-          goes = record { adds = adds_then did.adds (adds_then adds_made does.adds); free = free_now };
-          own = subst (λ zs. OwnOn o (row ++ zs)) (sym all)
-              (own_behind o row (left o (ready a) ∷ held) none_row (own_one o (ready a) held (own_one o (claimed a (view_of h).tag) done (own_one o tells.word [] (λ t inside mine. absurd (not_inside t inside))))));
-          open_own = subst (λ zs. OwnOpen (row ++ zs)) (sym all)
-              (open_behind row (left o (ready a) ∷ held) none_row (open_one o (ready a) held refl (open_one o (claimed a (view_of h).tag) done refl (open_one o tells.word [] (run_unsettled tells.word.state tells.ran) (λ t inside mine. absurd (not_inside t inside))))));
-          tells = record {
-            row = row;
-            elsewhere = did.elsewhere;
-            values = values;
-            read = λ j lt. value_read row (origin_at p o j) (slice_index values j) (read j lt);
-            valued = λ s source. source_valued row (origin_at p o source.place) s (slice_index values source.place) source.source_is (read source.place source.in_places);
-            word = tells.word;
-            word_is = tells.word_is;
-            words_are = ap (λ zs. row ++ zs) all;
-            ran = tells.ran;
-            attempt_is = tells.attempt_is;
-            records = tells.records;
-            shown = tells.shown;
-            answer = tells.answer;
-            steps =
-                tells.steps
-                ∙ ap (λ t. Finish o t ∷ fetches o t 0 values (Claim o t ∷ (view_of g).events)) tag_made
-                ∙ ap (λ es. Finish o (view_of h).tag ∷ fetches o (view_of h).tag 0 values (Claim o (view_of h).tag ∷ es)) events_made;
-          };
-        }
-    went_on values read m (Busy w) free_now does =
-        let all : left o (ready a) ∷ does.words ≡ left o (ready a) ∷ loaded o w ∷ [] = ap (λ zs. left o (ready a) ∷ zs) does.tells.words_are in
-        record {
-          words = row ++ (left o (ready a) ∷ does.words);
-          goes = record { adds = adds_then did.adds (adds_then adds_made does.adds); free = free_now };
-          own = subst (λ zs. OwnOn o (row ++ zs)) (sym all) (own_behind o row (left o (ready a) ∷ loaded o w ∷ []) none_row (own_one o (ready a) (loaded o w ∷ []) (own_none o (loaded o w ∷ []) (none_one o w))));
-          open_own = subst (λ zs. OwnOpen (row ++ zs)) (sym all) (open_behind row (left o (ready a) ∷ loaded o w ∷ []) none_row (open_one o (ready a) (loaded o w ∷ []) refl (open_none (loaded o w ∷ []) (none_one o w))));
-          tells = record {
-            row = row;
-            elsewhere = did.elsewhere;
-            cause = inr (record { differs = does.tells.differs; words_are = ap (λ zs. row ++ zs) all; readied = does.tells.stays ∙ events_made });
-          };
-        }
-    went_on values read m (BlockedOn at w) free_now does = absurd does.tells
+    pub attempt_busy : (w : OpWord) → TakeUpDoes p o a values (view_of k) (view_of m) (Err w) → AttemptDoes p o a (view_of h) (view_of m) (Busy w)
+    attempt_busy w does =
+        attempted (Busy w) does.words does.adds (own_taken_up p o a values (view_of k) (view_of m) (Err w) does) (open_taken_up p o a values (view_of k) (view_of m) (Err w) does) (record {
+          row = row;
+          elsewhere = did.elsewhere;
+          cause = elim does.tells [
+            | inl other ↦ inl (record { differs = other.differs; words_are = ap (λ zs. row ++ zs) other.words_are; stays = other.stays ∙ stays_row })
+            | inr taken ↦ inr (record {
+              differs = taken.differs;
+              words_are = ap (λ zs. row ++ zs) taken.words_are;
+              readied = taken.readied ∙ ap (λ (es : List CoreEvent). ReadyStep o ∷ es) stays_row;
+            })
+          ];
+        })

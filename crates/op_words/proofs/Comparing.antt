@@ -21,11 +21,11 @@ use Rattle.op_words.specs.Trails.{loaded, OfSources}
 use Rattle.op_words.specs.Views.{IsSourceSeen, IsRecordSeen, Adds}
 use Rattle.op_words.specs.Calls.{IsSettledRead}
 use Rattle.op_words.specs.Hands.{view_of, call_on, IsHandOf}
-use Rattle.op_words.specs.Stepping.{Recalled, IsWalk}
+use Rattle.op_words.specs.Stepping.{Recalled, IsRow, IsWalk}
 use Rattle.op_words.specs.Grounds.{IsSourceLoaded, SourceDoes}
 use Rattle.op_words.specs.Comparing.{IsSourceRight, IsLoadedAt, IsEqualAt, IsNotedLast, PlaceIsCompared, IsComparedAt, IsComparedUpTo, AllTells, IsCompared}
 use Rattle.op_words.proofs.Rows.{not_inside}
-use Rattle.op_words.proofs.Walking.{walk_none, walk_then, walk_row, walk_recall, walk_last, recalled_seen}
+use Rattle.op_words.proofs.Walking.{walk_none, walk_then, walk_row, walk_recall, walk_last, recalled_seen, recalled_place}
 
 -- ---- what was loaded and seen stays
 
@@ -51,6 +51,19 @@ module _ {v u : View} {xs : List Item} (adds : Adds v u xs) where
   pub equal_more : (p : Plan) (o : ℕ) (w : OpWord) (j : ℕ) → IsEqualAt p o w v j → IsEqualAt p o w u j
   equal_more p o w j is = record { seen = seen_more (origin_at p o j) (source p (final p) o j) is.seen; recorded = adds.records _ is.recorded }
 
+-- what was loaded settled was seen so
+pub loaded_seen : (b : Board) (o : ℕ) (h g : Hand) (row : List Item) → IsRow (call_on b h g) o row → (q : Origin) (x : ℕ) → IsSourceLoaded row true q x → IsSourceSeen (view_of g) q x
+loaded_seen b o h g row did (Base v) x is = is
+loaded_seen b o h g row did (Written s) x is = record {
+  seen = record {
+    note = loaded s is.word;
+    inside = subst (λ ts. Contains ts (loaded s is.word)) (sym did.adds.notes) (Contains-append_right (view_of h).notes row (loaded s is.word) is.inside);
+    op_is = refl;
+    settled = is.settled refl;
+  };
+  value_is = is.value_is;
+}
+
 pub sources_then : (p : Plan) (o : ℕ) (xs ys : List Item) → OfSources p o xs → OfSources p o ys → OfSources p o (xs ++ ys)
 sources_then p o xs ys first second t inside =
     elim (Contains-append_cases xs ys t inside) [
@@ -70,24 +83,12 @@ module _ (b : Board) (p : Plan) (o j : ℕ) where
     words = did.words;
     walk = walk_row b o did.row;
     sources = did.sources;
-    tells = record { read = right_read (origin_at p o j) did.tells.read; seen = right_seen (origin_at p o j) did.tells.read; fold = did.tells.fold refl };
+    tells = record { read = right_read (origin_at p o j) did.tells.read; seen = loaded_seen b o h g did.words did.row (origin_at p o j) x did.tells.read; fold = did.tells.fold refl };
   }
     where
       right_read : (q : Origin) → IsSourceLoaded did.words true q x → IsSettledRead did.words q x
       right_read (Base v) is = is
       right_read (Written s) is = (is.word, is.inside, is.settled refl, is.value_is)
-
-      right_seen : (q : Origin) → IsSourceLoaded did.words true q x → IsSourceSeen (view_of g) q x
-      right_seen (Base v) is = is
-      right_seen (Written s) is = record {
-        seen = record {
-          note = loaded s is.word;
-          inside = subst (λ ts. Contains ts (loaded s is.word)) (sym did.row.adds.notes) (Contains-append_right (view_of h).notes did.words (loaded s is.word) is.inside);
-          op_is = refl;
-          settled = is.settled refl;
-        };
-        value_is = is.value_is;
-      }
   loaded_as h g (Err stop) did = record {
     words = did.words;
     walk = walk_row b o did.row;
@@ -126,7 +127,7 @@ module _ (b : Board) (p : Plan) (o j : ℕ) where
           })
 
       pub differs_here : y ≢ x → IsComparedAt (call_on b h k) p o j (Differs j y x)
-      differs_here other = compared_here (Differs j y x) (λ w last. record { in_places = lt; right = right; recorded = recorded w last; differs = other })
+      differs_here other = compared_here (Differs j y x) (λ w last. record { in_places = lt; right = right; recorded = recorded w last; differs = other; noted = recalled_place b o j g k y did })
 
 -- ---- place by place
 
@@ -170,6 +171,7 @@ module _ (b : Board) (p : Plan) (o : ℕ) where
           right = record { read = read_right far.words here.words (origin_at p o n) value is.right.read; seen = is.right.seen; fold = is.right.fold };
           recorded = is.recorded;
           differs = is.differs;
+          noted = is.noted;
         }
 
   pub compare_all : {h g : Hand} → IsComparedUpTo (call_on b h g) p o (places p o) → IsCompared (call_on b h g) p o Equal

@@ -22,10 +22,10 @@ use Rattle.op_words.specs.declared.board.Hand.{Hand}
 use Rattle.op_words.specs.declared.trail.Item.{Item}
 use Rattle.op_words.specs.declared.trail.View.{View}
 use Rattle.op_words.specs.Trails.{loaded, OfSources, HasLast, NoneOwn}
-use Rattle.op_words.specs.Views.{IsJudged, IsRecordSeen, IsSourceSeen, Adds}
+use Rattle.op_words.specs.Views.{IsJudged, IsRecordSeen, IsSourceSeen, Adds, last_place}
 use Rattle.op_words.specs.Calls.{IsSettledRead}
 use Rattle.op_words.specs.Plays.{IsRunResult, IsSight}
-use Rattle.op_words.specs.Judging.{verdict_of, IsStaleAt, IsGood, IsGoodAt, IsBad, VerdictTells}
+use Rattle.op_words.specs.Judging.{verdict_of, IsStaleAt, IsStaleSeen, IsGood, IsGoodAt, IsBad, VerdictTells}
 use Rattle.op_words.specs.Hands.{plan_of, cap_of, view_of, call_on, IsHandOf}
 use Rattle.op_words.specs.Stepping.{Looked, IsWalk}
 use Rattle.op_words.specs.Comparing.{difference_at, OfReads, IsEqualAt, IsOtherAt, IsStoppedAt, IsJudgedAs}
@@ -153,6 +153,7 @@ module _ (b : Board) (p : Plan) (o : ℕ) (plan : p ≡ plan_of b) (lt : o < op_
     stays = stays_first;
     tells = inl (refl, record { last = last_first; seen = (0, omega arith, refl); cause = inl idle; spread = (sight_of b p o h g w hand plan did).spread });
     stale = λ j kept value same. absurd (not_stale o w j kept value same);
+    stale_seen = λ j kept value same. absurd (not_stale o w j kept value same);
     good = λ x same. absurd (not_good o w x same);
   }
 
@@ -207,6 +208,7 @@ module _ (b : Board) (p : Plan) (o : ℕ) (plan : p ≡ plan_of b) (lt : o < op_
         },
       );
       stale = λ j kept value same. absurd (not_stale stop.source stop.word j kept value same);
+      stale_seen = λ j kept value same. absurd (not_stale stop.source stop.word j kept value same);
       good = λ x same. absurd (not_good stop.source stop.word x same);
     }
 
@@ -235,7 +237,7 @@ module _ (b : Board) (p : Plan) (o : ℕ) (plan : p ≡ plan_of b) (lt : o < op_
           ]
 
       judged_with : (r : Verdict) → VerdictTells p cap o (view_of h) (view_of m) (front ++ loaded o z ∷ []) r
-          → ((j kept value : ℕ) → r ≡ Stale j kept value → IsStaleAt p cap o (view_of h) (view_of m) (front ++ loaded o z ∷ []) z j kept value)
+          → ((j kept value : ℕ) → r ≡ Stale j kept value → IsStaleAt p cap o (view_of h) (view_of m) (front ++ loaded o z ∷ []) z j kept value × IsStaleSeen p cap (view_of m) o z j)
           → ((x : ℕ) → r ≡ Good x → IsGoodAt p (view_of m) o z) → IsJudgedAs (call_on b h m) p cap o z r
       judged_with r tells stale good = record {
         hand = again.hand;
@@ -248,7 +250,8 @@ module _ (b : Board) (p : Plan) (o : ℕ) (plan : p ≡ plan_of b) (lt : o < op_
         begins = refl;
         stays = ap (λ (v : View). v.events) again.view ∙ stays_front;
         tells = tells;
-        stale = stale;
+        stale = λ j kept value same. (stale j kept value same).0;
+        stale_seen = λ j kept value same. (stale j kept value same).1;
         good = λ x same. (last_all, good x same);
       }
 
@@ -344,8 +347,23 @@ module _ (b : Board) (p : Plan) (o : ℕ) (plan : p ≡ plan_of b) (lt : o < op_
             stale_good : (x : ℕ) → Stale j kept value ≡ Good x → ⊥
             stale_good x e = cc
 
-            same_stale : (n y x : ℕ) → Stale j kept value ≡ Stale n y x → IsStaleAt p cap o (view_of h) (view_of m) (front ++ loaded o z ∷ []) z n y x
-            same_stale n y x e = subst (λ (t : ℕ × ℕ × ℕ). IsStaleAt p cap o (view_of h) (view_of m) (front ++ loaded o z ∷ []) z t.0 t.1 t.2) (λ i. (ap place_in e i, ap kept_in e i, ap value_in e i)) stale
+            seen : IsStaleSeen p cap (view_of m) o z j
+            seen = record {
+              in_range = again.tells.is_word;
+              ran = ran_again;
+              below = stale.below;
+              in_places = at.in_places;
+              kept = kept;
+              record_is = stale.kept_is;
+              value = value;
+              source = seen_more adds_again (origin_at p o j) value at.right.seen;
+              differs = at.differs;
+              noted = ap (λ (u : View). last_place 0 u.records) again.view ∙ at.noted;
+            }
+
+            same_stale : (n y x : ℕ) → Stale j kept value ≡ Stale n y x → IsStaleAt p cap o (view_of h) (view_of m) (front ++ loaded o z ∷ []) z n y x × IsStaleSeen p cap (view_of m) o z n
+            same_stale n y x e =
+                subst (λ (t : ℕ × ℕ × ℕ). IsStaleAt p cap o (view_of h) (view_of m) (front ++ loaded o z ∷ []) z t.0 t.1 t.2 × IsStaleSeen p cap (view_of m) o z t.0) (λ i. (ap place_in e i, ap kept_in e i, ap value_in e i)) (stale, seen)
 
       -- the verdict stands, or the word changed
       pub judged_again : (v r : Verdict) → ((z ≡ w) × (r ≡ v)) ⊎ ((z ≢ w) × (r ≡ Unready o z)) → (z ≡ w → IsJudgedAs (call_on b h m) p cap o z v) → IsJudgedAs (call_on b h m) p cap o z r

@@ -84,3 +84,5 @@ pub mod Looking
 pub mod Retrying
 -- What `roll_back` answers, from what its steps showed.
 pub mod Rolling
+-- What `redo` answers, from what its loads and steps showed.
+pub mod Redoing

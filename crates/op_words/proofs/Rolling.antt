@@ -20,9 +20,8 @@ use Rattle.op_words.specs.declared.answers.Stop.{Stop}
 use Rattle.op_words.specs.declared.board.Board.{Board}
 use Rattle.op_words.specs.declared.board.Hand.{Hand}
 use Rattle.op_words.specs.declared.trail.Item.{Item}
-use Rattle.op_words.specs.declared.trail.RecordSeen.{RecordSeen}
 use Rattle.op_words.specs.declared.trail.View.{View}
-use Rattle.op_words.specs.Trails.{loaded, left, last_word, HasLast, IsSourceOf, NoneOwn}
+use Rattle.op_words.specs.Trails.{loaded, left, HasLast, IsSourceOf, NoneOwn}
 use Rattle.op_words.specs.Views.{Adds, IsRecordSeen, IsSourceSeen, last_place, rolling_back}
 use Rattle.op_words.specs.Calls.{IsReadValue}
 use Rattle.op_words.specs.Hands.{plan_of, cap_of, view_of, call_on, IsHandOf}
@@ -34,7 +33,7 @@ use Rattle.op_words.proofs.Retrying.{count_one, adds_first, free_next, adds_fron
 use Rattle.op_words.proofs.Trailing.{last_later}
 use Rattle.op_words.proofs.Adding.{adds_then, adds_look, free_apart, last_one, none_one}
 use Rattle.op_words.proofs.Making.{adds_leave, found_disturbed, none_then, own_none, open_none, own_left, open_left}
-use Rattle.op_words.proofs.Walking.{walk_then, walk_row, walk_recall, walk_last, look_last, recalled_seen}
+use Rattle.op_words.proofs.Walking.{walk_then, walk_row, walk_recall, walk_last, look_last, recalled_seen, recalled_place}
 
 evaluated_open : (t : OpState) → is_evaluated t ≡ true → is_settled t ≡ false
 evaluated_open Blocked is = refl
@@ -55,12 +54,6 @@ evaluated_run Failed is other = refl
 evaluated_run Spread is other = absurd (other refl)
 evaluated_run Settled is other = is
 evaluated_run SettledAborted is other = is
-
--- the place of the last record
-last_place-append : (d : ℕ) (rs : List RecordSeen) (r : RecordSeen) → last_place d (rs ++ r ∷ []) ≡ r.place
-unfolding last_place
-last_place-append d [] r = refl
-last_place-append d (x ∷ rs) r = last_place-append x.place rs r
 
 -- a word that was seen settled is, after words more
 source_seen_more : (v u : View) (xs : List Item) → u.notes ≡ v.notes ++ xs → (q : Origin) (y : ℕ) → IsSourceSeen v q y → IsSourceSeen u q y
@@ -272,9 +265,7 @@ module _ (b : Board) (p : Plan) (o j : ℕ) (h g k m : Hand) (w : OpWord) (kept 
     record_later = open_did.row.adds.records _ record_rolled
 
     pub place_is : last_place 0 (view_of n).records ≡ j
-    place_is =
-        ap (λ (u : View). last_place 0 u.records) open_did.row.view ∙ ap (λ (u : View). last_place 0 u.records) record_did.view
-        ∙ last_place-append 0 (view_of k).records (record { op = o; place = j; value = kept; word = last_word o (blocked 1) (view_of k).notes })
+    place_is = ap (λ (u : View). last_place 0 u.records) open_did.row.view ∙ recalled_place b o j k m kept record_did
 
     -- its record was right, and its word spread
     pub spread_aside : w.state ≡ Spread → kept ≡ x → IsSpreadAside p (cap_of b) o (view_of h) (view_of n) (loaded o w ∷ (source_did.words ++ []) ++ open_did.words) j w

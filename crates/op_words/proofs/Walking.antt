@@ -11,7 +11,7 @@ use Rattle.op_words.specs.declared.trail.Item.{Item}
 use Rattle.op_words.specs.declared.trail.RecordSeen.{RecordSeen}
 use Rattle.op_words.specs.declared.trail.View.{View}
 use Rattle.op_words.specs.Trails.{loaded, last_word, IsSteadyAt, IsCalmAt}
-use Rattle.op_words.specs.Views.{Agrees, IsApart, IsRecordSeen, IsDecisionSeen, Adds, recalling, learning}
+use Rattle.op_words.specs.Views.{Agrees, IsApart, IsRecordSeen, IsDecisionSeen, Adds, recalling, last_place, learning}
 use Rattle.op_words.specs.Calls.{Elsewhere}
 use Rattle.op_words.specs.Hands.{view_of, call_on, IsHandOf}
 use Rattle.op_words.specs.Stepping.{Looked, Recalled, Learned, IsRow, IsWalk}
@@ -108,6 +108,17 @@ pub recalled_seen : (b : Board) (o j : ℕ) (h g : Hand) (x : ℕ) (w : OpWord) 
 recalled_seen b o j h g x w last did =
     subst (λ (v : View). IsRecordSeen v o j w x) (sym did.view)
     (subst (λ (z : OpWord). IsRecordSeen (recalling o j x (view_of h)) o j z x) last (Contains-append_right (view_of h).records _ _ (0, omega arith, refl)))
+
+-- the place of the last record
+last_place-append : (d : ℕ) (rs : List RecordSeen) (r : RecordSeen) → last_place d (rs ++ r ∷ []) ≡ r.place
+unfolding last_place
+last_place-append d [] r = refl
+last_place-append d (x ∷ rs) r = last_place-append x.place rs r
+
+pub recalled_place : (b : Board) (o j : ℕ) (h g : Hand) (x : ℕ) → Recalled (call_on b h g) o j x → last_place 0 (view_of g).records ≡ j
+recalled_place b o j h g x did =
+    ap (λ (v : View). last_place 0 v.records) did.view
+    ∙ last_place-append 0 (view_of h).records (record { op = o; place = j; value = x; word = last_word o (blocked 1) (view_of h).notes })
 
 pub learned_seen : (b : Board) (i : ℕ) (h g : Hand) (committed : Bool) → Learned (call_on b h g) i (Some committed) → IsDecisionSeen (view_of g) i committed
 learned_seen b i h g committed did = subst (λ (v : View). IsDecisionSeen v i committed) (sym did.view) (Contains-append_right (view_of h).decisions _ _ (0, omega arith, refl))

@@ -21,9 +21,9 @@ use Rattle.op_words.specs.declared.answers.Verdict.TheVariants.{Good, Stale, Unr
 use Rattle.op_words.specs.declared.trail.Item.{Item}
 use Rattle.op_words.specs.declared.trail.View.{View}
 use Rattle.op_words.specs.Trails.{loaded, left, last_word, HasLast, IsSourceOf, OfSources, NoneOwn}
-use Rattle.op_words.specs.Views.{IsDecisionSeen, IsRecordSeen, IsSourceSeen, AddsAndFrees, settling}
+use Rattle.op_words.specs.Views.{IsDecisionSeen, IsRecordSeen, IsSourceSeen, AddsAndFrees, last_place, settling}
 use Rattle.op_words.specs.Calls.{IsSettledRead}
-use Rattle.op_words.specs.Judging.{IsStaleAt, VerdictTells, IsAnswerSeen, IsGoodAt, IsJudgedGood, IsDoubtful, IsInDoubt}
+use Rattle.op_words.specs.Judging.{IsStaleAt, IsStaleSeen, VerdictTells, IsAnswerSeen, IsGoodAt, IsJudgedGood, IsDoubtful, IsInDoubt}
 use Rattle.op_words.specs.Hands.{cap_of, plan_of, view_of, HandCall, IsHandOf}
 use Rattle.op_words.specs.Stepping.{Looked, Left, IsWalk}
 
@@ -72,12 +72,14 @@ pub record PlaceDifference : Type 0 where
 abbrev pub difference_at : (place kept value : ℕ) → PlaceDifference
 difference_at place kept value = record { place = place; kept = kept; value = value }
 
--- Under word w of operation o, the record at a place has another value than its settled source
+-- Under word w of operation o, the record at a place has another value than its settled source. It is the record that
+-- was loaded last
 pub record IsOtherAt (p : Plan) (o : ℕ) (w : OpWord) (xs : List Item) (u : View) (d : PlaceDifference) : Type 0 where
   pub in_places : d.place < places p o
   pub right : IsSourceRight p o d.place xs u d.value
   pub recorded : IsRecordSeen u o d.place w d.kept
   pub differs : d.kept ≢ d.value
+  pub noted : last_place 0 u.records ≡ d.place
 
 -- The word w of operation o is the one that was noted last
 abbrev pub IsNotedLast : ℕ → View → OpWord → Type 0
@@ -151,6 +153,7 @@ pub record IsJudgedAs (c : HandCall) (p : Plan) (cap o : ℕ) (w : OpWord) (r : 
   pub tells : VerdictTells p cap o (view_of c.before) (view_of c.after) words r
   pub stale :
       (j kept value : ℕ) → r ≡ Stale j kept value → IsStaleAt p cap o (view_of c.before) (view_of c.after) words w j kept value
+  pub stale_seen : (j kept value : ℕ) → r ≡ Stale j kept value → IsStaleSeen p cap (view_of c.after) o w j
   pub good : (x : ℕ) → r ≡ Good x → HasLast o words w × IsGoodAt p (view_of c.after) o w
 
 -- ---- what the operations of an event say of it

@@ -19,7 +19,7 @@ use Rattle.op_words.specs.declared.answers.SettleAnswer.TheVariants.{Done as Has
 use Rattle.op_words.specs.declared.trail.Item.{Item}
 use Rattle.op_words.specs.declared.trail.View.{View}
 use Rattle.op_words.specs.Trails.{loaded, left, HasLast, IsDisturbed, OwnOn, NoneOwn}
-use Rattle.op_words.specs.Views.{IsDecisionSeen, IsJudged, IsRecordSeen, IsSettledSeen, IsSourceSeen, AddsAndFrees}
+use Rattle.op_words.specs.Views.{IsDecisionSeen, IsJudged, IsRecordSeen, IsSettledSeen, IsSourceSeen, AddsAndFrees, last_place}
 use Rattle.op_words.specs.Calls.{IsSettledRead, IsSourceOpen}
 
 -- The verdict on an operation with this word, executed or failed, if its records are right
@@ -151,6 +151,20 @@ abbrev pub MaySayOf : Plan → View → ℕ → Bool → Type 0
 MaySayOf p v i true = (o : ℕ) → InEvent p i o → IsGoodSeen p v o
 MaySayOf p v i false = (o : ℕ) × InEvent p i o × IsAnswerSeen p v o None
 
+-- The hand saw operation o stale at place j under its word w, which is below the last attempt: the record there is not
+-- the settled value of the source. It is the record that the hand noted last
+pub record IsStaleSeen (p : Plan) (cap : ℕ) (v : View) (o : ℕ) (w : OpWord) (j : ℕ) : Type 0 where
+  pub in_range : IsWord w
+  pub ran : has_run w.state ≡ true
+  pub below : w.attempt ≤ cap
+  pub in_places : j < places p o
+  pub kept : ℕ
+  pub record_is : IsRecordSeen v o j w kept
+  pub value : ℕ
+  pub source : IsSourceSeen v (origin_at p o j) value
+  pub differs : kept ≢ value
+  pub noted : last_place 0 v.records ≡ j
+
 -- Operation o is in doubt at word w of operation `at`: it is not ready to be judged, or stale, or a source of it is not
 -- settled
 abbrev pub IsDoubtful : Plan → ℕ → ℕ → View → View → List Item → ℕ → OpWord → Type 0
@@ -218,10 +232,11 @@ module _ (p : Plan) (cap o : ℕ) (v u : View) where
     pub tells : VerdictTells p cap o v u words r
 
   -- The call `verdict_at` led from view v to view u, as `verdict` does with its answer r. A good operation is so at the
-  -- word w, its last one
+  -- word w, its last one, and so is a stale one
   pub record VerdictAtDoes (w : OpWord) (r : Verdict) : Type 0 where
     pub answer : VerdictDoes r
     pub good : (x : ℕ) → r ≡ Good x → HasLast o answer.words w × IsGoodAt p u o w
+    pub stale : (j kept value : ℕ) → r ≡ Stale j kept value → HasLast o answer.words w × IsStaleSeen p cap u o w j
 
   -- The call `settle` led from view v to view u, and its answer r has its cause in the words that it added
   pub record SettleDoes (r : SettleAnswer) : Type 0 where

@@ -13,6 +13,7 @@ pub mod Counting
 pub mod Kinds
 pub mod Closing
 pub mod Judging
+pub mod Redoing
 pub mod Retrying
 pub mod Comparing
 pub mod Grounds

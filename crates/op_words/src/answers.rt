@@ -93,6 +93,20 @@ pub enum Verdict {
     Unready { at: u32, word: OpWord },
 }
 
+/// The outcome when a stale operation is taken back and evaluated again in one call.
+#[derive(Clone, Copy, Debug, PartialEq, Eq)]
+pub enum Redone {
+    /// It was evaluated again and is executed with this word. Each record is the settled value of its source.
+    Good(OpWord),
+    /// It was evaluated again and failed with this word. Each record is the settled value of its source.
+    Bad(OpWord),
+    /// The source was not settled, as its word was loaded in the call. The operation is as it was.
+    Open { source: u32, word: OpWord },
+    /// Another hand changed the operation: this word was found in place of the one that was judged, or of one that the
+    /// call had left.
+    Busy { word: OpWord },
+}
+
 /// The decision on an event.
 #[derive(Clone, Copy, Debug, PartialEq, Eq)]
 pub enum Decided {

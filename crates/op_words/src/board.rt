@@ -20,6 +20,7 @@ mod grounds;
 mod hands;
 mod held_op;
 mod loads;
+mod redo;
 mod roll_back;
 mod settle;
 mod sources;

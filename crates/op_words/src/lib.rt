@@ -21,7 +21,7 @@
 //! before it was settled is a guess. It is judged later (`verdict`), the event is decided (`decide`), and each of its
 //! operations is settled (`settle`). What a hand has judged it can decide and settle without a second look
 //! (`verdict_at`, `conclude`, `settle_good`). A guess that turns out wrong is taken back (`spread`, `roll_back`), and
-//! the operation runs again.
+//! the operation runs again; `redo` does both in one call for an operation that the hand judged stale.
 //!
 //! # The files
 //!
@@ -32,6 +32,7 @@
 //! | `board/attempt` | `attempt`, which evaluates a blocked operation in one call; which attempts may read guesses |
 //! | `board/verdict`, `board/decide`, `board/settle` | the calls of these names |
 //! | `board/roll_back` | `spread`, `roll_back`, and whether a word is within the cap |
+//! | `board/redo` | `redo`, which takes a stale operation back and evaluates it again in one call |
 //! | `board/counters`, `board/hands`, `board/close` | counters and level word; a hand's own calls; the end |
 //! | `board/waiting` | whether an operation's sources are there, for a worker that waits for them |
 //! | `board/steps`, `board/changes`, `board/loads` | the single atomic steps that the calls are made of |
@@ -46,9 +47,10 @@
 //! # The specs
 //!
 //! Begin with `specs/Views.antt`, which says what a hand knows, and `specs/Calls.antt`, which says what each call adds
-//! to that and why it answers as it does. `specs/Attempts.antt` does so for `attempt`; `specs/Judging.antt` and
-//! `specs/Retrying.antt` do so for the calls that judge, settle and take back. The rule behind them all is `Lawful` in
-//! `specs/Rule.antt`. `specs/Kinds.antt` says which step of the machine each atomic step is.
+//! to that and why it answers as it does. `specs/Attempts.antt` does so for `attempt`, and `specs/Redoing.antt` for
+//! `redo`; `specs/Judging.antt` and `specs/Retrying.antt` do so for the calls that judge, settle and take back. The
+//! rule behind them all is `Lawful` in `specs/Rule.antt`. `specs/Kinds.antt` says which step of the machine each atomic
+//! step is.
 #![tactic(auto)]
 
 mod answers;
@@ -64,8 +66,8 @@ mod trail;
 mod words;
 
 pub use answers::{
-    Attempt, Claimed, Counts, Decided, Fetched, Outcome, Readied, Rolled, SettleAnswer, Spreaded,
-    Verdict,
+    Attempt, Claimed, Counts, Decided, Fetched, Outcome, Readied, Redone, Rolled, SettleAnswer,
+    Spreaded, Verdict,
 };
 pub use board::{Board, Hand};
 pub use closed::Closed;

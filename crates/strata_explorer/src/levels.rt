@@ -22,7 +22,7 @@ use op_eval::{Patience, RunEnd, Runner};
 use op_words::Board;
 use std::thread::Threads;
 use worker_gate::{
-    Gate, Job, Told, Turns, burst_for, is_shared, pieces_for, run_all, shareable, threads_for,
+    Gate, Job, Told, Turns, burst_for, pieces_for, run_all, shareable, takes_part, threads_for,
 };
 
 /// How many pieces of work an operation is worth if its worker is started once for all levels.
@@ -42,8 +42,7 @@ pub(crate) struct Levels<'a, G> {
     pub(crate) threads: usize,
 }
 
-/// Does a worker's part of a level, by the counter of the level's number. The first worker, of number 0, takes part in
-/// each level. The others leave it the levels with [few](is_shared) operations.
+/// Does a worker's part of a level, by the counter of the level's number, if it [takes part](takes_part) in it.
 fn do_part<T: Turns>(
     ground: &Ground<'_>,
     told: &T,
@@ -63,7 +62,7 @@ fn do_part<T: Turns>(
         runner.old runner.new }
 {
     let ops = ground.plan.op_levels.get(level).as_slice();
-    if number == 0 || is_shared(ops.len()) {
+    if takes_part(number, ops.len()) {
         let most = burst_for(threads, ops.len());
         work(ground, told, ops, level as u32, most, runner, patience);
     }
@@ -86,11 +85,7 @@ fn go_over<T: Turns>(
     ensures goes_over { GoesOver (ground_rules ground.now) number
         (length ground.now.plan.now.op_levels.items) runner.old runner.new }
 {
-    let mut patience = if threads <= 1 {
-        Patience::none()
-    } else {
-        Patience::full()
-    };
+    let mut patience = Patience::among(threads);
     for level in 0..ground.plan.op_levels.len() {
         do_part(ground, told, threads, number, level, runner, &mut patience);
     }

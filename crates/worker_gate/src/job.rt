@@ -62,8 +62,17 @@ pub fn is_shared(items: usize) -> bool
     items >= FEW
 }
 
+/// Whether the worker of this number takes part in a level of this many items. The first worker, of number 0, takes
+/// part in each, and the others in those that [all share](is_shared).
+pub fn takes_part(number: usize, items: usize) -> bool
+    ensures { IsTrue result ↔ ((number ≡ 0) ⊎ (shared_from ≤ items)) }
+{
+    number == 0 || is_shared(items)
+}
+
 /// How many numbers a worker takes from a counter at a time, if this many workers share this many items: an eighth of
-/// each worker's share, at least 1 and at most 16. A worker who is alone takes 16, since nobody waits for what it takes.
+/// each worker's share, at least 1 and at most 16. A worker who is alone takes 16, since nobody waits for what it
+/// takes.
 pub fn burst_for(workers: usize, items: usize) -> usize
     ensures some { 1 ≤ result }
     ensures most { result ≤ 16 }

@@ -23,7 +23,8 @@ mod turns;
 pub use gate::{FreeGate, Gate};
 pub use hold_gate::HoldGate;
 pub use job::{
-    Job, burst_for, is_shared, pieces_for, run_all, run_few_or_all, shareable, threads_for,
+    Job, burst_for, is_shared, pieces_for, run_all, run_few_or_all, shareable, takes_part,
+    threads_for,
 };
 pub use meet_gate::MeetGate;
 pub use turns::{Told, Turns, Untold};

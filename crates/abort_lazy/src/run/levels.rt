@@ -13,7 +13,7 @@ use morph_base::Plan;
 use op_eval::{Patience, Runner};
 use op_words::Board;
 use std::thread::Threads;
-use worker_gate::{Job, burst_for, is_shared, run_all, shareable};
+use worker_gate::{Job, burst_for, run_all, shareable, takes_part};
 
 /// How many pieces of work trying one event is, by which threads are worth it: one for each 1,024 events.
 const EVENT_PIECES: usize = 256;
@@ -31,22 +31,6 @@ pub struct Levels<'a> {
     pub from: u32,
     /// How many threads the workers have. Workers of one thread work one after the other.
     pub threads: usize,
-}
-
-/// The patience of a worker in one of so many threads. In one thread there is nobody to wait for.
-fn patience_for(threads: usize) -> Patience {
-    if threads > 1 {
-        Patience::full()
-    } else {
-        Patience::none()
-    }
-}
-
-/// Whether the worker of this number takes part in a level of so many events. Few events are the first worker's.
-fn takes_part(number: usize, events: usize) -> bool
-    ensures { IsTrue result ↔ ((number ≡ 0) ⊎ (shared_from ≤ events)) }
-{
-    number == 0 || is_shared(events)
 }
 
 /// Goes over one level as the worker of this number, or passes over it if the worker takes no part in it.
@@ -85,7 +69,7 @@ fn go_over_all(levels: &Levels<'_>, number: usize, runner: &mut Runner)
     ensures { InStages (WasAtLevel levels.now.board.now levels.now.plan.now levels.now.from number)
         (length levels.now.plan.now.event_levels.items) runner.old runner.new }
 {
-    let mut patience = patience_for(levels.threads);
+    let mut patience = Patience::among(levels.threads);
     for level in 0..levels.plan.event_levels.len() {
         go_over_level(levels, number, level, runner, &mut patience);
     }

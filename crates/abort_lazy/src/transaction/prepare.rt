@@ -6,16 +6,17 @@ ghost use Rattle.op_words.specs.declared.trail.Item.{Item};
 ghost use Rattle.op_words.specs.declared.trail.View.{View};
 ghost use Rattle.op_words.specs.Hands.{MayBegin};
 ghost use Rattle.op_words.specs.Hands.{cap_of, view_of, IsHandOf};
+ghost use Rattle.op_words.specs.Judging.{IsStaleSeen};
 ghost use Rattle.op_eval.specs.Running.{hand_view};
 ghost use Rattle.abort_lazy.specs.Transactions.{MaySettleEvent, IsAnswered};
-ghost use Rattle.abort_lazy.specs.Progress.{so_far, IsIdleSoFar, IsOutdatedSoFar, IsMadeSoFar, IsFoundSoFar};
-ghost use Rattle.abort_lazy.specs.Progress.{ReadyDoes, AllReadyDoes};
+ghost use Rattle.abort_lazy.specs.Progress.{so_far, ReadyDoes, AllReadyDoes};
+ghost use Rattle.abort_lazy.specs.Progress.{IsIdleSoFar, IsStaleSoFar, IsSpreadSoFar, IsMadeSoFar, IsFoundSoFar};
 
 use super::standing::{Grounds, Say, Standing};
 use super::{TxnAnswer, end_of, first_of};
 use morph_base::{OpState, OpWord, Plan};
-use op_eval::{Evaluation, Runner, evaluate};
-use op_words::{Board, Hand, Rolled, Verdict};
+use op_eval::{Evaluation, Runner, evaluate, redo};
+use op_words::{Board, Hand, Redone, Rolled, Verdict};
 
 /// Makes all operations of an event ready for the decision, up to the first one that cannot be made ready, and hears
 /// what they say of the event.
@@ -59,7 +60,7 @@ fn prepare(board: &Board, runner: &mut Runner, plan: &Plan, event: u32, op: u32)
     match verdict {
         Verdict::Good(_) => Standing::Good(word),
         Verdict::Bad => Standing::Bad,
-        Verdict::Stale { j, .. } => redo(board, runner, plan, event, op, j),
+        Verdict::Stale { j, .. } => redo_stale(board, runner, plan, event, op, word, j),
         Verdict::Unready { at, word } => {
             if at == op {
                 mend(board, runner, plan, event, op, word)
@@ -89,7 +90,7 @@ fn mend(
     ensures answered { IsAnswered 1 runner.old runner.new }
 {
     match word.state {
-        OpState::Spread => redo(board, runner, plan, event, op, 0),
+        OpState::Spread => redo_spread(board, runner, plan, event, op),
         OpState::Blocked => run(board, runner, plan, event, op),
         OpState::Ready => run(board, runner, plan, event, op),
         OpState::Claimed => Standing::found(op, word),
@@ -100,19 +101,47 @@ fn mend(
     }
 }
 
-/// Rolls back an operation that was found stale or spread, and evaluates it again.
-fn redo(board: &Board, runner: &mut Runner, plan: &Plan, event: u32, op: u32, j: u8) -> Standing
+/// Takes back an operation that was judged stale at this word, and evaluates it again. What it is evaluated to is good
+/// or bad without a further look, since its sources were settled.
+fn redo_stale(
+    board: &Board,
+    runner: &mut Runner,
+    plan: &Plan,
+    event: u32,
+    op: u32,
+    word: OpWord,
+    j: u8,
+) -> Standing
     requires may { MayBegin board.now runner.old.hand plan.now op }
-    requires in_places { j < places plan.now op }
+    requires stale { IsStaleSeen plan.now (cap_of board.now) (hand_view runner.old) op word j }
     requires inside { InEvent plan.now event op }
     ensures hand { IsHandOf board.now runner.new.hand }
     ensures free { (hand_view runner.new).claim ≡ None }
     ensures ready { (start : View) (xs : List Item)
-        → IsOutdatedSoFar plan.now (cap_of board.now) op j (so_far start (hand_view runner.old) xs)
+        → IsStaleSoFar op word (so_far start (hand_view runner.old) xs)
         → ReadyDoes plan.now event op start (hand_view runner.new) result }
     ensures answered { IsAnswered 1 runner.old runner.new }
 {
-    match board.roll_back(&mut runner.hand, plan, op, j) {
+    match redo(board, runner, plan, op, word, j) {
+        Redone::Good(word) => Standing::Good(word),
+        Redone::Bad(_) => Standing::Bad,
+        Redone::Open { source, word } => Standing::Stopped(TxnAnswer::NotYet { at: source, word }),
+        Redone::Busy { word } => Standing::found(op, word),
+    }
+}
+
+/// Rolls back an operation whose value another failure took back, and evaluates it again.
+fn redo_spread(board: &Board, runner: &mut Runner, plan: &Plan, event: u32, op: u32) -> Standing
+    requires may { MayBegin board.now runner.old.hand plan.now op }
+    requires inside { InEvent plan.now event op }
+    ensures hand { IsHandOf board.now runner.new.hand }
+    ensures free { (hand_view runner.new).claim ≡ None }
+    ensures ready { (start : View) (xs : List Item)
+        → IsSpreadSoFar (cap_of board.now) op (so_far start (hand_view runner.old) xs)
+        → ReadyDoes plan.now event op start (hand_view runner.new) result }
+    ensures answered { IsAnswered 1 runner.old runner.new }
+{
+    match board.roll_back(&mut runner.hand, plan, op, 0) {
         Rolled::Done => run(board, runner, plan, event, op),
         Rolled::Fresh { .. } => {
             let word = board.peek(&mut runner.hand, plan, op);

@@ -3,15 +3,15 @@ ghost use Rattle.std.specs.Prelude.{◌≡◌, ℕ, ◌≤◌, ◌↔◌, [], No
 ghost use Rattle.morph_base.specs.Words.{IsWord};
 ghost use Rattle.interleaving_core.specs.Core.{blocked as blocked_at, places};
 ghost use Rattle.op_words.specs.Attempts.{AttemptDoes};
-ghost use Rattle.op_words.specs.Values.{AreUsable, CarryDoes, IsAllLoaded, IsKeptUpTo};
+ghost use Rattle.op_words.specs.Values.{AreUsable, CarryDoes, IsAllLoaded, IsKeptUpTo, TakeUpDoes};
 ghost use Rattle.op_words.specs.Views.{Holds};
 ghost use Rattle.op_words.specs.Hands.{call_on, cap_of, view_of, fetched_of};
 ghost use Rattle.op_words.specs.Hands.{HasHeldValues, IsHandOf, MayBegin, MayCall};
 
 use super::{Board, Hand, Holding};
-use crate::answers::{Attempt, Stop};
+use crate::answers::{Attempt, Outcome, Stop};
 use crate::places::places_of;
-use morph_base::{Plan, READS};
+use morph_base::{OpWord, Plan, READS};
 
 impl Board {
     /// Whether values that are not settled may be read at this attempt: at each but the last.
@@ -41,16 +41,46 @@ impl Board {
             count: 0,
             values: [0; READS],
         };
-        if let Some(Stop { source, word }) = self.load_all(hand, plan, op, &mut found) {
+        if let Some(Stop { source, word }) = self.load_all(hand, plan, op, &mut found, false) {
             return Attempt::Blocked { source, word };
         }
-        if let Some(word) = self.make(hand, op, attempt) {
-            return Attempt::Busy { word };
+        match self.take_up(hand, plan, op, attempt, &found) {
+            Ok(outcome) => Attempt::Ran(outcome),
+            Err(word) => Attempt::Busy { word },
         }
-        self.carry_out(hand, plan, op, attempt, &found)
     }
 
-    /// Claims an operation that was made ready, records the values that were loaded, and finishes it.
+    /// Makes a blocked operation ready and claims it, records the values that were loaded, and finishes it. Returns the
+    /// word that was found in place of the blocked one, or of the ready one, if it is another one.
+    #[inline(always)]
+    pub(super) fn take_up(
+        &self,
+        hand: &mut Hand,
+        plan: &Plan,
+        op: u32,
+        attempt: u8,
+        found: &Holding,
+    ) -> Result<Outcome, OpWord>
+        requires may { MayBegin self.now hand.old plan.now op }
+        requires word { IsWord (blocked_at attempt) }
+        requires fits { HasHeldValues found.now }
+        requires all { found.now.count ≡ places plan.now op }
+        requires usable { AreUsable plan.now (cap_of self.now) op attempt (view_of hand.old)
+            (fetched_of found.now) }
+        ensures hand { IsHandOf self.now hand.new }
+        ensures free { (view_of hand.new).claim ≡ None }
+        ensures answer { TakeUpDoes plan.now op attempt (fetched_of found.now) (view_of hand.old)
+            (view_of hand.new) result }
+    {
+        if let Some(word) = self.make(hand, op, attempt) {
+            return Err(word);
+        }
+        self.carry_out(hand, plan, op, attempt, found)
+    }
+
+    /// Claims an operation that was made ready, records the values that were loaded, and finishes it. Returns the word
+    /// that was found in place of the ready one, if it is another one.
+    #[inline(always)]
     fn carry_out(
         &self,
         hand: &mut Hand,
@@ -58,7 +88,7 @@ impl Board {
         op: u32,
         attempt: u8,
         found: &Holding,
-    ) -> Attempt
+    ) -> Result<Outcome, OpWord>
         requires may { MayBegin self.now hand.old plan.now op }
         requires word { IsWord (blocked_at attempt) }
         requires fits { HasHeldValues found.now }
@@ -71,21 +101,31 @@ impl Board {
             (view_of hand.new) result }
     {
         if let Some(word) = self.hold(hand, op, attempt) {
-            return Attempt::Busy { word };
+            return Err(word);
         }
         self.keep_all(hand, plan, op, found);
-        Attempt::Ran(self.finish(hand, plan, op))
+        Ok(self.finish(hand, plan, op))
     }
 
-    /// Loads each source of an operation and adds its value, place by place, up to the first source that has none.
-    fn load_all(&self, hand: &mut Hand, plan: &Plan, op: u32, found: &mut Holding) -> Option<Stop>
+    /// Loads each source of an operation and adds its value, place by place, up to the first source that has none, or
+    /// that is not settled although it is `needed` settled.
+    #[inline(always)]
+    pub(super) fn load_all(
+        &self,
+        hand: &mut Hand,
+        plan: &Plan,
+        op: u32,
+        found: &mut Holding,
+        needed: bool,
+    ) -> Option<Stop>
         requires may { MayBegin self.now hand.old plan.now op }
         requires fits { HasHeldValues found.old }
         requires none { found.old.count ≡ 0 }
-        ensures { IsAllLoaded (call_on self.now hand.old hand.new) plan.now op found.new result }
+        ensures { IsAllLoaded (call_on self.now hand.old hand.new) plan.now op needed found.old.attempt
+            found.new result }
     {
         for j in 0..places_of(plan, op) {
-            match self.source_value(hand, plan, op, j, false) {
+            match self.source_value(hand, plan, op, j, needed) {
                 Ok(value) => found.put(value),
                 Err(stop) => return Some(stop),
             }

@@ -12,9 +12,9 @@ use morph_base::{OpWord, Origin, Plan};
 impl Board {
     /// Whether each source of an operation has a value, or is settled if that is asked for. A base is always there.
     ///
-    /// The call loads the words of the sources, place by place, up to the first one that is not there. The answer is for
-    /// a worker that would wait, and nothing rests on it: the hand notes no load, and another hand may change a word
-    /// right afterwards.
+    /// The call loads the words of the sources, place by place, up to the first one that is not there. The answer is
+    /// for a worker that would wait, and nothing rests on it: the hand notes no load, and another hand may change a
+    /// word right afterwards.
     pub fn has_sources(&self, hand: &mut Hand, plan: &Plan, op: u32, settled: bool) -> bool
         requires may { MayCall self.now hand.old plan.now op }
         ensures hand { IsHandOf self.now hand.new }

@@ -6,7 +6,7 @@ use Rattle.abort_lazy.proofs.Answering.{answered_none}
 use Rattle.abort_lazy.proofs.transaction.prepare.mend.Goals as goal
 
 pub returns-in-Spread-clause-ready : goal.returns-in-Spread-clause-ready
-returns-in-Spread-clause-ready c = λ start xs found. c.redo.ensures.ready start xs (found_spread _ _ _ _ c.requires.inside found c.in-Spread.is)
+returns-in-Spread-clause-ready c = λ start xs found. c.redo_spread.ensures.ready start xs (found_spread _ _ _ _ c.requires.inside found c.in-Spread.is)
 
 pub returns-in-Blocked-clause-ready : goal.returns-in-Blocked-clause-ready
 returns-in-Blocked-clause-ready c = λ start xs found. c.run.ensures.ready start xs (found_idle _ _ _ _ c.requires.inside found (ap is_idle c.in-Blocked.is))

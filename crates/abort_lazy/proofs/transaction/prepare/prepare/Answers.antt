@@ -18,14 +18,14 @@ returns-in-Bad-clause-ready c = first_bad _ _ _ _ c.requires.inside ((subst (Ver
 pub returns-in-Bad-clause-answered : goal.returns-in-Bad-clause-answered
 returns-in-Bad-clause-answered c = answered_none _ _ _ refl refl
 
-pub redo-requires-clause-in_places : goal.redo-requires-clause-in_places
-redo-requires-clause-in_places c = (subst (VerdictAtDoes c.args.plan.now (cap_of c.args.board.now) c.args.op (hand_view c.args.runner.now) (view_of c.verdict_at-verdict.new.hand) c.verdict_at-verdict.result.0) c.in-Stale.is c.verdict_at-verdict.ensures.answer).answer.tells.stale.in_places
+pub redo_stale-requires-clause-stale : goal.redo_stale-requires-clause-stale
+redo_stale-requires-clause-stale c = (c.verdict_at-verdict.ensures.answer.stale _ _ _ c.in-Stale.is).1
 
 pub returns-in-Stale-clause-ready : goal.returns-in-Stale-clause-ready
-returns-in-Stale-clause-ready c = let old = first_stale _ _ _ _ c.requires.inside ((subst (VerdictAtDoes c.args.plan.now (cap_of c.args.board.now) c.args.op (hand_view c.args.runner.now) (view_of c.verdict_at-verdict.new.hand) c.verdict_at-verdict.result.0) c.in-Stale.is c.verdict_at-verdict.ensures.answer).answer) in c.redo.ensures.ready _ old.0 old.1
+returns-in-Stale-clause-ready c = let old = first_stale _ _ _ _ c.requires.inside (subst (VerdictAtDoes c.args.plan.now (cap_of c.args.board.now) c.args.op (hand_view c.args.runner.now) (view_of c.verdict_at-verdict.new.hand) c.verdict_at-verdict.result.0) c.in-Stale.is c.verdict_at-verdict.ensures.answer) in c.redo_stale.ensures.ready _ old.0 old.1
 
 pub returns-in-Stale-clause-answered : goal.returns-in-Stale-clause-answered
-returns-in-Stale-clause-answered c = answered_also _ _ _ _ refl refl refl refl c.redo.ensures.answered
+returns-in-Stale-clause-answered c = answered_also _ _ _ _ refl refl refl refl c.redo_stale.ensures.answered
 
 pub returns-then-at-op-clause-ready : goal.returns-then-at-op-clause-ready
 returns-then-at-op-clause-ready c = let found = first_own _ _ _ _ c.requires.inside c.if-at-op.true ((subst (VerdictAtDoes c.args.plan.now (cap_of c.args.board.now) c.args.op (hand_view c.args.runner.now) (view_of c.verdict_at-verdict.new.hand) c.verdict_at-verdict.result.0) c.in-Unready.is c.verdict_at-verdict.ensures.answer).answer) in c.mend.ensures.ready _ found.0 found.1

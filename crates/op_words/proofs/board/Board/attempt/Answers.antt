@@ -1,8 +1,8 @@
-use Rattle.std.proofs.Common.{arith, refl, inl, inr}
+use Rattle.std.proofs.Common.{arith, refl, inl, inr, false}
 use Rattle.std.proofs.lemmas.Bool.{false≢true}
 use Rattle.std.proofs.lemmas.List.Elements.{All-nil}
 use Rattle.op_words.specs.Hands.{cap_of}
-use Rattle.op_words.proofs.Attempting.{usable_loaded, kept_back, passed_by, free_made, usable_made, went_on}
+use Rattle.op_words.proofs.Attempting.{usable_loaded, kept_back, attempt_ran, attempt_busy}
 use Rattle.op_words.proofs.board.Board.attempt.Goals as goal
 
 pub load_all-requires-clause-fits : goal.load_all-requires-clause-fits
@@ -14,24 +14,18 @@ returns-in-Some-clause-answer c =
     kept_back c.args.self.now c.args.plan.now c.args.op c.args.attempt c.args.hand.now c.load_all.new.hand c.requires.may.3 d.words d.row _ d.tells.0 d.tells.1.inside
     (elim d.tells.1.cause [ inl idle ↦ idle | inr asked ↦ absurd (false≢true asked) ])
 
-pub returns-in-Some-make-clause-answer : goal.returns-in-Some-make-clause-answer
-returns-in-Some-make-clause-answer c =
+pub take_up-requires-clause-usable : goal.take_up-requires-clause-usable
+take_up-requires-clause-usable c =
     let d = c.in_default.ensures in
-    passed_by c.args.self.now c.args.plan.now c.args.op c.args.attempt c.args.hand.now c.load_all.new.hand c.requires.may.3 d.words d.row c.make.new.hand c.in-Some-make.word c.in-Some-make.ensures.0 c.in-Some-make.ensures.1
+    usable_loaded c.args.self.now c.args.plan.now (cap_of c.args.self.now) c.args.op c.args.attempt false c.args.hand.now c.load_all.new.hand d.words _ d.row
+    (let below = c.requires.below in λ last. absurd (omega (arith, last, below))) d.tells.1
 
-pub carry_out-requires-clause-may : goal.carry_out-requires-clause-may
-carry_out-requires-clause-may c =
+pub returns-in-Ok-clause-answer : goal.returns-in-Ok-clause-answer
+returns-in-Ok-clause-answer c =
     let d = c.in_default.ensures in
-    (c.in_default-make.ensures.hand, c.requires.may.1, c.requires.may.2, free_made c.args.self.now c.args.plan.now c.args.op c.args.attempt c.args.hand.now c.load_all.new.hand c.requires.may.3 d.words d.row c.make.new.hand c.in_default-make.ensures)
+    attempt_ran c.args.self.now c.args.plan.now c.args.op c.args.attempt c.args.hand.now c.load_all.new.hand c.requires.may.3 d.words d.row _ c.take_up.new.hand c.in-Ok.ensures.free c.in-Ok.outcome d.tells.1 c.in-Ok.ensures.answer
 
-pub carry_out-requires-clause-usable : goal.carry_out-requires-clause-usable
-carry_out-requires-clause-usable c =
+pub returns-in-Err-clause-answer : goal.returns-in-Err-clause-answer
+returns-in-Err-clause-answer c =
     let d = c.in_default.ensures in
-    usable_made c.args.self.now c.args.plan.now c.args.op c.args.attempt c.args.hand.now c.load_all.new.hand c.requires.may.3 d.words d.row c.make.new.hand c.in_default-make.ensures _ _
-    (usable_loaded c.args.self.now c.args.plan.now (cap_of c.args.self.now) c.args.op c.args.attempt c.args.hand.now c.load_all.new.hand d.words _ d.row c.requires.below d.tells.1)
-
-pub returns-clause-answer : goal.returns-clause-answer
-returns-clause-answer c =
-    let d = c.in_default.ensures in
-    went_on c.args.self.now c.args.plan.now c.args.op c.args.attempt c.args.hand.now c.load_all.new.hand c.requires.may.3 d.words d.row c.make.new.hand c.in_default-make.ensures _ d.tells.1 c.carry_out.new.hand c.carry_out.result
-    c.carry_out.ensures.free c.carry_out.ensures.answer
+    attempt_busy c.args.self.now c.args.plan.now c.args.op c.args.attempt c.args.hand.now c.load_all.new.hand c.requires.may.3 d.words d.row _ c.take_up.new.hand c.in-Err.ensures.free c.in-Err.word c.in-Err.ensures.answer

@@ -41,15 +41,16 @@ first_none xs from at point high x inside =
 
 -- ---- the readers of one operation
 
-module _ (p : Plan) (graph : IsGraph p) where
-  pub many_lists : length p.dependents ≡ op_count p
+-- rows that are the plan's dependents
+module _ (p : Plan) (graph : IsGraph p) (rows : List (List ℕ)) (are : rows ≡ p.dependents) where
+  pub many_lists : length rows ≡ op_count p
   many_lists =
-      ap length graph.dependents_are
+      ap length (are ∙ graph.dependents_are)
       ∙ length-map-range_with_len (λ o. filter (reads_from p o) (below (op_count p))) 0 (op_count p)
 
-  pub readers_are : (k : ℕ) → k < op_count p → get_or p.dependents k [] ≡ filter (reads_from p k) (below (op_count p))
+  pub readers_are : (k : ℕ) → k < op_count p → get_or rows k [] ≡ filter (reads_from p k) (below (op_count p))
   readers_are k lt =
-      ap (λ ls. get_or ls k []) graph.dependents_are
+      ap (λ ls. get_or ls k []) (are ∙ graph.dependents_are)
       ∙ get_or-map-range_with_len (λ o. filter (reads_from p o) (below (op_count p))) 0 (op_count p) k k [] lt (omega arith)
 
 module _ (p : Plan) (k : ℕ) (xs : List ℕ) (is : xs ≡ filter (reads_from p k) (below (op_count p))) where

@@ -1,5 +1,6 @@
 //! Attempts at operations, and the cascades that follow them.
 ghost use Rattle.std.specs.Prelude.{◌≡◌, true, Some};
+ghost use Rattle.morph_base.specs.declared.strategy.Abort.TheVariants.{Eager};
 ghost use Rattle.op_words.specs.Hands.{cap_of};
 ghost use Rattle.op_words.specs.Views.{HasShownFailure};
 ghost use Rattle.op_eval.specs.declared.runner.Runner.{Runner as R};
@@ -51,13 +52,19 @@ pub trait Notes {
 /// Runs the cascade of an operation to its end.
 fn run_cascade<N: Notes>(ground: &Ground<'_>, notes: &N, runner: &mut Runner, op: u32, failed: bool)
     requires may { MayTry ground.now runner.old op }
+    requires eager { ground.now.abort ≡ Eager }
     requires cause { failed ≡ true → HasShownFailure (hand_view runner.old) op }
     ensures idle { IsFreeRunner ground.now.board.now runner.new }
     ensures sweeps { SweepsAll ground.now.plan.now (cap_of ground.now.board.now) N.leaves
         (targets ground.now.plan.now op failed) runner.old runner.new }
 {
     let mut cascade = Cascade::start(ground.plan, op, failed);
-    while let Some(touched) = cascade.next(ground.board, &mut runner.hand, ground.plan) {
+    while let Some(touched) = cascade.next(
+        ground.board,
+        &mut runner.hand,
+        ground.plan,
+        ground.dependents,
+    ) {
         notes.note(ground, runner, touched);
     }
 }

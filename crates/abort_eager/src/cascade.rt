@@ -9,7 +9,7 @@ ghost use Rattle.abort_eager.specs.Touching.{HasCause, CanTouch, Touches, NextDo
 
 use crate::answers::{Target, Touch, Touched};
 use crate::search::{place_from, reader_from};
-use morph_base::Plan;
+use morph_base::{Plan, Rows};
 use op_words::{Board, Hand};
 
 /// The targets of an operation that failed, or that ran again, as a position among them.
@@ -111,8 +111,9 @@ impl Cascade {
     }
 
     /// Takes the first target that is left.
-    fn pop(&mut self, plan: &Plan) -> Option<Target>
+    fn pop(&mut self, plan: &Plan, dependents: &Rows) -> Option<Target>
         requires plan { IsValidPlan plan.now }
+        requires dependents { dependents.now ≡ plan.now.dependents }
         requires cascade { IsCascade plan.now self.old }
         ensures goes { GoesOn plan.now self.old self.new }
         ensures pops { Pops plan.now self.old self.new result }
@@ -122,12 +123,13 @@ impl Cascade {
             self.sibling = op + 1;
             return Some(Target::Spread { op });
         }
-        self.pop_place(plan)
+        self.pop_place(plan, dependents)
     }
 
     /// Takes the first place that is left.
-    fn pop_place(&mut self, plan: &Plan) -> Option<Target>
+    fn pop_place(&mut self, plan: &Plan, dependents: &Rows) -> Option<Target>
         requires plan { IsValidPlan plan.now }
+        requires dependents { dependents.now ≡ plan.now.dependents }
         requires cascade { IsCascade plan.now self.old }
         ensures pops { PlacePops plan.now self.old self.new result }
     {
@@ -139,21 +141,20 @@ impl Cascade {
                     place,
                 })
             }
-            None => self.pop_reader(plan),
+            None => self.pop_reader(plan, dependents),
         }
     }
 
     /// Takes the first place of the next reader, once the present one has none left.
-    fn pop_reader(&mut self, plan: &Plan) -> Option<Target>
+    fn pop_reader(&mut self, plan: &Plan, dependents: &Rows) -> Option<Target>
         requires plan { IsValidPlan plan.now }
+        requires dependents { dependents.now ≡ plan.now.dependents }
         requires cascade { IsCascade plan.now self.old }
         requires none { IsFirstPlace plan.now self.old.first self.old.end self.old.reader
             self.old.place None }
         ensures pops { PlacePops plan.now self.old self.new result }
     {
-        let Some(reader) = reader_from(plan, self.first, self.end, self.reader + 1) else {
-            return None;
-        };
+        let reader = reader_from(plan, dependents, self.first, self.end, self.reader + 1)?;
         let Some(place) = place_from(plan, self.first, self.end, reader, 0) else {
             unreachable!()
         };
@@ -164,12 +165,19 @@ impl Cascade {
 
     /// Touches the next target, and says what became of it. `None` means that all were touched.
     ///
-    /// If the cascade was started for a failure, the hand has shown a failure of its operation. The hand holds nothing
-    /// before and after. The call takes no memory and waits for nobody.
-    pub fn next(&mut self, board: &Board, hand: &mut Hand, plan: &Plan) -> Option<Touched>
+    /// If the cascade was started for a failure, the hand has shown a failure of its operation. The dependents are the
+    /// plan's. The hand holds nothing before and after. The call takes no memory and waits for nobody.
+    pub fn next(
+        &mut self,
+        board: &Board,
+        hand: &mut Hand,
+        plan: &Plan,
+        dependents: &Rows,
+    ) -> Option<Touched>
         requires hand { IsHandOf board.now hand.old }
         requires plan { plan.now ≡ plan_of board.now }
         requires valid { IsValidPlan plan.now }
+        requires dependents { dependents.now ≡ plan.now.dependents }
         requires cascade { IsCascade plan.now self.old }
         requires free { (view_of hand.old).claim ≡ None }
         requires cause { HasCause self.old (view_of hand.old) }
@@ -181,7 +189,7 @@ impl Cascade {
         ensures free { (view_of hand.new).claim ≡ None }
         ensures cause { HasCause self.new (view_of hand.new) }
     {
-        let target = self.pop(plan)?;
+        let target = self.pop(plan, dependents)?;
         Some(touch(board, hand, plan, self.op, target))
     }
 }

@@ -2,11 +2,12 @@
 //! operations at once, on the board that workers share.
 //!
 //! A [`Cascade`] spreads a failure to the other operations of its event, and rolls back what read a value that is no
-//! longer right, one target at a time. It is a position among its targets, and keeps no list of them.
+//! longer right, one target at a time. It is a position among its targets, and keeps no list of them. What read from an
+//! operation it takes from the plan's dependents, which the caller passes.
 //!
 //! ```text
 //! let mut cascade = Cascade::start(&plan, op, failed);
-//! while let Some(touched) = cascade.next(&board, &mut hand, &plan) {
+//! while let Some(touched) = cascade.next(&board, &mut hand, &plan, &dependents) {
 //!     // Touch::RolledBack: its level has to be passed again
 //! }
 //! ```

@@ -6,7 +6,7 @@ ghost use Rattle.morph_base.specs.Graphs.{IsValidPlan};
 ghost use Rattle.abort_eager.specs.Targets.{is_among};
 ghost use Rattle.abort_eager.specs.Finding.{IsFirstAt, IsLesser, IsFirstReader, IsFirstPlace};
 
-use morph_base::{Origin, Plan};
+use morph_base::{Origin, Plan, Rows};
 use op_words::places_of;
 
 /// The first number of a rising list that is not below `from`.
@@ -34,15 +34,22 @@ fn lesser(a: Option<u32>, b: Option<u32>) -> Option<u32>
 }
 
 /// The first operation from `from` on that reads from one of the operations from `first` up to `end`.
-pub(crate) fn reader_from(plan: &Plan, first: u32, end: u32, from: u32) -> Option<u32>
+pub(crate) fn reader_from(
+    plan: &Plan,
+    dependents: &Rows,
+    first: u32,
+    end: u32,
+    from: u32,
+) -> Option<u32>
     requires plan { IsValidPlan plan.now }
+    requires dependents { dependents.now ≡ plan.now.dependents }
     requires first { first ≤ end }
     requires end { end ≤ op_count plan.now }
     ensures { IsFirstReader plan.now first end from result }
 {
     let mut least = None;
     for op in first..end {
-        least = lesser(least, first_at(plan.dependents.row(op as usize), from));
+        least = lesser(least, first_at(dependents.row(op as usize), from));
     }
     least
 }

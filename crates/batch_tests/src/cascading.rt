@@ -6,15 +6,22 @@ ghost use Rattle.op_words.specs.Hands.{plan_of, view_of, IsHandOf};
 use crate::board::{evaluate, fails};
 use crate::four_events::plan;
 use abort_eager::{Cascade, Touch, Touched};
-use morph_base::{OpState, OpWord, Plan};
+use morph_base::{OpState, OpWord, Plan, Rows};
 use op_words::{Board, Hand};
+use precedence_graph::dependents;
 use std::test::Fail;
 
 /// What becomes of the first three targets after operation 3 failed. It is `None` if operation 3 did not fail.
-fn first_three(board: &Board, hand: &mut Hand, plan: &Plan) -> Option<[Option<Touched>; 3]>
+fn first_three(
+    board: &Board,
+    hand: &mut Hand,
+    plan: &Plan,
+    readers: &Rows,
+) -> Option<[Option<Touched>; 3]>
     requires hand { IsHandOf board.now hand.old }
     requires plan { plan.now ≡ plan_of board.now }
     requires valid { IsValidPlan plan.now }
+    requires readers { readers.now ≡ plan.now.dependents }
     requires free { (view_of hand.old).claim ≡ None }
 {
     if plan.ops.len() != 14 {
@@ -27,9 +34,9 @@ fn first_three(board: &Board, hand: &mut Hand, plan: &Plan) -> Option<[Option<To
         return None;
     }
     let mut cascade = Cascade::start(plan, 3, true);
-    let first = cascade.next(board, hand, plan);
-    let second = cascade.next(board, hand, plan);
-    let third = cascade.next(board, hand, plan);
+    let first = cascade.next(board, hand, plan, readers);
+    let second = cascade.next(board, hand, plan, readers);
+    let third = cascade.next(board, hand, plan, readers);
     Some([first, second, third])
 }
 
@@ -57,7 +64,8 @@ fn a_failure_goes_through_its_event(rt: HostRuntime) -> Result<(), Fail> {
         op: 2,
         touch: Touch::Spread,
     });
-    let touched = first_three(&board, &mut root, &plan);
+    let readers = dependents(rt.alloc(), &plan)?;
+    let touched = first_three(&board, &mut root, &plan, &readers);
     assert_eq!(rt; touched, Some([spread, stopped(4), stopped(5)]));
     Ok(())
 }

@@ -8,6 +8,7 @@ use chain_units::units;
 use morph_base::{Abort, Batch, Func, Key, List, Op, OutOfMemory, Plan, Unit};
 use op_eval::{RunEnd, Runners};
 use op_words::{Board, Counts};
+use precedence_graph::dependents;
 use std::alloc::Global;
 use std::test::Fail;
 use std::thread::Threads;
@@ -71,7 +72,8 @@ fn explored<R: Threads + Sync>(
     let units = units(alloc, plan, Unit::Op)?;
     let (board, root) = Board::new(alloc, plan, cap, counters(plan))?;
     let runners = Runners::new(alloc, &board, root, 1, plan.events.len() as u32)?;
-    let explored = explore(rt, board, runners, plan, &units, abort, &FreeGate);
+    let readers = dependents(alloc, plan)?;
+    let explored = explore(rt, board, runners, plan, &units, abort, &readers, &FreeGate);
     let (_, mut runners, end, passes) = explored.parts();
     Ok((end, passes, runners.runner(1).hand.counts()))
 }

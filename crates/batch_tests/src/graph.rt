@@ -1,6 +1,9 @@
+ghost use Rattle.std.specs.Prelude.{IfOk};
+ghost use Rattle.morph_base.specs.Graphs.{IsValidPlan};
+
 use crate::four_events::batch_of;
 use morph_base::{Edges, List, Origin, OutOfMemory, Plan, PlanOps, Rows};
-use precedence_graph::build;
+use precedence_graph::{build, dependents};
 use std::alloc::Global;
 use std::process::Abort;
 use std::test::Fail;
@@ -100,7 +103,9 @@ fn joined_rows(alloc: Global, rows: &Rows) -> Result<Vec<u32>, OutOfMemory> {
 }
 
 /// The plan of the events in this order of arrival.
-fn built(rt: &impl Abort, alloc: Global, times: &[u64]) -> Result<Plan, OutOfMemory> {
+fn built(rt: &impl Abort, alloc: Global, times: &[u64]) -> Result<Plan, OutOfMemory>
+    ensures { IfOk result IsValidPlan }
+{
     let batch = batch_of(alloc, times)?;
     assert!(rt; batch.is_valid());
     let txns = split(alloc, &batch)?;
@@ -143,8 +148,8 @@ fn operations_and_events(rt: HostRuntime) -> Result<(), Fail> {
 fn dependencies_and_levels(rt: HostRuntime) -> Result<(), Fail> {
     let plan = built(&rt, rt.alloc(), &[4, 3, 2, 1])?;
     assert_eq!(rt; plan.edges, EDGES);
-    let dependents = joined_rows(rt.alloc(), &plan.dependents)?;
-    assert_eq!(rt; dependents.as_slice(), DEPENDENTS.as_slice());
+    let readers = joined_rows(rt.alloc(), &dependents(rt.alloc(), &plan)?)?;
+    assert_eq!(rt; readers.as_slice(), DEPENDENTS.as_slice());
     let op_levels = joined(rt.alloc(), &plan.op_levels)?;
     assert_eq!(rt; op_levels.as_slice(), OP_LEVELS.as_slice());
     let event_levels = joined(rt.alloc(), &plan.event_levels)?;

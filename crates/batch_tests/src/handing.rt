@@ -10,6 +10,7 @@ use chain_units::units;
 use morph_base::{Abort, Batch, Func, Key, Op, OpState, OutOfMemory, Plan, Unit};
 use op_eval::{RunEnd, Runners};
 use op_words::Board;
+use precedence_graph::dependents;
 use std::alloc::Global;
 use std::hint::spin_loop;
 use std::sync::atomic::{AtomicBool, Ordering};
@@ -44,7 +45,18 @@ fn explore_by<R: Threads + Sync, G: Gate>(
     let (board, root) = Board::new(alloc, plan, 1, 0)?;
     let runners = Runners::new(alloc, &board, root, workers, plan.events.len() as u32)?;
     let deques = Deques::new(alloc, plan, workers)?;
-    let (explored, handed) = explore(rt, board, runners, deques, plan, &units, Abort::Lazy, gate);
+    let readers = dependents(alloc, plan)?;
+    let (explored, handed) = explore(
+        rt,
+        board,
+        runners,
+        deques,
+        plan,
+        &units,
+        Abort::Lazy,
+        &readers,
+        gate,
+    );
     let (board, mut runners, end, _) = explored.parts();
     let runner = runners.runner(1);
     Ok(Explored {

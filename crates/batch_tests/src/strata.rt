@@ -2,9 +2,10 @@
 use crate::four_events::plan;
 use crate::runners::words_of;
 use chain_units::units;
-use morph_base::{Abort, OpState, Unit};
+use morph_base::{Abort, OpState, Rows, Unit};
 use op_eval::{Answers, RunEnd, Runners};
 use op_words::Board;
+use precedence_graph::dependents;
 use std::test::Fail;
 use strata_explorer::{counters, explore};
 use worker_gate::FreeGate;
@@ -34,7 +35,17 @@ fn one_runner_explores(rt: HostRuntime) -> Result<(), Fail> {
     let units = units(rt.alloc(), &plan, Unit::Op)?;
     let (board, root) = Board::new(rt.alloc(), &plan, 1, counters(&plan))?;
     let runners = Runners::new(rt.alloc(), &board, root, 1, plan.events.len() as u32)?;
-    let explored = explore(&rt, board, runners, &plan, &units, Abort::Lazy, &FreeGate);
+    let none = Rows::none(rt.alloc());
+    let explored = explore(
+        &rt,
+        board,
+        runners,
+        &plan,
+        &units,
+        Abort::Lazy,
+        &none,
+        &FreeGate,
+    );
     let (board, mut runners, end, passes) = explored.parts();
     assert_eq!(rt;
         (end, passes as usize),

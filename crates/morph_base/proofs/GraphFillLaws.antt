@@ -10,6 +10,7 @@ use Rattle.morph_base.specs.declared.plan.PlanOp.{PlanOp}
 use Rattle.morph_base.specs.declared.plan.Plan.{Plan}
 use Rattle.morph_base.specs.Operations.{reads}
 use Rattle.morph_base.specs.States.{State}
+use Rattle.morph_base.specs.Readers.{sources_of}
 use Rattle.morph_base.specs.Plans.{op_count, event_at, op_at, origin_at, origins_of, filled_in, filled, filled_plan}
 use Rattle.morph_base.specs.Graphs.{greatest, is_written, is_written_by, below, op_level, event_level, ops_in, event_origins, reads_from, op_depth, IsGraph}
 use Rattle.morph_base.proofs.FillLaws.{shape, shapes-filled_in, op_at-kept, op_count-filled, event_of-filled}
@@ -54,11 +55,7 @@ event_level-shape : (p : Plan) (origin : Origin) → event_level p origin ≡ ev
 event_level-shape p (Base v) = refl
 event_level-shape p (Written t) = refl
 
--- the sources that an operation uses
-abbrev used : PlanOp → List Origin
-used q = take (length (reads q.op)) q.origins
-
-used-filled : (s : State) (q : PlanOp) → map shape (used (filled s q)) ≡ map shape (used q)
+used-filled : (s : State) (q : PlanOp) → map shape (sources_of (filled s q)) ≡ map shape (sources_of q)
 used-filled s q =
     let n : ℕ = length (reads q.op) in
     sym (take-map shape n (filled_in s (reads q.op) q.origins))
@@ -72,7 +69,7 @@ get_or-shape (origin ∷ origins) (suc j) = get_or-shape origins j
 
 module _ (s : State) (p : Plan) where
   shapes-filled : (o : ℕ) → map shape (origins_of (filled_plan s p) o) ≡ map shape (origins_of p o)
-  shapes-filled = op_at-kept s p (λ q. map shape (used q)) (used-filled s)
+  shapes-filled = op_at-kept s p (λ q. map shape (sources_of q)) (used-filled s)
 
   parts-filled : {X : Type 0} (part : Origin → X) → ((origin : Origin) → part origin ≡ part (shape origin))
       → (o : ℕ) → map part (origins_of (filled_plan s p) o) ≡ map part (origins_of p o)

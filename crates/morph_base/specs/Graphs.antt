@@ -1,9 +1,11 @@
 -- The graph of a plan: levels, dependents, level lists and the counts of dependencies
 use Rattle.std.specs.Prelude.{◌≡◌, ℕ, ◌+◌, ◌-◌, ◌*◌, ◌/◌, ◌<◌, Bool, true, false, ◌==◌, List, [], ◌∷◌, drop, map, filter, max, count_by, sum_by}
-use Rattle.std.specs.List.{list_any, flat_map, range_with_len}
+use Rattle.std.specs.List.{flat_map, range_with_len}
 use Rattle.morph_base.specs.declared.plan.Origin.{Origin}
 use Rattle.morph_base.specs.declared.plan.Origin.TheVariants.{Base, Op as Written}
 use Rattle.morph_base.specs.declared.plan.Plan.{Plan}
+pub use Rattle.morph_base.specs.Readers.{is_written_by, below}
+use Rattle.morph_base.specs.Readers.{reads_among, dependents_in}
 use Rattle.morph_base.specs.Plans.{event_count, op_count, event_at, op_at, event_of, origin_at, origins_of, IsPlan}
 
 -- The greatest of some numbers, or 0 if there is none
@@ -16,19 +18,10 @@ abbrev pub is_written : Origin → Bool
 is_written (Base v) = false
 is_written (Written s) = true
 
--- The test whether a value comes from operation o
-abbrev pub is_written_by : ℕ → Origin → Bool
-is_written_by o (Base v) = false
-is_written_by o (Written s) = s == o
-
 -- The level of a source, if operation s has level `level s`. A base has level 0
 abbrev pub level_of : (ℕ → ℕ) → Origin → ℕ
 level_of level (Base v) = 0
 level_of level (Written s) = level s
-
--- The numbers below n, rising
-abbrev pub below : ℕ → List ℕ
-below n = range_with_len 0 n
 
 module _ (p : Plan) where
   -- The level of a source: that of its operation, or 0 for a base
@@ -49,7 +42,7 @@ module _ (p : Plan) where
 
   -- The test whether operation t reads from operation o
   abbrev pub reads_from : ℕ → ℕ → Bool
-  reads_from o t = list_any (is_written_by o) (origins_of p t)
+  reads_from o t = reads_among p.ops.items o t
 
   -- The number of levels of operations
   abbrev pub op_depth : ℕ
@@ -68,7 +61,7 @@ module _ (p : Plan) where
     pub event_level_is : (i : ℕ) → i < event_count p
         → (event_at p i).level ≡ 1 + greatest (map event_level (event_origins i))
     -- Each operation has as its dependents all that read from it, rising, each once
-    pub dependents_are : p.dependents ≡ map (λ o. filter (reads_from o) (below (op_count p))) (below (op_count p))
+    pub dependents_are : p.dependents ≡ dependents_in p.ops.items
     -- Each level, from 1 on, has a list of all that are on it, rising
     pub op_levels_are : map (λ l. l.items) p.op_levels.items ≡ map (λ l. filter (λ o. (op_at p o).level == l + 1) (below (op_count p))) (below op_depth)
     pub event_levels_are : map (λ l. l.items) p.event_levels.items ≡ map (λ l. filter (λ i. (event_at p i).level == l + 1) (below (event_count p))) (below event_depth)

@@ -9,6 +9,7 @@ pub mod EventHeads
 pub mod Flat
 pub mod Numbering
 pub mod Sources
+pub mod Readers
 pub mod Plans
 pub mod Graphs
 pub mod Clean

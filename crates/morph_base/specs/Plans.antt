@@ -1,5 +1,5 @@
 -- A plan: what its numbers name, when it is valid, what the fold makes of it, and what a `Settled` of it is
-use Rattle.std.specs.Prelude.{◌≡◌, ℕ, ◌+◌, ◌≤◌, ◌<◌, Bool, List, [], ◌∷◌, length, take, drop, map, replicate, All, Option, Some, None, if◌then◌else◌, unwrap_or, slice_index, slice_index_or}
+use Rattle.std.specs.Prelude.{◌≡◌, ℕ, ◌+◌, ◌≤◌, ◌<◌, Bool, List, [], ◌∷◌, length, take, drop, map, All, Option, Some, None, if◌then◌else◌, unwrap_or, slice_index, slice_index_or}
 use Rattle.morph_base.specs.declared.limits.TheConstants.{READS}
 use Rattle.morph_base.specs.declared.key.Key.{Key}
 use Rattle.morph_base.specs.declared.key.Layout.{Layout}
@@ -12,15 +12,12 @@ use Rattle.morph_base.specs.declared.plan.Plan.{Plan}
 use Rattle.morph_base.specs.declared.plan.Settled.{Settled}
 use Rattle.morph_base.specs.Operations.{reads, same_key, no_key, InLayout}
 pub use Rattle.morph_base.specs.Operations.{no_op}
+pub use Rattle.morph_base.specs.Readers.{no_plan_op}
 use Rattle.morph_base.specs.Transactions.{Transaction, transactions_of, by_time}
 use Rattle.morph_base.specs.States.{State, after_all, commits}
 use Rattle.morph_base.specs.Limits.{most_workers}
 use Rattle.morph_base.specs.Numbering.{numbers, EventNumbers, IsNumbering, IsWithin}
 use Rattle.morph_base.specs.Sources.{IsSource, IsLastWriter, IsUnwritten}
-
--- The operation that is read past the end of a plan's operations
-abbrev pub no_plan_op : PlanOp
-no_plan_op = record { op = no_op; event = 0; origins = replicate READS (Base 0); level = 0 }
 
 -- The event that is read past the end of a plan's events
 abbrev pub no_event : PlanEvent

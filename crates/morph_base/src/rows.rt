@@ -2,6 +2,7 @@ ghost use Rattle.std.specs.Prelude.{◌≡◌, ◌<◌, ◌↔◌, length, slice
 ghost use Rattle.morph_base.specs.Rows.{AreRows, rows_of, start_of};
 
 use crate::list::List;
+use std::alloc::Global;
 use std::marker::Model;
 
 /// Rows of numbers, one behind another in a single list.
@@ -52,6 +53,13 @@ impl Rows {
         ensures { result ≡ rows_of ends.items items.items }
     {
         Rows { ends, items }
+    }
+
+    /// No rows. They take no memory.
+    pub fn none(alloc: Global) -> Self
+        ensures { result ≡ [] }
+    {
+        Rows::new(List::new(alloc), List::new(alloc))
     }
 
     /// How many rows there are.

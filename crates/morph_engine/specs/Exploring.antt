@@ -2,7 +2,7 @@
 use Rattle.std.specs.Prelude.{◌≡◌, ◌⊎◌, ℕ, ◌+◌, ◌<◌, ◌≤◌, List, [], All, Contains, length, sum_by}
 use Rattle.morph_base.specs.declared.plan.Plan.{Plan}
 use Rattle.morph_base.specs.declared.strategy.Abort.{Abort}
-use Rattle.morph_base.specs.declared.strategy.Abort.TheVariants.{Lazy}
+use Rattle.morph_base.specs.declared.strategy.Abort.TheVariants.{Eager, Lazy}
 use Rattle.morph_base.specs.declared.strategy.Explore.{Explore}
 use Rattle.morph_base.specs.declared.strategy.Explore.TheVariants.{Strata, Steal}
 use Rattle.morph_base.specs.Graphs.{below}
@@ -30,6 +30,14 @@ explore_of (Deques crew) = Steal
 abbrev pub IsSupply : Plan → (workers : ℕ) → Supply → Type 0
 IsSupply p workers Counters = Unit {0}
 IsSupply p workers (Deques crew) = IsCrew p workers crew
+
+-- Exploring in this way with this abort asks which operations read from one
+abbrev pub NeedsDependents : Explore → Abort → Type 0
+NeedsDependents explore abort = (explore ≡ Steal) ⊎ (abort ≡ Eager)
+
+-- The rows are the dependents of the plan, if exploring in this way with this abort needs them
+abbrev pub HasDependentsFor : Plan → Explore → Abort → List (List ℕ) → Type 0
+HasDependentsFor p explore abort rows = NeedsDependents explore abort → rows ≡ p.dependents
 
 -- ---- operations that were handed out
 

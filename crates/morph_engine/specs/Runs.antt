@@ -35,7 +35,7 @@ use Rattle.worker_gate.specs.Sharing.{shared_from}
 use Rattle.morph_engine.specs.declared.prepared.Prepared.{Prepared}
 use Rattle.morph_engine.specs.Caps.{cap_for}
 use Rattle.morph_engine.specs.Teams.{IsTeam}
-use Rattle.morph_engine.specs.Exploring.{IsSupply, Items, AreBalanced, AreOwn, ArePassed}
+use Rattle.morph_engine.specs.Exploring.{explore_of, IsSupply, HasDependentsFor, Items, AreBalanced, AreOwn, ArePassed}
 
 -- ---- before
 
@@ -52,7 +52,8 @@ abbrev pub workers_of : Prepared → ℕ
 workers_of x = length (runners_of x.runners) + x.idle
 
 -- The memory for a batch is taken: a board for the plan, with the cap of its abort and counters for all passes and the
--- levels of events; units; runners that can explore; what they take operations from; and room for what is settled
+-- levels of events; units; runners that can explore; what they take operations from; the dependents, if they are
+-- needed; and room for what is settled
 pub record IsPrepared (p : Plan) (x : Prepared) : Type 0 where
   pub plan : plan_of x.board ≡ p
   pub cap : cap_of x.board ≡ cap_for x.abort
@@ -64,6 +65,7 @@ pub record IsPrepared (p : Plan) (x : Prepared) : Type 0 where
   pub few : workers_of x ≤ most_workers
   pub team : IsTeam p (workers_of x) (length (runners_of x.runners))
   pub supply : IsSupply p (length (runners_of x.runners)) x.supply
+  pub dependents : HasDependentsFor p (explore_of x.supply) x.abort x.dependents
   pub room : IsRoomFor p x.room
 
 -- The root's hand has room for n steps in its journal

@@ -15,7 +15,7 @@ ghost use Rattle.op_words.specs.Hands.{plan_of, cap_of};
 
 use crate::supply::Tallied;
 use chain_units::Units;
-use morph_base::{Abort, List, OutOfMemory, Plan};
+use morph_base::{Abort, List, OutOfMemory, Plan, Rows};
 use op_eval::{Explored, Runner, Runners};
 use op_words::Board;
 use std::alloc::Global;
@@ -131,6 +131,7 @@ impl Crew {
         plan: &Plan,
         units: &Units,
         abort: Abort,
+        dependents: &Rows,
         gate: &G,
     ) -> (Explored, Tallied)
         requires valid { IsValidPlan plan.now }
@@ -140,6 +141,7 @@ impl Crew {
         requires cap { 1 ≤ cap_of board }
         requires ready { MayExplore board 0 runners }
         requires crew { IsCrew plan.now (length (runners_of runners)) self }
+        requires dependents { dependents.now ≡ plan.now.dependents }
         ensures explored { IsExploredBoard result.0 }
         ensures board { result.0.board ≡ board }
         ensures hands { HaveGoneOn (runners_of runners) (runners_of result.0.runners) }
@@ -157,7 +159,7 @@ impl Crew {
         let mut runners = runners;
         set_aside(&mut runners, idle, &mut waiting);
         let (explored, handed) = steal_explorer::explore(
-            rt, board, runners, deques, plan, units, abort, gate,
+            rt, board, runners, deques, plan, units, abort, dependents, gate,
         );
         let explored = with_waiting(explored, waiting);
         let tallied = Tallied {

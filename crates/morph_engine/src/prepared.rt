@@ -1,5 +1,5 @@
 //! What a batch takes its memory for, and its run with that, which takes none.
-ghost use Rattle.std.specs.Prelude.{◌≡◌, ℕ, ◌≤◌, ◌<◌, IfOk, map};
+ghost use Rattle.std.specs.Prelude.{◌≡◌, ◌↔◌, ℕ, ◌≤◌, ◌<◌, IfOk, IsTrue, map};
 ghost use Rattle.morph_base.specs.Graphs.{IsValidPlan};
 ghost use Rattle.morph_base.specs.Limits.{most_attempts, most_workers};
 ghost use Rattle.morph_base.specs.Plans.{IsPlan, IsSettledOf};
@@ -7,16 +7,17 @@ ghost use Rattle.op_words.specs.Hands.{plan_of, cap_of as cap_of_board, counters
 ghost use Rattle.op_words.specs.Journals.{roomed};
 ghost use Rattle.op_words.specs.Rule.{first_view};
 ghost use Rattle.morph_engine.specs.Caps.{cap_for};
-ghost use Rattle.morph_engine.specs.Exploring.{explore_of};
+ghost use Rattle.morph_engine.specs.Exploring.{explore_of, NeedsDependents, HasDependentsFor};
 ghost use Rattle.morph_engine.specs.Runs.{run_outcome, workers_of, IsPrepared, HasJournalRoom, HasRun, IsJournalledRun};
 
 use crate::supply::{Supply, Tallied, explore_by};
 use crate::team::team_for;
 use abort_lazy::{Room, finish, settle_all};
 use chain_units::{Units, units};
-use morph_base::{Abort, List, OutOfMemory, Plan, Settled, Strategy};
+use morph_base::{Abort, Explore, List, OutOfMemory, Plan, Rows, Settled, Strategy};
 use op_eval::{Left, Runners};
 use op_words::{Board, Closed, Hand};
+use precedence_graph::dependents;
 use std::alloc::Global;
 use std::thread::Threads;
 use strata_explorer::counters;
@@ -60,6 +61,26 @@ fn board_for(
     Ok((board, root))
 }
 
+/// Whether workers ask which operations read from one, while they explore by this strategy.
+fn needs_dependents(strategy: &Strategy) -> bool
+    ensures { IsTrue result ↔ NeedsDependents strategy.now.explore strategy.now.abort }
+{
+    strategy.explore == Explore::Steal || strategy.abort == Abort::Eager
+}
+
+/// Makes the lists of what reads from each operation, if this strategy needs them. They take time for each dependency
+/// of the batch.
+fn dependents_for(alloc: Global, plan: &Plan, strategy: &Strategy) -> Result<Rows, OutOfMemory>
+    requires valid { IsValidPlan plan.now }
+    ensures { IfOk result (HasDependentsFor plan.now strategy.now.explore strategy.now.abort) }
+{
+    if needs_dependents(strategy) {
+        dependents(alloc, plan)
+    } else {
+        Ok(Rows::none(alloc))
+    }
+}
+
 /// All that a batch takes its memory for, before its first worker runs.
 pub(crate) struct Prepared {
     abort: Abort,
@@ -70,6 +91,8 @@ pub(crate) struct Prepared {
     /// How many more workers there are.
     idle: u32,
     supply: Supply,
+    /// For each operation those that read from it, if workers need them.
+    dependents: Rows,
     room: Room,
 }
 
@@ -83,6 +106,7 @@ impl Drop for Prepared {
             runners: _,
             idle: _,
             supply: _,
+            dependents: _,
             room: _,
         } = self;
     }
@@ -123,6 +147,7 @@ impl Prepared {
         let team = team_for(plan, workers, side_by_side);
         let runners = Runners::new(alloc, &board, root, team, plan.events.len() as u32)?;
         let supply = Supply::new(alloc, plan, strategy.explore, team, side_by_side)?;
+        let dependents = dependents_for(alloc, plan, strategy)?;
         let room = Room::new(alloc, plan)?;
         Ok(Prepared {
             abort: strategy.abort,
@@ -131,6 +156,7 @@ impl Prepared {
             runners,
             idle: workers - team,
             supply,
+            dependents,
             room,
         })
     }
@@ -161,9 +187,20 @@ impl Prepared {
             runners,
             idle,
             supply,
+            dependents,
             room,
         } = self;
-        let (explored, tallied) = explore_by(rt, board, runners, supply, plan, &units, abort, gate);
+        let (explored, tallied) = explore_by(
+            rt,
+            board,
+            runners,
+            supply,
+            plan,
+            &units,
+            abort,
+            &dependents,
+            gate,
+        );
         let (closed, left) = settle_all(rt, explored, plan).close(alloc, plan, idle);
         let settled = finish(&closed, plan, room);
         Ran {

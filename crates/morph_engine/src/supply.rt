@@ -5,7 +5,7 @@ ghost use Rattle.morph_base.specs.declared.strategy.Abort.TheVariants.{Lazy};
 ghost use Rattle.morph_base.specs.Graphs.{IsValidPlan};
 ghost use Rattle.morph_base.specs.Limits.{most_workers};
 ghost use Rattle.morph_base.specs.Plans.{op_count};
-ghost use Rattle.morph_engine.specs.Exploring.{explore_of, IsSupply, HasExploredBy};
+ghost use Rattle.morph_engine.specs.Exploring.{explore_of, IsSupply, HasDependentsFor, HasExploredBy};
 ghost use Rattle.op_eval.specs.Alone.{IsNewRoot, HasRunAll};
 ghost use Rattle.op_eval.specs.Exploring.{MayExplore, IsExploredBoard};
 ghost use Rattle.op_eval.specs.Further.{HaveGoneOn};
@@ -15,7 +15,7 @@ ghost use Rattle.strata_explorer.specs.Levels.{counters_for};
 
 use crate::crew::Crew;
 use chain_units::Units;
-use morph_base::{Abort, Explore, OutOfMemory, Plan};
+use morph_base::{Abort, Explore, OutOfMemory, Plan, Rows};
 use op_eval::{Explored, Runners};
 use op_words::Board;
 use std::alloc::Global;
@@ -63,7 +63,8 @@ impl Supply {
     }
 }
 
-/// Explores a batch by strata or by deques. By strata nothing is handed out.
+/// Explores a batch by strata or by deques. By strata nothing is handed out. The dependents are those of the plan, or
+/// any rows by strata under lazy abort.
 pub(crate) fn explore_by<R: Threads + Sync, G: Gate>(
     rt: &R,
     board: Board,
@@ -72,6 +73,7 @@ pub(crate) fn explore_by<R: Threads + Sync, G: Gate>(
     plan: &Plan,
     units: &Units,
     abort: Abort,
+    dependents: &Rows,
     gate: &G,
 ) -> (Explored, Tallied)
     requires valid { IsValidPlan plan.now }
@@ -82,6 +84,7 @@ pub(crate) fn explore_by<R: Threads + Sync, G: Gate>(
     requires cap { 1 ≤ cap_of board }
     requires ready { MayExplore board 0 runners }
     requires supply { IsSupply plan.now (length (runners_of runners)) supply }
+    requires dependents { HasDependentsFor plan.now (explore_of supply) abort dependents.now }
     ensures explored { IsExploredBoard result.0 }
     ensures plan { plan_of result.0.board ≡ plan_of board }
     ensures cap { cap_of result.0.board ≡ cap_of board }
@@ -96,13 +99,17 @@ pub(crate) fn explore_by<R: Threads + Sync, G: Gate>(
 {
     match supply {
         Supply::Counters => {
-            let explored = strata_explorer::explore(rt, board, runners, plan, units, abort, gate);
+            let explored = strata_explorer::explore(
+                rt, board, runners, plan, units, abort, dependents, gate,
+            );
             let none = Tallied {
                 handed: 0,
                 stolen: 0,
             };
             (explored, none)
         }
-        Supply::Deques(crew) => crew.explore(rt, board, runners, plan, units, abort, gate),
+        Supply::Deques(crew) => {
+            crew.explore(rt, board, runners, plan, units, abort, dependents, gate)
+        }
     }
 }

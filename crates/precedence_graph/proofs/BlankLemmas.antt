@@ -15,7 +15,7 @@ use Rattle.morph_base.specs.Plans.{high_of, no_plan_op, op_count, op_at, keys_of
 use Rattle.txn_splitter.specs.declared.txns.Txns.{Txns}
 use Rattle.txn_splitter.specs.Txns.{IsTxns, txn_count, txn_op_count}
 use Rattle.precedence_graph.specs.Planned.{ArePlanned, AreEventsPlanned}
-use Rattle.precedence_graph.proofs.ReadyLemmas.{planned_ready}
+use Rattle.precedence_graph.proofs.ReadyLemmas.{planned_places}
 use Rattle.precedence_graph.proofs.BuiltLemmas.{get_or-replicate_all, padded-at, ops_same, numbering_is, origins_are, sources_is, alike_is, unused_is}
 
 -- if it is a base, it is 0
@@ -65,7 +65,7 @@ module _ (x : Txns) (is : IsTxns x) (p : Plan) (done : ArePlanned x (txn_op_coun
   plan_is = record {
     numbering = numbering_is x is p done events_done;
     alike = alike_is x is p done events_done;
-    places = λ o lt. (planned_ready x is p.ops.items done o (within o lt)).places;
+    places = λ o lt. planned_places x is p.ops.items done o (within o lt);
     unused = λ o j lt past _. unused_is x is p done events_done o j (within o lt) past;
     sources = λ o j lt inside. sources_is x is p done events_done o j (within o lt) inside;
     bases = λ o j v lt inside its. blank_is o j v its ∙ sym (opening_of-zero p.ops.items (key_at p o j) all_blank);

@@ -1,7 +1,7 @@
 -- The graph of a plan whose operations and events are all planned.
 use Rattle.std.proofs.Common.{◌≡◌, ℕ, ◌+◌, ◌-◌, ◌*◌, ◌/◌, ◌<◌, cond, eqb, List, length, get_or, drop, map, filter, sum_by, flat_map, sym, ap, ◌∙◌, arith}
 use Rattle.std.specs.Prelude.{count_by}
-use Rattle.std.specs.List.{list_any, range_with_len}
+use Rattle.std.specs.List.{range_with_len}
 use Rattle.std.proofs.lemmas.List.Folds.{flat_map-map}
 use Rattle.morph_base.specs.declared.plan.Origin.{Origin}
 use Rattle.morph_base.specs.declared.plan.Origin.TheVariants.{Base}
@@ -9,7 +9,8 @@ use Rattle.morph_base.specs.declared.plan.PlanOp.{PlanOp}
 use Rattle.morph_base.specs.declared.plan.PlanEvent.{PlanEvent}
 use Rattle.morph_base.specs.declared.plan.Plan.{Plan}
 use Rattle.morph_base.specs.Plans.{no_plan_op, no_event, origins_of}
-use Rattle.morph_base.specs.Graphs.{greatest, below, is_written, is_written_by, level_of, event_origins, IsGraph}
+use Rattle.morph_base.specs.Readers.{dependents_in}
+use Rattle.morph_base.specs.Graphs.{greatest, below, is_written, level_of, event_origins, IsGraph}
 use Rattle.txn_splitter.specs.declared.txns.TxnEvent.{TxnEvent}
 use Rattle.txn_splitter.specs.declared.txns.Txns.{Txns}
 use Rattle.txn_splitter.specs.Txns.{IsTxns, txn_count, txn_op_count, txn_at}
@@ -19,9 +20,6 @@ use Rattle.precedence_graph.proofs.ListLemmas.{sum_by-below, map-range_is}
 use Rattle.precedence_graph.proofs.BuiltLemmas.{events_same, ops_same, event_at_same}
 
 -- ---- what the parts of a graph are, over its operations and events
-
-abbrev pub readers_of : List PlanOp → List (List ℕ)
-readers_of ops = map (λ o. filter (λ t. list_any (is_written_by o) (sources_of (planned ops t))) (below (length ops))) (below (length ops))
 
 abbrev pub op_lists_of : List PlanOp → List (List ℕ)
 op_lists_of ops = map (λ l. filter (λ o. eqb (planned ops o).level (l + 1)) (below (length ops))) (below (greatest (map (λ q. q.level) ops)))
@@ -40,7 +38,7 @@ module _ (x : Txns) (is : IsTxns x) (p : Plan) (done : ArePlanned x (txn_op_coun
       let numbers = range_with_len (txn_at x i).first (txn_at x i).count in
       ap (flat_map sources_of) (sym (map-range_is p.ops.items (txn_at x i).first (txn_at x i).count no_plan_op (omega arith))) ∙ flat_map-map sources_of (planned p.ops.items) numbers ∙ ap (λ (e : TxnEvent). flat_map (origins_of p) (range_with_len e.first e.count)) (event_at_same x is p done events_done i)
 
-  pub graph_is : p.dependents ≡ readers_of p.ops.items → map (λ list. list.items) p.op_levels.items ≡ op_lists_of p.ops.items → map (λ list. list.items) p.event_levels.items ≡ event_lists_of p.events.items
+  pub graph_is : p.dependents ≡ dependents_in p.ops.items → map (λ list. list.items) p.op_levels.items ≡ op_lists_of p.ops.items → map (λ list. list.items) p.event_levels.items ≡ event_lists_of p.events.items
       → p.edges.temporal ≡ targets_in p.ops.items → p.edges.parametric ≡ parameters_in p.ops.items → p.edges.logical ≡ logical_of p.events.items → IsGraph p
   graph_is dependents op_lists event_lists temporal parametric logical = record {
     op_level_is = λ o lt. (done.each o (omega (arith, ops_same x is p done events_done))).level_is;

@@ -16,8 +16,10 @@ pub mod ReadLemmas
 pub mod WriterLemmas
 -- The first operations are planned: one more operation.
 pub mod PlannedLemmas
--- What holds of each operation once all are planned: its shape, its places, and its earlier sources.
+-- What holds of each operation once all are planned: its places, and its earlier sources.
 pub mod ReadyLemmas
+-- Each operation of a valid plan reads from operations of the plan, and from none at level 1.
+pub mod SoundLemmas
 -- The first events are planned: one more event.
 pub mod EventLemmas
 -- A plan whose operations and events are all planned: its columns, its numbering and its sources.

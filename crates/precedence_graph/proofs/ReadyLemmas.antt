@@ -1,8 +1,7 @@
--- What stands of an operation once all are planned: its shape, its places, and that it reads from earlier events.
-use Rattle.std.proofs.Common.{◌≡◌, ℕ, ◌+◌, ◌-◌, ◌*◌, ◌<◌, ◌≤◌, List, length, get_or, take, drop, map, replicate, refl, sym, ap, subst, ◌∙◌, arith}
+-- What stands of an operation once all are planned: its places, and that it reads from earlier events.
+use Rattle.std.proofs.Common.{◌≡◌, ℕ, ◌+◌, ◌-◌, ◌*◌, ◌<◌, ◌≤◌, List, length, get_or, take, drop, map, replicate, sym, ap, subst, ◌∙◌, arith}
 use Rattle.std.specs.Prelude.{All}
 use Rattle.std.proofs.lemmas.List.{length-append, length-map, length-replicate, length-take, get_or-map, get_or-take, get_or-drop, get_or_default}
-use Rattle.std.proofs.lemmas.List.Elements.{All-weaker}
 use Rattle.morph_base.specs.declared.limits.TheConstants.{READS, EVENT_OPS, EVENTS}
 use Rattle.morph_base.specs.declared.key.Key.{Key}
 use Rattle.morph_base.specs.declared.operation.Op.{Op}
@@ -13,13 +12,11 @@ use Rattle.morph_base.specs.Operations.{reads, no_key, IsShaped}
 use Rattle.morph_base.specs.Sources.{IsSource}
 use Rattle.morph_base.specs.Plans.{no_plan_op}
 use Rattle.morph_base.specs.Known.{IsKnown}
-use Rattle.morph_base.specs.Graphs.{level_of}
 use Rattle.morph_base.proofs.PlainLaws.{length-reads}
 use Rattle.txn_splitter.specs.declared.txns.Txns.{Txns}
 use Rattle.txn_splitter.specs.Txns.{IsTxns, txn_op_count, txn_of, txn_target}
 use Rattle.txn_splitter.proofs.TxnLemmas.{txn_ops_few}
-use Rattle.precedence_graph.specs.Planned.{IsAmong, IsSoundPlanOp, padded, sources_of, planned, op_level_in, ArePlanned}
-use Rattle.precedence_graph.proofs.GreatestLemmas.{get_or-le-greatest}
+use Rattle.precedence_graph.specs.Planned.{IsAmong, padded, sources_of, planned, ArePlanned}
 use Rattle.precedence_graph.proofs.PlannedLemmas.{take-padded, IsAmong-more}
 
 -- padded sources of a shaped operation have a place each
@@ -30,32 +27,11 @@ length-padded op xs shaped many =
     length-append xs (replicate (READS - length xs) (Base 0)) ∙ omega (arith, length-replicate (READS - length xs) (Base 0))
 
 module _ (x : Txns) (is : IsTxns x) (ops : List PlanOp) (done : ArePlanned x (txn_op_count x) ops) where
-  -- what an operation of level 1 reads is a base, since each operation has a level of at least 1
-  lowest_reads : (o : ℕ) → o < txn_op_count x → (planned ops o).level ≤ 1 → All (IsAmong 0) (sources_of (planned ops o))
-  lowest_reads o lt low k d inside = by_source (get_or (sources_of (planned ops o)) k d) refl
-    where
-      by_source : (origin : Origin) → get_or (sources_of (planned ops o)) k d ≡ origin → IsAmong 0 origin
-      by_source (Base v) is = tt
-      by_source (Written s) is =
-          let level : Origin → ℕ = level_of (op_level_in ops) in
-          let sources = sources_of (planned ops o) in
-          let earlier : s < o = subst (IsAmong o) is ((done.each o lt).among k d inside) in
-          let own = (done.each s (omega arith)).level_is in
-          let most = get_or-le-greatest (map level sources) k 0 (omega (arith, length-map sources level)) in
-          let at : get_or (map level sources) k 0 ≡ op_level_in ops s = get_or-map level sources k d 0 inside ∙ ap level is in
-          let whole = (done.each o lt).level_is in
-          absurd (omega arith)
-
-  pub planned_ready : (o : ℕ) → o < txn_op_count x → IsSoundPlanOp (txn_op_count x) (planned ops o)
-  planned_ready o lt =
+  pub planned_places : (o : ℕ) → o < txn_op_count x → length (planned ops o).origins ≡ READS
+  planned_places o lt =
       let q = done.each o lt in
       let shaped : IsShaped (planned ops o).op = subst IsShaped (sym q.op_is) (is.numbering.shaped o lt) in
-      record {
-        shaped = shaped;
-        places = ap length q.origins_are ∙ length-padded (planned ops o).op (map q.source (reads (planned ops o).op)) shaped (length-map (reads (planned ops o).op) q.source);
-        among = All-weaker (IsAmong o) (IsAmong (txn_op_count x)) (λ origin. IsAmong-more o (txn_op_count x) origin (omega arith)) (sources_of (planned ops o)) q.among;
-        lowest = lowest_reads o lt;
-      }
+      ap length q.origins_are ∙ length-padded (planned ops o).op (map q.source (reads (planned ops o).op)) shaped (length-map (reads (planned ops o).op) q.source)
 
 -- the source is a base or an operation of an event before event i
 abbrev pub IsOfEarlier : List PlanOp → ℕ → Origin → Type 0
@@ -91,14 +67,10 @@ All-part P ops first count fits each k d lt =
     subst P (sym at) (each (first + k) (omega arith) (omega arith))
 
 -- a fact of each operation is one of the whole list
-all_planned : (P : PlanOp → Type 0) (n : ℕ) (ops : List PlanOp) → length ops ≡ n → ((o : ℕ) → o < n → P (planned ops o)) → All P ops
+pub all_planned : (P : PlanOp → Type 0) (n : ℕ) (ops : List PlanOp) → length ops ≡ n → ((o : ℕ) → o < n → P (planned ops o)) → All P ops
 all_planned P n ops many each k d lt = subst P (get_or_default ops k no_plan_op d lt) (each k (omega arith))
 
 module _ (x : Txns) (is : IsTxns x) (ops : List PlanOp) (done : ArePlanned x (txn_op_count x) ops) where
-  pub all_ready : All (IsSoundPlanOp (length ops)) ops
-  all_ready =
-      subst (λ n. All (IsSoundPlanOp n) ops) (sym done.many) (all_planned (IsSoundPlanOp (txn_op_count x)) (txn_op_count x) ops done.many (planned_ready x is ops done))
-
   pub levels_positive : All (λ q. 0 < q.level) ops
   levels_positive = all_planned (λ q. 0 < q.level) (txn_op_count x) ops done.many (λ o lt. omega (arith, (done.each o lt).level_is))
 

@@ -10,6 +10,7 @@ use Rattle.morph_base.specs.declared.plan.PlanOp.{PlanOp}
 use Rattle.morph_base.specs.declared.plan.PlanEvent.{PlanEvent}
 use Rattle.morph_base.specs.Operations.{reads, IsShaped}
 use Rattle.morph_base.specs.Sources.{IsSource}
+pub use Rattle.morph_base.specs.Readers.{sources_of}
 use Rattle.morph_base.specs.Plans.{no_plan_op, no_event}
 use Rattle.morph_base.specs.Known.{IsKnown}
 use Rattle.morph_base.specs.Graphs.{greatest, is_written, level_of}
@@ -28,10 +29,6 @@ IsAmong n = IsKnown (λ s. s < n)
 -- The sources, and then a base of 0 for each place that is not used
 abbrev pub padded : List Origin → List Origin
 padded sources = sources ++ replicate (READS - length sources) (Base 0)
-
--- The sources of an operation's places, its target's first
-abbrev pub sources_of : PlanOp → List Origin
-sources_of q = take (length (reads q.op)) q.origins
 
 -- The operation with number o
 abbrev pub planned : List PlanOp → ℕ → PlanOp

@@ -5,11 +5,10 @@ ghost use Rattle.morph_base.specs.Graphs.{IsGraph};
 ghost use Rattle.txn_splitter.specs.Txns.{IsTxns, txn_ops, txn_transactions};
 ghost use Rattle.precedence_graph.specs.Planned.{txn_event};
 
-use crate::dependents::dependents;
 use crate::edges::logical;
 use crate::level_lists::{event_level_lists, op_level_lists};
 use crate::planned::{Planned, plan_transactions};
-use morph_base::{Edges, OutOfMemory, Plan};
+use morph_base::{Dependents, Edges, OutOfMemory, Plan};
 use std::alloc::Global;
 use txn_splitter::Txns;
 
@@ -44,10 +43,9 @@ pub fn build(alloc: Global, txns: &Txns<'_>) -> Result<Plan, OutOfMemory>
         parametric: written.parameters,
         logical: logical(events.as_slice()),
     };
-    let reads = edges.temporal.saturating_add(edges.parametric);
-    let dependents = dependents(alloc, &ops, reads as usize)?;
     let op_levels = op_level_lists(alloc, &ops)?;
     let event_levels = event_level_lists(alloc, events.as_slice())?;
+    let dependents = Dependents::of(&ops);
     Ok(Plan {
         events,
         ops,

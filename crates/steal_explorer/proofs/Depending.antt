@@ -60,24 +60,25 @@ module _ (p : Plan) (valid : IsPlan p) (k : ℕ) (lt : k < op_count p) where
       origin_source at.0 at.1 o at.2 (at.3 ∙ written_is o at.1 at.4)
 
 module _ (p : Plan) (graph : IsGraph p) where
-  -- each operation has a list of dependents
-  pub many_lists : length p.dependents ≡ op_count p
-  many_lists =
-      let b : length p.dependents ≡ length (map (readers p) (below (op_count p))) = ap length graph.dependents_are in
-      let c : length (map (readers p) (below (op_count p))) ≡ length (below (op_count p)) = length-map (below (op_count p)) (readers p) in
-      let d : length (below (op_count p)) ≡ op_count p = length-range_with_len 0 (op_count p) in
-      omega arith
+  -- rows that are the plan's dependents: each operation has one
+  module _ (rows : List (List ℕ)) (are : rows ≡ p.dependents) where
+    pub many_rows : length rows ≡ op_count p
+    many_rows =
+        let b : length rows ≡ length (map (readers p) (below (op_count p))) = ap length (are ∙ graph.dependents_are) in
+        let c : length (map (readers p) (below (op_count p))) ≡ length (below (op_count p)) = length-map (below (op_count p)) (readers p) in
+        let d : length (below (op_count p)) ≡ op_count p = length-range_with_len 0 (op_count p) in
+        omega arith
 
-  pub readers_is : (o : ℕ) → o < op_count p → (ops : List ℕ) → ops ≡ slice_index_or p.dependents o [] → ops ≡ readers p o
-  readers_is o lt ops same =
-      same
-      ∙ ap (λ lists. get_or lists o []) graph.dependents_are
-      ∙ get_or-map-range_with_len (readers p) 0 (op_count p) o o [] lt (zero-add o)
+    pub readers_is : (o : ℕ) → o < op_count p → (ops : List ℕ) → ops ≡ slice_index_or rows o [] → ops ≡ readers p o
+    readers_is o lt ops same =
+        same
+        ∙ ap (λ lists. get_or lists o []) (are ∙ graph.dependents_are)
+        ∙ get_or-map-range_with_len (readers p) 0 (op_count p) o o [] lt (zero-add o)
 
-  pub readers_inside : (o : ℕ) → o < op_count p → (ops : List ℕ) → ops ≡ slice_index_or p.dependents o [] → All (λ k. k < op_count p) ops
-  readers_inside o lt ops same =
-      subst (All (λ k. k < op_count p)) (sym (readers_is o lt ops same))
-      (All-filter (reads_from p o) (λ k. k < op_count p) (below (op_count p)) (below_inside (op_count p)))
+    pub readers_inside : (o : ℕ) → o < op_count p → (ops : List ℕ) → ops ≡ slice_index_or rows o [] → All (λ k. k < op_count p) ops
+    readers_inside o lt ops same =
+        subst (All (λ k. k < op_count p)) (sym (readers_is o lt ops same))
+        (All-filter (reads_from p o) (λ k. k < op_count p) (below (op_count p)) (below_inside (op_count p)))
 
   -- each of them has the operation as a source, and each other one has not
   pub reader_source : IsPlan p → (o i : ℕ) → i < length (readers p o) → IsSourceOf p (get_or (readers p o) i 0) o

@@ -50,6 +50,10 @@ pub record HasDeque (p : Plan) (m : Member) : Type 0 where
   pub below : All (λ x. x < op_count p) (own m).pushed
   pub handed : m.handed ≡ up_to (length (own m).pushed)
 
+-- The ground's dependents are the plan's, under lazy abort too
+abbrev pub HasDependents : Ground → Type 0
+HasDependents g = g.dependents.now ≡ g.plan.now.dependents
+
 -- The worker can serve: its runner holds nothing, and its deque is in order
 abbrev pub CanServe : Ground → Member → Type 0
 CanServe g m = IsFreeRunner g.board.now m.runner × HasDeque g.plan.now m

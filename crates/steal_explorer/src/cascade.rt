@@ -62,7 +62,12 @@ fn touch_next<T: Turns>(
     ensures touches { TouchesNext (ground_rules ground.now) result
         cascade.old cascade.new member.old member.new }
 {
-    match cascade.next(ground.board, &mut member.runner.hand, ground.plan) {
+    match cascade.next(
+        ground.board,
+        &mut member.runner.hand,
+        ground.plan,
+        ground.dependents,
+    ) {
         Some(touched) => {
             ask_rolled(ground, told, turn, member, touched);
             true

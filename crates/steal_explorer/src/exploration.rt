@@ -20,7 +20,7 @@ use crate::member::Member;
 use crate::seats::{seat_all, unseat_all};
 use abort_eager::Ground;
 use chain_units::Units;
-use morph_base::{Abort, List, Plan};
+use morph_base::{Abort, List, Plan, Rows};
 use op_eval::{Explored, RunEnd, Runners};
 use op_words::Board;
 use std::snapshot::Snapshot;
@@ -118,7 +118,7 @@ fn end_of(members: &[Member]) -> RunEnd
     RunEnd::Drained
 }
 
-/// Explores a batch by deques of items, one worker for each runner.
+/// Explores a batch by deques of items, one worker for each runner. The dependents are the plan's.
 ///
 /// What was handed out is balanced: each item was pushed as often as it was taken or left unserved. If the end is
 /// [`RunEnd::Drained`], nothing is unserved. Each item that was taken is an operation of the plan, and was reached in a
@@ -140,9 +140,11 @@ pub fn explore<R: Threads + Sync, G: Gate>(
     plan: &Plan,
     units: &Units,
     abort: Abort,
+    dependents: &Rows,
     gate: &G,
 ) -> (Explored, Handed)
     requires valid { IsValidPlan plan.now }
+    requires dependents { dependents.now ≡ plan.now.dependents }
     requires plan { plan.now ≡ plan_of board }
     requires units { IsPartition units.now.units (op_count plan.now) }
     requires number { units.now.ops ≡ op_count plan.now }
@@ -183,6 +185,7 @@ pub fn explore<R: Threads + Sync, G: Gate>(
         plan,
         units,
         abort,
+        dependents,
     };
     hand_out(
         rt,

@@ -7,7 +7,7 @@ ghost use Rattle.steal_explorer.specs.Alone.{BeginsAlone, EndsAlone, LeavesAlone
 ghost use Rattle.steal_explorer.specs.Handing.{whole};
 ghost use Rattle.steal_explorer.specs.HandingOut.{IsBeginning, HasHandedOut};
 ghost use Rattle.abort_eager.specs.Grounds.{IsGround, ground_rules};
-ghost use Rattle.steal_explorer.specs.Members.{IsWorkerOf};
+ghost use Rattle.steal_explorer.specs.Members.{HasDependents, IsWorkerOf};
 ghost use Rattle.op_eval.specs.Running.{IsFreeRunner};
 ghost use Rattle.steal_explorer.specs.Turns.{HasTakenTurns};
 
@@ -35,10 +35,10 @@ impl<G: Gate> Job<Member> for Working<'_, G> {
     ghost use Rattle.morph_base.specs.declared.strategy.Abort.TheVariants.{Lazy};
     ghost use Rattle.op_words.specs.Hands.{cap_of};
     ghost use Rattle.abort_eager.specs.Grounds.{IsGround, ground_rules};
-    ghost use Rattle.steal_explorer.specs.Members.{IsWorkerOf};
+    ghost use Rattle.steal_explorer.specs.Members.{HasDependents, IsWorkerOf};
     ghost use Rattle.steal_explorer.specs.Turns.{HasTakenTurns};
 
-    ghost can_run = { λ job member. IsGround job.ground
+    ghost can_run = { λ job member. IsGround job.ground × HasDependents job.ground
         × IsWorkerOf job.ground job.thieves.now member };
 
     ghost changes = { λ job _ before after. IsWorkerOf job.ground job.thieves.now after
@@ -75,6 +75,7 @@ fn work_all<R: Threads + Sync, G: Gate>(
     members: &mut [Member],
 )
     requires ground { IsGround ground.now }
+    requires dependents { HasDependents ground.now }
     requires workers { All (IsWorkerOf ground.now thieves.now) members.old }
     ensures work { (k : ℕ) (d : M) → k < length members.old
         → IsWorkerOf ground.now thieves.now (slice_index_or members.new k d)
@@ -104,6 +105,7 @@ pub(crate) fn hand_out<R: Threads + Sync, G: Gate>(
     members: &mut [Member],
 )
     requires ground { IsGround ground.now }
+    requires dependents { HasDependents ground.now }
     requires len { length members.old ≡ length thieves.now }
     requires few { length thieves.now ≤ whole }
     requires begins { (k : ℕ) (d : M) → k < length members.old

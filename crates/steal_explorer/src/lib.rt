@@ -4,8 +4,9 @@
 //! the operations of level 1 to them in turn, and lends each deque to the other workers. [`explore`] has every worker
 //! take turns: the worker pops an item from its own deque, or steals one from the others, in rising order from its own,
 //! round. It walks the item's unit from the item on, until an answer is not `Evaluated`. After an evaluation it asks
-//! each dependent, and whoever made one ready pushes it on its own deque. A worker ends after 64 turns in a row that
-//! found all deques empty, or after the most turns that it may take.
+//! each dependent, and whoever made one ready pushes it on its own deque. The caller passes the lists of the plan's
+//! dependents. A worker ends after 64 turns in a row that found all deques empty, or after the most turns that it may
+//! take.
 //!
 //! Under eager abort a worker runs the cascade of an operation to its end after each evaluation that failed, or that
 //! was a second or later attempt, before it asks the dependents: it spreads the failure, rolls back what read a value

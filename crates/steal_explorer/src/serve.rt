@@ -7,7 +7,7 @@ ghost use Rattle.op_words.specs.Trails.{IsSourceOf};
 ghost use Rattle.steal_explorer.specs.Alone.{IsHandingAlone, Pushes, ServesAlone};
 ghost use Rattle.steal_explorer.specs.Serving.{readers};
 ghost use Rattle.abort_eager.specs.Grounds.{IsGround, ground_rules};
-ghost use Rattle.steal_explorer.specs.Members.{CanServe, MayServe};
+ghost use Rattle.steal_explorer.specs.Members.{HasDependents, CanServe, MayServe};
 ghost use Rattle.steal_explorer.specs.declared.find.Found.TheVariants.{Item};
 ghost use Rattle.steal_explorer.specs.Serving.{ServesOn, PutsOrWalks, AsksAndPuts, AsksAll, Serves};
 ghost use Rattle.steal_explorer.specs.Turns.{After};
@@ -65,6 +65,7 @@ pub(crate) fn ask_one<T: Turns>(
 /// Asks each dependent of an operation.
 fn ask_all<T: Turns>(ground: &Ground<'_>, told: &T, turn: u64, member: &mut Member, op: u32)
     requires may { MayServe ground.now member.old op }
+    requires dependents { HasDependents ground.now }
     ensures can { CanServe ground.now member.new }
     ensures goes { ServesOn (ground_rules ground.now)
         member.old member.new }
@@ -73,7 +74,7 @@ fn ask_all<T: Turns>(ground: &Ground<'_>, told: &T, turn: u64, member: &mut Memb
     ensures alone { IsHandingAlone ground.now.plan.now (readers ground.now.plan.now op) member.old
         → IsHandingAlone ground.now.plan.now [] member.new }
 {
-    let dependents = ground.plan.dependents.row(op as usize);
+    let dependents = ground.dependents.row(op as usize);
     for i in 0..dependents.len() {
         ask_one(ground, told, turn, member, dependents[i]);
     }
@@ -92,10 +93,10 @@ impl<T: Turns> Walking<Member> for Serving<'_, T> {
     ghost use Rattle.op_words.specs.Hands.{cap_of};
     ghost use Rattle.abort_eager.specs.Grounds.{ground_rules};
     ghost use Rattle.steal_explorer.specs.Alone.{IsHandingAlone, ServesAlone};
-    ghost use Rattle.steal_explorer.specs.Members.{CanServe};
+    ghost use Rattle.steal_explorer.specs.Members.{HasDependents, CanServe};
     ghost use Rattle.steal_explorer.specs.Serving.{Visits, Serves};
 
-    ghost can_walk = { λ g member. CanServe g member };
+    ghost can_walk = { λ g member. HasDependents g × CanServe g member };
 
     ghost visits = { λ g op before after answer. Serves (ground_rules g) op
         before after
@@ -122,6 +123,7 @@ impl<T: Turns> Walking<Member> for Serving<'_, T> {
 /// evaluated.
 fn serve<T: Turns>(ground: &Ground<'_>, told: &T, turn: u64, member: &mut Member, op: u32)
     requires may { MayServe ground.now member.old op }
+    requires dependents { HasDependents ground.now }
     ensures can { CanServe ground.now member.new }
     ensures serves { Serves (ground_rules ground.now) op
         member.old member.new }
@@ -141,6 +143,7 @@ pub(crate) fn serve_known<T: Turns>(
     op: u32,
 )
     requires ground { IsGround ground.now }
+    requires dependents { HasDependents ground.now }
     requires can { CanServe ground.now member.old }
     ensures can { CanServe ground.now member.new }
     ensures after { After (ground_rules ground.now) (Item op)

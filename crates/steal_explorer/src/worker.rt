@@ -4,7 +4,7 @@ ghost use Rattle.morph_base.specs.declared.strategy.Abort.TheVariants.{Lazy};
 ghost use Rattle.op_words.specs.Hands.{cap_of};
 ghost use Rattle.steal_explorer.specs.Alone.{IsTurningAlone, TurnsAlone, BeginsAlone, EndsAlone};
 ghost use Rattle.abort_eager.specs.Grounds.{IsGround, ground_rules};
-ghost use Rattle.steal_explorer.specs.Members.{CanServe, HasTickets};
+ghost use Rattle.steal_explorer.specs.Members.{HasDependents, CanServe, HasTickets};
 ghost use Rattle.steal_explorer.specs.Turns.{Turn, RanTurns, row_then};
 ghost use Rattle.steal_explorer.specs.declared.worker.TheConstants.{EMPTY_TURNS};
 
@@ -36,6 +36,7 @@ fn take_turn<T: Turns>(
     member: &mut Member,
 ) -> Found
     requires ground { IsGround ground.now }
+    requires dependents { HasDependents ground.now }
     requires can { CanServe ground.now member.old }
     requires tickets { HasTickets thieves.now member.old }
     ensures can { CanServe ground.now member.new }
@@ -79,6 +80,7 @@ pub(crate) fn work<T: Turns>(
     member: &mut Member,
 ) -> RunEnd
     requires ground { IsGround ground.now }
+    requires dependents { HasDependents ground.now }
     requires can { CanServe ground.now member.old }
     requires tickets { HasTickets thieves.now member.old }
     ensures can { CanServe ground.now member.new }

@@ -1,6 +1,6 @@
 ghost use Rattle.std.specs.Prelude.{◌≡◌, ◌≤◌, ◌<◌, [], All, length};
 ghost use Rattle.chain_units.specs.Places.{IsPartition};
-ghost use Rattle.morph_base.specs.declared.strategy.Abort.TheVariants.{Lazy};
+ghost use Rattle.morph_base.specs.declared.strategy.Abort.TheVariants.{Eager, Lazy};
 ghost use Rattle.morph_base.specs.Graphs.{IsValidPlan};
 ghost use Rattle.morph_base.specs.Plans.{op_count};
 ghost use Rattle.op_words.specs.Hands.{plan_of, cap_of, counters_of};
@@ -16,7 +16,7 @@ use crate::course::Course;
 use crate::levels::pass_levels;
 use crate::passes::pass_in_turn;
 use chain_units::Units;
-use morph_base::{Abort, Plan};
+use morph_base::{Abort, Plan, Rows};
 use op_eval::{Explored, RunEnd, Runner, Runners};
 use op_words::Board;
 use std::thread::Threads;
@@ -43,6 +43,8 @@ fn pass_all<R: Threads + Sync, G: Gate>(
     requires plan { course.now.plan.now ≡ plan_of board.old }
     requires units { IsPartition course.now.units.now.units (op_count course.now.plan.now) }
     requires number { course.now.units.now.ops ≡ op_count course.now.plan.now }
+    requires dependents { course.now.abort ≡ Eager
+        → course.now.dependents.now ≡ course.now.plan.now.dependents }
     requires counters { counters_for course.now.plan.now ≤ counters_of board.old }
     requires some { 0 < length runners.old }
     requires seated { All (IsFreeRunner board.old) runners.old }
@@ -82,6 +84,8 @@ fn pass_all<R: Threads + Sync, G: Gate>(
 /// each evaluation that failed, or that was a second or later attempt. If operations were rolled back in a pass,
 /// exploring goes back to the lowest level of one of them.
 ///
+/// Under eager abort `dependents` are those of the plan. Under lazy abort nobody asks for them, and any rows will do.
+///
 /// The end is [`RunEnd::Whole`] after the last level. It is [`RunEnd::Spent`] if as many passes as the [`counters`] of
 /// the plan were made before that. The first unused counter is the one after the last pass. The call takes no memory.
 pub fn explore<R: Threads + Sync, G: Gate>(
@@ -91,12 +95,14 @@ pub fn explore<R: Threads + Sync, G: Gate>(
     plan: &Plan,
     units: &Units,
     abort: Abort,
+    dependents: &Rows,
     gate: &G,
 ) -> Explored
     requires valid { IsValidPlan plan.now }
     requires plan { plan.now ≡ plan_of board }
     requires units { IsPartition units.now.units (op_count plan.now) }
     requires number { units.now.ops ≡ op_count plan.now }
+    requires dependents { abort ≡ Eager → dependents.now ≡ plan.now.dependents }
     requires counters { counters_for plan.now ≤ counters_of board }
     requires ready { MayExplore board 0 runners }
     ensures explored { IsExploredBoard result }
@@ -118,6 +124,7 @@ pub fn explore<R: Threads + Sync, G: Gate>(
         plan,
         units,
         abort,
+        dependents,
         gate,
     };
     let (end, passes) = pass_all(rt, &mut board, runners.as_mut_slice(), &course);

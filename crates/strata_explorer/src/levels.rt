@@ -1,7 +1,7 @@
 //! All levels of a plan, over which each worker goes by itself.
 ghost use Rattle.std.specs.Prelude.{ℕ, ◌≡◌, ◌<◌, ◌≤◌, [], All, length};
 ghost use Rattle.chain_units.specs.Places.{IsPartition};
-ghost use Rattle.morph_base.specs.declared.strategy.Abort.TheVariants.{Lazy};
+ghost use Rattle.morph_base.specs.declared.strategy.Abort.TheVariants.{Eager, Lazy};
 ghost use Rattle.morph_base.specs.Graphs.{IsValidPlan};
 ghost use Rattle.morph_base.specs.Plans.{op_count};
 ghost use Rattle.abort_eager.specs.Grounds.{IsGround, ground_rules};
@@ -129,6 +129,8 @@ pub(crate) fn pass_levels<R: Threads + Sync, G: Gate>(
     requires plan { course.now.plan.now ≡ plan_of board.now }
     requires units { IsPartition course.now.units.now.units (op_count course.now.plan.now) }
     requires number { course.now.units.now.ops ≡ op_count course.now.plan.now }
+    requires dependents { course.now.abort ≡ Eager
+        → course.now.dependents.now ≡ course.now.plan.now.dependents }
     requires counters { counters_for course.now.plan.now ≤ counters_of board.now }
     requires some { 0 < length runners.old }
     requires seated { All (IsFreeRunner board.now) runners.old }
@@ -148,6 +150,7 @@ pub(crate) fn pass_levels<R: Threads + Sync, G: Gate>(
             plan: course.plan,
             units: course.units,
             abort: course.abort,
+            dependents: course.dependents,
         },
         gate: course.gate,
         threads: threads_for(runners.len(), pieces),

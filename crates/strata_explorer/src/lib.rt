@@ -15,7 +15,8 @@
 //! that failed, or that was a second or later attempt, and lowers the level word to the level of each operation that it
 //! rolled back. If operations were rolled back in a pass, exploring goes back to the lowest of these levels if it is
 //! below the next one. It ends after a pass over the last level from which it did not go back, or once the passes that
-//! [`counters`] gives a plan are used up.
+//! [`counters`] gives a plan are used up. Cascades ask for the plan's dependents, which the caller passes. Under lazy
+//! abort there are no cascades, and any rows will do.
 //!
 //! | File | What is in it |
 //! |---|---|
@@ -32,7 +33,7 @@
 //! let units = units(alloc, &plan, Unit::Op)?;
 //! let (board, root) = Board::new(alloc, &plan, 1, counters(&plan))?;
 //! let runners = Runners::new(alloc, &board, root, 4, plan.events.len() as u32)?;
-//! let explored = explore(&rt, board, runners, &plan, &units, Abort::Lazy, &FreeGate);
+//! let explored = explore(&rt, board, runners, &plan, &units, Abort::Lazy, &dependents, &FreeGate);
 //! ```
 //!
 //! It uses `op_eval` and `op_words`, the board and its runners; `abort_eager`; `chain_units`; `worker_gate`; and

@@ -96,6 +96,7 @@ fn pass_once<R: Threads + Sync, G: Gate>(
     requires plan { course.now.plan.now ≡ plan_of board.old }
     requires units { IsPartition course.now.units.now.units (op_count course.now.plan.now) }
     requires number { course.now.units.now.ops ≡ op_count course.now.plan.now }
+    requires dependents { course.now.dependents.now ≡ course.now.plan.now.dependents }
     requires level { level < length course.now.plan.now.op_levels.items }
     requires counter { counter < counters_of board.old }
     requires some { 0 < length runners.old }
@@ -118,6 +119,7 @@ fn pass_once<R: Threads + Sync, G: Gate>(
             plan: course.plan,
             units: course.units,
             abort: course.abort,
+            dependents: course.dependents,
         },
         gate: course.gate,
         ops: course.plan.op_levels.get(level).as_slice(),
@@ -142,6 +144,7 @@ pub(crate) fn pass_in_turn<R: Threads + Sync, G: Gate>(
     requires plan { course.now.plan.now ≡ plan_of board.old }
     requires units { IsPartition course.now.units.now.units (op_count course.now.plan.now) }
     requires number { course.now.units.now.ops ≡ op_count course.now.plan.now }
+    requires dependents { course.now.dependents.now ≡ course.now.plan.now.dependents }
     requires counters { counters_for course.now.plan.now ≤ counters_of board.old }
     requires some { 0 < length runners.old }
     requires seated { All (IsFreeRunner board.old) runners.old }

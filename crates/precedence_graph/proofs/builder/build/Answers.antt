@@ -2,24 +2,12 @@ use Rattle.std.proofs.Common.{◌<◌, ◌≤◌, length, sym, ap, subst, ◌∙
 use Rattle.std.specs.Prelude.{All}
 use Rattle.morph_base.specs.declared.limits.TheConstants.{EVENT_OPS}
 use Rattle.morph_base.specs.declared.plan.Plan.{Plan}
-use Rattle.precedence_graph.proofs.ReadyLemmas.{all_ready, levels_positive, ops_few}
+use Rattle.precedence_graph.proofs.ReadyLemmas.{levels_positive, ops_few}
 use Rattle.precedence_graph.proofs.EventLemmas.{event_levels_positive, event_counts, events_few}
 use Rattle.precedence_graph.proofs.BuiltLemmas.{op_column, event_of_column, event_column, transactions_same}
 use Rattle.precedence_graph.proofs.BlankLemmas.{blank_is, plan_is}
 use Rattle.precedence_graph.proofs.GraphLemmas.{event_lists_of, logical_of, graph_is}
 use Rattle.precedence_graph.proofs.builder.build.Goals as goal
-
-pub dependents-requires-clause-ready : goal.dependents-requires-clause-ready
-dependents-requires-clause-ready c =
-    let x = c.args.txns.now in
-    let ops = c.in_ok-ops.field-0.ops.items in
-    all_ready x c.requires ops c.in_ok-ops.ensures.ops
-
-pub dependents-requires-clause-few : goal.dependents-requires-clause-few
-dependents-requires-clause-few c =
-    let x = c.args.txns.now in
-    let ops = c.in_ok-ops.field-0.ops.items in
-    omega (arith, ops_few x c.requires ops c.in_ok-ops.ensures.ops)
 
 pub op_level_lists-requires-clause-positive : goal.op_level_lists-requires-clause-positive
 op_level_lists-requires-clause-positive c =
@@ -67,7 +55,7 @@ returns-clause-plan c =
     let p : Plan = record {
       events = c.in_ok-ops.field-0.events;
       ops = c.in_ok-ops.field-0.ops;
-      dependents = c.in_ok-dependents.dependents;
+      dependents = c.of-dependents.result;
       op_levels = c.in_ok-op_levels.op_levels;
       event_levels = c.in_ok-event_levels.event_levels;
       edges = record { temporal = c.in_ok-ops.field-0.written.targets; parametric = c.in_ok-ops.field-0.written.parameters; logical = c.logical.result };
@@ -81,14 +69,14 @@ returns-clause-graph c =
     let p : Plan = record {
       events = c.in_ok-ops.field-0.events;
       ops = c.in_ok-ops.field-0.ops;
-      dependents = c.in_ok-dependents.dependents;
+      dependents = c.of-dependents.result;
       op_levels = c.in_ok-op_levels.op_levels;
       event_levels = c.in_ok-event_levels.event_levels;
       edges = record { temporal = c.in_ok-ops.field-0.written.targets; parametric = c.in_ok-ops.field-0.written.parameters; logical = c.logical.result };
     } in
     let events_done = c.in_ok-ops.ensures.events in
     let same_events = c.as_slice.ensures in
-    graph_is x c.requires p c.in_ok-ops.ensures.ops events_done c.in_ok-dependents.ensures c.in_ok-op_levels.ensures (c.in_ok-event_levels.ensures ∙ ap event_lists_of c.as_slice-2.ensures)
+    graph_is x c.requires p c.in_ok-ops.ensures.ops events_done c.of-dependents.ensures c.in_ok-op_levels.ensures (c.in_ok-event_levels.ensures ∙ ap event_lists_of c.as_slice-2.ensures)
     c.in_ok-ops.ensures.written.targets c.in_ok-ops.ensures.written.parameters (c.logical.ensures ∙ ap logical_of same_events)
 
 pub returns-clause-ops : goal.returns-clause-ops
@@ -97,7 +85,7 @@ returns-clause-ops c =
     let p : Plan = record {
       events = c.in_ok-ops.field-0.events;
       ops = c.in_ok-ops.field-0.ops;
-      dependents = c.in_ok-dependents.dependents;
+      dependents = c.of-dependents.result;
       op_levels = c.in_ok-op_levels.op_levels;
       event_levels = c.in_ok-event_levels.event_levels;
       edges = record { temporal = c.in_ok-ops.field-0.written.targets; parametric = c.in_ok-ops.field-0.written.parameters; logical = c.logical.result };
@@ -111,7 +99,7 @@ returns-clause-events_of c =
     let p : Plan = record {
       events = c.in_ok-ops.field-0.events;
       ops = c.in_ok-ops.field-0.ops;
-      dependents = c.in_ok-dependents.dependents;
+      dependents = c.of-dependents.result;
       op_levels = c.in_ok-op_levels.op_levels;
       event_levels = c.in_ok-event_levels.event_levels;
       edges = record { temporal = c.in_ok-ops.field-0.written.targets; parametric = c.in_ok-ops.field-0.written.parameters; logical = c.logical.result };
@@ -125,7 +113,7 @@ returns-clause-events c =
     let p : Plan = record {
       events = c.in_ok-ops.field-0.events;
       ops = c.in_ok-ops.field-0.ops;
-      dependents = c.in_ok-dependents.dependents;
+      dependents = c.of-dependents.result;
       op_levels = c.in_ok-op_levels.op_levels;
       event_levels = c.in_ok-event_levels.event_levels;
       edges = record { temporal = c.in_ok-ops.field-0.written.targets; parametric = c.in_ok-ops.field-0.written.parameters; logical = c.logical.result };
@@ -139,7 +127,7 @@ returns-clause-transactions c =
     let p : Plan = record {
       events = c.in_ok-ops.field-0.events;
       ops = c.in_ok-ops.field-0.ops;
-      dependents = c.in_ok-dependents.dependents;
+      dependents = c.of-dependents.result;
       op_levels = c.in_ok-op_levels.op_levels;
       event_levels = c.in_ok-event_levels.event_levels;
       edges = record { temporal = c.in_ok-ops.field-0.written.targets; parametric = c.in_ok-ops.field-0.written.parameters; logical = c.logical.result };
@@ -153,7 +141,7 @@ returns-clause-blank c =
     let p : Plan = record {
       events = c.in_ok-ops.field-0.events;
       ops = c.in_ok-ops.field-0.ops;
-      dependents = c.in_ok-dependents.dependents;
+      dependents = c.of-dependents.result;
       op_levels = c.in_ok-op_levels.op_levels;
       event_levels = c.in_ok-event_levels.event_levels;
       edges = record { temporal = c.in_ok-ops.field-0.written.targets; parametric = c.in_ok-ops.field-0.written.parameters; logical = c.logical.result };

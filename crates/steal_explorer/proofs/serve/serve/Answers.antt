@@ -23,4 +23,4 @@ returns g c =
           let before = served.1 lazy some is in
           serves_more rules c.requires.may.0.valid lazy _ _ _ _ before visited.0.goes (visited.2 lazy some before.handing).handing,
     )) c.walk_unit.ensures.walks in
-    record { can = c.walk_unit.ensures.can; serves = all.0; alone = all.1 }
+    record { can = c.walk_unit.ensures.can.1; serves = all.0; alone = all.1 }

@@ -17,7 +17,7 @@ climbed g c =
 
 pub run_all-requires-after_bounds : goal.run_all-requires-after_bounds
 run_all-requires-after_bounds g c κs within =
-    λ k d lt. (record { plan = c.requires.plan; valid = c.requires.valid; units = c.requires.units; number = c.requires.number }, c.requires.counters, c.requires.seated k d lt, λ n. (c.requires.ready.each k d lt).unused n (omega arith))
+    λ k d lt. (record { plan = c.requires.plan; valid = c.requires.valid; units = c.requires.units; number = c.requires.number; dependents = c.requires.dependents }, c.requires.counters, c.requires.seated k d lt, λ n. (c.requires.ready.each k d lt).unused n (omega arith))
 
 pub overflow_cast-result : goal.overflow_cast-result
 overflow_cast-result g c = omega (arith, c.len.ensures, small_levels c.args.course.now.plan.now c.requires.valid)

@@ -8,7 +8,7 @@ use Rattle.op_words.specs.declared.trail.View.{View}
 use Rattle.op_words.specs.Hands.{view_of}
 use Rattle.op_eval.specs.Gathering.{runners_of}
 use Rattle.strata_explorer.proofs.Leveling.{small_levels}
-use Rattle.morph_engine.specs.Exploring.{IsSupply}
+use Rattle.morph_engine.specs.Exploring.{IsSupply, HasDependentsFor}
 use Rattle.morph_engine.specs.Teams.{IsTeam}
 use Rattle.morph_engine.proofs.EventLevels.{small_event_levels}
 use Rattle.morph_engine.proofs.Preparing.{IsUntouched, first_runners}
@@ -52,6 +52,7 @@ returns-clause-prepared c =
       team = team_of_made;
       few = (let many = c.in_ok-runners.ensures.new.len in omega (arith, many, c.team_for-team.ensures.few, c.requires.few));
       supply = subst (λ n. IsSupply c.args.plan.now n c.in_ok-supply.supply) (sym c.in_ok-runners.ensures.new.len) c.in_ok-supply.ensures.ready;
+      dependents = subst (λ explore. HasDependentsFor c.args.plan.now explore c.args.strategy.now.abort c.in_ok-dependents.dependents) (sym c.in_ok-supply.ensures.explore) c.in_ok-dependents.ensures;
       room = c.in_ok-room.ensures;
     }
 

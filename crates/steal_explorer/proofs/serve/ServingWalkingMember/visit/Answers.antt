@@ -10,7 +10,7 @@ use Rattle.steal_explorer.proofs.serve.ServingWalkingMember.visit.Goals as goal
 
 pub sweep-requires-clause-may : goal.sweep-requires-clause-may
 sweep-requires-clause-may g c =
-    let old = c.requires.can.1 in (c.requires.ground, c.requires.in_range, (c.attempt-answer.ensures.idle, record { fifo = old.fifo; part = old.part; below = old.below; handed = old.handed }))
+    let old = c.requires.can.1.1 in (c.requires.ground, c.requires.in_range, (c.attempt-answer.ensures.idle, record { fifo = old.fifo; part = old.part; below = old.below; handed = old.handed }))
 
 pub sweep-requires-clause-cause : goal.sweep-requires-clause-cause
 sweep-requires-clause-cause g c = cause_shown _ _ _ c.args.ground.now.abort _ _ c.attempt-answer.result c.attempt-answer.ensures.answer.does
@@ -36,7 +36,7 @@ returns-in_default g c =
     let p = c.args.ground.now.plan.now in
     let asks = none_asked (ground_rules c.args.ground.now) c.args.op c.attempt-answer.result c.sweep.new.member c.in_default.not-Evaluated in
     record {
-      can = c.sweep.ensures.can;
+      can = (c.requires.can.0, c.sweep.ensures.can);
       visits = (
         serves_first (ground_rules c.args.ground.now) c.args.op c.args.worker.now c.attempt-answer.new.runner _ c.attempt-answer.ensures.answer c.sweep.new.member _ c.sweep.ensures.touches c.sweep.ensures.goes (goes_none _ _) asks,
         visited (ground_rules c.args.ground.now) c.args.op c.args.worker.now c.attempt-answer.new.runner _ c.attempt-answer.ensures.answer c.sweep.new.member _ c.sweep.ensures.touches c.sweep.ensures.goes (goes_none _ _) asks,

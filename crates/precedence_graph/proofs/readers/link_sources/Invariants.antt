@@ -4,7 +4,7 @@ use Rattle.std.specs.List.{list_any}
 use Rattle.morph_base.specs.Graphs.{is_written_by}
 use Rattle.precedence_graph.specs.Links.{items_of}
 use Rattle.precedence_graph.specs.Planned.{IsAmong, planned, sources_of}
-use Rattle.precedence_graph.proofs.dependents.link_sources.Given as goal
+use Rattle.precedence_graph.proofs.readers.link_sources.Given as goal
 
 abbrev pub invariant-loop-j : goal.invariant-loop-j
 invariant-loop-j l = record {

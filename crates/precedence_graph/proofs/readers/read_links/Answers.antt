@@ -1,22 +1,21 @@
 use Rattle.std.proofs.Common.{◌≡◌, ℕ, ◌<◌, ◌≤◌, Bool, false, cond, [], ◌∷◌, ◌++◌, length, filter, sym, ap, subst, ◌∙◌, arith}
-use Rattle.std.specs.List.{list_any}
 use Rattle.std.proofs.lemmas.List.{append-nil}
 use Rattle.std.proofs.lemmas.List.Elements.{All-same}
 use Rattle.morph_base.specs.Plans.{no_plan_op}
-use Rattle.morph_base.specs.Graphs.{below, is_written_by}
+use Rattle.morph_base.specs.Readers.{below, reads_among}
 use Rattle.precedence_graph.specs.Links.{items_of}
 use Rattle.precedence_graph.specs.Planned.{planned, sources_of}
 use Rattle.precedence_graph.proofs.GreatestLemmas.{filter-below_more}
 use Rattle.precedence_graph.proofs.ReadLemmas.{none_read}
-use Rattle.precedence_graph.proofs.dependents.read_links.Goals as goal
-use Rattle.precedence_graph.proofs.dependents.read_links.Goals.{then-level-gt1+in_ok-link_sources, else-level-gt1}
+use Rattle.precedence_graph.proofs.readers.read_links.Goals as goal
+use Rattle.precedence_graph.proofs.readers.read_links.Goals.{then-level-gt1+in_ok-link_sources, else-level-gt1}
 
 pub loop-t-preserved : goal.loop-t-preserved
 loop-t-preserved c =
     let ops = c.args.ops.now.items in
     let t : ℕ = c.loop-t.t in
     let inside : t < length ops = omega (arith, c.loop-t-test.true, c.len-t-end.ensures) in
-    let reads : ℕ → ℕ → Bool = λ o n. list_any (is_written_by o) (sources_of (planned ops n)) in
+    let reads : ℕ → ℕ → Bool = reads_among ops in
     elim c.if-level-gt1.branch [
       | then-level-gt1+in_ok-link_sources w ↦
           let now = ap (λ links. links.items) w.links-is in

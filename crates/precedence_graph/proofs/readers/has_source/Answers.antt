@@ -5,7 +5,7 @@ use Rattle.morph_base.specs.declared.plan.Origin.TheVariants.{Base}
 use Rattle.morph_base.specs.Graphs.{is_written_by}
 use Rattle.precedence_graph.specs.Planned.{planned, sources_of}
 use Rattle.precedence_graph.proofs.ReadLemmas.{used_source}
-use Rattle.precedence_graph.proofs.dependents.has_source.Goals as goal
+use Rattle.precedence_graph.proofs.readers.has_source.Goals as goal
 
 pub returns-then-is_written_by : goal.returns-then-is_written_by
 returns-then-is_written_by c =

@@ -2,36 +2,37 @@ ghost use Rattle.std.specs.Prelude.{◌≡◌, ℕ, ◌^◌, ◌<◌, ◌++◌, 
 ghost use Rattle.std.specs.Prelude.{◌≤◌, take, if◌then◌else◌};
 ghost use Rattle.std.specs.List.{list_any};
 ghost use Rattle.morph_base.specs.declared.limits.TheConstants.{READS};
-ghost use Rattle.morph_base.specs.Graphs.{below, is_written_by};
+ghost use Rattle.morph_base.specs.Graphs.{below, is_written_by, IsValidPlan};
+ghost use Rattle.morph_base.specs.Readers.{reads_among};
 ghost use Rattle.morph_base.specs.Operations.{reads};
 ghost use Rattle.precedence_graph.specs.Links.{items_of};
 ghost use Rattle.precedence_graph.specs.Planned.{IsAmong, IsSoundPlanOp, planned, sources_of};
 
 use crate::links::{Link, grouped};
-use morph_base::{List, Origin, OutOfMemory, PlanOps, Rows};
+use morph_base::{List, Origin, OutOfMemory, Plan, PlanOps, Rows};
 use std::alloc::Global;
 
-/// For each operation, those that read from it, by rising number, each once. `reads` of all places read from
-/// operations.
-pub fn dependents(alloc: Global, ops: &PlanOps, reads: usize) -> Result<Rows, OutOfMemory>
-    requires ready { All (IsSoundPlanOp (length ops.now.items)) ops.now.items }
-    requires few { length ops.now.items < 2 ^ 32 }
-    ensures { IfOk result (λ rows. rows
-        ≡ map (λ o. filter (λ t. list_any (is_written_by o) (sources_of (planned ops.now.items t)))
-        (below (length ops.now.items)))
-        (below (length ops.now.items))) }
+/// For each operation of a plan those that read from it, rising, each once.
+///
+/// A plan has no such lists itself, since most ways to run it need none. They are for exploring by deques, which hands
+/// on what reads from an operation once that has its value, and for eager abort, which goes from an operation that
+/// failed to what reads from it. The lists take memory: a number for each operation and for each of its dependents.
+pub fn dependents(alloc: Global, plan: &Plan) -> Result<Rows, OutOfMemory>
+    requires valid { IsValidPlan plan.now }
+    ensures { IfOk result (λ rows. rows ≡ plan.now.dependents) }
 {
-    let links = read_links(alloc, ops, reads)?;
-    grouped(alloc, ops.len(), links.as_slice())
+    let reads = plan.edges.temporal.saturating_add(plan.edges.parametric);
+    let links = read_links(alloc, &plan.ops, reads as usize)?;
+    grouped(alloc, plan.ops.len(), links.as_slice())
 }
 
-/// Makes each operation an item of the groups of the operations that it reads from.
+/// Makes each operation an item of the groups of the operations that it reads from. `reads` of all places read from
+/// operations.
 fn read_links(alloc: Global, ops: &PlanOps, reads: usize) -> Result<List<Link>, OutOfMemory>
     requires ready { All (IsSoundPlanOp (length ops.now.items)) ops.now.items }
     requires few { length ops.now.items < 2 ^ 32 }
     ensures items { IfOk result (λ links. (o : ℕ) → items_of links.items o
-        ≡ filter (λ t. list_any (is_written_by o) (sources_of (planned ops.now.items t)))
-        (below (length ops.now.items))) }
+        ≡ filter (reads_among ops.now.items o) (below (length ops.now.items))) }
     ensures groups { IfOk result (λ links. All (λ link. link.group < length ops.now.items) links.items) }
 {
     let mut links = List::with_room(alloc, reads)?;

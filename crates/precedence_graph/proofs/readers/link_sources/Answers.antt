@@ -5,8 +5,8 @@ use Rattle.precedence_graph.specs.Links.{items_of}
 use Rattle.precedence_graph.specs.Planned.{planned, sources_of}
 use Rattle.precedence_graph.proofs.LinkLemmas.{items_of_push}
 use Rattle.precedence_graph.proofs.ReadLemmas.{read_base, read_again, read_once, read_among, used_source}
-use Rattle.precedence_graph.proofs.dependents.link_sources.Goals as goal
-use Rattle.precedence_graph.proofs.dependents.link_sources.Goals.{in-Op+then-not-has_source+in_ok-push, in-Op+else-not-has_source, in_default}
+use Rattle.precedence_graph.proofs.readers.link_sources.Goals as goal
+use Rattle.precedence_graph.proofs.readers.link_sources.Goals.{in-Op+then-not-has_source+in_ok-push, in-Op+else-not-has_source, in_default}
 
 pub loop-j-preserved : goal.loop-j-preserved
 loop-j-preserved c =

@@ -2,7 +2,7 @@ use Rattle.std.proofs.Common.{◌≡◌, false, take}
 use Rattle.std.specs.List.{list_any}
 use Rattle.morph_base.specs.Graphs.{is_written_by}
 use Rattle.precedence_graph.specs.Planned.{planned, sources_of}
-use Rattle.precedence_graph.proofs.dependents.has_source.Given as goal
+use Rattle.precedence_graph.proofs.readers.has_source.Given as goal
 
 -- none of the sources so far is the operation
 abbrev pub invariant-sources : goal.invariant-sources

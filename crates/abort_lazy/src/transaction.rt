@@ -17,7 +17,7 @@ mod standing;
 use decide::decide;
 use prepare::prepare_all;
 use settle::settle_rest;
-use standing::Grounds;
+pub(crate) use standing::Grounds;
 
 /// The outcome when a runner tries to settle a transaction.
 #[derive(Clone, Copy, Debug, PartialEq, Eq)]
@@ -52,12 +52,30 @@ pub fn settle_txn(board: &Board, runner: &mut Runner, plan: &Plan, event: u32) -
     ensures answered { IsAnswered (event_at plan.now event).count runner.old runner.new }
 {
     let mut grounds = Grounds::new();
-    if let Some(answer) = prepare_all(board, runner, plan, event, &mut grounds) {
+    settle_with(board, runner, plan, event, &mut grounds)
+}
+
+/// Settles a transaction as [`settle_txn`] does, with grounds that the caller lends. What they say before does not
+/// matter.
+pub(crate) fn settle_with(
+    board: &Board,
+    runner: &mut Runner,
+    plan: &Plan,
+    event: u32,
+    grounds: &mut Grounds,
+) -> TxnAnswer
+    requires may { MaySettleEvent board.now runner.old.hand plan.now event }
+    ensures hand { IsHandOf board.now runner.new.hand }
+    ensures answer { TxnDoes plan.now event (hand_view runner.old) (hand_view runner.new) result }
+    ensures answered { IsAnswered (event_at plan.now event).count runner.old runner.new }
+{
+    grounds.begin();
+    if let Some(answer) = prepare_all(board, runner, plan, event, grounds) {
         return answer;
     }
-    match decide(board, &mut runner.hand, plan, event, &grounds) {
+    match decide(board, &mut runner.hand, plan, event, grounds) {
         Err(answer) => answer,
-        Ok(committed) => match settle_rest(board, &mut runner.hand, plan, event, &grounds) {
+        Ok(committed) => match settle_rest(board, &mut runner.hand, plan, event, grounds) {
             Some(answer) => answer,
             None => TxnAnswer::Settled { committed },
         },

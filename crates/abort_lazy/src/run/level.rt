@@ -7,7 +7,7 @@ ghost use Rattle.op_eval.specs.Running.{hand_view, IsFreeRunner};
 ghost use Rattle.abort_lazy.specs.Transactions.{MaySettleEvent};
 ghost use Rattle.abort_lazy.specs.Sweeps.{HasTriedOne, FitsBoard, CanSweep, HasSwept, IsSweeping};
 
-use crate::transaction::{TxnAnswer, end_of, first_of, settle_txn};
+use crate::transaction::{Grounds, TxnAnswer, end_of, first_of, settle_with};
 use morph_base::Plan;
 use op_eval::{Burst, Left, Patience, Runner};
 use op_words::Board;
@@ -41,13 +41,19 @@ fn await_event(board: &Board, runner: &mut Runner, plan: &Plan, event: u32, pati
 }
 
 /// Tries to settle an event, and keeps why it was not settled.
-fn settle_or_keep(board: &Board, runner: &mut Runner, plan: &Plan, event: u32)
+fn settle_or_keep(
+    board: &Board,
+    runner: &mut Runner,
+    plan: &Plan,
+    event: u32,
+    grounds: &mut Grounds,
+)
     requires may { MaySettleEvent board.now runner.old.hand plan.now event }
     requires room { 0 < runner.old.kept.room }
     ensures hand { IsHandOf board.now runner.new.hand }
     ensures tried { HasTriedOne plan.now event runner.old runner.new }
 {
-    match settle_txn(board, runner, plan, event) {
+    match settle_with(board, runner, plan, event, grounds) {
         TxnAnswer::Settled { .. } => {}
         TxnAnswer::NotYet { at, word } => runner.kept.add(Left {
             event,
@@ -65,18 +71,31 @@ fn settle_or_keep(board: &Board, runner: &mut Runner, plan: &Plan, event: u32)
 }
 
 /// Waits for the sources of an event, and tries to settle it.
-fn try_event(board: &Board, runner: &mut Runner, plan: &Plan, event: u32, patience: &mut Patience)
+fn try_event(
+    board: &Board,
+    runner: &mut Runner,
+    plan: &Plan,
+    event: u32,
+    patience: &mut Patience,
+    grounds: &mut Grounds,
+)
     requires may { MaySettleEvent board.now runner.old.hand plan.now event }
     requires room { 0 < runner.old.kept.room }
     ensures hand { IsHandOf board.now runner.new.hand }
     ensures tried { HasTriedOne plan.now event runner.old runner.new }
 {
     await_event(board, runner, plan, event, patience);
-    settle_or_keep(board, runner, plan, event);
+    settle_or_keep(board, runner, plan, event, grounds);
 }
 
 /// Tries the events of a burst, in the order in which their numbers were taken.
-fn try_burst(sweep: &Sweep<'_>, runner: &mut Runner, patience: &mut Patience, burst: &Burst)
+fn try_burst(
+    sweep: &Sweep<'_>,
+    runner: &mut Runner,
+    patience: &mut Patience,
+    burst: &Burst,
+    grounds: &mut Grounds,
+)
     requires fits { FitsBoard sweep.now.board.now sweep.now.plan.now sweep.now.counter
         sweep.now.events.now }
     requires free { IsFreeRunner sweep.now.board.now runner.old }
@@ -91,7 +110,7 @@ fn try_burst(sweep: &Sweep<'_>, runner: &mut Runner, patience: &mut Patience, bu
 {
     for i in 0..burst.len() {
         let event = sweep.events[burst.number(i)];
-        try_event(sweep.board, runner, sweep.plan, event, patience);
+        try_event(sweep.board, runner, sweep.plan, event, patience, grounds);
     }
 }
 
@@ -104,9 +123,10 @@ pub fn go_over(sweep: &Sweep<'_>, runner: &mut Runner, patience: &mut Patience)
     requires most { sweep.now.burst ≤ BURST }
     ensures swept { HasSwept sweep.now runner.old runner.new }
 {
+    let mut grounds = Grounds::new();
     for _turn in 0..sweep.events.len() {
         let burst = runner.take_burst(sweep.board, sweep.counter, sweep.events.len(), sweep.burst);
-        try_burst(sweep, runner, patience, &burst);
+        try_burst(sweep, runner, patience, &burst, &mut grounds);
         if burst.is_over() {
             return;
         }

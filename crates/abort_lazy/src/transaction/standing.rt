@@ -44,7 +44,7 @@ pub(super) enum Say {
 
 /// What the operations of an event say of it, and the words at which those that are good were judged.
 #[derive(Clone, Copy, Debug, PartialEq, Eq)]
-pub(super) struct Grounds {
+pub(crate) struct Grounds {
     words: [OpWord; EVENT_OPS],
     pub(super) say: Say,
 }
@@ -59,13 +59,20 @@ const NO_WORD: OpWord = OpWord {
 
 impl Grounds {
     /// The grounds before the first operation.
-    pub(super) fn new() -> Grounds
+    pub(crate) fn new() -> Grounds
         ensures { result.say ≡ Say.Commit }
     {
         Grounds {
             words: [NO_WORD; EVENT_OPS],
             say: Say::Commit,
         }
+    }
+
+    /// Begins anew, with no operation heard. The words of earlier operations stay in their places until others come.
+    pub(crate) fn begin(&mut self)
+        ensures { self.new.say ≡ Say.Commit }
+    {
+        self.say = Say::Commit;
     }
 
     /// Adds what the operation of this number in the event says. Returns the answer if it stops the call.

@@ -1,5 +1,5 @@
 use Rattle.abort_lazy.proofs.Ending.{txn_unready, txn_undecided, txn_unsettled, txn_settled, says_so, decided_by}
-use Rattle.abort_lazy.proofs.transaction.settle_txn.Goals as goal
+use Rattle.abort_lazy.proofs.transaction.settle_with.Goals as goal
 
 pub returns-in-Some-clause-answer : goal.returns-in-Some-clause-answer
 returns-in-Some-clause-answer c = txn_unready c.in-Some.ensures.ready

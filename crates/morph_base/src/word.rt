@@ -193,7 +193,7 @@ impl OpWord {
         OpWord {
             value: n % VALUES,
             attempt: (above % 16) as u8,
-            state: OpState::at_code(above / 16 % 16),
+            state: OpState::at_code(above / 16 % 8),
             by: (above / 256) as u8,
         }
     }

@@ -1,3 +1,4 @@
 pub mod Pieces
 pub mod BufferPuts
 pub mod RepeatedLine
+pub mod DigitLemmas

@@ -8,9 +8,6 @@ use std::marker::Model;
 /// How many bytes a [`LineBuf`] has room for.
 pub const LINE_BYTES: usize = 400;
 
-/// The most decimal digits that a `u64` has.
-const MAX_DIGITS: usize = 20;
-
 /// A line that is being written, in memory of its own, which contracts see as the list of its bytes.
 #[derive(Debug, Drop)]
 pub struct LineBuf {
@@ -75,9 +72,9 @@ impl LineBuf {
         ensures digits { self.new ≡ self.old ++ decimal n }
         ensures bound { length self.new ≤ length self.old + 20 }
     {
-        let mut digits = [0; MAX_DIGITS];
-        let start = write_digits(n, &mut digits, MAX_DIGITS);
-        self.word(&digits[start..]);
+        let end = self.len + digit_count(n);
+        write_digits(n, &mut self.bytes, end);
+        self.len = end;
     }
 
     /// The bytes of the line.
@@ -86,6 +83,17 @@ impl LineBuf {
         ensures bound { length result.now ≤ line_bytes }
     {
         &self.bytes[..self.len]
+    }
+}
+
+/// How many decimal digits a number has.
+fn digit_count(n: u64) -> usize
+    ensures count { result ≡ length (decimal n) }
+    ensures few { result ≤ 20 }
+{
+    match n.checked_ilog10() {
+        None => 1,
+        Some(power) => power as usize + 1,
     }
 }
 

@@ -1,7 +1,0 @@
--- A `u64` has at most twenty digits.
-use Rattle.std.proofs.Common.{rules}
-use Rattle.std.proofs.lemmas.Fmt.{length-decimal-le}
-use Rattle.morph_io.proofs.line_buf.LineBuf.number.Goals as goal
-
-pub write_digits-start-requires : goal.write_digits-start-requires
-write_digits-start-requires c = search (rules, length-decimal-le 20)

@@ -1,5 +1,5 @@
 use crate::four_events::batch_of;
-use morph_base::OutOfMemory;
+use morph_base::{Op, OutOfMemory};
 use std::alloc::Global;
 use std::process::Abort;
 use std::test::Fail;
@@ -9,7 +9,7 @@ use txn_splitter::{Txns, split};
 const EVENTS: [(u64, u32, u32); 4] = [(1, 0, 2), (2, 2, 4), (3, 6, 4), (4, 10, 4)];
 
 /// For each operation, the event, the target and the constant.
-const OPS: [(u32, u8, u32, u64); 14] = [
+const OPS: [(usize, u8, u32, u64); 14] = [
     (0, 0, 0, 100),
     (0, 1, 0, 5),
     (1, 0, 0, 60),
@@ -28,16 +28,29 @@ const OPS: [(u32, u8, u32, u64); 14] = [
 
 fn events_of(alloc: Global, txns: &Txns<'_>) -> Result<Vec<(u64, u32, u32)>, OutOfMemory> {
     let mut rows = Vec::new(alloc);
-    for event in txns.events.as_slice() {
+    for i in 0..txns.len() {
+        let event = txns.event(i);
         rows.push((event.ts, event.first, event.count))?;
     }
     Ok(rows)
 }
 
-fn ops_of(alloc: Global, txns: &Txns<'_>) -> Result<Vec<(u32, u8, u32, u64)>, OutOfMemory> {
+/// Appends the operations of an event.
+fn append_ops(
+    rows: &mut Vec<(usize, u8, u32, u64)>,
+    event: usize,
+    ops: &[Op],
+) -> Result<(), OutOfMemory> {
+    for op in ops {
+        rows.push((event, op.key.table, op.key.id, op.c))?;
+    }
+    Ok(())
+}
+
+fn ops_of(alloc: Global, txns: &Txns<'_>) -> Result<Vec<(usize, u8, u32, u64)>, OutOfMemory> {
     let mut rows = Vec::new(alloc);
-    for (op, event) in txns.ops.as_slice().iter().zip(txns.event_of.as_slice()) {
-        rows.push((*event, op.key.table, op.key.id, op.c))?;
+    for i in 0..txns.len() {
+        append_ops(&mut rows, i, txns.ops(i))?;
     }
     Ok(rows)
 }
@@ -49,6 +62,7 @@ fn check(rt: &impl Abort, alloc: Global, times: &[u64]) -> Result<(), OutOfMemor
     let txns = split(alloc, &batch)?;
     let events = events_of(alloc, &txns)?;
     assert_eq!(rt; events.as_slice(), EVENTS.as_slice());
+    assert_eq!(rt; txns.op_count(), OPS.len());
     let ops = ops_of(alloc, &txns)?;
     assert_eq!(rt; ops.as_slice(), OPS.as_slice());
     Ok(())

@@ -57,7 +57,7 @@ pub mod OpRowLaws
 pub mod OpPartLaws
 -- What contracts see of the operations of a plan, by their parts.
 pub mod OpViewLaws
--- An operation that is put together from its keys and sources.
+-- An operation of a valid shape, put together from its parts and keys.
 pub mod OpPushLaws
 -- Rows of different operations do not meet.
 pub mod OpApartLaws

@@ -1,17 +1,15 @@
--- Operations that stand as parts: how many they are, what one of them is, one more, and one with another word.
-use Rattle.std.proofs.Common.{◌≡◌, ℕ, ◌+◌, ◌<◌, ◌≤◌, ◌≢◌, inl, inr, List, [], ◌∷◌, ◌++◌, length, get_or, set, take, map, refl, sym, ap, ◌∙◌, subst, arith, length-append}
-use Rattle.std.specs.List.{range_with_len, sum_by}
-use Rattle.std.proofs.lemmas.List.Sums.{sum_by_push}
-use Rattle.std.proofs.lemmas.List.{length-set, get_or_append_left, get_or_push, length_push, take-append-le, take_at, same_lists, get_or-set_same, get_or-set_other}
+-- Operations that stand as parts: how many they are, what one of them is, one more, and one with another word or mark.
+use Rattle.std.proofs.Common.{◌≡◌, ℕ, ◌+◌, ◌<◌, ◌≢◌, inl, inr, List, [], ◌∷◌, ◌++◌, length, get_or, set, map, refl, sym, ap, ◌∙◌, arith}
+use Rattle.std.specs.List.{range_with_len}
+use Rattle.std.proofs.lemmas.List.{length-set, get_or_append_left, get_or_push, length_push, same_lists, get_or-set_same, get_or-set_other}
 use Rattle.std.proofs.lemmas.List.FromFn.{length-map-range_with_len, get_or-map-range_with_len, map-range_with_len_more, fill_by_all}
 use Rattle.std.proofs.lemmas.Bool.{cases_eq, cases_lt}
-use Rattle.morph_base.specs.declared.limits.TheConstants.{READS}
 use Rattle.morph_base.specs.declared.key.Key.{Key}
 use Rattle.morph_base.specs.declared.plan.Origin.{Origin}
 use Rattle.morph_base.specs.declared.plan.PlanOp.{PlanOp}
 use Rattle.morph_base.specs.declared.plan_ops.OpHead.{OpHead}
 use Rattle.morph_base.specs.declared.plan_ops.OpMark.{OpMark}
-use Rattle.morph_base.specs.OpParts.{origin_of, made_of, no_head, no_mark, head_at, row_of, part_op, part_ops, reads_in, AreParts}
+use Rattle.morph_base.specs.OpParts.{origin_of, made_of, no_head, no_mark, head_at, row_of, part_op, part_ops, AreParts}
 use Rattle.morph_base.proofs.OpRowLaws.{row-append, row_last, row-set_before, row-set_in, row-set_after, length_row, origins-set}
 
 module _ (heads : List OpHead) (marks : List OpMark) (keys : List Key) (places lows : List ℕ) (high : ℕ) where
@@ -70,49 +68,31 @@ module _ (heads : List OpHead) (marks : List OpMark) (keys : List Key) (places l
       ap (λ (k : ℕ). map f (range_with_len 0 k)) count ∙ map-range_with_len_more f 0 n n (omega arith) ∙ ap (λ qs. qs ++ f n ∷ []) front
       ∙ ap (λ q. map g (range_with_len 0 n) ++ q ∷ []) (newest are floor at long same)
 
-  pub parts_more-are : AreParts heads marks keys places lows → length lows' ≤ length heads + 1 → h.place ≡ length places → h.reads ≡ length ks → length ws ≡ length ks → 0 < length ks → length ks ≤ READS →
-      AreParts (heads ++ h ∷ []) (marks ++ m ∷ []) (keys ++ ks) (places ++ ws) lows'
-  parts_more-are are lowered at long same some few = record {
-    marked = omega (arith, length_push heads h, length_push marks m, are.marked);
-    keyed = omega (arith, length-append keys ks, length-append places ws, are.keyed, same);
-    lowered = omega (arith, length_push heads h);
-    some = λ o lt. either o lt (λ (x : OpHead). 0 < x.reads) are.some (omega arith);
-    few = λ o lt. either o lt (λ (x : OpHead). x.reads ≤ READS) are.few (omega arith);
-    inside = λ o lt. either o lt (λ (x : OpHead). x.place + x.reads ≤ length (places ++ ws)) (λ q below. omega (arith, are.inside q below, length-append places ws)) (omega (arith, length-append places ws));
-    apart = apart;
-    begins = begins;
-    whole = length-append places ws ∙ omega (arith, are.whole, sum_by_push reads_in heads h, same, long);
-  }
-    where
-      old : (o : ℕ) → o < length heads → head_at (heads ++ h ∷ []) o ≡ head_at heads o
-      old o lt = get_or_append_left heads (h ∷ []) no_head o lt
-
-      new : (o : ℕ) → o ≡ length heads → head_at (heads ++ h ∷ []) o ≡ h
-      new o is = get_or_push heads h no_head o (sym is)
-
-      either : (o : ℕ) → o < length (heads ++ h ∷ []) → (P : OpHead → Type 0) → ((q : ℕ) → q < length heads → P (head_at heads q)) → P h → P (head_at (heads ++ h ∷ []) o)
-      either o lt P each last =
-          elim (cases_lt o (length heads)) [
-            | inl below ↦ subst P (sym (old o below)) (each o below)
-            | inr at_end ↦ subst P (sym (new o (omega (arith, lt, at_end, length_push heads h)))) last
-          ]
-
-      apart : (o q : ℕ) → o < q → q < length (heads ++ h ∷ []) → (head_at (heads ++ h ∷ []) o).place + (head_at (heads ++ h ∷ []) o).reads ≤ (head_at (heads ++ h ∷ []) q).place
-      apart o q before lt =
-          let below : o < length heads = omega (arith, length_push heads h) in
-          elim (cases_lt q (length heads)) [
-            | inl inner ↦ rw (old o below, old q inner) (are.apart o q before inner)
-            | inr at_end ↦ (let is : q ≡ length heads = omega (arith, length_push heads h) in rw (old o below, new q is) (omega (arith, are.inside o below)))
-          ]
-
-      begins : (o : ℕ) → o < length (heads ++ h ∷ []) → (head_at (heads ++ h ∷ []) o).place ≡ sum_by reads_in (take o (heads ++ h ∷ []))
-      begins o lt =
-          elim (cases_lt o (length heads)) [
-            | inl below ↦ ap (λ (x : OpHead). x.place) (old o below) ∙ are.begins o below ∙ ap (sum_by reads_in) (sym (take-append-le o heads (h ∷ []) (omega arith)))
-            | inr at_end ↦ (
-                let is : o ≡ length heads = omega (arith, length_push heads h) in
-                ap (λ (x : OpHead). x.place) (new o is) ∙ at ∙ are.whole ∙ ap (sum_by reads_in) (sym (take_at heads (h ∷ []) o (sym is))))
-          ]
+-- all operations but one are the same
+module _ (heads : List OpHead) (marks marks' : List OpMark) (keys : List Key) (places places' lows : List ℕ) (high : ℕ) where
+  parts-but : (o : ℕ) → o < length heads
+      → ((k : ℕ) → k < length heads → k ≢ o
+      → part_op heads marks' keys places' lows high k ≡ part_op heads marks keys places lows high k)
+      → part_ops heads marks' keys places' lows high
+      ≡ set (part_ops heads marks keys places lows high) o (part_op heads marks' keys places' lows high o)
+  parts-but o lt others =
+      let f = part_op heads marks' keys places' lows high in
+      let now = part_ops heads marks' keys places' lows high in
+      let was = part_ops heads marks keys places lows high in
+      let count_now = count_parts heads marks' keys places' lows high in
+      let count_was = count_parts heads marks keys places lows high in
+      same_lists now (set was o (f o)) (count_now ∙ sym count_was ∙ sym (length-set was o (f o))) (λ k d below.
+      let inside : k < length heads = omega (arith, below, count_now) in
+      part_is heads marks' keys places' lows high k d inside ∙ (elim (cases_eq k o) [
+        | inl is ↦ (
+            ap f is
+            ∙ sym (get_or-set_same was o (f o) d (omega (arith, count_was)))
+            ∙ ap (λ (i : ℕ). get_or (set was o (f o)) i d) (sym is))
+        | inr not ↦ (
+            others k inside not
+            ∙ sym (part_is heads marks keys places lows high k d inside)
+            ∙ sym (get_or-set_other was o k (f o) d not))
+      ]))
 
 -- another word at place j of operation o
 module _ (heads : List OpHead) (marks : List OpMark) (keys : List Key) (places lows : List ℕ) (high o j w : ℕ) (are : AreParts heads marks keys places lows) (lt : o < length heads) (place : j < (head_at heads o).reads) where
@@ -144,17 +124,8 @@ module _ (heads : List OpHead) (marks : List OpMark) (keys : List Key) (places l
 
   pub parts-set : part_ops heads marks keys changed lows high ≡ set (part_ops heads marks keys places lows high) o (record (part_op heads marks keys places lows high o) { origins = set (part_op heads marks keys places lows high o).origins j (origin_of w) })
   parts-set =
-      let now = part_ops heads marks keys changed lows high in
-      let was = part_ops heads marks keys places lows high in
-      let put = record (part_op heads marks keys places lows high o) { origins = set (part_op heads marks keys places lows high o).origins j (origin_of w) } in
-      let count_now = count_parts heads marks keys changed lows high in
-      let count_was = count_parts heads marks keys places lows high in
-      same_lists now (set was o put) (count_now ∙ sym count_was ∙ sym (length-set was o put)) (λ k d below.
-      let inside : k < length heads = omega (arith, below, count_now) in
-      part_is heads marks keys changed lows high k d inside ∙ (elim (cases_eq k o) [
-        | inl is ↦ (ap (part_op heads marks keys changed lows high) is ∙ itself ∙ sym (get_or-set_same was o put d (omega (arith, count_was))) ∙ ap (λ (i : ℕ). get_or (set was o put) i d) (sym is))
-        | inr not ↦ (other k inside not ∙ sym (part_is heads marks keys places lows high k d inside) ∙ sym (get_or-set_other was o k put d not))
-      ]))
+      parts-but heads marks marks keys places changed lows high o lt other
+      ∙ ap (λ (q : PlanOp). set (part_ops heads marks keys places lows high) o q) itself
 
   pub parts-set-are : AreParts heads marks keys changed lows
   parts-set-are =
@@ -170,3 +141,41 @@ module _ (heads : List OpHead) (marks : List OpMark) (keys : List Key) (places l
         begins = are.begins;
         whole = long ∙ are.whole;
       }
+
+-- another mark for operation o
+module _ (heads : List OpHead) (marks : List OpMark) (keys : List Key) (places lows : List ℕ) (high o : ℕ) (m : OpMark)
+    (are : AreParts heads marks keys places lows) (lt : o < length heads) where
+  -- operation k, by its mark
+  made : ℕ → OpMark → PlanOp
+  made k x =
+      made_of high (get_or lows k 0) (head_at heads k) x (row_of (head_at heads k) keys) (row_of (head_at heads k) places)
+
+  unmarked : (k : ℕ) → k < length heads → k ≢ o
+      → part_op heads (set marks o m) keys places lows high k ≡ part_op heads marks keys places lows high k
+  unfolding part_op made
+  unmarked k inside apart = ap (made k) (get_or-set_other marks o k m no_mark apart)
+
+  marked_so : part_op heads (set marks o m) keys places lows high o
+      ≡ record (part_op heads marks keys places lows high o) { event = m.event; level = m.level }
+  unfolding part_op made
+  marked_so = ap (made o) (get_or-set_same marks o m no_mark (omega (arith, are.marked)))
+
+  pub parts-mark : part_ops heads (set marks o m) keys places lows high
+      ≡ set (part_ops heads marks keys places lows high) o
+      (record (part_op heads marks keys places lows high o) { event = m.event; level = m.level })
+  parts-mark =
+      parts-but heads marks (set marks o m) keys places places lows high o lt unmarked
+      ∙ ap (λ (q : PlanOp). set (part_ops heads marks keys places lows high) o q) marked_so
+
+  pub parts-mark-are : AreParts heads (set marks o m) keys places lows
+  parts-mark-are = record {
+    marked = length-set marks o m ∙ are.marked;
+    keyed = are.keyed;
+    lowered = are.lowered;
+    some = are.some;
+    few = are.few;
+    inside = are.inside;
+    apart = are.apart;
+    begins = are.begins;
+    whole = are.whole;
+  }

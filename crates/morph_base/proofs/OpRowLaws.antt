@@ -1,11 +1,10 @@
 -- Rows of a list, and the sources that words name.
-use Rattle.std.proofs.Common.{◌≡◌, ℕ, suc, zero, ◌+◌, ◌-◌, ◌%◌, ◌<◌, ◌≤◌, List, [], ◌∷◌, ◌++◌, length, get_or, set, take, drop, map, replicate, refl, sym, ap, ◌∙◌, arith, length-append, length-take, length-drop}
-use Rattle.std.proofs.lemmas.List.{length-map, length-set, length-replicate, take-append-le, drop-append-le, take-set-le, drop-set-lt, drop-set-add, map-set, set-append_left, get_or-map, get_or-take, get_or-drop, get_or_append_left, drop_at, set_at, map_more, append_assoc}
-use Rattle.std.proofs.lemmas.Bool.Decides.{nat_tests}
+use Rattle.std.proofs.Common.{◌≡◌, ℕ, suc, zero, ◌+◌, ◌-◌, ◌<◌, ◌≤◌, List, [], ◌∷◌, ◌++◌, length, get_or, set, take, drop, map, replicate, refl, sym, ap, ◌∙◌, arith, length-take, length-drop}
+use Rattle.std.proofs.lemmas.List.{length-map, length-set, length-replicate, take-append-le, drop-append-le, take-set-le, drop-set-lt, drop-set-add, map-set, set-append_left, get_or-map, get_or-take, get_or-drop, get_or_append_left, drop_at, set_at, map_more, append_assoc, replicate-append-replicate}
 use Rattle.std.proofs.lemmas.Grind.{common_steps}
 use Rattle.morph_base.specs.declared.limits.TheConstants.{READS}
 use Rattle.morph_base.specs.declared.plan.Origin.{Origin}
-use Rattle.morph_base.specs.declared.plan.Origin.TheVariants.{Base, Op as Written}
+use Rattle.morph_base.specs.declared.plan.Origin.TheVariants.{Base}
 use Rattle.morph_base.specs.OpParts.{origin_of, origins_in}
 
 module _ {X : Type 0} where
@@ -45,16 +44,7 @@ module _ {X : Type 0} where
   pub get_or_row : (n k j : ℕ) (xs : List X) (d : X) → j < n → get_or (take n (drop k xs)) j d ≡ get_or xs (k + j) d
   get_or_row n k j xs d inside = get_or-take n (drop k xs) j d inside ∙ get_or-drop k xs j d
 
--- what a word names
-pub origin_base : (w : ℕ) → w < 9223372036854775808 → origin_of w ≡ Base w
-origin_base w small = grind (arith, nat_tests)
-
-pub origin_written : (w : ℕ) → 9223372036854775808 ≤ w → origin_of w ≡ Written (w % 4294967296)
-origin_written w large = grind (arith, nat_tests)
-
-pub length_origins : (ws : List ℕ) → length ws ≤ READS → length (origins_in ws) ≡ READS
-length_origins ws few = simp (length-append, length-map, length-replicate) (omega arith)
-
+-- what words name
 pub origin_at_word : (ws : List ℕ) (j : ℕ) (d : Origin) → j < length ws → get_or (origins_in ws) j d ≡ origin_of (get_or ws j 0)
 origin_at_word ws j d inside =
     get_or_append_left (map origin_of ws) (replicate (READS - length ws) (Base 0)) d j (omega (arith, length-map ws origin_of)) ∙ get_or-map origin_of ws j 0 d inside
@@ -64,6 +54,18 @@ origins-set ws j w inside =
     let same : length (set ws j w) ≡ length ws = length-set ws j w in
     let front : map origin_of (set ws j w) ≡ set (map origin_of ws) j (origin_of w) = map-set origin_of ws j w in
     rw (same, front) (sym (set-append_left (map origin_of ws) (replicate (READS - length ws) (Base 0)) j (origin_of w) (omega (arith, length-map ws origin_of))))
+
+-- words of 0 name bases of 0
+blank_words : (k : ℕ) → map origin_of (replicate k 0) ≡ replicate k (Base 0)
+blank_words zero = refl
+blank_words (suc k) = ap (λ (os : List Origin). Base 0 ∷ os) (blank_words k)
+
+pub blank_origins : (k : ℕ) → k ≤ READS → origins_in (replicate k 0) ≡ replicate READS (Base 0)
+blank_origins k few =
+    let long : length (replicate {A = ℕ} k 0) ≡ k = length-replicate k 0 in
+    let all : k + (READS - k) ≡ READS = omega arith in
+    rw (blank_words k, long)
+    (replicate-append-replicate k (READS - k) (Base 0) ∙ ap (λ (n : ℕ). replicate n (Base 0)) all)
 
 -- one source more
 pub origins_more : (ws : List ℕ) (os : List Origin) (j : ℕ) (x : Origin) → j < length ws → length ws ≤ READS → os ≡ map origin_of (take j ws) ++ replicate (READS - j) (Base 0) → x ≡ origin_of (get_or ws j 0) →

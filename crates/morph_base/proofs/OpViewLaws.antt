@@ -1,27 +1,27 @@
 -- What contracts see of `PlanOps`, by its fields.
-use Rattle.std.proofs.Common.{◌≡◌, ℕ, zero, suc, ◌+◌, ◌<◌, ◌≤◌, List, [], ◌∷◌, ◌++◌, length, get_or, set, take, drop, map, refl, sym, ap, ◌∙◌, subst, arith, le_refl}
+use Rattle.std.proofs.Common.{◌≡◌, ℕ, zero, suc, ◌+◌, ◌<◌, ◌≤◌, List, [], ◌∷◌, ◌++◌, length, get_or, set, take, drop, map, replicate, refl, sym, ap, ◌∙◌, subst, arith, le_refl}
 use Rattle.std.specs.List.{range_with_len, sum_by}
 use Rattle.std.proofs.lemmas.List.Sums.{sum_by_push}
-use Rattle.std.proofs.lemmas.List.{drop_more, take_more, take_all, length-map, length-set}
-use Rattle.morph_base.specs.declared.limits.TheConstants.{MAX}
+use Rattle.std.proofs.lemmas.List.{drop_more, take_more, take_all, length-set, length-replicate, length-take-le}
+use Rattle.morph_base.specs.declared.limits.TheConstants.{PARAMS, READS}
 use Rattle.morph_base.specs.declared.key.Key.{Key}
-use Rattle.morph_base.specs.declared.plan.Origin.{Origin}
+use Rattle.morph_base.specs.declared.operation.Op.{Op}
 use Rattle.morph_base.specs.declared.plan.Origin.TheVariants.{Base}
 use Rattle.morph_base.specs.declared.plan.PlanOp.{PlanOp}
 use Rattle.morph_base.specs.Contents.{Contents}
 use Rattle.morph_base.specs.Functions.{value_of, result_of}
-use Rattle.morph_base.specs.Operations.{reads, no_key}
+use Rattle.morph_base.specs.Operations.{reads, no_key, op_of, limited_to, IsShaped}
 use Rattle.morph_base.specs.Plans.{no_plan_op}
 use Rattle.morph_base.proofs.ShapeLaws.{reads-op_of}
 use Rattle.morph_base.specs.declared.plan_ops.OpHead.{OpHead}
 use Rattle.morph_base.specs.declared.plan_ops.OpMark.{OpMark}
-use Rattle.morph_base.specs.declared.plan_ops.PlanOpParts.{PlanOpParts}
 use Rattle.morph_base.specs.declared.plan_ops.PlanOps.TheInside.{Inside}
-use Rattle.morph_base.specs.OpParts.{origin_of, made_of, no_head, no_mark, head_at, row_of, part_op, part_ops, reads_in, AreParts}
-use Rattle.morph_base.specs.OpLists.{OpList, op_list, with_base, word_of, planned, places_before}
+use Rattle.morph_base.specs.OpParts.{origin_of, origins_in, made_of, no_head, no_mark, head_at, row_of, part_op, part_ops, reads_in, AreParts}
+use Rattle.morph_base.specs.OpLists.{OpList, op_list, with_origin, places_before}
 use Rattle.morph_base.specs.OpViews.{ops_of, AreOps}
-use Rattle.morph_base.proofs.OpRowLaws.{length_row, get_or_row, origin_base, origin_at_word}
-use Rattle.morph_base.proofs.OpPartLaws.{count_parts, part_is, parts_more, parts-set, parts-set-are}
+use Rattle.morph_base.proofs.OpRowLaws.{length_row, get_or_row, origin_at_word, blank_origins}
+use Rattle.morph_base.proofs.OpPushLaws.{shaped_is}
+use Rattle.morph_base.proofs.OpPartLaws.{count_parts, part_is, parts_more, parts-set, parts-set-are, parts-mark, parts-mark-are}
 
 -- a list with a first item is that item and the rest
 first_and_rest : (ks : List Key) → 0 < length ks → get_or ks 0 no_key ∷ drop 1 ks ≡ ks
@@ -116,37 +116,83 @@ module _ (s : Inside) (v : OpList) (is : ops_of s ≡ v) (are : AreOps s) where
     pub inside_is : (j : ℕ) → j < length (reads (get_or v.items o no_plan_op).op) → (head_at s.heads.items o).place + j < length s.places.items
     inside_is j place = omega (arith, places_is, are.parts.inside o inner)
 
-    -- with another base at a place
-    module _ (j w : ℕ) (place : j < length (reads (get_or v.items o no_plan_op).op)) (small : w ≤ MAX) where
+    -- with another source at a place
+    module _ (j w : ℕ) (place : j < length (reads (get_or v.items o no_plan_op).op)) where
       in_row : j < (head_at s.heads.items o).reads
       in_row = omega (arith, places_is)
 
-      pub based : part_ops s.heads.items s.marks.items s.keys.items (set s.places.items ((head_at s.heads.items o).place + j) w) s.lows.items s.high
-          ≡ set v.items o (with_base (get_or v.items o no_plan_op) j w)
-      based =
-          parts-set s.heads.items s.marks.items s.keys.items s.places.items s.lows.items s.high o j w are.parts inner in_row
-          ∙ rw (origin_base w (omega arith), ← op_is, ← is) refl
+      abbrev word_set : List ℕ
+      word_set = set s.places.items ((head_at s.heads.items o).place + j) w
 
-      pub based-are : AreParts s.heads.items s.marks.items s.keys.items (set s.places.items ((head_at s.heads.items o).place + j) w) s.lows.items
-      based-are = parts-set-are s.heads.items s.marks.items s.keys.items s.places.items s.lows.items s.high o j w are.parts inner in_row
+      sourced : part_ops s.heads.items s.marks.items s.keys.items word_set s.lows.items s.high
+          ≡ set v.items o (with_origin (get_or v.items o no_plan_op) j (origin_of w))
+      sourced =
+          parts-set s.heads.items s.marks.items s.keys.items s.places.items s.lows.items s.high o j w are.parts inner in_row
+          ∙ rw (← op_is, ← is) refl
+
+      sourced-are : AreParts s.heads.items s.marks.items s.keys.items word_set s.lows.items
+      sourced-are =
+          parts-set-are s.heads.items s.marks.items s.keys.items s.places.items s.lows.items s.high o j w are.parts inner
+          in_row
 
       -- so with the list of words that has it
-      module _ (now : Contents ℕ) (items : now.items ≡ set s.places.items ((head_at s.heads.items o).place + j) w) (room : now.room ≡ s.places.room) where
-        pub based_view : ops_of (record s { places = now }) ≡ record v { items = set v.items o (with_base (get_or v.items o no_plan_op) j w) }
-        based_view =
-            same_view (ap (λ (ws : List ℕ). part_ops s.heads.items s.marks.items s.keys.items ws s.lows.items s.high) items ∙ based)
+      module _ (now : Contents ℕ) (items : now.items ≡ word_set) (room : now.room ≡ s.places.room) where
+        pub sourced_view : ops_of (record s { places = now })
+            ≡ record v { items = set v.items o (with_origin (get_or v.items o no_plan_op) j (origin_of w)) }
+        sourced_view =
+            let of_words : List ℕ → List PlanOp
+            = λ ws. part_ops s.heads.items s.marks.items s.keys.items ws s.lows.items s.high in
+            same_view (ap of_words items ∙ sourced)
             (ap (λ (x : OpList). x.high) is) (ap (λ (x : OpList). x.room) is) (room ∙ ap (λ (x : OpList). x.spare) is)
 
-        pub based_are : AreOps (record s { places = now })
-        based_are =
-            let long : length now.items ≡ length s.places.items = ap length items ∙ length-set s.places.items ((head_at s.heads.items o).place + j) w in
+        pub sourced_are : AreOps (record s { places = now })
+        sourced_are =
+            let long : length now.items ≡ length s.places.items
+            = ap length items ∙ length-set s.places.items ((head_at s.heads.items o).place + j) w in
+            let fit : List ℕ → Type 0 = λ ws. AreParts s.heads.items s.marks.items s.keys.items ws s.lows.items in
             record {
-              parts = subst (λ (ws : List ℕ). AreParts s.heads.items s.marks.items s.keys.items ws s.lows.items) (sym items) based-are;
+              parts = subst fit (sym items) sourced-are;
               marks = are.marks;
               keys = omega (arith, room, are.keys);
               lows = are.lows;
               fits = omega (arith, room, long, are.fits);
             }
+
+    -- at another level, with the list of marks that has it
+    module _ (event level : ℕ) (same : event ≡ (get_or v.items o no_plan_op).event) (now : Contents OpMark)
+        (items : now.items ≡ set s.marks.items o (record { event = event; level = level }))
+        (room : now.room ≡ s.marks.room) where
+      abbrev mark : OpMark
+      mark = record { event = event; level = level }
+
+      leveled : part_ops s.heads.items (set s.marks.items o mark) s.keys.items s.places.items s.lows.items s.high
+          ≡ set v.items o (record (get_or v.items o no_plan_op) { level = level })
+      leveled =
+          parts-mark s.heads.items s.marks.items s.keys.items s.places.items s.lows.items s.high o mark are.parts inner
+          ∙ rw (same, ← op_is, ← is) refl
+
+      leveled-are : AreParts s.heads.items (set s.marks.items o mark) s.keys.items s.places.items s.lows.items
+      leveled-are =
+          parts-mark-are s.heads.items s.marks.items s.keys.items s.places.items s.lows.items s.high o mark are.parts inner
+
+      pub leveled_view : ops_of (record s { marks = now })
+          ≡ record v { items = set v.items o (record (get_or v.items o no_plan_op) { level = level }) }
+      leveled_view =
+          let of_marks : List OpMark → List PlanOp
+          = λ ms. part_ops s.heads.items ms s.keys.items s.places.items s.lows.items s.high in
+          same_view (ap of_marks items ∙ leveled)
+          (ap (λ (x : OpList). x.high) is) (ap (λ (x : OpList). x.room) is) (ap (λ (x : OpList). x.spare) is)
+
+      pub leveled_are : AreOps (record s { marks = now })
+      leveled_are =
+          let fit : List OpMark → Type 0 = λ ms. AreParts s.heads.items ms s.keys.items s.places.items s.lows.items in
+          record {
+            parts = subst fit (sym items) leveled-are;
+            marks = omega (arith, room, are.marks);
+            keys = are.keys;
+            lows = are.lows;
+            fits = are.fits;
+          }
 
   -- how many places stand before an operation
   pub before_is : (o : ℕ) → o ≤ length v.items → places_before v.items o ≡ sum_by reads_in (take o s.heads.items)
@@ -172,15 +218,31 @@ module _ (s : Inside) (v : OpList) (is : ops_of s ≡ v) (are : AreOps s) where
       ∙ ap (λ (hs : List OpHead). sum_by reads_in hs) (take_all (length v.items) s.heads.items (omega (arith, count_is)))
       ∙ sym are.parts.whole
 
-  -- one operation more
-  pub added : (part : PlanOpParts) (key : Key) (params : List Key) (origins : List Origin) (lows' : List ℕ) → map origin_of (map word_of origins) ≡ origins → length origins ≡ length params + 1 →
-      ((o : ℕ) → o < length s.heads.items → get_or lows' o 0 ≡ get_or s.lows.items o 0) → get_or lows' (length s.heads.items) 0 ≡ part.low →
-      part_ops (s.heads.items ++ record { c = part.c; place = length s.places.items; func = part.func; reads = length origins } ∷ []) (s.marks.items ++ record { event = part.event; level = part.level } ∷ [])
-      (s.keys.items ++ (key ∷ params)) (s.places.items ++ map word_of origins) lows' s.high
-      ≡ v.items ++ planned v.high part key params origins ∷ []
-  added part key params origins lows' back places others own =
-      let h : OpHead = record { c = part.c; place = length s.places.items; func = part.func; reads = length origins } in
-      let m : OpMark = record { event = part.event; level = part.level } in
-      let long : length (map word_of origins) ≡ length origins = length-map origins word_of in
-      let more = parts_more s.heads.items s.marks.items s.keys.items s.places.items s.lows.items lows' s.high part.low h m (key ∷ params) (map word_of origins) are.parts others own refl (omega arith) (omega arith) in
-      more ∙ rw (back, long, ← is) refl
+  -- one operation more, whose sources are still to be set
+  module _ (op : Op) (event : ℕ) (lows' : List ℕ) (shaped : IsShaped op) (long : length op.params ≡ PARAMS) where
+    abbrev head : OpHead
+    head = record { c = op.c; place = length s.places.items; func = op.func; reads = op.n_params + 1 }
+
+    abbrev words : List ℕ
+    words = replicate (length (reads op)) 0
+
+    count : length (take op.n_params op.params) ≡ op.n_params
+    count = length-take-le op.n_params op.params shaped.held
+
+    blank : origins_in words ≡ replicate READS (Base 0)
+    blank = blank_origins (length (reads op)) (omega (arith, count, shaped.places))
+
+    pub added : op.high ≡ v.high → ((o : ℕ) → o < length s.heads.items → get_or lows' o 0 ≡ get_or s.lows.items o 0)
+        → get_or lows' (length s.heads.items) 0 ≡ op.low
+        → part_ops (s.heads.items ++ head ∷ []) (s.marks.items ++ record { event = event; level = 1 } ∷ [])
+        (s.keys.items ++ reads op) (s.places.items ++ words) lows' s.high
+        ≡ v.items ++ record { op = op; event = event; origins = replicate READS (Base 0); level = 1 } ∷ []
+    added high others own =
+        let m : OpMark = record { event = event; level = 1 } in
+        let limit : s.high ≡ op.high = ap (λ (x : OpList). x.high) is ∙ sym high in
+        let made : Op = op_of op.func op.key (take op.n_params op.params) op.c in
+        let whole : limited_to op.low s.high made ≡ op
+        = ap (λ (most : ℕ). limited_to op.low most made) limit ∙ shaped_is op shaped long in
+        parts_more s.heads.items s.marks.items s.keys.items s.places.items s.lows.items lows' s.high op.low head m
+        (reads op) words are.parts others own refl (omega (arith, count)) (length-replicate (length (reads op)) 0)
+        ∙ rw (whole, blank, ← is) refl

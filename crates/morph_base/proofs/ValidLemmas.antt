@@ -52,11 +52,6 @@ pub distinct_none : {K : Type 0} (e : K → K → Bool) → IsDistinct e []
 unfolding IsDistinct
 distinct_none e = tt
 
-pub All-from_map : {X Y : Type 0} (P : Y → Type 0) (f : X → Y) (xs : List X) → All P (map f xs) → All (λ x. P (f x)) xs
-All-from_map P f xs all k d lt =
-    let at : get_or (map f xs) k (f d) ≡ f (get_or xs k d) = get_or-map f xs k d (f d) lt in
-    subst P at (all k (f d) (omega (arith, length-map xs f)))
-
 -- the places from n on hold no key, read in the list and in its end
 pub blank_at : (keys : List Key) (n : ℕ) → All (λ key. key ≡ no_key) (drop n keys) → (j : ℕ) (d : Key) → n ≤ j → j < length keys → get_or keys j d ≡ no_key
 blank_at keys n blank j d from lt =

@@ -1,13 +1,13 @@
-ghost use Rattle.std.specs.Prelude.{◌≡◌, ℕ, ◌+◌, ◌<◌, ◌≤◌, [], ◌∷◌, ◌++◌, length, map, take, drop, All};
+ghost use Rattle.std.specs.Prelude.{◌≡◌, ℕ, ◌+◌, ◌<◌, ◌≤◌, [], ◌∷◌, ◌++◌, length, take, drop, replicate, All};
 ghost use Rattle.std.specs.Prelude.{slice_set, slice_index_or, IfOk, IfSome};
-ghost use Rattle.morph_base.specs.declared.plan.Origin.TheVariants.{Base};
+ghost use Rattle.morph_base.specs.declared.plan.Origin.TheVariants.{Base, Op as Written};
 ghost use Rattle.morph_base.specs.declared.limits.TheConstants.{MAX, PARAMS, READS};
 ghost use Rattle.morph_base.specs.Functions.{value_of};
 ghost use Rattle.morph_base.specs.Operations.{reads, no_key, op_of, IsShaped};
 ghost use Rattle.morph_base.specs.Plans.{no_plan_op};
 ghost use Rattle.morph_base.specs.Words.{finished};
 ghost use Rattle.morph_base.specs.OpParts.{origin_of, origins_in, row_of};
-ghost use Rattle.morph_base.specs.OpLists.{with_base, op_list, word_of, HasWord, planned, places_before};
+ghost use Rattle.morph_base.specs.OpLists.{with_origin, op_list, places_before};
 
 use crate::evaluation::eval_by;
 use crate::key::Key;
@@ -34,16 +34,6 @@ struct OpHead {
 /// The number of an operation's event, and its level.
 #[derive(Clone, Copy, Debug)]
 struct OpMark {
-    event: u32,
-    level: u32,
-}
-
-/// What an operation does and where it stands, without its keys and sources.
-#[derive(Clone, Copy, Debug)]
-struct PlanOpParts {
-    func: Func,
-    c: u64,
-    low: u64,
     event: u32,
     level: u32,
 }
@@ -122,67 +112,37 @@ impl PlanOps {
         })
     }
 
-    /// Appends an operation, by its parts and the used part of its keys and sources.
-    fn add_parts(&mut self, part: &PlanOpParts, key: Key, params: &[Key], origins: &[Origin])
-        requires room { 0 < self.old.room }
-        requires spare { length origins.now ≤ self.old.spare }
-        requires places { length origins.now ≡ length params.now + 1 }
-        requires few { length origins.now ≤ READS }
-        requires words { All HasWord origins.now }
-        ensures items { self.new.items ≡ self.old.items ++ planned self.old.high part.now key params.now origins.now ∷ [] }
-        ensures high { self.new.high ≡ self.old.high }
-        ensures room { self.old.room ≡ self.new.room + 1 }
-        ensures spare { self.old.spare ≡ self.new.spare + length origins.now }
-    {
-        let o = self.heads.len();
-        let place = self.places.len();
-        self.keys.add(key);
-        add_keys(&mut self.keys, params);
-        add_words(&mut self.places, origins);
-        add_floor(&mut self.lows, o, part.low);
-        self.heads.add(OpHead {
-            c: part.c,
-            place: place as u32,
-            func: part.func,
-            reads: origins.len() as u8,
-        });
-        self.marks.add(OpMark {
-            event: part.event,
-            level: part.level,
-        });
-    }
-
-    /// Appends an operation of a valid shape, with its event, its level and its sources, where there is room for it.
-    /// The places that it does not use hold `Base(0)`.
-    pub fn add(&mut self, op: &Op, event: u32, level: u32, origins: &[Origin; READS])
+    /// Appends an operation of a valid shape with its event, where there is room for it. It is at level 1, and its
+    /// sources are all `Base(0)`, for the caller to set.
+    pub fn add(&mut self, op: &Op, event: u32)
         requires room { 0 < self.old.room }
         requires spare { READS ≤ self.old.spare }
         requires shaped { IsShaped op.now }
         requires high { op.now.high ≡ self.old.high }
-        requires unused { (j : ℕ) → op.now.n_params < j → j < READS
-            → slice_index_or origins.now j (Base 0) ≡ Base 0 }
-        requires words { All HasWord origins.now }
         ensures items { self.new.items ≡ self.old.items ++ record {
           op = op.now;
           event = event;
-          origins = origins.now;
-          level = level;
+          origins = replicate READS (Base 0);
+          level = 1;
         } ∷ [] }
         ensures high { self.new.high ≡ self.old.high }
         ensures room { self.old.room ≡ self.new.room + 1 }
         ensures spare { self.old.spare ≡ self.new.spare + length (reads op.now) }
     {
+        let o = self.heads.len();
+        let place = self.places.len();
         let n = usize::from(op.n_params);
-        let params = keys_used(&op.params, n);
-        let origins = sources_used(origins, n + 1);
-        let parts = PlanOpParts {
-            func: op.func,
+        self.keys.add(op.key);
+        self.places.add(0);
+        add_params(&mut self.keys, &mut self.places, keys_used(&op.params, n));
+        add_floor(&mut self.lows, o, op.low);
+        self.heads.add(OpHead {
             c: op.c,
-            low: op.low,
-            event,
-            level,
-        };
-        self.add_parts(&parts, op.key, params, origins);
+            place: place as u32,
+            func: op.func,
+            reads: op.n_params + 1,
+        });
+        self.marks.add(OpMark { event, level: 1 });
     }
 
     /// An operation, put together from its parts. It is large: the calls below read one part alone.
@@ -325,10 +285,49 @@ impl PlanOps {
         requires inside { o < length self.old.items }
         requires place { j < length (reads (slice_index_or self.old.items o no_plan_op).op) }
         requires small { value ≤ MAX }
-        ensures { self.new ≡ record self.old { items = slice_set self.old.items o (with_base (slice_index_or self.old.items o no_plan_op) j value) } }
+        ensures { self.new ≡ record self.old {
+          items = slice_set self.old.items o
+              (with_origin (slice_index_or self.old.items o no_plan_op) j (Base value));
+        } }
+    {
+        self.set_word(o, j, value);
+    }
+
+    /// Replaces the source of a place by an operation.
+    pub fn set_source(&mut self, o: usize, j: usize, source: u32)
+        requires inside { o < length self.old.items }
+        requires place { j < length (reads (slice_index_or self.old.items o no_plan_op).op) }
+        ensures { self.new ≡ record self.old {
+          items = slice_set self.old.items o
+              (with_origin (slice_index_or self.old.items o no_plan_op) j (Written source));
+        } }
+    {
+        self.set_word(o, j, word_of(source));
+    }
+
+    /// Replaces the source of a place by the one that a word names.
+    fn set_word(&mut self, o: usize, j: usize, word: u64)
+        requires inside { o < length self.old.items }
+        requires place { j < length (reads (slice_index_or self.old.items o no_plan_op).op) }
+        ensures { self.new ≡ record self.old {
+          items = slice_set self.old.items o
+              (with_origin (slice_index_or self.old.items o no_plan_op) j (origin_of word));
+        } }
     {
         let place = self.heads.get(o).place as usize;
-        self.places.set(place + j, value);
+        self.places.set(place + j, word);
+    }
+
+    /// Replaces the level of an operation.
+    pub fn set_level(&mut self, o: usize, level: u32)
+        requires { o < length self.old.items }
+        ensures { self.new ≡ record self.old {
+          items = slice_set self.old.items o
+              (record (slice_index_or self.old.items o no_plan_op) { level = level });
+        } }
+    {
+        let event = self.marks.get(o).event;
+        self.marks.set(o, OpMark { event, level });
     }
 }
 
@@ -353,48 +352,25 @@ fn keys_used(params: &[Key; PARAMS], n: usize) -> &[Key]
     &params[..n]
 }
 
-/// The first `n` of an operation's sources, with the length of the array.
-fn sources_used(origins: &[Origin; READS], n: usize) -> &[Origin]
-    requires { n ≤ READS }
-    ensures front { result.now ≡ take n origins.now }
-    ensures whole { length origins.now ≡ READS }
+/// The word of a source that is an operation.
+fn word_of(source: u32) -> u64
+    ensures { origin_of result ≡ Written source }
 {
-    &origins[..n]
+    9_223_372_036_854_775_808 + u64::from(source)
 }
 
-/// The word of a source.
-fn word_of(origin: Origin) -> u64
-    requires { HasWord origin }
-    ensures word { result ≡ word_of origin }
-    ensures back { origin_of result ≡ origin }
+/// Appends the keys of parameters where there is room, and for the source of each the word of `Base(0)`.
+fn add_params(keys: &mut List<Key>, places: &mut List<u64>, params: &[Key])
+    requires room { length params.now ≤ keys.old.room }
+    requires spare { length params.now ≤ places.old.room }
+    ensures keys { keys.new.items ≡ keys.old.items ++ params.now }
+    ensures places { places.new.items ≡ places.old.items ++ replicate (length params.now) 0 }
+    ensures room { keys.old.room ≡ keys.new.room + length params.now }
+    ensures spare { places.old.room ≡ places.new.room + length params.now }
 {
-    match origin {
-        Origin::Base(value) => value,
-        Origin::Op(source) => 9_223_372_036_854_775_808 + u64::from(source),
-    }
-}
-
-/// Appends keys where there is room.
-fn add_keys(list: &mut List<Key>, keys: &[Key])
-    requires { length keys.now ≤ list.old.room }
-    ensures items { list.new.items ≡ list.old.items ++ keys.now }
-    ensures room { list.old.room ≡ list.new.room + length keys.now }
-{
-    for key in keys {
-        list.add(*key);
-    }
-}
-
-/// Appends the words of sources where there is room.
-fn add_words(list: &mut List<u64>, origins: &[Origin])
-    requires room { length origins.now ≤ list.old.room }
-    requires words { All HasWord origins.now }
-    ensures items { list.new.items ≡ list.old.items ++ map word_of origins.now }
-    ensures room { list.old.room ≡ list.new.room + length origins.now }
-    ensures back { map origin_of (map word_of origins.now) ≡ origins.now }
-{
-    for origin in origins {
-        list.add(word_of(*origin));
+    for key in params {
+        keys.add(*key);
+        places.add(0);
     }
 }
 

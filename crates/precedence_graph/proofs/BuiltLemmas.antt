@@ -61,16 +61,16 @@ module _ (x : Txns) (is : IsTxns x) (p : Plan) (done : ArePlanned x (txn_op_coun
       let inside : k < length p.ops.items = omega (arith, length-map p.ops.items (λ q. q.op)) in
       get_or-map (λ q. q.op) p.ops.items k no_plan_op d inside ∙ (done.each k (omega arith)).op_is ∙ get_or_default (txn_ops x) k no_op d (omega arith))
 
-  pub event_of_column : map (λ q. q.event) p.ops.items ≡ x.event_of.items
+  pub event_of_column : map (λ q. q.event) p.ops.items ≡ x.event_of
   event_of_column =
-      same_lists (map (λ q. q.event) p.ops.items) x.event_of.items (length-map p.ops.items (λ q. q.event) ∙ done.many ∙ sym is.events_of)
+      same_lists (map (λ q. q.event) p.ops.items) x.event_of (length-map p.ops.items (λ q. q.event) ∙ done.many ∙ sym is.events_of)
       (λ k d lt. let many : length p.ops.items ≡ txn_op_count x = done.many in
-      let long : length x.event_of.items ≡ txn_op_count x = is.events_of in
+      let long : length x.event_of ≡ txn_op_count x = is.events_of in
       let inside : k < length p.ops.items = omega (arith, length-map p.ops.items (λ q. q.event)) in
-      get_or-map (λ q. q.event) p.ops.items k no_plan_op d inside ∙ (done.each k (omega arith)).event_is ∙ get_or_default x.event_of.items k 0 d (omega arith))
+      get_or-map (λ q. q.event) p.ops.items k no_plan_op d inside ∙ (done.each k (omega arith)).event_is ∙ get_or_default x.event_of k 0 d (omega arith))
 
-  pub event_column : map txn_event p.events.items ≡ x.events.items
-  event_column = events_done.events_are ∙ take_all (txn_count x) x.events.items (omega arith)
+  pub event_column : map txn_event p.events.items ≡ x.events
+  event_column = events_done.events_are ∙ take_all (txn_count x) x.events (omega arith)
 
   -- ---- so they number the same
   pub events_same : txn_count x ≡ event_count p
@@ -96,7 +96,7 @@ module _ (x : Txns) (is : IsTxns x) (p : Plan) (done : ArePlanned x (txn_op_coun
 
   pub transactions_same : transactions p ≡ txn_transactions x
   transactions_same =
-      sym (ap (λ ops. map (transaction_among ops) x.events.items) (sym op_column) ∙ ap (map (transaction_among (map (λ q. q.op) p.ops.items))) (sym event_column) ∙ map-map (transaction_among (map (λ q. q.op) p.ops.items)) txn_event p.events.items ∙ ap (λ (f : PlanEvent → Transaction). map f p.events.items) (fun_ext cut))
+      sym (ap (λ ops. map (transaction_among ops) x.events) (sym op_column) ∙ ap (map (transaction_among (map (λ q. q.op) p.ops.items))) (sym event_column) ∙ map-map (transaction_among (map (λ q. q.op) p.ops.items)) txn_event p.events.items ∙ ap (λ (f : PlanEvent → Transaction). map f p.events.items) (fun_ext cut))
     where
       cut : (e : PlanEvent) → transaction_among (map (λ q. q.op) p.ops.items) (txn_event e) ≡ transaction_in p.ops.items e
       cut e =

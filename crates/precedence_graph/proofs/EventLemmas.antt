@@ -103,13 +103,13 @@ module _ (x : Txns) (is : IsTxns x) (ops : List PlanOp) (n : ℕ) (done : ArePla
 
   pub events_many : (m : ℕ) (events : List PlanEvent) → m ≤ txn_count x → AreEventsPlanned x ops m events → length events ≡ m
   events_many m events le so_far =
-      omega (arith, length-map events txn_event, ap length so_far.events_are, length-take m x.events.items)
+      omega (arith, length-map events txn_event, ap length so_far.events_are, length-take m x.events)
 
   pub events_more : (m : ℕ) (events : List PlanEvent) (e : PlanEvent) → m < txn_count x → EndBy x (m + 1) n → AreEventsPlanned x ops m events → txn_event e ≡ txn_at x m → e.level ≡ 1 + greatest (map (level_of (event_level_in ops events)) (event_sources_of (members_of x ops m))) → e.level ≤ m + 1 → AreEventsPlanned x ops (m + 1) (events ++ e ∷ [])
   events_more m events e lt end so_far event_is level_is low =
       let many : length events ≡ m = events_many m events (omega arith) so_far in
       record {
-        events_are = map_push txn_event events e ∙ ap (λ xs. xs ++ txn_event e ∷ []) so_far.events_are ∙ ap (λ t. take m x.events.items ++ t ∷ []) event_is ∙ sym (take_more x.events.items m no_txn lt);
+        events_are = map_push txn_event events e ∙ ap (λ xs. xs ++ txn_event e ∷ []) so_far.events_are ∙ ap (λ t. take m x.events ++ t ∷ []) event_is ∙ sym (take_more x.events m no_txn lt);
         level_is = λ i below. elim (cases_lt i m) [
           | inl less ↦ ap (λ q. q.level) (get_or_append_left events (e ∷ []) no_event i (omega arith)) ∙ so_far.level_is i less ∙ ap (λ ls. 1 + greatest ls) (sym (levels_stay i m events (e ∷ []) (omega arith) (omega arith) (end i below) many))
           | inr more ↦ let last : m ≡ i = omega arith in
@@ -123,7 +123,7 @@ module _ (x : Txns) (is : IsTxns x) (ops : List PlanOp) (n : ℕ) (done : ArePla
 
 module _ (x : Txns) (is : IsTxns x) (ops : List PlanOp) (events : List PlanEvent) (done : AreEventsPlanned x ops (txn_count x) events) where
   all_events_many : length events ≡ txn_count x
-  all_events_many = omega (arith, length-map events txn_event, ap length done.events_are, length-take (txn_count x) x.events.items)
+  all_events_many = omega (arith, length-map events txn_event, ap length done.events_are, length-take (txn_count x) x.events)
 
   pub event_levels_positive : All (λ e. 0 < e.level) events
   event_levels_positive k d lt =
@@ -133,7 +133,7 @@ module _ (x : Txns) (is : IsTxns x) (ops : List PlanOp) (events : List PlanEvent
   pub event_counts : All (λ e. (0 < e.count) × (e.count ≤ EVENT_OPS)) events
   event_counts k d lt =
       let inside : k < txn_count x = omega (arith, all_events_many) in
-      let same : txn_at x k ≡ txn_event (get_or events k d) = ap (λ es. get_or es k no_txn) (sym (done.events_are ∙ take_all (txn_count x) x.events.items (omega arith))) ∙ get_or-map txn_event events k d no_txn lt in
+      let same : txn_at x k ≡ txn_event (get_or events k d) = ap (λ es. get_or es k no_txn) (sym (done.events_are ∙ take_all (txn_count x) x.events (omega arith))) ∙ get_or-map txn_event events k d no_txn lt in
       subst (λ (e : TxnEvent). (0 < e.count) × (e.count ≤ EVENT_OPS)) same (is.numbering.counts k inside)
 
   pub events_few : length events ≤ EVENTS

@@ -1,5 +1,5 @@
 -- The greatest of some numbers, and the numbers below n.
-use Rattle.std.proofs.Common.{◌≡◌, ℕ, ◌+◌, ◌<◌, ◌≤◌, Bool, cond, List, [], ◌∷◌, ◌++◌, length, get_or, take, filter, refl, ap, subst, ◌∙◌, arith}
+use Rattle.std.proofs.Common.{◌≡◌, ℕ, ◌+◌, ◌<◌, ◌≤◌, Bool, cond, List, [], ◌∷◌, ◌++◌, length, get_or, take, filter, ap, subst, ◌∙◌, arith}
 use Rattle.std.specs.Prelude.{max, All}
 use Rattle.std.proofs.lemmas.List.{take_more, map-id}
 use Rattle.std.proofs.lemmas.List.Elements.{filter-append, All-head, All-tail}
@@ -20,9 +20,6 @@ pub greatest-le : (m : ℕ) (xs : List ℕ) → All (λ x. x ≤ m) xs → great
 greatest-le m [] h = omega arith
 greatest-le m (x ∷ xs) h =
     omega (arith, All-head (λ y. y ≤ m) x xs h, greatest-le m xs (All-tail (λ y. y ≤ m) x xs h))
-
-one_number : (p : ℕ → Bool) (n : ℕ) → filter p (n ∷ []) ≡ cond (p n) (n ∷ []) []
-one_number p n = refl
 
 pub filter-below_more : (p : ℕ → Bool) (n : ℕ) → filter p (below (n + 1)) ≡ filter p (below n) ++ cond (p n) (n ∷ []) []
 filter-below_more p n = ap (filter p) (below_more n) ∙ filter-append p (below n) (n ∷ [])

@@ -1,7 +1,7 @@
 -- Lists that are made from a function of the place, and a write to one element of a list that was lent.
-use Rattle.std.proofs.Common.{◌≡◌, ◌≢◌, ℕ, zero, suc, ◌+◌, ◌-◌, ◌<◌, ◌≤◌, le_refl, sum_by, List, [], ◌∷◌, ◌++◌, length, get_or, set, take, drop, map, replicate, refl, sym, ap, ◌∙◌, inl, inr, arith}
+use Rattle.std.proofs.Common.{◌≡◌, ◌≢◌, ℕ, zero, suc, ◌+◌, ◌<◌, ◌≤◌, sum_by, List, [], ◌∷◌, ◌++◌, length, get_or, set, take, drop, map, replicate, refl, sym, ap, ◌∙◌, inl, inr, arith}
 use Rattle.std.specs.List.{range_with_len}
-use Rattle.std.proofs.lemmas.List.{length-set, set-append_right, length-replicate, get_or-replicate, take_at, map-set, get_or-map, get_or-set_same, get_or-set_other, get_or_default, same_lists, length-take, length-drop, get_or-take, get_or-drop}
+use Rattle.std.proofs.lemmas.List.{length-set, length-replicate, get_or-replicate, take_at, map-set, get_or-map, get_or-set_same, get_or-set_other, get_or_default, same_lists, length-take, length-drop, get_or-take, get_or-drop}
 use Rattle.std.proofs.lemmas.List.Folds.{fold-map}
 use Rattle.std.proofs.lemmas.List.FromFn.{length-map-range_with_len, get_or-map-range_with_len}
 use Rattle.std.proofs.lemmas.Bool.{cases_eq}
@@ -14,11 +14,6 @@ module _ {X Y : Type 0} (f : X → Y) where
       let long : length (set xs i y) ≡ length zs = length-set xs i y ∙ ap length e in
       let now : f y ≡ h (get_or (map f zs) i d) = k ∙ ap (λ ws. h (f (get_or ws i r))) e ∙ ap h (sym (get_or-map f zs i r d inside)) in
       ap (map f) (take_at (set xs i y) _ (length zs) long) ∙ map-set f xs i y ∙ ap (λ ws. set (map f ws) i (f y)) e ∙ ap (λ v. set (map f zs) i v) now
-
-module _ {X : Type 0} where
-  -- the item that was appended is changed in place
-  pub set_push : (xs : List X) (a b : X) (i : ℕ) → length xs ≡ i → set (xs ++ a ∷ []) i b ≡ xs ++ b ∷ []
-  set_push xs a b i last = set-append_right xs (a ∷ []) i i b last (le_refl i) ∙ ap (λ k. xs ++ set (a ∷ []) k b) (let none : i - i ≡ 0 = omega arith in none)
 
 module _ {Y : Type 0} where
   pub length-map-below : (f : ℕ → Y) (n : ℕ) → length (map f (below n)) ≡ n

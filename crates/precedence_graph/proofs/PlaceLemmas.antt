@@ -1,11 +1,15 @@
 -- Sources put place by place, and the greatest level among them.
 use Rattle.std.proofs.Common.{◌≡◌, ℕ, suc, ◌+◌, ◌-◌, ◌<◌, List, ◌∷◌, [], ◌++◌, map, take, replicate, length, get_or, refl, ap, sym, ◌∙◌, le_refl, arith}
 use Rattle.std.specs.Prelude.{max, slice_set}
-use Rattle.std.proofs.lemmas.List.{set-append_right, map_more, map-append, take_more, length-map, length-take, append_assoc}
+use Rattle.std.proofs.lemmas.List.{set-append_right, set-set, set_at, get_or_push, get_or-set_same, map_more, map-append, take_more, length-map, length-take, append_assoc}
 use Rattle.morph_base.specs.declared.key.Key.{Key}
 use Rattle.morph_base.specs.declared.plan.Origin.{Origin}
 use Rattle.morph_base.specs.declared.plan.Origin.TheVariants.{Base}
+use Rattle.morph_base.specs.declared.plan.PlanOp.{PlanOp}
 use Rattle.morph_base.specs.Graphs.{greatest}
+use Rattle.morph_base.specs.OpLists.{OpList, with_origin}
+use Rattle.morph_base.specs.Plans.{no_plan_op}
+use Rattle.precedence_graph.specs.Planned.{planned}
 use Rattle.precedence_graph.proofs.GreatestLemmas.{greatest_push}
 
 put_first : (k m i : ℕ) (x : Origin) → k ≡ suc m → i ≡ 0 → slice_set (replicate k (Base 0)) i x ≡ x ∷ replicate m (Base 0)
@@ -32,3 +36,28 @@ greatest-read_more f g key params j d inside =
     ap (λ keys. greatest (map f (map g (key ∷ keys)))) (take_more params j d inside)
     ∙ ap greatest (ap (map f) (map-append g before (new ∷ [])) ∙ map-append f (map g before) (g new ∷ []))
     ∙ greatest_push (map f (map g before)) (f (g new))
+
+-- the list with other sources for operation o
+abbrev pub with_sources : OpList → ℕ → List Origin → OpList
+with_sources v o sources = record v { items = slice_set v.items o (record (planned v.items o) { origins = sources }) }
+
+-- the list with another source at place j of operation o
+abbrev pub with_source : OpList → ℕ → ℕ → Origin → OpList
+with_source v o j x = record v { items = slice_set v.items o (with_origin (planned v.items o) j x) }
+
+-- with one source more
+pub source_more : (v : OpList) (o : ℕ) → o < length v.items → (sources : List Origin) (j : ℕ) (x : Origin)
+    → with_source (with_sources v o sources) o j x ≡ with_sources v o (slice_set sources j x)
+source_more v o inside sources j x =
+    let q : PlanOp = record (planned v.items o) { origins = sources } in
+    let list : List PlanOp → OpList = λ items. record v { items = items } in
+    ap (λ (p : PlanOp). list (slice_set (slice_set v.items o q) o (with_origin p j x)))
+    (get_or-set_same v.items o q no_plan_op inside)
+    ∙ ap list (set-set v.items o q (with_origin q j x))
+
+-- the last operation, changed in place
+pub put_last : (ops : List PlanOp) (q : PlanOp) (change : PlanOp → PlanOp) (o : ℕ) → o ≡ length ops
+    → slice_set (ops ++ q ∷ []) o (change (planned (ops ++ q ∷ []) o)) ≡ ops ++ change q ∷ []
+put_last ops q change o is =
+    ap (λ (p : PlanOp). slice_set (ops ++ q ∷ []) o (change p)) (get_or_push ops q no_plan_op o (sym is))
+    ∙ set_at ops q [] (change q) o (sym is)

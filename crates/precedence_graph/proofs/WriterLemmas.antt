@@ -1,9 +1,5 @@
 -- The last writers among the first operations, and the sources that they are.
-use Rattle.std.specs.Prelude.{All}
-use Rattle.std.proofs.Common.{◌≡◌, ℕ, zero, suc, ◌-◌, ◌<◌, ◌≤◌, List, length, get_or, map, replicate, inl, inr, arith}
-use Rattle.std.proofs.lemmas.List.Elements.{All-append, All-map, All-replicate}
-use Rattle.morph_base.specs.declared.limits.TheConstants.{READS}
-use Rattle.morph_base.specs.OpLists.{HasWord}
+use Rattle.std.proofs.Common.{◌≡◌, ℕ, zero, suc, ◌<◌, ◌≤◌, inl, inr, arith}
 use Rattle.std.proofs.lemmas.Bool.{cases_lt, cases_eq}
 use Rattle.morph_base.specs.declared.key.Key.{Key}
 use Rattle.morph_base.specs.declared.plan.Origin.{Origin}
@@ -16,7 +12,7 @@ use Rattle.precedence_graph.specs.declared.writers.Writers.{Writers}
 use Rattle.morph_base.specs.Links.{last_passing}
 use Rattle.precedence_graph.specs.Entries.{source_before, changes}
 use Rattle.precedence_graph.specs.Writers.{entered_count, source_in}
-use Rattle.precedence_graph.specs.Planned.{IsAmong, padded}
+use Rattle.precedence_graph.specs.Planned.{IsAmong}
 
 pub among_first : (n : ℕ) (target : ℕ → Key) (key : Key) (origin : Origin) → IsSource n target (λ _. 0) 1 key origin → IsAmong n origin
 among_first n target key (Base v) is = tt
@@ -74,15 +70,3 @@ base_zero writers key v is = of_number (last_passing (changes writers.entries.it
     of_number : (n : ℕ) → source_before n ≡ Base v → v ≡ 0
     of_number zero e = cc
     of_number (suc o) e = cc
-
--- ---- each source can stand as a word
-
-has_word : (n : ℕ) → HasWord (source_before n)
-has_word zero = omega arith
-has_word (suc o) = tt
-
-pub have_words : (writers : Writers) (keys : List Key) → All HasWord (padded (map (source_in writers) keys))
-have_words writers keys =
-    All-append HasWord (map (source_in writers) keys) (replicate (READS - length (map (source_in writers) keys)) (Base 0))
-    (All-map HasWord (source_in writers) keys (λ k d _. has_word (last_passing (changes writers.entries.items (get_or keys k d)) (entered_count writers))))
-    (All-replicate HasWord (READS - length (map (source_in writers) keys)) (Base 0) (omega arith))

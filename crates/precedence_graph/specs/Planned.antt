@@ -119,7 +119,7 @@ txn_event e = record { ts = e.ts; first = e.first; count = e.count }
 
 -- The first n events are planned, with levels of at most n
 pub record AreEventsPlanned (x : Txns) (ops : List PlanOp) (n : ℕ) (events : List PlanEvent) : Type 0 where
-  pub events_are : map txn_event events ≡ take n x.events.items
+  pub events_are : map txn_event events ≡ take n x.events
   pub level_is : (i : ℕ) → i < n
       → (slice_index_or events i no_event).level
       ≡ 1 + greatest (map (level_of (event_level_in ops events)) (event_sources_of (members_of x ops i)))

@@ -26,8 +26,8 @@ pub fn build(alloc: Global, txns: &Txns<'_>) -> Result<Plan, OutOfMemory>
     // Its operations and its events are those of the transactions.
     ensures ops { IfOk result (λ plan. map (λ q. q.op) plan.ops.items ≡ txn_ops txns.now) }
     ensures events_of { IfOk result
-        (λ plan. map (λ q. q.event) plan.ops.items ≡ txns.now.event_of.items) }
-    ensures events { IfOk result (λ plan. map txn_event plan.events.items ≡ txns.now.events.items) }
+        (λ plan. map (λ q. q.event) plan.ops.items ≡ txns.now.event_of) }
+    ensures events { IfOk result (λ plan. map txn_event plan.events.items ≡ txns.now.events) }
     ensures transactions { IfOk result (λ plan. transactions plan ≡ txn_transactions txns.now) }
 
     // Every base is 0.

@@ -9,10 +9,10 @@ ghost use Rattle.precedence_graph.specs.Planned.{members_of, padded};
 ghost use Rattle.precedence_graph.specs.Writers.{entered_level, entered_event_level, source_in};
 
 use crate::edges::Written;
-use crate::sources::{Reads, sources};
-use crate::transactions::{event_at, op_at, op_count};
+use crate::sources::{Reads, set_sources};
+use crate::transactions::event_at;
 use crate::writers::Writers;
-use morph_base::{List, MAX, Op, Origin, OutOfMemory, PlanEvent, PlanOps, READS};
+use morph_base::{List, MAX, Op, OutOfMemory, PlanEvent, PlanOps, READS};
 use std::alloc::Global;
 use txn_splitter::{TxnEvent, Txns};
 
@@ -34,14 +34,14 @@ pub fn plan_transactions(alloc: Global, txns: &Txns<'_>) -> Result<Planned, OutO
         AreEventsPlanned txns.now planned.ops.items (txn_count txns.now) planned.events.items) }
     ensures written { IfOk result (λ planned. IsWrittenOf planned.ops.items planned.written) }
 {
-    let mut writers = Writers::new(alloc, op_count(txns))?;
+    let mut writers = Writers::new(alloc, txns.op_count())?;
     let mut ops = room_for_ops(alloc, txns)?;
-    let mut events = List::with_room(alloc, txns.events.len())?;
+    let mut events = List::with_room(alloc, txns.len())?;
     let mut written = Written {
         targets: 0,
         parameters: 0,
     };
-    for i in 0..txns.events.len() {
+    for i in 0..txns.len() {
         let most = plan_event_ops(txns, i, &writers, &mut ops, &mut written);
         let TxnEvent { ts, first, count } = event_at(txns, i);
         let level = 1 + most;
@@ -89,10 +89,9 @@ fn plan_event_ops(
         (event_sources_of (members_of txns.now ops.new.items i))) }
     ensures written { IsWrittenOf ops.new.items written.new }
 {
-    let event = event_at(txns, i);
     let mut most: u32 = 0;
-    for o in event.first..event.first + event.count {
-        let reads = add_planned(ops, op_at(txns, o), i as u32, writers);
+    for op in txns.ops(i) {
+        let reads = add_planned(ops, op, i as u32, writers);
         most = most.max(reads.event_level);
         written.targets += u64::from(reads.target);
         written.parameters += u64::from(reads.parameters);
@@ -119,9 +118,10 @@ fn add_planned(ops: &mut PlanOps, op: &Op, event: u32, writers: &Writers) -> Rea
     } ∷ [] }
     ensures sums { IsSumOf writers.now op.now result }
 {
-    let mut origins = [Origin::Base(0); READS];
-    let reads = sources(op, writers, &mut origins);
-    ops.add(op, event, 1 + reads.level, &origins);
+    let o = ops.len();
+    ops.add(op, event);
+    let reads = set_sources(ops, o, op, writers);
+    ops.set_level(o, 1 + reads.level);
     reads
 }
 
@@ -131,18 +131,19 @@ fn room_for_ops(alloc: Global, txns: &Txns<'_>) -> Result<PlanOps, OutOfMemory>
     ensures { IfOk result (λ ops. ops ≡ op_list [] (high_in (txn_ops txns.now))
         (txn_op_count txns.now) (READS * txn_op_count txns.now)) }
 {
-    let count = op_count(txns);
+    let count = txns.op_count();
     PlanOps::with_room(alloc, count, READS * count, greatest_value(txns))
 }
 
 /// The greatest value of all operations.
 fn greatest_value(txns: &Txns<'_>) -> u64
+    requires { IsTxns txns.now }
     ensures { result ≡ high_in (txn_ops txns.now) }
 {
-    if txns.ops.is_empty() {
+    if txns.len() == 0 {
         MAX
     } else {
-        txns.ops.get(0).high
+        txns.ops(0)[0].high
     }
 }
 

@@ -1,12 +1,14 @@
-ghost use Rattle.std.specs.Prelude.{◌≡◌, map, replicate};
+ghost use Rattle.std.specs.Prelude.{◌≡◌, ℕ, ◌<◌, length, map, replicate, slice_set, slice_index_or};
 ghost use Rattle.morph_base.specs.declared.limits.TheConstants.{READS};
+ghost use Rattle.morph_base.specs.declared.plan.Origin.TheVariants.{Base};
 ghost use Rattle.morph_base.specs.Operations.{reads, IsShaped};
-ghost use Rattle.precedence_graph.specs.Planned.{IsSumOf, padded};
+ghost use Rattle.morph_base.specs.OpLists.{with_origin};
+ghost use Rattle.precedence_graph.specs.Planned.{IsSumOf, padded, planned};
 ghost use Rattle.precedence_graph.specs.Writers.{source_in};
 
 use crate::edges::written_count;
 use crate::writers::Writers;
-use morph_base::{Op, Origin, READS};
+use morph_base::{Op, Origin, PlanOps};
 
 /// What is known of the sources of an operation.
 #[derive(Clone, Copy, Debug, PartialEq, Eq)]
@@ -21,22 +23,29 @@ pub struct Reads {
     pub parameters: u32,
 }
 
-/// Puts the sources of an operation into its places, its target's first, once the operations of the events before its
-/// own are entered. The places that it does not use keep `Base(0)`.
-pub fn sources(op: &Op, writers: &Writers, origins: &mut [Origin; READS]) -> Reads
+/// Sets the sources of operation `o`, its target's first, once the operations of the events before its own are
+/// entered. It has none yet. Returns what is known of them.
+pub fn set_sources(ops: &mut PlanOps, o: usize, op: &Op, writers: &Writers) -> Reads
+    requires inside { o < length ops.old.items }
+    requires same { (planned ops.old.items o).op ≡ op.now }
     requires shaped { IsShaped op.now }
-    requires blank { origins.old ≡ replicate READS (Origin.Base 0) }
-    ensures origins { origins.new ≡ padded (map (source_in writers.now) (reads op.now)) }
+    requires blank { (planned ops.old.items o).origins ≡ replicate READS (Base 0) }
+    ensures ops { ops.new ≡ record ops.old {
+      items = slice_set ops.old.items o
+          (record (planned ops.old.items o) {
+            origins = padded (map (source_in writers.now) (reads op.now));
+          });
+    } }
     ensures sums { IsSumOf writers.now op.now result }
 {
     let target = writers.source(op.key);
-    origins[0] = target.origin;
+    set_written(ops, o, 0, target.origin);
     let mut level = target.level;
     let mut event_level = target.event_level;
     let mut parameters: u32 = 0;
     for j in 0..op.n_params as usize {
         let source = writers.source(op.params[j]);
-        origins[j + 1] = source.origin;
+        set_written(ops, o, j + 1, source.origin);
         level = level.max(source.level);
         event_level = event_level.max(source.event_level);
         parameters += written_count(source.origin);
@@ -46,5 +55,21 @@ pub fn sources(op: &Op, writers: &Writers, origins: &mut [Origin; READS]) -> Rea
         event_level,
         target: written_count(target.origin),
         parameters,
+    }
+}
+
+/// Sets the source of a place that has `Base(0)`. Only an operation has to be put there, since each base is 0.
+fn set_written(ops: &mut PlanOps, o: usize, j: usize, origin: Origin)
+    requires inside { o < length ops.old.items }
+    requires place { j < length (reads (planned ops.old.items o).op) }
+    requires blank { slice_index_or (planned ops.old.items o).origins j (Base 0) ≡ Base 0 }
+    requires zero { (v : ℕ) → origin ≡ Base v → v ≡ 0 }
+    ensures { ops.new ≡ record ops.old {
+      items = slice_set ops.old.items o
+          (with_origin (planned ops.old.items o) j origin);
+    } }
+{
+    if let Origin::Op(source) = origin {
+        ops.set_source(o, j, source);
     }
 }

@@ -1,3 +1,4 @@
 pub mod TxnLemmas
 pub mod SplitLemmas
 pub mod OrderLemmas
+pub mod ViewLemmas

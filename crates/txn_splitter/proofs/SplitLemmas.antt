@@ -15,8 +15,7 @@ use Rattle.morph_base.specs.Plans.{no_op}
 use Rattle.morph_base.proofs.KeyLaws.{same_key-false}
 use Rattle.morph_base.proofs.OutcomeLaws.{map-agree}
 use Rattle.txn_splitter.specs.declared.txns.TxnEvent.{TxnEvent}
-use Rattle.txn_splitter.specs.declared.txns.Txns.{Txns}
-use Rattle.txn_splitter.specs.Txns.{IsTxns, IsSplitOf, no_txn, transaction_among, txn_ops, txn_count, txn_op_count, txn_at, txn_op_at, txn_of}
+use Rattle.txn_splitter.specs.Txns.{NumberedTxns, IsTxns, IsSplitOf, no_txn, transaction_among, txn_ops, txn_count, txn_op_count, txn_at, txn_op_at, txn_of}
 use Rattle.txn_splitter.proofs.TxnLemmas.{txn_end}
 
 -- an event of k operations after n events and m operations
@@ -162,34 +161,34 @@ distinct_keys ops apart a b lt lt' same =
         (key_at c (omega arith) ∙ e ∙ sym (key_at d h))
 
 -- the transaction of an event does not change with the operations after it
-same_among : (x : Txns) (is : IsTxns x) (more : List Op) (i : ℕ) → i < txn_count x → transaction_among (txn_ops x ++ more) (txn_at x i) ≡ transaction_among (txn_ops x) (txn_at x i)
+same_among : (x : NumberedTxns) (is : IsTxns x) (more : List Op) (i : ℕ) → i < txn_count x → transaction_among (txn_ops x ++ more) (txn_at x i) ≡ transaction_among (txn_ops x) (txn_at x i)
 same_among x is more i lt =
     let e = txn_at x i in
     let end = txn_end x is i lt in
     let made : List Op → Transaction = λ ops. record { ts = e.ts; ops = ops } in
     ap made (ap (take e.count) (drop-append-le e.first (txn_ops x) more (omega arith)) ∙ take-append-le e.count (drop e.first (txn_ops x)) more (omega (arith, length-drop e.first (txn_ops x))))
 
-module _ (es : List Transaction) (x x' : Txns) (t : Transaction) (so_far : IsSplitOf es x)
-    (events_are : x'.events.items ≡ x.events.items ++ record { ts = t.ts; first = txn_op_count x; count = length t.ops } ∷ [])
+module _ (es : List Transaction) (x x' : NumberedTxns) (t : Transaction) (so_far : IsSplitOf es x)
+    (events_are : x'.events ≡ x.events ++ record { ts = t.ts; first = txn_op_count x; count = length t.ops } ∷ [])
     (ops_are : (txn_ops x') ≡ (txn_ops x) ++ t.ops)
-    (numbers_are : x'.event_of.items ≡ x.event_of.items ++ replicate (length t.ops) (txn_count x)) where
+    (numbers_are : x'.event_of ≡ x.event_of ++ replicate (length t.ops) (txn_count x)) where
   abbrev pub new_event : TxnEvent
   new_event = record { ts = t.ts; first = txn_op_count x; count = length t.ops }
 
   event_stays : (i : ℕ) → i < txn_count x → txn_at x' i ≡ txn_at x i
-  event_stays i lt = ap (λ items. get_or items i no_txn) events_are ∙ get_or_append_left x.events.items (new_event ∷ []) no_txn i lt
+  event_stays i lt = ap (λ items. get_or items i no_txn) events_are ∙ get_or_append_left x.events (new_event ∷ []) no_txn i lt
 
   event_is : txn_at x' (txn_count x) ≡ new_event
-  event_is = ap (λ items. get_or items (txn_count x) no_txn) events_are ∙ get_or_push x.events.items new_event no_txn (txn_count x) refl
+  event_is = ap (λ items. get_or items (txn_count x) no_txn) events_are ∙ get_or_push x.events new_event no_txn (txn_count x) refl
 
   number_stays : (o : ℕ) → o < txn_op_count x → txn_of x' o ≡ txn_of x o
   number_stays o lt =
-      let many : length x.event_of.items ≡ txn_op_count x = so_far.txns.events_of in
-      ap (λ items. get_or items o 0) numbers_are ∙ get_or_append_left x.event_of.items (replicate (length t.ops) (txn_count x)) 0 o (omega arith)
+      let many : length x.event_of ≡ txn_op_count x = so_far.txns.events_of in
+      ap (λ items. get_or items o 0) numbers_are ∙ get_or_append_left x.event_of (replicate (length t.ops) (txn_count x)) 0 o (omega arith)
 
   number_is : (o : ℕ) → txn_op_count x ≤ o → o < txn_op_count x + length t.ops → txn_of x' o ≡ txn_count x
   number_is o from below =
-      ap (λ items. get_or items o 0) numbers_are ∙ get_or-append_right x.event_of.items (replicate (length t.ops) (txn_count x)) (txn_op_count x) o 0 so_far.txns.events_of from ∙ get_or-replicate (length t.ops) (o - txn_op_count x) (txn_count x) 0 (omega arith)
+      ap (λ items. get_or items o 0) numbers_are ∙ get_or-append_right x.event_of (replicate (length t.ops) (txn_count x)) (txn_op_count x) o 0 so_far.txns.events_of from ∙ get_or-replicate (length t.ops) (o - txn_op_count x) (txn_count x) 0 (omega arith)
 
   op_stays : (o : ℕ) → o < txn_op_count x → txn_op_at x' o ≡ txn_op_at x o
   op_stays o lt = ap (λ items. get_or items o no_op) ops_are ∙ get_or_append_left (txn_ops x) t.ops no_op o lt
@@ -199,8 +198,8 @@ module _ (es : List Transaction) (x x' : Txns) (t : Transaction) (so_far : IsSpl
 
   later_than : (d : Transaction) → ((i : ℕ) → i < length es → (get_or es i d).ts < t.ts) → (i : ℕ) → i < txn_count x → (txn_at x i).ts < t.ts
   later_than d before i lt =
-      let many : txn_count x ≡ length es = sym (length-map x.events.items (transaction_among (txn_ops x))) ∙ ap length so_far.transactions in
-      let at : get_or es i d ≡ transaction_among (txn_ops x) (txn_at x i) = ap (λ items. get_or items i d) (sym so_far.transactions) ∙ get_or-map (transaction_among (txn_ops x)) x.events.items i no_txn d lt in
+      let many : txn_count x ≡ length es = sym (length-map x.events (transaction_among (txn_ops x))) ∙ ap length so_far.transactions in
+      let at : get_or es i d ≡ transaction_among (txn_ops x) (txn_at x i) = ap (λ items. get_or items i d) (sym so_far.transactions) ∙ get_or-map (transaction_among (txn_ops x)) x.events i no_txn d lt in
       subst (λ (e : Transaction). e.ts < t.ts) at (before i (omega arith))
 
   numbering_is : length es < EVENTS → IsTransaction t → (d : Transaction) → ((i : ℕ) → i < length es → (get_or es i d).ts < t.ts)
@@ -209,7 +208,7 @@ module _ (es : List Transaction) (x x' : Txns) (t : Transaction) (so_far : IsSpl
       let n : ℕ = txn_count x in
       let m : ℕ = txn_op_count x in
       let k : ℕ = length t.ops in
-      let many : n ≡ length es = sym (length-map x.events.items (transaction_among (txn_ops x))) ∙ ap length so_far.transactions in
+      let many : n ≡ length es = sym (length-map x.events (transaction_among (txn_ops x))) ∙ ap length so_far.transactions in
       let ts_is : (txn_at x' n).ts ≡ t.ts = ap (λ e. e.ts) event_is in
       numbering_more n m k (λ i. (txn_at x i).ts) (λ i. (txn_at x i).first) (λ i. (txn_at x i).count) (txn_of x) (λ i. (txn_at x' i).ts) (λ i. (txn_at x' i).first) (λ i. (txn_at x' i).count) (txn_of x') (txn_op_at x) (txn_op_at x') so_far.txns.numbering
       (λ i lt. ap (λ e. e.ts) (event_stays i lt)) (λ i lt. ap (λ e. e.first) (event_stays i lt)) (λ i lt. ap (λ e. e.count) (event_stays i lt)) number_stays op_stays (ap (λ e. e.first) event_is) (ap (λ e. e.count) event_is) number_is
@@ -219,22 +218,22 @@ module _ (es : List Transaction) (x x' : Txns) (t : Transaction) (so_far : IsSpl
 
   pub split_more : All (λ (op : Op). op.high ≡ high_in (txn_ops x')) (txn_ops x') → length es < EVENTS → IsTransaction t → (d : Transaction) → ((i : ℕ) → i < length es → (get_or es i d).ts < t.ts) → IsSplitOf (es ++ t ∷ []) x'
   split_more alike few valid d before =
-      let old : List Transaction = map (transaction_among (txn_ops x')) x.events.items in
+      let old : List Transaction = map (transaction_among (txn_ops x')) x.events in
       let whole : (ops : List Op) → ops ≡ t.ops → record { ts = t.ts; ops = ops } ≡ t = λ ops e. ap (λ ops. record { ts = t.ts; ops = ops }) e in
       record {
         txns = record {
-          numbering = subst (λ n. IsNumbering (numbers n (λ i. (txn_at x' i).ts) (λ i. (txn_at x' i).first) (λ i. (txn_at x' i).count)) (txn_op_count x') (txn_of x') (txn_op_at x')) (sym (ap length events_are ∙ length_push x.events.items new_event))
+          numbering = subst (λ n. IsNumbering (numbers n (λ i. (txn_at x' i).ts) (λ i. (txn_at x' i).first) (λ i. (txn_at x' i).count)) (txn_op_count x') (txn_of x') (txn_op_at x')) (sym (ap length events_are ∙ length_push x.events new_event))
               (subst (λ m. IsNumbering (numbers (txn_count x + 1) (λ i. (txn_at x' i).ts) (λ i. (txn_at x' i).first) (λ i. (txn_at x' i).count)) m (txn_of x') (txn_op_at x')) (sym (ap length ops_are ∙ length-append (txn_ops x) t.ops)) (numbering_is few valid d before));
-          events_of = ap length numbers_are ∙ length-append x.event_of.items (replicate (length t.ops) (txn_count x)) ∙ omega (arith, so_far.txns.events_of, length-replicate (length t.ops) (txn_count x), ap length ops_are, length-append (txn_ops x) t.ops);
+          events_of = ap length numbers_are ∙ length-append x.event_of (replicate (length t.ops) (txn_count x)) ∙ omega (arith, so_far.txns.events_of, length-replicate (length t.ops) (txn_count x), ap length ops_are, length-append (txn_ops x) t.ops);
           alike = alike;
         };
-        transactions = ap (map (transaction_among (txn_ops x'))) events_are ∙ map_push (transaction_among (txn_ops x')) x.events.items new_event
-            ∙ ap (λ ts. ts ++ transaction_among (txn_ops x') new_event ∷ []) (ap (λ ops. map (transaction_among ops) x.events.items) ops_are ∙ map-agree (transaction_among (txn_ops x ++ t.ops)) (transaction_among (txn_ops x)) x.events.items no_txn (same_among x so_far.txns t.ops) ∙ so_far.transactions)
+        transactions = ap (map (transaction_among (txn_ops x'))) events_are ∙ map_push (transaction_among (txn_ops x')) x.events new_event
+            ∙ ap (λ ts. ts ++ transaction_among (txn_ops x') new_event ∷ []) (ap (λ ops. map (transaction_among ops) x.events) ops_are ∙ map-agree (transaction_among (txn_ops x ++ t.ops)) (transaction_among (txn_ops x)) x.events no_txn (same_among x so_far.txns t.ops) ∙ so_far.transactions)
             ∙ ap (λ (e : Transaction). es ++ e ∷ []) (ap (λ ops. transaction_among ops new_event) ops_are ∙ whole (take (length t.ops) (drop (txn_op_count x) (txn_ops x ++ t.ops))) (ap (take (length t.ops)) (drop_at (txn_ops x) t.ops (txn_op_count x) refl) ∙ take_all (length t.ops) t.ops (omega arith)));
       }
 
 -- no transaction, no event and no operation
-pub split_none : (x : Txns) → x.events.items ≡ [] → (txn_ops x) ≡ [] → x.event_of.items ≡ [] → IsSplitOf [] x
+pub split_none : (x : NumberedTxns) → x.events ≡ [] → (txn_ops x) ≡ [] → x.event_of ≡ [] → IsSplitOf [] x
 split_none x events ops numbers =
     let no_event : txn_count x ≡ 0 = ap length events in
     let no_ops : txn_op_count x ≡ 0 = ap length ops in

@@ -1,1 +1,2 @@
 pub mod Txns
+pub mod TxnViews

@@ -8,7 +8,13 @@ use Rattle.morph_base.specs.Operations.{high_in}
 use Rattle.morph_base.specs.Numbering.{numbers, EventNumbers, IsNumbering}
 use Rattle.morph_base.specs.Plans.{no_op}
 use Rattle.txn_splitter.specs.declared.txns.TxnEvent.{TxnEvent}
-use Rattle.txn_splitter.specs.declared.txns.Txns.{Txns}
+
+-- What contracts see of a split batch: the events, the operations of all events, and for each operation the number of
+-- its event
+pub record NumberedTxns : Type 0 where
+  pub events : List TxnEvent
+  pub ops : List Op
+  pub event_of : List ℕ
 
 -- The event past the end of a list
 abbrev pub no_txn : TxnEvent
@@ -18,14 +24,14 @@ no_txn = record { ts = 0; first = 0; count = 0 }
 abbrev pub transaction_among : List Op → TxnEvent → Transaction
 transaction_among ops e = record { ts = e.ts; ops = take e.count (drop e.first ops) }
 
-module _ (x : Txns) where
+module _ (x : NumberedTxns) where
   -- How many events there are
   abbrev pub txn_count : ℕ
-  txn_count = length x.events.items
+  txn_count = length x.events
 
   -- The operations, by event and then in operation order
   abbrev pub txn_ops : List Op
-  txn_ops = map (λ op. op.now) x.ops.items
+  txn_ops = x.ops
 
   -- How many operations there are
   abbrev pub txn_op_count : ℕ
@@ -33,7 +39,7 @@ module _ (x : Txns) where
 
   -- The event with number i
   abbrev pub txn_at : ℕ → TxnEvent
-  txn_at i = slice_index_or x.events.items i no_txn
+  txn_at i = slice_index_or x.events i no_txn
 
   -- The operation with number o
   abbrev pub txn_op_at : ℕ → Op
@@ -41,7 +47,7 @@ module _ (x : Txns) where
 
   -- The event of operation o
   abbrev pub txn_of : ℕ → ℕ
-  txn_of o = slice_index x.event_of.items o
+  txn_of o = slice_index x.event_of o
 
   -- The key that operation o changes
   abbrev pub txn_target : ℕ → Key
@@ -49,24 +55,24 @@ module _ (x : Txns) where
 
   -- The events as transactions
   abbrev pub txn_transactions : List Transaction
-  txn_transactions = map (transaction_among txn_ops) x.events.items
+  txn_transactions = map (transaction_among txn_ops) x.events
 
 -- The numbers of the events
-abbrev pub txn_numbers : Txns → EventNumbers
+abbrev pub txn_numbers : NumberedTxns → EventNumbers
 txn_numbers x = numbers (txn_count x) (λ i. (txn_at x i).ts) (λ i. (txn_at x i).first) (λ i. (txn_at x i).count)
 
 -- The events and operations are well numbered, with the number of its event for each operation
-pub record IsTxns (x : Txns) : Type 0 where
+pub record IsTxns (x : NumberedTxns) : Type 0 where
   pub numbering : IsNumbering (txn_numbers x) (txn_op_count x) (txn_of x) (txn_op_at x)
-  pub events_of : length x.event_of.items ≡ txn_op_count x
+  pub events_of : length x.event_of ≡ txn_op_count x
   -- All operations have one greatest value
   pub alike : All (λ op. op.high ≡ high_in (txn_ops x)) (txn_ops x)
 
 -- The events are these transactions, in this order, and nothing else: each operation is one of an event's
-pub record IsSplitOf (es : List Transaction) (x : Txns) : Type 0 where
+pub record IsSplitOf (es : List Transaction) (x : NumberedTxns) : Type 0 where
   pub txns : IsTxns x
   pub transactions : txn_transactions x ≡ es
 
 -- The events are the transactions of the batch by rising time
-abbrev pub IsTxnsOf : Batch → Txns → Type 0
+abbrev pub IsTxnsOf : Batch → NumberedTxns → Type 0
 IsTxnsOf batch = IsSplitOf (by_time (transactions_of batch))

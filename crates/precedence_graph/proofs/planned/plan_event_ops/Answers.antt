@@ -1,90 +1,158 @@
-use Rattle.std.proofs.Common.{◌≡◌, ℕ, ◌+◌, ◌≤◌, ◌∷◌, [], List, length, take, drop, map, refl, sym, ap, subst, ◌∙◌, arith}
+use Rattle.std.proofs.Common.{◌≡◌, ℕ, ◌+◌, ◌<◌, ◌≤◌, ◌∷◌, [], List, length, get_or, take, drop, map, refl, sym, ap, subst, ◌∙◌, arith}
 use Rattle.std.specs.Prelude.{max}
+use Rattle.std.proofs.Math.ListN.{drop_of_length-le}
 use Rattle.std.proofs.lemmas.List.{length_push, length-drop, take-append-le, take_all}
+use Rattle.std.proofs.lemmas.List.Sums.{count_by-le-length}
 use Rattle.morph_base.specs.declared.operation.Op.{Op}
 use Rattle.morph_base.specs.declared.plan.Origin.{Origin}
+use Rattle.morph_base.specs.declared.plan.Origin.TheVariants.{Base}
 use Rattle.morph_base.specs.declared.plan.PlanOp.{PlanOp}
 use Rattle.morph_base.specs.Operations.{reads, IsShaped}
 use Rattle.morph_base.specs.Numbering.{IsWithin}
-use Rattle.morph_base.specs.Plans.{no_op}
-use Rattle.morph_base.specs.Graphs.{greatest, level_of}
-use Rattle.txn_splitter.specs.declared.txns.TxnEvent.{TxnEvent}
-use Rattle.txn_splitter.specs.Txns.{txn_at}
+use Rattle.morph_base.specs.Graphs.{greatest, is_written, level_of}
+use Rattle.txn_splitter.specs.Txns.{txn_at, txn_op_at}
+use Rattle.txn_splitter.proofs.TxnLemmas.{past_op, txn_end, txn_ops_few, length-txn_ops_of, txn_op_of}
 use Rattle.precedence_graph.specs.Writers.{entered_event_level, source_in}
 use Rattle.precedence_graph.specs.Planned.{event_sources_of, members_of, targets_in, parameters_in, padded, ArePlanned}
 use Rattle.precedence_graph.proofs.EnteredLemmas.{levels_kept}
 use Rattle.precedence_graph.proofs.PlanningLemmas.{find_levels, find_low, planned_with, most_with, targets_with, parameters_with}
 use Rattle.precedence_graph.proofs.planned.plan_event_ops.Goals as goal
 
+pub loop-op-init : goal.loop-op-init
+loop-op-init c =
+    let x = c.args.txns.now in
+    let first : ℕ = (txn_at x c.args.i).first in
+    let ops : List PlanOp = c.args.ops.now.items in
+    let many : length ops ≡ first = c.requires.planned.many in
+    let here : first ≡ first + 0 = omega arith in
+    let none : drop first ops ≡ [] = drop_of_length-le ops (omega arith) in
+    record {
+      room = c.requires.room;
+      spare = c.requires.spare;
+      high = c.requires.high;
+      planned = subst (λ n. ArePlanned x n ops) here c.requires.planned;
+      kept = take_all first ops (omega arith);
+      most = sym
+          (ap (λ (ps : List PlanOp). greatest (map (level_of (entered_event_level c.args.writers.now)) (event_sources_of ps))) none);
+      written = c.requires.written;
+    }
+
 pub add_planned-reads-requires-clause-shaped : goal.add_planned-reads-requires-clause-shaped
 add_planned-reads-requires-clause-shaped c =
-    subst IsShaped (sym c.op_at.ensures) (c.requires.txns.numbering.shaped c.loop-o.o (omega (arith, c.event_at-event.ensures.end, c.loop-o-test.true)))
-
-pub add_planned-reads-requires-clause-high : goal.add_planned-reads-requires-clause-high
-add_planned-reads-requires-clause-high c =
-    ap (λ (op : Op). op.high) c.op_at.ensures
-    ∙ c.requires.txns.alike c.loop-o.o no_op (omega (arith, c.event_at-event.ensures.end, c.loop-o-test.true))
-    ∙ sym c.loop-o.invariant.high
+    let x = c.args.txns.now in
+    let i : ℕ = c.args.i in
+    let k : ℕ = c.loop-op.op-index in
+    let first : ℕ = (txn_at x i).first in
+    let less : k < (txn_at x i).count =
+    omega (arith, c.loop-op-test.true, ap length c.ops-op-items.ensures, length-txn_ops_of x c.requires.txns i c.requires.event) in
+    let op_is : get_or c.ops-op-items.result.now k past_op ≡ txn_op_at x (first + k) =
+    ap (λ ops. get_or ops k past_op) c.ops-op-items.ensures
+    ∙ txn_op_of x c.requires.txns i k past_op c.requires.event less in
+    subst IsShaped (sym op_is)
+    (c.requires.txns.numbering.shaped (first + k) (omega (arith, txn_end x c.requires.txns i c.requires.event)))
 
 pub add_planned-reads-requires-clause-low : goal.add_planned-reads-requires-clause-low
 add_planned-reads-requires-clause-low c =
     let x = c.args.txns.now in
-    let o : ℕ = c.loop-o.o in
-    let within : IsWithin (txn_at x c.args.i).first (txn_at x c.args.i).count o = subst (λ (e : TxnEvent). IsWithin e.first e.count o) c.event_at-event.ensures.event (record { from = c.loop-o.auto.o; below = c.loop-o-test.true }) in
-    let ops : List PlanOp = c.loop-o.ops.items in
-    let levels = levels_kept (txn_at x c.args.i).first ops c.args.ops.now.items c.args.writers.now c.loop-o.invariant.kept c.requires.levels in
-    let level = find_levels x c.requires.txns c.args.i c.requires.event c.args.writers.now c.requires.writers o within ops c.loop-o.invariant.planned levels (reads c.op_at.result.now) in
-    omega (arith, level, find_low x c.requires.txns c.args.i c.requires.event c.args.writers.now c.requires.writers o within c.loop-o.ops.items c.loop-o.invariant.planned c.op_at.result.now, c.event_at-event.ensures.end, c.event_at-event.ensures.few)
+    let i : ℕ = c.args.i in
+    let k : ℕ = c.loop-op.op-index in
+    let first : ℕ = (txn_at x i).first in
+    let less : k < (txn_at x i).count =
+    omega (arith, c.loop-op-test.true, ap length c.ops-op-items.ensures, length-txn_ops_of x c.requires.txns i c.requires.event) in
+    let within : IsWithin first (txn_at x i).count (first + k) = record { from = omega arith; below = omega arith } in
+    let op : Op = get_or c.ops-op-items.result.now k past_op in
+    let ops : List PlanOp = c.loop-op.ops.items in
+    let levels =
+    levels_kept first ops c.args.ops.now.items c.args.writers.now c.loop-op.invariant.kept c.requires.levels in
+    let level =
+    find_levels x c.requires.txns i c.requires.event c.args.writers.now c.requires.writers
+    (first + k) within ops c.loop-op.invariant.planned levels (reads op) in
+    omega (arith, level, find_low x c.requires.txns i c.requires.event c.args.writers.now c.requires.writers (first + k) within ops c.loop-op.invariant.planned op, txn_end x c.requires.txns i c.requires.event, txn_ops_few x c.requires.txns)
 
-pub loop-o-preserved : goal.loop-o-preserved
-loop-o-preserved c =
+pub overflow_add-written : goal.overflow_add-written
+overflow_add-written c =
     let x = c.args.txns.now in
-    let i = c.args.i in
-    let o : ℕ = c.loop-o.o in
-    let ops = c.loop-o.ops.items in
-    let op : Op = c.op_at.result.now in
-    let q : PlanOp = record { op = op; event = i; origins = padded (map (source_in c.args.writers.now) (reads op)); level = 1 + c.add_planned-reads.result.level } in
-    let done = c.loop-o.invariant.planned in
-    let within : IsWithin (txn_at x i).first (txn_at x i).count o = subst (λ (e : TxnEvent). IsWithin e.first e.count o) c.event_at-event.ensures.event (record { from = c.loop-o.auto.o; below = c.loop-o-test.true }) in
-    let levels = levels_kept (txn_at x i).first ops c.args.ops.now.items c.args.writers.now c.loop-o.invariant.kept c.requires.levels in
-    let level = ap (λ n. 1 + n) (c.add_planned-reads.ensures.sums.level ∙ find_levels x c.requires.txns i c.requires.event c.args.writers.now c.requires.writers o within ops done levels (reads op)) in
+    let ops : List PlanOp = c.loop-op.ops.items in
+    let targets : targets_in ops ≤ length ops =
+    count_by-le-length (λ (q : PlanOp). is_written (get_or q.origins 0 (Base 0))) ops in
+    omega (arith, c.loop-op.invariant.written.targets, c.loop-op.invariant.room, targets, txn_ops_few x c.requires.txns, c.from.ensures)
+
+pub overflow_add-written-in-loop-op : goal.overflow_add-written-in-loop-op
+overflow_add-written-in-loop-op c =
+    let x = c.args.txns.now in
+    omega (arith, c.loop-op.invariant.written.few, c.loop-op.invariant.room, txn_ops_few x c.requires.txns, c.from-in-loop-op.ensures, c.add_planned-reads.ensures.sums.few)
+
+pub loop-op-preserved : goal.loop-op-preserved
+loop-op-preserved c =
+    let x = c.args.txns.now in
+    let i : ℕ = c.args.i in
+    let k : ℕ = c.loop-op.op-index in
+    let first : ℕ = (txn_at x i).first in
+    let less : k < (txn_at x i).count =
+    omega (arith, c.loop-op-test.true, ap length c.ops-op-items.ensures, length-txn_ops_of x c.requires.txns i c.requires.event) in
+    let within : IsWithin first (txn_at x i).count (first + k) = record { from = omega arith; below = omega arith } in
+    let op_is : get_or c.ops-op-items.result.now k past_op ≡ txn_op_at x (first + k) =
+    ap (λ ops. get_or ops k past_op) c.ops-op-items.ensures
+    ∙ txn_op_of x c.requires.txns i k past_op c.requires.event less in
+    let ops = c.loop-op.ops.items in
+    let op : Op = get_or c.ops-op-items.result.now k past_op in
+    let q : PlanOp =
+    record { op = op; event = i; origins = padded (map (source_in c.args.writers.now) (reads op)); level = 1 + c.add_planned-reads.result.level } in
+    let done = c.loop-op.invariant.planned in
+    let levels =
+    levels_kept first ops c.args.ops.now.items c.args.writers.now c.loop-op.invariant.kept c.requires.levels in
+    let level =
+    ap (λ n. 1 + n)
+    (c.add_planned-reads.ensures.sums.level ∙ find_levels x c.requires.txns i c.requires.event c.args.writers.now c.requires.writers (first + k) within ops done levels (reads op)) in
     let event_level : Origin → ℕ = level_of (entered_event_level c.args.writers.now) in
-    let many : length ops ≡ o = done.many in
-    let from : (txn_at x i).first ≤ o = within.from in
+    let many : length ops ≡ first + k = done.many in
+    let next : first + k + 1 ≡ first + (k + 1) = omega arith in
     record {
-      room = omega (arith, c.add_planned-reads.ensures.room, ap length c.add_planned-reads.ensures.items, length_push ops q, c.loop-o.invariant.room);
+      room = omega
+          (arith, c.add_planned-reads.ensures.room, ap length c.add_planned-reads.ensures.items, length_push ops q, c.loop-op.invariant.room);
       spare = c.add_planned-reads.ensures.spare;
-      high = c.add_planned-reads.ensures.high ∙ c.loop-o.invariant.high;
-      planned = subst (ArePlanned x (o + 1)) (sym c.add_planned-reads.ensures.items)
-          (planned_with x c.requires.txns i c.requires.event c.args.writers.now c.requires.writers o within ops done q op refl refl c.op_at.ensures refl level);
-      kept = ap (take (txn_at x i).first) c.add_planned-reads.ensures.items ∙ take-append-le (txn_at x i).first ops (q ∷ []) (omega arith) ∙ c.loop-o.invariant.kept;
-      most = c.max-most.ensures ∙ ap (λ n. max n c.add_planned-reads.result.event_level) c.loop-o.invariant.most ∙ ap (max (greatest (map event_level (event_sources_of (drop (txn_at x i).first ops))))) c.add_planned-reads.ensures.sums.event_level
-          ∙ sym (most_with x c.requires.txns i c.requires.event c.args.writers.now c.requires.writers o within ops done q op refl refl event_level)
-          ∙ ap (λ (ps : List PlanOp). greatest (map event_level (event_sources_of (drop (txn_at x i).first ps)))) (sym c.add_planned-reads.ensures.items);
+      high = c.add_planned-reads.ensures.high ∙ c.loop-op.invariant.high;
+      planned = subst (λ n. ArePlanned x n c.add_planned-reads.new.ops.items) next
+          (subst (ArePlanned x (first + k + 1)) (sym c.add_planned-reads.ensures.items)
+          (planned_with x c.requires.txns i c.requires.event c.args.writers.now c.requires.writers (first + k) within ops done q op refl refl op_is refl level));
+      kept = ap (take first) c.add_planned-reads.ensures.items ∙ take-append-le first ops (q ∷ []) (omega arith)
+          ∙ c.loop-op.invariant.kept;
+      most = c.max-most.ensures ∙ ap (λ n. max n c.add_planned-reads.result.event_level) c.loop-op.invariant.most
+          ∙ ap (max (greatest (map event_level (event_sources_of (drop first ops))))) c.add_planned-reads.ensures.sums.event_level
+          ∙ sym (most_with x c.requires.txns i c.requires.event c.args.writers.now c.requires.writers (first + k) within ops done q op refl refl event_level)
+          ∙ ap (λ (ps : List PlanOp). greatest (map event_level (event_sources_of (drop first ps))))
+          (sym c.add_planned-reads.ensures.items);
       written = record {
-        targets = ap (λ n. n + c.from.result) c.loop-o.invariant.written.targets ∙ ap (λ n. targets_in ops + n) (c.from.ensures ∙ c.add_planned-reads.ensures.sums.target)
-            ∙ sym (ap targets_in c.add_planned-reads.ensures.items ∙ targets_with x c.requires.txns i c.requires.event c.args.writers.now c.requires.writers o within ops done q op refl refl);
-        parameters = ap (λ n. n + c.from-in-loop-o.result) c.loop-o.invariant.written.parameters ∙ ap (λ n. parameters_in ops + n) (c.from-in-loop-o.ensures ∙ c.add_planned-reads.ensures.sums.parameters)
-            ∙ sym (ap parameters_in c.add_planned-reads.ensures.items ∙ parameters_with x c.requires.txns i c.requires.event c.args.writers.now c.requires.writers o within ops done q op refl refl);
-        few = omega (arith, c.loop-o.invariant.written.few, c.from-in-loop-o.ensures, c.add_planned-reads.ensures.sums.few, ap length c.add_planned-reads.ensures.items, length_push ops q);
+        targets = ap (λ n. n + c.from.result) c.loop-op.invariant.written.targets
+            ∙ ap (λ n. targets_in ops + n) (c.from.ensures ∙ c.add_planned-reads.ensures.sums.target)
+            ∙ sym (ap targets_in c.add_planned-reads.ensures.items ∙ targets_with x c.requires.txns i c.requires.event c.args.writers.now c.requires.writers (first + k) within ops done q op refl refl);
+        parameters = ap (λ n. n + c.from-in-loop-op.result) c.loop-op.invariant.written.parameters
+            ∙ ap (λ n. parameters_in ops + n) (c.from-in-loop-op.ensures ∙ c.add_planned-reads.ensures.sums.parameters)
+            ∙ sym (ap parameters_in c.add_planned-reads.ensures.items ∙ parameters_with x c.requires.txns i c.requires.event c.args.writers.now c.requires.writers (first + k) within ops done q op refl refl);
+        few = omega
+            (arith, c.loop-op.invariant.written.few, c.from-in-loop-op.ensures, c.add_planned-reads.ensures.sums.few, ap length c.add_planned-reads.ensures.items, length_push ops q);
       };
     }
+
+-- at its end the loop has been at each operation of the event
+all_ops : (c : goal.After-loop-op) → c.loop-op.op-index ≡ (txn_at c.args.txns.now c.args.i).count
+all_ops c = omega
+    (arith, c.loop-op-test.false, c.loop-op.auto.op-index-end, ap length c.ops-op-items.ensures, length-txn_ops_of c.args.txns.now c.requires.txns c.args.i c.requires.event)
 
 pub returns-clause-planned : goal.returns-clause-planned
 returns-clause-planned c =
     let x = c.args.txns.now in
-    let event : TxnEvent = c.event_at-event.result in
-    let done : c.loop-o.o ≡ event.first + event.count = omega (arith, c.loop-o-test.false, c.loop-o.auto.o-end) in
-    subst (λ (e : TxnEvent). ArePlanned x (e.first + e.count) c.loop-o.ops.items) c.event_at-event.ensures.event (subst (λ n. ArePlanned x n c.loop-o.ops.items) done c.loop-o.invariant.planned)
+    subst (λ k. ArePlanned x ((txn_at x c.args.i).first + k) c.loop-op.ops.items)
+    (all_ops c) c.loop-op.invariant.planned
 
 pub returns-clause-level : goal.returns-clause-level
 returns-clause-level c =
     let x = c.args.txns.now in
     let i = c.args.i in
-    let ops = c.loop-o.ops.items in
-    let event : TxnEvent = c.event_at-event.result in
-    let done : c.loop-o.o ≡ event.first + event.count = omega (arith, c.loop-o-test.false, c.loop-o.auto.o-end) in
-    let all : c.loop-o.o ≡ (txn_at x i).first + (txn_at x i).count = subst (λ (e : TxnEvent). c.loop-o.o ≡ e.first + e.count) c.event_at-event.ensures.event done in
-    let many : length ops ≡ c.loop-o.o = c.loop-o.invariant.planned.many in
-    let members : members_of x ops i ≡ drop (txn_at x i).first ops = take_all (txn_at x i).count (drop (txn_at x i).first ops) (omega (arith, length-drop (txn_at x i).first ops)) in
-    c.loop-o.invariant.most ∙ ap (λ ps. greatest (map (level_of (entered_event_level c.args.writers.now)) (event_sources_of ps))) (sym members)
+    let ops = c.loop-op.ops.items in
+    let many : length ops ≡ (txn_at x i).first + c.loop-op.op-index = c.loop-op.invariant.planned.many in
+    let members : members_of x ops i ≡ drop (txn_at x i).first ops =
+    take_all (txn_at x i).count (drop (txn_at x i).first ops)
+    (omega (arith, length-drop (txn_at x i).first ops, all_ops c)) in
+    c.loop-op.invariant.most
+    ∙ ap (λ ps. greatest (map (level_of (entered_event_level c.args.writers.now)) (event_sources_of ps))) (sym members)

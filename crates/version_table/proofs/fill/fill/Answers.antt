@@ -1,10 +1,11 @@
 use Rattle.std.proofs.Common.{◌≡◌, ℕ, ◌<◌, List, length, get_or, set, ap, sym, ◌∙◌, arith}
+use Rattle.morph_base.specs.declared.plan.Origin.{Origin}
 use Rattle.morph_base.specs.declared.plan.Origin.TheVariants.{Base, Op as Written}
 use Rattle.morph_base.specs.declared.plan.PlanOp.{PlanOp}
 use Rattle.morph_base.specs.Operations.{reads, no_key}
 use Rattle.morph_base.specs.Flat.{contents}
 use Rattle.morph_base.specs.Plans.{no_plan_op}
-use Rattle.morph_base.specs.OpLists.{OpList, with_base}
+use Rattle.morph_base.specs.OpLists.{OpList, with_origin}
 use Rattle.version_table.specs.Filling.{filled_origin}
 use Rattle.version_table.proofs.Filled.{items_at, items_at-none, items_at-is, items_at-more, items_at-same}
 use Rattle.version_table.proofs.fill.fill.Goals as goal
@@ -35,8 +36,10 @@ loop-j-preserved c =
           let was : get_or (get_or (items_at s v.items o j) o no_plan_op).origins j (Base 0) ≡ Base w.in-Base.field-0 = sym here ∙ w.in-Base.is in
           let its : Base w.get-value.result ≡ filled_origin s (get_or (reads q.op) j no_key) (get_or (get_or (items_at s v.items o j) o no_plan_op).origins j (Base 0))
           = ap (λ (n : ℕ). Base n) value ∙ sym (ap (filled_origin s (get_or (reads q.op) j no_key)) was) in
-          w.ops-is ∙ w.set_base.ensures ∙ ap (λ (x : OpList). with_list x (set x.items o (with_base (get_or x.items o no_plan_op) j w.get-value.result))) c.loop-j.invariant
-          ∙ ap (with_list v) (items_at-more s v.items o j (Base w.get-value.result) c.requires.inside place fits its))
+          let base : Origin = Base w.get-value.result in
+          w.ops-is ∙ w.set_base.ensures
+          ∙ ap (λ (x : OpList). with_list x (set x.items o (with_origin (get_or x.items o no_plan_op) j base))) c.loop-j.invariant
+          ∙ ap (with_list v) (items_at-more s v.items o j base c.requires.inside place fits its))
       | in_default w ↦ (
           let was : get_or (get_or (items_at s v.items o j) o no_plan_op).origins j (Base 0) ≡ Written w.in_default.field-0 = sym here ∙ w.in_default.is in
           let its : get_or (get_or (items_at s v.items o j) o no_plan_op).origins j (Base 0) ≡ filled_origin s (get_or (reads q.op) j no_key) (get_or (get_or (items_at s v.items o j) o no_plan_op).origins j (Base 0))

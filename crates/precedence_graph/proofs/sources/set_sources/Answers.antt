@@ -1,14 +1,21 @@
-use Rattle.std.proofs.Common.{ℕ, ◌+◌, ◌<◌, ◌∷◌, List, length, cond, get_or, map, take, sym, ap, ◌∙◌, arith}
-use Rattle.std.specs.Prelude.{max, slice_set, count_by}
+use Rattle.std.proofs.Common.{ℕ, ◌+◌, ◌-◌, ◌<◌, ◌∷◌, ◌++◌, List, length, cond, get_or, map, take, replicate, sym, ap, ◌∙◌, arith}
+use Rattle.std.specs.Prelude.{max, count_by}
 use Rattle.std.proofs.lemmas.List.{map_more}
 use Rattle.std.proofs.lemmas.List.Sums.{sum_by_push}
 use Rattle.morph_base.specs.declared.limits.TheConstants.{PARAMS}
 use Rattle.morph_base.specs.declared.key.Key.{Key}
 use Rattle.morph_base.specs.declared.plan.Origin.{Origin}
+use Rattle.morph_base.specs.declared.plan.Origin.TheVariants.{Base}
 use Rattle.morph_base.specs.Graphs.{greatest, is_written, level_of}
+use Rattle.morph_base.specs.OpLists.{OpList}
 use Rattle.precedence_graph.specs.Writers.{source_in, entered_level, entered_event_level}
-use Rattle.precedence_graph.proofs.PlaceLemmas.{source_put, greatest-read_more}
-use Rattle.precedence_graph.proofs.sources.sources.Goals as goal
+use Rattle.precedence_graph.proofs.PlaceLemmas.{source_put, greatest-read_more, with_sources, with_source, source_more}
+use Rattle.precedence_graph.proofs.WriterLemmas.{base_zero}
+use Rattle.precedence_graph.proofs.sources.set_sources.Goals as goal
+
+pub set_written-requires-clause-zero : goal.set_written-requires-clause-zero
+set_written-requires-clause-zero c v is =
+    base_zero c.args.writers.now c.args.op.now.key v (sym c.source-target.ensures.origin ∙ is)
 
 pub loop-j-preserved : goal.loop-j-preserved
 loop-j-preserved c =
@@ -17,11 +24,18 @@ loop-j-preserved c =
     let of_event : Origin → ℕ = level_of (entered_event_level c.args.writers.now) in
     let key : Key = c.args.op.now.key in
     let params : List Key = c.args.op.now.params in
+    let o : ℕ = c.args.o in
     let j : ℕ = c.loop-j.j in
     let inside : j < length params = omega (arith, c.requires.shaped.held, c.loop-j-test.true) in
+    let few : j < PARAMS = omega (arith, c.requires.shaped.places, c.loop-j-test.true) in
+    let origin : Origin = c.source-source.result.origin in
+    let sources : List Origin = map find (key ∷ take j params) ++ replicate (PARAMS - j) (Base 0) in
     record {
-      origins = ap (λ os. slice_set os (j + 1) c.source-source.result.origin) c.loop-j.invariant.origins
-          ∙ source_put find params (find key) c.source-source.result.origin _ PARAMS j (omega (arith, c.requires.shaped.places, c.loop-j-test.true)) inside c.source-source.ensures.origin;
+      ops = c.set_written-in-loop-j.ensures
+          ∙ ap (λ (v : OpList). with_source v o (j + 1) origin) c.loop-j.invariant.ops
+          ∙ source_more c.args.ops.now o c.requires.inside sources (j + 1) origin
+          ∙ ap (with_sources c.args.ops.now o)
+          (source_put find params (find key) origin _ PARAMS j few inside c.source-source.ensures.origin);
       level = c.max-level.ensures ∙ ap (λ n. max n c.source-source.result.level) c.loop-j.invariant.level
           ∙ ap (λ n. max (greatest (map of_op (map find (key ∷ take j params)))) n) c.source-source.ensures.level
           ∙ sym (greatest-read_more of_op find key params j _ inside);

@@ -9,7 +9,8 @@ use Rattle.std.proofs.lemmas.List.Kept.{IsNonDecreasingBy-filter}
 use Rattle.std.proofs.lemmas.List.FromFn.{length-range_with_len, get_or-range_with_len, length-map-range_with_len, get_or-map-range_with_len}
 use Rattle.morph_base.specs.declared.plan.Plan.{Plan}
 use Rattle.morph_base.specs.Plans.{op_count}
-use Rattle.morph_base.specs.Graphs.{below, reads_from, IsGraph}
+use Rattle.morph_base.specs.Graphs.{below, reads_from}
+use Rattle.morph_base.specs.Readers.{dependents_of}
 use Rattle.abort_eager.specs.Finding.{IsFirstAt, IsLesser, AreNone, IsReaderOfFirst, IsFirstReader}
 use Rattle.abort_eager.proofs.Listing.{in_range, range_within}
 use Rattle.op_eval.proofs.Elements.{contains_filter}
@@ -42,15 +43,15 @@ first_none xs from at point high x inside =
 -- ---- the readers of one operation
 
 -- rows that are the plan's dependents
-module _ (p : Plan) (graph : IsGraph p) (rows : List (List ℕ)) (are : rows ≡ p.dependents) where
+module _ (p : Plan) (rows : List (List ℕ)) (are : rows ≡ dependents_of p) where
   pub many_lists : length rows ≡ op_count p
   many_lists =
-      ap length (are ∙ graph.dependents_are)
+      ap length are
       ∙ length-map-range_with_len (λ o. filter (reads_from p o) (below (op_count p))) 0 (op_count p)
 
   pub readers_are : (k : ℕ) → k < op_count p → get_or rows k [] ≡ filter (reads_from p k) (below (op_count p))
   readers_are k lt =
-      ap (λ ls. get_or ls k []) (are ∙ graph.dependents_are)
+      ap (λ ls. get_or ls k []) are
       ∙ get_or-map-range_with_len (λ o. filter (reads_from p o) (below (op_count p))) 0 (op_count p) k k [] lt (omega arith)
 
 module _ (p : Plan) (k : ℕ) (xs : List ℕ) (is : xs ≡ filter (reads_from p k) (below (op_count p))) where

@@ -2,6 +2,7 @@
 use Rattle.std.specs.Prelude.{◌≡◌, ℕ, ◌<◌}
 use Rattle.morph_base.specs.declared.strategy.Abort.TheVariants.{Eager}
 use Rattle.morph_base.specs.Graphs.{IsValidPlan}
+use Rattle.morph_base.specs.Readers.{dependents_of}
 use Rattle.morph_base.specs.Plans.{op_count}
 use Rattle.chain_units.specs.Places.{IsPartition}
 use Rattle.op_words.specs.Hands.{plan_of}
@@ -16,7 +17,7 @@ pub record IsGround (g : Ground) : Type 0 where
   pub valid : IsValidPlan g.plan.now
   pub units : IsPartition g.units.now.units (op_count g.plan.now)
   pub number : g.units.now.ops ≡ op_count g.plan.now
-  pub dependents : g.abort ≡ Eager → g.dependents.now ≡ g.plan.now.dependents
+  pub dependents : g.abort ≡ Eager → g.dependents.now ≡ dependents_of g.plan.now
 
 -- Operation o may be tried by a runner on this ground: the runner's hand holds nothing, and the plan has the operation
 abbrev pub MayTry : Ground → Runner → (o : ℕ) → Type 0

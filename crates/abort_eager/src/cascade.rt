@@ -1,6 +1,7 @@
 ghost use Rattle.std.specs.Prelude.{◌≡◌, ◌<◌, ◌≤◌, ◌+◌, ◌++◌, None};
 ghost use Rattle.morph_base.specs.Plans.{IsPlan, op_count};
 ghost use Rattle.morph_base.specs.Graphs.{IsValidPlan};
+ghost use Rattle.morph_base.specs.Readers.{dependents_of};
 ghost use Rattle.op_words.specs.Hands.{plan_of, cap_of, view_of, IsHandOf};
 ghost use Rattle.abort_eager.specs.Targets.{first_source, end_source, targets, targets_left, IsCascade};
 ghost use Rattle.abort_eager.specs.Finding.{IsFirstPlace, IsSiblingFrom};
@@ -113,7 +114,7 @@ impl Cascade {
     /// Takes the first target that is left.
     fn pop(&mut self, plan: &Plan, dependents: &Rows) -> Option<Target>
         requires plan { IsValidPlan plan.now }
-        requires dependents { dependents.now ≡ plan.now.dependents }
+        requires dependents { dependents.now ≡ dependents_of plan.now }
         requires cascade { IsCascade plan.now self.old }
         ensures goes { GoesOn plan.now self.old self.new }
         ensures pops { Pops plan.now self.old self.new result }
@@ -129,7 +130,7 @@ impl Cascade {
     /// Takes the first place that is left.
     fn pop_place(&mut self, plan: &Plan, dependents: &Rows) -> Option<Target>
         requires plan { IsValidPlan plan.now }
-        requires dependents { dependents.now ≡ plan.now.dependents }
+        requires dependents { dependents.now ≡ dependents_of plan.now }
         requires cascade { IsCascade plan.now self.old }
         ensures pops { PlacePops plan.now self.old self.new result }
     {
@@ -148,7 +149,7 @@ impl Cascade {
     /// Takes the first place of the next reader, once the present one has none left.
     fn pop_reader(&mut self, plan: &Plan, dependents: &Rows) -> Option<Target>
         requires plan { IsValidPlan plan.now }
-        requires dependents { dependents.now ≡ plan.now.dependents }
+        requires dependents { dependents.now ≡ dependents_of plan.now }
         requires cascade { IsCascade plan.now self.old }
         requires none { IsFirstPlace plan.now self.old.first self.old.end self.old.reader
             self.old.place None }
@@ -177,7 +178,7 @@ impl Cascade {
         requires hand { IsHandOf board.now hand.old }
         requires plan { plan.now ≡ plan_of board.now }
         requires valid { IsValidPlan plan.now }
-        requires dependents { dependents.now ≡ plan.now.dependents }
+        requires dependents { dependents.now ≡ dependents_of plan.now }
         requires cascade { IsCascade plan.now self.old }
         requires free { (view_of hand.old).claim ≡ None }
         requires cause { HasCause self.old (view_of hand.old) }

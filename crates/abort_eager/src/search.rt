@@ -3,6 +3,7 @@ ghost use Rattle.std.specs.Prelude.{◌≡◌, ℕ, ◌<◌, ◌≤◌};
 ghost use Rattle.std.specs.List.Sorted.{IsNonDecreasingBy};
 ghost use Rattle.morph_base.specs.Plans.{IsPlan, op_count};
 ghost use Rattle.morph_base.specs.Graphs.{IsValidPlan};
+ghost use Rattle.morph_base.specs.Readers.{dependents_of};
 ghost use Rattle.abort_eager.specs.Targets.{is_among};
 ghost use Rattle.abort_eager.specs.Finding.{IsFirstAt, IsLesser, IsFirstReader, IsFirstPlace};
 
@@ -42,7 +43,7 @@ pub(crate) fn reader_from(
     from: u32,
 ) -> Option<u32>
     requires plan { IsValidPlan plan.now }
-    requires dependents { dependents.now ≡ plan.now.dependents }
+    requires dependents { dependents.now ≡ dependents_of plan.now }
     requires first { first ≤ end }
     requires end { end ≤ op_count plan.now }
     ensures { IsFirstReader plan.now first end from result }

@@ -1,6 +1,7 @@
 //! A cascade on the four events, after a failure.
 ghost use Rattle.std.specs.Prelude.{◌≡◌, None};
 ghost use Rattle.morph_base.specs.Graphs.{IsValidPlan};
+ghost use Rattle.morph_base.specs.Readers.{dependents_of};
 ghost use Rattle.op_words.specs.Hands.{plan_of, view_of, IsHandOf};
 
 use crate::board::{evaluate, fails};
@@ -21,7 +22,7 @@ fn first_three(
     requires hand { IsHandOf board.now hand.old }
     requires plan { plan.now ≡ plan_of board.now }
     requires valid { IsValidPlan plan.now }
-    requires readers { readers.now ≡ plan.now.dependents }
+    requires readers { readers.now ≡ dependents_of plan.now }
     requires free { (view_of hand.old).claim ≡ None }
 {
     if plan.ops.len() != 14 {

@@ -1,6 +1,5 @@
 -- Filling in the bases keeps a plan's graph: it rests on which places are written and by what, never on a base value.
-use Rattle.std.proofs.Common.{◌≡◌, ℕ, zero, suc, ◌+◌, ◌<◌, Bool, cond, ◌||◌, ◌==◌, List, [], ◌∷◌, ◌++◌, map, length, take, drop, get_or, filter, count_by, sum_by, fold, flat_map, refl, sym, ap, ◌∙◌, subst}
-use Rattle.std.specs.List.{list_any}
+use Rattle.std.proofs.Common.{◌≡◌, ℕ, zero, suc, ◌+◌, ◌<◌, Bool, cond, ◌==◌, List, [], ◌∷◌, ◌++◌, map, length, take, drop, get_or, filter, count_by, sum_by, fold, flat_map, refl, sym, ap, ◌∙◌, subst}
 use Rattle.std.proofs.Math.Path.{fun_ext, ap₂}
 use Rattle.std.proofs.lemmas.List.{map-append, take-map, drop-map}
 use Rattle.std.proofs.lemmas.Simd.{map-map}
@@ -12,14 +11,10 @@ use Rattle.morph_base.specs.Operations.{reads}
 use Rattle.morph_base.specs.States.{State}
 use Rattle.morph_base.specs.Readers.{sources_of}
 use Rattle.morph_base.specs.Plans.{op_count, event_at, op_at, origin_at, origins_of, filled_in, filled, filled_plan}
-use Rattle.morph_base.specs.Graphs.{greatest, is_written, is_written_by, below, op_level, event_level, ops_in, event_origins, reads_from, op_depth, IsGraph}
+use Rattle.morph_base.specs.Graphs.{greatest, is_written, below, op_level, event_level, ops_in, event_origins, op_depth, IsGraph}
 use Rattle.morph_base.proofs.FillLaws.{shape, shapes-filled_in, op_at-kept, op_count-filled, event_of-filled}
 
 -- ---- lists
-
-list_any-map : {X : Type 0} (test : X → Bool) (xs : List X) → list_any test xs ≡ list_any (λ b. b) (map test xs)
-list_any-map test [] = refl
-list_any-map test (x ∷ xs) = ap (λ b. test x || b) (list_any-map test xs)
 
 count_by-map_from : {X : Type 0} (test : X → Bool) (n : ℕ) (xs : List X)
     → fold (λ a x. a + cond (test x) 1 0) n xs ≡ fold (λ a b. a + cond b 1 0) n (map test xs)
@@ -42,10 +37,6 @@ module _ {X : Type 0} (part : Origin → X) (rests : (origin : Origin) → part 
 is_written-shape : (origin : Origin) → is_written origin ≡ is_written (shape origin)
 is_written-shape (Base v) = refl
 is_written-shape (Written t) = refl
-
-is_written_by-shape : (o : ℕ) (origin : Origin) → is_written_by o origin ≡ is_written_by o (shape origin)
-is_written_by-shape o (Base v) = refl
-is_written_by-shape o (Written t) = refl
 
 op_level-shape : (p : Plan) (origin : Origin) → op_level p origin ≡ op_level p (shape origin)
 op_level-shape p (Base v) = refl
@@ -102,13 +93,7 @@ module _ (s : State) (p : Plan) where
       ∙ ap₂ (λ (xs ys : List X). xs ++ ys) (parts-filled part rests o) (event_parts-filled part rests os)
       ∙ sym (map-append part (origins_of p o) (flat_map (origins_of p) os))
 
-  -- ---- dependents and counts
-
-  reads_from-filled : (o t : ℕ) → reads_from (filled_plan s p) o t ≡ reads_from p o t
-  reads_from-filled o t =
-      list_any-map (is_written_by o) (origins_of (filled_plan s p) t)
-      ∙ ap (list_any (λ b. b)) (parts-filled (is_written_by o) (is_written_by-shape o) t)
-      ∙ sym (list_any-map (is_written_by o) (origins_of p t))
+  -- ---- counts
 
   temporal-filled : (o : ℕ) → is_written (origin_at (filled_plan s p) o 0) ≡ is_written (origin_at p o 0)
   temporal-filled =
@@ -137,10 +122,6 @@ module _ (s : State) (p : Plan) where
         graph.event_level_is i lt
         ∙ ap (λ levels. 1 + greatest levels)
         (sym (ap (λ f. map f (event_origins (filled_plan s p) i)) event_level-filled ∙ event_parts-filled (event_level p) (event_level-shape p) (ops_in p i)));
-    dependents_are =
-        graph.dependents_are
-        ∙ ap₂ (λ (reads : ℕ → ℕ → Bool) (n : ℕ). map (λ o. filter (reads o) (below n)) (below n))
-        (sym (fun_ext (λ o. fun_ext (reads_from-filled o)))) (sym (op_count-filled s p));
     op_levels_are =
         graph.op_levels_are
         ∙ ap (λ (level : ℕ → ℕ). map (λ l. filter (λ o. level o == l + 1) (below (op_count p))) (below (op_depth p))) (sym (fun_ext level-filled))

@@ -1,11 +1,11 @@
--- The graph of a plan: levels, dependents, level lists and the counts of dependencies
+-- The graph of a plan: levels, level lists and the counts of dependencies
 use Rattle.std.specs.Prelude.{◌≡◌, ℕ, ◌+◌, ◌-◌, ◌*◌, ◌/◌, ◌<◌, Bool, true, false, ◌==◌, List, [], ◌∷◌, drop, map, filter, max, count_by, sum_by}
 use Rattle.std.specs.List.{flat_map, range_with_len}
 use Rattle.morph_base.specs.declared.plan.Origin.{Origin}
 use Rattle.morph_base.specs.declared.plan.Origin.TheVariants.{Base, Op as Written}
 use Rattle.morph_base.specs.declared.plan.Plan.{Plan}
 pub use Rattle.morph_base.specs.Readers.{is_written_by, below}
-use Rattle.morph_base.specs.Readers.{reads_among, dependents_in}
+use Rattle.morph_base.specs.Readers.{reads_among}
 use Rattle.morph_base.specs.Plans.{event_count, op_count, event_at, op_at, event_of, origin_at, origins_of, IsPlan}
 
 -- The greatest of some numbers, or 0 if there is none
@@ -52,16 +52,14 @@ module _ (p : Plan) where
   abbrev pub event_depth : ℕ
   event_depth = greatest (map (λ e. e.level) p.events.items)
 
-  -- The plan's graph is right. A level is one more than the greatest level of the sources. The dependents of an
-  -- operation are those that read from it. The level lists have all of each level. The counts are those of written
-  -- targets, of written parameters, and of pairs of operations of one event. All lists rise and have each number once
+  -- The plan's graph is right. A level is one more than the greatest level of the sources. The level lists have all of
+  -- each level, rising, each once. The counts are those of written targets, of written parameters, and of pairs of
+  -- operations of one event
   pub record IsGraph : Type 0 where
     -- A level is one more than the greatest level of the sources
     pub op_level_is : (o : ℕ) → o < op_count p → (op_at p o).level ≡ 1 + greatest (map op_level (origins_of p o))
     pub event_level_is : (i : ℕ) → i < event_count p
         → (event_at p i).level ≡ 1 + greatest (map event_level (event_origins i))
-    -- Each operation has as its dependents all that read from it, rising, each once
-    pub dependents_are : p.dependents ≡ dependents_in p.ops.items
     -- Each level, from 1 on, has a list of all that are on it, rising
     pub op_levels_are : map (λ l. l.items) p.op_levels.items ≡ map (λ l. filter (λ o. (op_at p o).level == l + 1) (below (op_count p))) (below op_depth)
     pub event_levels_are : map (λ l. l.items) p.event_levels.items ≡ map (λ l. filter (λ i. (event_at p i).level == l + 1) (below (event_count p))) (below event_depth)

@@ -1,10 +1,11 @@
--- Which operations of a list read from each one
+-- Which operations of a list, or of a plan, read from each one
 use Rattle.std.specs.Prelude.{ℕ, ◌==◌, Bool, false, List, length, take, map, filter, replicate, slice_index_or}
 use Rattle.std.specs.List.{list_any, range_with_len}
 use Rattle.morph_base.specs.declared.limits.TheConstants.{READS}
 use Rattle.morph_base.specs.declared.plan.Origin.{Origin}
 use Rattle.morph_base.specs.declared.plan.Origin.TheVariants.{Base, Op as Written}
 use Rattle.morph_base.specs.declared.plan.PlanOp.{PlanOp}
+use Rattle.morph_base.specs.declared.plan.Plan.{Plan}
 use Rattle.morph_base.specs.Operations.{reads, no_op}
 
 -- The operation that is read past the end of a plan's operations
@@ -32,3 +33,7 @@ module _ (ops : List PlanOp) where
   -- For each operation those that read from it, rising, each once
   abbrev pub dependents_in : List (List ℕ)
   dependents_in = map (λ o. filter (reads_among o) (below (length ops))) (below (length ops))
+
+-- For each operation of a plan those that read from it, rising, each once
+abbrev pub dependents_of : Plan → List (List ℕ)
+dependents_of p = dependents_in p.ops.items

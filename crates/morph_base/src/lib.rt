@@ -33,7 +33,7 @@
 //! | `values` | `Values`: a value for each key |
 //! | `plain`, `outcome` | `fold`, the events one at a time; the `Outcome` of an event |
 //! | `plan`, `plan_ops` | `Plan`, `PlanEvent`, `PlanOp`, `Origin`, `Edges` and `Settled`; the operations of a plan in sized lists |
-//! | `dependents`, `rows` | `Dependents`: which operations read from each one, for contracts alone; `Rows` of numbers in one list |
+//! | `rows` | `Rows`: lists of numbers in one list |
 //! | `word` | `OpState`, `OpWord`, and a word as one number |
 //! | `strategy` | `Strategy`: `Unit`, `Explore` and `Abort` |
 //! | `list`, `memory` | `List`, whose contracts see its spare room; `OutOfMemory` |
@@ -41,7 +41,6 @@
 #![tactic(auto)]
 
 mod batch;
-mod dependents;
 mod evaluation;
 mod event;
 mod event_ops;
@@ -62,7 +61,6 @@ mod values;
 mod word;
 
 pub use batch::{Batch, BatchRoom};
-pub use dependents::Dependents;
 pub use evaluation::{eval, evaluate};
 pub use event::Event;
 pub use event_ops::EventOps;

@@ -4,7 +4,6 @@ ghost use Rattle.morph_base.specs.Known.{IsKnown};
 ghost use Rattle.morph_base.specs.Operations.{IsShaped, reads};
 ghost use Rattle.morph_base.specs.Words.{value_of_word};
 
-use crate::dependents::Dependents;
 use crate::limits::READS;
 use crate::list::List;
 use crate::operation::Op;
@@ -100,9 +99,6 @@ pub struct Plan {
     pub events: List<PlanEvent>,
     /// By event, and then in operation order; the place of each is its number.
     pub ops: PlanOps,
-    /// For each operation those that read from it, rising, each once. The field takes no memory, and only contracts
-    /// read it: `precedence_graph::dependents` makes the lists.
-    pub dependents: Dependents,
     /// The operations of level 1, of level 2 and so on, each rising.
     pub op_levels: List<List<u32>>,
     /// The events of level 1, of level 2 and so on, each rising.
@@ -117,7 +113,6 @@ impl Drop for Plan {
         let Plan {
             events: _,
             ops: _,
-            dependents: _,
             op_levels: _,
             event_levels: _,
             edges: _,

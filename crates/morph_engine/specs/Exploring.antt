@@ -6,6 +6,7 @@ use Rattle.morph_base.specs.declared.strategy.Abort.TheVariants.{Eager, Lazy}
 use Rattle.morph_base.specs.declared.strategy.Explore.{Explore}
 use Rattle.morph_base.specs.declared.strategy.Explore.TheVariants.{Strata, Steal}
 use Rattle.morph_base.specs.Graphs.{below}
+use Rattle.morph_base.specs.Readers.{dependents_of}
 use Rattle.morph_base.specs.Plans.{op_count}
 use Rattle.op_words.specs.Hands.{up_to}
 use Rattle.op_eval.specs.declared.explored.Explored.{Explored}
@@ -37,7 +38,7 @@ NeedsDependents explore abort = (explore ≡ Steal) ⊎ (abort ≡ Eager)
 
 -- The rows are the dependents of the plan, if exploring in this way with this abort needs them
 abbrev pub HasDependentsFor : Plan → Explore → Abort → List (List ℕ) → Type 0
-HasDependentsFor p explore abort rows = NeedsDependents explore abort → rows ≡ p.dependents
+HasDependentsFor p explore abort rows = NeedsDependents explore abort → rows ≡ dependents_of p
 
 -- ---- operations that were handed out
 

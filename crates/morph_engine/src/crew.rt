@@ -3,6 +3,7 @@ ghost use Rattle.std.specs.Prelude.{◌≡◌, ◌+◌, ◌<◌, ◌≤◌, [], 
 ghost use Rattle.chain_units.specs.Places.{IsPartition};
 ghost use Rattle.morph_base.specs.declared.strategy.Abort.TheVariants.{Lazy};
 ghost use Rattle.morph_base.specs.Graphs.{IsValidPlan};
+ghost use Rattle.morph_base.specs.Readers.{dependents_of};
 ghost use Rattle.morph_base.specs.Limits.{most_workers};
 ghost use Rattle.morph_base.specs.Plans.{op_count};
 ghost use Rattle.morph_engine.specs.Crews.{IsCrew, AreWaiting};
@@ -141,7 +142,7 @@ impl Crew {
         requires cap { 1 ≤ cap_of board }
         requires ready { MayExplore board 0 runners }
         requires crew { IsCrew plan.now (length (runners_of runners)) self }
-        requires dependents { dependents.now ≡ plan.now.dependents }
+        requires dependents { dependents.now ≡ dependents_of plan.now }
         ensures explored { IsExploredBoard result.0 }
         ensures board { result.0.board ≡ board }
         ensures hands { HaveGoneOn (runners_of runners) (runners_of result.0.runners) }

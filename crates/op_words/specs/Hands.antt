@@ -35,7 +35,6 @@ no_plan =
     record {
       events = record { items = []; room = 0 };
       ops = op_list [] 0 0 0;
-      dependents = [];
       op_levels = record { items = []; room = 0 };
       event_levels = record { items = []; room = 0 };
       edges = record { temporal = 0; parametric = 0; logical = 0 };

@@ -9,7 +9,6 @@ use Rattle.morph_base.specs.declared.plan.PlanOp.{PlanOp}
 use Rattle.morph_base.specs.declared.plan.PlanEvent.{PlanEvent}
 use Rattle.morph_base.specs.declared.plan.Plan.{Plan}
 use Rattle.morph_base.specs.Plans.{no_plan_op, no_event, origins_of}
-use Rattle.morph_base.specs.Readers.{dependents_in}
 use Rattle.morph_base.specs.Graphs.{greatest, below, is_written, level_of, event_origins, IsGraph}
 use Rattle.txn_splitter.specs.declared.txns.TxnEvent.{TxnEvent}
 use Rattle.txn_splitter.specs.declared.txns.Txns.{Txns}
@@ -38,13 +37,12 @@ module _ (x : Txns) (is : IsTxns x) (p : Plan) (done : ArePlanned x (txn_op_coun
       let numbers = range_with_len (txn_at x i).first (txn_at x i).count in
       ap (flat_map sources_of) (sym (map-range_is p.ops.items (txn_at x i).first (txn_at x i).count no_plan_op (omega arith))) ∙ flat_map-map sources_of (planned p.ops.items) numbers ∙ ap (λ (e : TxnEvent). flat_map (origins_of p) (range_with_len e.first e.count)) (event_at_same x is p done events_done i)
 
-  pub graph_is : p.dependents ≡ dependents_in p.ops.items → map (λ list. list.items) p.op_levels.items ≡ op_lists_of p.ops.items → map (λ list. list.items) p.event_levels.items ≡ event_lists_of p.events.items
+  pub graph_is : map (λ list. list.items) p.op_levels.items ≡ op_lists_of p.ops.items → map (λ list. list.items) p.event_levels.items ≡ event_lists_of p.events.items
       → p.edges.temporal ≡ targets_in p.ops.items → p.edges.parametric ≡ parameters_in p.ops.items → p.edges.logical ≡ logical_of p.events.items → IsGraph p
-  graph_is dependents op_lists event_lists temporal parametric logical = record {
+  graph_is op_lists event_lists temporal parametric logical = record {
     op_level_is = λ o lt. (done.each o (omega (arith, ops_same x is p done events_done))).level_is;
     event_level_is = λ i lt. let inside : i < txn_count x = omega (arith, events_same x is p done events_done) in
         events_done.level_is i inside ∙ ap (λ (origins : List Origin). 1 + greatest (map (level_of (event_level_in p.ops.items p.events.items)) origins)) (event_origins_are i inside);
-    dependents_are = dependents;
     op_levels_are = op_lists;
     event_levels_are = event_lists;
     temporal_is = temporal ∙ sum_by-below (λ (q : PlanOp). cond (is_written (get_or q.origins 0 (Base 0))) 1 0) p.ops.items no_plan_op;

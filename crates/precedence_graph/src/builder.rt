@@ -8,7 +8,7 @@ ghost use Rattle.precedence_graph.specs.Planned.{txn_event};
 use crate::edges::logical;
 use crate::level_lists::{event_level_lists, op_level_lists};
 use crate::planned::{Planned, plan_transactions};
-use morph_base::{Dependents, Edges, OutOfMemory, Plan};
+use morph_base::{Edges, OutOfMemory, Plan};
 use std::alloc::Global;
 use txn_splitter::Txns;
 
@@ -19,7 +19,7 @@ use txn_splitter::Txns;
 pub fn build(alloc: Global, txns: &Txns<'_>) -> Result<Plan, OutOfMemory>
     requires { IsTxns txns.now }
 
-    // It is a valid plan with its graph: sources, levels, dependents, level lists and counts.
+    // It is a valid plan with its graph: sources, levels, level lists and counts.
     ensures plan { IfOk result IsPlan }
     ensures graph { IfOk result IsGraph }
 
@@ -45,11 +45,9 @@ pub fn build(alloc: Global, txns: &Txns<'_>) -> Result<Plan, OutOfMemory>
     };
     let op_levels = op_level_lists(alloc, &ops)?;
     let event_levels = event_level_lists(alloc, events.as_slice())?;
-    let dependents = Dependents::of(&ops);
     Ok(Plan {
         events,
         ops,
-        dependents,
         op_levels,
         event_levels,
         edges,

@@ -3,7 +3,7 @@ ghost use Rattle.std.specs.Prelude.{◌≤◌, take, if◌then◌else◌};
 ghost use Rattle.std.specs.List.{list_any};
 ghost use Rattle.morph_base.specs.declared.limits.TheConstants.{READS};
 ghost use Rattle.morph_base.specs.Graphs.{below, is_written_by, IsValidPlan};
-ghost use Rattle.morph_base.specs.Readers.{reads_among};
+ghost use Rattle.morph_base.specs.Readers.{reads_among, dependents_of};
 ghost use Rattle.morph_base.specs.Operations.{reads};
 ghost use Rattle.precedence_graph.specs.Links.{items_of};
 ghost use Rattle.precedence_graph.specs.Planned.{IsAmong, IsSoundPlanOp, planned, sources_of};
@@ -19,7 +19,7 @@ use std::alloc::Global;
 /// failed to what reads from it. The lists take memory: a number for each operation and for each of its dependents.
 pub fn dependents(alloc: Global, plan: &Plan) -> Result<Rows, OutOfMemory>
     requires valid { IsValidPlan plan.now }
-    ensures { IfOk result (λ rows. rows ≡ plan.now.dependents) }
+    ensures { IfOk result (λ rows. rows ≡ dependents_of plan.now) }
 {
     let reads = plan.edges.temporal.saturating_add(plan.edges.parametric);
     let links = read_links(alloc, &plan.ops, reads as usize)?;

@@ -10,7 +10,8 @@ use Rattle.morph_base.specs.Contents.{Contents}
 use Rattle.morph_base.specs.declared.plan.Origin.{Origin}
 use Rattle.morph_base.specs.declared.plan.Origin.TheVariants.{Base, Op as Written}
 use Rattle.morph_base.specs.declared.plan.Plan.{Plan}
-use Rattle.morph_base.specs.Graphs.{below, is_written_by, reads_from, IsGraph}
+use Rattle.morph_base.specs.Graphs.{below, is_written_by, reads_from}
+use Rattle.morph_base.specs.Readers.{dependents_of}
 use Rattle.morph_base.specs.Plans.{IsPlan, op_at, op_count, keys_of, origins_of}
 use Rattle.morph_base.proofs.OutcomeLaws.{keys_fit}
 use Rattle.op_words.specs.Trails.{IsSourceOf}
@@ -59,12 +60,12 @@ module _ (p : Plan) (valid : IsPlan p) (k : ℕ) (lt : k < op_count p) where
       let at = Any-from_list_any (is_written_by o) (origins_of p k) reads in
       origin_source at.0 at.1 o at.2 (at.3 ∙ written_is o at.1 at.4)
 
-module _ (p : Plan) (graph : IsGraph p) where
+module _ (p : Plan) where
   -- rows that are the plan's dependents: each operation has one
-  module _ (rows : List (List ℕ)) (are : rows ≡ p.dependents) where
+  module _ (rows : List (List ℕ)) (are : rows ≡ dependents_of p) where
     pub many_rows : length rows ≡ op_count p
     many_rows =
-        let b : length rows ≡ length (map (readers p) (below (op_count p))) = ap length (are ∙ graph.dependents_are) in
+        let b : length rows ≡ length (map (readers p) (below (op_count p))) = ap length are in
         let c : length (map (readers p) (below (op_count p))) ≡ length (below (op_count p)) = length-map (below (op_count p)) (readers p) in
         let d : length (below (op_count p)) ≡ op_count p = length-range_with_len 0 (op_count p) in
         omega arith
@@ -72,7 +73,7 @@ module _ (p : Plan) (graph : IsGraph p) where
     pub readers_is : (o : ℕ) → o < op_count p → (ops : List ℕ) → ops ≡ slice_index_or rows o [] → ops ≡ readers p o
     readers_is o lt ops same =
         same
-        ∙ ap (λ lists. get_or lists o []) (are ∙ graph.dependents_are)
+        ∙ ap (λ lists. get_or lists o []) are
         ∙ get_or-map-range_with_len (readers p) 0 (op_count p) o o [] lt (zero-add o)
 
     pub readers_inside : (o : ℕ) → o < op_count p → (ops : List ℕ) → ops ≡ slice_index_or rows o [] → All (λ k. k < op_count p) ops

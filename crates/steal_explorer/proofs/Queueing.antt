@@ -94,7 +94,7 @@ module _ (p : Plan) (valid : IsValidPlan p) (cap : ℕ) (a : Member) where
             index = is.index;
             each =
                 evaluated_stands p valid.plan o tries.in_range (readers p o) (hand_view a.runner).trail (hand_view r).trail (own a).pushed made is.each
-                (λ k lt. reads_or p valid.graph valid.plan o k lt);
+                (λ k lt. reads_or p valid.plan o k lt);
           },
           made.ran,
         )
@@ -122,7 +122,7 @@ module _ (rules : RunRules) (valid : IsValidPlan rules.plan) (lazy : rules.abort
 
 pub next_source : (p : Plan) → IsValidPlan p → (o : ℕ) (ops : List ℕ) → ops ≡ readers p o → (i : ℕ) → i < length ops → IsSourceOf p (get_or ops i 0) o
 next_source p valid o ops same i lt =
-    subst (λ l. i < length l → IsSourceOf p (get_or l i 0) o) (sym same) (reader_source p valid.graph valid.plan o i) lt
+    subst (λ l. i < length l → IsSourceOf p (get_or l i 0) o) (sym same) (reader_source p valid.plan o i) lt
 
 pub rest_of : (ops : List ℕ) (i : ℕ) → i < length ops → drop i ops ≡ get_or ops i 0 ∷ drop (i + 1) ops
 rest_of ops i lt = rw (add-one, drop-cons ops i 0)

@@ -6,6 +6,7 @@ use Rattle.crossbeam_deque.specs.declared.handles.Stealer.{Stealer}
 use Rattle.crossbeam_deque.specs.Handles.{Pass, view, IsPassOf, worker_deque, stealer_deque, worker_flavor, stealer_flavor, worker_view}
 use Rattle.morph_base.specs.declared.plan.Plan.{Plan}
 use Rattle.morph_base.specs.Plans.{op_count}
+use Rattle.morph_base.specs.Readers.{dependents_of}
 use Rattle.op_words.specs.Hands.{up_to}
 use Rattle.op_eval.specs.Running.{IsFreeRunner}
 use Rattle.steal_explorer.specs.declared.deque_rule.Fair.{Fair}
@@ -52,7 +53,7 @@ pub record HasDeque (p : Plan) (m : Member) : Type 0 where
 
 -- The ground's dependents are the plan's, under lazy abort too
 abbrev pub HasDependents : Ground → Type 0
-HasDependents g = g.dependents.now ≡ g.plan.now.dependents
+HasDependents g = g.dependents.now ≡ dependents_of g.plan.now
 
 -- The worker can serve: its runner holds nothing, and its deque is in order
 abbrev pub CanServe : Ground → Member → Type 0

@@ -2,6 +2,7 @@ ghost use Rattle.std.specs.Prelude.{◌≡◌, ◌≢◌, ◌↔◌, true, ℕ, 
 ghost use Rattle.chain_units.specs.Places.{IsPartition};
 ghost use Rattle.morph_base.specs.declared.strategy.Abort.TheVariants.{Lazy};
 ghost use Rattle.morph_base.specs.Graphs.{IsValidPlan};
+ghost use Rattle.morph_base.specs.Readers.{dependents_of};
 ghost use Rattle.morph_base.specs.Plans.{op_count};
 ghost use Rattle.op_words.specs.Hands.{plan_of, cap_of, up_to};
 ghost use Rattle.op_eval.specs.declared.explored.RunEnd.TheVariants.{Drained, Spent};
@@ -144,7 +145,7 @@ pub fn explore<R: Threads + Sync, G: Gate>(
     gate: &G,
 ) -> (Explored, Handed)
     requires valid { IsValidPlan plan.now }
-    requires dependents { dependents.now ≡ plan.now.dependents }
+    requires dependents { dependents.now ≡ dependents_of plan.now }
     requires plan { plan.now ≡ plan_of board }
     requires units { IsPartition units.now.units (op_count plan.now) }
     requires number { units.now.ops ≡ op_count plan.now }

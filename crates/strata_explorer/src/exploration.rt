@@ -2,6 +2,7 @@ ghost use Rattle.std.specs.Prelude.{◌≡◌, ◌≤◌, ◌<◌, [], All, leng
 ghost use Rattle.chain_units.specs.Places.{IsPartition};
 ghost use Rattle.morph_base.specs.declared.strategy.Abort.TheVariants.{Eager, Lazy};
 ghost use Rattle.morph_base.specs.Graphs.{IsValidPlan};
+ghost use Rattle.morph_base.specs.Readers.{dependents_of};
 ghost use Rattle.morph_base.specs.Plans.{op_count};
 ghost use Rattle.op_words.specs.Hands.{plan_of, cap_of, counters_of};
 ghost use Rattle.op_eval.specs.Alone.{IsNewRoot, HasRunAll};
@@ -44,7 +45,7 @@ fn pass_all<R: Threads + Sync, G: Gate>(
     requires units { IsPartition course.now.units.now.units (op_count course.now.plan.now) }
     requires number { course.now.units.now.ops ≡ op_count course.now.plan.now }
     requires dependents { course.now.abort ≡ Eager
-        → course.now.dependents.now ≡ course.now.plan.now.dependents }
+        → course.now.dependents.now ≡ dependents_of course.now.plan.now }
     requires counters { counters_for course.now.plan.now ≤ counters_of board.old }
     requires some { 0 < length runners.old }
     requires seated { All (IsFreeRunner board.old) runners.old }
@@ -102,7 +103,7 @@ pub fn explore<R: Threads + Sync, G: Gate>(
     requires plan { plan.now ≡ plan_of board }
     requires units { IsPartition units.now.units (op_count plan.now) }
     requires number { units.now.ops ≡ op_count plan.now }
-    requires dependents { abort ≡ Eager → dependents.now ≡ plan.now.dependents }
+    requires dependents { abort ≡ Eager → dependents.now ≡ dependents_of plan.now }
     requires counters { counters_for plan.now ≤ counters_of board }
     requires ready { MayExplore board 0 runners }
     ensures explored { IsExploredBoard result }

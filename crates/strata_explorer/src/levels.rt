@@ -3,6 +3,7 @@ ghost use Rattle.std.specs.Prelude.{ℕ, ◌≡◌, ◌<◌, ◌≤◌, [], All,
 ghost use Rattle.chain_units.specs.Places.{IsPartition};
 ghost use Rattle.morph_base.specs.declared.strategy.Abort.TheVariants.{Eager, Lazy};
 ghost use Rattle.morph_base.specs.Graphs.{IsValidPlan};
+ghost use Rattle.morph_base.specs.Readers.{dependents_of};
 ghost use Rattle.morph_base.specs.Plans.{op_count};
 ghost use Rattle.abort_eager.specs.Grounds.{IsGround, ground_rules};
 ghost use Rattle.op_words.specs.Hands.{plan_of, cap_of, counters_of};
@@ -130,7 +131,7 @@ pub(crate) fn pass_levels<R: Threads + Sync, G: Gate>(
     requires units { IsPartition course.now.units.now.units (op_count course.now.plan.now) }
     requires number { course.now.units.now.ops ≡ op_count course.now.plan.now }
     requires dependents { course.now.abort ≡ Eager
-        → course.now.dependents.now ≡ course.now.plan.now.dependents }
+        → course.now.dependents.now ≡ dependents_of course.now.plan.now }
     requires counters { counters_for course.now.plan.now ≤ counters_of board.now }
     requires some { 0 < length runners.old }
     requires seated { All (IsFreeRunner board.now) runners.old }

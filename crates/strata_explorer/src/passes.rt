@@ -4,6 +4,7 @@ ghost use Rattle.chain_units.specs.Places.{IsPartition};
 ghost use Rattle.interleaving_core.specs.Counts.{rolled};
 ghost use Rattle.morph_base.specs.declared.strategy.Abort.TheVariants.{Eager};
 ghost use Rattle.morph_base.specs.Graphs.{IsValidPlan};
+ghost use Rattle.morph_base.specs.Readers.{dependents_of};
 ghost use Rattle.morph_base.specs.Plans.{op_count};
 ghost use Rattle.op_words.specs.declared.board.Board.{Board as B};
 ghost use Rattle.op_words.specs.Hands.{plan_of, cap_of, counters_of, up_to, IsHandOf};
@@ -96,7 +97,7 @@ fn pass_once<R: Threads + Sync, G: Gate>(
     requires plan { course.now.plan.now ≡ plan_of board.old }
     requires units { IsPartition course.now.units.now.units (op_count course.now.plan.now) }
     requires number { course.now.units.now.ops ≡ op_count course.now.plan.now }
-    requires dependents { course.now.dependents.now ≡ course.now.plan.now.dependents }
+    requires dependents { course.now.dependents.now ≡ dependents_of course.now.plan.now }
     requires level { level < length course.now.plan.now.op_levels.items }
     requires counter { counter < counters_of board.old }
     requires some { 0 < length runners.old }
@@ -144,7 +145,7 @@ pub(crate) fn pass_in_turn<R: Threads + Sync, G: Gate>(
     requires plan { course.now.plan.now ≡ plan_of board.old }
     requires units { IsPartition course.now.units.now.units (op_count course.now.plan.now) }
     requires number { course.now.units.now.ops ≡ op_count course.now.plan.now }
-    requires dependents { course.now.dependents.now ≡ course.now.plan.now.dependents }
+    requires dependents { course.now.dependents.now ≡ dependents_of course.now.plan.now }
     requires counters { counters_for course.now.plan.now ≤ counters_of board.old }
     requires some { 0 < length runners.old }
     requires seated { All (IsFreeRunner board.old) runners.old }

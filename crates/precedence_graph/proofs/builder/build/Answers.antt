@@ -55,7 +55,6 @@ returns-clause-plan c =
     let p : Plan = record {
       events = c.in_ok-ops.field-0.events;
       ops = c.in_ok-ops.field-0.ops;
-      dependents = c.of-dependents.result;
       op_levels = c.in_ok-op_levels.op_levels;
       event_levels = c.in_ok-event_levels.event_levels;
       edges = record { temporal = c.in_ok-ops.field-0.written.targets; parametric = c.in_ok-ops.field-0.written.parameters; logical = c.logical.result };
@@ -69,14 +68,13 @@ returns-clause-graph c =
     let p : Plan = record {
       events = c.in_ok-ops.field-0.events;
       ops = c.in_ok-ops.field-0.ops;
-      dependents = c.of-dependents.result;
       op_levels = c.in_ok-op_levels.op_levels;
       event_levels = c.in_ok-event_levels.event_levels;
       edges = record { temporal = c.in_ok-ops.field-0.written.targets; parametric = c.in_ok-ops.field-0.written.parameters; logical = c.logical.result };
     } in
     let events_done = c.in_ok-ops.ensures.events in
     let same_events = c.as_slice.ensures in
-    graph_is x c.requires p c.in_ok-ops.ensures.ops events_done c.of-dependents.ensures c.in_ok-op_levels.ensures (c.in_ok-event_levels.ensures ∙ ap event_lists_of c.as_slice-2.ensures)
+    graph_is x c.requires p c.in_ok-ops.ensures.ops events_done c.in_ok-op_levels.ensures (c.in_ok-event_levels.ensures ∙ ap event_lists_of c.as_slice-2.ensures)
     c.in_ok-ops.ensures.written.targets c.in_ok-ops.ensures.written.parameters (c.logical.ensures ∙ ap logical_of same_events)
 
 pub returns-clause-ops : goal.returns-clause-ops
@@ -85,7 +83,6 @@ returns-clause-ops c =
     let p : Plan = record {
       events = c.in_ok-ops.field-0.events;
       ops = c.in_ok-ops.field-0.ops;
-      dependents = c.of-dependents.result;
       op_levels = c.in_ok-op_levels.op_levels;
       event_levels = c.in_ok-event_levels.event_levels;
       edges = record { temporal = c.in_ok-ops.field-0.written.targets; parametric = c.in_ok-ops.field-0.written.parameters; logical = c.logical.result };
@@ -99,7 +96,6 @@ returns-clause-events_of c =
     let p : Plan = record {
       events = c.in_ok-ops.field-0.events;
       ops = c.in_ok-ops.field-0.ops;
-      dependents = c.of-dependents.result;
       op_levels = c.in_ok-op_levels.op_levels;
       event_levels = c.in_ok-event_levels.event_levels;
       edges = record { temporal = c.in_ok-ops.field-0.written.targets; parametric = c.in_ok-ops.field-0.written.parameters; logical = c.logical.result };
@@ -113,7 +109,6 @@ returns-clause-events c =
     let p : Plan = record {
       events = c.in_ok-ops.field-0.events;
       ops = c.in_ok-ops.field-0.ops;
-      dependents = c.of-dependents.result;
       op_levels = c.in_ok-op_levels.op_levels;
       event_levels = c.in_ok-event_levels.event_levels;
       edges = record { temporal = c.in_ok-ops.field-0.written.targets; parametric = c.in_ok-ops.field-0.written.parameters; logical = c.logical.result };
@@ -127,7 +122,6 @@ returns-clause-transactions c =
     let p : Plan = record {
       events = c.in_ok-ops.field-0.events;
       ops = c.in_ok-ops.field-0.ops;
-      dependents = c.of-dependents.result;
       op_levels = c.in_ok-op_levels.op_levels;
       event_levels = c.in_ok-event_levels.event_levels;
       edges = record { temporal = c.in_ok-ops.field-0.written.targets; parametric = c.in_ok-ops.field-0.written.parameters; logical = c.logical.result };
@@ -141,7 +135,6 @@ returns-clause-blank c =
     let p : Plan = record {
       events = c.in_ok-ops.field-0.events;
       ops = c.in_ok-ops.field-0.ops;
-      dependents = c.of-dependents.result;
       op_levels = c.in_ok-op_levels.op_levels;
       event_levels = c.in_ok-event_levels.event_levels;
       edges = record { temporal = c.in_ok-ops.field-0.written.targets; parametric = c.in_ok-ops.field-0.written.parameters; logical = c.logical.result };

@@ -8,23 +8,23 @@ use Rattle.steal_explorer.proofs.Going.{goes_none, goes_then}
 use Rattle.steal_explorer.proofs.serve.ask_all.Goals as goal
 
 pub row-dependents-requires : goal.row-dependents-requires
-row-dependents-requires g c = subst (λ n. c.args.op < n) (sym (many_rows c.args.ground.now.plan.now c.requires.may.0.valid.graph _ c.requires.dependents)) c.requires.may.1
+row-dependents-requires g c = subst (λ n. c.args.op < n) (sym (many_rows c.args.ground.now.plan.now _ c.requires.dependents)) c.requires.may.1
 
 pub loop-i-init : goal.loop-i-init
 loop-i-init g c = (
   c.requires.may.2,
   goes_none _ _,
   λ z. subst (λ ops. AsksAll (ground_rules c.args.ground.now) ops c.args.member.now z)
-      (readers_is c.args.ground.now.plan.now c.requires.may.0.valid.graph _ c.requires.dependents c.args.op c.requires.may.1 _ c.row-dependents.ensures),
+      (readers_is c.args.ground.now.plan.now _ c.requires.dependents c.args.op c.requires.may.1 _ c.row-dependents.ensures),
   subst (λ ops. IsHandingAlone c.args.ground.now.plan.now ops c.args.member.now)
-      (sym (readers_is c.args.ground.now.plan.now c.requires.may.0.valid.graph _ c.requires.dependents c.args.op c.requires.may.1 _ c.row-dependents.ensures)),
+      (sym (readers_is c.args.ground.now.plan.now _ c.requires.dependents c.args.op c.requires.may.1 _ c.row-dependents.ensures)),
 )
 
 pub ask_one-requires : goal.ask_one-requires
 ask_one-requires g c = record {
   may = (
     c.requires.may.0,
-    readers_inside c.args.ground.now.plan.now c.requires.may.0.valid.graph _ c.requires.dependents c.args.op c.requires.may.1 _ c.row-dependents.ensures c.loop-i.i 0 c.loop-i-test.true,
+    readers_inside c.args.ground.now.plan.now _ c.requires.dependents c.args.op c.requires.may.1 _ c.row-dependents.ensures c.loop-i.i 0 c.loop-i-test.true,
     c.loop-i.invariant.0,
   );
 }
@@ -32,7 +32,7 @@ ask_one-requires g c = record {
 pub loop-i-preserved : goal.loop-i-preserved
 loop-i-preserved g c =
     let p = c.args.ground.now.plan.now in
-    let same = readers_is p c.requires.may.0.valid.graph _ c.requires.dependents c.args.op c.requires.may.1 _ c.row-dependents.ensures in (
+    let same = readers_is p _ c.requires.dependents c.args.op c.requires.may.1 _ c.row-dependents.ensures in (
       c.ask_one.ensures.can,
       goes_then _ _ _ _ c.loop-i.invariant.1 c.ask_one.ensures.goes,
       λ z asked.

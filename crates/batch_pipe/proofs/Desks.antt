@@ -11,7 +11,7 @@ use Rattle.batch_pipe.specs.declared.runner.RunEnd.{RunEnd}
 use Rattle.batch_pipe.specs.declared.runner.RunEnd.TheVariants.{Whole, NoMemory, Untold}
 use Rattle.batch_pipe.specs.PlannedBatches.{AreNumbered}
 use Rattle.batch_pipe.specs.Results.{IsResult, AreTaken, AreTold}
-use Rattle.batch_pipe.specs.PlanRuns.{Manner, AreRun, IsSentRun, state_after, last_after, came_of, Desk, Runs, RunsPlans, is_told}
+use Rattle.batch_pipe.specs.PlanRuns.{Manner, AreRun, IsSentRun, state_after, last_after, came_of, Desk, Post, Runs, RunsPlans, RunsWaiting, is_told}
 
 pub state_after-append : (s : State) (xs ys : List Sent) → state_after s (xs ++ ys) ≡ state_after (state_after s xs) ys
 unfolding state_after
@@ -118,6 +118,17 @@ module _ {Teller : Type 0} (takes : Teller → Ran → Bool → Teller → Type 
 
     pub runs_whole : {a b : Desk Teller} (xs : List Sent) → Runs takes m a xs true b → RunsPlans takes m a xs Whole b
     runs_whole xs p = record { runs = xs; lost = []; run = p; parts = sym (append-nil xs); lost_is = refl }
+
+    -- all that waited was run, and more plans that came over the ring were taken behind them
+    pub waiting_both : {a b c : Post Teller} (first known : List Sent) (end : RunEnd) → RunsWaiting takes m a first known Whole b → RunsWaiting takes m b [] [] end c → RunsWaiting takes m a first known end c
+    waiting_both {a} {b} {c} first known end p q = record {
+      popped = p.popped ++ q.popped;
+      plans = subst (λ (l : List Sent). RunsPlans takes m a.desk l end c.desk) (append_assoc first p.popped q.popped)
+          (plans_both (first ++ p.popped) q.popped end (all_run (first ++ p.popped) p.plans) q.plans);
+      received_is = q.received_is ∙ ap (λ l. l ++ q.popped) p.received_is ∙ append_assoc a.received p.popped q.popped;
+      later = p.later ++ q.popped;
+      whole = λ is. ap (λ l. l ++ q.popped) (p.whole refl) ∙ append_assoc known p.later q.popped;
+    }
 
     -- memory was refused for a plan
     pub loses_one : (a b : Desk Teller) (x : Sent) → b.state ≡ a.state → b.last ≡ a.last → b.teller ≡ a.teller → RunsPlans takes m a (x ∷ []) NoMemory b

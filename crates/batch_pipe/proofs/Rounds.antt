@@ -72,13 +72,12 @@ not_untold None (Some tail) told_before stop_is is = stop_is.1 (cc)
 not_untold (Some tail) stop told_before stop_is is = told_before is
 
 module _ {App : Type 0} (event_of : App → ℕ → Meaning) (layout : Layout) (m : Manner) where
-  -- what waits after a round: what the runner left, and what the planner sent
-  pub waiting_is : (received0 received1 waiting0 waiting1 known1 sent0 sent1 popped more : List Sent) → received0 ++ waiting0 ≡ sent0 → received1 ++ waiting1 ≡ sent1 →
-      sent1 ≡ sent0 ++ more → waiting0 ≡ popped ++ known1 → received1 ≡ received0 ++ popped → waiting1 ≡ known1 ++ more
-  waiting_is received0 received1 waiting0 waiting1 known1 sent0 sent1 popped more before after sent known received =
-      append_cancel_left received1 waiting1 (known1 ++ more)
-      (after ∙ sent ∙ ap (λ l. l ++ more) (sym before ∙ ap (λ l. received0 ++ l) known ∙ sym (append_assoc received0 popped known1) ∙ ap (λ l. l ++ known1) (sym received))
-      ∙ append_assoc received1 known1 more)
+  -- what the runner took over the ring and what waits after a round: what waited before it, and what the planner sent
+  pub waiting_is : (received0 received1 waiting0 waiting1 sent0 sent1 popped more : List Sent) → received0 ++ waiting0 ≡ sent0 → received1 ++ waiting1 ≡ sent1 →
+      sent1 ≡ sent0 ++ more → received1 ≡ received0 ++ popped → popped ++ waiting1 ≡ waiting0 ++ more
+  waiting_is received0 received1 waiting0 waiting1 sent0 sent1 popped more before after sent received =
+      append_cancel_left received0 (popped ++ waiting1) (waiting0 ++ more)
+      (sym (append_assoc received0 popped waiting1) ∙ ap (λ l. l ++ waiting1) (sym received) ∙ after ∙ sent ∙ ap (λ l. l ++ more) (sym before) ∙ append_assoc received0 waiting0 more)
 
   -- the tail that a planner met is not one of the runs
   stop_of_planner : (stop : Option Tail) (middle at : Stand App) → MayStop event_of stop middle at → IfSome stop (λ tail. tail ≢ RunMemory) → IfSome stop (λ tail. (tail ≢ RunMemory) × (tail ≢ Untold))
@@ -86,16 +85,16 @@ module _ {App : Type 0} (event_of : App → ℕ → Meaning) (layout : Layout) (
   stop_of_planner (Some tail) middle at stops planner = (planner, stops.untold)
 
   pub round_is : {Teller : Type 0} {takes : Teller → Ran → Bool → Teller → Type 0} {teller teller' : Teller} {high high' : ℕ} {a b : PipeView App} {left left1 left2 : Option (List ℕ)}
-      {r1 : ReaderView App} {n1 : ℕ} {stop : Option Tail} {end : RunEnd} {sent0 sent1 received0 received1 known1 : List Sent} (free : ℕ) (first : Option Sent) →
+      {r1 : ReaderView App} {n1 : ℕ} {stop : Option Tail} {end : RunEnd} {sent0 sent1 received0 received1 : List Sent} (free : ℕ) (first : Option Sent) →
       PlansAhead event_of layout high (record { at = stand a.reader left; sent = []; number = a.sent }) None (record { at = stand r1 left1; sent = one_or_none first; number = n1 }) →
       PlansAhead event_of layout high' (record { at = stand r1 left1; sent = sent0; number = n1 }) stop (record { at = stand b.reader left2; sent = sent1; number = b.sent }) →
-      RunsWaiting takes m (record { desk = desk_at a teller; received = received0; known = a.waiting }) (one_or_none first) end (record { desk = desk_at b teller'; received = received1; known = known1 }) →
+      RunsWaiting takes m (record { desk = desk_at a teller; received = received0 }) (one_or_none first) a.waiting end (record { desk = desk_at b teller'; received = received1 }) →
       received0 ++ a.waiting ≡ sent0 → received1 ++ b.waiting ≡ sent1 →
       AreNumbered (number_before a) a.waiting → length a.waiting ≤ a.sent → a.ahead ≤ free + length a.waiting → length (one_or_none first) ≡ 1 - length a.waiting →
       (IsSome a.tail → (stop ≡ None) × (sent1 ≡ sent0) × (b.reader ≡ a.reader) × (left2 ≡ left)) → IfSome stop (λ tail. tail ≢ RunMemory) → (a.tail ≡ None → IfNone stop (length sent0 + free ≤ length sent1)) → (IsSome a.tail → 0 < length a.waiting) →
       a.tail ≢ Some Untold → (end ≡ Whole → b.tail ≡ or_else a.tail stop) → (end ≡ NoMemory → b.tail ≡ Some RunMemory) → (end ≡ NotTold → b.tail ≡ Some Untold) → b.engine.layout ≡ a.engine.layout → b.ahead ≡ a.ahead →
       IsRound event_of takes m a left teller b left2 teller'
-  round_is {Teller} {takes} {teller} {teller'} {high} {high'} {a} {b} {left} {left1} {left2} {r1} {n1} {stop} {end} {sent0} {sent1} {received0} {received1} {known1} free first f h r
+  round_is {Teller} {takes} {teller} {teller'} {high} {high'} {a} {b} {left} {left1} {left2} {r1} {n1} {stop} {end} {sent0} {sent1} {received0} {received1} free first f h r
       before after numbers count room one idle planner enough going told_before met memory untold layout_is ahead_is =
       let more : List Sent = f.more ++ h.more in
       let first_is : one_or_none first ≡ f.more = f.sent_is in
@@ -103,7 +102,7 @@ module _ {App : Type 0} (event_of : App → ℕ → Meaning) (layout : Layout) (
       let lm = length-append f.more h.more in
       let ls = ap length h.sent_is in
       let ls2 = length-append sent0 h.more in
-      let waits : b.waiting ≡ known1 ++ h.more = waiting_is received0 received1 a.waiting b.waiting known1 sent0 sent1 r.popped h.more before after h.sent_is r.known_is r.received_is in
+      let waits : r.popped ++ b.waiting ≡ a.waiting ++ h.more = waiting_is received0 received1 a.waiting b.waiting sent0 sent1 r.popped h.more before after h.sent_is r.received_is in
       record {
         more = more;
         stop = stop;
@@ -114,11 +113,9 @@ module _ {App : Type 0} (event_of : App → ℕ → Meaning) (layout : Layout) (
         parts =
             ap (λ l. a.waiting ++ (l ++ h.more)) (sym first_is)
             ∙ swap a.waiting (one_or_none first) h.more one
-            ∙ ap (λ l. one_or_none first ++ (l ++ h.more)) r.known_is
-            ∙ ap (λ l. one_or_none first ++ l) (append_assoc r.popped known1 h.more)
-            ∙ sym (append_assoc (one_or_none first) r.popped (known1 ++ h.more))
-            ∙ ap (λ l. l ++ (known1 ++ h.more)) r.plans.parts
-            ∙ ap (λ l. (r.plans.runs ++ r.plans.lost) ++ l) (sym waits);
+            ∙ ap (λ l. one_or_none first ++ l) (sym waits)
+            ∙ sym (append_assoc (one_or_none first) r.popped b.waiting)
+            ∙ ap (λ l. l ++ b.waiting) r.plans.parts;
         rans = r.plans.run.rans;
         run = r.plans.run.run;
         state_is = r.plans.run.state_is;
@@ -139,6 +136,7 @@ module _ {App : Type 0} (event_of : App → ℕ → Meaning) (layout : Layout) (
         enough = λ none no_stop.
             let e = if_none stop (length sent0 + free ≤ length sent1) no_stop (enough none) in
             omega (arith, e, room, one, lf, lm, ls, ls2);
+        later = r.later;
         whole = whole end refl;
         met = meets end refl;
         refused = refused end refl;
@@ -175,11 +173,12 @@ module _ {App : Type 0} (event_of : App → ℕ → Meaning) (layout : Layout) (
       refused NoMemory is some = (lost_so NoMemory is, memory is)
       refused NotTold is some = absurd (some (empty_is r.plans.lost (lost_so NotTold is)))
 
-      whole : (e : RunEnd) → end ≡ e → r.plans.lost ≡ [] → b.tail ≢ Some Untold → r.plans.runs ≡ a.waiting ++ take (1 - length a.waiting) (f.more ++ h.more)
+      whole : (e : RunEnd) → end ≡ e → r.plans.lost ≡ [] → b.tail ≢ Some Untold → r.plans.runs ≡ (a.waiting ++ take (1 - length a.waiting) (f.more ++ h.more)) ++ r.later
       whole Whole is nothing other =
-          let popped_is : a.waiting ≡ r.popped = r.known_is ∙ ap (λ l. r.popped ++ l) (r.whole is) ∙ append-nil r.popped in
-          sym (append-nil r.plans.runs) ∙ ap (λ l. r.plans.runs ++ l) (sym nothing) ∙ sym r.plans.parts ∙ ap (λ l. one_or_none first ++ l) (sym popped_is)
-          ∙ whole_is a.waiting (one_or_none first) h.more one ∙ ap (λ l. a.waiting ++ take (1 - length a.waiting) (l ++ h.more)) f.sent_is
+          let waited : one_or_none first ++ a.waiting ≡ a.waiting ++ take (1 - length a.waiting) (f.more ++ h.more) =
+          whole_is a.waiting (one_or_none first) h.more one ∙ ap (λ l. a.waiting ++ take (1 - length a.waiting) (l ++ h.more)) f.sent_is in
+          sym (append-nil r.plans.runs) ∙ ap (λ l. r.plans.runs ++ l) (sym nothing) ∙ sym r.plans.parts ∙ ap (λ l. one_or_none first ++ l) (r.whole is)
+          ∙ sym (append_assoc (one_or_none first) a.waiting r.later) ∙ ap (λ l. l ++ r.later) waited
       whole NoMemory is nothing other = absurd (let l = ap length nothing in let one_lost = lost_so NoMemory is in omega (arith, l, one_lost))
       whole NotTold is nothing other = absurd (other (untold is))
 
@@ -206,7 +205,8 @@ module _ {App : Type 0} (event_of : App → ℕ → Meaning) (layout : Layout) (
     idle = λ some. absurd (let no = subst IsSome told_before some in cc);
     stop_is = (planner, stops.untold);
     enough = λ no_tail no_stop. absurd (cc);
-    whole = λ nothing other. ap (λ (l : List Sent). l ++ take (1 - length l) []) (sym waits);
+    later = [];
+    whole = λ nothing other. ap (λ (l : List Sent). (l ++ take (1 - length l) []) ++ []) (sym waits);
     met = λ nothing other. tail' ∙ ap (λ t. or_else t (Some tail)) (sym told_before);
     refused = λ some. absurd (some refl);
     layout = ap (λ (k : Kept). k.layout) engine;
@@ -376,8 +376,9 @@ module _ {App Teller : Type 0} {event_of : App → ℕ → Meaning} {takes : Tel
               omega (arith, l0, l1, rans_many)
           by_told z (inr told) =
               let l0 = ap length (q.whole (empty_is q.lost z) told) in
-              let l1 = length-append a.waiting (take (1 - length a.waiting) q.more) in
-              omega (arith, l0, l1, some)
+              let l1 = length-append (a.waiting ++ take (1 - length a.waiting) q.more) q.later in
+              let l2 = length-append a.waiting (take (1 - length a.waiting) q.more) in
+              omega (arith, l0, l1, l2, some)
 
   no_stop : a.tail ≡ None → b.tail ≡ None → (length q.lost ≡ 0) ⊎ (0 < length q.lost) → q.stop ≡ None
   no_stop e f (inl z) = (by_both a.tail q.stop (sym (q.met (empty_is q.lost z) (not_refused b.tail f)) ∙ f)).1
@@ -437,10 +438,11 @@ module _ {App Teller : Type 0} {event_of : App → ℕ → Meaning} {takes : Tel
       by (inl z) (inr more) (inl lost) (inl runs) =
           let w = ap length (q.whole (empty_is q.lost lost) after.1.1) in
           let l1 = length-append a.waiting (take (1 - length a.waiting) q.more) in
+          let l4 = length-append (a.waiting ++ take (1 - length a.waiting) q.more) q.later in
           let one : 1 - length a.waiting ≡ 1 = omega (arith, z) in
           let l2 = ap (λ n. length (take n q.more)) one in
           let l3 = take_one q.more more in
-          absurd (omega (arith, w, l1, l2, l3, z, runs))
+          absurd (omega (arith, w, l1, l2, l3, l4, z, runs))
       by (inl z) (inl more) (inl lost) (inl runs) = absurd (stuck a.tail q.stop refl refl going.0 after.0)
         where
           ended : length b.waiting ≡ 0

@@ -57,6 +57,7 @@ module _ {Teller : Type 0} (takes : Teller → Ran → Bool → Teller → Type 
       last_is = q.last_is;
       told = λ other. taken_seen q.rans a b (q.told other);
       untold = λ is. refused_seen q.rans a b (q.untold is);
+      later = q.later;
       sent_is = q.sent_is;
       numbered = q.numbered;
       idle = q.idle;

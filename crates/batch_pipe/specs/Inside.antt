@@ -44,4 +44,4 @@ module _ {A : Type 0} where
     pub number : length (waiting_in p) ≤ p.planner.sent
     pub counted : p.planner.sent ≤ p.planner.reader.lines.number
     pub layout : p.runner.engine.layout ≡ layout_by table_count p.planner.reader
-    pub able : p.tail ≡ None → CanPlan p.planner
+    pub able : p.tail ≡ None → CanPlan table_count p.planner

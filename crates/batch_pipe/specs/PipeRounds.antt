@@ -50,8 +50,8 @@ number_before v = v.sent - length v.waiting
 -- A round of the pipe. The plans that it sent are of the next batches that the reader gives, in order and each once.
 -- Those that it ran are the first of all that waited, and the others wait. The state, the numbers and the strategies go
 -- on. The teller took the results of all that were run, in order, or refused the last one. If it refused none, and no
--- memory was refused, all that waited were run. At least as many plans were sent as there were free places, unless a
--- tail was met
+-- memory was refused, all that waited were run, and perhaps some that were sent meanwhile. At least as many plans were
+-- sent as there were free places, unless a tail was met
 pub record IsRound {App : Type 0} {Teller : Type 0} (event_of : App → ℕ → Meaning)
     (takes : Teller → Ran → Bool → Teller → Type 0) (m : Manner) (a : PipeView App) (left : Option (List ℕ))
     (teller : Teller) (b : PipeView App) (left' : Option (List ℕ)) (teller' : Teller) : Type 0 where
@@ -79,8 +79,10 @@ pub record IsRound {App : Type 0} {Teller : Type 0} (event_of : App → ℕ → 
   pub idle : IsSome a.tail → (more ≡ []) × (stop ≡ None) × (b.reader ≡ a.reader) × (left' ≡ left)
   pub enough : a.tail ≡ None → stop ≡ None → a.ahead + (1 - length a.waiting) ≤ length a.waiting + length more
   pub stop_is : IfSome stop (λ tail. (tail ≢ RunMemory) × (tail ≢ Untold))
-  -- If neither memory nor a result was refused, all that waited were run, or, if none did, the one that was read first
-  pub whole : lost ≡ [] → b.tail ≢ Some Untold → runs ≡ a.waiting ++ take (1 - length a.waiting) more
+  -- If neither memory nor a result was refused, all that waited were run, or, if none did, the one that was read first,
+  -- and behind them those that the runner took while others were planned
+  pub later : List Sent
+  pub whole : lost ≡ [] → b.tail ≢ Some Untold → runs ≡ (a.waiting ++ take (1 - length a.waiting) more) ++ later
   pub met : lost ≡ [] → b.tail ≢ Some Untold → b.tail ≡ or_else a.tail stop
   pub refused : lost ≢ [] → (length lost ≡ 1) × (b.tail ≡ Some RunMemory)
   -- The rest stays

@@ -1,5 +1,6 @@
 -- Plans that are run, one after another, and their results
 use Rattle.std.specs.Prelude.{◌≡◌, ℕ, ◌+◌, ◌≤◌, Bool, true, false, if◌then◌else◌, List, [], ◌∷◌, ◌++◌, length, All, Option, Some, None}
+use Rattle.morph_base.specs.declared.key.Layout.{Layout}
 use Rattle.morph_base.specs.declared.plan.Plan.{Plan}
 use Rattle.morph_base.specs.declared.strategy.Strategy.{Strategy}
 use Rattle.morph_base.specs.Flat.{Kept, contents}
@@ -117,25 +118,25 @@ module _ {Teller : Type 0} (takes : Teller → Ran → Bool → Teller → Type 
     pub parts : plans ≡ runs ++ lost
     pub lost_is : length lost ≡ lost_count end
 
--- A runner between two plans: its desk, what it received over its ring, and what it knows to be in the ring
+-- A runner between two plans: its desk, and what it received over its ring
 pub record Post (Teller : Type 0) : Type 0 where
   pub desk : Desk Teller
   pub received : List Sent
-  pub known : List Sent
 
 -- The post of a runner with this teller
 abbrev pub post : {Teller : Type 0} → Runner → Teller → Post Teller
-post r teller = record { desk = desk r teller; received = received r.ring; known = known_items r.ring }
+post r teller = record { desk = desk r teller; received = received r.ring }
 
--- What a runner did with the plans that waited: the `first`, which do not go through the ring, and those known to be in
--- the ring. It took the first few of them in order, and all if its runs ended as a whole. It left the others
+-- What a runner did with plans: the `first`, which do not go through the ring, and those in the ring. It took the first
+-- few of them in order. If its runs ended as a whole, it took all of the `known`, and those behind them that came
+-- meanwhile. It left the others
 pub record RunsWaiting {Teller : Type 0} (takes : Teller → Ran → Bool → Teller → Type 0) (m : Manner) (a : Post Teller)
-    (first : List Sent) (end : RunEnd) (b : Post Teller) : Type 0 where
+    (first known : List Sent) (end : RunEnd) (b : Post Teller) : Type 0 where
   pub popped : List Sent
   pub plans : RunsPlans takes m a.desk (first ++ popped) end b.desk
-  pub known_is : a.known ≡ popped ++ b.known
   pub received_is : b.received ≡ a.received ++ popped
-  pub whole : end ≡ Whole → b.known ≡ []
+  pub later : List Sent
+  pub whole : end ≡ Whole → popped ≡ known ++ later
 
 -- The plan can be run by the engine once its bases are filled in: it is valid, its keys are in the layout, and no value
 -- of the state is above its greatest one
@@ -144,23 +145,37 @@ pub record IsRunnable (engine : Kept) (p : Plan) : Type 0 where
   pub keys : PlanKeysIn p engine.layout
   pub small : IsUpTo (high_of p) (contents engine)
 
--- The runner may run what waits, and hand the results to the teller. The plans have one greatest value, which no value
--- of the state is above. They are numbered on behind `before`, and no number is above that of the last possible line.
--- The teller can take the result of the first of them
-pub record CanRun {Teller : Type 0} (can_take : Teller → ℕ → Type 0) (first : List Sent) (r : Runner)
+-- The runner may run what waits, and hand the results to the teller. The plans have this greatest value, which no value
+-- of the state is above. They are numbered on, the last of them is of number `upto`, and that is at most the number of
+-- the last possible line. The teller can take the result of the first of them
+pub record CanRun {Teller : Type 0} (can_take : Teller → ℕ → Type 0) (high upto : ℕ) (first : List Sent) (r : Runner)
     (teller : Teller) : Type 0 where
-  pub high : ℕ
   pub small : IsUpTo high (contents r.engine)
   pub first_ready : All (λ (x : Sent). IsReadyPlan r.engine.layout high x.plan) first
   pub ready : All (λ (x : Sent). IsReadyPlan r.engine.layout high x.plan) (known_items r.ring)
   pub before : ℕ
   pub numbered : AreNumbered before (first ++ known_items r.ring)
-  pub few : before + length first + length (known_items r.ring) ≤ input_bytes + 1
+  pub upto_is : before + length first + length (known_items r.ring) ≡ upto
+  pub few : upto ≤ input_bytes + 1
   pub can : can_take teller (before + 1)
 
--- The runner ran what waited, by `RunsWaiting`, and handed the results to the teller
-pub record HasRunWaiting {Teller : Type 0} (takes : Teller → Ran → Bool → Teller → Type 0) (m : Manner)
-    (first : List Sent) (a : Runner) (teller : Teller) (end : RunEnd) (b : Runner) (teller' : Teller) : Type 0 where
-  pub runs : RunsWaiting takes m (post a teller) first end (post b teller')
+-- The runner may go on behind the plan of number `before`: no value of the state is above `high`, and the teller can take
+-- the next result
+pub record CanGoOn {Teller : Type 0} (can_take : Teller → ℕ → Type 0) (high before : ℕ) (r : Runner) (teller : Teller)
+    : Type 0 where
+  pub small : IsUpTo high (contents r.engine)
+  pub few : before ≤ input_bytes + 1
+  pub can : can_take teller (before + 1)
+
+-- The plan is the one behind that of number `before`, for this layout and with this greatest value
+pub record IsBehind (layout : Layout) (high before : ℕ) (x : Sent) : Type 0 where
+  pub layout_is : x.layout ≡ layout
+  pub greatest_is : x.greatest ≡ high
+  pub number_is : x.number ≡ before + 1
+
+-- The runner ran plans, by `RunsWaiting`, and handed the results to the teller
+pub record HasRunPlans {Teller : Type 0} (takes : Teller → Ran → Bool → Teller → Type 0) (m : Manner)
+    (first known : List Sent) (a : Runner) (teller : Teller) (end : RunEnd) (b : Runner) (teller' : Teller) : Type 0 where
+  pub runs : RunsWaiting takes m (post a teller) first known end (post b teller')
   pub ring : SameConsumer a.ring b.ring
   pub layout : b.engine.layout ≡ a.engine.layout

@@ -6,6 +6,7 @@ use Rattle.morph_base.specs.Transactions.{Transaction, by_time}
 use Rattle.morph_base.specs.Plans.{PlanKeysIn, high_of, transactions}
 use Rattle.morph_base.specs.Graphs.{IsValidPlan}
 use Rattle.event_reader.specs.Steps.{Meaning}
+use Rattle.event_reader.specs.Limits.{input_bytes}
 use Rattle.event_reader.specs.Versions.{greatest_of}
 use Rattle.event_reader.specs.declared.answers.Next.{Next}
 use Rattle.event_reader.specs.declared.answers.Next.TheVariants.{End as NoBatch, Refused as RefusedLine}
@@ -42,6 +43,12 @@ ArePlansOf batches plans = map transactions plans ≡ map by_time batches
 -- The plans that were sent
 abbrev pub plans_of : List Sent → List Plan
 plans_of sent = map (λ (x : Sent). x.plan) sent
+
+-- A plan that is sent is what its parts say: ready for states of its layout with no value above its greatest one. Its
+-- number is at most one more than the bytes of an input
+pub record IsReadySent (x : Sent) : Type 0 where
+  pub ready : IsReadyPlan x.layout x.greatest x.plan
+  pub few : x.number ≤ input_bytes + 1
 
 -- What was sent is numbered on, after `before` earlier numbers
 unfoldable pub AreNumbered : ℕ → List Sent → Type 0
@@ -100,9 +107,11 @@ module _ {App : Type 0} (event_of : App → ℕ → Meaning) where
   HasPlanned table_count a left tail b left' =
       PlansAhead (layout_by table_count a.reader) (greatest_of b.reader.past.version) (bench a left) tail (bench b left')
 
--- The planner may go on, and has sent at most as many plans as its reader gave lines
-pub record CanPlan {App : Type 0} (p : Planner App) : Type 0 where
+-- The planner may go on, has the layout of its reader's keys, and has sent at most as many plans as its reader gave
+-- lines
+pub record CanPlan {App : Type 0} (table_count : App → ℕ) (p : Planner App) : Type 0 where
   pub live : IsTrue p.reader.live
+  pub layout : p.layout ≡ layout_by table_count p.reader
   pub counted : p.sent ≤ p.reader.lines.number
 
 -- All places that the planner knew to be free were filled

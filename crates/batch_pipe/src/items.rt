@@ -3,16 +3,31 @@ ghost use Rattle.morph_base.specs.Graphs.{IsValidPlan};
 ghost use Rattle.batch_pipe.specs.PlanRuns.{picked};
 
 use decision_model::{Last, choose, profile};
-use morph_base::{Plan, Strategy};
+use morph_base::{Layout, Plan, Strategy};
 use morph_engine::BatchEnd;
+use rtrb::Protocol;
 
 /// A plan that was sent to be run.
 #[derive(Debug, Drop)]
 pub struct Sent {
     /// The number of its batch, from 1 on.
     pub number: u64,
+    /// The layout that has the plan's keys.
+    pub layout: Layout,
+    /// The greatest value of the plan's operations.
+    pub greatest: u64,
     /// A valid plan of the batch. Its bases are filled in when it is run.
     pub plan: Plan,
+}
+
+/// The protocol of a ring over which plans go: each is what its parts say of it.
+#[derive(Clone, Copy)]
+pub(crate) struct ReadyPlans;
+
+impl Protocol<Sent> for ReadyPlans {
+    ghost use Rattle.batch_pipe.specs.PlannedBatches.{IsReadySent};
+
+    ghost allows = { λ before sent. IsReadySent sent };
 }
 
 /// The result of a batch.

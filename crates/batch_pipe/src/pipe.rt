@@ -13,7 +13,7 @@ ghost use Rattle.batch_pipe.specs.PlanRuns.{manner};
 ghost use Rattle.batch_pipe.specs.PipeRounds.{IsGoing, IsRound, IsUncut, new_pipe, number_before};
 
 use crate::halves::run_halves;
-use crate::items::{Picker, Sent};
+use crate::items::{Picker, ReadyPlans, Sent};
 use crate::planner::{Planner, read_first};
 use crate::runner::{Host, Runner};
 use crate::tail::{Tail, tail_after};
@@ -54,7 +54,10 @@ impl<A: EventApp> Model for Pipe<A> {
 
 /// Brings the two ends of the ring together: the one that pops then knows all that was pushed, and the one that pushes
 /// each free place.
-fn bring_together(producer: &mut Producer<Sent>, consumer: &mut Consumer<Sent>)
+fn bring_together(
+    producer: &mut Producer<Sent, Global, ReadyPlans>,
+    consumer: &mut Consumer<Sent, Global, ReadyPlans>,
+)
     requires { IsPair producer.old consumer.old }
     ensures pair { IsPair producer.new consumer.new }
     ensures sending { SameProducer producer.old producer.new
@@ -96,10 +99,11 @@ impl<A: EventApp> Pipe<A> {
         requires small { IsUpTo (greatest_of reader.past.version) (contents engine) }
         ensures { IfOk result (λ pipe. pipe ≡ new_pipe reader engine ahead) }
     {
-        let (producer, consumer) = RingBuffer::new(alloc, ahead as usize)?;
+        let (producer, consumer) = RingBuffer::with_protocol(alloc, ahead as usize)?;
         Ok(Pipe {
             planner: Planner {
                 reader,
+                layout: engine.state().layout(),
                 ring: producer,
                 sent: 0,
             },
@@ -145,10 +149,12 @@ impl<A: EventApp> Pipe<A> {
     /// One round: the next batches are read and planned while the plans that wait are run, from 1 to 16 workers each.
     ///
     /// If no plan waits and there is no tail, one batch is read and planned first, and its plan goes to the runner
-    /// without the ring. Then two halves run side by side; neither waits for the other. The planner reads, plans and
-    /// sends until it sees no free place or meets a tail; it fills at least the places that were free when the halves
-    /// began. The runner takes the plans that waited then, in order, and picks the strategy of each. It hands each
-    /// result to the teller, in the caller's thread, before it runs the next plan.
+    /// without the ring. Then two halves run side by side, or one after the other if the first plan is small. The
+    /// planner reads, plans and sends until it meets a tail or sees no free place; it fills at least the places that
+    /// were free when the halves began. The runner takes the plans that waited then, in order, and those that come while
+    /// the planner is at work. It picks the strategy of each, and hands each result to the teller, in the caller's
+    /// thread, before it takes the next plan. Side by side, each half waits for the other, but for no longer than some
+    /// milliseconds: a result is never told later because the next batch has not come.
     ///
     /// If memory to run a plan is refused, the tail is [`Tail::RunMemory`], whatever tail the planner met. That plan is
     /// dropped, and the engine stays as it was before it. If the teller refuses a result, the tail is [`Tail::Untold`].
@@ -194,6 +200,8 @@ impl<A: EventApp> Pipe<A> {
             gate,
             pick: *pick,
             workers,
+            sent: self.planner.sent,
+            greatest: self.planner.reader.version().greatest(),
         };
         let (stop, end) = run_halves(
             &host,

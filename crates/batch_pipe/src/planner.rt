@@ -11,10 +11,11 @@ ghost use Rattle.batch_pipe.specs.PlannedBatches.{IsReadyPlan, Plans, StopsWithT
 ghost use Rattle.batch_pipe.specs.PlannedBatches.{HasFilled, CanPlan, IsIdlePlanner, layout_by};
 ghost use Rattle.batch_pipe.specs.PlanRuns.{one_or_none};
 
-use crate::items::Sent;
+use crate::items::{ReadyPlans, Sent};
+use crate::meeting::{Meeting, await_place};
 use crate::tail::Tail;
 use event_reader::{BatchReader, EventApp, Next, ReaderFault};
-use morph_base::{OutOfMemory, Plan};
+use morph_base::{Layout, OutOfMemory, Plan};
 use morph_engine::plan_batch;
 use morph_io::Source;
 use rtrb::Producer;
@@ -24,7 +25,9 @@ use std::alloc::Global;
 #[derive(Drop)]
 pub(crate) struct Planner<A> {
     pub(crate) reader: BatchReader<A>,
-    pub(crate) ring: Producer<Sent>,
+    /// The layout of the keys of the reader's events.
+    pub(crate) layout: Layout,
+    pub(crate) ring: Producer<Sent, Global, ReadyPlans>,
     /// How many plans were sent, which is the number of the last one.
     pub(crate) sent: u64,
 }
@@ -71,7 +74,7 @@ pub(crate) fn read_first<A: EventApp, S: Source>(
     planner: &mut Planner<A>,
     source: &mut S,
 ) -> Result<Option<Sent>, Tail>
-    requires able { IsTrue asked → CanPlan planner.old }
+    requires able { IsTrue asked → CanPlan A.table_count planner.old }
     ensures plans { IfOk result (λ first. PlansAhead A.event_of
         (layout_by A.table_count planner.old.reader)
         (greatest_of planner.new.reader.past.version)
@@ -91,8 +94,9 @@ pub(crate) fn read_first<A: EventApp, S: Source>(
     ensures asked { IsTrue asked → IfOk result (λ first. length (one_or_none first) ≡ 1) }
     ensures idle { asked ≡ false → (result ≡ Ok None)
         × (planner.new.reader ≡ planner.old.reader) × (S.left source.new ≡ S.left source.old) }
-    ensures able { IsTrue asked → IfOk result (λ first. CanPlan planner.new) }
+    ensures able { IsTrue asked → IfOk result (λ first. CanPlan A.table_count planner.new) }
     ensures ring { planner.new.ring ≡ planner.old.ring }
+    ensures layout { planner.new.layout ≡ planner.old.layout }
     ensures unsent { IfErr result (λ tail. planner.new.sent ≡ planner.old.sent) }
     ensures planner { IfErr result (λ tail. tail ≢ Tail.RunMemory) }
     ensures same { SameReader planner.old.reader planner.new.reader }
@@ -110,24 +114,28 @@ pub(crate) fn read_first<A: EventApp, S: Source>(
     planner.sent += 1;
     Ok(Some(Sent {
         number: planner.sent,
+        layout: planner.layout,
+        greatest: planner.reader.version().greatest(),
         plan,
     }))
 }
 
 /// Reads, plans and sends as long as it sees a free place, and returns the tail that it met.
 ///
-/// It fills the places that it knew to be free, unless it meets a tail. It may see places that become free meanwhile.
+/// It fills the places that it knew to be free, unless it meets a tail. If none is free it waits for one, though not for
+/// long, as long as the runner is at work.
 fn plan_ahead<A: EventApp, S: Source>(
     alloc: Global,
+    meeting: &Meeting,
     planner: &mut Planner<A>,
     source: &mut S,
 ) -> Option<Tail>
-    requires able { CanPlan planner.old }
+    requires able { CanPlan A.table_count planner.old }
     ensures plans { HasPlanned A.event_of A.table_count
         planner.old (S.left source.old) result planner.new (S.left source.new) }
     ensures ring { SameProducer planner.old.ring planner.new.ring }
     ensures filled { IfNone result (HasFilled planner.old planner.new) }
-    ensures able { IfNone result (CanPlan planner.new) }
+    ensures able { IfNone result (CanPlan A.table_count planner.new) }
     ensures planner { IfSome result (λ tail. tail ≢ Tail.RunMemory) }
     ensures same { SameReader planner.old.reader planner.new.reader }
     ensures never_falls { S.faults source.old ≤ S.faults source.new }
@@ -135,14 +143,19 @@ fn plan_ahead<A: EventApp, S: Source>(
         → HasRisen (S.faults source.old) (S.faults source.new)) }
 {
     'planning: loop {
-        if planner.ring.is_full() {
+        if !await_place(&mut planner.ring, meeting) {
             return None;
         }
         match read_plan(alloc, &mut planner.reader, source) {
             Ok(plan) => {
                 planner.sent += 1;
                 let number = planner.sent;
-                planner.ring.push_reserved(Sent { number, plan });
+                planner.ring.push_reserved(Sent {
+                    number,
+                    layout: planner.layout,
+                    greatest: planner.reader.version().greatest(),
+                    plan,
+                });
             }
             Err(tail) => return Some(tail),
         }
@@ -153,15 +166,16 @@ fn plan_ahead<A: EventApp, S: Source>(
 pub(crate) fn plan_half<A: EventApp, S: Source>(
     alloc: Global,
     planning: bool,
+    meeting: &Meeting,
     planner: &mut Planner<A>,
     source: &mut S,
 ) -> Option<Tail>
-    requires able { IsTrue planning → CanPlan planner.old }
+    requires able { IsTrue planning → CanPlan A.table_count planner.old }
     ensures plans { HasPlanned A.event_of A.table_count
         planner.old (S.left source.old) result planner.new (S.left source.new) }
     ensures ring { SameProducer planner.old.ring planner.new.ring }
     ensures filled { IsTrue planning → IfNone result (HasFilled planner.old planner.new) }
-    ensures able { IsTrue planning → IfNone result (CanPlan planner.new) }
+    ensures able { IsTrue planning → IfNone result (CanPlan A.table_count planner.new) }
     ensures idle { planning ≡ false
         → IsIdlePlanner planner.old (S.left source.old) result planner.new (S.left source.new) }
     ensures planner { IfSome result (λ tail. tail ≢ Tail.RunMemory) }
@@ -171,7 +185,9 @@ pub(crate) fn plan_half<A: EventApp, S: Source>(
         → HasRisen (S.faults source.old) (S.faults source.new)) }
 {
     if planning {
-        plan_ahead(alloc, planner, source)
+        let stop = plan_ahead(alloc, meeting, planner, source);
+        meeting.planner_leaves();
+        stop
     } else {
         None
     }

@@ -1,4 +1,4 @@
-ghost use Rattle.std.specs.Prelude.{◌≡◌, ◌+◌, ◌∷◌, ◌≤◌, ◌↔◌, [], not, count_by, IfOk, IfSome, IsTrue};
+ghost use Rattle.std.specs.Prelude.{◌≡◌, ◌+◌, ◌∷◌, ◌++◌, ◌≤◌, ◌↔◌, [], not, count_by, IfOk, IfSome, IfNone, IsTrue};
 ghost use Rattle.std.specs.Prelude.{OnOk, OnErr};
 ghost use Rattle.morph_base.specs.Limits.{most_workers};
 ghost use Rattle.morph_base.specs.Flat.{contents};
@@ -6,14 +6,17 @@ ghost use Rattle.morph_base.specs.States.{after_all};
 ghost use Rattle.morph_base.specs.Plans.{IsPlan, IsSettledOf, transactions};
 ghost use Rattle.event_reader.specs.Limits.{input_bytes};
 ghost use Rattle.morph_engine.specs.Fates.{settled_fates};
-ghost use Rattle.batch_pipe.specs.PlanRuns.{IsSentRun, RunsPlans, HasRunWaiting, IsRunnable};
-ghost use Rattle.batch_pipe.specs.PlanRuns.{CanRun, came_of, desk, manner, one_or_none};
+ghost use Rattle.rtrb.specs.Ring.{received, known_items, SameConsumer};
+ghost use Rattle.batch_pipe.specs.PlannedBatches.{IsReadySent};
+ghost use Rattle.batch_pipe.specs.PlanRuns.{IsSentRun, RunsPlans, HasRunPlans, IsRunnable, IsBehind};
+ghost use Rattle.batch_pipe.specs.PlanRuns.{CanRun, CanGoOn, came_of, desk, manner, one_or_none};
 ghost use Rattle.decision_model.specs.Choices.{last_of};
 
-use crate::items::{Picker, Ran, Sent};
+use crate::items::{Picker, Ran, ReadyPlans, Sent};
+use crate::meeting::{Meeting, await_plan};
 use crate::teller::Teller;
 use decision_model::Last;
-use morph_base::OutOfMemory;
+use morph_base::{Layout, OutOfMemory};
 use morph_engine::{BatchEnd, Engine};
 use rtrb::Consumer;
 use std::alloc::Global;
@@ -29,13 +32,17 @@ pub(crate) struct Host<'a, R, G> {
     pub(crate) pick: Picker,
     /// From 1 on.
     pub(crate) workers: u32,
+    /// How many plans were sent when the halves begin, which is the number of the last that waits.
+    pub(crate) sent: u64,
+    /// The greatest value of the plans that wait.
+    pub(crate) greatest: u64,
 }
 
 /// The side of a pipe that runs plans.
 #[derive(Drop)]
 pub(crate) struct Runner {
     pub(crate) engine: Engine,
-    pub(crate) ring: Consumer<Sent>,
+    pub(crate) ring: Consumer<Sent, Global, ReadyPlans>,
     /// The outcome of the batch that was run last.
     pub(crate) last: Last,
 }
@@ -53,7 +60,7 @@ pub(crate) enum RunEnd {
 
 impl RunEnd {
     /// Whether all plans were run, and all results were taken.
-    fn is_whole(self) -> bool
+    pub(crate) fn is_whole(self) -> bool
         ensures { IsTrue result ↔ (self ≡ RunEnd.Whole) }
     {
         matches!(self, RunEnd::Whole)
@@ -96,7 +103,11 @@ fn run_one<R: Threads + Sync, G: Gate>(
     ensures layout { engine.new.layout ≡ engine.old.layout }
     ensures refused { OnErr result ((engine.new ≡ engine.old) × (last.new ≡ last.old)) }
 {
-    let Sent { number, mut plan } = sent;
+    let Sent {
+        number,
+        mut plan,
+        ..
+    } = sent;
     engine.rebase(&mut plan);
     let strategy = host.pick.pick(&plan, *last);
     let workers = host.workers;
@@ -172,11 +183,15 @@ pub(crate) fn run_waiting<R: Threads + Sync, G: Gate, T: Teller>(
     teller: &mut T,
     first: Option<Sent>,
 ) -> RunEnd
-    requires waiting { CanRun T.can_take (one_or_none first) runner.old teller.old }
+    requires waiting { CanRun T.can_take host.now.greatest host.now.sent (one_or_none first)
+        runner.old teller.old }
     requires some { 1 ≤ host.now.workers }
     requires few { host.now.workers ≤ most_workers }
-    ensures { HasRunWaiting T.takes (manner host.now.pick host.now.workers)
-        (one_or_none first) runner.old teller.old result runner.new teller.new }
+    ensures runs { HasRunPlans T.takes (manner host.now.pick host.now.workers)
+        (one_or_none first) (known_items runner.old.ring) runner.old teller.old
+        result runner.new teller.new }
+    ensures goes_on { result ≡ RunEnd.Whole
+        → CanGoOn T.can_take host.now.greatest host.now.sent runner.new teller.new }
 {
     let end = run_first(host, runner, teller, first);
     if !end.is_whole() {
@@ -184,6 +199,66 @@ pub(crate) fn run_waiting<R: Threads + Sync, G: Gate, T: Teller>(
     }
     for _ in 0..runner.ring.cached_slots() {
         let sent = runner.ring.pop_known();
+        let end = run_into(host, runner, teller, sent);
+        if !end.is_whole() {
+            return end;
+        }
+    }
+    RunEnd::Whole
+}
+
+/// Whether a plan is the one behind that of number `before`, for this layout and with this greatest value.
+fn is_next(sent: &Sent, layout: Layout, greatest: u64, before: u64) -> bool
+    requires few { before ≤ input_bytes + 1 }
+    ensures { IsTrue result → IsBehind layout greatest before sent.now }
+{
+    sent.number == before + 1 && sent.greatest == greatest && sent.layout == layout
+}
+
+/// Takes the next plan from the ring, if it comes soon while the planner is at work, and is the one behind that of
+/// number `before`, for this layout and with this greatest value. One that comes later, or is another, waits for the
+/// next round.
+fn take_coming(
+    ring: &mut Consumer<Sent, Global, ReadyPlans>,
+    meeting: &Meeting,
+    layout: Layout,
+    greatest: u64,
+    before: u64,
+) -> Option<Sent>
+    requires few { before ≤ input_bytes + 1 }
+    ensures ring { SameConsumer ring.old ring.new }
+    ensures taken { IfSome result (λ sent. received ring.new ≡ received ring.old ++ sent ∷ []) }
+    ensures sound { IfSome result IsReadySent }
+    ensures next { IfSome result (IsBehind layout greatest before) }
+    ensures left { IfNone result (received ring.new ≡ received ring.old) }
+{
+    if !await_plan(ring, meeting) {
+        return None;
+    }
+    if !is_next(ring.peek_known(), layout, greatest, before) {
+        return None;
+    }
+    Some(ring.pop_known())
+}
+
+/// Runs the plans that come while the planner is at work, as long as each comes soon. Each result goes to the teller
+/// before the next plan is taken.
+pub(crate) fn run_coming<R: Threads + Sync, G: Gate, T: Teller>(
+    host: &Host<'_, R, G>,
+    meeting: &Meeting,
+    runner: &mut Runner,
+    teller: &mut T,
+) -> RunEnd
+    requires able { CanGoOn T.can_take host.now.greatest host.now.sent runner.old teller.old }
+    requires some { 1 ≤ host.now.workers }
+    requires few { host.now.workers ≤ most_workers }
+    ensures { HasRunPlans T.takes (manner host.now.pick host.now.workers) [] []
+        runner.old teller.old result runner.new teller.new }
+{
+    let layout = runner.engine.state().layout();
+    let mut number = host.sent;
+    while let Some(sent) = take_coming(&mut runner.ring, meeting, layout, host.greatest, number) {
+        number = sent.number;
         let end = run_into(host, runner, teller, sent);
         if !end.is_whole() {
             return end;

@@ -4,12 +4,16 @@ use Rattle.morph_base.specs.declared.key.Key.{Key}
 use Rattle.morph_base.specs.declared.plan.Origin.{Origin}
 use Rattle.morph_base.specs.declared.plan.Origin.TheVariants.{Base, Op as Written}
 use Rattle.morph_base.specs.Operations.{same_key, no_key}
-use Rattle.precedence_graph.specs.declared.writers.TheConstants.{MULTIPLIER}
+use Rattle.precedence_graph.specs.declared.writers.TheConstants.{MULTIPLIER, GROUP}
 use Rattle.precedence_graph.specs.declared.writers.Entry.{Entry}
+
+-- Where the places of the group of ids of a table begin
+abbrev pub group_start : (group table : ℕ) → ℕ
+group_start group table = (group * 256 + table) * MULTIPLIER % 2 ^ 64 / 2 ^ 44 * GROUP
 
 -- The place of the key, among this many places
 unfoldable pub place_of : Key → ℕ → ℕ
-place_of key places = bit_and ((key.id * 256 + key.table) * MULTIPLIER % 2 ^ 64 / 2 ^ 44) (places - 1)
+place_of key places = bit_and (group_start (key.id / GROUP) key.table + key.id % GROUP) (places - 1)
 
 -- The entry past the end of a list
 abbrev pub no_entry : Entry

@@ -10,6 +10,9 @@ use std::alloc::Global;
 /// An odd number whose multiples differ in their upper bits: 2^64 divided by the golden ratio.
 const MULTIPLIER: u64 = 11_400_714_819_323_198_485;
 
+/// How many ids of a table have places side by side.
+const GROUP: u32 = 16;
+
 /// An operation that was entered.
 #[derive(Clone, Copy, Debug, PartialEq, Eq)]
 struct Entry {
@@ -123,14 +126,16 @@ impl Writers {
     }
 }
 
-/// The place of a key among this many places, which are best a power of two, and at most 2^20. The place is taken from
-/// the upper 20 bits of the product. The lower bits differ less, so that more keys would share a place.
+/// The place of a key among this many places, which are best a power of two, and at most 2^24. Neighbouring ids of a
+/// table have neighbouring places, as many as lie in one line of memory; where such a group begins is taken from the
+/// upper 20 bits of a product. The lower bits differ less, so that more groups would share their places.
 #[tactic(auto, unfolding(crate::specs::Entries::place_of))]
 fn place_of(key: Key, places: usize) -> usize
     requires { 0 < places }
     ensures place { result ≡ place_of key places }
     ensures inside { result < places }
 {
-    let number = u64::from(key.id) * 256 + u64::from(key.table);
-    (number.wrapping_mul(MULTIPLIER) >> 44) as usize & (places - 1)
+    let group = u64::from(key.id / GROUP) * 256 + u64::from(key.table);
+    let start = (group.wrapping_mul(MULTIPLIER) >> 44) * u64::from(GROUP);
+    (start + u64::from(key.id % GROUP)) as usize & (places - 1)
 }

@@ -10,7 +10,7 @@ invariant-planning g l = record {
   plans : HasPlanned g.A.EventApp.event_of g.A.EventApp.table_count l.initial.planner (g.S.Source.left l.initial.source) None l.planner (g.S.Source.left l.source);
   ring : SameProducer l.initial.planner.ring l.planner.ring;
   enough : length (sent l.initial.planner.ring) + known_free l.initial.planner.ring ≤ length (sent l.planner.ring) + known_free l.planner.ring;
-  able : CanPlan l.planner;
+  able : CanPlan g.A.EventApp.table_count l.planner;
   same : SameReader l.initial.planner.reader l.planner.reader;
   never_falls : g.S.Source.faults l.initial.source ≤ g.S.Source.faults l.source;
 }

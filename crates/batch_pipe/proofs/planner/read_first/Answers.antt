@@ -15,6 +15,6 @@ pub returns-clause-plans : goal.returns-clause-plans
 returns-clause-plans g c =
     let p = c.args.planner.now in
     let layout = layout_by g.A.EventApp.table_count p.reader in
-    let x : Sent = record { number = p.sent + 1; plan = c.in-Ok.plan } in
+    let x : Sent = record { number = p.sent + 1; layout = p.layout; greatest = c.greatest.result; plan = c.in-Ok.plan } in
     ahead_more g.A.EventApp.event_of layout (greatest_of p.reader.past.version) _ x (ahead_nothing g.A.EventApp.event_of layout (greatest_of p.reader.past.version) (record { at = stand p.reader (g.S.Source.left c.args.source.now); sent = []; number = p.sent }))
     c.in-Ok.ensures.plan (λ some. absurd (omega (arith, some))) c.in-Ok.ensures.ready refl refl refl

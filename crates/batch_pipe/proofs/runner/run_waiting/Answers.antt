@@ -31,7 +31,7 @@ run_first-end-requires-clause-ready g c κs within =
     let w = c.requires.waiting in
     let engine = c.args.runner.now.engine in
     some_is c.args.first (λ (x : Sent). IsRunnable engine x.plan)
-    (All-weaker (λ (x : Sent). IsReadyPlan engine.layout w.high x.plan) (λ (x : Sent). IsRunnable engine x.plan) (λ x ready. runnable engine.layout w.high engine x.plan refl ready w.small)
+    (All-weaker (λ (x : Sent). IsReadyPlan engine.layout c.args.host.now.greatest x.plan) (λ (x : Sent). IsRunnable engine x.plan) (λ x ready. runnable engine.layout c.args.host.now.greatest engine x.plan refl ready w.small)
     (one_or_none c.args.first) w.first_ready)
 
 pub run_first-end-requires-clause-number : goal.run_first-end-requires-clause-number
@@ -43,22 +43,25 @@ run_first-end-requires-clause-number g c κs within =
 pub run_first-end-requires-clause-last : goal.run_first-end-requires-clause-last
 run_first-end-requires-clause-last g c κs within =
     let w = c.requires.waiting in
-    last_first w.before c.args.first (known_items c.args.runner.now.ring) (numbered-first w.before c.args.first (known_items c.args.runner.now.ring) w.numbered) w.few
+    last_first w.before c.args.first (known_items c.args.runner.now.ring) (numbered-first w.before c.args.first (known_items c.args.runner.now.ring) w.numbered) (omega (arith, w.upto_is, w.few))
 
 pub returns-then-not-is_whole : goal.returns-then-not-is_whole
 returns-then-not-is_whole g c =
     let first : List Sent = one_or_none c.args.first in
     record {
       runs = record {
-        popped = [];
-        plans = subst (λ (l : List Sent). RunsPlans g.T.Teller.takes (manner c.args.host.now.pick c.args.host.now.workers) (desk c.args.runner.now c.args.teller.now) l c.run_first-end.result
-            (desk c.run_first-end.new.runner c.run_first-end.new.teller)) (sym (append-nil first)) c.run_first-end.ensures.runs;
-        known_is = ap (λ r. known_items r) (sym c.run_first-end.ensures.ring);
-        received_is = ap (λ r. received r) c.run_first-end.ensures.ring ∙ sym (append-nil (received c.args.runner.now.ring));
-        whole = λ e. absurd (true≢false (sym (c.if-not-is_whole.ensures.1 e)));
+        runs = record {
+          popped = [];
+          plans = subst (λ (l : List Sent). RunsPlans g.T.Teller.takes (manner c.args.host.now.pick c.args.host.now.workers) (desk c.args.runner.now c.args.teller.now) l c.run_first-end.result
+              (desk c.run_first-end.new.runner c.run_first-end.new.teller)) (sym (append-nil first)) c.run_first-end.ensures.runs;
+          received_is = ap (λ r. received r) c.run_first-end.ensures.ring ∙ sym (append-nil (received c.args.runner.now.ring));
+          later = [];
+          whole = λ e. absurd (true≢false (sym (c.if-not-is_whole.ensures.1 e)));
+        };
+        ring = same_ring c.args.runner.now.ring c.run_first-end.new.runner.ring c.run_first-end.ensures.ring;
+        layout = c.run_first-end.ensures.layout;
       };
-      ring = same_ring c.args.runner.now.ring c.run_first-end.new.runner.ring c.run_first-end.ensures.ring;
-      layout = c.run_first-end.ensures.layout;
+      goes_on = λ e. absurd (true≢false (sym (c.if-not-is_whole.ensures.1 e)));
     }
 
 pub loop-init : goal.loop-init
@@ -93,10 +96,10 @@ run_into-end-requires-clause-ready g c κs within =
     let w = c.requires.waiting in
     let old = c.args.runner.now in
     let layout : Layout = old.engine.layout in
-    let Ready : Sent → Type 0 = λ x. IsReadyPlan layout w.high x.plan in
+    let Ready : Sent → Type 0 = λ x. IsReadyPlan layout c.args.host.now.greatest x.plan in
     let front = All-append Ready (one_or_none c.args.first) i.popped w.first_ready (all_front Ready i.popped (known_items c.loop.runner.ring) (subst (All Ready) i.known_is w.ready)) in
-    let small : IsUpTo w.high (contents c.loop.runner.engine) = rw i.run.state_is (state_after-within layout w.high (contents old.engine) (one_or_none c.args.first ++ i.popped) front w.small) in
-    runnable layout w.high c.loop.runner.engine c.pop_known-sent.result.plan i.layout
+    let small : IsUpTo c.args.host.now.greatest (contents c.loop.runner.engine) = rw i.run.state_is (state_after-within layout c.args.host.now.greatest (contents old.engine) (one_or_none c.args.first ++ i.popped) front w.small) in
+    runnable layout c.args.host.now.greatest c.loop.runner.engine c.pop_known-sent.result.plan i.layout
     (all_middle Ready (known_items old.ring) i.popped (known_items c.pop_known-sent.new.self) c.pop_known-sent.result
     w.ready (i.known_is ∙ ap (λ l. i.popped ++ l) c.pop_known-sent.ensures.received.1))
     small
@@ -125,7 +128,7 @@ run_into-end-requires-clause-last g c κs within =
     let whole = ap length known_is in
     let l0 = length-append i.popped (x ∷ rest) in
     let l1 = length-append first i.popped in
-    omega (arith, number, whole, l0, l1, w.few)
+    omega (arith, number, whole, l0, l1, w.upto_is, w.few)
 
 pub returns-then-not-is_whole-2 : goal.returns-then-not-is_whole-2
 returns-then-not-is_whole-2 g c =
@@ -136,18 +139,20 @@ returns-then-not-is_whole-2 g c =
     let first : List Sent = one_or_none c.args.first in
     let n = c.run_into-end.new.runner in
     let popped_ring = c.pop_known-sent.new.self in
-    let known' = ap (λ r. known_items r) (sym c.run_into-end.ensures.ring) in
     record {
       runs = record {
-        popped = i.popped ++ x ∷ [];
-        plans = subst (λ (l : List Sent). RunsPlans g.T.Teller.takes m (desk c.args.runner.now c.args.teller.now) l c.run_into-end.result (desk n c.run_into-end.new.teller)) (append_assoc first i.popped (x ∷ []))
-            (plans_both g.T.Teller.takes m (first ++ i.popped) (x ∷ []) c.run_into-end.result i.run c.run_into-end.ensures.runs);
-        known_is = i.known_is ∙ ap (λ l. i.popped ++ l) pop.received.1 ∙ sym (append_assoc i.popped (x ∷ []) (known_items popped_ring)) ∙ ap (λ l. (i.popped ++ x ∷ []) ++ l) known';
-        received_is = ap (λ r. received r) c.run_into-end.ensures.ring ∙ pop.received.0 ∙ ap (λ l. l ++ x ∷ []) i.received_is ∙ append_assoc (received c.args.runner.now.ring) i.popped (x ∷ []);
-        whole = λ e. absurd (true≢false (sym (c.if-not-is_whole-2.ensures.1 e)));
+        runs = record {
+          popped = i.popped ++ x ∷ [];
+          plans = subst (λ (l : List Sent). RunsPlans g.T.Teller.takes m (desk c.args.runner.now c.args.teller.now) l c.run_into-end.result (desk n c.run_into-end.new.teller)) (append_assoc first i.popped (x ∷ []))
+              (plans_both g.T.Teller.takes m (first ++ i.popped) (x ∷ []) c.run_into-end.result i.run c.run_into-end.ensures.runs);
+          received_is = ap (λ r. received r) c.run_into-end.ensures.ring ∙ pop.received.0 ∙ ap (λ l. l ++ x ∷ []) i.received_is ∙ append_assoc (received c.args.runner.now.ring) i.popped (x ∷ []);
+          later = [];
+          whole = λ e. absurd (true≢false (sym (c.if-not-is_whole-2.ensures.1 e)));
+        };
+        ring = same_consumer c.args.runner.now.ring popped_ring n.ring (same_consumer c.args.runner.now.ring c.loop.runner.ring popped_ring i.ring pop.ring) (same_ring popped_ring n.ring c.run_into-end.ensures.ring);
+        layout = c.run_into-end.ensures.layout ∙ i.layout;
       };
-      ring = same_consumer c.args.runner.now.ring popped_ring n.ring (same_consumer c.args.runner.now.ring c.loop.runner.ring popped_ring i.ring pop.ring) (same_ring popped_ring n.ring c.run_into-end.ensures.ring);
-      layout = c.run_into-end.ensures.layout ∙ i.layout;
+      goes_on = λ e. absurd (true≢false (sym (c.if-not-is_whole-2.ensures.1 e)));
     }
 
 pub loop-preserved : goal.loop-preserved
@@ -178,21 +183,42 @@ loop-preserved g c =
 pub returns : goal.returns
 returns g c =
     let m : Manner = manner c.args.host.now.pick c.args.host.now.workers in
+    let takes = g.T.Teller.takes in
+    let high = c.args.host.now.greatest in
     let i = c.loop.invariant in
+    let w = c.requires.waiting in
+    let old = c.args.runner.now in
+    let layout : Layout = old.engine.layout in
     let first : List Sent = one_or_none c.args.first in
+    let known : List Sent = known_items old.ring in
     let whole = ap length i.known_is in
     let both = length-append i.popped (known_items c.loop.runner.ring) in
     let slots = c.cached_slots-end.ensures in
     let same = ap (λ r. length (known_items r)) c.run_first-end.ensures.ring in
     let none : length (known_items c.loop.runner.ring) ≡ 0 = omega (arith, whole, both, i.many, slots, same, c.loop-test.false) in
+    let popped_is : i.popped ≡ known = sym (i.known_is ∙ ap (λ l. i.popped ++ l) (empty_is (known_items c.loop.runner.ring) none) ∙ append-nil i.popped) in
+    let Ready : Sent → Type 0 = λ x. IsReadyPlan layout high x.plan in
+    let ready : All Ready (first ++ i.popped) = All-append Ready first i.popped w.first_ready (subst (All Ready) (sym popped_is) w.ready) in
+    let numbered = subst (λ (l : List Sent). AreNumbered w.before (first ++ l)) (sym popped_is) w.numbered in
+    let l1 = length-append first i.popped in
+    let l2 = ap length popped_is in
+    let at : w.before + length (first ++ i.popped) + 1 ≡ c.args.host.now.sent + 1 = omega (arith, l1, l2, w.upto_is) in
     record {
       runs = record {
-        popped = i.popped;
-        plans = runs_whole g.T.Teller.takes m (first ++ i.popped) i.run;
-        known_is = i.known_is;
-        received_is = i.received_is;
-        whole = λ e. empty_is (known_items c.loop.runner.ring) none;
+        runs = record {
+          popped = i.popped;
+          plans = runs_whole takes m (first ++ i.popped) i.run;
+          received_is = i.received_is;
+          later = [];
+          whole = λ e. popped_is ∙ sym (append-nil known);
+        };
+        ring = i.ring;
+        layout = i.layout;
       };
-      ring = i.ring;
-      layout = i.layout;
+      goes_on = λ e. record {
+        small = rw i.run.state_is (state_after-within layout high (contents old.engine) (first ++ i.popped) ready w.small);
+        few = w.few;
+        can = subst (g.T.Teller.can_take c.loop.teller) at
+            (can_go_on takes m g.T.Teller.can_take g.met.T.Teller.goes_on (contents old.engine) old.last w.before (first ++ i.popped) i.run.rans c.args.teller.now c.loop.teller i.run.run numbered i.run.told w.can);
+      };
     }

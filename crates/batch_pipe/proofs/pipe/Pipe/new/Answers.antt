@@ -1,5 +1,6 @@
 use Rattle.std.proofs.Common.{◌≡◌, ℕ, ◌-◌, [], ◌++◌, List, None, length, ap, sym, subst, ◌∙◌, arith}
 use Rattle.std.specs.Prelude.{All}
+use Rattle.morph_base.specs.Flat.{Kept}
 use Rattle.event_reader.specs.Versions.{greatest_of}
 use Rattle.rtrb.specs.Ring.{known_items, producer_capacity}
 use Rattle.batch_pipe.specs.declared.items.Sent.{Sent}
@@ -26,7 +27,7 @@ invariant_of-result g c =
       number = omega (arith, few);
       counted = omega arith;
       layout = c.requires.layout;
-      able = λ e. record { live = c.requires.live; counted = omega arith };
+      able = λ e. record { live = c.requires.live; layout = c.layout.ensures.layout ∙ ap (λ (k : Kept). k.layout) c.state.ensures ∙ c.requires.layout; counted = omega arith };
     }
 
 pub returns : goal.returns

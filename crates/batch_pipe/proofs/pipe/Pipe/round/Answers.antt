@@ -1,6 +1,5 @@
 use Rattle.std.proofs.Common.{◌≡◌, ℕ, ◌+◌, ◌≤◌, le_trans, [], ◌∷◌, ◌-◌, ◌++◌, List, length, true, false, Option, Some, None, refl, ap, sym, subst, ◌∙◌, arith, inl, inr, ◌⊎◌}
 use Rattle.std.specs.Prelude.{All, IsTrue}
-use Rattle.std.proofs.lemmas.List.{length-append}
 use Rattle.std.proofs.lemmas.List.Elements.{All-append}
 use Rattle.morph_base.specs.declared.key.Layout.{Layout}
 use Rattle.event_reader.specs.Versions.{greatest_of}
@@ -9,10 +8,10 @@ use Rattle.event_reader.specs.Reader.{ReaderView}
 use Rattle.rtrb.specs.Ring.{sent, received, known_items, known_free, producer_capacity}
 use Rattle.batch_pipe.specs.declared.items.Sent.{Sent}
 use Rattle.batch_pipe.specs.PlannedBatches.{IsReadyPlan, AreNumbered, PlansAhead, bench, CanPlan, layout_by}
-use Rattle.batch_pipe.specs.PlanRuns.{Manner, manner, one_or_none}
+use Rattle.batch_pipe.specs.PlanRuns.{Manner, CanRun, manner, one_or_none}
 use Rattle.batch_pipe.specs.PipeRounds.{PipeView, IsGoing, IsRound, number_before}
 use Rattle.batch_pipe.specs.Inside.{view_of}
-use Rattle.batch_pipe.proofs.Ahead.{numbered-append, numbered-none, same_layout, ready_as, waits_ready, halves_keep}
+use Rattle.batch_pipe.proofs.Ahead.{numbered-append, numbered-none, same_layout, waits_ready, halves_keep}
 use Rattle.batch_pipe.proofs.Bounds.{state_after-within}
 use Rattle.batch_pipe.proofs.Desks.{empty_is}
 use Rattle.batch_pipe.proofs.Rounds.{round_is, round_stopped, next_numbered, all_back, all_front, planning_is, not_planning, untold, some_waits, one_first, bool_cases, waiting_is, if_none, open_after, given, not_asked, plans_counted, counted_on, can_after}
@@ -57,7 +56,7 @@ returns-in-Err-clause-round g c =
 pub run_halves-stop-requires-clause-able : goal.run_halves-stop-requires-clause-able
 run_halves-stop-requires-clause-able g c κs within = λ planning. by planning (bool_cases c.asks_first-asked.result)
   where
-    by : IsTrue c.is_none-planning.result → (c.asks_first-asked.result ≡ true) ⊎ (c.asks_first-asked.result ≡ false) → CanPlan c.read_first.new.planner
+    by : IsTrue c.is_none-planning.result → (c.asks_first-asked.result ≡ true) ⊎ (c.asks_first-asked.result ≡ false) → CanPlan g.A.EventApp.table_count c.read_first.new.planner
     by planning (inl e) = c.in-Ok.ensures.able e
     by planning (inr e) =
         let f = c.in-Ok.ensures in
@@ -69,6 +68,7 @@ run_halves-stop-requires-clause-able g c κs within = λ planning. by planning (
         let number = ap (λ (r : ReaderView g.row.A.Denot). r.lines.number) same in
         record {
           live = subst (λ (r : ReaderView g.row.A.Denot). IsTrue r.live) (sym same) can.live;
+          layout = f.layout ∙ can.layout ∙ sym (same_layout g.A.EventApp.table_count c.self.inside.planner.reader c.read_first.new.planner.reader f.same);
           counted = omega (arith, can.counted, number, f.plans.number_is, sent_none, first_none);
         }
 
@@ -84,8 +84,9 @@ run_halves-stop-requires-clause-waiting g c κs within =
     let going : IsGoing a = subst (λ (v : PipeView g.row.A.Denot). IsGoing v) (sym c.self.view_is) c.requires.going in
     let one = one_first a c.in-Ok.first c.asks_first-asked.result c.is_none-planning.result c.cached_slots.result going c.cached_slots.ensures c.is_none-planning.ensures c.asks_first-asked.ensures
     c.in-Ok.ensures.asked (λ e. ap given (c.in-Ok.ensures.idle e).0) in
-    record {
-      high = high;
+    let high_is : c.greatest.result ≡ high = c.greatest.ensures ∙ ap greatest_of c.version.ensures in
+    subst (λ (n : ℕ). CanRun g.T.Teller.can_take n c.read_first.new.planner.sent first p.runner c.args.teller.now) (sym high_is)
+    (record {
       small = λ key. le_trans (i.small key) c.in-Ok.ensures.same.3.rises;
       first_ready = subst (λ (l : Layout). All (λ (x : Sent). IsReadyPlan l high x.plan) first) (sym i.layout)
           (subst (All (λ (x : Sent). IsReadyPlan layout high x.plan)) (sym f.sent_is) f.ready);
@@ -94,14 +95,14 @@ run_halves-stop-requires-clause-waiting g c κs within =
       before = number_before a;
       numbered = first_behind (number_before a) p.planner.sent c.in-Ok.first a.waiting one (omega (arith, i.number)) i.numbered
           (subst (AreNumbered p.planner.sent) (sym f.sent_is) f.numbered);
+      upto_is = (let first_is = ap length f.sent_is in omega (arith, first_is, f.number_is, i.number));
       few =
           let bound = c.live-reads.ensures.bound in
           let limit = c.live-reads.ensures.limit in
-          let first_is = ap length f.sent_is in
           let counted = plans_counted f.more f.plans in
-          omega (arith, bound, limit, first_is, counted, i.counted, i.number);
+          omega (arith, bound, limit, counted, f.number_is, i.counted);
       can = subst (λ (v : PipeView g.row.A.Denot). g.T.Teller.can_take c.args.teller.now (number_before v + 1)) (sym c.self.view_is) c.requires.next;
-    }
+    })
 
 pub returns-clause-round : goal.returns-clause-round
 returns-clause-round g c =
@@ -188,33 +189,34 @@ invariant_of-self-2 g c =
     let first_layout : layout_by g.A.EventApp.table_count old.reader ≡ layout = same_layout g.A.EventApp.table_count p.planner.reader old.reader f.same in
     let tables_are : layout_by g.A.EventApp.table_count n.planner.reader ≡ layout = same_layout g.A.EventApp.table_count old.reader n.planner.reader h.same ∙ first_layout in
     let layout_is : n.runner.engine.layout ≡ layout = h.runs.layout ∙ i.layout in
-    let known : List Sent = known_items n.runner.ring in
     let then : ℕ = greatest_of old.reader.past.version in
     let now : ℕ = greatest_of n.planner.reader.past.version in
     let Old : Sent → Type 0 = λ x. IsReadyPlan p.runner.engine.layout then x.plan in
     let Ready : Sent → Type 0 = λ x. IsReadyPlan layout then x.plan in
-    let waited : All Old (r.popped ++ known) = subst (All Old) r.known_is
+    let tails = c.is_none-planning.ensures in
+    let one = one_first a c.in-Ok.first c.asks_first-asked.result c.is_none-planning.result c.cached_slots.result going c.cached_slots.ensures tails c.asks_first-asked.ensures
+    f.asked (λ e. ap given (f.idle e).0) in
+    let high_is : now ≡ then = halves_keep old.reader n.planner.reader c.is_none-planning.result
+    (λ planning.
+    let able = i.able (untold p.tail c.is_none-planning.result tails planning) in
+    let first_is = ap length f.plans.sent_is in
+    let counted = plans_counted f.plans.more f.plans.plans in
+    omega (arith, one, first_is, counted, i.number, able.counted))
+    h.same.3 (λ off. (h.idle off).2) in
+    let first' : All Ready (one_or_none c.in-Ok.first) = subst (All Ready) (sym f.plans.sent_is) f.plans.ready in
+    let waited' : All Ready a.waiting = subst (λ (l : Layout). All (λ (x : Sent). IsReadyPlan l then x.plan) a.waiting) i.layout
     (waits_ready g.A.EventApp.event_of p.runner.engine.layout p.planner.reader old.reader a.waiting c.asks_first-asked.result
     (λ e. (let met = c.asks_first-asked.ensures.0 e in let many = c.cached_slots.ensures in omega (arith, met.1, many))) (λ e. (f.idle e).1) i.ready) in
-    let popped' : All Ready r.popped = subst (λ (l : Layout). All (λ (x : Sent). IsReadyPlan l then x.plan) r.popped) i.layout (all_front Old r.popped known waited) in
-    let first' : All Ready (one_or_none c.in-Ok.first) = subst (All Ready) (sym f.plans.sent_is) f.plans.ready in
-    let runs' : All Ready r.plans.runs = all_front Ready r.plans.runs r.plans.lost (subst (All Ready) r.plans.parts (All-append Ready (one_or_none c.in-Ok.first) r.popped first' popped')) in
-    let back' : All (λ (x : Sent). IsReadyPlan layout now x.plan) known =
-    ready_as g.A.EventApp.event_of layout then now known (λ some.
-    halves_keep old.reader n.planner.reader c.is_none-planning.result
-    (λ planning.
-    let able = i.able (untold p.tail c.is_none-planning.result c.is_none-planning.ensures planning) in
-    let parts = ap length r.known_is in
-    let both = length-append r.popped known in
-    omega (arith, some, parts, both, i.number, able.counted, f.same.3.numbered))
-    h.same.3 (λ off. (h.idle off).2))
-    (subst (λ (l : Layout). All (λ (x : Sent). IsReadyPlan l then x.plan) known) i.layout (all_back Old r.popped known waited)) in
-    let more' = subst (λ (l : Layout). All (λ (x : Sent). IsReadyPlan l now x.plan) h.plans.more) first_layout h.plans.ready in
+    let more' : All Ready h.plans.more = subst (λ (n : ℕ). All (λ (x : Sent). IsReadyPlan layout n x.plan) h.plans.more) high_is
+    (subst (λ (l : Layout). All (λ (x : Sent). IsReadyPlan l now x.plan) h.plans.more) first_layout h.plans.ready) in
     let before = i.fifo ∙ ap (λ r. sent r) (sym f.ring) in
     let after = ap (λ l. l ++ known_items c.bring_together.new.consumer) (sym bt.receiving.1) ∙ bt.fifo ∙ bt.sending.1 in
-    let waits : b.waiting ≡ known ++ h.plans.more = waiting_is g.A.EventApp.event_of layout m (received p.runner.ring) (received n.runner.ring) a.waiting b.waiting known
-    (sent old.ring) (sent n.planner.ring) r.popped h.plans.more before after h.plans.sent_is r.known_is r.received_is in
-    let ready' = subst (All (λ (x : Sent). IsReadyPlan layout now x.plan)) (sym waits) (All-append (λ (x : Sent). IsReadyPlan layout now x.plan) known h.plans.more back' more') in
+    let waits : r.popped ++ b.waiting ≡ a.waiting ++ h.plans.more = waiting_is g.A.EventApp.event_of layout m (received p.runner.ring) (received n.runner.ring) a.waiting b.waiting
+    (sent old.ring) (sent n.planner.ring) r.popped h.plans.more before after h.plans.sent_is r.received_is in
+    let all' : All Ready (r.popped ++ b.waiting) = subst (All Ready) (sym waits) (All-append Ready a.waiting h.plans.more waited' more') in
+    let popped' : All Ready r.popped = all_front Ready r.popped b.waiting all' in
+    let runs' : All Ready r.plans.runs = all_front Ready r.plans.runs r.plans.lost (subst (All Ready) r.plans.parts (All-append Ready (one_or_none c.in-Ok.first) r.popped first' popped')) in
+    let ready' = subst (λ (n : ℕ). All (λ (x : Sent). IsReadyPlan layout n x.plan) b.waiting) (sym high_is) (all_back Ready r.popped b.waiting all') in
     record {
       pair = bt.pair;
       fifo = bt.fifo;
@@ -228,6 +230,6 @@ invariant_of-self-2 g c =
       layout = layout_is ∙ sym tables_are;
       able = λ none.
           let o = open_after c.tail_after-self-inside.result a.tail c.run_halves-stop.result.0 c.run_halves-stop.result.1 c.tail_after-self-inside.ensures.whole c.tail_after-self-inside.ensures.memory c.tail_after-self-inside.ensures.untold none in
-          let can = if_none c.run_halves-stop.result.0 (CanPlan n.planner) o.1 (h.able (planning_is a.tail c.is_none-planning.result c.is_none-planning.ensures o.0)) in
-          record { live = can.live; counted = can.counted };
+          let can = if_none c.run_halves-stop.result.0 (CanPlan g.A.EventApp.table_count n.planner) o.1 (h.able (planning_is a.tail c.is_none-planning.result c.is_none-planning.ensures o.0)) in
+          record { live = can.live; layout = can.layout; counted = can.counted };
     }

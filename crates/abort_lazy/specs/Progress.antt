@@ -151,6 +151,13 @@ HasHeard number Bad g h r = (r ≡ None) × (h.say ≡ Abort)
 HasHeard number IsSettledNow g h r = (r ≡ None) × (h.say ≡ IsDecidedNow)
 HasHeard number (Stopped a) g h r = r ≡ Some a
 
+-- Operation o of event i was made ready for the decision as far as it could be, and what it says was added, by its
+-- number in the event. It stops the call if there is an answer
+pub record PreparesOne (p : Plan) (i o number : ℕ) (start u : View) (g h : Grounds) (r : Option TxnAnswer) : Type 0 where
+  pub standing : Standing
+  pub ready : ReadyDoes p i o start u standing
+  pub heard : HasHeard number standing g h r
+
 -- What the operations of event i that are meant say of it: all are good, or one is bad, or this says nothing
 abbrev pub SayTells : Plan → ℕ → (ℕ → Type 0) → View → List Item → Grounds → Say → Type 0
 SayTells p i meant u xs g Commit = (o : ℕ) → meant o → IsGoodLast p o u xs (word_at p i g o)

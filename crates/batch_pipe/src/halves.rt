@@ -60,8 +60,8 @@ fn first_ops(runner: &Runner, first: &Option<Sent>) -> usize {
     }
 }
 
-/// The two halves of a round: side by side, and neither waits for the other; or, if the first plan has fewer than
-/// 16,384 operations, one after the other. The plans that wait are run in the caller's thread.
+/// The two halves of a round: side by side; or one after the other, if the first plan has fewer than 16,384 operations
+/// or nothing is to be planned. The plans that wait are run in the caller's thread.
 pub(crate) fn run_halves<
     R: Threads + Sync,
     A: EventApp + Send,
@@ -100,8 +100,8 @@ pub(crate) fn run_halves<
 {
     let mut first = first;
     let alloc = host.alloc;
-    let beside = first_ops(runner, &first) >= SHARED_OPS;
-    let meeting = Meeting::new(beside && planning);
+    let beside = planning && first_ops(runner, &first) >= SHARED_OPS;
+    let meeting = Meeting::new(beside);
     if !beside {
         let end = run_half(host, &meeting, runner, teller, &mut first);
         return (plan_half(alloc, planning, &meeting, planner, source), end);

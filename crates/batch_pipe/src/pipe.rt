@@ -149,12 +149,13 @@ impl<A: EventApp> Pipe<A> {
     /// One round: the next batches are read and planned while the plans that wait are run, from 1 to 16 workers each.
     ///
     /// If no plan waits and there is no tail, one batch is read and planned first, and its plan goes to the runner
-    /// without the ring. Then two halves run side by side, or one after the other if the first plan is small. The
-    /// planner reads, plans and sends until it meets a tail or sees no free place; it fills at least the places that
-    /// were free when the halves began. The runner takes the plans that waited then, in order, and those that come while
-    /// the planner is at work. It picks the strategy of each, and hands each result to the teller, in the caller's
-    /// thread, before it takes the next plan. Side by side, each half waits for the other, but for no longer than some
-    /// milliseconds: a result is never told later because the next batch has not come.
+    /// without the ring. Then two halves run side by side, or one after the other if the first plan is small or a tail
+    /// was met. The planner reads, plans and sends until it meets a tail or sees no free place; it fills at least the
+    /// places that were free when the halves began. The runner takes the plans that waited then, in order, and those
+    /// that come while the planner is at work. It picks the strategy of each, and hands each result to the teller, in
+    /// the caller's thread, before it takes the next plan. Side by side, each half waits for the other, but for no
+    /// longer than some milliseconds. If one plan can wait, no result is told later because the next batch has not
+    /// come. If two can, the planner fills both places before the round ends, so a plan may wait for one further batch.
     ///
     /// If memory to run a plan is refused, the tail is [`Tail::RunMemory`], whatever tail the planner met. That plan is
     /// dropped, and the engine stays as it was before it. If the teller refuses a result, the tail is [`Tail::Untold`].

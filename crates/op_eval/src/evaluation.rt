@@ -133,7 +133,8 @@ fn evaluate_by(board: &Board, hand: &mut Hand, plan: &Plan, op: u32) -> Evaluati
 {
     let word = board.peek(hand, plan, op);
     match word.state {
-        OpState::Blocked => begin(board, hand, plan, op, word),
+        // With `return` the answer goes to the caller without a copy on the way.
+        OpState::Blocked => return begin(board, hand, plan, op, word),
         OpState::Ready => hold(board, hand, plan, op),
         OpState::Claimed => Evaluation::Busy { word },
         OpState::Executed => Evaluation::Already { word },

@@ -1,15 +1,16 @@
 //! Makes operations ready for the decision on their event.
 ghost use Rattle.std.specs.Prelude.{◌≡◌, ◌<◌, List, None};
+ghost use Rattle.morph_base.specs.declared.limits.TheConstants.{EVENT_OPS};
 ghost use Rattle.morph_base.specs.Plans.{event_at, InEvent};
 ghost use Rattle.interleaving_core.specs.Core.{places};
 ghost use Rattle.op_words.specs.declared.trail.Item.{Item};
 ghost use Rattle.op_words.specs.declared.trail.View.{View};
 ghost use Rattle.op_words.specs.Hands.{MayBegin};
 ghost use Rattle.op_words.specs.Hands.{cap_of, view_of, IsHandOf};
-ghost use Rattle.op_words.specs.Judging.{IsStaleSeen};
+ghost use Rattle.op_words.specs.Judging.{IsStaleSeen, VerdictAtDoes};
 ghost use Rattle.op_eval.specs.Running.{hand_view};
 ghost use Rattle.abort_lazy.specs.Transactions.{MaySettleEvent, IsAnswered};
-ghost use Rattle.abort_lazy.specs.Progress.{so_far, ReadyDoes, AllReadyDoes};
+ghost use Rattle.abort_lazy.specs.Progress.{so_far, ReadyDoes, PreparesOne, AllReadyDoes};
 ghost use Rattle.abort_lazy.specs.Progress.{IsIdleSoFar, IsStaleSoFar, IsSpreadSoFar, IsMadeSoFar, IsFoundSoFar};
 
 use super::standing::{Grounds, Say, Standing};
@@ -37,8 +38,8 @@ pub(super) fn prepare_all(
     let first = first_of(plan, event);
     let end = end_of(plan, event);
     for op in first..end {
-        let standing = prepare(board, runner, plan, event, op);
-        match grounds.hear((op - first) as usize, standing) {
+        let number = (op - first) as usize;
+        match prepare(board, runner, plan, event, op, number, grounds) {
             None => {}
             Some(answer) => return Some(answer),
         }
@@ -46,17 +47,56 @@ pub(super) fn prepare_all(
     None
 }
 
-/// Makes an operation ready for the decision: judges it, and mends it if that is needed.
-fn prepare(board: &Board, runner: &mut Runner, plan: &Plan, event: u32, op: u32) -> Standing
+/// Makes an operation ready for the decision, and hears what it says of the event as its operation of this number.
+fn prepare(
+    board: &Board,
+    runner: &mut Runner,
+    plan: &Plan,
+    event: u32,
+    op: u32,
+    number: usize,
+    grounds: &mut Grounds,
+) -> Option<TxnAnswer>
     requires may { MayBegin board.now runner.old.hand plan.now op }
     requires inside { InEvent plan.now event op }
+    requires number { number < EVENT_OPS }
     ensures hand { IsHandOf board.now runner.new.hand }
     ensures free { (hand_view runner.new).claim ≡ None }
-    ensures ready { ReadyDoes plan.now event op (hand_view runner.old)
-        (hand_view runner.new) result }
+    ensures ready { PreparesOne plan.now event op number (hand_view runner.old)
+        (hand_view runner.new) grounds.old grounds.new result }
     ensures answered { IsAnswered 1 runner.old runner.new }
 {
     let (word, verdict) = board.verdict_at(&mut runner.hand, plan, op);
+    if let Verdict::Good(_) = verdict {
+        // Most are good. A standing would be put together for them, and taken apart.
+        grounds.keep(number, word);
+        return None;
+    }
+    let standing = stand_by(board, runner, plan, event, op, word, verdict);
+    grounds.hear(number, standing)
+}
+
+/// The standing of an operation by its verdict and the word that was loaded last, after it was mended if that is needed.
+fn stand_by(
+    board: &Board,
+    runner: &mut Runner,
+    plan: &Plan,
+    event: u32,
+    op: u32,
+    word: OpWord,
+    verdict: Verdict,
+) -> Standing
+    requires may { MayBegin board.now runner.old.hand plan.now op }
+    requires inside { InEvent plan.now event op }
+    requires judged { (start : View)
+        × VerdictAtDoes plan.now (cap_of board.now) op start (hand_view runner.old) word verdict }
+    ensures hand { IsHandOf board.now runner.new.hand }
+    ensures free { (hand_view runner.new).claim ≡ None }
+    ensures ready { (start : View)
+        → VerdictAtDoes plan.now (cap_of board.now) op start (hand_view runner.old) word verdict
+        → ReadyDoes plan.now event op start (hand_view runner.new) result }
+    ensures answered { IsAnswered 1 runner.old runner.new }
+{
     match verdict {
         Verdict::Good(_) => Standing::Good(word),
         Verdict::Bad => Standing::Bad,

@@ -75,6 +75,14 @@ impl Grounds {
         self.say = Say::Commit;
     }
 
+    /// Keeps the word at which the operation of this number in the event was judged good.
+    pub(super) fn keep(&mut self, number: usize, word: OpWord)
+        requires number { number < EVENT_OPS }
+        ensures { HasHeard number (Standing.Good word) self.old self.new None }
+    {
+        self.words[number] = word;
+    }
+
     /// Adds what the operation of this number in the event says. Returns the answer if it stops the call.
     pub(super) fn hear(&mut self, number: usize, standing: Standing) -> Option<TxnAnswer>
         requires number { number < EVENT_OPS }
@@ -82,7 +90,7 @@ impl Grounds {
     {
         match standing {
             Standing::Good(word) => {
-                self.words[number] = word;
+                self.keep(number, word);
                 None
             }
             Standing::Bad => {

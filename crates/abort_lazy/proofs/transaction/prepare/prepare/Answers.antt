@@ -2,39 +2,17 @@ use Rattle.std.proofs.Common.{refl, subst}
 use Rattle.op_words.specs.Hands.{cap_of, view_of}
 use Rattle.op_words.specs.Judging.{VerdictAtDoes}
 use Rattle.op_eval.specs.Running.{hand_view}
-use Rattle.abort_lazy.proofs.Readying.{first_good, first_bad, first_stale, first_own, first_source}
-use Rattle.abort_lazy.proofs.Answering.{answered_none, answered_also}
+use Rattle.abort_lazy.specs.declared.transaction.standing.Standing.TheVariants.{Good}
+use Rattle.abort_lazy.proofs.Readying.{first_good}
+use Rattle.abort_lazy.proofs.Answering.{answered_none}
 use Rattle.abort_lazy.proofs.transaction.prepare.prepare.Goals as goal
 
 pub returns-in-Good-clause-ready : goal.returns-in-Good-clause-ready
-returns-in-Good-clause-ready c = first_good _ _ _ _ c.requires.inside (subst (VerdictAtDoes c.args.plan.now (cap_of c.args.board.now) c.args.op (hand_view c.args.runner.now) (view_of c.verdict_at-verdict.new.hand) c.verdict_at-verdict.result.0) c.in-Good.is c.verdict_at-verdict.ensures.answer)
+returns-in-Good-clause-ready c = record {
+  standing = Good c.verdict_at-verdict.result.0;
+  ready = first_good _ _ _ _ c.requires.inside (subst (VerdictAtDoes c.args.plan.now (cap_of c.args.board.now) c.args.op (hand_view c.args.runner.now) (view_of c.verdict_at-verdict.new.hand) c.verdict_at-verdict.result.0) c.in-Good.is c.verdict_at-verdict.ensures.answer);
+  heard = c.keep.ensures;
+}
 
 pub returns-in-Good-clause-answered : goal.returns-in-Good-clause-answered
 returns-in-Good-clause-answered c = answered_none _ _ _ refl refl
-
-pub returns-in-Bad-clause-ready : goal.returns-in-Bad-clause-ready
-returns-in-Bad-clause-ready c = first_bad _ _ _ _ c.requires.inside ((subst (VerdictAtDoes c.args.plan.now (cap_of c.args.board.now) c.args.op (hand_view c.args.runner.now) (view_of c.verdict_at-verdict.new.hand) c.verdict_at-verdict.result.0) c.in-Bad.is c.verdict_at-verdict.ensures.answer).answer)
-
-pub returns-in-Bad-clause-answered : goal.returns-in-Bad-clause-answered
-returns-in-Bad-clause-answered c = answered_none _ _ _ refl refl
-
-pub redo_stale-requires-clause-stale : goal.redo_stale-requires-clause-stale
-redo_stale-requires-clause-stale c = (c.verdict_at-verdict.ensures.answer.stale _ _ _ c.in-Stale.is).1
-
-pub returns-in-Stale-clause-ready : goal.returns-in-Stale-clause-ready
-returns-in-Stale-clause-ready c = let old = first_stale _ _ _ _ c.requires.inside (subst (VerdictAtDoes c.args.plan.now (cap_of c.args.board.now) c.args.op (hand_view c.args.runner.now) (view_of c.verdict_at-verdict.new.hand) c.verdict_at-verdict.result.0) c.in-Stale.is c.verdict_at-verdict.ensures.answer) in c.redo_stale.ensures.ready _ old.0 old.1
-
-pub returns-in-Stale-clause-answered : goal.returns-in-Stale-clause-answered
-returns-in-Stale-clause-answered c = answered_also _ _ _ _ refl refl refl refl c.redo_stale.ensures.answered
-
-pub returns-then-at-op-clause-ready : goal.returns-then-at-op-clause-ready
-returns-then-at-op-clause-ready c = let found = first_own _ _ _ _ c.requires.inside c.if-at-op.true ((subst (VerdictAtDoes c.args.plan.now (cap_of c.args.board.now) c.args.op (hand_view c.args.runner.now) (view_of c.verdict_at-verdict.new.hand) c.verdict_at-verdict.result.0) c.in-Unready.is c.verdict_at-verdict.ensures.answer).answer) in c.mend.ensures.ready _ found.0 found.1
-
-pub returns-then-at-op-clause-answered : goal.returns-then-at-op-clause-answered
-returns-then-at-op-clause-answered c = answered_also _ _ _ _ refl refl refl refl c.mend.ensures.answered
-
-pub returns-else-at-op-clause-ready : goal.returns-else-at-op-clause-ready
-returns-else-at-op-clause-ready c = first_source _ _ _ _ c.requires.inside c.if-at-op.false ((subst (VerdictAtDoes c.args.plan.now (cap_of c.args.board.now) c.args.op (hand_view c.args.runner.now) (view_of c.verdict_at-verdict.new.hand) c.verdict_at-verdict.result.0) c.in-Unready.is c.verdict_at-verdict.ensures.answer).answer)
-
-pub returns-else-at-op-clause-answered : goal.returns-else-at-op-clause-answered
-returns-else-at-op-clause-answered c = answered_none _ _ _ refl refl

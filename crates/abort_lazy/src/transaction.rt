@@ -77,7 +77,8 @@ pub(crate) fn settle_with(
         Err(answer) => answer,
         Ok(committed) => match settle_rest(board, &mut runner.hand, plan, event, grounds) {
             Some(answer) => answer,
-            None => TxnAnswer::Settled { committed },
+            // With `return` the answer goes to the caller without a copy on the way.
+            None => return TxnAnswer::Settled { committed },
         },
     }
 }

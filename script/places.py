@@ -14,11 +14,14 @@ TRIED = CRATES / "morph/out/tried"  # the program without proofs, and its stamp
 # the system after each batch, and of small pieces it keeps seven of a size at hand and joins the others, to cut them
 # anew in the next batch. So it is told to keep the heap, and all small pieces at hand. It also asks the system for
 # large pages: the operations of a batch are read at random places, and a page of 2 MiB saves most look-ups of
-# addresses. All threads share one heap, so that what one of them drops serves the next batch, whichever thread makes it.
+# addresses. It can do so only for a piece of 2 MiB, and the heap mostly grows by less, so it grows by 16 MiB at a time: what
+# is not used of them takes no memory. All threads share one heap, so that what one of them drops serves the next batch,
+# whichever thread makes it.
 # Variables that are set already are left alone.
 KEPT = {
     "MALLOC_TRIM_THRESHOLD_": "33554432",
     "MALLOC_MMAP_THRESHOLD_": "33554432",
+    "MALLOC_TOP_PAD_": "16777216",
     "GLIBC_TUNABLES": "glibc.malloc.tcache_count=65535:glibc.malloc.hugetlb=1:glibc.malloc.arena_max=1",
 }
 

@@ -92,7 +92,8 @@ fn commits(verdicts: &[bool]) -> usize
     verdicts.iter().filter(|verdict| **verdict).count()
 }
 
-/// Counts each of these workers once more; 0 is the plain finish.
+/// Counts each of these workers once more; 0 is the plain finish. Neighbours mostly have one worker, so a run of one is
+/// counted at once: a number in memory that is raised again and again makes the processor wait.
 fn count_each(workers: &[u8], counts: &mut [u64])
     requires inside { All (λ w. w ≤ most_workers) workers.now }
     requires all { length counts.old ≡ most_workers + 1 }
@@ -101,9 +102,17 @@ fn count_each(workers: &[u8], counts: &mut [u64])
         → slice_index counts.new w ≡ slice_index counts.old w + settled_by workers.now w }
     ensures sum { sum counts.new ≡ sum counts.old + length workers.now }
 {
+    let mut last: u8 = 0;
+    let mut run: u64 = 0;
     for worker in workers {
-        counts[*worker as usize] += 1;
+        if *worker != last {
+            counts[usize::from(last)] += run;
+            last = *worker;
+            run = 0;
+        }
+        run += 1;
     }
+    counts[usize::from(last)] += run;
 }
 
 /// How many causes some lists have, or the greatest number if there are more.

@@ -11,7 +11,7 @@ pub returns-in-Good-clause-ready : goal.returns-in-Good-clause-ready
 returns-in-Good-clause-ready c = record {
   standing = Good c.verdict_at-verdict.result.0;
   ready = first_good _ _ _ _ c.requires.inside (subst (VerdictAtDoes c.args.plan.now (cap_of c.args.board.now) c.args.op (hand_view c.args.runner.now) (view_of c.verdict_at-verdict.new.hand) c.verdict_at-verdict.result.0) c.in-Good.is c.verdict_at-verdict.ensures.answer);
-  heard = c.keep.ensures;
+  heard = rw c.without_worker.ensures at c.keep.ensures;
 }
 
 pub returns-in-Good-clause-answered : goal.returns-in-Good-clause-answered

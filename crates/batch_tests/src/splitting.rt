@@ -1,9 +1,9 @@
 use crate::four_events::batch_of;
-use morph_base::{Op, OutOfMemory};
+use morph_base::{OpRows, OutOfMemory};
 use std::alloc::Global;
 use std::process::Abort;
 use std::test::Fail;
-use txn_splitter::{Txns, split};
+use txn_splitter::{TxnEvent, Txns, split};
 
 /// For each event, the time, its first operation and how many it has.
 const EVENTS: [(u64, u32, u32); 4] = [(1, 0, 2), (2, 2, 4), (3, 6, 4), (4, 10, 4)];
@@ -35,14 +35,18 @@ fn events_of(alloc: Global, txns: &Txns<'_>) -> Result<Vec<(u64, u32, u32)>, Out
     Ok(rows)
 }
 
-/// Appends the operations of an event.
+/// Appends the operations of event `i`, as far as there are any.
 fn append_ops(
     rows: &mut Vec<(usize, u8, u32, u64)>,
-    event: usize,
-    ops: &[Op],
+    i: usize,
+    event: TxnEvent,
+    ops: &OpRows,
 ) -> Result<(), OutOfMemory> {
-    for op in ops {
-        rows.push((event, op.key.table, op.key.id, op.c))?;
+    let first = event.first as usize;
+    let end = first + event.count as usize;
+    for o in first..end.min(ops.len()) {
+        let op = ops.get(o);
+        rows.push((i, op.key.table, op.key.id, op.c))?;
     }
     Ok(())
 }
@@ -50,7 +54,7 @@ fn append_ops(
 fn ops_of(alloc: Global, txns: &Txns<'_>) -> Result<Vec<(usize, u8, u32, u64)>, OutOfMemory> {
     let mut rows = Vec::new(alloc);
     for i in 0..txns.len() {
-        append_ops(&mut rows, i, txns.ops(i))?;
+        append_ops(&mut rows, i, txns.event(i), txns.ops())?;
     }
     Ok(rows)
 }

@@ -94,7 +94,7 @@ impl Pending {
             return Ok(Some(Cause::Full));
         }
         self.latest = self.latest.max(ts);
-        self.batch.push(ts, self.ops.as_slice())?;
+        self.batch.push_event(ts, &self.ops)?;
         Ok(None)
     }
 

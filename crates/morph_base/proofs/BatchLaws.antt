@@ -1,17 +1,14 @@
 -- A batch whose list of operations grows: its events stay, and one more comes.
-use Rattle.std.proofs.Common.{◌≡◌, ℕ, ◌+◌, ◌<◌, ◌≤◌, List, [], ◌∷◌, ◌++◌, length, take, drop, map, get_or, refl, sym, subst, ◌∙◌, ap, arith, All, Result, Ok, Err, OnErr}
+use Rattle.std.proofs.Common.{◌≡◌, ℕ, ◌+◌, ◌-◌, ◌<◌, ◌≤◌, List, [], ◌∷◌, ◌++◌, length, take, drop, map, get_or, refl, sym, subst, ◌∙◌, ap, arith, All, Result, Ok, Err, OnErr}
 use Rattle.std.proofs.Math.Seq.{drop-append_seam, take-append_seam}
 use Rattle.std.proofs.lemmas.List.{take-append-drop, take-append-le, drop-append-le, length-drop, length-append, map-append, take_all, take_more}
-use Rattle.std.proofs.lemmas.List.Elements.{All-head, All-tail, All-weaker, All-push}
+use Rattle.std.proofs.lemmas.List.Elements.{All-head, All-tail, All-push}
 use Rattle.morph_base.specs.declared.batch.EventHead.{EventHead}
 use Rattle.morph_base.specs.declared.operation.Op.{Op}
-use Rattle.morph_base.specs.EventHeads.{AreInside}
+use Rattle.morph_base.specs.EventHeads.{IsHeadInside, AreInside}
 use Rattle.morph_base.specs.Transactions.{transaction, transaction_by}
 
-abbrev IsInside : List Op → EventHead → Type 0
-IsInside ops head = head.first + head.count ≤ length ops
-
-one_stays : (ops more : List Op) (head : EventHead) → IsInside ops head → transaction_by (ops ++ more) head ≡ transaction_by ops head
+one_stays : (ops more : List Op) (head : EventHead) → IsHeadInside ops head → transaction_by (ops ++ more) head ≡ transaction_by ops head
 one_stays ops more head inside =
     ap (transaction head.ts)
     (ap (take head.count) (drop-append-le head.first ops more (omega (arith, inside)))
@@ -20,7 +17,7 @@ one_stays ops more head inside =
 stay : (ops more : List Op) (heads : List EventHead) → AreInside ops heads → map (transaction_by (ops ++ more)) heads ≡ map (transaction_by ops) heads
 stay ops more [] inside = refl
 stay ops more (head ∷ heads) inside =
-    rw (one_stays ops more head (All-head (IsInside ops) head heads inside), stay ops more heads (All-tail (IsInside ops) head heads inside)) refl
+    rw (one_stays ops more head (All-head (IsHeadInside ops) head heads inside), stay ops more heads (All-tail (IsHeadInside ops) head heads inside)) refl
 
 -- operations that were appended change no event
 pub events_stay : (ops new : List Op) (heads : List EventHead) → take (length ops) new ≡ ops → AreInside ops heads
@@ -32,25 +29,21 @@ events_stay ops new heads front inside =
 pub front_of : (ops new more : List Op) → new ≡ ops ++ more → take (length ops) new ≡ ops
 front_of ops new more is = ap (take (length ops)) is ∙ take-append_seam ops more
 
-pub heads_stay : (ops new : List Op) (heads : List EventHead) → length ops ≤ length new → AreInside ops heads → AreInside new heads
-heads_stay ops new heads more inside = All-weaker (IsInside ops) (IsInside new) (λ head here. omega (arith, here, more)) heads inside
-
--- the event that has them
-pub event_more : (ops new more : List Op) (heads : List EventHead) (ts : ℕ) → new ≡ ops ++ more → AreInside ops heads
-    → map (transaction_by new) (heads ++ record { ts = ts; first = length ops; count = length more } ∷ []) ≡ map (transaction_by ops) heads ++ transaction ts more ∷ []
-event_more ops new more heads ts is inside =
-    let head : EventHead = record { ts = ts; first = length ops; count = length more } in
-    let last : transaction_by new head ≡ transaction ts more
-    = ap (transaction ts) (ap (λ xs. take (length more) (drop (length ops) xs)) is ∙ ap (take (length more)) (drop-append_seam ops more) ∙ take_all (length more) more (omega arith)) in
-    map-append (transaction_by new) heads (head ∷ [])
-    ∙ ap (λ es. es ++ transaction_by new head ∷ []) (ap (λ xs. map (transaction_by xs) heads) is ∙ stay ops more heads inside)
-    ∙ ap (λ e. map (transaction_by ops) heads ++ e ∷ []) last
-
-pub head_more : (ops new more : List Op) (heads : List EventHead) (ts : ℕ) → new ≡ ops ++ more → AreInside ops heads
-    → AreInside new (heads ++ record { ts = ts; first = length ops; count = length more } ∷ [])
-head_more ops new more heads ts is inside =
+-- the event that has them: its head was put behind the others
+pub event_more : (ops new more : List Op) (heads put : List EventHead) (ts first count : ℕ) → new ≡ ops ++ more
+    → put ≡ heads ++ record { ts = ts; first = first; count = count } ∷ [] → first ≡ length ops → count ≡ length new - first → AreInside ops heads
+    → map (transaction_by new) put ≡ map (transaction_by ops) heads ++ transaction ts more ∷ []
+event_more ops new more heads put ts first count is told from many inside =
+    let head : EventHead = record { ts = ts; first = first; count = count } in
     let long = ap (λ (xs : List Op). length xs) is ∙ length-append ops more in
-    All-push (IsInside new) heads (record { ts = ts; first = length ops; count = length more }) (heads_stay ops new heads (omega (arith, long)) inside) (omega (arith, long))
+    let all : count ≡ length more = omega (arith, long) in
+    let own : take count (drop first new) ≡ more
+    = ap (λ n. take count (drop n new)) from ∙ ap (λ xs. take count (drop (length ops) xs)) is ∙ ap (take count) (drop-append_seam ops more)
+    ∙ take_all count more (omega (arith, all)) in
+    ap (map (transaction_by new)) told
+    ∙ map-append (transaction_by new) heads (head ∷ [])
+    ∙ ap (λ es. es ++ transaction_by new head ∷ []) (ap (λ xs. map (transaction_by xs) heads) is ∙ stay ops more heads inside)
+    ∙ ap (λ xs. map (transaction_by ops) heads ++ transaction ts xs ∷ []) own
 
 -- what holds in any case
 pub on_err : {T E P : Type 0} (r : Result T E) → P → OnErr r P

@@ -16,16 +16,12 @@ use Rattle.morph_base.specs.Numbering.{IsNumbering}
 use Rattle.morph_base.specs.Sources.{IsSource}
 use Rattle.morph_base.specs.Transactions.{Transaction}
 use Rattle.morph_base.specs.States.{State}
+use Rattle.morph_base.specs.OpFills.{with_base}
 use Rattle.morph_base.specs.Plans.{IsPlan, high_of, op_count, op_at, event_of, numbers_of, target, keys_of, key_at, origin_at, HasBases, IsSourceIn, PlanKeysIn, no_plan_op, transaction_in, transactions, filled_in, filled, filled_plan}
 use Rattle.morph_base.proofs.BaseLaws.{bases-opening}
 use Rattle.morph_base.proofs.OutcomeLaws.{keys_fit}
 
 -- ---- places
-
--- what stands at a place once the value of its key is filled in
-abbrev pub fill : ℕ → Origin → Origin
-fill x (Base v) = Base x
-fill x (Written t) = Written t
 
 pub length-filled_in : (s : State) (ks : List Key) (origins : List Origin) → length (filled_in s ks origins) ≡ length origins
 unfolding filled_in
@@ -35,7 +31,7 @@ length-filled_in s (k ∷ ks) (Base v ∷ origins) = ap suc (length-filled_in s 
 length-filled_in s (k ∷ ks) (Written t ∷ origins) = ap suc (length-filled_in s ks origins)
 
 pub filled_in-at : (s : State) (ks : List Key) (origins : List Origin) (j : ℕ) → j < length ks → j < length origins
-    → get_or (filled_in s ks origins) j (Base 0) ≡ fill (s (get_or ks j no_key)) (get_or origins j (Base 0))
+    → get_or (filled_in s ks origins) j (Base 0) ≡ with_base (s (get_or ks j no_key)) (get_or origins j (Base 0))
 unfolding filled_in
 filled_in-at s ks [] j lt below = absurd (not-suc-le-zero below)
 filled_in-at s [] (origin ∷ origins) j lt below = absurd (not-suc-le-zero lt)
@@ -101,7 +97,7 @@ module _ (s : State) (p : Plan) where
 
   -- a used place has the value of its key, or the source that it had; the others are as they were
   pub origin_at-filled : (o j : ℕ) → o < op_count p → j < length (keys_of p o) → j < length (op_at p o).origins
-      → origin_at (filled_plan s p) o j ≡ fill (s (key_at p o j)) (origin_at p o j)
+      → origin_at (filled_plan s p) o j ≡ with_base (s (key_at p o j)) (origin_at p o j)
   origin_at-filled o j lt below inside =
       ap (λ os. get_or os j (Base 0)) (origins-filled o lt) ∙ filled_in-at s (keys_of p o) (op_at p o).origins j below inside
 
@@ -122,15 +118,15 @@ module _ (s : State) (p : Plan) where
   unfolding high_of
   high-filled = ap (λ ops. (ops 0).high) op-filled
 
-  source-filled : (i : ℕ) (key : Key) (origin : Origin) → IsSourceIn p i key origin → IsSourceIn (filled_plan s p) i key (fill (s key) origin)
-  source-filled i key origin is = subst₃ (λ m targets events. IsSource m targets events i key (fill (s key) origin)) (sym op_count-filled) (sym target-filled) (sym event_of-filled) (in_p origin is)
+  source-filled : (i : ℕ) (key : Key) (origin : Origin) → IsSourceIn p i key origin → IsSourceIn (filled_plan s p) i key (with_base (s key) origin)
+  source-filled i key origin is = subst₃ (λ m targets events. IsSource m targets events i key (with_base (s key) origin)) (sym op_count-filled) (sym target-filled) (sym event_of-filled) (in_p origin is)
     where
-      in_p : (origin : Origin) → IsSourceIn p i key origin → IsSourceIn p i key (fill (s key) origin)
+      in_p : (origin : Origin) → IsSourceIn p i key origin → IsSourceIn p i key (with_base (s key) origin)
       in_p (Base v) is = is
       in_p (Written t) is = is
 
   module _ (valid : IsPlan p) (small : (key : Key) → s key ≤ high_of p) where
-    used_place : (o j : ℕ) → o < op_count p → j < length (keys_of p o) → origin_at (filled_plan s p) o j ≡ fill (s (key_at p o j)) (origin_at p o j)
+    used_place : (o j : ℕ) → o < op_count p → j < length (keys_of p o) → origin_at (filled_plan s p) o j ≡ with_base (s (key_at p o j)) (origin_at p o j)
     used_place o j lt below = origin_at-filled o j lt below (lt_of_lt_of_le below (keys_fit p o valid lt))
 
     in_plan : (o : ℕ) → o < op_count (filled_plan s p) → o < op_count p
@@ -146,7 +142,7 @@ module _ (s : State) (p : Plan) where
     has_bases-filled o j v lt below is =
         base_value (origin_at p o j) (sym (used_place o j (in_plan o lt) (in_keys o j below)) ∙ is) ∙ ap s (sym (key_at-filled o j))
       where
-        base_value : (origin : Origin) → fill (s (key_at p o j)) origin ≡ Base v → v ≡ s (key_at p o j)
+        base_value : (origin : Origin) → with_base (s (key_at p o j)) origin ≡ Base v → v ≡ s (key_at p o j)
         base_value (Base b) same = cc
         base_value (Written t) same = cc
 

@@ -24,7 +24,10 @@ pub mod EndLaws
 pub mod VersionLaws
 -- If some state has the bases of a plan, its opening state has them.
 pub mod BaseLaws
+-- A batch whose list of operations grows: its events stay, and one more comes.
 pub mod BatchLaws
+-- Events that stand in time order, one behind another, have all operations in time order.
+pub mod RunLaws
 -- A plan with its bases filled in from a state is valid, and keeps everything else.
 pub mod FillLaws
 -- Filling in the bases keeps a plan's graph.
@@ -53,11 +56,23 @@ pub mod RowLemmas
 pub mod ValidLemmas
 -- The row of an operation in a list that has the rows of all.
 pub mod OpRowLaws
--- The operations that stand as parts, one more and one changed.
+-- How many keys are kept of operations, and that those of different operations are apart.
+pub mod OpKeptLaws
+-- The operations with their marks and sources, one more and one changed.
 pub mod OpPartLaws
 -- What contracts see of the operations of a plan, by their parts.
 pub mod OpViewLaws
+-- The bases of operations filled in, place by place.
+pub mod OpFillLaws
 -- An operation of a valid shape, put together from its parts and keys.
 pub mod OpPushLaws
 -- Rows of different operations do not meet.
 pub mod OpApartLaws
+-- What contracts see of operations in rows, by their heads, keys and limits.
+pub mod RowViewLaws
+-- Operations in rows behind other ones.
+pub mod RowAppendLaws
+-- The row of one operation.
+pub mod RowOneLaws
+-- The operations of an event in their arrays, and one more of them.
+pub mod RowEventLaws

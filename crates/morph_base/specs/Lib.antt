@@ -19,5 +19,9 @@ pub mod Words
 pub mod Links
 pub mod Rows
 pub mod OpParts
+pub mod OpFills
 pub mod OpLists
+pub mod OpRows
+pub mod RowViews
+pub mod EventViews
 pub mod OpViews

@@ -27,7 +27,7 @@ no_transaction = transaction 0 []
 
 -- The event as a transaction
 abbrev pub transaction_of : Event → Transaction
-transaction_of e = transaction e.ts e.ops.now
+transaction_of e = transaction e.ts e.ops
 
 -- The event that has its operations in a list of all
 abbrev pub transaction_by : List Op → EventHead → Transaction
@@ -35,7 +35,7 @@ transaction_by ops head = transaction head.ts (take head.count (drop head.first 
 
 -- The events of a batch as transactions, in order of arrival
 abbrev pub transactions_of : Batch → List Transaction
-transactions_of batch = map (transaction_by batch.ops.items) batch.heads.items
+transactions_of batch = map (transaction_by batch.ops) batch.heads.items
 
 -- The keys that a transaction changes, in operation order
 abbrev pub targets : Transaction → List Key

@@ -1,7 +1,7 @@
 ghost use Rattle.morph_base.specs.EventHeads.{AreInside};
 
 use crate::list::List;
-use crate::operation::Op;
+use crate::op_rows::OpRows;
 
 mod calls;
 
@@ -20,22 +20,27 @@ struct EventHead {
 pub struct BatchRoom {
     events: usize,
     ops: usize,
+    keys: usize,
 }
 
 impl BatchRoom {
     /// No room: the memory is taken as the events come.
     pub fn none() -> Self {
-        BatchRoom { events: 0, ops: 0 }
+        BatchRoom {
+            events: 0,
+            ops: 0,
+            keys: 0,
+        }
     }
 }
 
 /// The events between two punctuations, in order of arrival.
 ///
 /// It is valid if its events are valid, at most [`EVENTS`](crate::EVENTS) in number, and their timestamps differ. The
-/// operations of all events stand in one list, so that an event takes no memory of its own.
+/// operations of all events stand in the same rows, so that an event takes no memory of its own.
 #[derive(Debug, Drop)]
 pub struct Batch {
     heads: List<EventHead>,
-    ops: List<Op>,
-    ghost inside: { AreInside ops.items heads.items },
+    ops: OpRows,
+    ghost inside: { AreInside ops heads.items },
 }

@@ -28,11 +28,12 @@
 //! |---|---|
 //! | `key`, `limits` | `Key` and `Layout`; the greatest numbers, such as `MAX` |
 //! | `operation`, `evaluation` | `Func` and `Op`; `eval` and `evaluate` |
+//! | `op_rows`, `op_span` | `OpRows`: operations in rows that take as much memory as they need; `OpSpan`, those of one event |
 //! | `event`, `event_ops` | `Event`, which borrows its operations; `EventOps`, which an application fills |
 //! | `batch`, `validity` | `Batch` and `BatchRoom`; whether a batch that was put together by hand is valid |
 //! | `values` | `Values`: a value for each key |
 //! | `plain`, `outcome` | `fold`, the events one at a time; the `Outcome` of an event |
-//! | `plan`, `plan_ops` | `Plan`, `PlanEvent`, `PlanOp`, `Origin`, `Edges` and `Settled`; the operations of a plan in sized lists |
+//! | `plan`, `plan_ops` | `Plan`, `PlanEvent`, `PlanOp`, `Origin`, `Edges` and `Settled`; the operations of a plan |
 //! | `rows` | `Rows`: lists of numbers in one list |
 //! | `word` | `OpState`, `OpWord`, and a word as one number |
 //! | `strategy` | `Strategy`: `Unit`, `Explore` and `Abort` |
@@ -49,6 +50,8 @@ pub mod laws;
 mod limits;
 mod list;
 mod memory;
+mod op_rows;
+mod op_span;
 mod operation;
 mod outcome;
 pub mod plain;
@@ -68,6 +71,8 @@ pub use key::{Key, Layout};
 pub use limits::{EVENT_OPS, EVENTS, FIRST_MAX, LATEST, MAX, PARAMS, READS, WORKERS};
 pub use list::List;
 pub use memory::OutOfMemory;
+pub use op_rows::OpRows;
+pub use op_span::OpSpan;
 pub use operation::{Func, Op};
 pub use outcome::Outcome;
 pub use plan::{Edges, Origin, Plan, PlanEvent, PlanOp, Settled};

@@ -72,6 +72,15 @@ impl<T> List<T> {
         self.vec.push_reserved(item);
     }
 
+    /// Takes memory for at least `n` more items. If it is refused, the items stay.
+    pub fn reserve(&mut self, n: usize) -> Result<(), OutOfMemory>
+        ensures items { self.new.items ≡ self.old.items }
+        ensures room { OnOk result (n ≤ self.new.room) }
+    {
+        self.vec.reserve(n)?;
+        Ok(())
+    }
+
     /// The number of items.
     pub fn len(&self) -> usize
         ensures { result ≡ length self.now.items }

@@ -55,10 +55,10 @@ fn apply(alloc: Global, values: &mut Values, event: &Event<'_>) -> Result<Outcom
         (λ outcome. fate_of outcome ≡ fate (contents values.old) (transaction_of event.now)) }
     ensures refused { OnErr result (values.new ≡ values.old) }
 {
-    let ops = event.ops;
+    let ops = event.ops.to_list(alloc)?;
     let mut after = List::with_room(alloc, ops.len())?;
-    let committed = transact(alloc, values, event)?;
-    read_targets(values, ops, &mut after);
+    let committed = transact(alloc, values, event, ops.as_slice())?;
+    read_targets(values, ops.as_slice(), &mut after);
     Ok(Outcome {
         ts: event.ts,
         committed,
@@ -66,8 +66,14 @@ fn apply(alloc: Global, values: &mut Values, event: &Event<'_>) -> Result<Outcom
     })
 }
 
-/// Changes the values by an event, and says whether it committed.
-fn transact(alloc: Global, values: &mut Values, event: &Event<'_>) -> Result<bool, OutOfMemory>
+/// Changes the values by an event, which has these operations, and says whether it committed.
+fn transact(
+    alloc: Global,
+    values: &mut Values,
+    event: &Event<'_>,
+    ops: &[Op],
+) -> Result<bool, OutOfMemory>
+    requires ops { ops.now ≡ event.now.ops }
     requires event { IsTransaction (transaction_of event.now) }
     requires keys { HasKeysIn values.old.layout (transaction_of event.now) }
     ensures layout { values.new.layout ≡ values.old.layout }
@@ -77,7 +83,6 @@ fn transact(alloc: Global, values: &mut Values, event: &Event<'_>) -> Result<boo
         (contents values.new ≡ after (contents values.old) (transaction_of event.now)) }
     ensures refused { OnErr result (values.new ≡ values.old) }
 {
-    let ops = event.ops;
     match answers(alloc, values, ops)? {
         Some(answers) => {
             write(values, ops, answers.as_slice());

@@ -1,35 +1,27 @@
-ghost use Rattle.std.specs.Prelude.{◌≡◌, ℕ, ◌+◌, ◌<◌, ◌≤◌, [], ◌∷◌, ◌++◌, length, take, drop, replicate, All};
+ghost use Rattle.std.specs.Prelude.{◌≡◌, ◌≢◌, ℕ, ◌+◌, ◌<◌, ◌≤◌, [], ◌∷◌, ◌++◌, length, map, take, drop, replicate, All};
 ghost use Rattle.std.specs.Prelude.{slice_set, slice_index_or, IfOk, IfSome};
 ghost use Rattle.morph_base.specs.declared.plan.Origin.TheVariants.{Base, Op as Written};
-ghost use Rattle.morph_base.specs.declared.limits.TheConstants.{MAX, PARAMS, READS};
+ghost use Rattle.morph_base.specs.declared.limits.TheConstants.{MAX, READS};
 ghost use Rattle.morph_base.specs.Functions.{value_of};
-ghost use Rattle.morph_base.specs.Operations.{reads, no_key, op_of, IsShaped};
-ghost use Rattle.morph_base.specs.Plans.{no_plan_op};
+ghost use Rattle.morph_base.specs.Flat.{contents};
+ghost use Rattle.morph_base.specs.Operations.{reads, no_key, no_op, InLayout, IsShaped};
+ghost use Rattle.morph_base.specs.OpRows.{keys_before, keys_kept};
+ghost use Rattle.morph_base.specs.Plans.{filled, no_plan_op};
 ghost use Rattle.morph_base.specs.Words.{finished};
-ghost use Rattle.morph_base.specs.OpParts.{origin_of, origins_in, row_of};
+ghost use Rattle.morph_base.specs.OpParts.{origin_of, origins_in};
+ghost use Rattle.morph_base.specs.OpFills.{AreKeysIn, AreFilled, IsFilled, kept_key};
 ghost use Rattle.morph_base.specs.OpLists.{with_origin, op_list, places_before};
 
-use crate::evaluation::eval_by;
 use crate::key::Key;
-use crate::limits::{PARAMS, READS};
+use crate::limits::READS;
 use crate::list::List;
 use crate::memory::OutOfMemory;
-use crate::operation::{Func, Op};
+use crate::op_rows::OpRows;
 use crate::plan::{Origin, PlanOp};
+use crate::values::Values;
 use crate::word::{OpState, OpWord};
 use std::alloc::Global;
 use std::marker::Model;
-
-/// What every operation has, in 16 bytes.
-#[derive(Clone, Copy, Debug)]
-struct OpHead {
-    c: u64,
-    /// Where its row begins in the lists of keys and of places.
-    place: u32,
-    func: Func,
-    /// How long the row is: how many places it reads.
-    reads: u8,
-}
 
 /// The number of an operation's event, and its level.
 #[derive(Clone, Copy, Debug)]
@@ -40,109 +32,86 @@ struct OpMark {
 
 /// The operations of a plan.
 ///
-/// Contracts see them as a list of [`PlanOp`], with the greatest value of each and the room that is left. They stand in
-/// five lists, in which an operation takes 24 bytes and 16 for each place that it reads, while a `PlanOp` has room for
-/// [`READS`] places. So a walk over a large plan moves a fifth of the memory.
+/// All of them are there from the start, without their events: contracts see as `coming` those whose event is still to
+/// be said, and as `items` the others, as a list of [`PlanOp`]. They stand in [`OpRows`], with 8 bytes more for each
+/// operation and 8 for each place that it reads, while a `PlanOp` has room for [`READS`] places. So a walk over a large
+/// plan moves a fifth of the memory.
 #[derive(Debug)]
 pub struct PlanOps {
-    heads: List<OpHead>,
+    rows: OpRows,
+    /// The marks of the first operations. The others are to come.
     marks: List<OpMark>,
-    /// By place, the key that is read there. The first of an operation's row is its target.
-    keys: List<Key>,
-    /// By place, the word of its source: a base value, or 2^63 and the number of an operation.
+    /// By place, the word of its source: a base value, or 2^63 and the number of an operation. An operation has as many
+    /// places as keys, one behind another.
     places: List<u64>,
-    /// The floors of operations. An operation past the end has the floor 0.
-    lows: List<u64>,
-    high: u64,
 }
 
 // Not derived: see "What costs" in docs/CONTRIBUTING.md.
 impl Drop for PlanOps {
     fn drop(self) {
         let PlanOps {
-            heads: _,
+            rows: _,
             marks: _,
-            keys: _,
             places: _,
-            lows: _,
-            high: _,
         } = self;
     }
 }
 
 impl Model for PlanOps {
-    ghost use Rattle.std.specs.Prelude.{ℕ, ◌+◌, ◌<◌, ◌≤◌, ◌≡◌, length};
     ghost use Rattle.morph_base.specs.OpLists.{OpList};
 
     ghost Value = { OpList };
 
-    ghost use Rattle.morph_base.specs.OpViews.{ops_of, AreOps};
+    ghost use Rattle.morph_base.specs.OpViews.{plan_ops_of, ArePlanOps};
 
-    ghost view = { ops_of };
+    ghost view = { plan_ops_of };
 
-    ghost invariant = { AreOps };
+    ghost invariant = { ArePlanOps };
 }
 
 impl PlanOps {
-    /// How many operations there are.
-    pub fn len(&self) -> usize
-        ensures { result ≡ length self.now.items }
-    {
-        self.heads.len()
-    }
-
-    /// No operation, with room for `ops` of them that read `places` places in all. Each will have the greatest value
-    /// `high`.
-    pub fn with_room(
-        alloc: Global,
-        ops: usize,
-        places: usize,
-        high: u64,
-    ) -> Result<Self, OutOfMemory>
-        requires { places < 4_294_967_296 }
-        ensures { IfOk result (λ list. list ≡ op_list [] high ops places) }
+    /// Operations of a valid shape, whose events are all still to be said.
+    pub fn of(alloc: Global, rows: &OpRows) -> Result<Self, OutOfMemory>
+        requires { All IsShaped rows.now }
+        ensures { IfOk result (λ list. list ≡ op_list [] rows.now) }
     {
         Ok(PlanOps {
-            heads: List::with_room(alloc, ops)?,
-            marks: List::with_room(alloc, ops)?,
-            keys: List::with_room(alloc, places)?,
-            places: List::with_room(alloc, places)?,
-            lows: List::with_room(alloc, ops)?,
-            high,
+            rows: rows.copied(alloc)?,
+            marks: List::with_room(alloc, rows.len())?,
+            places: List::filled(alloc, rows.key_count(), 0)?,
         })
     }
 
-    /// Appends an operation of a valid shape with its event, where there is room for it. It is at level 1, and its
-    /// sources are all `Base(0)`, for the caller to set.
-    pub fn add(&mut self, op: &Op, event: u32)
-        requires room { 0 < self.old.room }
-        requires spare { READS ≤ self.old.spare }
-        requires shaped { IsShaped op.now }
-        requires high { op.now.high ≡ self.old.high }
+    /// How many operations there are, but for those that are to come.
+    pub fn len(&self) -> usize
+        ensures { result ≡ length self.now.items }
+    {
+        self.marks.len()
+    }
+
+    /// Appends the next of the operations that are to come, with its event. It is at level 1, and its sources are all
+    /// `Base(0)`, for the caller to set.
+    pub fn add_next(&mut self, event: u32)
+        requires { 0 < length self.old.coming }
         ensures items { self.new.items ≡ self.old.items ++ record {
-          op = op.now;
+          op = slice_index_or self.old.coming 0 no_op;
           event = event;
           origins = replicate READS (Base 0);
           level = 1;
         } ∷ [] }
-        ensures high { self.new.high ≡ self.old.high }
-        ensures room { self.old.room ≡ self.new.room + 1 }
-        ensures spare { self.old.spare ≡ self.new.spare + length (reads op.now) }
+        ensures coming { self.new.coming ≡ drop 1 self.old.coming }
     {
-        let o = self.heads.len();
-        let place = self.places.len();
-        let n = usize::from(op.n_params);
-        self.keys.add(op.key);
-        self.places.add(0);
-        add_params(&mut self.keys, &mut self.places, keys_used(&op.params, n));
-        add_floor(&mut self.lows, o, op.low);
-        self.heads.add(OpHead {
-            c: op.c,
-            place: place as u32,
-            func: op.func,
-            reads: op.n_params + 1,
-        });
         self.marks.add(OpMark { event, level: 1 });
+    }
+
+    /// Replaces each base by the value of the key that is read there. Sources that are operations stay.
+    pub fn fill_bases(&mut self, values: &Values)
+        requires { All (λ q. All (InLayout values.now.layout) (reads q.op)) self.old.items }
+        ensures { self.new
+            ≡ record self.old { items = map (filled (contents values.now)) self.old.items } }
+    {
+        let end = self.all_places();
+        fill_words(&self.rows, &mut self.places, end, values);
     }
 
     /// An operation, put together from its parts. It is large: the calls below read one part alone.
@@ -150,15 +119,11 @@ impl PlanOps {
         requires { o < length self.now.items }
         ensures { result ≡ slice_index_or self.now.items o no_plan_op }
     {
-        let head = self.heads.get(o);
         let mark = self.marks.get(o);
-        let keys = row_of(&self.keys, *head);
-        let words = row_of(&self.places, *head);
-        let low = floor_at(&self.lows, o);
         PlanOp {
-            op: op_in(*head, keys).limited(low, self.high),
+            op: self.rows.get(o),
             event: mark.event,
-            origins: origins_in(words),
+            origins: self.origins(o),
             level: mark.level,
         }
     }
@@ -174,9 +139,7 @@ impl PlanOps {
         ensures within { All (λ x. x ≤ (slice_index_or self.now.items o no_plan_op).op.high) xs.now
             → IfSome result (λ v. v ≤ (slice_index_or self.now.items o no_plan_op).op.high) }
     {
-        let head = self.heads.get(o);
-        let low = floor_at(&self.lows, o);
-        eval_by(head.func, head.c, [low, self.high], xs)
+        self.rows.eval(o, xs)
     }
 
     /// The word that an attempt at an operation leaves, as [`evaluate`](crate::evaluate) says.
@@ -222,15 +185,20 @@ impl PlanOps {
         ensures some { 0 < result }
         ensures few { result ≤ READS }
     {
-        usize::from(self.heads.get(o).reads)
+        self.rows.width(o)
     }
 
-    /// How many places all operations read.
+    /// How many places all operations read, but for those that are to come.
     pub fn all_places(&self) -> usize
         ensures count { result ≡ places_before self.now.items (length self.now.items) }
         ensures few { result < 4_294_967_296 }
     {
-        self.places.len()
+        let next = self.marks.len();
+        if next < self.rows.len() {
+            self.rows.place(next)
+        } else {
+            self.rows.key_count()
+        }
     }
 
     /// How many places the operations before this one read.
@@ -239,7 +207,7 @@ impl PlanOps {
         ensures count { result ≡ places_before self.now.items o }
         ensures few { result < 4_294_967_296 }
     {
-        self.heads.get(o).place as usize
+        self.rows.place(o)
     }
 
     /// The target of an operation.
@@ -247,8 +215,7 @@ impl PlanOps {
         requires { o < length self.now.items }
         ensures { result ≡ (slice_index_or self.now.items o no_plan_op).op.key }
     {
-        let place = self.heads.get(o).place as usize;
-        *self.keys.get(place)
+        self.rows.key(o, 0)
     }
 
     /// The key that the operation reads at a place.
@@ -257,8 +224,7 @@ impl PlanOps {
         requires place { j < length (reads (slice_index_or self.now.items o no_plan_op).op) }
         ensures { result ≡ slice_index_or (reads (slice_index_or self.now.items o no_plan_op).op) j no_key }
     {
-        let place = self.heads.get(o).place as usize;
-        *self.keys.get(place + j)
+        self.rows.key(o, j)
     }
 
     /// The source of a place that the operation reads.
@@ -267,7 +233,7 @@ impl PlanOps {
         requires place { j < length (reads (slice_index_or self.now.items o no_plan_op).op) }
         ensures { result ≡ slice_index_or (slice_index_or self.now.items o no_plan_op).origins j (Base 0) }
     {
-        let place = self.heads.get(o).place as usize;
+        let place = self.rows.place(o);
         origin_of(*self.places.get(place + j))
     }
 
@@ -276,21 +242,8 @@ impl PlanOps {
         requires { o < length self.now.items }
         ensures { result ≡ (slice_index_or self.now.items o no_plan_op).origins }
     {
-        let head = self.heads.get(o);
-        origins_in(row_of(&self.places, *head))
-    }
-
-    /// Replaces the source of a place by a base value.
-    pub fn set_base(&mut self, o: usize, j: usize, value: u64)
-        requires inside { o < length self.old.items }
-        requires place { j < length (reads (slice_index_or self.old.items o no_plan_op).op) }
-        requires small { value ≤ MAX }
-        ensures { self.new ≡ record self.old {
-          items = slice_set self.old.items o
-              (with_origin (slice_index_or self.old.items o no_plan_op) j (Base value));
-        } }
-    {
-        self.set_word(o, j, value);
+        let place = self.rows.place(o);
+        origins_in(row_of(&self.places, place, self.rows.width(o)))
     }
 
     /// Replaces the source of a place by an operation.
@@ -302,20 +255,8 @@ impl PlanOps {
               (with_origin (slice_index_or self.old.items o no_plan_op) j (Written source));
         } }
     {
-        self.set_word(o, j, word_of(source));
-    }
-
-    /// Replaces the source of a place by the one that a word names.
-    fn set_word(&mut self, o: usize, j: usize, word: u64)
-        requires inside { o < length self.old.items }
-        requires place { j < length (reads (slice_index_or self.old.items o no_plan_op).op) }
-        ensures { self.new ≡ record self.old {
-          items = slice_set self.old.items o
-              (with_origin (slice_index_or self.old.items o no_plan_op) j (origin_of word));
-        } }
-    {
-        let place = self.heads.get(o).place as usize;
-        self.places.set(place + j, word);
+        let place = self.rows.place(o);
+        self.places.set(place + j, word_of(source));
     }
 
     /// Replaces the level of an operation.
@@ -342,16 +283,6 @@ fn origin_of(word: u64) -> Origin
     }
 }
 
-/// The first `n` of an operation's parameters. The contract also says how long the array is, since a proof does not
-/// know the length of an array inside a struct.
-fn keys_used(params: &[Key; PARAMS], n: usize) -> &[Key]
-    requires { n ≤ PARAMS }
-    ensures front { result.now ≡ take n params.now }
-    ensures whole { length params.now ≡ PARAMS }
-{
-    &params[..n]
-}
-
 /// The word of a source that is an operation.
 fn word_of(source: u32) -> u64
     ensures { origin_of result ≡ Written source }
@@ -359,62 +290,42 @@ fn word_of(source: u32) -> u64
     9_223_372_036_854_775_808 + u64::from(source)
 }
 
-/// Appends the keys of parameters where there is room, and for the source of each the word of `Base(0)`.
-fn add_params(keys: &mut List<Key>, places: &mut List<u64>, params: &[Key])
-    requires room { length params.now ≤ keys.old.room }
-    requires spare { length params.now ≤ places.old.room }
-    ensures keys { keys.new.items ≡ keys.old.items ++ params.now }
-    ensures places { places.new.items ≡ places.old.items ++ replicate (length params.now) 0 }
-    ensures room { keys.old.room ≡ keys.new.room + length params.now }
-    ensures spare { places.old.room ≡ places.new.room + length params.now }
+/// The `width` words from a place on.
+fn row_of(places: &List<u64>, place: usize, width: usize) -> &[u64]
+    requires { place + width ≤ length places.now.items }
+    ensures { result.now ≡ take width (drop place places.now.items) }
 {
-    for key in params {
-        keys.add(*key);
-        places.add(0);
+    &places.as_slice()[place..place + width]
+}
+
+/// Replaces the words of the first `end` places that are bases by the values of the keys that are read there.
+fn fill_words(rows: &OpRows, places: &mut List<u64>, end: usize, values: &Values)
+    requires rows { end ≤ keys_before rows.now (length rows.now) }
+    requires places { end ≤ length places.old.items }
+    requires keys { AreKeysIn values.now.layout rows.now end }
+    ensures filled { AreFilled (contents values.now) rows.now end places.old.items places.new.items }
+{
+    'places: for place in 0..end {
+        fill_word(rows, places, place, values);
     }
 }
 
-/// Appends the floor of operation `o`. A floor of 0 takes no memory.
-fn add_floor(lows: &mut List<u64>, o: usize, low: u64)
-    requires short { length lows.old.items ≤ o }
-    requires room { o < lows.old.room + length lows.old.items }
-    ensures short { length lows.new.items ≤ o + 1 }
-    ensures room { lows.new.room + length lows.new.items ≡ lows.old.room + length lows.old.items }
-    ensures others { (k : ℕ) → k < o → slice_index_or lows.new.items k 0 ≡ slice_index_or lows.old.items k 0 }
-    ensures own { slice_index_or lows.new.items o 0 ≡ low }
+/// Replaces the word at a place, if it is a base, by the value of the key that is read there.
+fn fill_word(rows: &OpRows, places: &mut List<u64>, place: usize, values: &Values)
+    requires rows { place < keys_before rows.now (length rows.now) }
+    requires places { place < length places.old.items }
+    requires keys { AreKeysIn values.now.layout rows.now (place + 1) }
+    ensures length { length places.new.items ≡ length places.old.items }
+    ensures others { (k : ℕ) → k ≢ place
+        → slice_index_or places.new.items k 0 ≡ slice_index_or places.old.items k 0 }
+    ensures filled { (o j : ℕ) → o < length rows.now
+        → j < keys_kept (slice_index_or rows.now o no_op) → place ≡ keys_before rows.now o + j
+        → IsFilled (contents values.now) (kept_key rows.now o j)
+        (slice_index_or places.old.items place 0) (slice_index_or places.new.items place 0) }
 {
-    if low > 0 {
-        while lows.len() < o {
-            lows.add(0);
-        }
-        lows.add(low);
+    if let Origin::Base(_) = origin_of(*places.get(place)) {
+        places.set(place, values.get(rows.key_at(place)));
     }
-}
-
-/// The floor of operation `o`, which is 0 past the end of the list.
-fn floor_at(lows: &List<u64>, o: usize) -> u64
-    ensures { result ≡ slice_index_or lows.now.items o 0 }
-{
-    if o < lows.len() { *lows.get(o) } else { 0 }
-}
-
-/// The row of an operation in a list that has the rows of all.
-fn row_of<T>(list: &List<T>, head: OpHead) -> &[T]
-    requires { head.place + head.reads ≤ length list.now.items }
-    ensures { result.now ≡ row_of head list.now.items }
-{
-    let place = head.place as usize;
-    let end = place + usize::from(head.reads);
-    &list.as_slice()[place..end]
-}
-
-/// The operation of version 1 with these keys.
-fn op_in(head: OpHead, keys: &[Key]) -> Op
-    requires some { 0 < length keys.now }
-    requires few { length keys.now ≤ READS }
-    ensures { result ≡ op_of head.func (slice_index_or keys.now 0 no_key) (drop 1 keys.now) head.c }
-{
-    Op::new(head.func, keys[0], &keys[1..], head.c)
 }
 
 /// The sources that words name, in an operation's places.

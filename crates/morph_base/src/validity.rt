@@ -9,6 +9,7 @@ use crate::batch::Batch;
 use crate::event::Event;
 use crate::key::{Key, Layout};
 use crate::limits::{EVENT_OPS, EVENTS, FIRST_MAX, LATEST, MAX, READS};
+use crate::op_span::OpSpan;
 use crate::operation::Op;
 
 impl Batch {
@@ -67,30 +68,45 @@ fn high_of(batch: &Batch) -> u64
     if batch.is_empty() {
         return MAX;
     }
-    match batch.event(0).ops {
-        [] => MAX,
-        [op, ..] => op.high,
-    }
+    let ops = batch.event(0).ops;
+    if ops.is_empty() { MAX } else { ops.get(0).high }
 }
 
 /// Whether all operations of an event have this greatest value.
 fn has_high(event: &Event<'_>, high: u64) -> bool
     ensures { IsTrue result ↔ HasHigh high (transaction_of event.now) }
 {
-    event.ops.iter().all(|op| op.high == high)
+    'ops: for i in 0..event.ops.len() {
+        if event.ops.get(i).high != high {
+            return false;
+        }
+    }
+    true
 }
 
 /// Whether an event is valid.
 fn is_transaction(event: &Event<'_>) -> bool
     ensures { IsTrue result ↔ IsTransaction (transaction_of event.now) }
 {
-    let ops = event.ops;
+    let ops = &event.ops;
     0 < event.ts
         && event.ts <= LATEST
         && !ops.is_empty()
         && ops.len() <= EVENT_OPS
-        && ops.iter().all(|op| is_shaped(op))
+        && are_shaped(ops)
         && targets_differ(ops)
+}
+
+/// Whether all operations have a valid shape.
+fn are_shaped(ops: &OpSpan<'_>) -> bool
+    ensures { IsTrue result ↔ All IsShaped ops.now }
+{
+    'ops: for i in 0..ops.len() {
+        if !is_shaped(&ops.get(i)) {
+            return false;
+        }
+    }
+    true
 }
 
 /// Whether an operation has a valid shape.
@@ -129,22 +145,28 @@ fn is_no_key(key: &Key) -> bool
 }
 
 /// Whether the targets of some operations differ.
-fn targets_differ(ops: &[Op]) -> bool
+fn targets_differ(ops: &OpSpan<'_>) -> bool
     ensures { IsTrue result ↔ IsDistinct same_key (map (λ op. op.key) ops.now) }
 {
-    for (i, op) in ops.iter().enumerate() {
-        if has_target(&ops[..i], op.key) {
+    'ops: for i in 0..ops.len() {
+        if has_target(ops, i, ops.get(i).key) {
             return false;
         }
     }
     true
 }
 
-/// Whether one of the operations changes the key.
-fn has_target(ops: &[Op], key: Key) -> bool
-    ensures { result ≡ list_any (same_key key) (map (λ op. op.key) ops.now) }
+/// Whether one of the first `count` operations changes the key.
+fn has_target(ops: &OpSpan<'_>, count: usize, key: Key) -> bool
+    requires { count ≤ length ops.now }
+    ensures { result ≡ list_any (same_key key) (map (λ op. op.key) (take count ops.now)) }
 {
-    ops.iter().map(|op| op.key).any(|target| key == target)
+    'ops: for i in 0..count {
+        if ops.get(i).key == key {
+            return true;
+        }
+    }
+    false
 }
 
 /// Whether the times of the events differ.
@@ -176,7 +198,12 @@ fn has_time(batch: &Batch, count: usize, ts: u64) -> bool
 fn has_keys_in(event: &Event<'_>, layout: Layout) -> bool
     ensures { IsTrue result ↔ HasKeysIn layout (transaction_of event.now) }
 {
-    event.ops.iter().all(|op| reads_in(op, layout))
+    'ops: for i in 0..event.ops.len() {
+        if !reads_in(&event.ops.get(i), layout) {
+            return false;
+        }
+    }
+    true
 }
 
 /// Whether all keys that the operation reads are in the layout.

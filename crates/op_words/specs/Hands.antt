@@ -34,7 +34,7 @@ abbrev pub no_plan : Plan
 no_plan =
     record {
       events = record { items = []; room = 0 };
-      ops = op_list [] 0 0 0;
+      ops = op_list [] [];
       op_levels = record { items = []; room = 0 };
       event_levels = record { items = []; room = 0 };
       edges = record { temporal = 0; parametric = 0; logical = 0 };

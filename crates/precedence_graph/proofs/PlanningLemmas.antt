@@ -1,7 +1,7 @@
 -- An operation of an event, which is planned after those before it: its sources, and their levels.
 use Rattle.std.proofs.Common.{◌≡◌, ℕ, ◌+◌, ◌<◌, ◌≤◌, List, [], ◌∷◌, ◌++◌, cond, length, get_or, take, drop, map, sym, ap, subst, ◌∙◌, arith}
 use Rattle.std.specs.Prelude.{max, All, count_by}
-use Rattle.std.proofs.lemmas.List.{map-append, append-nil, drop-append-le}
+use Rattle.std.proofs.lemmas.List.{map-append, append-nil, length-drop, get_or-drop, drop-append-le}
 use Rattle.std.proofs.lemmas.Grind.{flat_map-append}
 use Rattle.std.proofs.lemmas.List.Elements.{All-map}
 use Rattle.std.proofs.lemmas.List.Sums.{sum_by_push}
@@ -13,16 +13,29 @@ use Rattle.morph_base.specs.declared.plan.PlanOp.{PlanOp}
 use Rattle.morph_base.specs.Operations.{reads}
 use Rattle.morph_base.specs.Numbering.{IsWithin}
 use Rattle.morph_base.specs.Sources.{IsSource}
-use Rattle.morph_base.specs.Plans.{no_plan_op}
+use Rattle.morph_base.specs.OpLists.{OpList}
+use Rattle.morph_base.specs.Plans.{no_op, no_plan_op}
 use Rattle.morph_base.specs.Graphs.{greatest, is_written, level_of}
 use Rattle.morph_base.proofs.LevelLaws.{greatest-append}
 use Rattle.txn_splitter.specs.declared.txns.Txns.{Txns}
-use Rattle.txn_splitter.specs.Txns.{IsTxns, txn_count, txn_op_count, txn_at, txn_op_at, txn_of, txn_target}
+use Rattle.txn_splitter.specs.Txns.{IsTxns, txn_ops, txn_count, txn_op_count, txn_at, txn_op_at, txn_of, txn_target}
+use Rattle.txn_splitter.proofs.TxnLemmas.{txn_end}
 use Rattle.precedence_graph.specs.declared.writers.Writers.{Writers}
 use Rattle.precedence_graph.specs.Writers.{source_in, entered_level}
 use Rattle.precedence_graph.specs.Planned.{IsAmong, HasWriters, HasLevels, padded, sources_of, op_level_in, event_sources_of, targets_in, parameters_in, ArePlanned}
 use Rattle.precedence_graph.proofs.WriterLemmas.{among_first, source_at_event, base_zero}
 use Rattle.precedence_graph.proofs.PlannedLemmas.{IsAmong-more, take-padded, levels_low, levels_agree, planned_more}
+
+-- the next operation that comes is the one behind those that are planned
+pub next_is : (x : Txns) (list : OpList) (o : ℕ) → list.coming ≡ drop (length list.items) (txn_ops x) → length list.items ≡ o → get_or list.coming 0 no_op ≡ txn_op_at x o
+next_is x list o coming many =
+    let here : length list.items + 0 ≡ o = omega arith in
+    ap (λ ops. get_or ops 0 no_op) coming ∙ get_or-drop (length list.items) (txn_ops x) 0 no_op ∙ ap (txn_op_at x) here
+
+-- there is one as long as the event has more
+pub next_comes : (x : Txns) → IsTxns x → (i : ℕ) → i < txn_count x → (k : ℕ) → k < (txn_at x i).count → (list : OpList) → list.coming ≡ drop (length list.items) (txn_ops x)
+    → length list.items ≡ (txn_at x i).first + k → 0 < length list.coming
+next_comes x is i lt k less list coming many = omega (arith, ap length coming, length-drop (length list.items) (txn_ops x), txn_end x is i lt)
 
 module _ (x : Txns) (is : IsTxns x) (i : ℕ) (lt : i < txn_count x) (writers : Writers) (has : HasWriters x (txn_at x i).first writers) (o : ℕ) (within : IsWithin (txn_at x i).first (txn_at x i).count o) (ops : List PlanOp) (done : ArePlanned x o ops) where
   abbrev pub find : Key → Origin

@@ -1,7 +1,7 @@
-ghost use Rattle.std.specs.Prelude.{◌≡◌, ◌+◌, ◌*◌, ◌^◌, ◌<◌, ◌≤◌, ◌++◌, [], ◌∷◌, length, map, take, IfOk};
+ghost use Rattle.std.specs.Prelude.{◌≡◌, ◌+◌, ◌^◌, ◌<◌, ◌++◌, [], ◌∷◌, length, map, take, drop, IfOk};
+ghost use Rattle.std.specs.Prelude.{slice_index_or};
 ghost use Rattle.morph_base.specs.Graphs.{greatest, level_of};
-ghost use Rattle.morph_base.specs.Operations.{high_in, reads, IsShaped};
-ghost use Rattle.morph_base.specs.OpLists.{op_list};
+ghost use Rattle.morph_base.specs.Operations.{no_op, reads, IsShaped};
 ghost use Rattle.txn_splitter.specs.Txns.{IsTxns, txn_ops, txn_count, txn_op_count, txn_at};
 ghost use Rattle.precedence_graph.specs.Planned.{HasWriters, HasLevels, HasEventLevels, IsWrittenOf};
 ghost use Rattle.precedence_graph.specs.Planned.{ArePlanned, AreEventsPlanned, IsSumOf, event_sources_of};
@@ -12,7 +12,7 @@ use crate::edges::Written;
 use crate::sources::{Reads, set_sources};
 use crate::transactions::event_at;
 use crate::writers::Writers;
-use morph_base::{List, MAX, Op, OutOfMemory, PlanEvent, PlanOps, READS};
+use morph_base::{List, OutOfMemory, PlanEvent, PlanOps};
 use std::alloc::Global;
 use txn_splitter::{TxnEvent, Txns};
 
@@ -35,7 +35,7 @@ pub fn plan_transactions(alloc: Global, txns: &Txns<'_>) -> Result<Planned, OutO
     ensures written { IfOk result (λ planned. IsWrittenOf planned.ops.items planned.written) }
 {
     let mut writers = Writers::new(alloc, txns.op_count())?;
-    let mut ops = room_for_ops(alloc, txns)?;
+    let mut ops = PlanOps::of(alloc, txns.ops())?;
     let mut events = List::with_room(alloc, txns.len())?;
     let mut written = Written {
         targets: 0,
@@ -74,14 +74,10 @@ fn plan_event_ops(
     requires event { i < txn_count txns.now }
     requires writers { HasWriters txns.now (txn_at txns.now i).first writers.now }
     requires levels { HasLevels ops.old.items (txn_at txns.now i).first writers.now }
-    requires room { length ops.old.items + ops.old.room ≡ txn_op_count txns.now }
-    requires spare { READS * ops.old.room ≤ ops.old.spare }
-    requires high { ops.old.high ≡ high_in (txn_ops txns.now) }
+    requires coming { ops.old.coming ≡ drop (length ops.old.items) (txn_ops txns.now) }
     requires planned { ArePlanned txns.now (txn_at txns.now i).first ops.old.items }
     requires written { IsWrittenOf ops.old.items written.old }
-    ensures room { length ops.new.items + ops.new.room ≡ txn_op_count txns.now }
-    ensures spare { READS * ops.new.room ≤ ops.new.spare }
-    ensures high { ops.new.high ≡ high_in (txn_ops txns.now) }
+    ensures coming { ops.new.coming ≡ drop (length ops.new.items) (txn_ops txns.now) }
     ensures planned { ArePlanned txns.now
         ((txn_at txns.now i).first + (txn_at txns.now i).count) ops.new.items }
     ensures kept { take (txn_at txns.now i).first ops.new.items ≡ ops.old.items }
@@ -90,8 +86,8 @@ fn plan_event_ops(
     ensures written { IsWrittenOf ops.new.items written.new }
 {
     let mut most: u32 = 0;
-    for op in txns.ops(i) {
-        let reads = add_planned(ops, op, i as u32, writers);
+    for _ in 0..event_at(txns, i).count {
+        let reads = add_planned(ops, i as u32, writers);
         most = most.max(reads.event_level);
         written.targets += u64::from(reads.target);
         written.parameters += u64::from(reads.parameters);
@@ -99,52 +95,26 @@ fn plan_event_ops(
     most
 }
 
-/// Appends an operation of an event with its sources and its level, and returns what is known of the sources.
-fn add_planned(ops: &mut PlanOps, op: &Op, event: u32, writers: &Writers) -> Reads
-    requires shaped { IsShaped op.now }
-    requires room { 0 < ops.old.room }
-    requires spare { READS * ops.old.room ≤ ops.old.spare }
-    requires high { op.now.high ≡ ops.old.high }
+/// Appends the next operation, of this event, with its sources and its level. Returns what is known of the sources.
+fn add_planned(ops: &mut PlanOps, event: u32, writers: &Writers) -> Reads
+    requires coming { 0 < length ops.old.coming }
+    requires shaped { IsShaped (slice_index_or ops.old.coming 0 no_op) }
     requires low { 1 + greatest (map (level_of (entered_level writers.now))
-        (map (source_in writers.now) (reads op.now))) < 2 ^ 32 }
-    ensures room { ops.old.room ≡ ops.new.room + 1 }
-    ensures spare { READS * ops.new.room ≤ ops.new.spare }
-    ensures high { ops.new.high ≡ ops.old.high }
+        (map (source_in writers.now) (reads (slice_index_or ops.old.coming 0 no_op)))) < 2 ^ 32 }
+    ensures coming { ops.new.coming ≡ drop 1 ops.old.coming }
     ensures items { ops.new.items ≡ ops.old.items ++ record {
-      op = op.now;
+      op = slice_index_or ops.old.coming 0 no_op;
       event = event;
-      origins = padded (map (source_in writers.now) (reads op.now));
+      origins = padded (map (source_in writers.now) (reads (slice_index_or ops.old.coming 0 no_op)));
       level = 1 + result.level;
     } ∷ [] }
-    ensures sums { IsSumOf writers.now op.now result }
+    ensures sums { IsSumOf writers.now (slice_index_or ops.old.coming 0 no_op) result }
 {
     let o = ops.len();
-    ops.add(op, event);
-    let reads = set_sources(ops, o, op, writers);
+    ops.add_next(event);
+    let reads = set_sources(ops, o, writers);
     ops.set_level(o, 1 + reads.level);
     reads
-}
-
-/// No operation, with room for those of the transactions.
-fn room_for_ops(alloc: Global, txns: &Txns<'_>) -> Result<PlanOps, OutOfMemory>
-    requires { IsTxns txns.now }
-    ensures { IfOk result (λ ops. ops ≡ op_list [] (high_in (txn_ops txns.now))
-        (txn_op_count txns.now) (READS * txn_op_count txns.now)) }
-{
-    let count = txns.op_count();
-    PlanOps::with_room(alloc, count, READS * count, greatest_value(txns))
-}
-
-/// The greatest value of all operations.
-fn greatest_value(txns: &Txns<'_>) -> u64
-    requires { IsTxns txns.now }
-    ensures { result ≡ high_in (txn_ops txns.now) }
-{
-    if txns.len() == 0 {
-        MAX
-    } else {
-        txns.ops(0)[0].high
-    }
 }
 
 /// Enters the operations of event `i` as writers, each with its level and that of the event.

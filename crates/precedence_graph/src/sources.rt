@@ -8,7 +8,7 @@ ghost use Rattle.precedence_graph.specs.Writers.{source_in};
 
 use crate::edges::written_count;
 use crate::writers::Writers;
-use morph_base::{Op, Origin, PlanOps};
+use morph_base::{Origin, PlanOps};
 
 /// What is known of the sources of an operation.
 #[derive(Clone, Copy, Debug, PartialEq, Eq)]
@@ -25,27 +25,26 @@ pub struct Reads {
 
 /// Sets the sources of operation `o`, its target's first, once the operations of the events before its own are
 /// entered. It has none yet. Returns what is known of them.
-pub fn set_sources(ops: &mut PlanOps, o: usize, op: &Op, writers: &Writers) -> Reads
+pub fn set_sources(ops: &mut PlanOps, o: usize, writers: &Writers) -> Reads
     requires inside { o < length ops.old.items }
-    requires same { (planned ops.old.items o).op ≡ op.now }
-    requires shaped { IsShaped op.now }
+    requires shaped { IsShaped (planned ops.old.items o).op }
     requires blank { (planned ops.old.items o).origins ≡ replicate READS (Base 0) }
     ensures ops { ops.new ≡ record ops.old {
       items = slice_set ops.old.items o
           (record (planned ops.old.items o) {
-            origins = padded (map (source_in writers.now) (reads op.now));
+            origins = padded (map (source_in writers.now) (reads (planned ops.old.items o).op));
           });
     } }
-    ensures sums { IsSumOf writers.now op.now result }
+    ensures sums { IsSumOf writers.now (planned ops.old.items o).op result }
 {
-    let target = writers.source(op.key);
+    let target = writers.source(ops.key(o));
     set_written(ops, o, 0, target.origin);
     let mut level = target.level;
     let mut event_level = target.event_level;
     let mut parameters: u32 = 0;
-    for j in 0..op.n_params as usize {
-        let source = writers.source(op.params[j]);
-        set_written(ops, o, j + 1, source.origin);
+    for j in 1..ops.places(o) {
+        let source = writers.source(ops.read_key(o, j));
+        set_written(ops, o, j, source.origin);
         level = level.max(source.level);
         event_level = event_level.max(source.event_level);
         parameters += written_count(source.origin);

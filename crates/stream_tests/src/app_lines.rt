@@ -25,6 +25,19 @@ fn said<A: EventApp>(
     Ok((ts, ops))
 }
 
+/// Whether an event's operations are these.
+fn are_same(found: &EventOps, ops: &[Op]) -> bool {
+    if found.len() != ops.len() {
+        return false;
+    }
+    for i in 0..ops.len() {
+        if found.get(i) != ops[i] {
+            return false;
+        }
+    }
+    true
+}
+
 /// The timestamp of a line's event, the number of its operations, and whether they are the given ones; nothing of a
 /// line that is refused.
 pub(crate) fn told<A: EventApp>(
@@ -36,7 +49,7 @@ pub(crate) fn told<A: EventApp>(
     ops: &[Op],
 ) -> Option<(u64, usize, bool)> {
     match said(alloc, app, line, size, version) {
-        Ok((ts, found)) => Some((ts, found.as_slice().len(), found.as_slice() == ops)),
+        Ok((ts, found)) => Some((ts, found.len(), are_same(&found, ops))),
         Err(_) => None,
     }
 }

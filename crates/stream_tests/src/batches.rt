@@ -89,8 +89,11 @@ fn first_version(
 /// Whether all operations of a batch have this greatest value.
 fn are_limited_by(batch: &Batch, high: u64) -> bool {
     for i in 0..batch.len() {
-        if batch.event(i).ops.iter().any(|op| op.high != high) {
-            return false;
+        let event = batch.event(i);
+        for o in 0..event.ops.len() {
+            if event.ops.get(o).high != high {
+                return false;
+            }
         }
     }
     true

@@ -1,5 +1,5 @@
 -- The transactions of a valid batch by time: as many, as valid, and each later than those before it.
-use Rattle.std.proofs.Common.{◌≡◌, ℕ, ◌<◌, ◌≤◌, List, [], length, get_or, map, nat_eq, sym, ap, ◌∙◌, arith}
+use Rattle.std.proofs.Common.{◌≡◌, ℕ, ◌<◌, ◌≤◌, List, length, get_or, map, nat_eq, sym, ap, ◌∙◌, arith}
 use Rattle.std.specs.Prelude.{All}
 use Rattle.std.specs.List.{IsDistinct}
 use Rattle.std.specs.Cmp.{nat_eq_equiv}
@@ -37,12 +37,8 @@ module _ (ts : List Transaction) (is : IsBatchOf ts) where
       let differ : time (get_or es i d) ≡ time (get_or es j d) → ⊥ = λ e. apart (here ∙ e ∙ sym there) in
       omega arith
 
--- what stands for an event past the end of a list
-abbrev pub no_event : Event
-no_event = record { ts = 0; ops = record { ref_ptr = (0, 0); now = [] } }
-
 -- an event of the order is the transaction at its place
-pub order_at : (events items : List Event) (es : List Transaction) (i : ℕ) (event : Event) (d : Transaction) → items ≡ events → map transaction_of events ≡ es → i < length items → (i < length es) × (transaction_of (get_or items i event) ≡ get_or es i d)
-order_at events items es i event d same is lt =
+pub order_at : (events items : List Event) (es : List Transaction) (i : ℕ) (event : Event) → items ≡ events → map transaction_of events ≡ es → i < length items → event ≡ get_or items i event → (i < length es) × (transaction_of event ≡ get_or es i (transaction_of event))
+order_at events items es i event same is lt at =
     let inside : i < length events = omega (arith, ap length same) in
-    (omega (arith, ap length is, length-map events transaction_of), ap (λ xs. transaction_of (get_or xs i event)) same ∙ sym (get_or-map transaction_of events i event d inside) ∙ ap (λ xs. get_or xs i d) is)
+    (omega (arith, ap length is, length-map events transaction_of), ap transaction_of at ∙ ap (λ xs. transaction_of (get_or xs i event)) same ∙ sym (get_or-map transaction_of events i event (transaction_of event) inside) ∙ ap (λ xs. get_or xs i (transaction_of event)) is)

@@ -1,17 +1,11 @@
--- What the numbering of transactions gives: ranges and bounds, and where the operations of an event stand.
-use Rattle.std.proofs.Common.{◌≡◌, ℕ, suc, ◌+◌, ◌*◌, ◌<◌, ◌≤◌, List, [], length, get_or, take, drop, sym, ap, ◌∙◌, arith}
-use Rattle.std.proofs.lemmas.List.{length-take, length-drop, get_or-take, get_or-drop, get_or_default}
+-- What the numbering of transactions gives: ranges and bounds, and operations of valid shapes.
+use Rattle.std.proofs.Common.{◌≡◌, ℕ, suc, ◌+◌, ◌*◌, ◌<◌, ◌≤◌, All, sym, ap, subst, ◌∙◌, arith}
+use Rattle.std.proofs.lemmas.List.{get_or_default}
 use Rattle.morph_base.specs.declared.limits.TheConstants.{EVENT_OPS, EVENTS}
-use Rattle.morph_base.specs.declared.operation.Func.TheVariants.{Keep}
-use Rattle.morph_base.specs.declared.operation.Op.{Op}
-use Rattle.morph_base.specs.Operations.{no_key}
+use Rattle.morph_base.specs.Operations.{IsShaped}
 use Rattle.morph_base.specs.Plans.{no_op}
 use Rattle.morph_base.proofs.NumberLaws.{end_fits, count-small, first-zero, first-suc, first-end, none-end}
-use Rattle.txn_splitter.specs.Txns.{NumberedTxns, IsTxns, txn_count, txn_ops, txn_op_count, txn_at, txn_op_at}
-
--- what stands for an operation past the end of a slice
-abbrev pub past_op : Op
-past_op = record { key = no_key; params = []; n_params = 0; func = Keep; c = 0; low = 0; high = 0 }
+use Rattle.txn_splitter.specs.Txns.{NumberedTxns, IsTxns, txn_count, txn_ops, txn_op_count, txn_at}
 
 module _ (x : NumberedTxns) (is : IsTxns x) where
   -- an event's operations are in range
@@ -36,18 +30,6 @@ module _ (x : NumberedTxns) (is : IsTxns x) where
   pub txn_none : txn_count x ≡ 0 → txn_op_count x ≡ 0
   txn_none none = none-end _ _ _ _ _ _ _ is.numbering none
 
-  -- the operations of an event are as many as it counts, and stand behind its first
-  pub length-txn_ops_of : (i : ℕ) → i < txn_count x
-      → length (take (txn_at x i).count (drop (txn_at x i).first (txn_ops x))) ≡ (txn_at x i).count
-  length-txn_ops_of i lt =
-      let end = txn_end i lt in
-      let behind : List Op = drop (txn_at x i).first (txn_ops x) in
-      omega (arith, length-take (txn_at x i).count behind, length-drop (txn_at x i).first (txn_ops x))
-
-  pub txn_op_of : (i k : ℕ) (d : Op) → i < txn_count x → k < (txn_at x i).count
-      → get_or (take (txn_at x i).count (drop (txn_at x i).first (txn_ops x))) k d ≡ txn_op_at x ((txn_at x i).first + k)
-  txn_op_of i k d lt less =
-      let end = txn_end i lt in
-      get_or-take (txn_at x i).count (drop (txn_at x i).first (txn_ops x)) k d less
-      ∙ get_or-drop (txn_at x i).first (txn_ops x) k d
-      ∙ get_or_default (txn_ops x) ((txn_at x i).first + k) d no_op (omega arith)
+  -- the operations have valid shapes
+  pub txn_ops_shaped : All IsShaped (txn_ops x)
+  txn_ops_shaped o d lt = subst IsShaped (sym (get_or_default (txn_ops x) o d no_op lt)) (is.numbering.shaped o lt)

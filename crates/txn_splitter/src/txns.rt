@@ -1,7 +1,7 @@
-ghost use Rattle.std.specs.Prelude.{◌≡◌, ◌<◌, length, take, drop, slice_index_or};
-ghost use Rattle.txn_splitter.specs.Txns.{no_txn, txn_at};
+ghost use Rattle.std.specs.Prelude.{◌≡◌, ◌<◌, length, slice_index_or};
+ghost use Rattle.txn_splitter.specs.Txns.{no_txn};
 
-use morph_base::{Event, List, Op};
+use morph_base::{List, OpRows};
 use std::marker::Model;
 
 /// An event of a split batch. Its operations are those numbered from `first` on, `count` of them.
@@ -15,24 +15,30 @@ pub struct TxnEvent {
     pub count: u32,
 }
 
-/// A batch cut into transactions: its events by rising timestamp. The operations stay in the batch.
+/// A batch cut into transactions: its events by rising timestamp. If they came in this order, the operations stay in the
+/// batch.
 ///
 /// Events and operations are numbered from 0, operations by event and then by operation order. Contracts see the
 /// events, the operations of all events in one list, and for each operation the number of its event.
 #[derive(Debug)]
 pub struct Txns<'a> {
     pub(crate) events: List<TxnEvent>,
-    /// The events of the batch by rising timestamp, with their operations.
-    pub(crate) order: Vec<Event<'a>>,
+    pub(crate) ops: TxnOps<'a>,
+}
+
+/// The operations of all events, one event after another.
+#[derive(Debug, Drop)]
+pub(crate) enum TxnOps<'a> {
+    /// Those of the batch, whose events came by rising timestamp.
+    Lent(&'a OpRows),
+    /// Copies in the order of the events.
+    Own(OpRows),
 }
 
 // Not derived: see "What costs" in docs/CONTRIBUTING.md.
 impl Drop for Txns<'_> {
     fn drop(self) {
-        let Txns {
-            events: _,
-            order: _,
-        } = self;
+        let Txns { events: _, ops: _ } = self;
     }
 }
 
@@ -41,11 +47,9 @@ impl<'a> Model for Txns<'a> {
 
     ghost Value = { NumberedTxns };
 
-    ghost use Rattle.txn_splitter.specs.TxnViews.{txns_of, AreTxns};
+    ghost use Rattle.txn_splitter.specs.TxnViews.{txns_of};
 
     ghost view = { txns_of };
-
-    ghost invariant = { AreTxns };
 }
 
 impl<'a> Txns<'a> {
@@ -64,24 +68,20 @@ impl<'a> Txns<'a> {
         *self.events.get(i)
     }
 
-    /// The operations of event `i`, in operation order.
-    pub fn ops(&self, i: usize) -> &'a [Op]
-        requires { i < length self.now.events }
-        ensures { result.now ≡ take (txn_at self.now i).count (drop (txn_at self.now i).first self.now.ops) }
+    /// The operations of all events, one event after another.
+    pub fn ops(&self) -> &OpRows
+        ensures { result.now ≡ self.now.ops }
     {
-        self.order[i].ops
+        match &self.ops {
+            TxnOps::Lent(rows) => rows,
+            TxnOps::Own(rows) => rows,
+        }
     }
 
     /// How many operations there are.
     pub fn op_count(&self) -> usize
         ensures { result ≡ length self.now.ops }
     {
-        let events = self.events.len();
-        if events == 0 {
-            0
-        } else {
-            let last = self.events.get(events - 1);
-            last.first as usize + last.count as usize
-        }
+        self.ops().len()
     }
 }

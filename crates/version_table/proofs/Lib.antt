@@ -1,4 +1,3 @@
-pub mod Filled
 pub mod Overwriting
 pub mod Versions
 pub mod Summing

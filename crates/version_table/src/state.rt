@@ -6,7 +6,6 @@ ghost use Rattle.morph_base.specs.Flat.{contents};
 ghost use Rattle.morph_base.specs.Plans.{IsPlan, high_of, HasBases, PlanKeysIn, IsSettledOf};
 ghost use Rattle.morph_base.specs.Plans.{event_count, event_at, event_of, op_count, target, state_at, filled_plan};
 
-use crate::fill::fill;
 use morph_base::{Key, Layout, OutOfMemory, Plan, Settled, Values};
 use std::alloc::Global;
 use std::marker::Model;
@@ -71,9 +70,7 @@ impl State {
         ensures plan { IsPlan plan.new }
         ensures bases { HasBases plan.new (contents self.now) }
     {
-        for o in 0..plan.ops.len() {
-            fill(&self.values, &mut plan.ops, o);
-        }
+        plan.ops.fill_bases(&self.values);
     }
 
     /// The value of a key after the plan's events with timestamps up to `ts`, as it was settled.

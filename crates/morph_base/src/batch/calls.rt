@@ -1,12 +1,16 @@
 ghost use Rattle.std.specs.Prelude.{◌≡◌, ◌<◌, ◌↔◌, ◌++◌, [], ◌∷◌, length, map, slice_index_or};
-ghost use Rattle.std.specs.Prelude.{IfOk, IsTrue, OnOk, OnErr};
+ghost use Rattle.std.specs.Prelude.{IfOk, IfSome, IsTrue, OnOk, OnErr};
+ghost use Rattle.std.specs.List.{flat_map};
 ghost use Rattle.morph_base.specs.Transactions.{transaction, transaction_of, transactions_of, no_transaction};
 ghost use Rattle.morph_base.specs.Transactions.{by_time, IsBatch};
 
 use super::{Batch, BatchRoom, EventHead};
 use crate::event::Event;
+use crate::event_ops::EventOps;
 use crate::list::List;
 use crate::memory::OutOfMemory;
+use crate::op_rows::OpRows;
+use crate::op_span::OpSpan;
 use crate::operation::Op;
 use std::alloc::Global;
 
@@ -22,7 +26,7 @@ impl Batch {
     {
         Batch {
             heads: List::new(alloc),
-            ops: List::new(alloc),
+            ops: OpRows::new(alloc),
         }
     }
 
@@ -32,7 +36,7 @@ impl Batch {
     {
         Ok(Batch {
             heads: List::with_room(alloc, room.events)?,
-            ops: List::with_room(alloc, room.ops)?,
+            ops: OpRows::with_room(alloc, room.ops, room.keys)?,
         })
     }
 
@@ -41,6 +45,7 @@ impl Batch {
         BatchRoom {
             events: a_quarter_more(self.heads.len()),
             ops: a_quarter_more(self.ops.len()),
+            keys: a_quarter_more(self.ops.key_count()),
         }
     }
 
@@ -69,7 +74,25 @@ impl Batch {
         self.heads.push(EventHead {
             ts,
             first,
-            count: ops.len(),
+            // Counted in the rows, so that the place behind the last one is known to fit into 64 bits.
+            count: self.ops.len() - first,
+        })?;
+        Ok(())
+    }
+
+    /// Appends an event, with a copy of its operations. If memory is refused, the batch has the events that it had.
+    pub fn push_event(&mut self, ts: u64, ops: &EventOps) -> Result<(), OutOfMemory>
+        ensures events { OnOk result (transactions_of self.new
+            ≡ transactions_of self.old ++ transaction ts ops.now ∷ []) }
+        ensures refused { OnErr result (transactions_of self.new ≡ transactions_of self.old) }
+    {
+        let first = self.ops.len();
+        self.ops.append(ops)?;
+        self.heads.push(EventHead {
+            ts,
+            first,
+            // Counted in the rows, so that the place behind the last one is known to fit into 64 bits.
+            count: self.ops.len() - first,
         })?;
         Ok(())
     }
@@ -82,8 +105,40 @@ impl Batch {
         let EventHead { ts, first, count } = *self.heads.get(i);
         Event {
             ts,
-            ops: &self.ops.as_slice()[first..first + count],
+            ops: OpSpan {
+                rows: &self.ops,
+                first,
+                count,
+            },
         }
+    }
+
+    /// The operations of all events by rising timestamp, if they stand in the batch in this order and nothing else stands
+    /// there. So it is if the events came in this order and no push was refused.
+    pub fn rising_ops(&self) -> Option<&OpRows>
+        requires { IsBatch self.now }
+        ensures { IfSome result (λ rows. rows.now
+            ≡ flat_map (λ e. e.ops) (by_time (transactions_of self.now))) }
+    {
+        let mut end = 0;
+        let mut latest = 0;
+        for head in self.heads.as_slice() {
+            if head.first != end || head.ts < latest {
+                return None;
+            }
+            end += head.count;
+            latest = head.ts;
+        }
+        if end == self.ops.len() {
+            Some(&self.ops)
+        } else {
+            None
+        }
+    }
+
+    /// The operations of all events, one event after another by their order of arrival, and perhaps some more.
+    pub fn ops(&self) -> &OpRows {
+        &self.ops
     }
 
     /// The events by rising timestamp.

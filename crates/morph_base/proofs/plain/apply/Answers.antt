@@ -1,5 +1,5 @@
 use mathlib.Core.List.{map-map}
-use Rattle.std.proofs.Common.{refl, ◌≡◌, ◌∙◌, sym, ap, map, ℕ, List, Bool}
+use Rattle.std.proofs.Common.{◌≡◌, ◌∙◌, sym, ap, map, ℕ, List, Bool}
 use Rattle.morph_base.specs.declared.operation.Op.{Op}
 use Rattle.morph_base.specs.Transactions.{Transaction, transaction_of}
 use Rattle.morph_base.specs.States.{State, commits, after}
@@ -20,5 +20,5 @@ fate_is s t e ops b vs same verdict state told =
 
 pub returns-clause-fate : goal.returns-clause-fate
 returns-clause-fate c =
-    fate_is (contents c.args.values.now) (contents c.transact.new.values) (transaction_of c.args.event.now) c.args.event.now.ops.now c.in_ok-committed.committed
-    c.read_targets.new.found.items refl c.in_ok-committed.ensures.committed c.in_ok-committed.ensures.state c.read_targets.ensures
+    fate_is (contents c.args.values.now) (contents c.transact.new.values) (transaction_of c.args.event.now) c.as_slice-2.result.now c.in_ok-committed.committed
+    c.read_targets.new.found.items (c.as_slice-2.ensures ∙ c.in_ok-ops.ensures) c.in_ok-committed.ensures.committed c.in_ok-committed.ensures.state c.read_targets.ensures

@@ -78,23 +78,29 @@ loop-event-init c =
 
 pub apply-requires-clause-event : goal.apply-requires-clause-event
 apply-requires-clause-event c =
-    holds_at IsTransaction (transactions_of c.args.batch.now) c.deref-event-items.result.now c.loop-event.event-index _
-    (ap (map seen) c.deref-event-items.ensures.value ∙ c.in_ok-events.ensures) c.requires.batch.valid c.loop-event-test.true
+    subst (λ (e : Event). IsTransaction (seen e)) (sym c.event-item.is)
+    (holds_at IsTransaction (transactions_of c.args.batch.now) c.deref-event-items.result.now c.loop-event.event-index c.event-item.result
+    (ap (map seen) c.deref-event-items.ensures.value ∙ c.in_ok-events.ensures) c.requires.batch.valid c.loop-event-test.true)
 
 pub apply-requires-clause-keys : goal.apply-requires-clause-keys
 apply-requires-clause-keys c =
     rw c.loop-event.invariant.layout
+    (subst (λ (e : Event). HasKeysIn c.args.values.now.layout (seen e)) (sym c.event-item.is)
     (holds_at (HasKeysIn c.args.values.now.layout) (transactions_of c.args.batch.now) c.deref-event-items.result.now c.loop-event.event-index
-    _ (ap (map seen) c.deref-event-items.ensures.value ∙ c.in_ok-events.ensures) c.requires.keys c.loop-event-test.true)
+    c.event-item.result (ap (map seen) c.deref-event-items.ensures.value ∙ c.in_ok-events.ensures) c.requires.keys c.loop-event-test.true))
 
 pub loop-event-preserved : goal.loop-event-preserved
 loop-event-preserved c =
     let s = contents c.args.values.now in
+    let t = contents c.loop-event.values in
+    let item = c.event-item.result in
+    let items = c.deref-event-items.result.now in
+    let i = c.loop-event.event-index in
     record {
       layout = c.in_ok-apply.ensures.layout ∙ c.loop-event.invariant.layout;
-      state = state-more s _ _ c.deref-event-items.result.now c.loop-event.event-index _ c.loop-event-test.true
-          c.loop-event.invariant.state c.in_ok-apply.ensures.state;
-      told = told-more s _ c.deref-event-items.result.now c.loop-event.event-index _ c.loop-event.outcomes.items _ c.in_ok-apply.field-0
-          c.loop-event-test.true c.loop-event.invariant.state c.loop-event.invariant.told c.in_ok-apply.ensures.fate c.add.ensures.items;
+      state = state-more s t (contents c.apply.new.values) items i item c.loop-event-test.true c.loop-event.invariant.state
+          (c.in_ok-apply.ensures.state ∙ ap (λ (e : Event). after t (seen e)) c.event-item.is);
+      told = told-more s t items i item c.loop-event.outcomes.items _ c.in_ok-apply.field-0 c.loop-event-test.true c.loop-event.invariant.state
+          c.loop-event.invariant.told (c.in_ok-apply.ensures.fate ∙ ap (λ (e : Event). fate t (seen e)) c.event-item.is) c.add.ensures.items;
       room = omega arith;
     }

@@ -1,4 +1,4 @@
-use Rattle.std.proofs.Common.{refl, ◌≡◌, sym, ap, subst, ◌∙◌, map, ℕ, List, true, unwrap_or}
+use Rattle.std.proofs.Common.{◌≡◌, sym, ap, subst, ◌∙◌, map, ℕ, List, true, unwrap_or}
 use Rattle.morph_base.specs.declared.operation.Op.{Op}
 use Rattle.morph_base.specs.Transactions.{Transaction, transaction_of}
 use Rattle.morph_base.specs.States.{State, answer, all_answer, after}
@@ -17,10 +17,10 @@ put_is_after s t e ops vs ws same all told kept put =
 pub returns-in-Some-clause-state : goal.returns-in-Some-clause-state
 returns-in-Some-clause-state c =
     let told = rw c.in-Some.is at c.in_ok-answers.ensures.answers in
-    put_is_after (contents c.args.values.now) _ (transaction_of c.args.event.now) c.args.event.now.ops.now c.in-Some.answers.items _
-    refl told.0 told.1 c.as_slice.ensures c.write.ensures.state
+    put_is_after (contents c.args.values.now) _ (transaction_of c.args.event.now) c.args.ops.now c.in-Some.answers.items _
+    c.requires.ops told.0 told.1 c.as_slice.ensures c.write.ensures.state
 
 pub returns-in-None-clause-state : goal.returns-in-None-clause-state
 returns-in-None-clause-state c =
     let told = rw c.in-None.is at c.in_ok-answers.ensures.answers in
-    sym (after-nothing (contents c.args.values.now) (transaction_of c.args.event.now) told)
+    sym (after-nothing (contents c.args.values.now) (transaction_of c.args.event.now) (ap (all_answer (contents c.args.values.now)) (sym c.requires.ops) ∙ told))

@@ -1,12 +1,13 @@
-use Rattle.std.proofs.Common.{◌≡◌, ℕ, ◌+◌, ◌<◌, ◌≤◌, List, [], ◌++◌, length, map, drop, zero-le, refl, sym, ap, subst, ◌∙◌, arith}
+use Rattle.std.proofs.Common.{◌≡◌, ℕ, ◌+◌, ◌<◌, ◌≤◌, List, [], ◌++◌, All, length, map, drop, zero-le, refl, sym, ap, subst, ◌∙◌, arith}
 use Rattle.std.proofs.lemmas.List.{take-append-drop}
 use Rattle.std.proofs.lemmas.List.Elements.{All-same, All-nil}
 use Rattle.morph_base.specs.declared.plan.PlanOp.{PlanOp}
 use Rattle.morph_base.specs.declared.plan.PlanEvent.{PlanEvent}
+use Rattle.morph_base.specs.Operations.{IsShaped}
 use Rattle.morph_base.specs.Sources.{IsSource}
 use Rattle.morph_base.specs.OpLists.{OpList}
-use Rattle.txn_splitter.specs.Txns.{txn_count, txn_at, txn_target}
-use Rattle.txn_splitter.proofs.TxnLemmas.{txn_start, txn_next, txn_last, txn_none, txn_ops_few}
+use Rattle.txn_splitter.specs.Txns.{txn_ops, txn_count, txn_at, txn_target}
+use Rattle.txn_splitter.proofs.TxnLemmas.{txn_start, txn_next, txn_last, txn_none, txn_ops_few, txn_ops_shaped}
 use Rattle.precedence_graph.specs.Planned.{HasWriters, HasLevels, HasEventLevels, txn_event, targets_in, parameters_in, ArePlanned, AreEventsPlanned}
 use Rattle.precedence_graph.proofs.EventLemmas.{EndBy, end_by_first, end_by_next, events_grow, events_many, events_more}
 use Rattle.precedence_graph.proofs.EnteredLemmas.{event_levels_kept, event_levels_next, most_is, most_low}
@@ -15,6 +16,9 @@ use Rattle.precedence_graph.proofs.planned.plan_transactions.Goals as goal
 
 pub new-requires : goal.new-requires
 new-requires c = omega (arith, c.op_count.ensures, txn_ops_few c.args.txns.now c.requires)
+
+pub of-requires : goal.of-requires
+of-requires c = subst (All IsShaped) (sym c.ops.ensures) (txn_ops_shaped c.args.txns.now c.requires)
 
 pub loop-i-init : goal.loop-i-init
 loop-i-init c =
@@ -25,9 +29,7 @@ loop-i-init c =
     record {
       start = λ some. none ∙ sym (txn_start x c.requires some);
       end = λ all. none ∙ sym (txn_none x c.requires (omega arith));
-      room = omega (arith, none, ap (λ (l : OpList). l.room) c.in_ok-ops.ensures);
-      spare = omega (arith, ap (λ (l : OpList). l.room) c.in_ok-ops.ensures, ap (λ (l : OpList). l.spare) c.in_ok-ops.ensures);
-      high = ap (λ (l : OpList). l.high) c.in_ok-ops.ensures;
+      coming = ap (λ (l : OpList). l.coming) c.in_ok-ops.ensures ∙ c.ops.ensures ∙ ap (λ n. drop n (txn_ops x)) (sym none);
       event_room = omega (arith, c.in_ok-events.ensures.room, c.len.ensures);
       planned = record { many = refl; each = λ o lt. absurd (omega arith); low = All-same (λ q. q.level ≤ length ops) ops [] empty (All-nil (λ q. q.level ≤ length ops)) };
       events = record {
@@ -98,9 +100,7 @@ loop-i-preserved c =
     record {
       start = λ next. many ∙ sym (txn_next x c.requires i next);
       end = λ all. many ∙ txn_last x c.requires i (omega arith);
-      room = c.plan_event_ops-most.ensures.room;
-      spare = c.plan_event_ops-most.ensures.spare;
-      high = c.plan_event_ops-most.ensures.high;
+      coming = c.plan_event_ops-most.ensures.coming;
       event_room = omega (arith, c.add.ensures.room, c.loop-i.invariant.event_room);
       planned = subst (λ n. ArePlanned x n ops) (sym many) done;
       events = subst (AreEventsPlanned x ops (i + 1)) (sym c.add.ensures.items)

@@ -1,6 +1,4 @@
-use Rattle.std.proofs.Common.{◌≡◌, ◌+◌, ◌*◌, ◌<◌, ◌≤◌, length}
-use Rattle.morph_base.specs.declared.limits.TheConstants.{READS}
-use Rattle.morph_base.specs.Operations.{high_in}
+use Rattle.std.proofs.Common.{◌≡◌, ◌+◌, ◌<◌, ◌≤◌, length, drop}
 use Rattle.txn_splitter.specs.Txns.{txn_ops, txn_count, txn_op_count, txn_at}
 use Rattle.precedence_graph.specs.Planned.{HasWriters, HasLevels, HasEventLevels, IsWrittenOf, ArePlanned, AreEventsPlanned}
 use Rattle.precedence_graph.proofs.planned.plan_transactions.Given as goal
@@ -9,9 +7,7 @@ abbrev pub invariant-loop-i : goal.invariant-loop-i
 invariant-loop-i l = record {
   start : l.i < txn_count l.txns → length l.ops.items ≡ (txn_at l.txns l.i).first;
   end : txn_count l.txns ≤ l.i → length l.ops.items ≡ txn_op_count l.txns;
-  room : length l.ops.items + l.ops.room ≡ txn_op_count l.txns;
-  spare : READS * l.ops.room ≤ l.ops.spare;
-  high : l.ops.high ≡ high_in (txn_ops l.txns);
+  coming : l.ops.coming ≡ drop (length l.ops.items) (txn_ops l.txns);
   event_room : l.events.room + l.i ≡ txn_count l.txns;
   planned : ArePlanned l.txns (length l.ops.items) l.ops.items;
   events : AreEventsPlanned l.txns l.ops.items l.i l.events.items;

@@ -5,6 +5,6 @@ use Rattle.morph_base.proofs.batch.Batch.is_empty.Goals as goal
 
 pub returns : goal.returns
 returns c = (
-  λ yes. ap (map (transaction_by c.args.self.now.ops.items)) (c.is_empty.ensures.0 yes),
-  λ none. c.is_empty.ensures.1 (map_empty (transaction_by c.args.self.now.ops.items) c.args.self.now.heads.items none),
+  λ yes. ap (map (transaction_by c.args.self.now.ops)) (c.is_empty.ensures.0 yes),
+  λ none. c.is_empty.ensures.1 (map_empty (transaction_by c.args.self.now.ops) c.args.self.now.heads.items none),
 )

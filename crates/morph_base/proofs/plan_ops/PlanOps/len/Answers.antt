@@ -1,9 +1,6 @@
-use Rattle.std.proofs.Common.{length, sym, ap, ◌∙◌}
-use Rattle.morph_base.specs.OpLists.{OpList}
-use Rattle.morph_base.proofs.OpPartLaws.{count_parts}
+use Rattle.std.proofs.Common.{sym, ◌∙◌}
+use Rattle.morph_base.proofs.OpViewLaws.{count_is}
 use Rattle.morph_base.proofs.plan_ops.PlanOps.len.Goals as goal
 
 pub returns : goal.returns
-returns c =
-    let s = c.self.inside in
-    c.len.ensures ∙ sym (count_parts s.heads.items s.marks.items s.keys.items s.places.items s.lows.items s.high) ∙ ap (λ (v : OpList). length v.items) c.self.view_is
+returns c = c.len.ensures ∙ sym (count_is c.self.inside c.args.self.now c.self.view_is c.self.invariant)

@@ -1,27 +1,15 @@
-use Rattle.std.proofs.Common.{◌≡◌, ℕ, ◌+◌, get_or, sym, ap, ◌∙◌, arith}
-use Rattle.morph_base.specs.declared.plan_ops.OpHead.{OpHead}
-use Rattle.morph_base.specs.OpParts.{no_head, head_at}
-use Rattle.morph_base.specs.Operations.{no_key}
-use Rattle.morph_base.proofs.OpViewLaws.{inner, read_key_is, inside_is}
+use Rattle.std.proofs.Common.{◌∙◌, arith}
+use Rattle.morph_base.proofs.OpViewLaws.{in_rows, kept_is, read_key_is}
 use Rattle.morph_base.proofs.plan_ops.PlanOps.read_key.Goals as goal
 
-pub get-requires : goal.get-requires
-get-requires c = inner c.self.inside c.args.self.now c.self.view_is c.self.invariant c.args.o c.requires.inside
+pub key-requires-clause-inside : goal.key-requires-clause-inside
+key-requires-clause-inside c = in_rows c.self.inside c.args.self.now c.self.view_is c.self.invariant c.args.o c.requires.inside
 
-pub overflow_add-place : goal.overflow_add-place
-overflow_add-place c =
-    let s = c.self.inside in
-    let head : c.get.result.now.place ≡ (head_at s.heads.items c.args.o).place = ap (λ (h : OpHead). h.place) (c.get.ensures.at no_head) in
-    omega (arith, head, inside_is s c.args.self.now c.self.view_is c.self.invariant c.args.o c.requires.inside c.args.j c.requires.place, c.self.invariant.fits)
-
-pub get-requires-2 : goal.get-requires-2
-get-requires-2 c =
-    let s = c.self.inside in
-    let head : c.get.result.now.place ≡ (head_at s.heads.items c.args.o).place = ap (λ (h : OpHead). h.place) (c.get.ensures.at no_head) in
-    omega (arith, head, inside_is s c.args.self.now c.self.view_is c.self.invariant c.args.o c.requires.inside c.args.j c.requires.place, c.self.invariant.parts.keyed)
+pub key-requires-clause-place : goal.key-requires-clause-place
+key-requires-clause-place c =
+    omega (arith, c.requires.place, kept_is c.self.inside c.args.self.now c.self.view_is c.self.invariant c.args.o c.requires.inside)
 
 pub returns : goal.returns
 returns c =
-    let s = c.self.inside in
-    let head : c.get.result.now.place + c.args.j ≡ (head_at s.heads.items c.args.o).place + c.args.j = omega (arith, ap (λ (h : OpHead). h.place) (c.get.ensures.at no_head)) in
-    c.get-2.ensures.at no_key ∙ ap (λ (i : ℕ). get_or s.keys.items i no_key) head ∙ sym (read_key_is s c.args.self.now c.self.view_is c.self.invariant c.args.o c.requires.inside c.args.j c.requires.place)
+    c.key.ensures
+    ∙ read_key_is c.self.inside c.args.self.now c.self.view_is c.self.invariant c.args.o c.requires.inside c.args.j c.requires.place

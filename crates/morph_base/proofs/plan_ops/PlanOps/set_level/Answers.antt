@@ -1,4 +1,4 @@
-use Rattle.std.proofs.Common.{◌≡◌, ◌<◌, length, sym, ap, ◌∙◌, arith}
+use Rattle.std.proofs.Common.{◌≡◌, sym, ap, ◌∙◌}
 use Rattle.std.specs.Prelude.{slice_index_or}
 use Rattle.morph_base.specs.declared.plan_ops.OpMark.{OpMark}
 use Rattle.morph_base.specs.Plans.{no_plan_op}
@@ -7,18 +7,10 @@ use Rattle.morph_base.proofs.OpViewLaws.{inner, event_is, leveled_view, leveled_
 use Rattle.morph_base.proofs.plan_ops.PlanOps.set_level.Goals as goal
 
 pub get-requires : goal.get-requires
-get-requires c =
-    let s = c.self.inside in
-    let lt : c.args.o < length s.heads.items
-    = inner s c.args.self.now c.self.view_is c.self.invariant c.args.o c.requires in
-    omega (arith, lt, c.self.invariant.parts.marked)
+get-requires c = inner c.self.inside c.args.self.now c.self.view_is c.self.invariant c.args.o c.requires
 
 pub set-requires : goal.set-requires
-set-requires c =
-    let s = c.self.inside in
-    let lt : c.args.o < length s.heads.items
-    = inner s c.args.self.now c.self.view_is c.self.invariant c.args.o c.requires in
-    omega (arith, lt, c.self.invariant.parts.marked)
+set-requires c = inner c.self.inside c.args.self.now c.self.view_is c.self.invariant c.args.o c.requires
 
 pub returns : goal.returns
 returns c =

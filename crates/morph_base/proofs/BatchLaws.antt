@@ -26,6 +26,11 @@ events_stay ops new heads front inside =
     let is : new ≡ ops ++ drop (length ops) new = sym (take-append-drop (length ops) new) ∙ ap (λ xs. xs ++ drop (length ops) new) front in
     ap (λ xs. map (transaction_by xs) heads) is ∙ stay ops (drop (length ops) new) heads inside
 
+-- a refused head behind them changes nothing either
+pub events_kept : (ops new : List Op) (heads put : List EventHead) → take (length ops) new ≡ ops → AreInside ops heads → put ≡ heads
+    → map (transaction_by new) put ≡ map (transaction_by ops) heads
+events_kept ops new heads put front inside same = ap (map (transaction_by new)) same ∙ events_stay ops new heads front inside
+
 pub front_of : (ops new more : List Op) → new ≡ ops ++ more → take (length ops) new ≡ ops
 front_of ops new more is = ap (take (length ops)) is ∙ take-append_seam ops more
 

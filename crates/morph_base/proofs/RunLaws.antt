@@ -54,10 +54,16 @@ run_more ops heads i d end latest inside run next later =
     subst (λ l. IsRun ops l (end + (get_or heads i d).count) (get_or heads i d).ts) (sym (take_more heads i d inside))
     (run_push ops (take i heads) (get_or heads i d) end latest run next later)
 
--- all events have all operations, in time order
-pub run_is : (ops : List Op) (heads : List EventHead) (i end latest : ℕ) → length heads ≤ i → IsRun ops (take i heads) end latest → end ≡ length ops
-    → IsDistinct nat_eq (map time (map (transaction_by ops) heads)) → ops ≡ ops_along (by_time (map (transaction_by ops) heads))
-run_is ops heads i end latest past so_far whole apart =
+-- all events are in time order, and have all operations
+pub run_sorted : (ops : List Op) (heads : List EventHead) (i end latest : ℕ) → length heads ≤ i → IsRun ops (take i heads) end latest
+    → IsDistinct nat_eq (map time (map (transaction_by ops) heads)) → by_time (map (transaction_by ops) heads) ≡ map (transaction_by ops) heads
+run_sorted ops heads i end latest past so_far apart =
     let es = map (transaction_by ops) heads in
     let run : IsRun ops heads end latest = subst (λ l. IsRun ops l end latest) (take_all i heads past) so_far in
-    sym (take_all end ops (omega (arith, whole))) ∙ sym run.all ∙ ap ops_along (by_time-is es es apart (IsPermutation-refl es) run.rises)
+    sym (by_time-is es es apart (IsPermutation-refl es) run.rises)
+
+pub run_is : (ops : List Op) (heads : List EventHead) (i end latest : ℕ) → length heads ≤ i → IsRun ops (take i heads) end latest → end ≡ length ops
+    → ops ≡ ops_along (map (transaction_by ops) heads)
+run_is ops heads i end latest past so_far whole =
+    let run : IsRun ops heads end latest = subst (λ l. IsRun ops l end latest) (take_all i heads past) so_far in
+    sym (take_all end ops (omega (arith, whole))) ∙ sym run.all

@@ -105,13 +105,6 @@ impl OpRows {
         })
     }
 
-    /// No operations, with memory for as many as these.
-    pub fn with_room_of(alloc: Global, rows: &OpRows) -> Result<Self, OutOfMemory>
-        ensures { IfOk result (λ rows. rows ≡ []) }
-    {
-        OpRows::with_room(alloc, rows.heads.len(), rows.keys.len())
-    }
-
     /// The same operations once more.
     pub fn copied(&self, alloc: Global) -> Result<Self, OutOfMemory>
         ensures { IfOk result (λ rows. rows ≡ self.now) }

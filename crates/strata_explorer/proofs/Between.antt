@@ -249,6 +249,22 @@ module _ (rules : RunRules) where
     all_between : (a from b to : Runner) → IsLike a from → IsLike b to → (all : WalksAll rules c ops from b) → 0 < length all.bursts → WalksAll rules c ops a to
     all_between a from b to first last all some = record { bursts = all.bursts; walks = bursts_to all.bursts a b to some (bursts_from all.bursts a from b some first all.walks) last }
 
+  -- ---- what a worker did, before which it was one that is like it
+
+  unused_like : (c : ℕ) (a b : Runner) → Unused c a → IsLike a b → Unused c b
+  unused_like c a b none like = subst (λ (v : View). times c v.places ≡ 0) (sym like.view) none
+
+  like_itself : (a : Runner) → IsLike a a
+  like_itself a = record { view = refl; answers = refl; kept = refl }
+
+  pub worked_from : (c : ℕ) (ops : List ℕ) (a from b : Runner) → 0 < length ops → Unused c a → IsLike a from → IsEnough c (length ops) b → Worked rules c ops from b → Worked rules c ops a b
+  worked_from c ops a from b some unused like enough worked =
+      worked_between c ops a from b b like (like_itself b) worked (some_calls c ops from b some (unused_like c a from unused like) enough worked)
+
+  pub walks_from : (c : ℕ) (ops : List ℕ) (a from b : Runner) → 0 < length ops → Unused c a → IsLike a from → IsEnough c (length ops) b → WalksAll rules c ops from b → WalksAll rules c ops a b
+  walks_from c ops a from b some unused like enough all =
+      all_between c ops a from b b like (like_itself b) all (some_bursts c ops all.bursts from b some (unused_like c a from unused like) enough all.walks)
+
   pub passed_between : (c : ℕ) (ops : List ℕ) (before rs qs after : List Runner) → AreLike before rs → AreLike qs after → 0 < length ops → 0 < length before → ((d : Runner) → Unused c (slice_index_or before 0 d))
       → IsPassed rules c ops rs qs → ((d : Runner) → IsEnough c (length ops) (slice_index_or qs 0 d)) → IsPassed rules c ops before after
   passed_between c ops before rs qs after first last full some unused passed saw = record {
@@ -264,10 +280,7 @@ module _ (rules : RunRules) where
       less {k} lt = subst (λ n. k < n) (sym first.len) lt
 
       unused_now : (d : Runner) → Unused c (slice_index_or rs 0 d)
-      unused_now d = unused_like (unused d) (first.first d)
-        where
-          unused_like : {a b : Runner} → Unused c a → IsLike a b → Unused c b
-          unused_like {a} {b} none like = subst (λ (v : View). times c v.places ≡ 0) (sym like.view) none
+      unused_now d = unused_like c (slice_index_or before 0 d) (slice_index_or rs 0 d) (unused d) (first.first d)
 
       shared : shared_from ≤ length ops → (k : ℕ) (d : Runner) → k < length before → IsEnough c (length ops) (slice_index_or after k d)
       shared many zero d lt = enough_like c ops (slice_index_or qs 0 d) (slice_index_or after 0 d) (last.first d) (saw d)

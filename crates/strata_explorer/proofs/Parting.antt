@@ -9,6 +9,7 @@ use Rattle.op_eval.specs.Exploring.{Unused, RunRules}
 use Rattle.op_eval.specs.Running.{hand_view}
 use Rattle.op_eval.specs.Turns.{IsEnough}
 use Rattle.op_words.specs.Counting.{times}
+use Rattle.abort_eager.specs.Sweeps.{IsLike}
 use Rattle.worker_gate.specs.Sharing.{shared_from}
 use Rattle.worker_gate.proofs.Stages.{stages_none_same, between_stages}
 use Rattle.strata_explorer.specs.Levels.{ops_of, AreLevels, AreStrata}
@@ -16,6 +17,7 @@ use Rattle.strata_explorer.specs.Parts.{DoesPart, GoesOver}
 use Rattle.strata_explorer.specs.Passes.{Worked, IsPassed}
 use Rattle.strata_explorer.specs.Walks.{WalksAll}
 use Rattle.strata_explorer.proofs.Ascending.{IsClimbing, climbing_none, climbing_more}
+use Rattle.strata_explorer.proofs.Between.{worked_from, walks_from}
 use Rattle.strata_explorer.proofs.Bursting.{walks_none}
 use Rattle.strata_explorer.proofs.Climbing.{worked_none}
 use Rattle.strata_explorer.proofs.Running.{calls_times}
@@ -43,6 +45,21 @@ module _ (rules : RunRules) where
         elim (cases_lt (length ops) shared_from) [
           | inl few ↦ inr (does.passes_over (omega arith) few)
           | inr many ↦ inl (does.takes_part (inr many))
+        ]
+
+    -- the same before it looked ahead, which only the first worker does, and only where there are operations
+    pub part_from : (number : ℕ) (a from b : Runner) → Unused c a → IsLike a from → ((0 < number) ⊎ (length ops ≡ 0) → from ≡ a) → DoesPart rules c ops number from b → DoesPart rules c ops number a b
+    part_from number a from b unused like same does =
+        elim (cases_lt 0 number) [
+          | inl above ↦ subst (λ r. DoesPart rules c ops number r b) (same (inl above)) does
+          | inr first ↦
+              elim (cases_lt 0 (length ops)) [
+                | inl some ↦ (
+                    let none : number ≡ 0 = omega (arith, first) in
+                    let did = does.takes_part (inl none) in
+                    took_part number a b (inl none) (worked_from rules c ops a from b some unused like did.2 did.0) (walks_from rules c ops a from b some unused like did.2 did.1) did.2)
+                | inr none ↦ subst (λ r. DoesPart rules c ops number r b) (same (inr (omega (arith, none)))) does
+              ]
         ]
 
     -- it took numbers from the counter of the level alone

@@ -16,6 +16,7 @@ ghost use Rattle.strata_explorer.specs.Parts.{DoesPart, GoesOver};
 ghost use Rattle.strata_explorer.specs.Passes.{course_rules};
 
 use crate::course::Course;
+use crate::look_ahead::LookAhead;
 use crate::walk::work;
 use abort_eager::Ground;
 use morph_base::Plan;
@@ -87,7 +88,9 @@ fn go_over<T: Turns>(
         (length ground.now.plan.now.op_levels.items) runner.old runner.new }
 {
     let mut patience = Patience::among(threads);
+    let mut ahead = LookAhead::among(threads);
     for level in 0..ground.plan.op_levels.len() {
+        ahead.look(ground, number, level, runner);
         do_part(ground, told, threads, number, level, runner, &mut patience);
     }
 }

@@ -1,5 +1,5 @@
 -- The transactions of a valid batch by time: as many, as valid, and each later than those before it.
-use Rattle.std.proofs.Common.{◌≡◌, ℕ, ◌<◌, ◌≤◌, List, length, get_or, map, nat_eq, sym, ap, ◌∙◌, arith}
+use Rattle.std.proofs.Common.{◌≡◌, ℕ, ◌<◌, ◌≤◌, List, length, get_or, map, nat_eq, sym, ◌∙◌, arith}
 use Rattle.std.specs.Prelude.{All}
 use Rattle.std.specs.List.{IsDistinct}
 use Rattle.std.specs.Cmp.{nat_eq_equiv}
@@ -8,14 +8,16 @@ use Rattle.std.proofs.lemmas.List.{length-map, get_or-map}
 use Rattle.std.proofs.lemmas.List.Sorted.{length_permutation, All-permutation, IsPermutation-map}
 use Rattle.std.proofs.lemmas.Map.Keys.{IsDistinct-IsPermutation, apart_from_distinct}
 use Rattle.morph_base.specs.declared.limits.TheConstants.{EVENTS}
-use Rattle.morph_base.specs.declared.event.Event.{Event}
 use Rattle.morph_base.specs.declared.operation.Op.{Op}
-use Rattle.morph_base.specs.Transactions.{high_of_all, Transaction, IsTransaction, IsBatchOf, transaction_of, time, by_time}
+use Rattle.morph_base.specs.Transactions.{high_of_all, Transaction, IsTransaction, IsBatchOf, time, by_time}
 use Rattle.morph_base.proofs.TimeLaws.{by_time-permutes, by_time-rises}
 
 module _ (ts : List Transaction) (is : IsBatchOf ts) where
   pub order_few : length (by_time ts) ≤ EVENTS
   order_few = omega (arith, length_permutation ts (by_time ts) (by_time-permutes ts), is.few)
+
+  pub order_length : length (by_time ts) ≡ length ts
+  order_length = length_permutation ts (by_time ts) (by_time-permutes ts)
 
   pub order_valid : All IsTransaction (by_time ts)
   order_valid = All-permutation IsTransaction ts (by_time ts) (by_time-permutes ts) is.valid
@@ -36,9 +38,3 @@ module _ (ts : List Transaction) (is : IsBatchOf ts) where
       let there : get_or (map time es) j 0 ≡ time (get_or es j d) = get_or-map time es j d 0 lt in
       let differ : time (get_or es i d) ≡ time (get_or es j d) → ⊥ = λ e. apart (here ∙ e ∙ sym there) in
       omega arith
-
--- an event of the order is the transaction at its place
-pub order_at : (events items : List Event) (es : List Transaction) (i : ℕ) (event : Event) → items ≡ events → map transaction_of events ≡ es → i < length items → event ≡ get_or items i event → (i < length es) × (transaction_of event ≡ get_or es i (transaction_of event))
-order_at events items es i event same is lt at =
-    let inside : i < length events = omega (arith, ap length same) in
-    (omega (arith, ap length is, length-map events transaction_of), ap transaction_of at ∙ ap (λ xs. transaction_of (get_or xs i event)) same ∙ sym (get_or-map transaction_of events i event (transaction_of event) inside) ∙ ap (λ xs. get_or xs i (transaction_of event)) is)

@@ -1,31 +1,30 @@
 -- What contracts see of a split batch with one event more, and its operations as those of the transactions by time.
-use Rattle.std.proofs.Common.{◌≡◌, ℕ, suc, ◌+◌, List, [], ◌∷◌, ◌++◌, length, map, replicate, append_assoc, refl, sym, ap, ◌∙◌, arith}
+use Rattle.std.proofs.Common.{All, ◌≡◌, ℕ, suc, ◌+◌, List, [], ◌∷◌, ◌++◌, length, map, replicate, append_assoc, refl, sym, ap, ◌∙◌, arith}
 use Rattle.std.specs.List.{flat_map}
 use Rattle.std.proofs.lemmas.List.{append-nil}
+use Rattle.std.proofs.lemmas.List.Elements.{All-nil, All-append, All-head, All-tail}
 use Rattle.std.proofs.lemmas.Grind.{flat_map-append}
 use Rattle.morph_base.specs.declared.event.Event.{Event}
 use Rattle.morph_base.specs.declared.operation.Op.{Op}
 use Rattle.morph_base.specs.Transactions.{Transaction, transaction_of}
+use Rattle.morph_base.proofs.RunLaws.{ops_along}
 use Rattle.txn_splitter.specs.declared.txns.TxnEvent.{TxnEvent}
 use Rattle.txn_splitter.specs.TxnViews.{event_numbers}
 
--- the operations of the events, one event after another
-abbrev pub ops_in : List Event → List Op
-ops_in order = flat_map (λ e. e.ops) order
+pub ops_along_push : (es : List Transaction) (e : Transaction) → ops_along (es ++ e ∷ []) ≡ ops_along es ++ e.ops
+ops_along_push es e =
+    flat_map-append (λ (f : Transaction). f.ops) es (e ∷ []) ∙ ap (λ ops. ops_along es ++ ops) (append-nil e.ops)
 
-pub ops_in_push : (es : List Event) (e : Event) → ops_in (es ++ e ∷ []) ≡ ops_in es ++ e.ops
-ops_in_push es e =
-    flat_map-append (λ (f : Event). f.ops) es (e ∷ []) ∙ ap (λ ops. ops_in es ++ ops) (append-nil e.ops)
+-- the operations of some events are those of the transactions that they are
+pub of_events : (events : List Event) → flat_map (λ (e : Event). e.ops) events ≡ ops_along (map transaction_of events)
+of_events [] = refl
+of_events (e ∷ events) = ap (λ ops. e.ops ++ ops) (of_events events)
 
--- they are those of the transactions that the events are
-of_transactions : (order : List Event) → flat_map (λ (t : Transaction). t.ops) (map transaction_of order) ≡ ops_in order
-of_transactions [] = refl
-of_transactions (e ∷ order) = ap (λ ops. e.ops ++ ops) (of_transactions order)
-
-pub ops_of_transactions : (order : List Event) (ts : List Transaction) (ops : List Op) → map transaction_of order ≡ ts
-    → ops ≡ flat_map (λ (t : Transaction). t.ops) ts → ops ≡ ops_in order
-ops_of_transactions order ts ops same are =
-    are ∙ ap (λ ts. flat_map (λ (t : Transaction). t.ops) ts) (sym same) ∙ of_transactions order
+-- what holds of the operations of each transaction holds of all operations
+pub all_along : (P : Op → Type 0) (es : List Transaction) → All (λ (e : Transaction). All P e.ops) es → All P (ops_along es)
+all_along P [] all = All-nil P
+all_along P (e ∷ es) all =
+    All-append P e.ops (ops_along es) (All-head (λ (e : Transaction). All P e.ops) e es all) (all_along P es (All-tail (λ (e : Transaction). All P e.ops) e es all))
 
 pub event_numbers_push : (i : ℕ) (es : List TxnEvent) (e : TxnEvent)
     → event_numbers i (es ++ e ∷ []) ≡ event_numbers i es ++ replicate e.count (i + length es)

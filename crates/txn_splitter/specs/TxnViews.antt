@@ -1,11 +1,19 @@
 -- Inside the crate: the fields of `Txns` as what contracts see
-use Rattle.std.specs.Prelude.{ℕ, suc, List, [], ◌∷◌, ◌++◌, replicate}
+use Rattle.std.specs.Prelude.{ℕ, suc, List, [], ◌∷◌, ◌++◌, map, replicate}
 use Rattle.morph_base.specs.declared.operation.Op.{Op}
+use Rattle.morph_base.specs.Transactions.{Transaction, transaction_of, transactions_of}
+use Rattle.txn_splitter.specs.declared.order.Order.{Order}
+use Rattle.txn_splitter.specs.declared.order.Order.TheVariants.{AsTheyCame, Sorted}
 use Rattle.txn_splitter.specs.declared.txns.TxnEvent.{TxnEvent}
 use Rattle.txn_splitter.specs.declared.txns.TxnOps.{TxnOps}
 use Rattle.txn_splitter.specs.declared.txns.TxnOps.TheVariants.{Lent, Own}
 use Rattle.txn_splitter.specs.declared.txns.Txns.TheInside.{Inside}
 use Rattle.txn_splitter.specs.Txns.{NumberedTxns}
+
+-- The events in this order, as transactions
+abbrev pub in_order : Order → List Transaction
+in_order (AsTheyCame batch) = transactions_of batch.now
+in_order (Sorted events) = map transaction_of events.items
 
 -- The operations, whoever has them
 abbrev pub ops_held : TxnOps → List Op

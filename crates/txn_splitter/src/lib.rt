@@ -4,6 +4,7 @@
 //! and operations have numbers. `precedence_graph` makes a plan of them.
 #![tactic(auto)]
 
+mod order;
 mod splitter;
 mod txns;
 

@@ -1,8 +1,10 @@
 ghost use Rattle.std.specs.Prelude.{◌≡◌, ◌++◌, All, IfOk, OnOk};
 ghost use Rattle.std.specs.List.{flat_map};
-ghost use Rattle.morph_base.specs.Transactions.{IsBatch, high_of_all, transactions_of};
-ghost use Rattle.txn_splitter.specs.Txns.{IsTxns, IsTxnsOf, txn_ops};
+ghost use Rattle.morph_base.specs.Transactions.{IsBatch, by_time, high_of_all, transactions_of};
+ghost use Rattle.txn_splitter.specs.Txns.{IsSplitOf, IsTxns, IsTxnsOf, txn_ops};
+ghost use Rattle.txn_splitter.specs.TxnViews.{in_order, numbered, ops_held};
 
+use crate::order::Order;
 use crate::txns::{TxnEvent, TxnOps, Txns};
 use morph_base::{Batch, Event, List, OpRows, OpSpan, OutOfMemory};
 use std::alloc::Global;
@@ -17,30 +19,56 @@ pub fn split(alloc: Global, batch: &Batch) -> Result<Txns<'_>, OutOfMemory>
     ensures high { IfOk result (λ txns.
         All (λ op. op.high ≡ high_of_all (transactions_of batch.now)) (txn_ops txns)) }
 {
-    let order = batch.by_time(alloc)?;
-    let mut events = List::with_room(alloc, order.len())?;
+    let (order, ops) = by_rising_time(alloc, batch)?;
+    let events = number_events(alloc, batch, &order)?;
+    Ok(Txns { events, ops })
+}
+
+/// The events of a batch by rising timestamp, and the operations of all, one event after another.
+fn by_rising_time(alloc: Global, batch: &Batch) -> Result<(Order<'_>, TxnOps<'_>), OutOfMemory>
+    requires { IsBatch batch.now }
+    ensures order { IfOk result (λ both. in_order both.0 ≡ by_time (transactions_of batch.now)) }
+    ensures ops { IfOk result (λ both. ops_held both.1
+        ≡ flat_map (λ e. e.ops) (by_time (transactions_of batch.now))) }
+{
+    match batch.rising_ops() {
+        Some(ops) => Ok((Order::AsTheyCame(batch), TxnOps::Lent(ops))),
+        None => {
+            let events = batch.by_time(alloc)?;
+            let ops = gathered(alloc, batch, events.as_slice())?;
+            Ok((Order::Sorted(events), TxnOps::Own(ops)))
+        }
+    }
+}
+
+/// The events of a batch in this order, which is by rising timestamp. Each has the operations that follow those of the
+/// event before it.
+fn number_events(
+    alloc: Global,
+    batch: &Batch,
+    order: &Order<'_>,
+) -> Result<List<TxnEvent>, OutOfMemory>
+    requires batch { IsBatch batch.now }
+    requires order { in_order order.now ≡ by_time (transactions_of batch.now) }
+    ensures { IfOk result (λ events. IsSplitOf (by_time (transactions_of batch.now))
+        (numbered events.items (flat_map (λ e. e.ops) (by_time (transactions_of batch.now))))) }
+{
+    let mut events = List::with_room(alloc, batch.len())?;
     let mut first: u32 = 0;
-    for event in &order {
-        let count = event.ops.len() as u32;
-        events.add(TxnEvent {
-            ts: event.ts,
-            first,
-            count,
-        });
+    for i in 0..batch.len() {
+        let (ts, length) = order.event(i);
+        let count = length as u32;
+        events.add(TxnEvent { ts, first, count });
         first += count;
     }
-    let ops = match batch.rising_ops() {
-        Some(ops) => TxnOps::Lent(ops),
-        None => TxnOps::Own(gathered(alloc, batch, order.as_slice())?),
-    };
-    Ok(Txns { events, ops })
+    Ok(events)
 }
 
 /// The operations of some events of a batch, one event after another.
 fn gathered(alloc: Global, batch: &Batch, events: &[Event<'_>]) -> Result<OpRows, OutOfMemory>
     ensures { IfOk result (λ rows. rows ≡ flat_map (λ e. e.ops) events.now) }
 {
-    let mut rows = OpRows::with_room_of(alloc, batch.ops())?;
+    let mut rows = batch.room_for_ops(alloc)?;
     for event in events {
         add_all(&mut rows, &event.ops)?;
     }

@@ -1,4 +1,4 @@
-ghost use Rattle.std.specs.Prelude.{◌≡◌, ◌<◌, ◌↔◌, ◌++◌, [], ◌∷◌, length, map, slice_index_or};
+ghost use Rattle.std.specs.Prelude.{◌≡◌, ◌-◌, ◌<◌, ◌≤◌, ◌↔◌, ◌++◌, [], ◌∷◌, length, map, slice_index_or};
 ghost use Rattle.std.specs.Prelude.{IfOk, IfSome, IsTrue, OnOk, OnErr};
 ghost use Rattle.std.specs.List.{flat_map};
 ghost use Rattle.morph_base.specs.Transactions.{transaction, transaction_of, transactions_of, no_transaction};
@@ -17,6 +17,22 @@ use std::alloc::Global;
 /// A number and a quarter of it.
 fn a_quarter_more(n: usize) -> usize {
     n.saturating_add(n / 4)
+}
+
+/// Appends an event that has the operations from number `first` to the one before `end`.
+fn push_head(
+    heads: &mut List<EventHead>,
+    ts: u64,
+    first: usize,
+    end: usize,
+) -> Result<(), OutOfMemory>
+    requires { first ≤ end }
+    ensures items { OnOk result (heads.new.items
+        ≡ heads.old.items ++ record { ts = ts; first = first; count = end - first } ∷ []) }
+    ensures refused { OnErr result (heads.new.items ≡ heads.old.items) }
+{
+    let count = end - first;
+    heads.push(EventHead { ts, first, count })
 }
 
 impl Batch {
@@ -63,7 +79,8 @@ impl Batch {
         self.heads.is_empty()
     }
 
-    /// Appends an event, with a copy of its operations. If memory is refused, the batch has the events that it had.
+    /// Appends an event, with a copy of its operations. If memory is refused, or all operations together would have more
+    /// than 2^32 keys, which take 32 GiB, the batch has the events that it had.
     pub fn push(&mut self, ts: u64, ops: &[Op]) -> Result<(), OutOfMemory>
         ensures events { OnOk result (transactions_of self.new
             ≡ transactions_of self.old ++ transaction ts ops.now ∷ []) }
@@ -71,16 +88,10 @@ impl Batch {
     {
         let first = self.ops.len();
         self.ops.extend_from_slice(ops)?;
-        self.heads.push(EventHead {
-            ts,
-            first,
-            // Counted in the rows, so that the place behind the last one is known to fit into 64 bits.
-            count: self.ops.len() - first,
-        })?;
-        Ok(())
+        push_head(&mut self.heads, ts, first, self.ops.len())
     }
 
-    /// Appends an event, with a copy of its operations. If memory is refused, the batch has the events that it had.
+    /// The same for operations that an application has collected, with no look at each of them.
     pub fn push_event(&mut self, ts: u64, ops: &EventOps) -> Result<(), OutOfMemory>
         ensures events { OnOk result (transactions_of self.new
             ≡ transactions_of self.old ++ transaction ts ops.now ∷ []) }
@@ -88,13 +99,7 @@ impl Batch {
     {
         let first = self.ops.len();
         self.ops.append(ops)?;
-        self.heads.push(EventHead {
-            ts,
-            first,
-            // Counted in the rows, so that the place behind the last one is known to fit into 64 bits.
-            count: self.ops.len() - first,
-        })?;
-        Ok(())
+        push_head(&mut self.heads, ts, first, self.ops.len())
     }
 
     /// Event `i` in order of arrival, from 0.
@@ -113,12 +118,14 @@ impl Batch {
         }
     }
 
-    /// The operations of all events by rising timestamp, if they stand in the batch in this order and nothing else stands
-    /// there. So it is if the events came in this order and no push was refused.
+    /// The operations of all events, if the events came by rising timestamp and nothing else stands among their operations.
+    /// What a refused push left may stand there.
     pub fn rising_ops(&self) -> Option<&OpRows>
         requires { IsBatch self.now }
-        ensures { IfSome result (λ rows. rows.now
-            ≡ flat_map (λ e. e.ops) (by_time (transactions_of self.now))) }
+        ensures ops { IfSome result (λ rows. rows.now
+            ≡ flat_map (λ e. e.ops) (transactions_of self.now)) }
+        ensures order { IfSome result
+            (λ _. by_time (transactions_of self.now) ≡ transactions_of self.now) }
     {
         let mut end = 0;
         let mut latest = 0;
@@ -136,9 +143,11 @@ impl Batch {
         }
     }
 
-    /// The operations of all events, one event after another by their order of arrival, and perhaps some more.
-    pub fn ops(&self) -> &OpRows {
-        &self.ops
+    /// No operations, with memory for as many as this batch has.
+    pub fn room_for_ops(&self, alloc: Global) -> Result<OpRows, OutOfMemory>
+        ensures { IfOk result (λ rows. rows ≡ []) }
+    {
+        OpRows::with_room(alloc, self.ops.len(), self.ops.key_count())
     }
 
     /// The events by rising timestamp.

@@ -1,4 +1,5 @@
-//! What a worker looks at while it waits. The hand notes none of these loads, so its view stays as it was.
+//! What a worker looks at while it waits, or before it comes to an operation. The hand notes none of these loads, so its
+//! view stays as it was.
 ghost use Rattle.std.specs.Prelude.{◌≡◌, ◌<◌};
 ghost use Rattle.morph_base.specs.Plans.{op_count};
 ghost use Rattle.op_words.specs.Hands.{plan_of, view_of, IsHandOf, MayCall};
@@ -37,22 +38,36 @@ impl Board {
         ensures hand { IsHandOf self.now hand.new }
         ensures view { view_of hand.new ≡ view_of hand.old }
     {
-        let n = self.glance(hand, op);
+        let n = self.glance(hand, op as usize);
         match OpWord::unpack(n) {
             Some(word) => is_usable(word, settled),
             None => false,
         }
     }
 
-    /// Loads the number in an operation's place. The view does not note this load.
-    fn glance(&self, hand: &mut Hand, op: u32) -> u64
-        requires hand { IsHandOf self.now hand.old }
-        requires in_range { op < op_count (plan_of self.now) }
+    /// Loads what evaluating an operation begins with, so that the processor has it at hand when the worker comes to it:
+    /// the operation's word, the record of its first place, and the word of this place's source.
+    ///
+    /// The hand notes no load, and nothing rests on what they find.
+    pub fn preload(&self, hand: &mut Hand, plan: &Plan, op: u32)
+        requires may { MayCall self.now hand.old plan.now op }
         ensures hand { IsHandOf self.now hand.new }
         ensures view { view_of hand.new ≡ view_of hand.old }
     {
-        self.table
-            .shared
-            .load::<LoadUnnoted>(&mut hand.seat, op as usize)
+        self.glance(hand, op as usize);
+        self.glance(hand, plan.ops.len() + plan.ops.places_before(op as usize));
+        if let Origin::Op(source) = origin_of(plan, op, 0) {
+            self.glance(hand, source as usize);
+        }
+    }
+
+    /// Loads a number of the table. The view does not note this load.
+    fn glance(&self, hand: &mut Hand, index: usize) -> u64
+        requires hand { IsHandOf self.now hand.old }
+        requires in_range { index < self.now.table.shared.table_id.words }
+        ensures hand { IsHandOf self.now hand.new }
+        ensures view { view_of hand.new ≡ view_of hand.old }
+    {
+        self.table.shared.load::<LoadUnnoted>(&mut hand.seat, index)
     }
 }

@@ -1,8 +1,8 @@
-use Rattle.std.proofs.Common.{List, map, ap, ◌∙◌, sym, subst, nat_eq}
+use Rattle.std.proofs.Common.{◌≡◌, List, map, ap, ◌∙◌, sym, subst, nat_eq}
 use Rattle.std.specs.List.{IsDistinct}
 use Rattle.morph_base.specs.declared.batch.EventHead.{EventHead}
 use Rattle.morph_base.specs.Transactions.{time, transaction_by, by_time}
-use Rattle.morph_base.proofs.RunLaws.{run_none, run_more, run_is, ops_along}
+use Rattle.morph_base.proofs.RunLaws.{run_none, run_more, run_is, run_sorted, ops_along}
 use Rattle.morph_base.proofs.batch.Batch.rising_ops.Goals as goal
 
 pub loop-head-init : goal.loop-head-init
@@ -13,11 +13,17 @@ loop-head-preserved c =
     run_more c.args.self.now.ops c.as_slice-head-items.result.now c.loop-head.head-index _ c.loop-head.end c.loop-head.latest c.loop-head-test.true
     c.loop-head.invariant c.if-head-end.false c.if-head-latest.false
 
-pub returns-then-end-len : goal.returns-then-end-len
-returns-then-end-len c =
+pub returns-then-end-len-clause-ops : goal.returns-then-end-len-clause-ops
+returns-then-end-len-clause-ops c =
     let ops = c.args.self.now.ops in
-    let same = c.as_slice-head-items.ensures in
     run_is ops c.as_slice-head-items.result.now c.loop-head.head-index c.loop-head.end c.loop-head.latest c.loop-head-test.false c.loop-head.invariant
     (c.if-end-len.true ∙ c.len.ensures)
-    (subst (λ (hs : List EventHead). IsDistinct nat_eq (map time (map (transaction_by ops) hs))) (sym same) c.requires.times)
-    ∙ ap (λ hs. ops_along (by_time (map (transaction_by ops) hs))) same
+    ∙ ap (λ hs. ops_along (map (transaction_by ops) hs)) c.as_slice-head-items.ensures
+
+pub returns-then-end-len-clause-order : goal.returns-then-end-len-clause-order
+returns-then-end-len-clause-order c =
+    let ops = c.args.self.now.ops in
+    let same = c.as_slice-head-items.ensures in
+    subst (λ (hs : List EventHead). by_time (map (transaction_by ops) hs) ≡ map (transaction_by ops) hs) same
+    (run_sorted ops c.as_slice-head-items.result.now c.loop-head.head-index c.loop-head.end c.loop-head.latest c.loop-head-test.false c.loop-head.invariant
+    (subst (λ (hs : List EventHead). IsDistinct nat_eq (map time (map (transaction_by ops) hs))) (sym same) c.requires.times))

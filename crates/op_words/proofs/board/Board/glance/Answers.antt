@@ -1,4 +1,4 @@
-use Rattle.std.proofs.Common.{ap, arith, refl, ◌∙◌}
+use Rattle.std.proofs.Common.{ap, refl, ◌∙◌}
 use Rattle.op_words.specs.Hands.{view_in, view_of}
 use Rattle.op_words.specs.Plays.{Sat}
 use Rattle.op_words.proofs.Handing.{still}
@@ -7,8 +7,8 @@ use Rattle.op_words.proofs.board.Board.glance.Goals as goal
 
 pub load-requires : goal.load-requires
 load-requires c =
-    let h = c.requires.hand in let n = c.args.self.now.sized in let lt = c.requires.in_range in
-    (h.table, omega (arith, n, lt), allows_tell _ _ _ _ (ap (λ (m : Sat). m.0) h.seat) _)
+    let h = c.requires.hand in
+    (h.table, c.requires.in_range, allows_tell _ _ _ _ (ap (λ (m : Sat). m.0) h.seat) _)
 
 pub returns-clause-hand : goal.returns-clause-hand
 returns-clause-hand c =

@@ -154,8 +154,8 @@ impl<A: EventApp> Pipe<A> {
     /// places that were free when the halves began. The runner takes the plans that waited then, in order, and those
     /// that come while the planner is at work. It picks the strategy of each, and hands each result to the teller, in
     /// the caller's thread, before it takes the next plan. Side by side, each half waits for the other, but for no
-    /// longer than some milliseconds. If one plan can wait, no result is told later because the next batch has not
-    /// come. If two can, the planner fills both places before the round ends, so a plan may wait for one further batch.
+    /// longer than some milliseconds. If one plan can wait, no result goes to the teller later because the next
+    /// batch has not come. If two can, the planner fills both places before the round ends, so a plan may wait for one further batch.
     ///
     /// If memory to run a plan is refused, the tail is [`Tail::RunMemory`], whatever tail the planner met. That plan is
     /// dropped, and the engine stays as it was before it. If the teller refuses a result, the tail is [`Tail::Untold`].

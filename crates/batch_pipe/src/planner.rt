@@ -57,7 +57,7 @@ fn read_plan<A: EventApp, S: Source>(
     let live = reader.live();
     prove!(live);
     match reader.next_batch(alloc, source) {
-        Ok(Next::Batch(batch)) => match plan_batch(alloc, &batch) {
+        Ok(Next::Batch(batch)) => match plan_batch(alloc, batch) {
             Ok(plan) => Ok(plan),
             Err(OutOfMemory) => Err(Tail::Fault(ReaderFault::OutOfMemory)),
         },

@@ -70,7 +70,7 @@ pub(crate) fn are_two_rounds(words: &Vec<(OpState, u8, u64)>) -> bool {
 
 #[test]
 fn four_runners_explore_two_rounds(rt: HostRuntime) -> Result<(), Fail> {
-    let plan = plan_for(&rt, rt.alloc(), &batch_of(rt.alloc(), 2 * IDS)?)?;
+    let plan = plan_for(&rt, rt.alloc(), batch_of(rt.alloc(), 2 * IDS)?)?;
     for unit in [Unit::Op, Unit::Chain] {
         let all_ran = four_explore(&rt, rt.alloc(), &plan, unit)?;
         assert!(rt; all_ran, "{unit:?}");

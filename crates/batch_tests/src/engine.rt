@@ -56,12 +56,12 @@ fn first_values(alloc: Global, state: &State) -> Result<Vec<Option<u64>>, OutOfM
 fn ended<R: Threads + Sync>(
     rt: &R,
     alloc: Global,
-    batch: &Batch,
+    batch: Batch,
     how: (Unit, Explore),
     workers: u32,
 ) -> Result<(Engine, BatchEnd), OutOfMemory>
-    requires batch { IsBatch batch.now }
-    requires keys { BatchKeysIn LAYOUT batch.now }
+    requires batch { IsBatch batch }
+    requires keys { BatchKeysIn LAYOUT batch }
     requires some { 1 ≤ workers }
     requires few { workers ≤ most_workers }
 {
@@ -80,8 +80,8 @@ fn ended<R: Threads + Sync>(
 
 /// The values after the fold of a batch.
 fn folded(alloc: Global, batch: &Batch) -> Result<Values, OutOfMemory>
-    requires batch { IsBatch batch.now }
-    requires keys { BatchKeysIn LAYOUT batch.now }
+    requires batch { IsBatch batch }
+    requires keys { BatchKeysIn LAYOUT batch }
 {
     let mut values = Values::new(alloc, LAYOUT)?;
     let _outcomes = plain::fold(alloc, &mut values, batch)?;
@@ -92,16 +92,16 @@ fn folded(alloc: Global, batch: &Batch) -> Result<Values, OutOfMemory>
 fn run<R: Threads + Sync>(
     rt: &R,
     alloc: Global,
-    batch: &Batch,
+    batch: Batch,
     how: (Unit, Explore),
     workers: u32,
 ) -> Result<Ran, OutOfMemory>
-    requires batch { IsBatch batch.now }
-    requires keys { BatchKeysIn LAYOUT batch.now }
+    requires batch { IsBatch batch }
+    requires keys { BatchKeysIn LAYOUT batch }
     requires some { 1 ≤ workers }
     requires few { workers ≤ most_workers }
 {
-    let values = folded(alloc, batch)?;
+    let values = folded(alloc, &batch)?;
     let (engine, end) = ended(rt, alloc, batch, how, workers)?;
     told(alloc, engine.state(), &end, &values)
 }
@@ -138,7 +138,7 @@ fn four_events_by_any_workers(rt: HostRuntime) -> Result<(), Fail> {
     ] {
         let batch = batch_of(rt.alloc(), &times)?;
         assert!(rt; batch.is_valid() && batch.has_keys_in(LAYOUT));
-        let ran = run(&rt, rt.alloc(), &batch, how, workers)?;
+        let ran = run(&rt, rt.alloc(), batch, how, workers)?;
         let got = (
             ran.committed.as_slice(),
             ran.by.as_slice(),

@@ -67,7 +67,7 @@ pub(crate) fn batch_of(alloc: Global, times: &[u64]) -> Result<Batch, OutOfMemor
 }
 
 /// The plan of a batch.
-pub(crate) fn plan_for(rt: &impl Abort, alloc: Global, batch: &Batch) -> Result<Plan, OutOfMemory>
+pub(crate) fn plan_for(rt: &impl Abort, alloc: Global, batch: Batch) -> Result<Plan, OutOfMemory>
     ensures plan { IfOk result IsValidPlan }
     ensures keys { IfOk result (λ plan. PlanKeysIn plan LAYOUT) }
     ensures bases { IfOk result (λ plan. HasBases plan opening_state) }
@@ -82,7 +82,7 @@ pub(crate) fn plan_at(rt: &impl Abort, alloc: Global, times: &[u64]) -> Result<P
     ensures keys { IfOk result (λ plan. PlanKeysIn plan LAYOUT) }
     ensures bases { IfOk result (λ plan. HasBases plan opening_state) }
 {
-    plan_for(rt, alloc, &batch_of(alloc, times)?)
+    plan_for(rt, alloc, batch_of(alloc, times)?)
 }
 
 /// The plan of the four events.

@@ -81,7 +81,7 @@ fn explored<R: Threads + Sync>(
 /// Two withdrawals of the last event read what the failed event had left, and are rolled back to level 3.
 #[test]
 fn levels_are_passed_again(rt: HostRuntime) -> Result<(), Fail> {
-    let plan = plan_for(&rt, rt.alloc(), &batch(rt.alloc(), 7)?)?;
+    let plan = plan_for(&rt, rt.alloc(), batch(rt.alloc(), 7)?)?;
     let counts = |evaluated, spread, rolled| Counts {
         evaluated,
         spread,
@@ -99,7 +99,7 @@ fn levels_are_passed_again(rt: HostRuntime) -> Result<(), Fail> {
 /// from level 3 to level 7, and 5 from level 4 to level 8.
 #[test]
 fn a_later_failure_goes_back_to_its_own_level(rt: HostRuntime) -> Result<(), Fail> {
-    let plan = plan_for(&rt, rt.alloc(), &batch(rt.alloc(), 17)?)?;
+    let plan = plan_for(&rt, rt.alloc(), batch(rt.alloc(), 17)?)?;
     let (end, passes, counts) = explored(&rt, rt.alloc(), &plan, Abort::Eager, 7)?;
     assert_eq!(rt; (end, passes), (RunEnd::Whole, 15));
     assert_eq!(rt;

@@ -108,8 +108,8 @@ fn built(rt: &impl Abort, alloc: Global, times: &[u64]) -> Result<Plan, OutOfMem
 {
     let batch = batch_of(alloc, times)?;
     assert!(rt; batch.is_valid());
-    let txns = split(alloc, &batch)?;
-    build(alloc, &txns)
+    let txns = split(alloc, batch)?;
+    build(alloc, txns)
 }
 
 /// Whether all places from the third on hold the base 0.

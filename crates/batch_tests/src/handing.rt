@@ -90,7 +90,7 @@ fn one_worker_is_handed_each_operation_once(rt: HostRuntime) -> Result<(), Fail>
 /// Whichever worker gets an operation, it is handed out once and executed at attempt 1.
 #[test]
 fn four_workers_hand_out_two_rounds(rt: HostRuntime) -> Result<(), Fail> {
-    let plan = plan_for(&rt, rt.alloc(), &batch_of(rt.alloc(), 2 * IDS)?)?;
+    let plan = plan_for(&rt, rt.alloc(), batch_of(rt.alloc(), 2 * IDS)?)?;
     let ran = explore_by(&rt, rt.alloc(), &plan, Unit::Op, 4, &side_by_side())?;
     assert_eq!(rt; (ran.end, ran.handed), (RunEnd::Drained, 4 * IDS));
     assert!(rt; are_two_rounds(&ran.words));
@@ -114,7 +114,7 @@ fn dealt_to(alloc: Global, plan: &Plan, workers: u32) -> Result<Vec<u64>, OutOfM
 /// The first level is dealt in turn. Five deposits on five ids have ten operations there.
 #[test]
 fn a_level_is_dealt_in_turn(rt: HostRuntime) -> Result<(), Fail> {
-    let plan = plan_for(&rt, rt.alloc(), &batch_of(rt.alloc(), 5)?)?;
+    let plan = plan_for(&rt, rt.alloc(), batch_of(rt.alloc(), 5)?)?;
     assert_eq!(rt;
         dealt_to(rt.alloc(), &plan, 2)?.as_slice(),
         [5, 5].as_slice()
@@ -200,7 +200,7 @@ fn set_and_sums(alloc: Global, sums: u32) -> Result<Batch, OutOfMemory> {
 /// which worker 2 can get only by stealing.
 #[test]
 fn a_worker_with_nothing_steals(rt: HostRuntime) -> Result<(), Fail> {
-    let plan = plan_for(&rt, rt.alloc(), &set_and_sums(rt.alloc(), 40)?)?;
+    let plan = plan_for(&rt, rt.alloc(), set_and_sums(rt.alloc(), 40)?)?;
     let gate = Robbed::new();
     let ran = explore_by(&rt, rt.alloc(), &plan, Unit::Op, 2, &gate)?;
     let got = (ran.end, ran.handed, ran.stolen >= 1);

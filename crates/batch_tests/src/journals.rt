@@ -74,11 +74,11 @@ fn a_changed_journal_is_found_out(rt: HostRuntime) -> Result<(), Fail> {
 fn kept<R: Threads + Sync>(
     rt: &R,
     alloc: Global,
-    batch: &Batch,
+    batch: Batch,
     strategy: Strategy,
 ) -> Result<(List<CoreEvent>, Checked), OutOfMemory>
-    requires batch { IsBatch batch.now }
-    requires keys { BatchKeysIn LAYOUT batch.now }
+    requires batch { IsBatch batch }
+    requires keys { BatchKeysIn LAYOUT batch }
 {
     let mut engine = Engine::new(alloc, LAYOUT)?;
     let plan = engine.plan(alloc, batch)?;
@@ -102,7 +102,7 @@ fn a_kept_run_of_a_deposit_writes_its_steps_down(rt: HostRuntime) -> Result<(), 
         explore: Explore::Strata,
         abort: Abort::Lazy,
     };
-    let (journal, said) = kept(&rt, alloc, &batch, strategy)?;
+    let (journal, said) = kept(&rt, alloc, batch, strategy)?;
     let steps = read_journal(alloc, JOURNAL)?;
     assert_eq!(rt;
         (journal.as_slice(), said),
@@ -114,8 +114,6 @@ fn a_kept_run_of_a_deposit_writes_its_steps_down(rt: HostRuntime) -> Result<(), 
 #[test]
 fn kept_runs_of_the_four_events_are_right(rt: HostRuntime) -> Result<(), Fail> {
     let alloc = rt.alloc();
-    let batch = batch_of(alloc, &[1, 2, 3, 4])?;
-    assert!(rt; batch.is_valid() && batch.has_keys_in(LAYOUT));
     for explore in [Explore::Strata, Explore::Steal] {
         for abort in [Abort::Lazy, Abort::Eager] {
             let strategy = Strategy {
@@ -123,7 +121,9 @@ fn kept_runs_of_the_four_events_are_right(rt: HostRuntime) -> Result<(), Fail> {
                 explore,
                 abort,
             };
-            let (_, said) = kept(&rt, alloc, &batch, strategy)?;
+            let batch = batch_of(alloc, &[1, 2, 3, 4])?;
+            assert!(rt; batch.is_valid() && batch.has_keys_in(LAYOUT));
+            let (_, said) = kept(&rt, alloc, batch, strategy)?;
             assert_eq!(rt; said, Checked::Yes);
         }
     }

@@ -67,12 +67,12 @@ struct Came {
 fn ended<R: Threads + Sync>(
     rt: &R,
     alloc: Global,
-    batch: &Batch,
+    batch: Batch,
     own: Option<Strategy>,
     workers: u32,
 ) -> Result<(Engine, BatchEnd), OutOfMemory>
-    requires batch { IsBatch batch.now }
-    requires keys { BatchKeysIn SHOP batch.now }
+    requires batch { IsBatch batch }
+    requires keys { BatchKeysIn SHOP batch }
     requires some { 1 ≤ workers }
     requires few { workers ≤ most_workers }
 {
@@ -91,12 +91,12 @@ fn ended<R: Threads + Sync>(
 fn run<R: Threads + Sync>(
     rt: &R,
     alloc: Global,
-    batch: &Batch,
+    batch: Batch,
     own: Option<Strategy>,
     workers: u32,
 ) -> Result<Came, OutOfMemory>
-    requires batch { IsBatch batch.now }
-    requires keys { BatchKeysIn SHOP batch.now }
+    requires batch { IsBatch batch }
+    requires keys { BatchKeysIn SHOP batch }
     requires some { 1 ≤ workers }
     requires few { workers ≤ most_workers }
 {
@@ -116,10 +116,10 @@ fn a_batch_is_made_planned_and_run_without_text(rt: HostRuntime) -> Result<(), F
         explore: Explore::Steal,
         abort: Abort::Lazy,
     };
-    let batch = batch(rt.alloc())?;
-    assert!(rt; batch.is_valid() && batch.has_keys_in(SHOP));
     for (own, workers, strategy) in [(None, 1, chosen), (None, 4, chosen), (Some(OWN), 2, OWN)] {
-        let came = run(&rt, rt.alloc(), &batch, own, workers)?;
+        let batch = batch(rt.alloc())?;
+        assert!(rt; batch.is_valid() && batch.has_keys_in(SHOP));
+        let came = run(&rt, rt.alloc(), batch, own, workers)?;
         let got = (came.committed.as_slice(), came.values, came.strategy);
         let want = (
             [true, true, true, false].as_slice(),

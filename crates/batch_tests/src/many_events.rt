@@ -34,5 +34,5 @@ pub(crate) fn plan(rt: &impl Abort, alloc: Global) -> Result<Plan, OutOfMemory>
     for event in 0..EVENTS {
         batch.push(event + 1, ops_of(alloc, event)?.as_slice())?;
     }
-    plan_for(rt, alloc, &batch)
+    plan_for(rt, alloc, batch)
 }

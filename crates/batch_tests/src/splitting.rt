@@ -26,10 +26,10 @@ const OPS: [(usize, u8, u32, u64); 14] = [
     (3, 1, 2, 5),
 ];
 
-fn events_of(alloc: Global, txns: &Txns<'_>) -> Result<Vec<(u64, u32, u32)>, OutOfMemory> {
+fn events_of(alloc: Global, txns: &Txns) -> Result<Vec<(u64, u32, u32)>, OutOfMemory> {
     let mut rows = Vec::new(alloc);
-    for i in 0..txns.len() {
-        let event = txns.event(i);
+    for i in 0..txns.events().len() {
+        let event = txns.events().get(i);
         rows.push((event.ts, event.first, event.count))?;
     }
     Ok(rows)
@@ -51,10 +51,10 @@ fn append_ops(
     Ok(())
 }
 
-fn ops_of(alloc: Global, txns: &Txns<'_>) -> Result<Vec<(usize, u8, u32, u64)>, OutOfMemory> {
+fn ops_of(alloc: Global, txns: &Txns) -> Result<Vec<(usize, u8, u32, u64)>, OutOfMemory> {
     let mut rows = Vec::new(alloc);
-    for i in 0..txns.len() {
-        append_ops(&mut rows, i, txns.event(i), txns.ops())?;
+    for i in 0..txns.events().len() {
+        append_ops(&mut rows, i, txns.events().get(i), txns.ops())?;
     }
     Ok(rows)
 }
@@ -63,10 +63,10 @@ fn ops_of(alloc: Global, txns: &Txns<'_>) -> Result<Vec<(usize, u8, u32, u64)>, 
 fn check(rt: &impl Abort, alloc: Global, times: &[u64]) -> Result<(), OutOfMemory> {
     let batch = batch_of(alloc, times)?;
     assert!(rt; batch.is_valid());
-    let txns = split(alloc, &batch)?;
+    let txns = split(alloc, batch)?;
     let events = events_of(alloc, &txns)?;
     assert_eq!(rt; events.as_slice(), EVENTS.as_slice());
-    assert_eq!(rt; txns.op_count(), OPS.len());
+    assert_eq!(rt; txns.ops().len(), OPS.len());
     let ops = ops_of(alloc, &txns)?;
     assert_eq!(rt; ops.as_slice(), OPS.as_slice());
     Ok(())

@@ -37,6 +37,10 @@ transaction_by ops head = transaction head.ts (take head.count (drop head.first 
 abbrev pub transactions_of : Batch → List Transaction
 transactions_of batch = map (transaction_by batch.ops) batch.heads.items
 
+-- All operations that a batch keeps: those of its events, and what a refused push left
+abbrev pub kept_ops : Batch → List Op
+kept_ops batch = batch.ops
+
 -- The keys that a transaction changes, in operation order
 abbrev pub targets : Transaction → List Key
 targets e = map (λ op. op.key) e.ops

@@ -105,17 +105,6 @@ impl OpRows {
         })
     }
 
-    /// The same operations once more.
-    pub fn copied(&self, alloc: Global) -> Result<Self, OutOfMemory>
-        ensures { IfOk result (λ rows. rows ≡ self.now) }
-    {
-        Ok(OpRows {
-            heads: List::from_slice(alloc, self.heads.as_slice())?,
-            keys: List::from_slice(alloc, self.keys.as_slice())?,
-            limits: List::from_slice(alloc, self.limits.as_slice())?,
-        })
-    }
-
     /// How many operations there are.
     pub fn len(&self) -> usize
         ensures { result ≡ length self.now }

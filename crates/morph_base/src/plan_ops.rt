@@ -70,15 +70,17 @@ impl Model for PlanOps {
 }
 
 impl PlanOps {
-    /// Operations of a valid shape, whose events are all still to be said.
-    pub fn of(alloc: Global, rows: &OpRows) -> Result<Self, OutOfMemory>
-        requires { All IsShaped rows.now }
-        ensures { IfOk result (λ list. list ≡ op_list [] rows.now) }
+    /// Operations of a valid shape, whose events are all still to be said. The rows go into the list as they are.
+    pub fn of(alloc: Global, rows: OpRows) -> Result<Self, OutOfMemory>
+        requires { All IsShaped rows }
+        ensures { IfOk result (λ list. list ≡ op_list [] rows) }
     {
+        let marks = List::with_room(alloc, rows.len())?;
+        let places = List::filled(alloc, rows.key_count(), 0)?;
         Ok(PlanOps {
-            rows: rows.copied(alloc)?,
-            marks: List::with_room(alloc, rows.len())?,
-            places: List::filled(alloc, rows.key_count(), 0)?,
+            rows,
+            marks,
+            places,
         })
     }
 

@@ -112,7 +112,7 @@ fn run_batches<R: Threads + Wait + Sync, A: EventApp + Copy, S: Source, K: Sink,
 {
     'batches: loop {
         match progress.reader.next_batch(job.host.alloc, source)? {
-            Next::Batch(batch) => take_batch(job, progress, &batch, sink, notes, tally)?,
+            Next::Batch(mut batch) => take_batch(job, progress, &mut batch, sink, notes, tally)?,
             Next::End => {
                 let values = progress.engine.state();
                 tell_closing(&mut progress.out, sink, notes, job, values, tally)?;

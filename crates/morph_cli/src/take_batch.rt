@@ -31,15 +31,15 @@ use worker_gate::Gate;
 pub fn take_batch<R: Threads + Wait + Sync, A: EventApp, K: Sink, N: Sink, G: Gate>(
     job: &Job<'_, A, R, G>,
     progress: &mut Progress<A>,
-    batch: &Batch,
+    batch: &mut Batch,
     sink: &mut K,
     notes: &mut N,
     tally: &mut Tally,
 ) -> Result<(), Fault>
     requires settings { AreInRange job.now.settings }
-    requires batch { IsBatch batch.now }
-    requires keys { BatchKeysIn progress.old.engine.layout batch.now }
-    requires small { IsUpTo (high_of_all (transactions_of batch.now)) (contents progress.old.engine) }
+    requires batch { IsBatch batch.old }
+    requires keys { BatchKeysIn progress.old.engine.layout batch.old }
+    requires small { IsUpTo (high_of_all (transactions_of batch.old)) (contents progress.old.engine) }
     requires empty { progress.old.out ≡ [] }
     requires room { (a : Account) → IsPlan a.plan → IsSoundAccount job.now.settings.workers a
         → HasRoom tally.old a }
@@ -47,7 +47,7 @@ pub fn take_batch<R: Threads + Wait + Sync, A: EventApp, K: Sink, N: Sink, G: Ga
     requires shown { IfSome progress.old.watching (IsShown progress.old.engine.layout
         tally.old.batches (contents progress.old.engine)) }
     requires watch { IsSome progress.old.watching → IsTrue job.now.settings.watch }
-    ensures takes { TakesBatch result job.now.settings batch.now
+    ensures takes { TakesBatch result job.now.settings batch.old
         (run_point progress.old.last progress.old.engine progress.old.watching tally.old
         (outputs_of (K.written sink.old) (N.written notes.old)))
         (run_point progress.new.last progress.new.engine progress.new.watching tally.new

@@ -138,17 +138,17 @@ pub fn run_watched<R: Threads + Sync, G: Gate>(
     host: &Host<'_, R, G>,
     watching: &mut Option<Watching>,
     engine: &mut Engine,
-    batch: &Batch,
+    batch: &mut Batch,
     settings: &Settings,
     last: Last,
 ) -> Result<Watched, OutOfMemory>
     requires settings { AreInRange settings.now }
-    requires batch { IsBatch batch.now }
-    requires keys { BatchKeysIn engine.old.layout batch.now }
-    requires small { IsUpTo (high_of_all (transactions_of batch.now)) (contents engine.old) }
+    requires batch { IsBatch batch.old }
+    requires keys { BatchKeysIn engine.old.layout batch.old }
+    requires small { IsUpTo (high_of_all (transactions_of batch.old)) (contents engine.old) }
     ensures layout { engine.new.layout ≡ engine.old.layout }
-    ensures state { OnOk result (contents engine.new ≡ fold_batch batch.now (contents engine.old)) }
-    ensures ran { IfOk result (λ ran. IsEndOf settings.now last engine.old batch.now ran.end) }
+    ensures state { OnOk result (contents engine.new ≡ fold_batch batch.old (contents engine.old)) }
+    ensures ran { IfOk result (λ ran. IsEndOf settings.now last engine.old batch.old ran.end) }
     ensures audit { IfOk result (λ ran. IfSome ran.audit (IsSeen watching.old)) }
     ensures watching { watching.new ≡ watching.old }
     ensures refused { is_checked settings.now.check ≡ false

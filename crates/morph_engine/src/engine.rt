@@ -26,16 +26,16 @@ use worker_gate::Gate;
 /// Makes the plan of a valid batch without a state: all its bases are 0 until [`Engine::rebase`] fills them in.
 ///
 /// If the keys of the batch are in a layout, so are those of the plan.
-pub fn plan_batch(alloc: Global, batch: &Batch) -> Result<Plan, OutOfMemory>
-    requires batch { IsBatch batch.now }
+pub fn plan_batch(alloc: Global, batch: Batch) -> Result<Plan, OutOfMemory>
+    requires batch { IsBatch batch }
     ensures valid { IfOk result IsValidPlan }
-    ensures events { IfOk result (IsPlanOf batch.now) }
+    ensures events { IfOk result (IsPlanOf batch) }
     ensures bases { IfOk result (λ plan. HasBases plan opening_state) }
     ensures keys { IfOk result (λ plan. (layout : Layout)
-        → BatchKeysIn layout batch.now → PlanKeysIn plan layout) }
+        → BatchKeysIn layout batch → PlanKeysIn plan layout) }
 {
     let txns = split(alloc, batch)?;
-    let plan = build(alloc, &txns)?;
+    let plan = build(alloc, txns)?;
     Ok(plan)
 }
 
@@ -113,12 +113,12 @@ impl Engine {
     /// Makes the plan of a valid batch, all of whose keys are in the layout, from the present state.
     ///
     /// No value of the state may be above the greatest value of the batch.
-    pub fn plan(&self, alloc: Global, batch: &Batch) -> Result<Plan, OutOfMemory>
-        requires batch { IsBatch batch.now }
-        requires keys { BatchKeysIn self.now.layout batch.now }
-        requires small { IsUpTo (high_of_all (transactions_of batch.now)) (contents self.now) }
+    pub fn plan(&self, alloc: Global, batch: Batch) -> Result<Plan, OutOfMemory>
+        requires batch { IsBatch batch }
+        requires keys { BatchKeysIn self.now.layout batch }
+        requires small { IsUpTo (high_of_all (transactions_of batch)) (contents self.now) }
         ensures valid { IfOk result IsValidPlan }
-        ensures events { IfOk result (IsPlanOf batch.now) }
+        ensures events { IfOk result (IsPlanOf batch) }
         ensures bases { IfOk result (λ plan. HasBases plan (contents self.now)) }
         ensures keys { IfOk result (λ plan. PlanKeysIn plan self.now.layout) }
     {

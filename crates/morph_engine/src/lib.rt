@@ -15,7 +15,7 @@
 //! ])?;
 //!
 //! let mut engine = Engine::new(alloc, layout)?;
-//! let plan = engine.plan(alloc, &batch)?;
+//! let plan = engine.plan(alloc, batch)?;
 //! let strategy = choose(&profile(&plan, Last::default()));
 //! let end = engine.run_batch(&rt, alloc, plan, &strategy, workers, &FreeGate)?;
 //! let committed = end.settled.committed.get(0);

@@ -11,7 +11,7 @@ use Rattle.morph_base.specs.declared.plan.PlanEvent.{PlanEvent}
 use Rattle.morph_base.specs.Numbering.{IsWithin}
 use Rattle.morph_base.specs.Plans.{no_plan_op, no_event}
 use Rattle.morph_base.specs.Graphs.{greatest, level_of}
-use Rattle.txn_splitter.specs.declared.txns.TxnEvent.{TxnEvent}
+use Rattle.txn_splitter.specs.declared.txn_events.TxnEvent.{TxnEvent}
 use Rattle.txn_splitter.specs.declared.txns.Txns.{Txns}
 use Rattle.txn_splitter.specs.Txns.{IsTxns, no_txn, txn_count, txn_op_count, txn_at, txn_of}
 use Rattle.precedence_graph.specs.Planned.{sources_of, planned, event_level_in, event_sources_of, members_of, txn_event, ArePlanned, AreEventsPlanned}

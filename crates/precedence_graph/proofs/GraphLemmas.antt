@@ -10,7 +10,7 @@ use Rattle.morph_base.specs.declared.plan.PlanEvent.{PlanEvent}
 use Rattle.morph_base.specs.declared.plan.Plan.{Plan}
 use Rattle.morph_base.specs.Plans.{no_plan_op, no_event, origins_of}
 use Rattle.morph_base.specs.Graphs.{greatest, below, is_written, level_of, event_origins, IsGraph}
-use Rattle.txn_splitter.specs.declared.txns.TxnEvent.{TxnEvent}
+use Rattle.txn_splitter.specs.declared.txn_events.TxnEvent.{TxnEvent}
 use Rattle.txn_splitter.specs.declared.txns.Txns.{Txns}
 use Rattle.txn_splitter.specs.Txns.{IsTxns, txn_count, txn_op_count, txn_at}
 use Rattle.txn_splitter.proofs.TxnLemmas.{txn_end}

@@ -14,7 +14,7 @@ pub use Rattle.morph_base.specs.Readers.{sources_of}
 use Rattle.morph_base.specs.Plans.{no_plan_op, no_event}
 use Rattle.morph_base.specs.Known.{IsKnown}
 use Rattle.morph_base.specs.Graphs.{greatest, is_written, level_of}
-use Rattle.txn_splitter.specs.declared.txns.TxnEvent.{TxnEvent}
+use Rattle.txn_splitter.specs.declared.txn_events.TxnEvent.{TxnEvent}
 use Rattle.txn_splitter.specs.declared.txns.Txns.{Txns}
 use Rattle.txn_splitter.specs.Txns.{txn_op_count, txn_at, txn_op_at, txn_of, txn_target}
 use Rattle.precedence_graph.specs.declared.edges.Written.{Written}

@@ -16,19 +16,19 @@ use txn_splitter::Txns;
 ///
 /// Each place that reads what an earlier event wrote names the last operation that did so. Each other place holds
 /// `Base(0)`, for the caller to fill in.
-pub fn build(alloc: Global, txns: &Txns<'_>) -> Result<Plan, OutOfMemory>
-    requires { IsTxns txns.now }
+pub fn build(alloc: Global, txns: Txns) -> Result<Plan, OutOfMemory>
+    requires { IsTxns txns }
 
     // It is a valid plan with its graph: sources, levels, level lists and counts.
     ensures plan { IfOk result IsPlan }
     ensures graph { IfOk result IsGraph }
 
     // Its operations and its events are those of the transactions.
-    ensures ops { IfOk result (λ plan. map (λ q. q.op) plan.ops.items ≡ txn_ops txns.now) }
+    ensures ops { IfOk result (λ plan. map (λ q. q.op) plan.ops.items ≡ txn_ops txns) }
     ensures events_of { IfOk result
-        (λ plan. map (λ q. q.event) plan.ops.items ≡ txns.now.event_of) }
-    ensures events { IfOk result (λ plan. map txn_event plan.events.items ≡ txns.now.events) }
-    ensures transactions { IfOk result (λ plan. transactions plan ≡ txn_transactions txns.now) }
+        (λ plan. map (λ q. q.event) plan.ops.items ≡ txns.event_of) }
+    ensures events { IfOk result (λ plan. map txn_event plan.events.items ≡ txns.events) }
+    ensures transactions { IfOk result (λ plan. transactions plan ≡ txn_transactions txns) }
 
     // Every base is 0.
     ensures blank { IfOk result (λ plan. (o j v : ℕ) → origin_at plan o j ≡ Base v → v ≡ 0) }

@@ -1,6 +1,7 @@
 ghost use Rattle.std.specs.Prelude.{◌≡◌, ◌+◌, ◌^◌, ◌<◌, ◌++◌, [], ◌∷◌, length, map, take, drop, IfOk};
 ghost use Rattle.std.specs.Prelude.{slice_index_or};
 ghost use Rattle.morph_base.specs.Graphs.{greatest, level_of};
+ghost use Rattle.morph_base.specs.OpLists.{op_list};
 ghost use Rattle.morph_base.specs.Operations.{no_op, reads, IsShaped};
 ghost use Rattle.txn_splitter.specs.Txns.{IsTxns, txn_ops, txn_count, txn_op_count, txn_at};
 ghost use Rattle.precedence_graph.specs.Planned.{HasWriters, HasLevels, HasEventLevels, IsWrittenOf};
@@ -14,7 +15,7 @@ use crate::transactions::event_at;
 use crate::writers::Writers;
 use morph_base::{List, OutOfMemory, PlanEvent, PlanOps};
 use std::alloc::Global;
-use txn_splitter::{TxnEvent, Txns};
+use txn_splitter::{TxnEvent, TxnEvents, Txns};
 
 /// Operations and events as a plan has them, and how many reads of operations they have.
 #[derive(Debug, Drop)]
@@ -26,16 +27,38 @@ pub struct Planned {
 
 /// Plans all transactions: the operations in order, each with its event, its sources and its level; the events, each
 /// with its level; and how many reads of operations there are.
-pub fn plan_transactions(alloc: Global, txns: &Txns<'_>) -> Result<Planned, OutOfMemory>
-    requires { IsTxns txns.now }
+pub fn plan_transactions(alloc: Global, txns: Txns) -> Result<Planned, OutOfMemory>
+    requires { IsTxns txns }
+    ensures ops { IfOk result
+        (λ planned. ArePlanned txns (txn_op_count txns) planned.ops.items) }
+    ensures events { IfOk result (λ planned.
+        AreEventsPlanned txns planned.ops.items (txn_count txns) planned.events.items) }
+    ensures written { IfOk result (λ planned. IsWrittenOf planned.ops.items planned.written) }
+{
+    let count = txns.ops().len();
+    let (events, rows) = txns.into_parts();
+    let ops = PlanOps::of(alloc, rows)?;
+    plan_events(alloc, &events, ops, count)
+}
+
+/// Plans all events. Their operations are these, so many, and all of them are still to be planned.
+fn plan_events(
+    alloc: Global,
+    txns: &TxnEvents,
+    ops: PlanOps,
+    count: usize,
+) -> Result<Planned, OutOfMemory>
+    requires txns { IsTxns txns.now }
+    requires coming { ops ≡ op_list [] (txn_ops txns.now) }
+    requires count { count ≡ txn_op_count txns.now }
     ensures ops { IfOk result
         (λ planned. ArePlanned txns.now (txn_op_count txns.now) planned.ops.items) }
     ensures events { IfOk result (λ planned.
         AreEventsPlanned txns.now planned.ops.items (txn_count txns.now) planned.events.items) }
     ensures written { IfOk result (λ planned. IsWrittenOf planned.ops.items planned.written) }
 {
-    let mut writers = Writers::new(alloc, txns.op_count())?;
-    let mut ops = PlanOps::of(alloc, txns.ops())?;
+    let mut writers = Writers::new(alloc, count)?;
+    let mut ops = ops;
     let mut events = List::with_room(alloc, txns.len())?;
     let mut written = Written {
         targets: 0,
@@ -64,7 +87,7 @@ pub fn plan_transactions(alloc: Global, txns: &Txns<'_>) -> Result<Planned, OutO
 /// Returns the greatest level of the events that they read from, as these were entered, or 0 if there is none.
 #[inline(never)]
 fn plan_event_ops(
-    txns: &Txns<'_>,
+    txns: &TxnEvents,
     i: usize,
     writers: &Writers,
     ops: &mut PlanOps,
@@ -119,7 +142,7 @@ fn add_planned(ops: &mut PlanOps, event: u32, writers: &Writers) -> Reads
 
 /// Enters the operations of event `i` as writers, each with its level and that of the event.
 fn enter_event(
-    txns: &Txns<'_>,
+    txns: &TxnEvents,
     i: usize,
     ops: &PlanOps,
     events: &[PlanEvent],

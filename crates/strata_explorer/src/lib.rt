@@ -22,7 +22,7 @@
 //! |---|---|
 //! | `exploration` | [`explore`] and [`counters`] |
 //! | `levels` | all levels, over which each worker goes by itself, under lazy abort |
-//! | `look_ahead` | what a worker who is alone loads before it comes to a level |
+//! | `look_ahead` | what a worker who is alone loads before a level |
 //! | `passes` | passes one after another, under eager abort |
 //! | `pass` | one of them, by all workers or the first alone |
 //! | `walk` | how a worker takes the places of a pass, and walks their units |

@@ -1,4 +1,4 @@
-//! What a worker who is alone loads before it comes to a level.
+//! What a worker who is alone loads before a level.
 ghost use Rattle.std.specs.Prelude.{◌≡◌, ◌⊎◌, ◌<◌, ◌≤◌, length};
 ghost use Rattle.morph_base.specs.Plans.{op_count};
 ghost use Rattle.abort_eager.specs.Grounds.{IsGround};
@@ -20,9 +20,9 @@ const STRIDE: u32 = 4;
 /// How far a worker has looked ahead in a plan.
 ///
 /// The operations of a narrow level lie far apart in memory, and each level goes a little further than the one before.
-/// So a processor would wait for memory at most of them. A worker who is alone loads what it comes to next in the order
-/// in which it lies in memory, which processors see, and load before it is asked for. Where workers share the levels,
-/// each would load what others change.
+/// So a processor would wait for memory at most of them. A worker who is alone loads what it will need next
+/// in the order in which it lies in memory, which processors see, and load before it is asked for. Where workers share
+/// the levels, each would load what others change.
 #[derive(Drop)]
 pub(crate) struct LookAhead {
     alone: bool,

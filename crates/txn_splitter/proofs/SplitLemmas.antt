@@ -14,7 +14,7 @@ use Rattle.morph_base.specs.Transactions.{Transaction, IsTransaction}
 use Rattle.morph_base.specs.Plans.{no_op}
 use Rattle.morph_base.proofs.KeyLaws.{same_key-false}
 use Rattle.morph_base.proofs.OutcomeLaws.{map-agree}
-use Rattle.txn_splitter.specs.declared.txns.TxnEvent.{TxnEvent}
+use Rattle.txn_splitter.specs.declared.txn_events.TxnEvent.{TxnEvent}
 use Rattle.txn_splitter.specs.Txns.{NumberedTxns, IsTxns, IsSplitOf, no_txn, transaction_among, txn_ops, txn_count, txn_op_count, txn_at, txn_op_at, txn_of}
 use Rattle.txn_splitter.proofs.TxnLemmas.{txn_end}
 

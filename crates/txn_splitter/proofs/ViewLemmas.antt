@@ -1,5 +1,5 @@
 -- What contracts see of a split batch with one event more, and its operations as those of the transactions by time.
-use Rattle.std.proofs.Common.{All, ◌≡◌, ℕ, suc, ◌+◌, List, [], ◌∷◌, ◌++◌, length, map, replicate, append_assoc, refl, sym, ap, ◌∙◌, arith}
+use Rattle.std.proofs.Common.{All, ◌≡◌, ℕ, suc, ◌+◌, List, [], ◌∷◌, ◌++◌, length, map, replicate, append_assoc, refl, sym, ap, subst, ◌∙◌, arith}
 use Rattle.std.specs.List.{flat_map}
 use Rattle.std.proofs.lemmas.List.{append-nil}
 use Rattle.std.proofs.lemmas.List.Elements.{All-nil, All-append, All-head, All-tail}
@@ -8,8 +8,9 @@ use Rattle.morph_base.specs.declared.event.Event.{Event}
 use Rattle.morph_base.specs.declared.operation.Op.{Op}
 use Rattle.morph_base.specs.Transactions.{Transaction, transaction_of}
 use Rattle.morph_base.proofs.RunLaws.{ops_along}
-use Rattle.txn_splitter.specs.declared.txns.TxnEvent.{TxnEvent}
-use Rattle.txn_splitter.specs.TxnViews.{event_numbers}
+use Rattle.txn_splitter.specs.declared.txn_events.TxnEvent.{TxnEvent}
+use Rattle.txn_splitter.specs.Txns.{NumberedTxns, IsSplitOf, txn_ops}
+use Rattle.txn_splitter.specs.TxnViews.{event_numbers, numbered}
 
 pub ops_along_push : (es : List Transaction) (e : Transaction) → ops_along (es ++ e ∷ []) ≡ ops_along es ++ e.ops
 ops_along_push es e =
@@ -35,3 +36,13 @@ event_numbers_push i (f ∷ es) e =
     let same : suc i + length es ≡ i + length (f ∷ es) = omega arith in
     ap (λ rest. replicate f.count i ++ rest) (event_numbers_push (suc i) es e) ∙ ap numbers same
     ∙ sym (append_assoc (replicate f.count i) (event_numbers (suc i) es) (replicate e.count (i + length (f ∷ es))))
+
+-- events with these operations are a split of the transactions
+pub split_as : (es : List Transaction) (events : List TxnEvent) (ops : List Op) (x : NumberedTxns) → IsSplitOf es (numbered events (ops_along es)) → ops ≡ ops_along es → x ≡ numbered events ops → IsSplitOf es x
+split_as es events ops x is same made =
+    subst (IsSplitOf es) (sym made) (subst (λ (os : List Op). IsSplitOf es (numbered events os)) (sym same) is)
+
+-- what holds of the operations of each transaction holds of those of the split
+pub all_as : (P : Op → Type 0) (es : List Transaction) (events : List TxnEvent) (ops : List Op) (x : NumberedTxns) → All (λ (e : Transaction). All P e.ops) es → ops ≡ ops_along es → x ≡ numbered events ops → All P (txn_ops x)
+all_as P es events ops x each same made =
+    subst (All P) (sym (ap txn_ops made ∙ same)) (all_along P es each)

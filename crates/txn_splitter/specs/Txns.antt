@@ -7,7 +7,7 @@ use Rattle.morph_base.specs.Transactions.{Transaction, transactions_of, by_time}
 use Rattle.morph_base.specs.Operations.{high_in}
 use Rattle.morph_base.specs.Numbering.{numbers, EventNumbers, IsNumbering}
 use Rattle.morph_base.specs.Plans.{no_op}
-use Rattle.txn_splitter.specs.declared.txns.TxnEvent.{TxnEvent}
+use Rattle.txn_splitter.specs.declared.txn_events.TxnEvent.{TxnEvent}
 
 -- What contracts see of a split batch: the events, the operations of all events, and for each operation the number of
 -- its event

@@ -13,6 +13,14 @@ pub(crate) enum Order<'a> {
     Sorted(Vec<Event<'a>>),
 }
 
+/// The timestamp of an event, and how many operations it has.
+fn head_of(event: &Event<'_>) -> (u64, usize)
+    ensures ts { result.0 ≡ event.now.ts }
+    ensures count { result.1 ≡ length event.now.ops }
+{
+    (event.ts, event.ops.len())
+}
+
 impl<'a> Order<'a> {
     /// The timestamp of event `i`, and how many operations it has.
     pub(crate) fn event(&self, i: usize) -> (u64, usize)
@@ -21,14 +29,8 @@ impl<'a> Order<'a> {
         ensures count { result.1 ≡ length (slice_index_or (in_order self.now) i no_transaction).ops }
     {
         match self {
-            Order::AsTheyCame(batch) => {
-                let event = batch.event(i);
-                (event.ts, event.ops.len())
-            }
-            Order::Sorted(events) => {
-                let event = &events[i];
-                (event.ts, event.ops.len())
-            }
+            Order::AsTheyCame(batch) => head_of(&batch.event(i)),
+            Order::Sorted(events) => head_of(&events[i]),
         }
     }
 }

@@ -2,43 +2,33 @@ ghost use Rattle.std.specs.Prelude.{◌≡◌, ◌++◌, All, IfOk, OnOk};
 ghost use Rattle.std.specs.List.{flat_map};
 ghost use Rattle.morph_base.specs.Transactions.{IsBatch, by_time, high_of_all, transactions_of};
 ghost use Rattle.txn_splitter.specs.Txns.{IsSplitOf, IsTxns, IsTxnsOf, txn_ops};
-ghost use Rattle.txn_splitter.specs.TxnViews.{in_order, numbered, ops_held};
+ghost use Rattle.txn_splitter.specs.TxnViews.{in_order, numbered};
 
 use crate::order::Order;
-use crate::txns::{TxnEvent, TxnOps, Txns};
+use crate::txn_events::TxnEvent;
+use crate::txns::Txns;
 use morph_base::{Batch, Event, List, OpRows, OpSpan, OutOfMemory};
 use std::alloc::Global;
 
-/// Cuts a batch into its transactions, by rising timestamp.
-pub fn split(alloc: Global, batch: &Batch) -> Result<Txns<'_>, OutOfMemory>
-    requires { IsBatch batch.now }
+/// Cuts a batch into its transactions, by rising timestamp. If its events came in this order, its operations stay where
+/// they are.
+pub fn split(alloc: Global, batch: Batch) -> Result<Txns, OutOfMemory>
+    requires { IsBatch batch }
 
     // They are the batch's transactions, numbered, with nothing added and nothing dropped.
-    ensures of { IfOk result (IsTxnsOf batch.now) }
+    ensures of { IfOk result (IsTxnsOf batch) }
     ensures valid { IfOk result IsTxns }
     ensures high { IfOk result (λ txns.
-        All (λ op. op.high ≡ high_of_all (transactions_of batch.now)) (txn_ops txns)) }
+        All (λ op. op.high ≡ high_of_all (transactions_of batch)) (txn_ops txns)) }
 {
-    let (order, ops) = by_rising_time(alloc, batch)?;
-    let events = number_events(alloc, batch, &order)?;
-    Ok(Txns { events, ops })
-}
-
-/// The events of a batch by rising timestamp, and the operations of all, one event after another.
-fn by_rising_time(alloc: Global, batch: &Batch) -> Result<(Order<'_>, TxnOps<'_>), OutOfMemory>
-    requires { IsBatch batch.now }
-    ensures order { IfOk result (λ both. in_order both.0 ≡ by_time (transactions_of batch.now)) }
-    ensures ops { IfOk result (λ both. ops_held both.1
-        ≡ flat_map (λ e. e.ops) (by_time (transactions_of batch.now))) }
-{
-    match batch.rising_ops() {
-        Some(ops) => Ok((Order::AsTheyCame(batch), TxnOps::Lent(ops))),
-        None => {
-            let events = batch.by_time(alloc)?;
-            let ops = gathered(alloc, batch, events.as_slice())?;
-            Ok((Order::Sorted(events), TxnOps::Own(ops)))
-        }
+    if batch.is_rising() {
+        let events = number_events(alloc, &batch, &Order::AsTheyCame(&batch))?;
+        return Ok(Txns::of(events, batch.into_ops()));
     }
+    let sorted = batch.by_time(alloc)?;
+    let ops = gathered(alloc, &batch, sorted.as_slice())?;
+    let events = number_events(alloc, &batch, &Order::Sorted(sorted))?;
+    Ok(Txns::of(events, ops))
 }
 
 /// The events of a batch in this order, which is by rising timestamp. Each has the operations that follow those of the

@@ -2,7 +2,7 @@ ghost use Rattle.std.specs.Prelude.{◌≡◌, ◌-◌, ◌<◌, ◌≤◌, ◌�
 ghost use Rattle.std.specs.Prelude.{IfOk, IfSome, IsTrue, OnOk, OnErr};
 ghost use Rattle.std.specs.List.{flat_map};
 ghost use Rattle.morph_base.specs.Transactions.{transaction, transaction_of, transactions_of, no_transaction};
-ghost use Rattle.morph_base.specs.Transactions.{by_time, IsBatch};
+ghost use Rattle.morph_base.specs.Transactions.{by_time, kept_ops, IsBatch};
 
 use super::{Batch, BatchRoom, EventHead};
 use crate::event::Event;
@@ -118,29 +118,33 @@ impl Batch {
         }
     }
 
-    /// The operations of all events, if the events came by rising timestamp and nothing else stands among their operations.
-    /// What a refused push left may stand there.
-    pub fn rising_ops(&self) -> Option<&OpRows>
+    /// Whether the events came by rising timestamp, and nothing else stands among their operations. What a refused push
+    /// left may stand there.
+    pub fn is_rising(&self) -> bool
         requires { IsBatch self.now }
-        ensures ops { IfSome result (λ rows. rows.now
-            ≡ flat_map (λ e. e.ops) (transactions_of self.now)) }
-        ensures order { IfSome result
-            (λ _. by_time (transactions_of self.now) ≡ transactions_of self.now) }
+        ensures ops { IsTrue result
+            → kept_ops self.now ≡ flat_map (λ e. e.ops) (transactions_of self.now) }
+        ensures order { IsTrue result
+            → by_time (transactions_of self.now) ≡ transactions_of self.now }
     {
         let mut end = 0;
         let mut latest = 0;
         for head in self.heads.as_slice() {
             if head.first != end || head.ts < latest {
-                return None;
+                return false;
             }
             end += head.count;
             latest = head.ts;
         }
-        if end == self.ops.len() {
-            Some(&self.ops)
-        } else {
-            None
-        }
+        end == self.ops.len()
+    }
+
+    /// The operations of all events, as they came, and what a refused push left among them.
+    pub fn into_ops(self) -> OpRows
+        ensures { result ≡ kept_ops self }
+    {
+        let Batch { heads: _, ops } = self;
+        ops
     }
 
     /// No operations, with memory for as many as this batch has.

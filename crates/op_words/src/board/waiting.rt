@@ -1,5 +1,5 @@
-//! What a worker looks at while it waits, or before it comes to an operation. The hand notes none of these loads, so its
-//! view stays as it was.
+//! What a worker looks at while it waits, or before it evaluates an operation. The hand notes none of these loads, so
+//! its view stays as it was.
 ghost use Rattle.std.specs.Prelude.{◌≡◌, ◌<◌};
 ghost use Rattle.morph_base.specs.Plans.{op_count};
 ghost use Rattle.op_words.specs.Hands.{plan_of, view_of, IsHandOf, MayCall};
@@ -45,8 +45,8 @@ impl Board {
         }
     }
 
-    /// Loads what evaluating an operation begins with, so that the processor has it at hand when the worker comes to it:
-    /// the operation's word, the record of its first place, and the word of this place's source.
+    /// Loads what evaluating an operation begins with, so that the processor has it at hand by then: the operation's
+    /// word, the record of its first place, and the word of this place's source.
     ///
     /// The hand notes no load, and nothing rests on what they find.
     pub fn preload(&self, hand: &mut Hand, plan: &Plan, op: u32)

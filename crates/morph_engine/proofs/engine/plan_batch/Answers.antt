@@ -7,7 +7,7 @@ returns-clause-events c = c.in_ok-plan.ensures.transactions ∙ c.in_ok-txns.ens
 
 pub returns-clause-keys : goal.returns-clause-keys
 returns-clause-keys c layout inside =
-    keys_of_batch c.args.batch.now c.in_ok-plan.plan layout c.in_ok-plan.ensures.plan
+    keys_of_batch c.args.batch c.in_ok-plan.plan layout c.in_ok-plan.ensures.plan
     (c.in_ok-plan.ensures.transactions ∙ c.in_ok-txns.ensures.of.transactions) inside
 
 pub returns-clause-bases : goal.returns-clause-bases

@@ -11,47 +11,47 @@ use Rattle.precedence_graph.proofs.builder.build.Goals as goal
 
 pub op_level_lists-requires-clause-positive : goal.op_level_lists-requires-clause-positive
 op_level_lists-requires-clause-positive c =
-    let x = c.args.txns.now in
+    let x = c.args.txns in
     let ops = c.in_ok-ops.field-0.ops.items in
     levels_positive x c.requires ops c.in_ok-ops.ensures.ops
 
 pub op_level_lists-requires-clause-few : goal.op_level_lists-requires-clause-few
 op_level_lists-requires-clause-few c =
-    let x = c.args.txns.now in
+    let x = c.args.txns in
     let ops = c.in_ok-ops.field-0.ops.items in
     omega (arith, ops_few x c.requires ops c.in_ok-ops.ensures.ops)
 
 pub event_level_lists-requires-clause-positive : goal.event_level_lists-requires-clause-positive
 event_level_lists-requires-clause-positive c =
-    let x = c.args.txns.now in
+    let x = c.args.txns in
     let ops = c.in_ok-ops.field-0.ops.items in
     let events = c.in_ok-ops.field-0.events.items in
     subst (All (λ e. 0 < e.level)) (sym c.as_slice-2.ensures) (event_levels_positive x c.requires ops events c.in_ok-ops.ensures.events)
 
 pub event_level_lists-requires-clause-few : goal.event_level_lists-requires-clause-few
 event_level_lists-requires-clause-few c =
-    let x = c.args.txns.now in
+    let x = c.args.txns in
     let ops = c.in_ok-ops.field-0.ops.items in
     let events = c.in_ok-ops.field-0.events.items in
     omega (arith, ap length c.as_slice-2.ensures, events_few x c.requires ops events c.in_ok-ops.ensures.events)
 
 pub logical-requires-clause-counts : goal.logical-requires-clause-counts
 logical-requires-clause-counts c =
-    let x = c.args.txns.now in
+    let x = c.args.txns in
     let ops = c.in_ok-ops.field-0.ops.items in
     let events = c.in_ok-ops.field-0.events.items in
     subst (All (λ e. (0 < e.count) × (e.count ≤ EVENT_OPS))) (sym c.as_slice.ensures) (event_counts x c.requires ops events c.in_ok-ops.ensures.events)
 
 pub logical-requires-clause-few : goal.logical-requires-clause-few
 logical-requires-clause-few c =
-    let x = c.args.txns.now in
+    let x = c.args.txns in
     let ops = c.in_ok-ops.field-0.ops.items in
     let events = c.in_ok-ops.field-0.events.items in
     omega (arith, ap length c.as_slice.ensures, events_few x c.requires ops events c.in_ok-ops.ensures.events)
 
 pub returns-clause-plan : goal.returns-clause-plan
 returns-clause-plan c =
-    let x = c.args.txns.now in
+    let x = c.args.txns in
     let p : Plan = record {
       events = c.in_ok-ops.field-0.events;
       ops = c.in_ok-ops.field-0.ops;
@@ -64,7 +64,7 @@ returns-clause-plan c =
 
 pub returns-clause-graph : goal.returns-clause-graph
 returns-clause-graph c =
-    let x = c.args.txns.now in
+    let x = c.args.txns in
     let p : Plan = record {
       events = c.in_ok-ops.field-0.events;
       ops = c.in_ok-ops.field-0.ops;
@@ -79,7 +79,7 @@ returns-clause-graph c =
 
 pub returns-clause-ops : goal.returns-clause-ops
 returns-clause-ops c =
-    let x = c.args.txns.now in
+    let x = c.args.txns in
     let p : Plan = record {
       events = c.in_ok-ops.field-0.events;
       ops = c.in_ok-ops.field-0.ops;
@@ -92,7 +92,7 @@ returns-clause-ops c =
 
 pub returns-clause-events_of : goal.returns-clause-events_of
 returns-clause-events_of c =
-    let x = c.args.txns.now in
+    let x = c.args.txns in
     let p : Plan = record {
       events = c.in_ok-ops.field-0.events;
       ops = c.in_ok-ops.field-0.ops;
@@ -105,7 +105,7 @@ returns-clause-events_of c =
 
 pub returns-clause-events : goal.returns-clause-events
 returns-clause-events c =
-    let x = c.args.txns.now in
+    let x = c.args.txns in
     let p : Plan = record {
       events = c.in_ok-ops.field-0.events;
       ops = c.in_ok-ops.field-0.ops;
@@ -118,7 +118,7 @@ returns-clause-events c =
 
 pub returns-clause-transactions : goal.returns-clause-transactions
 returns-clause-transactions c =
-    let x = c.args.txns.now in
+    let x = c.args.txns in
     let p : Plan = record {
       events = c.in_ok-ops.field-0.events;
       ops = c.in_ok-ops.field-0.ops;
@@ -131,7 +131,7 @@ returns-clause-transactions c =
 
 pub returns-clause-blank : goal.returns-clause-blank
 returns-clause-blank c =
-    let x = c.args.txns.now in
+    let x = c.args.txns in
     let p : Plan = record {
       events = c.in_ok-ops.field-0.events;
       ops = c.in_ok-ops.field-0.ops;

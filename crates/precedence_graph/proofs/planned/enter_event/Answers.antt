@@ -8,7 +8,7 @@ use Rattle.morph_base.specs.declared.plan.PlanEvent.{PlanEvent}
 use Rattle.morph_base.specs.Numbering.{IsWithin}
 use Rattle.morph_base.specs.Operations.{same_key}
 use Rattle.morph_base.specs.Plans.{no_event}
-use Rattle.txn_splitter.specs.declared.txns.TxnEvent.{TxnEvent}
+use Rattle.txn_splitter.specs.declared.txn_events.TxnEvent.{TxnEvent}
 use Rattle.txn_splitter.specs.Txns.{txn_at, txn_target}
 use Rattle.precedence_graph.specs.Writers.{entered_count, source_in, entered_level, entered_event_level}
 use Rattle.precedence_graph.specs.Planned.{planned, op_level_in, event_level_in}

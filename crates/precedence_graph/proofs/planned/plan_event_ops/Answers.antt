@@ -11,7 +11,7 @@ use Rattle.morph_base.specs.declared.plan.PlanOp.{PlanOp}
 use Rattle.morph_base.specs.Operations.{no_op, reads, IsShaped}
 use Rattle.morph_base.specs.Numbering.{IsWithin}
 use Rattle.morph_base.specs.Graphs.{greatest, is_written, level_of}
-use Rattle.txn_splitter.specs.declared.txns.TxnEvent.{TxnEvent}
+use Rattle.txn_splitter.specs.declared.txn_events.TxnEvent.{TxnEvent}
 use Rattle.txn_splitter.specs.declared.txns.Txns.{Txns}
 use Rattle.txn_splitter.specs.Txns.{IsTxns, txn_ops, txn_count, txn_at, txn_op_at}
 use Rattle.txn_splitter.proofs.TxnLemmas.{txn_end, txn_ops_few}

@@ -6,7 +6,7 @@ use Rattle.morph_base.specs.declared.batch.Batch.{Batch}
 use Rattle.morph_base.specs.declared.operation.Op.{Op}
 use Rattle.morph_base.specs.Transactions.{high_of_all, no_transaction, Transaction, IsBatch, IsTransaction, transactions_of, by_time}
 use Rattle.morph_base.proofs.RunLaws.{ops_along}
-use Rattle.txn_splitter.specs.declared.txns.TxnEvent.{TxnEvent}
+use Rattle.txn_splitter.specs.declared.txn_events.TxnEvent.{TxnEvent}
 use Rattle.txn_splitter.specs.Txns.{NumberedTxns, IsSplitOf}
 use Rattle.txn_splitter.specs.TxnViews.{event_numbers, in_order, numbered}
 use Rattle.txn_splitter.proofs.TxnLemmas.{txn_ops_few}

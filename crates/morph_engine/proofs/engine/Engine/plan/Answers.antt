@@ -7,4 +7,4 @@ rebase-requires-clause-keys c = c.in_ok-plan.ensures.keys c.args.self.now.layout
 
 pub rebase-requires-clause-small : goal.rebase-requires-clause-small
 rebase-requires-clause-small c = λ key.
-    le_trans (c.requires.small key) (high_of-batch c.args.batch.now c.in_ok-plan.plan c.requires.batch c.in_ok-plan.ensures.valid.plan c.in_ok-plan.ensures.events)
+    le_trans (c.requires.small key) (high_of-batch c.args.batch c.in_ok-plan.plan c.requires.batch c.in_ok-plan.ensures.valid.plan c.in_ok-plan.ensures.events)

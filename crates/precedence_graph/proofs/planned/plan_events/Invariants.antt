@@ -1,7 +1,7 @@
 use Rattle.std.proofs.Common.{◌≡◌, ◌+◌, ◌<◌, ◌≤◌, length, drop}
 use Rattle.txn_splitter.specs.Txns.{txn_ops, txn_count, txn_op_count, txn_at}
 use Rattle.precedence_graph.specs.Planned.{HasWriters, HasLevels, HasEventLevels, IsWrittenOf, ArePlanned, AreEventsPlanned}
-use Rattle.precedence_graph.proofs.planned.plan_transactions.Given as goal
+use Rattle.precedence_graph.proofs.planned.plan_events.Given as goal
 
 abbrev pub invariant-loop-i : goal.invariant-loop-i
 invariant-loop-i l = record {

@@ -1,6 +1,6 @@
 use Rattle.std.proofs.Common.{take}
 use Rattle.morph_base.proofs.RunLaws.{IsRun}
-use Rattle.morph_base.proofs.batch.Batch.rising_ops.Given as goal
+use Rattle.morph_base.proofs.batch.Batch.is_rising.Given as goal
 
 -- the events so far have the operations so far, in time order
 abbrev pub invariant-loop-head : goal.invariant-loop-head

@@ -30,7 +30,8 @@ use Rattle.morph_cli.proofs.run_batch.run_batch.Goals as goal
 
 pub returns-clause-state : goal.returns-clause-state
 returns-clause-state g c =
-    on_ok_weaker c.run_batch.result (λ state. state ∙ state_at-fold c.args.batch.now c.in_ok-plan.plan (contents c.args.engine.now) c.in_ok-plan.ensures.events) c.run_batch.ensures.state
+    let events = subst (λ (b : Batch). transactions c.in_ok-plan.plan ≡ by_time (transactions_of b)) c.replace-whole.ensures.value c.in_ok-plan.ensures.events in
+    on_ok_weaker c.run_batch.result (λ state. state ∙ state_at-fold c.args.batch.now c.in_ok-plan.plan (contents c.args.engine.now) events) c.run_batch.ensures.state
 
 -- what came of the run is what came of the batch
 ends_are : {E : Type 0} (r : Result BatchEnd E) (s : Settings) (last : Last) (before : Kept) (batch : Batch) (p : Plan) (q : Strategy) →
@@ -76,19 +77,22 @@ run_checked-requires-clause-lazy g c κs within =
 
 pub returns-then-is_on-clause-state : goal.returns-then-is_on-clause-state
 returns-then-is_on-clause-state g c =
-    on_ok_weaker c.run_checked.result (λ state. state ∙ state_at-fold c.args.batch.now c.in_ok-plan.plan (contents c.args.engine.now) c.in_ok-plan.ensures.events) c.run_checked.ensures.state
+    let events = subst (λ (b : Batch). transactions c.in_ok-plan.plan ≡ by_time (transactions_of b)) c.replace-whole.ensures.value c.in_ok-plan.ensures.events in
+    on_ok_weaker c.run_checked.result (λ state. state ∙ state_at-fold c.args.batch.now c.in_ok-plan.plan (contents c.args.engine.now) events) c.run_checked.ensures.state
 
 pub returns-then-is_on-clause-ran : goal.returns-then-is_on-clause-ran
 returns-then-is_on-clause-ran g c =
+    let events = subst (λ (b : Batch). transactions c.in_ok-plan.plan ≡ by_time (transactions_of b)) c.replace-whole.ensures.value c.in_ok-plan.ensures.events in
     ends_are c.run_checked.result c.args.settings.now c.args.last c.args.engine.now c.args.batch.now c.in_ok-plan.plan c.strategy_for-strategy.result
     (one_worker c.run_checked.result c.in_ok-plan.plan c.strategy_for-strategy.result (contents c.args.engine.now) c.args.settings.now.workers (c.requires.settings.unchecked (sym c.is_on.ensures ∙ c.if-is_on.true)).2 c.run_checked.ensures.ended)
     (asked c.run_checked.result c.args.settings.now c.run_checked.ensures.checked)
-    c.in_ok-plan.ensures.events (record { valid = c.in_ok-plan.ensures.valid; events = c.in_ok-plan.ensures.events; bases = c.in_ok-plan.ensures.bases })
+    events (record { valid = c.in_ok-plan.ensures.valid; events = events; bases = c.in_ok-plan.ensures.bases })
     c.in_ok-plan.ensures.keys c.strategy_for-strategy.ensures
 
 pub returns-clause-ran : goal.returns-clause-ran
 returns-clause-ran g c =
+    let events = subst (λ (b : Batch). transactions c.in_ok-plan.plan ≡ by_time (transactions_of b)) c.replace-whole.ensures.value c.in_ok-plan.ensures.events in
     ends_are c.run_batch.result c.args.settings.now c.args.last c.args.engine.now c.args.batch.now c.in_ok-plan.plan c.strategy_for-strategy.result
     c.run_batch.ensures.ended (unasked c.run_batch.result c.args.settings.now (sym c.is_on.ensures ∙ c.if-is_on.false))
-    c.in_ok-plan.ensures.events (record { valid = c.in_ok-plan.ensures.valid; events = c.in_ok-plan.ensures.events; bases = c.in_ok-plan.ensures.bases })
+    events (record { valid = c.in_ok-plan.ensures.valid; events = events; bases = c.in_ok-plan.ensures.bases })
     c.in_ok-plan.ensures.keys c.strategy_for-strategy.ensures

@@ -80,8 +80,8 @@ fn ended<R: Threads + Sync>(
 
 /// The values after the fold of a batch.
 fn folded(alloc: Global, batch: &Batch) -> Result<Values, OutOfMemory>
-    requires batch { IsBatch batch }
-    requires keys { BatchKeysIn LAYOUT batch }
+    requires batch { IsBatch batch.now }
+    requires keys { BatchKeysIn LAYOUT batch.now }
 {
     let mut values = Values::new(alloc, LAYOUT)?;
     let _outcomes = plain::fold(alloc, &mut values, batch)?;

@@ -7,15 +7,19 @@
 //! [is worth it](threads_for). A [`Gate`] may hold a worker for a while at each turn of its work. A run takes a gate,
 //! and must have the same result whatever gate it is.
 //!
-//! A job may have several stages, each with items of its own, which workers share by a counter. [`is_shared`] says
-//! whether a stage is worth sharing, and [`burst_for`] how many numbers a worker takes at a time. What all workers
-//! were between two stages is known although none waits for another there (`proofs/Stages.antt`).
+//! A job may have several stages, each with items of its own, which workers share by counters. [`is_shared`] says
+//! whether a stage is worth sharing, and [`burst_for`] how many numbers a worker takes at a time. [`Shares`] cuts the
+//! items of a stage into parts, each with a counter of its own, so that workers of different threads begin at different
+//! places. What each worker was between two stages is known although none waits for another there
+//! (`proofs/Stages.antt`).
 #![tactic(auto)]
 
 mod gate;
 mod hold_gate;
 mod job;
+pub mod laws;
 mod meet_gate;
+mod parts;
 #[cfg(test)]
 mod tests;
 mod turns;
@@ -27,4 +31,5 @@ pub use job::{
     threads_for,
 };
 pub use meet_gate::MeetGate;
+pub use parts::{Shares, part_of, parts_for};
 pub use turns::{Told, Turns, Untold};

@@ -190,3 +190,18 @@ fn one_worker_is_held_from_a_turn_on_and_the_other_goes_on(rt: HostRuntime) {
     let [first, _] = workers;
     assert_eq!(rt; (first.before < MANY, first.held >= MANY), (true, true));
 }
+
+#[test]
+fn workers_of_one_thread_begin_with_one_part_and_each_item_is_in_a_part(rt: HostRuntime) {
+    let shares = Shares::among(6, 4);
+    assert_eq!(rt; (shares.each, shares.parts), (2, 4));
+    let own = [0, 1, 2, 3, 4, 5].map(|number| shares.own_part(number));
+    assert_eq!(rt; own, [0, 0, 1, 1, 2, 2]);
+    let last = [0, 1, 2, 3].map(|turn| shares.part_at(5, turn));
+    assert_eq!(rt; last, [2, 3, 0, 1]);
+    let items = [1, 2, 3, 4, 5, 6, 7, 8, 9];
+    assert_eq!(rt; part_of(&items, 4, 0), [1, 2, 3].as_slice());
+    assert_eq!(rt; part_of(&items, 4, 2), [7, 8, 9].as_slice());
+    assert_eq!(rt; part_of(&items, 4, 3).len(), 0);
+    assert_eq!(rt; (parts_for(0), parts_for(3), parts_for(16)), (1, 3, 4));
+}

@@ -1,24 +1,18 @@
--- Passes one after another, each over the level that comes next.
-use Rattle.std.proofs.Common.{◌≡◌, ◌≢◌, ◌⊎◌, ℕ, zero, suc, ◌+◌, ◌<◌, ◌≤◌, List, [], ◌∷◌, length, refl, sym, ap, ◌∙◌, subst, inl, inr, arith}
+-- Passes one after another, under eager abort, each over the level that comes next.
+use Rattle.std.proofs.Common.{◌≡◌, ◌≢◌, ℕ, zero, suc, ◌+◌, ◌<◌, ◌≤◌, List, [], ◌∷◌, length, refl, sym, subst, inl, inr, arith}
 use Rattle.std.specs.Prelude.{Contains, All}
 use Rattle.std.proofs.lemmas.Bool.{cases_eq}
-use Rattle.morph_base.specs.declared.strategy.Abort.{Abort}
-use Rattle.morph_base.specs.declared.strategy.Abort.TheVariants.{Lazy, Eager}
-use Rattle.morph_base.specs.Plans.{IsPlan}
 use Rattle.op_eval.specs.declared.explored.RunEnd.TheVariants.{Whole, Spent}
 use Rattle.op_eval.specs.declared.runner.Runner.{Runner}
 use Rattle.op_eval.specs.Further.{HaveGoneOn}
 use Rattle.op_eval.proofs.Further.{all_same}
 use Rattle.op_eval.proofs.Elements.{contains_first, contains_later}
-use Rattle.strata_explorer.specs.Levels.{counters_for, ops_of, level_of, AreLevels, AreStrata, FollowsPass, Passes, HasPassed, IsAlone}
+use Rattle.strata_explorer.specs.Levels.{counters_for, ops_of, AreStrata, FollowsPass, Passes}
+use Rattle.strata_explorer.specs.Outcomes.{HaveMadePasses}
 use Rattle.strata_explorer.specs.Passes.{IsPassed}
-use Rattle.strata_explorer.proofs.Climbing.{level_new, level_old, all_strata_more}
+use Rattle.strata_explorer.proofs.Climbing.{all_strata_more}
 use Rattle.strata_explorer.proofs.Further.{passed_further}
-use Rattle.strata_explorer.proofs.Lone.{alone_more}
 use Rattle.op_eval.specs.Exploring.{RunRules}
-
-lazy_apart : (abort : Abort) → abort ≡ Lazy → abort ≡ Eager → ⊥
-lazy_apart abort lazy eager = cc
 
 module _ (rules : RunRules) where
   abbrev depth : ℕ
@@ -34,8 +28,6 @@ module _ (rules : RunRules) where
     pub counted : counters ≡ length levels
     pub inside : All (λ l. l < depth) levels
     pub next : FollowsPass rules level levels before now
-    pub lazy : rules.abort ≡ Lazy → (level ≡ length levels) × ((k : ℕ) → k < length levels → level_of levels k ≡ k)
-    pub alone : rules.abort ≡ Lazy → 1 ≤ rules.cap → IsAlone rules.plan level start now
 
   no_passes : (rs : List Runner) → Passes rules [] rs rs rs
   unfolding Passes
@@ -55,8 +47,6 @@ module _ (rules : RunRules) where
     counted = refl;
     inside = λ k d lt. absurd (omega arith);
     next = refl;
-    lazy = λ lazy. (refl, λ k lt. absurd (omega arith));
-    alone = λ lazy some one d begins. begins;
   }
 
   -- ---- a pass more
@@ -65,24 +55,9 @@ module _ (rules : RunRules) where
   all_first l ls here rest zero d lt = here
   all_first l ls here rest (suc k) d lt = rest k d (omega arith)
 
-  -- under lazy the next level is the one above
-  lazy_next : (next level : ℕ) (rs qs : List Runner) → rules.abort ≡ Lazy → FollowsPass rules next (level ∷ []) rs qs → next ≡ level + 1
-  lazy_next next level rs qs lazy (inl above) = above
-  lazy_next next level rs qs lazy (inr back) = absurd (lazy_apart rules.abort lazy back.0)
-
-  in_turn : (level : ℕ) (ls : List ℕ) → level ≡ length ls → ((k : ℕ) → k < length ls → level_of ls k ≡ k) → (k : ℕ) → k < suc (length ls) → level_of (level ∷ ls) k ≡ k
-  in_turn level ls same each k lt =
-      elim (cases_eq k (length ls)) [
-        | inl last ↦ ap (level_of (level ∷ ls)) last ∙ level_new level ls ∙ same ∙ sym last
-        | inr other ↦ let less : k < length ls = below lt other in level_old level ls k less ∙ each k less
-      ]
-    where
-      below : k < suc (length ls) → k ≢ length ls → k < length ls
-      below lt other = omega arith
-
-  pub climbing_more : IsPlan rules.plan → AreLevels rules.plan → (level counter next : ℕ) (start rs qs : List Runner) → IsClimbing level counter start rs → level < depth → IsPassed rules counter (ops_of rules.plan level) rs qs → FollowsPass rules next (level ∷ []) rs qs
+  pub climbing_more : (level counter next : ℕ) (start rs qs : List Runner) → IsClimbing level counter start rs → level < depth → IsPassed rules counter (ops_of rules.plan level) rs qs → FollowsPass rules next (level ∷ []) rs qs
       → IsClimbing next (counter + 1) start qs
-  climbing_more valid levels level counter next start rs qs old low pass follows =
+  climbing_more level counter next start rs qs old low pass follows =
       let ls = old.levels in
       let passed : IsPassed rules (length ls) (ops_of rules.plan level) rs qs = subst (λ c. IsPassed rules c (ops_of rules.plan level) rs qs) old.counted pass in
       record {
@@ -94,13 +69,6 @@ module _ (rules : RunRules) where
         counted = let many = old.counted in omega arith;
         inside = all_first level ls low old.inside;
         next = follows;
-        lazy = λ lazy.
-            let above : next ≡ level + 1 = lazy_next next level rs qs lazy follows in
-            let is : level ≡ length ls = (old.lazy lazy).0 in
-            (omega arith, in_turn level ls is (old.lazy lazy).1);
-        alone = λ lazy some.
-            subst (λ l. IsAlone rules.plan l start qs) (sym (lazy_next next level rs qs lazy follows))
-            (alone_more rules lazy valid some levels level ls start rs qs old.further.len old.strata passed (old.alone lazy some));
       }
 
   -- ---- the end
@@ -132,7 +100,7 @@ module _ (rules : RunRules) where
     few_passes : length climbing.levels ≤ counters_for rules.plan
     few_passes = subst (λ n. n ≤ counters_for rules.plan) climbing.counted few
 
-    pub ends_whole : depth ≤ level → HasPassed rules start now Whole counters
+    pub ends_whole : depth ≤ level → HaveMadePasses rules start now Whole counters
     ends_whole past = record {
       levels = climbing.levels;
       before = climbing.before;
@@ -144,7 +112,6 @@ module _ (rules : RunRules) where
       last = λ e. follows;
       whole = λ e l lt. all_below depth climbing.levels start climbing.before now climbing.passes follows l lt;
       spent = λ other. absurd (other refl);
-      lazy = λ lazy. (refl, sym (climbing.lazy lazy).0 ∙ all, (climbing.lazy lazy).1);
     }
       where
         all : level ≡ depth
@@ -153,11 +120,7 @@ module _ (rules : RunRules) where
         follows : FollowsPass rules depth climbing.levels climbing.before now
         follows = subst (λ l. FollowsPass rules l climbing.levels climbing.before now) all climbing.next
 
-    -- under lazy there are counters for all passes
-    lazy_ends : rules.abort ≡ Lazy → counters_for rules.plan ≤ counters → depth ≤ level
-    lazy_ends lazy used = let is : level ≡ length climbing.levels = (climbing.lazy lazy).0 in let many = climbing.counted in omega arith
-
-    pub ends_spent : level < depth → counters_for rules.plan ≤ counters → HasPassed rules start now Spent counters
+    pub ends_spent : level < depth → counters_for rules.plan ≤ counters → HaveMadePasses rules start now Spent counters
     ends_spent less used = record {
       levels = climbing.levels;
       before = climbing.before;
@@ -169,7 +132,6 @@ module _ (rules : RunRules) where
       last = λ e. absurd (apart e);
       whole = λ e. absurd (apart e);
       spent = λ other. (refl, used_all, level, less, climbing.next);
-      lazy = λ lazy. absurd (let past = lazy_ends lazy used in omega arith);
     }
       where
         apart : Spent ≡ Whole → ⊥
@@ -177,13 +139,3 @@ module _ (rules : RunRules) where
 
         used_all : length climbing.levels ≡ counters_for rules.plan
         used_all = let many = climbing.counted in let most = few in omega arith
-
-    pub ends_alone : (depth ≤ level) ⊎ (counters_for rules.plan ≤ counters) → rules.abort ≡ Lazy → 1 ≤ rules.cap → IsAlone rules.plan depth start now
-    ends_alone end lazy some = subst (λ l. IsAlone rules.plan l start now) all (climbing.alone lazy some)
-      where
-        past : (depth ≤ level) ⊎ (counters_for rules.plan ≤ counters) → depth ≤ level
-        past (inl there) = there
-        past (inr used) = lazy_ends lazy used
-
-        all : level ≡ depth
-        all = let most = low in let least = past end in omega arith

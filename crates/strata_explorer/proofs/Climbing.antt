@@ -19,7 +19,7 @@ use Rattle.op_eval.proofs.Turns.{only_later}
 use Rattle.op_eval.specs.Turns.{TakingCall, Took, Tried, IsEnough}
 use Rattle.strata_explorer.specs.Calls.{MakesPassCalls}
 use Rattle.strata_explorer.specs.Passes.{is_tried, names, Worked, IsPassed}
-use Rattle.strata_explorer.specs.Levels.{ops_of, op_of, level_of, named, IsStrata, AreStrata, IsWholeCounter}
+use Rattle.strata_explorer.specs.Levels.{ops_of, level_of, named, passed_ops, AreStrata, HasReached, HaveReached, IsStrata, IsWholeCounter}
 use Rattle.abort_eager.proofs.Sweeping.{attempted}
 use Rattle.strata_explorer.proofs.Turning.{count_first, times_some}
 use Rattle.strata_explorer.proofs.Further.{calls_keep, calls_reach}
@@ -47,29 +47,65 @@ calls_full rules cs a b calls full = elim (calls_total rules cs a b calls) [ inl
 
 -- ---- places of one counter alone
 
-pub calls_named : (rules : RunRules) (ls : List ℕ) (l : ℕ) (cs : List TakingCall) (a b : Runner) → ((k n : ℕ) → Contains cs (Took k n) → k ≡ l) → MakesPassCalls rules cs a b
-    → named rules.plan ls (hand_view b).places ≡ named rules.plan ls (hand_view a).places + count_by (names (length (ops_of rules.plan (level_of ls l)))) cs
-calls_named rules ls l [] a b only calls = ap (λ r. named rules.plan ls (hand_view r).places) calls ∙ sum_none (named rules.plan ls (hand_view a).places)
-  where
-    sum_none : (m : ℕ) → m ≡ m + 0
-    sum_none m = omega arith
-calls_named rules ls l (Took k n ∷ cs) a b only calls =
-    let many : ℕ = length (ops_of rules.plan (level_of ls l)) in
-    let same : k ≡ l = only k n (contains_first (Took k n) cs) in
-    let before : named rules.plan ls (hand_view calls.0).places ≡ named rules.plan ls (hand_view a).places + count_by (names many) cs = calls_named rules ls l cs a calls.0 (only_later l (Took k n) cs only) calls.1 in
-    let now : named rules.plan ls (hand_view b).places ≡ named rules.plan ls (hand_view calls.0).places + (0 + cond (nat_lt n many) 1 0) =
-    ap (λ (v : View). named rules.plan ls v.places) calls.2.view
-    ∙ sum_by-append (λ (x : Place). cond (nat_lt x.number (length (ops_of rules.plan (level_of ls x.counter)))) 1 0) (hand_view calls.0).places (place k n ∷ [])
-    ∙ ap (λ j. named rules.plan ls (hand_view calls.0).places + (0 + cond (nat_lt n (length (ops_of rules.plan (level_of ls j)))) 1 0)) same in
-    let more : count_by (names many) (Took k n ∷ cs) ≡ (0 + cond (nat_lt n many) 1 0) + count_by (names many) cs = count_first (names many) (Took k n) cs in
-    omega arith
-calls_named rules ls l (Tried q ∷ cs) a b only calls =
-    let many : ℕ = length (ops_of rules.plan (level_of ls l)) in
-    let does = attempted rules q calls.0 b calls.2 in
-    let before : named rules.plan ls (hand_view calls.0).places ≡ named rules.plan ls (hand_view a).places + count_by (names many) cs = calls_named rules ls l cs a calls.0 (only_later l (Tried q) cs only) calls.1 in
-    let now : named rules.plan ls (hand_view b).places ≡ named rules.plan ls (hand_view calls.0).places = ap (named rules.plan ls) does.goes.adds.places in
-    let more : count_by (names many) (Tried q ∷ cs) ≡ 0 + count_by (names many) cs = count_first (names many) (Tried q) cs in
-    omega arith
+module _ (rules : RunRules) (list : ℕ → List ℕ) (l : ℕ) where
+  calls_named : (cs : List TakingCall) (a b : Runner) → ((k n : ℕ) → Contains cs (Took k n) → k ≡ l) → MakesPassCalls rules cs a b
+      → named list (hand_view b).places ≡ named list (hand_view a).places + count_by (names (length (list l))) cs
+  calls_named [] a b only calls = ap (λ r. named list (hand_view r).places) calls ∙ sum_none (named list (hand_view a).places)
+    where
+      sum_none : (m : ℕ) → m ≡ m + 0
+      sum_none m = omega arith
+  calls_named (Took k n ∷ cs) a b only calls =
+      let many : ℕ = length (list l) in
+      let same : k ≡ l = only k n (contains_first (Took k n) cs) in
+      let before : named list (hand_view calls.0).places ≡ named list (hand_view a).places + count_by (names many) cs = calls_named cs a calls.0 (only_later l (Took k n) cs only) calls.1 in
+      let now : named list (hand_view b).places ≡ named list (hand_view calls.0).places + (0 + cond (nat_lt n many) 1 0) =
+      ap (λ (v : View). named list v.places) calls.2.view
+      ∙ sum_by-append (λ (x : Place). cond (nat_lt x.number (length (list x.counter))) 1 0) (hand_view calls.0).places (place k n ∷ [])
+      ∙ ap (λ j. named list (hand_view calls.0).places + (0 + cond (nat_lt n (length (list j))) 1 0)) same in
+      let more : count_by (names many) (Took k n ∷ cs) ≡ (0 + cond (nat_lt n many) 1 0) + count_by (names many) cs = count_first (names many) (Took k n) cs in
+      omega arith
+  calls_named (Tried q ∷ cs) a b only calls =
+      let many : ℕ = length (list l) in
+      let does = attempted rules q calls.0 b calls.2 in
+      let before : named list (hand_view calls.0).places ≡ named list (hand_view a).places + count_by (names many) cs = calls_named cs a calls.0 (only_later l (Tried q) cs only) calls.1 in
+      let now : named list (hand_view b).places ≡ named list (hand_view calls.0).places = ap (named list) does.goes.adds.places in
+      let more : count_by (names many) (Tried q ∷ cs) ≡ 0 + count_by (names many) cs = count_first (names many) (Tried q) cs in
+      omega arith
+
+-- ---- a runner that took numbers from one counter more
+
+module _ (rules : RunRules) (list : ℕ → List ℕ) where
+  pub reached_more : (before after c : ℕ) (ops : List ℕ) (a b : Runner) → before ≤ after → c < after → list c ≡ ops → HasReached rules.plan before list a → Worked rules c ops a b → HasReached rules.plan after list b
+  reached_more before after c ops a b rise low same reached made = record {
+    exploring = calls_running rules worked.calls a b reached.exploring worked.made;
+    walked = λ k n found lt.
+        elim (calls_places rules worked.calls a b worked.made k n found) [
+          | inl old ↦ calls_keep rules (slice_index_or (list k) n 0) worked.calls a b worked.made (reached.walked k n old lt)
+          | inr now ↦
+              let which : k ≡ c = worked.only k n now in
+              subst (λ j. IsReached rules.plan (slice_index_or (list j) n 0) (hand_view b).trail) (sym which)
+              (calls_reach rules (slice_index_or (list c) n 0) worked.calls a b worked.made
+              (worked.tried n (subst (λ j. Contains worked.calls (Took j n)) which now) (subst (λ j. n < length (list j)) which lt)))
+        ];
+    unused = λ k above. calls_times rules k c (λ is. past k above is) worked.calls a b worked.only worked.made ∙ reached.unused k (omega (arith, above, rise));
+    counted =
+        let e : named list (hand_view b).places ≡ named list (hand_view a).places + count_by (names (length (list c))) worked.calls = calls_named rules list c worked.calls a b worked.only worked.made in
+        let few = worked.counted in
+        elim reached.counted [
+          | inr full ↦ inr (calls_full rules worked.calls a b worked.made full)
+          | inl old ↦ elim (calls_total rules worked.calls a b worked.made) [ inr full ↦ inr full | inl more ↦ inl (omega (arith, e, few, old, more)) ]
+        ];
+  }
+    where
+      worked : Worked rules c (list c) a b
+      worked = subst (λ os. Worked rules c os a b) (sym same) made
+
+      past : (k : ℕ) → after ≤ k → k ≡ c → ⊥
+      past k above is = absurd (omega (arith, above, is, low))
+
+-- a counter that was seen at its end stays there
+pub saw_stays : (rules : RunRules) (c many : ℕ) (cs : List TakingCall) (a b : Runner) → MakesPassCalls rules cs a b → IsEnough c many a → IsEnough c many b
+saw_stays rules c many cs a b calls enough = elim enough [ inl none ↦ inl none | inr is ↦ inr (is.0, calls_hold rules cs a b calls (place c is.0) is.1, is.2) ]
 
 -- ---- the levels of passes
 
@@ -82,20 +118,25 @@ level_old l ls k lt = ap (λ t. cond t l (level_of ls k)) (ne_eqb k (length ls) 
     apart : k ≡ length ls → ⊥
     apart same = absurd (omega arith)
 
--- numbers of earlier passes name as much after another pass
-named_old : (p : Plan) (l : ℕ) (ls : List ℕ) (xs : List Place) → ((k n : ℕ) → Contains xs (place k n) → k < length ls) → named p (l ∷ ls) xs ≡ named p ls xs
-named_old p l ls [] earlier = refl
-named_old p l ls (x ∷ xs) earlier =
-    let here : level_of (l ∷ ls) x.counter ≡ level_of ls x.counter = level_old l ls x.counter (earlier x.counter x.number (contains_first x xs)) in
-    let rest : named p (l ∷ ls) xs ≡ named p ls xs = named_old p l ls xs (λ k n found. earlier k n (contains_later x xs (place k n) found)) in
-    count_first (λ (y : Place). nat_lt y.number (length (ops_of p (level_of (l ∷ ls) y.counter)))) x xs
-    ∙ ap (λ j. (0 + cond (nat_lt x.number (length (ops_of p j))) 1 0) + named p (l ∷ ls) xs) here
-    ∙ ap (λ m. (0 + cond (nat_lt x.number (length (ops_of p (level_of ls x.counter)))) 1 0) + m) rest
-    ∙ sym (count_first (λ (y : Place). nat_lt y.number (length (ops_of p (level_of ls y.counter)))) x xs)
+-- numbers name as much by a list that is the same at their counters
+named_same : (list other : ℕ → List ℕ) (xs : List Place) → ((k n : ℕ) → Contains xs (place k n) → other k ≡ list k) → named other xs ≡ named list xs
+named_same list other [] same = refl
+named_same list other (x ∷ xs) same =
+    let rest : named other xs ≡ named list xs = named_same list other xs (λ k n found. same k n (contains_later x xs (place k n) found)) in
+    count_first (λ (y : Place). nat_lt y.number (length (other y.counter))) x xs
+    ∙ ap (λ os. (0 + cond (nat_lt x.number (length os)) 1 0) + named other xs) (same x.counter x.number (contains_first x xs))
+    ∙ ap (λ m. (0 + cond (nat_lt x.number (length (list x.counter))) 1 0) + m) rest
+    ∙ sym (count_first (λ (y : Place). nat_lt y.number (length (list y.counter))) x xs)
 
 -- ---- a pass
 
 module _ (rules : RunRules) (l : ℕ) (ls : List ℕ) where
+  old_ops : (k : ℕ) → k < length ls → passed_ops rules.plan (l ∷ ls) k ≡ passed_ops rules.plan ls k
+  old_ops k lt = ap (ops_of rules.plan) (level_old l ls k lt)
+
+  new_ops : passed_ops rules.plan (l ∷ ls) (length ls) ≡ ops_of rules.plan l
+  new_ops = ap (ops_of rules.plan) (level_new l ls)
+
   -- a place that was there before is one of an earlier pass
   earlier_place : (a : Runner) → IsStrata rules.plan ls a → (k n : ℕ) → Contains (hand_view a).places (place k n) → k < length ls
   earlier_place a strata k n found =
@@ -104,60 +145,43 @@ module _ (rules : RunRules) (l : ℕ) (ls : List ℕ) where
         | inr past ↦ (let some = times_some k n (hand_view a).places found in let none = strata.unused k past in absurd (omega arith))
       ]
 
-  pub strata_more : (a b : Runner) → IsStrata rules.plan ls a → Worked rules (length ls) (ops_of rules.plan l) a b → IsStrata rules.plan (l ∷ ls) b
-  strata_more a b strata worked = record {
-    exploring = calls_running rules worked.calls a b strata.exploring worked.made;
+  -- the same by the list of one pass more, whose counter was not used yet
+  strata_wider : (a : Runner) → IsStrata rules.plan ls a → HasReached rules.plan (length ls) (passed_ops rules.plan (l ∷ ls)) a
+  strata_wider a strata = record {
+    exploring = strata.exploring;
     walked = λ k n found lt.
-        elim (calls_places rules worked.calls a b worked.made k n found) [
-          | inl before ↦
-              let same : level_of (l ∷ ls) k ≡ level_of ls k = level_old l ls k (earlier_place a strata k n before) in
-              subst (λ j. IsReached rules.plan (op_of rules.plan j n) (hand_view b).trail) (sym same)
-              (calls_keep rules (op_of rules.plan (level_of ls k) n) worked.calls a b worked.made (strata.walked k n before (subst (λ j. n < length (ops_of rules.plan j)) same lt)))
-          | inr now ↦
-              let which : k ≡ length ls = worked.only k n now in
-              let same : level_of (l ∷ ls) k ≡ l = ap (level_of (l ∷ ls)) which ∙ level_new l ls in
-              subst (λ j. IsReached rules.plan (op_of rules.plan j n) (hand_view b).trail) (sym same)
-              (calls_reach rules (op_of rules.plan l n) worked.calls a b worked.made
-              (worked.tried n (subst (λ j. Contains worked.calls (Took j n)) which now) (subst (λ j. n < length (ops_of rules.plan j)) same lt)))
-        ];
-    unused = λ c above. calls_times rules c (length ls) (λ same. past c above same) worked.calls a b worked.only worked.made ∙ strata.unused c (omega arith);
+        let same = old_ops k (earlier_place a strata k n found) in
+        subst (λ os. IsReached rules.plan (slice_index_or os n 0) (hand_view a).trail) (sym same) (strata.walked k n found (subst (λ os. n < length os) same lt));
+    unused = strata.unused;
     counted =
-        let e : named rules.plan (l ∷ ls) (hand_view b).places ≡ named rules.plan (l ∷ ls) (hand_view a).places + count_by (names (length (ops_of rules.plan (level_of (l ∷ ls) (length ls))))) worked.calls = calls_named rules (l ∷ ls) (length ls) worked.calls a b worked.only worked.made in
-        let here : count_by (names (length (ops_of rules.plan (level_of (l ∷ ls) (length ls))))) worked.calls ≡ count_by (names (length (ops_of rules.plan l))) worked.calls = ap (λ j. count_by (names (length (ops_of rules.plan j))) worked.calls) (level_new l ls) in
-        let before : named rules.plan (l ∷ ls) (hand_view a).places ≡ named rules.plan ls (hand_view a).places = named_old rules.plan l ls (hand_view a).places (earlier_place a strata) in
-        let few = worked.counted in
-        elim strata.counted [
-          | inr full ↦ inr (calls_full rules worked.calls a b worked.made full)
-          | inl old ↦ elim (calls_total rules worked.calls a b worked.made) [ inr full ↦ inr full | inl more ↦ inl (omega arith) ]
-        ];
+        let same = named_same (passed_ops rules.plan ls) (passed_ops rules.plan (l ∷ ls)) (hand_view a).places (λ k n found. old_ops k (earlier_place a strata k n found)) in
+        elim strata.counted [ inl few ↦ inl (omega (arith, few, same)) | inr full ↦ inr full ];
   }
-    where
-      past : (c : ℕ) → suc (length ls) ≤ c → c ≡ length ls → ⊥
-      past c above same = absurd (omega arith)
 
-  enough_stays : (c : ℕ) (ops : List ℕ) (cs : List TakingCall) (a b : Runner) → MakesPassCalls rules cs a b → IsEnough c (length ops) a → IsEnough c (length ops) b
-  enough_stays c ops cs a b calls enough = elim enough [ inl none ↦ inl none | inr is ↦ inr (is.0, calls_hold rules cs a b calls (place c is.0) is.1, is.2) ]
+  pub strata_more : (a b : Runner) → IsStrata rules.plan ls a → Worked rules (length ls) (ops_of rules.plan l) a b → IsStrata rules.plan (l ∷ ls) b
+  strata_more a b strata worked = reached_more rules (passed_ops rules.plan (l ∷ ls)) (length ls) (suc (length ls)) (length ls) (ops_of rules.plan l) a b (omega arith) (omega arith) new_ops (strata_wider a strata) worked
 
   pub all_strata_more : (rs qs : List Runner) → AreStrata rules.plan ls rs → IsPassed rules (length ls) (ops_of rules.plan l) rs qs → AreStrata rules.plan (l ∷ ls) qs
   all_strata_more rs qs strata passed = record {
     each = λ k d lt. let less : k < length rs = subst (λ n. k < n) passed.len lt in strata_more (slice_index_or rs k d) (slice_index_or qs k d) (strata.each k d less) (passed.each k d less);
     enough = λ c lt.
         elim (cases_eq c (length ls)) [
-          | inl same ↦
-              let level : level_of (l ∷ ls) c ≡ l = ap (level_of (l ∷ ls)) same ∙ level_new l ls in
-              let saw : (d : Runner) → IsEnough c (length (ops_of rules.plan l)) (slice_index_or qs passed.enough.0 d) = λ d. subst (λ j. IsEnough j (length (ops_of rules.plan l)) (slice_index_or qs passed.enough.0 d)) (sym same) (passed.enough.2 d) in (
-                passed.enough.0,
-                subst (λ n. passed.enough.0 < n) (sym passed.len) passed.enough.1,
-                λ d. subst (λ j. IsEnough c (length (ops_of rules.plan j)) (slice_index_or qs passed.enough.0 d)) (sym level) (saw d),
-              )
+          | inl same ↦ (
+            passed.enough.0,
+            subst (λ n. passed.enough.0 < n) (sym passed.len) passed.enough.1,
+            λ d.
+                subst (λ j. IsEnough j (length (passed_ops rules.plan (l ∷ ls) j)) (slice_index_or qs passed.enough.0 d)) (sym same)
+                (subst (λ os. IsEnough (length ls) (length os) (slice_index_or qs passed.enough.0 d)) (sym new_ops) (passed.enough.2 d)),
+          )
           | inr other ↦
               let less : c < length ls = below c lt other in
-              let level : level_of (l ∷ ls) c ≡ level_of ls c = level_old l ls c less in
-              let before = strata.enough c less in
-              let stays : (d : Runner) → IsEnough c (length (ops_of rules.plan (level_of ls c))) (slice_index_or qs before.0 d) = λ d. let worked = passed.each before.0 d before.1 in enough_stays c (ops_of rules.plan (level_of ls c)) worked.calls (slice_index_or rs before.0 d) (slice_index_or qs before.0 d) worked.made (before.2 d) in (
+              let before = strata.enough c less in (
                 before.0,
                 subst (λ n. before.0 < n) (sym passed.len) before.1,
-                λ d. subst (λ j. IsEnough c (length (ops_of rules.plan j)) (slice_index_or qs before.0 d)) (sym level) (stays d),
+                λ d.
+                    let worked = passed.each before.0 d before.1 in
+                    subst (λ os. IsEnough c (length os) (slice_index_or qs before.0 d)) (sym (old_ops c less))
+                    (saw_stays rules c (length (passed_ops rules.plan ls c)) worked.calls (slice_index_or rs before.0 d) (slice_index_or qs before.0 d) worked.made (before.2 d)),
               )
         ];
   }
@@ -165,18 +189,18 @@ module _ (rules : RunRules) (l : ℕ) (ls : List ℕ) where
       below : (c : ℕ) → c < suc (length ls) → c ≢ length ls → c < length ls
       below c lt other = omega arith
 
--- ---- the union: where the counter is known whole, each place was taken, and each operation of the level was reached
-pub union : (p : Plan) (levels : List ℕ) (rs : List Runner) → AreStrata p levels rs → (d : Runner) → (c : ℕ) → c < length levels → IsWholeCounter c rs → (n : ℕ) → n < length (ops_of p (level_of levels c))
-    → (k : ℕ) × (k < length rs) × Contains (hand_view (slice_index_or rs k d)).places (place c n) × IsReached p (op_of p (level_of levels c) n) (hand_view (slice_index_or rs k d)).trail
-union p levels rs strata d c lt whole n less =
-    let one = strata.enough c lt in
+-- ---- the union: where the counter is known whole, each number of its list was taken, and its operation was reached
+pub union : (p : Plan) (counters : ℕ) (list : ℕ → List ℕ) (rs : List Runner) → HaveReached p counters list rs → (d : Runner) → (c : ℕ) → c < counters → IsWholeCounter c rs → (n : ℕ) → n < length (list c)
+    → (k : ℕ) × (k < length rs) × Contains (hand_view (slice_index_or rs k d)).places (place c n) × IsReached p (slice_index_or (list c) n 0) (hand_view (slice_index_or rs k d)).trail
+union p counters list rs reached d c lt whole n less =
+    let one = reached.enough c lt in
     elim (one.2 d) [
       | inl none ↦ absurd (omega arith)
       | inr last ↦
           let high : last.0 < whole.end = whole.below one.0 d one.1 last.0 last.1 in
-          let past : length (ops_of p (level_of levels c)) ≤ last.0 + 1 = last.2 in
+          let past : length (list c) ≤ last.0 + 1 = last.2 in
           let by = whole.taken n (omega arith) in
-          (by.0, by.1, by.2 d, (strata.each by.0 d by.1).walked c n (by.2 d) less)
+          (by.0, by.1, by.2 d, (reached.each by.0 d by.1).walked c n (by.2 d) less)
     ]
 
 -- the operations of a level, as the plan's list gives them

@@ -20,5 +20,9 @@ pub mod Counting
 pub mod Between
 -- Passes one after another, each over the level that comes next.
 pub mod Ascending
--- All levels, gone over by each worker: what all of them together made of a level is a pass.
+-- A worker and a part of a level.
 pub mod Parting
+-- A worker that goes over all levels by itself, part by part.
+pub mod Going
+-- What exploring comes to, under eager and under lazy abort.
+pub mod Outcomes

@@ -21,8 +21,8 @@ use Rattle.op_eval.proofs.Elements.{contains_first, contains_later, contains_cas
 use Rattle.op_eval.specs.Turns.{IsEnough, TakingCall, Took, Tried}
 use Rattle.op_eval.proofs.Turns.{times_one, only_later}
 use Rattle.strata_explorer.specs.Calls.{MakesPassCalls}
-use Rattle.strata_explorer.specs.Passes.{Worked, IsPassed}
-use Rattle.strata_explorer.specs.Levels.{ops_of, op_of, AreLevels, AreStrata, IsLoneStrata, IsAlone}
+use Rattle.strata_explorer.specs.Passes.{Worked}
+use Rattle.strata_explorer.specs.Levels.{ops_of, op_of, AreLevels, IsLoneStrata, IsAlone}
 use Rattle.op_eval.specs.Exploring.{RunRules}
 use Rattle.abort_eager.proofs.Exploring.{further_lone}
 use Rattle.abort_eager.proofs.Sweeping.{attempted, lazy_tries}
@@ -158,22 +158,6 @@ module _ (rules : RunRules) (lazy : rules.abort ≡ Lazy) (valid : IsPlan rules.
     where
       lower : (k : ℕ) → k < l + 1 → k ≢ l → k < l
       lower k below other = omega arith
-
-  pub alone_more : AreLevels rules.plan → (l : ℕ) (ls : List ℕ) (start rs qs : List Runner) → length rs ≡ length start → AreStrata rules.plan ls rs → IsPassed rules (length ls) (ops_of rules.plan l) rs qs → IsAlone rules.plan l start rs → IsAlone rules.plan (l + 1) start qs
-  alone_more levels l ls start rs qs len strata passed alone one d begins =
-      let lt : 0 < length rs = less (len ∙ one) in
-      let which : passed.enough.0 ≡ 0 = only (len ∙ one) passed.enough.0 passed.enough.1 in
-      lone_more_levels levels (length ls) l (slice_index_or rs 0 d) (slice_index_or qs 0 d) (alone one d begins) ((strata.each 0 d lt).unused (length ls) (le (length ls))) (passed.each 0 d lt)
-      (subst (λ k. IsEnough (length ls) (length (ops_of rules.plan l)) (slice_index_or qs k d)) which (passed.enough.2 d))
-    where
-      less : length rs ≡ 1 → 0 < length rs
-      less e = omega arith
-
-      only : length rs ≡ 1 → (k : ℕ) → k < length rs → k ≡ 0
-      only e k lt = omega arith
-
-      le : (k : ℕ) → k ≤ k
-      le k = omega arith
 
 -- in the end every word is executed or failed at attempt 1
 pub lone_all_ran : (p : Plan) → AreLevels p → (r : Runner) → IsLoneStrata p (length p.op_levels.items) r → (o : ℕ) → o < op_count p → Ran (hand_view r).trail o

@@ -1,15 +1,13 @@
--- What passes over the levels, one after the other, make of runners
-use Rattle.std.specs.Prelude.{◌≡◌, ◌≢◌, ℕ, ◌+◌, ◌*◌, ◌≤◌, ◌<◌, ◌==◌, ◌^◌, ◌⊎◌, if◌then◌else◌, List, [], ◌∷◌, All, Contains, map, count_by, sum_by, nat_lt, length, slice_index_or}
+-- The levels of a plan, and what exploring them makes of runners
+use Rattle.std.specs.Prelude.{◌≡◌, ℕ, ◌+◌, ◌*◌, ◌≤◌, ◌<◌, ◌==◌, ◌^◌, ◌⊎◌, if◌then◌else◌, List, [], ◌∷◌, Contains, map, count_by, sum_by, nat_lt, length, slice_index_or}
 use Rattle.morph_base.specs.declared.plan.Plan.{Plan}
-use Rattle.morph_base.specs.declared.strategy.Abort.TheVariants.{Lazy, Eager}
+use Rattle.morph_base.specs.declared.strategy.Abort.TheVariants.{Eager}
 use Rattle.morph_base.specs.Plans.{op_count}
 use Rattle.interleaving_core.specs.Counts.{rolled}
 use Rattle.op_words.specs.declared.trail.Place.{Place}
 use Rattle.op_words.specs.Counting.{place}
 use Rattle.op_words.specs.Trails.{IsReached, IsSourceOf}
 use Rattle.op_words.specs.Views.{IsLone}
-use Rattle.op_eval.specs.declared.explored.RunEnd.{RunEnd}
-use Rattle.op_eval.specs.declared.explored.RunEnd.TheVariants.{Whole, Spent}
 use Rattle.op_eval.specs.declared.runner.Runner.{Runner}
 use Rattle.op_eval.specs.Alone.{Ran, NotBegun}
 use Rattle.op_eval.specs.Exploring.{IsExploring, Unused, total, RunRules}
@@ -35,9 +33,13 @@ abbrev pub level_of : List ℕ → ℕ → ℕ
 level_of [] k = 0
 level_of (l ∷ ls) k = if k == length ls then l else level_of ls k
 
--- How many of the numbers taken name an operation of the level of their pass
-abbrev pub named : Plan → List ℕ → List Place → ℕ
-named p ls xs = count_by (λ x. nat_lt x.number (length (ops_of p (level_of ls x.counter)))) xs
+-- The operations of pass k
+abbrev pub passed_ops : Plan → (levels : List ℕ) → (k : ℕ) → List ℕ
+passed_ops p ls k = ops_of p (level_of ls k)
+
+-- How many of the numbers taken name an operation, if each counter has a list of operations
+abbrev pub named : (list : ℕ → List ℕ) → List Place → ℕ
+named list xs = count_by (λ x. nat_lt x.number (length (list x.counter))) xs
 
 -- How many operations the runners rolled back
 abbrev pub rolled_by : List Runner → ℕ
@@ -52,21 +54,28 @@ pub record AreLevels (p : Plan) : Type 0 where
   pub all : (o : ℕ) → o < op_count p
       → (l : ℕ) × (n : ℕ) × (l < length p.op_levels.items) × (n < length (ops_of p l)) × (op_of p l n ≡ o)
 
--- The runner has made passes over these levels, the last one first: each operation that its numbers name was reached in
--- its own trail, and it has at least as many answers. It took no number from a later counter
-pub record IsStrata (p : Plan) (ls : List ℕ) (r : Runner) : Type 0 where
+-- The runner took numbers from these counters, each of which has a list of operations: each operation that its numbers
+-- name was reached in its own trail, and it has at least as many answers. It took no number from a later counter
+pub record HasReached (p : Plan) (counters : ℕ) (list : ℕ → List ℕ) (r : Runner) : Type 0 where
   pub exploring : IsExploring p r
-  pub walked : (k n : ℕ) → Contains (hand_view r).places (place k n) → n < length (ops_of p (level_of ls k))
-      → IsReached p (op_of p (level_of ls k) n) (hand_view r).trail
-  pub unused : (c : ℕ) → length ls ≤ c → Unused c r
-  pub counted : (named p ls (hand_view r).places ≤ total r.answers) ⊎ (2 ^ 64 ≤ total r.answers + 1)
+  pub walked : (c n : ℕ) → Contains (hand_view r).places (place c n) → n < length (list c)
+      → IsReached p (slice_index_or (list c) n 0) (hand_view r).trail
+  pub unused : (c : ℕ) → counters ≤ c → Unused c r
+  pub counted : (named list (hand_view r).places ≤ total r.answers) ⊎ (2 ^ 64 ≤ total r.answers + 1)
+
+-- Each runner took numbers from these counters, and one of them saw each counter run out
+pub record HaveReached (p : Plan) (counters : ℕ) (list : ℕ → List ℕ) (rs : List Runner) : Type 0 where
+  pub each : (k : ℕ) (d : Runner) → k < length rs → HasReached p counters list (slice_index_or rs k d)
+  pub enough : (c : ℕ) → c < counters
+      → (k : ℕ) × (k < length rs) × ((d : Runner) → IsEnough c (length (list c)) (slice_index_or rs k d))
+
+-- The runner has made passes over these levels, the last one first, each by the counter of its own number
+abbrev pub IsStrata : Plan → (levels : List ℕ) → Runner → Type 0
+IsStrata p ls = HasReached p (length ls) (passed_ops p ls)
 
 -- Each runner has made passes over these levels, and for each pass one of them saw its counter run out
-pub record AreStrata (p : Plan) (ls : List ℕ) (rs : List Runner) : Type 0 where
-  pub each : (k : ℕ) (d : Runner) → k < length rs → IsStrata p ls (slice_index_or rs k d)
-  pub enough : (c : ℕ) → c < length ls
-      → (k : ℕ) × (k < length rs)
-      × ((d : Runner) → IsEnough c (length (ops_of p (level_of ls c))) (slice_index_or rs k d))
+abbrev pub AreStrata : Plan → (levels : List ℕ) → List Runner → Type 0
+AreStrata p ls = HaveReached p (length ls) (passed_ops p ls)
 
 module _ (rules : RunRules) where
   -- A pass over level l may come after passes over these levels, the last one first. The first pass is over the lowest
@@ -84,27 +93,7 @@ module _ (rules : RunRules) where
       (earlier : List Runner) × Passes ls start earlier before × FollowsPass l ls earlier before
       × IsPassed rules (length ls) (ops_of rules.plan l) before now
 
-  -- Passes were made over levels, as many as there are counters used. If the end is Whole, no level comes next, and
-  -- each level was passed. If it is Spent, as many passes were made as there are counters for them, and a level comes
-  -- next. Under lazy abort each level was passed once, from the lowest on
-  pub record HasPassed (start now : List Runner) (end : RunEnd) (counters : ℕ) : Type 0 where
-    pub levels : List ℕ
-    pub before : List Runner
-    pub passes : Passes levels start before now
-    pub strata : AreStrata rules.plan levels now
-    pub counted : counters ≡ length levels
-    pub few : length levels ≤ counters_for rules.plan
-    pub inside : All (λ l. l < length rules.plan.op_levels.items) levels
-    pub last : end ≡ Whole → FollowsPass (length rules.plan.op_levels.items) levels before now
-    pub whole : end ≡ Whole → (l : ℕ) → l < length rules.plan.op_levels.items → Contains levels l
-    pub spent : end ≢ Whole
-        → (end ≡ Spent) × (length levels ≡ counters_for rules.plan) × (l : ℕ)
-        × (l < length rules.plan.op_levels.items) × FollowsPass l levels before now
-    pub lazy : rules.abort ≡ Lazy
-        → (end ≡ Whole) × (length levels ≡ length rules.plan.op_levels.items)
-        × ((k : ℕ) → k < length levels → level_of levels k ≡ k)
-
--- The lone root has made the passes over the levels below this one: their operations have run at attempt 1, and each
+-- The lone root has gone over the levels below this one: their operations have run at attempt 1, and each
 -- other operation has run so or was not begun
 pub record IsLoneStrata (p : Plan) (level : ℕ) (r : Runner) : Type 0 where
   pub lone : IsLone (hand_view r)

@@ -3,3 +3,4 @@ pub mod Walks
 pub mod Passes
 pub mod Levels
 pub mod Parts
+pub mod Outcomes

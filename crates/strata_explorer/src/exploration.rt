@@ -10,7 +10,8 @@ ghost use Rattle.op_eval.specs.Further.{HaveGoneOn};
 ghost use Rattle.op_eval.specs.Exploring.{MayExplore, IsExploredBoard, parts_of, rules_on};
 ghost use Rattle.op_eval.specs.Gathering.{runners_of};
 ghost use Rattle.op_eval.specs.Running.{IsFreeRunner};
-ghost use Rattle.strata_explorer.specs.Levels.{counters_for, AreStrata, HasPassed, IsAlone};
+ghost use Rattle.strata_explorer.specs.Levels.{counters_for, AreStrata, IsAlone};
+ghost use Rattle.strata_explorer.specs.Outcomes.{HasPassed};
 ghost use Rattle.strata_explorer.specs.Passes.{course_rules};
 
 use crate::course::Course;
@@ -67,28 +68,32 @@ fn pass_all<R: Threads + Sync, G: Gate>(
     }
 }
 
-/// Explores a batch by passes over its levels. Each pass has a counter of the board for its own.
+/// Explores a batch level by level, from the lowest level on.
 ///
-/// The first pass is over the lowest level. The places of a pass are the operations of its level. Workers take them in
+/// The places of a level are its operations. Workers take them from counters of the board, in
 /// [bursts](worker_gate::burst_for) of up to 16 numbers, so each place goes to one worker. For each place of a burst in
-/// turn, the worker walks the unit of the operation from it on. In each pass some worker saw the counter run out, and
-/// every operation whose place a worker took was reached in that worker's own trail. Nothing is settled on the way.
+/// turn, the worker walks the unit of the operation from it on. Some worker saw each counter run out, and every
+/// operation whose place a worker took was reached in that worker's own trail. Nothing is settled on the way.
 ///
-/// Under lazy abort each level is passed once, by the counter of the level's number, and with one worker all operations
-/// have run at attempt 1. Workers are started once for all levels, in as many threads as the operations of the plan are
-/// [worth](worker_gate::threads_for) at 128 pieces of work each. A worker goes on to the next level as soon as no place
-/// of a level is left. So before each place it waits until the sources of the operation have values. It does so with a
-/// bounded [`Patience`](op_eval::Patience) for all levels, and in one thread nobody waits. A place whose sources
-/// have no values when the patience ends is left blocked, and settling evaluates it.
+/// Under lazy abort each worker goes over all levels once, and with one worker all operations have run at attempt 1.
+/// Workers are started once for all levels, in as many threads as the operations of the plan are
+/// [worth](worker_gate::threads_for) at 128 pieces of work each. A level is cut into as many parts as there are threads,
+/// at most 4, and each part has a counter of its own. A worker begins with [its own part](worker_gate::Shares), goes on
+/// with those of the others, and is at the next level as soon as no place of any part is left. So before each place it
+/// waits until the sources of the operation have values. It does so with a bounded [`Patience`](op_eval::Patience) for
+/// all levels, and in one thread nobody waits. A place whose sources have no values when the patience ends is left
+/// blocked, and settling evaluates it.
 ///
-/// Under eager abort workers are started for each pass, and a worker runs the cascade of an operation to its end after
-/// each evaluation that failed, or that was a second or later attempt. If operations were rolled back in a pass,
-/// exploring goes back to the lowest level of one of them.
+/// Under eager abort passes are made over one level after the other, each by a counter of its own. Workers are started
+/// for each pass, and a worker runs the cascade of an operation to its end after each evaluation that failed, or that
+/// was a second or later attempt. If operations were rolled back in a pass, exploring goes back to the lowest level of
+/// one of them.
 ///
 /// Under eager abort `dependents` are those of the plan. Under lazy abort nobody asks for them, and any rows will do.
 ///
 /// The end is [`RunEnd::Whole`] after the last level. It is [`RunEnd::Spent`] if as many passes as the [`counters`] of
-/// the plan were made before that. The first unused counter is the one after the last pass. The call takes no memory.
+/// the plan were made before that, which happens under eager abort alone. The first unused counter is the one after the
+/// last pass, or after the last part of the last level. The call takes no memory.
 pub fn explore<R: Threads + Sync, G: Gate>(
     rt: &R,
     board: Board,

@@ -5,18 +5,18 @@ ghost use Rattle.op_words.specs.Counting.{place};
 ghost use Rattle.op_words.specs.Trails.{IsReached};
 ghost use Rattle.op_eval.specs.declared.runner.Runner.{Runner};
 ghost use Rattle.op_eval.specs.Running.{hand_view};
-ghost use Rattle.strata_explorer.specs.Levels.{ops_of, op_of, level_of, AreStrata, IsWholeCounter};
+ghost use Rattle.strata_explorer.specs.Levels.{HaveReached, IsWholeCounter};
 
-/// Suppose that the numbers which runners took from a pass's counter are known to be those below some number, as a
-/// closed board shows it. Then each place of the level of that pass was taken, and its operation was reached by the
-/// runner that took it.
+/// Suppose that the numbers which runners took from a counter are known to be those below some number, as a closed board
+/// shows it. Then each number of an operation of that counter was taken, and the operation was reached by the runner
+/// that took it.
 ///
 /// While hands are in use, no single view shows this: each hand knows only its own numbers.
 pub fn each_place_is_reached()
-    ensures { (p : Plan) (levels : List ℕ) (rs : List Runner) → AreStrata p levels rs → (d : Runner)
-        → (c : ℕ) → c < length levels → IsWholeCounter c rs → (n : ℕ)
-        → n < length (ops_of p (level_of levels c))
+    ensures { (p : Plan) (counters : ℕ) (list : ℕ → List ℕ) (rs : List Runner)
+        → HaveReached p counters list rs → (d : Runner)
+        → (c : ℕ) → c < counters → IsWholeCounter c rs → (n : ℕ) → n < length (list c)
         → (k : ℕ) × (k < length rs)
         × Contains (hand_view (slice_index_or rs k d)).places (place c n)
-        × IsReached p (op_of p (level_of levels c) n) (hand_view (slice_index_or rs k d)).trail }
+        × IsReached p (slice_index_or (list c) n 0) (hand_view (slice_index_or rs k d)).trail }
 {}

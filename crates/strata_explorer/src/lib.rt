@@ -1,15 +1,16 @@
 //! Explores a batch on the shared board level by level.
 //!
-//! [`explore`] makes passes over the levels of a plan, from the lowest on. The places of a pass are the operations of
-//! its level, in the plan's order. Workers take them from the pass's own counter, so each goes to one of them, and take
-//! several numbers at a time, so that neighbours go to one worker. At a place a worker walks the unit of that
-//! operation, from it on: it evaluates one operation after the other, until an answer is not `Evaluated`. A level with
-//! [few](worker_gate::is_shared) operations is left to the first worker alone.
+//! [`explore`] goes over the levels of a plan, from the lowest on. The places of a level are its operations, in the
+//! plan's order. Workers take them from counters, so each place goes to one of them, and take several numbers at a time,
+//! so that neighbours go to one worker. At a place a worker walks the unit of that operation, from it on: it evaluates
+//! one operation after the other, until an answer is not `Evaluated`. A level with [few](worker_gate::is_shared)
+//! operations is left to the first worker alone.
 //!
-//! Under lazy abort nothing is rolled back on the way: failures are left to settling, and each level is passed once.
-//! Workers are started once for all levels. No worker waits for the end of a level: before a place it waits until the
-//! sources of its operation have values, and its patience for all levels together is bounded. A place that it does not
-//! get to in this time stays blocked, and settling evaluates it.
+//! Under lazy abort nothing is rolled back on the way: failures are left to settling, and each worker goes over all
+//! levels once. Workers are started once for all levels. A level is cut into [parts](worker_gate::Shares), each with a
+//! counter of its own, and a worker begins with a part of its own. No worker waits for the end of a level: before a
+//! place it waits until the sources of its operation have values, and its patience for all levels together is bounded.
+//! A place that it does not get to in this time stays blocked, and settling evaluates it.
 //!
 //! Under eager abort workers are started for each pass. A worker runs the cascade of an operation after each evaluation
 //! that failed, or that was a second or later attempt, and lowers the level word to the level of each operation that it

@@ -8,6 +8,7 @@ ghost use Rattle.strata_explorer.specs.Levels.{ops_of};
 
 use abort_eager::Ground;
 use op_eval::Runner;
+use worker_gate::Shares;
 
 /// A worker looks at this many operations at most before a level. Beyond them a level is wide, and its own operations
 /// are read in the order in which they lie in memory.
@@ -25,25 +26,22 @@ const STRIDE: u32 = 4;
 /// the levels, each would load what others change.
 #[derive(Drop)]
 pub(crate) struct LookAhead {
-    alone: bool,
     /// The operations below this number were looked at, or passed over.
     reached: u32,
 }
 
 impl LookAhead {
-    /// For a worker in one of so many threads.
-    pub(crate) fn among(threads: usize) -> LookAhead {
-        LookAhead {
-            alone: threads == 1,
-            reached: 0,
-        }
+    /// For a worker before the lowest level.
+    pub(crate) fn new() -> LookAhead {
+        LookAhead { reached: 0 }
     }
 
-    /// Looks at the operations up to the last one of a level, if the worker is the first one and alone. Of the runner
-    /// nothing changes that a contract speaks of.
+    /// Looks at the operations up to the last one of a level, if the worker is the first one, and there is one thread.
+    /// Of the runner nothing changes that a contract speaks of.
     pub(crate) fn look(
         &mut self,
         ground: &Ground<'_>,
+        shares: Shares,
         number: usize,
         level: usize,
         runner: &mut Runner,
@@ -53,10 +51,10 @@ impl LookAhead {
         requires seated { IsFreeRunner ground.now.board.now runner.old }
         ensures seated { IsFreeRunner ground.now.board.now runner.new }
         ensures like { IsLike runner.old runner.new }
-        ensures same { (0 < number) ⊎ (length (ops_of ground.now.plan.now level) ≡ 0)
-            → runner.new ≡ runner.old }
+        ensures same { (0 < number) ⊎ (1 < shares.parts)
+            ⊎ (length (ops_of ground.now.plan.now level) ≡ 0) → runner.new ≡ runner.old }
     {
-        if !self.alone || number > 0 {
+        if shares.parts > 1 || number > 0 {
             return;
         }
         if let Some(last) = ground.plan.op_levels.get(level).as_slice().last() {

@@ -12,7 +12,8 @@ ghost use Rattle.op_eval.specs.Further.{HaveGoneOn};
 ghost use Rattle.op_eval.specs.Exploring.{Unused};
 ghost use Rattle.op_eval.specs.Running.{hand_view, IsFreeRunner};
 ghost use Rattle.strata_explorer.specs.Levels.{counters_for, ops_of, rolled_by};
-ghost use Rattle.strata_explorer.specs.Levels.{AreStrata, FollowsPass, HasPassed};
+ghost use Rattle.strata_explorer.specs.Levels.{AreStrata, FollowsPass};
+ghost use Rattle.strata_explorer.specs.Outcomes.{HaveMadePasses};
 ghost use Rattle.strata_explorer.specs.Passes.{course_rules, AreLike, IsPassed};
 
 use crate::course::Course;
@@ -155,7 +156,7 @@ pub(crate) fn pass_in_turn<R: Threads + Sync, G: Gate>(
     ensures cap { cap_of board.new ≡ cap_of board.old }
     ensures counters { counters_of board.new ≡ counters_of board.old }
     ensures hands { HaveGoneOn runners.old runners.new }
-    ensures passed { HasPassed (course_rules board.old course.now) runners.old runners.new
+    ensures passed { HaveMadePasses (course_rules board.old course.now) runners.old runners.new
         result.0 result.1 }
 {
     let levels = course.plan.op_levels.len();

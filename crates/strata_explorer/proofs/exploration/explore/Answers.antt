@@ -5,8 +5,10 @@ use Rattle.op_eval.specs.declared.runners.Runners.{Runners}
 use Rattle.op_eval.specs.Exploring.{parts_of, rules_on}
 use Rattle.op_eval.specs.Gathering.{runners_of}
 use Rattle.op_eval.specs.Further.{HaveGoneOn}
-use Rattle.strata_explorer.specs.Levels.{HasPassed, IsAlone}
+use Rattle.strata_explorer.specs.Levels.{IsAlone}
+use Rattle.strata_explorer.specs.Outcomes.{HasPassed}
 use Rattle.strata_explorer.proofs.Ends.{strata_none, handed_on, handed_back}
+use Rattle.strata_explorer.proofs.Outcomes.{passed_reached}
 use Rattle.strata_explorer.proofs.Lone.{lone_root_ran}
 use Rattle.strata_explorer.proofs.Leveling.{levels_of}
 use Rattle.strata_explorer.proofs.exploration.explore.Goals as goal
@@ -17,8 +19,9 @@ pass_all-end-requires-clause-ready g c κs within = strata_none _ _ c.args.runne
 pub new-requires : goal.new-requires
 new-requires g c =
     let all = c.pass_all-end.ensures in
-    handed_on c.args.plan.now c.args.board c.pass_all-end.new.board c.args.runners _ _ _ _ c.requires.plan all.plan c.requires.ready c.as_mut_slice.ensures.items all.hands.len all.seated
-    (λ d. (all.hands.each 0 d (subst (λ l. 0 < length l) (sym c.as_mut_slice.ensures.items) c.requires.ready.rest.some)).tag) all.passed.strata all.passed.counted
+    let reached = passed_reached _ _ _ _ _ all.passed in
+    handed_on c.args.plan.now c.args.board c.pass_all-end.new.board c.args.runners reached.0 _ _ _ c.requires.plan all.plan c.requires.ready c.as_mut_slice.ensures.items all.hands.len all.seated
+    (λ d. (all.hands.each 0 d (subst (λ l. 0 < length l) (sym c.as_mut_slice.ensures.items) c.requires.ready.rest.some)).tag) reached.1
 
 pub returns-clause-hands : goal.returns-clause-hands
 returns-clause-hands g c =

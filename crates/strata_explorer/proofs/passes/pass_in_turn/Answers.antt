@@ -2,7 +2,6 @@ use Rattle.std.proofs.Common.{refl, subst, ◌∙◌, [], ◌∷◌, arith}
 use Rattle.strata_explorer.specs.Levels.{ops_of, FollowsPass}
 use Rattle.strata_explorer.specs.Passes.{course_rules, IsPassed}
 use Rattle.strata_explorer.proofs.Ascending.{climbing_none, climbing_more, ends_whole}
-use Rattle.strata_explorer.proofs.Leveling.{levels_of}
 use Rattle.strata_explorer.proofs.passes.pass_in_turn.Goals as goal
 
 pub loop-level-init : goal.loop-level-init
@@ -17,14 +16,13 @@ loop-level-preserved g c =
     let level = c.loop-level.level in
     let counter = c.loop-level.passes in
     let rs = c.loop-level.runners in
-    let qs = c.pass_once-level.new.runners in
-    let levels = levels_of p c.requires.valid in (
+    let qs = c.pass_once-level.new.runners in (
       pass.seated,
       pass.plan ∙ is.1,
       pass.cap ∙ is.2,
       pass.counters ∙ is.3,
       omega (arith, c.if-passes-most.true, c.counters-most.ensures),
-      climbing_more rules c.requires.valid.plan levels level counter c.pass_once-level.result c.args.runners.now rs qs is.5 (omega (arith, c.loop-level-test.true, c.len-levels.ensures))
+      climbing_more rules level counter c.pass_once-level.result c.args.runners.now rs qs is.5 (omega (arith, c.loop-level-test.true, c.len-levels.ensures))
           (subst (λ cap. IsPassed (record rules { cap = cap }) counter (ops_of p level) rs qs) is.2 pass.passed)
           (subst (λ cap. FollowsPass (record rules { cap = cap }) c.pass_once-level.result (level ∷ []) rs qs) is.2 pass.next),
     )

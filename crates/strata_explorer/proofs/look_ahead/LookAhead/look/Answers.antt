@@ -30,5 +30,6 @@ returns-in-Some-clause-same c why =
     let some : length ops - 1 < length ops = slice_get_within ops (length ops - 1) c.in-Some.last.now (sym c.in-Some.ensures.value) in
     elim why [
       | inl above ↦ absurd (omega (arith, above, c.if-number-gt0.false))
-      | inr none ↦ absurd (omega (arith, some, ap (λ (os : List ℕ). length os) is, none))
+      | inr (inl several) ↦ absurd (omega (arith, several))
+      | inr (inr none) ↦ absurd (omega (arith, some, ap (λ (os : List ℕ). length os) is, none))
     ]
